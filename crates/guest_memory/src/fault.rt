@@ -1,0 +1,25 @@
+ghost use Rattle.std.specs.Prelude.{◌≡◌};
+
+use std::alloc::AllocError;
+use thiserror::Error;
+
+/// Why a memory was not made, read or written.
+#[derive(Debug, Clone, Copy, PartialEq, Eq, Error)]
+pub enum MemFault {
+    /// The range does not lie in the memory.
+    #[error("the range does not lie in the guest's memory")]
+    OutOfRange,
+    /// There was no room for a memory of that size.
+    #[error("no room for the guest's memory")]
+    NoMemory,
+}
+
+impl From<AllocError> for MemFault {
+    ghost use Rattle.guest_memory.specs.declared.fault.MemFault.TheVariants.{NoMemory};
+
+    ghost from_gives = { λ _ fault. fault ≡ NoMemory };
+
+    fn from(_: AllocError) -> MemFault {
+        MemFault::NoMemory
+    }
+}
