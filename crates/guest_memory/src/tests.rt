@@ -33,6 +33,9 @@ fn reads_what_was_written(rt: HostRuntime) -> Result<(), Fail> {
     assert_eq!(rt; out, [7, 7, 7, 7]);
     assert_eq!(rt; memory.read(12, &mut out), Ok(()));
     assert_eq!(rt; out, [1, 2, 3, 0]);
+    assert!(rt; memory.contains(11, 3));
+    memory.put(11, &[4]);
+    assert_eq!(rt; memory.bytes(11, 3), [4, 1, 2].as_slice());
     Ok(())
 }
 
