@@ -1,0 +1,204 @@
+use crate::{Area, Chain, ChainFault, Range, Reads, RingFault, Shape, walk};
+use guest_memory::Memory;
+use std::alloc::Global;
+use std::test::Fail;
+
+const NEXT: u16 = 1;
+
+const WRITE: u16 = 2;
+
+const INDIRECT: u16 = 4;
+
+const RING: u64 = 0;
+
+const TABLE: u64 = 1024;
+
+// The 16 bytes of a descriptor: a split one ends with its flags and `next`, a packed one with its id
+// and flags.
+fn descriptor(addr: u64, len: u32, third: u16, fourth: u16) -> [u8; 16] {
+    let mut bytes = [0; 16];
+    bytes[..8].copy_from_slice(&addr.to_le_bytes());
+    bytes[8..12].copy_from_slice(&len.to_le_bytes());
+    bytes[12..14].copy_from_slice(&third.to_le_bytes());
+    bytes[14..].copy_from_slice(&fourth.to_le_bytes());
+    bytes
+}
+
+// What the walk from place 0 of a ring of 4 answers on 65,536 bytes that hold these descriptors: 0
+// for a chain, else the refusal's number; and how many descriptors it read.
+fn answer(
+    alloc: Global,
+    shape: Shape,
+    tables: bool,
+    ring: [[u8; 16]; 4],
+    table: [[u8; 16]; 2],
+) -> Result<(u64, u64), Fail> {
+    let mut memory = Memory::new(alloc, 65536).ok().ok_or("no memory")?;
+    for i in 0..4 {
+        memory
+            .write(RING + 16 * i as u64, &ring[i])
+            .ok()
+            .ok_or("ring")?;
+    }
+    for i in 0..2 {
+        memory
+            .write(TABLE + 16 * i as u64, &table[i])
+            .ok()
+            .ok_or("table")?;
+    }
+    let area = Area {
+        shape,
+        base: RING,
+        limit: 4,
+        tables,
+    };
+    let mut reads = Reads::new();
+    if !memory.contains(RING, 64) {
+        return Err(Fail::from("no room for the ring"));
+    }
+    let number = match walk(alloc, &memory, &mut reads, &area, 0) {
+        Ok(_) => 0,
+        Err(RingFault::NoMemory) => 2,
+        Err(RingFault::Refused(ChainFault::TooLong)) => 3,
+        Err(RingFault::Refused(ChainFault::BadRange)) => 4,
+        Err(RingFault::Refused(ChainFault::Order)) => 5,
+        Err(RingFault::Refused(ChainFault::BadTable)) => 6,
+    };
+    Ok((number, reads.count()))
+}
+
+#[test]
+fn split_tables(rt: HostRuntime) -> Result<(), Fail> {
+    let plain = descriptor(2048, 8, 0, 0);
+    let next = |place: u16| descriptor(2048, 8, NEXT, place);
+    let refers = |len: u32| descriptor(TABLE, len, INDIRECT, 0);
+    let in_table = |flags: u16, next: u16| descriptor(2048, 8, flags, next);
+    let cases = [
+        // Two entries that name each other.
+        (refers(32), [in_table(NEXT, 1), in_table(NEXT, 0)], (3, 3)),
+        // An entry that refers to a table.
+        (refers(32), [in_table(INDIRECT, 0), plain], (6, 2)),
+        // An entry whose `next` the table doesn't have.
+        (refers(32), [in_table(NEXT, 2), plain], (4, 2)),
+        // A readable entry behind a writable one.
+        (refers(32), [in_table(WRITE + NEXT, 1), plain], (5, 3)),
+        (refers(32), [in_table(NEXT, 1), in_table(WRITE, 0)], (0, 3)),
+        // Lengths that no table has, and the largest one.
+        (refers(24), [plain, plain], (6, 1)),
+        (refers(0), [plain, plain], (6, 1)),
+        (refers(16400), [plain, plain], (6, 1)),
+        (refers(16384), [plain, plain], (0, 2)),
+        // A table that goes on behind itself in the ring.
+        (
+            descriptor(TABLE, 32, INDIRECT + NEXT, 1),
+            [plain, plain],
+            (6, 1),
+        ),
+        // A table that ends one entry past the memory.
+        (descriptor(65520, 32, INDIRECT, 0), [plain, plain], (4, 1)),
+    ];
+    for (head, table, expected) in cases {
+        let ring = [head, plain, plain, plain];
+        assert_eq!(rt;
+            answer(rt.alloc(), Shape::SplitRing, true, ring, table)?,
+            expected
+        );
+    }
+    // A readable descriptor, then a table of one writable entry.
+    let ring = [next(1), refers(16), plain, plain];
+    let table = [in_table(WRITE, 0), plain];
+    assert_eq!(rt;
+        answer(rt.alloc(), Shape::SplitRing, true, ring, table)?,
+        (0, 3)
+    );
+    // Tables weren't accepted.
+    assert_eq!(rt;
+        answer(rt.alloc(), Shape::SplitRing, false, ring, table)?,
+        (6, 2)
+    );
+    Ok(())
+}
+
+#[test]
+fn packed_chains(rt: HostRuntime) -> Result<(), Fail> {
+    let next = descriptor(2048, 8, 7, NEXT);
+    let plain = descriptor(2048, 8, 7, 0);
+    let refers = descriptor(TABLE, 32, 7, INDIRECT);
+    let cases = [
+        // NEXT in all four.
+        ([next, next, next, next], [plain, plain], (3, 4)),
+        // In a table WRITE is the only flag that counts.
+        (
+            [refers, plain, plain, plain],
+            [descriptor(2048, 8, 7, INDIRECT), plain],
+            (0, 3),
+        ),
+        (
+            [refers, plain, plain, plain],
+            [descriptor(2048, 8, 7, WRITE), plain],
+            (5, 3),
+        ),
+    ];
+    for (ring, table, expected) in cases {
+        assert_eq!(rt;
+            answer(rt.alloc(), Shape::PackedRing, true, ring, table)?,
+            expected
+        );
+    }
+    Ok(())
+}
+
+#[test]
+fn gathers_and_scatters(rt: HostRuntime) -> Result<(), Fail> {
+    let mut memory = Memory::new(rt.alloc(), 65536).ok().ok_or("no memory")?;
+    memory
+        .write(0, &descriptor(4096, 8704, NEXT, 1))
+        .ok()
+        .ok_or("write")?;
+    memory
+        .write(16, &descriptor(2048, 3, NEXT, 2))
+        .ok()
+        .ok_or("write")?;
+    memory
+        .write(32, &descriptor(100, 2, NEXT + WRITE, 3))
+        .ok()
+        .ok_or("write")?;
+    memory
+        .write(48, &descriptor(200, 4, WRITE, 0))
+        .ok()
+        .ok_or("write")?;
+    memory.write(2048, &[5, 6, 7]).ok().ok_or("write")?;
+    let area = Area {
+        shape: Shape::SplitRing,
+        base: 0,
+        limit: 4,
+        tables: false,
+    };
+    assert!(rt; memory.contains(0, 64));
+    let mut reads = Reads::new();
+    let walked = walk(rt.alloc(), &memory, &mut reads, &area, 0)
+        .ok()
+        .ok_or("walk")?;
+    let request = walked.chain.gather(rt.alloc(), &memory)?;
+    assert_eq!(rt; request.len(), 8705);
+    assert_eq!(rt; request.last(), Some(&5));
+    assert_eq!(rt; walked.chain.writable_len(), 6);
+    assert!(rt; walked.chain.lies_in(&memory));
+    assert!(rt; walked.chain.writable_len() >= 3);
+    walked.chain.scatter(&mut memory, &[1, 2, 3]);
+    let mut out = [9; 3];
+    memory.read(100, &mut out).ok().ok_or("read")?;
+    assert_eq!(rt; out, [1, 2, 0]);
+    memory.read(200, &mut out).ok().ok_or("read")?;
+    assert_eq!(rt; out, [3, 0, 0]);
+    Ok(())
+}
+
+#[test]
+fn a_chain_to_be_written(rt: HostRuntime) -> Result<(), Fail> {
+    let mut ranges = Vec::new(rt.alloc());
+    ranges.push(Range { at: 7, len: 9 })?;
+    let chain = Chain::of_writable(rt.alloc(), ranges);
+    assert_eq!(rt; chain.writable_len(), 9);
+    Ok(())
+}
