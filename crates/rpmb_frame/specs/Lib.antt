@@ -4,3 +4,4 @@ pub mod Request
 pub mod Seen
 pub mod Layout
 pub mod Config
+pub mod Fields
