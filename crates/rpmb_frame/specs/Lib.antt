@@ -5,3 +5,4 @@ pub mod Seen
 pub mod Layout
 pub mod Config
 pub mod Partition
+pub mod Fields

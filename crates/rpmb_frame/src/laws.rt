@@ -1,7 +1,8 @@
 //! Laws of the definitions.
 ghost use Rattle.std.specs.Prelude.{◌≡◌, ◌≤◌, ◌++◌, ℕ, List, [], ◌∷◌, length, true};
 ghost use Rattle.std.specs.List.{flat_map, AllByRecursion};
-ghost use Rattle.rpmb_frame.specs.Frame.{req_resp_of, body_of, with_key_mac};
+ghost use Rattle.rpmb_frame.specs.Frame.{req_resp_of, body_of, with_key_mac, with_block_data, with_nonce, with_write_counter, with_address, with_block_count, with_result, with_req_resp};
+ghost use Rattle.rpmb_frame.specs.Fields.{SetsBytes, SetsNumber};
 ghost use Rattle.rpmb_frame.specs.Request.{frames_of, command_of, ProgramKey};
 ghost use Rattle.rpmb_frame.specs.declared.limits.Limits.{Limits};
 
@@ -18,4 +19,16 @@ pub fn program_key_combined()
 /// The MAC of a frame stands before what it covers.
 pub fn body_of_sealed_frame()
     ensures { (mac frame : List ℕ) → length mac ≡ 32 → length frame ≡ 512 → body_of (with_key_mac mac frame) ≡ body_of frame }
+{}
+
+/// What a setter was given is read, all other fields stay, and a frame keeps its 512 bytes.
+pub fn fields_after_setters()
+    ensures key_mac { SetsBytes with_key_mac 32 (λ fields bytes. record fields { key_mac = bytes }) }
+    ensures block_data { SetsBytes with_block_data 256 (λ fields bytes. record fields { block_data = bytes }) }
+    ensures nonce { SetsBytes with_nonce 16 (λ fields bytes. record fields { nonce = bytes }) }
+    ensures write_counter { SetsNumber with_write_counter 4 (λ fields number. record fields { write_counter = number }) }
+    ensures address { SetsNumber with_address 2 (λ fields number. record fields { address = number }) }
+    ensures block_count { SetsNumber with_block_count 2 (λ fields number. record fields { block_count = number }) }
+    ensures result_code { SetsNumber with_result 2 (λ fields number. record fields { result_code = number }) }
+    ensures req_resp { SetsNumber with_req_resp 2 (λ fields number. record fields { req_resp = number }) }
 {}

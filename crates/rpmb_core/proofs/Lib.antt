@@ -1,0 +1,4 @@
+pub mod Overwriting
+pub mod Frames
+pub mod Sealing
+pub mod Passing
