@@ -5,7 +5,7 @@ use Rattle.std.specs.List.{list_all}
 use Rattle.std.proofs.lemmas.Bool.Decides.{nat_tests}
 use Rattle.rpmb_frame.specs.Frame.{address_of, block_count_of, first_of}
 use Rattle.rpmb_frame.specs.Partition.{Partition, block_count}
-use Rattle.rpmb_frame.specs.declared.limits.Limits.{Limits}
+use Rattle.rpmb_frame.specs.Limits.{Limits}
 use Rattle.rpmb_frame.specs.Request.{Request, DataWrite, DataRead}
 use Rattle.rpmb_core.specs.Verdict.{verdict, verdict_on, data_write_verdict, data_read_verdict, same_header}
 use Rattle.rpmb_core.specs.Accept.{is_accepted, is_change}
@@ -42,15 +42,15 @@ write_fits p frames limits is =
       rises = expired.0;
     }
 
-read_counts : (count limit writable : ℕ) → (eqb count 0 || ltb limit count || ltb writable (512 * count)) ≡ false → limit ≤ 16 → (1 ≤ count) × (count ≤ 16)
-read_counts count limit writable is low = (grind (arith, nat_tests), grind (arith, nat_tests))
+read_counts : (count limit writable : ℕ) → (eqb count 0 || ltb limit count || ltb writable (512 * count)) ≡ false → (1 ≤ count) × (count ≤ limit)
+read_counts count limit writable is = (grind (arith, nat_tests), grind (arith, nat_tests))
 
--- a read that succeeds has one to sixteen blocks
-pub read_fits : (p : Partition) (frame : List ℕ) (writable : ℕ) (limits : Limits) → data_read_verdict p frame writable limits ≡ 0 → (1 ≤ block_count_of frame) × (block_count_of frame ≤ 16)
+-- a read that succeeds has some blocks, and no more than the limit
+pub read_fits : (p : Partition) (frame : List ℕ) (writable : ℕ) (limits : Limits) → data_read_verdict p frame writable limits ≡ 0 → (1 ≤ block_count_of frame) × (block_count_of frame ≤ limits.max_rd_cnt)
 read_fits p frame writable limits is =
     let keyed = passed (is_none p.key) 7 _ (lit< tt) is in
     let header = passed _ 1 _ (lit< tt) keyed.1 in
-    read_counts (block_count_of frame) limits.max_rd_cnt writable header.0 limits.reads_at_most
+    read_counts (block_count_of frame) limits.max_rd_cnt writable header.0
 
 both : (a : Bool) (n m : ℕ) → (a && eqb n m) ≡ true → n ≡ m
 both a n m is = grind (arith, nat_tests)
@@ -66,7 +66,7 @@ accepted_write p q r frames combined same command is =
     let of_write : data_write_verdict q frames r.limits ≡ 0 = sym (ap (λ k. verdict_on q k r.writable r.limits) command) ∙ zero in
     subst (λ (x : Partition). IsFittingWrite x frames) (sym same) (write_fits q frames r.limits of_write)
 
-pub read_allowed : (p : Partition) (r : Request) (frame : List ℕ) → r.command ≡ DataRead frame → verdict p r ≡ 0 → (1 ≤ block_count_of frame) × (block_count_of frame ≤ 16)
+pub read_allowed : (p : Partition) (r : Request) (frame : List ℕ) → r.command ≡ DataRead frame → verdict p r ≡ 0 → (1 ≤ block_count_of frame) × (block_count_of frame ≤ r.limits.max_rd_cnt)
 unfolding verdict
 read_allowed p r frame command is =
     let of_read : data_read_verdict p frame r.writable r.limits ≡ 0 = sym (ap (λ k. verdict_on p k r.writable r.limits) command) ∙ is in

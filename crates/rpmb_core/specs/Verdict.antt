@@ -6,7 +6,7 @@ use Rattle.rpmb_frame.specs.Frame.{req_resp_of, write_counter_of, address_of, bl
 use Rattle.rpmb_frame.specs.Table.{first_row}
 use Rattle.rpmb_frame.specs.Request.{Request, ProgramKey, GetWriteCounter, DataWrite, DataRead, ResultRead, Malformed, Command}
 use Rattle.rpmb_frame.specs.Partition.{Partition, block_count}
-use Rattle.rpmb_frame.specs.declared.limits.Limits.{Limits}
+use Rattle.rpmb_frame.specs.Limits.{Limits}
 use Rattle.hmac256.specs.Hmac.{mac}
 use Rattle.rpmb_core.specs.declared.codes.TheConstants.{OK, GENERAL_FAILURE, AUTH_FAILURE, COUNT_FAILURE, ADDR_FAILURE, WRITE_FAILURE, NO_AUTH_KEY, WRITE_COUNTER_EXPIRED}
 

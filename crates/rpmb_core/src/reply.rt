@@ -8,7 +8,7 @@ use crate::codes::OK;
 use crate::outcome::Outcome;
 use crate::partition::Partition;
 use crate::response::{Response, failure_kind, is_answered};
-use rpmb_frame::{Command, FRAME_SIZE, Frame, Request};
+use rpmb_frame::{Command, FRAME_SIZE, Frame, Limits, Request};
 
 /// Where the MAC stands in a frame.
 const KEY_MAC: usize = 196;
@@ -33,7 +33,7 @@ impl Partition {
         match request.command {
             Command::DataRead { frame } => {
                 if code == OK {
-                    self.read_reply(frame, out)
+                    self.read_reply(frame, request.limits, out)
                 } else {
                     self.frame_reply(request, code, last, out)
                 }
@@ -84,12 +84,14 @@ impl Partition {
     }
 
     /// Writes the frames of a DATA_READ that succeeds.
-    fn read_reply(&self, frame: &[u8; 512], out: &mut [u8; 8192]) -> usize
+    fn read_reply(&self, frame: &[u8; 512], limits: Limits, out: &mut [u8; 8192]) -> usize
         requires some { 1 ≤ block_count_of frame.now }
-        requires few { block_count_of frame.now ≤ 16 }
+        requires few { block_count_of frame.now ≤ limits.max_rd_cnt }
         ensures len { result ≡ length (joined (sealed self.now.key (block_frames self.now frame.now))) }
         ensures bytes { out.new ≡ joined (sealed self.now.key (block_frames self.now frame.now)) ++ drop result out.old }
     {
+        // The limit is what says that the frames fit the reply.
+        let _limit = limits.max_rd_cnt();
         let request = Frame::from_bytes(frame);
         let count = usize::from(request.block_count());
         let base = Response::to_read(frame, OK).frame();

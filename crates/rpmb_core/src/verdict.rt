@@ -61,7 +61,7 @@ impl Partition {
         if !self.has_key() {
             NO_AUTH_KEY
         } else if count == 0
-            || count > u16::from(limits.max_rd_cnt)
+            || count > u16::from(limits.max_rd_cnt())
             || writable < 512 * u64::from(count)
         {
             GENERAL_FAILURE
@@ -81,7 +81,7 @@ impl Partition {
         if !self.has_key() {
             NO_AUTH_KEY
         } else if count == 0
-            || count > u16::from(limits.max_wr_cnt)
+            || count > u16::from(limits.max_wr_cnt())
             || usize::from(count) != frames.len()
             || !have_same_header(&first, frames)
         {

@@ -1,5 +1,6 @@
 pub mod Frame
 pub mod Table
+pub mod Limits
 pub mod Request
 pub mod Seen
 pub mod Layout

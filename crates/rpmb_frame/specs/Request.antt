@@ -2,7 +2,7 @@
 -- how frames combine; the table is our own.
 use Rattle.std.specs.Prelude.{ℕ, ◌+◌, ◌-◌, ◌*◌, ◌/◌, ◌==◌, Bool, true, false, ◌&&◌, ◌||◌, not, nat_lt, nat_le, List, [], ◌∷◌, length, take}
 use Rattle.std.specs.Simd.{first_chunks}
-use Rattle.rpmb_frame.specs.declared.limits.Limits.{Limits}
+use Rattle.rpmb_frame.specs.Limits.{Limits}
 use Rattle.rpmb_frame.specs.declared.frame.TheConstants.{PROGRAM_KEY, GET_WRITE_COUNTER, DATA_WRITE, DATA_READ, RESULT_READ}
 use Rattle.rpmb_frame.specs.Frame.{req_resp_of, first_of, last_of}
 use Rattle.rpmb_frame.specs.Table.{first_row}

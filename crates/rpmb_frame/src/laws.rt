@@ -4,7 +4,7 @@ ghost use Rattle.std.specs.List.{flat_map, AllByRecursion};
 ghost use Rattle.rpmb_frame.specs.Frame.{req_resp_of, body_of, with_key_mac, with_block_data, with_nonce, with_write_counter, with_address, with_block_count, with_result, with_req_resp};
 ghost use Rattle.rpmb_frame.specs.Fields.{SetsBytes, SetsNumber};
 ghost use Rattle.rpmb_frame.specs.Request.{frames_of, command_of, ProgramKey};
-ghost use Rattle.rpmb_frame.specs.declared.limits.Limits.{Limits};
+ghost use Rattle.rpmb_frame.specs.Limits.{Limits};
 
 /// Frames that stand one after another are read as those frames.
 pub fn frames_of_joined_frames()
