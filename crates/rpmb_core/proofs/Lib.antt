@@ -2,3 +2,4 @@ pub mod Overwriting
 pub mod Frames
 pub mod Sealing
 pub mod Passing
+pub mod Sequence

@@ -11,7 +11,7 @@ use Rattle.rpmb_core.specs.Verdict.{verdict, verdict_on, data_write_verdict, dat
 use Rattle.rpmb_core.specs.Accept.{is_accepted, is_change}
 
 -- a row that would refuse didn't apply
-passed : (b : Bool) (a rest : ℕ) → 0 < a → (if b then a else rest) ≡ 0 → (b ≡ false) × (rest ≡ 0)
+pub passed : (b : Bool) (a rest : ℕ) → 0 < a → (if b then a else rest) ≡ 0 → (b ≡ false) × (rest ≡ 0)
 passed true a rest some is = absurd (omega (arith, is))
 passed false a rest some is = (refl, is)
 

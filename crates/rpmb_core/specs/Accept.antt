@@ -23,9 +23,9 @@ is_accepted p r = is_change r.command && (verdict p r == OK)
 unfoldable pub data_of : List (List ℕ) → List ℕ
 data_of frames = flat_map block_data_of frames
 
--- a key is set; or the blocks from the address on are overwritten, and the counter grows by one
+-- a key is set, and the count begins at 0; or the blocks from the address on are overwritten, and the counter grows by one
 abbrev pub changed : Partition → Command → Partition
-changed p (ProgramKey frame combined) = record p { key = Some (key_mac_of frame) }
+changed p (ProgramKey frame combined) = record p { key = Some (key_mac_of frame); counter = 0 }
 changed p (DataWrite frames combined) =
     record p { counter = p.counter + 1; blocks = overwritten (256 * address_of (first_of frames)) (data_of frames) p.blocks }
 changed p (GetWriteCounter frame) = p

@@ -1,5 +1,5 @@
 -- The reply to a request. The standard leaves the fields of refusals open; they are our own.
-use Rattle.std.specs.Prelude.{◌≡◌, ℕ, zero, suc, ◌-◌, ◌==◌, nat_le, Bool, if◌then◌else◌, Option, Some, None, List, [], ◌∷◌, length, map, replicate, slice_set}
+use Rattle.std.specs.Prelude.{◌≡◌, ℕ, zero, suc, ◌*◌, ◌-◌, ◌==◌, nat_le, Bool, if◌then◌else◌, Option, Some, None, List, [], ◌∷◌, length, map, replicate, slice_set}
 use Rattle.std.specs.List.{flat_map}
 use Rattle.rpmb_frame.specs.Frame.{address_of, block_count_of, nonce_of, first_of, last_of, zero_frame, with_key_mac, with_block_data, with_nonce, with_write_counter, with_address, with_block_count, with_result, with_req_resp}
 use Rattle.rpmb_frame.specs.Request.{Request, ProgramKey, GetWriteCounter, DataWrite, DataRead, ResultRead, Malformed, Command}
@@ -98,6 +98,16 @@ joined frames = flat_map (λ frame. frame) frames
 -- the bytes of the reply
 unfoldable pub reply : Partition → Request → ℕ → Option Outcome → List ℕ
 reply p r code last = joined (sealed p.key (frames_on p r.command r code last))
+
+-- how many bytes the reply has
+abbrev pub reply_length : Command → ℕ → ℕ → ℕ
+reply_length (DataRead frame) writable code =
+    if code == OK then 512 * block_count_of frame else if is_answered (DataRead frame) writable then 512 else 0
+reply_length (ProgramKey frame combined) writable code = if is_answered (ProgramKey frame combined) writable then 512 else 0
+reply_length (DataWrite frames combined) writable code = if is_answered (DataWrite frames combined) writable then 512 else 0
+reply_length (GetWriteCounter frame) writable code = if is_answered (GetWriteCounter frame) writable then 512 else 0
+reply_length ResultRead writable code = if is_answered ResultRead writable then 512 else 0
+reply_length Malformed writable code = if is_answered Malformed writable then 512 else 0
 
 -- the type of a failure reply; a lone RESULT_READ has none
 abbrev pub failure_kind : Command → ℕ

@@ -13,5 +13,5 @@ pub use codes::{
     ADDR_FAILURE, AUTH_FAILURE, COUNT_FAILURE, GENERAL_FAILURE, NO_AUTH_KEY, OK,
     WRITE_COUNTER_EXPIRED, WRITE_FAILURE,
 };
-pub use outcome::Outcome;
+pub use outcome::{Outcome, is_change};
 pub use partition::{NoMemory, Partition};

@@ -141,6 +141,7 @@ impl Partition {
         match request.command {
             Command::ProgramKey { frame, .. } => {
                 self.key = Some(MacKey::new(&Frame::from_bytes(frame).key_mac()));
+                self.counter = 0;
             }
             Command::DataWrite { frames, .. } => {
                 let address = Frame::from_bytes(&frames[0]).address();

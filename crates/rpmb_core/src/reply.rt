@@ -1,8 +1,8 @@
-ghost use Rattle.std.specs.Prelude.{◌≡◌, ◌≤◌, ◌*◌, ◌++◌, ◌∷◌, [], ℕ, List, Some, length, drop};
+ghost use Rattle.std.specs.Prelude.{◌≡◌, ◌≤◌, if◌then◌else◌, ◌*◌, ◌++◌, ◌∷◌, [], ℕ, List, Some, length, drop};
 ghost use Rattle.std.specs.List.{AllByRecursion};
 ghost use Rattle.rpmb_frame.specs.Frame.{block_count_of};
 ghost use Rattle.rpmb_core.specs.Verdict.{verdict};
-ghost use Rattle.rpmb_core.specs.Reply.{reply, failure, sealed, joined, blocks_from, read_frames, one_frame, GivesBlocks, block_frames};
+ghost use Rattle.rpmb_core.specs.Reply.{reply, failure, sealed, joined, blocks_from, read_frames, one_frame, GivesBlocks, block_frames, is_answered, reply_length};
 
 use crate::codes::OK;
 use crate::outcome::Outcome;
@@ -27,6 +27,7 @@ impl Partition {
         out: &mut [u8; 8192],
     ) -> usize
         requires { GivesBlocks request.now.command code → verdict self.now request.now ≡ 0 }
+        ensures size { result ≡ reply_length request.now.command request.now.writable code }
         ensures len { result ≡ length (reply self.now request.now code last) }
         ensures bytes { out.new ≡ reply self.now request.now code last ++ drop result out.old }
     {
@@ -54,6 +55,7 @@ impl Partition {
         last: Option<Outcome>,
         out: &mut [u8; 8192],
     ) -> usize
+        ensures size { result ≡ (if is_answered request.now.command request.now.writable then 512 else 0) }
         ensures len { result ≡ length (joined (sealed self.now.key (one_frame self.now request.now code last))) }
         ensures bytes { out.new ≡ joined (sealed self.now.key (one_frame self.now request.now code last)) ++ drop result out.old }
     {
@@ -64,6 +66,18 @@ impl Partition {
         let frame = self.sealed(response.frame());
         out[..FRAME_SIZE].copy_from_slice(&frame.to_bytes());
         FRAME_SIZE
+    }
+
+    /// How many bytes the reply to a request has that had this result.
+    pub fn reply_len(request: &Request<'_>, code: u16) -> usize
+        ensures { result ≡ reply_length request.now.command request.now.writable code }
+    {
+        match request.command {
+            Command::DataRead { frame } if code == OK => {
+                FRAME_SIZE * usize::from(Frame::from_bytes(frame).block_count())
+            }
+            _ => { if is_answered(request) { FRAME_SIZE } else { 0 } }
+        }
     }
 
     /// Writes the failure reply, of zeros but for its type and this result, to the front of `out`, and
@@ -87,6 +101,7 @@ impl Partition {
     fn read_reply(&self, frame: &[u8; 512], limits: Limits, out: &mut [u8; 8192]) -> usize
         requires some { 1 ≤ block_count_of frame.now }
         requires few { block_count_of frame.now ≤ limits.max_rd_cnt }
+        ensures size { result ≡ 512 * block_count_of frame.now }
         ensures len { result ≡ length (joined (sealed self.now.key (block_frames self.now frame.now))) }
         ensures bytes { out.new ≡ joined (sealed self.now.key (block_frames self.now frame.now)) ++ drop result out.old }
     {
