@@ -1,5 +1,7 @@
 -- What the fields of a frame say once one of them was replaced.
-use Rattle.std.proofs.Common.{◌≡◌, ℕ, ◌+◌, ◌-◌, ◌<◌, ◌≤◌, ◌^◌, List, [], length, take, drop, slice_range, refl, sym, ap, ◌∙◌, arith, length-append, length-take, length-drop, lit≤}
+use Rattle.std.proofs.Common.{Bool, true, false, nat_eq, leb, ◌&&◌, ◌||◌, if◌then◌else◌, ◌≡◌, ℕ, ◌+◌, ◌-◌, ◌<◌, ◌≤◌, ◌^◌, List, [], length, take, drop, slice_range, refl, sym, ap, ◌∙◌, arith, length-append, length-take, length-drop, lit≤}
+use Rattle.std.proofs.lemmas.Bool.{leb-true}
+use Rattle.std.proofs.lemmas.Bool.Decides.{nat_tests}
 use Rattle.std.proofs.lemmas.List.{append-nil}
 use Rattle.std.proofs.lemmas.Slice.{drop-put_mid, take-put_mid_below, between-put_mid, between_is}
 use Rattle.byteorder.specs.Endian.{big_bytes, big_number}
@@ -25,167 +27,122 @@ stays_before at n bytes frame from to inside apart =
 pub stays_after : (at n : ℕ) (bytes frame : List ℕ) (from to : ℕ) → at ≤ length frame → length bytes ≡ n → at + n ≤ from → slice_range (with_bytes at n bytes frame) from to ≡ slice_range frame from to
 stays_after at n bytes frame from to inside fits apart = ap (λ (part : List ℕ). take (to - from) part) (drop-put_mid at n frame bytes from apart inside fits)
 
+-- by where the bytes from one place to another lie, what they are after a replacement
+abbrev pub part_with : (at n : ℕ) (bytes frame : List ℕ) (from to : ℕ) → List ℕ
+part_with at n bytes frame from to =
+    if leb to at || leb (at + n) from then slice_range frame from to
+    else if nat_eq from at && nat_eq to (at + n) then bytes
+    else slice_range (with_bytes at n bytes frame) from to
+
+by_test : {P : Type 0} (b : Bool) → (b ≡ true → P) → (b ≡ false → P) → P
+by_test true f g = f refl
+by_test false f g = g refl
+
+pub slice_range-with_bytes : (at n : ℕ) (bytes frame : List ℕ) (from to : ℕ) → at ≤ length frame → length bytes ≡ n → slice_range (with_bytes at n bytes frame) from to ≡ part_with at n bytes frame from to
+slice_range-with_bytes at n bytes frame from to inside fits =
+    by_test (leb to at) (λ before. rw before (stays_before at n bytes frame from to inside (leb-true to at before))) (λ overlaps.
+    by_test (leb (at + n) from) (λ after. rw (overlaps, after) (stays_after at n bytes frame from to inside fits (leb-true (at + n) from after))) (λ reaches.
+    by_test (nat_eq from at && nat_eq to (at + n)) (λ same.
+    let starts : from ≡ at = grind (arith, nat_tests) in
+    let size : length bytes ≡ to - at = grind (arith, nat_tests) in
+    rw (overlaps, reaches, same, starts) (read_back at n bytes frame to inside size)) (λ other. rw (overlaps, reaches, other) refl)))
+
+-- the fields that parts of a frame make
+abbrev pub fields_by : (ℕ → ℕ → List ℕ) → Fields
+fields_by part = record {
+  stuff = part 0 196;
+  key_mac = part 196 228;
+  block_data = part 228 484;
+  nonce = part 484 500;
+  write_counter = big_number 4 (part 500 504);
+  address = big_number 2 (part 504 506);
+  block_count = big_number 2 (part 506 508);
+  result_code = big_number 2 (part 508 510);
+  req_resp = big_number 2 (part 510 512);
+}
+
+pub fields_of-by : (frame : List ℕ) → fields_of frame ≡ fields_by (slice_range frame)
+unfolding fields_of key_mac_of block_data_of nonce_of write_counter_of address_of block_count_of result_of req_resp_of
+fields_of-by frame = refl
+
+-- so one equation holds for each field
+pub fields_of-with_bytes : (at n : ℕ) (bytes frame : List ℕ) → at ≤ length frame → length bytes ≡ n → fields_of (with_bytes at n bytes frame) ≡ fields_by (part_with at n bytes frame)
+fields_of-with_bytes at n bytes frame inside fits =
+    fields_of-by (with_bytes at n bytes frame) ∙ (λ i. fields_by (λ from to. slice_range-with_bytes at n bytes frame from to inside fits i))
+
 -- a number that was written is read
-pub number_read_back : (at n : ℕ) (number : ℕ) (frame : List ℕ) (to : ℕ) → at ≤ length frame → n ≡ to - at → number < 256 ^ n → big_number n (slice_range (with_bytes at n (big_bytes n number) frame) at to) ≡ number
-number_read_back at n number frame to inside size fits =
-    let bytes = read_back at n (big_bytes n number) frame to inside (length-bytes_high_first n number ∙ size) in
+big_number-big_bytes : (n number : ℕ) → number < 256 ^ n → big_number n (big_bytes n number) ≡ number
+big_number-big_bytes n number fits =
     let joined = big_number-reads_back n number [] fits in
-    let whole : big_number n (big_bytes n number) ≡ number = rw append-nil at joined in
-    ap (λ (part : List ℕ). big_number n part) bytes ∙ whole
+    rw append-nil at joined
 
 pub fields_of-with_key_mac : SetsBytes with_key_mac 32 (λ fields bytes. record fields { key_mac = bytes })
-unfolding fields_of with_key_mac key_mac_of block_data_of nonce_of write_counter_of address_of block_count_of result_of req_resp_of
-fields_of-with_key_mac bytes frame fits long =
-    let inside : 196 ≤ length frame = omega arith in
-    record {
-      long = length-with_bytes 196 32 bytes frame (omega arith) fits ∙ long;
-      each = λ i. record {
-        stuff = stays_before 196 32 bytes frame 0 196 inside (lit≤ tt) i;
-        key_mac = read_back 196 32 bytes frame 228 inside fits i;
-        block_data = stays_after 196 32 bytes frame 228 484 inside fits (lit≤ tt) i;
-        nonce = stays_after 196 32 bytes frame 484 500 inside fits (lit≤ tt) i;
-        write_counter = big_number 4 (stays_after 196 32 bytes frame 500 504 inside fits (lit≤ tt) i);
-        address = big_number 2 (stays_after 196 32 bytes frame 504 506 inside fits (lit≤ tt) i);
-        block_count = big_number 2 (stays_after 196 32 bytes frame 506 508 inside fits (lit≤ tt) i);
-        result_code = big_number 2 (stays_after 196 32 bytes frame 508 510 inside fits (lit≤ tt) i);
-        req_resp = big_number 2 (stays_after 196 32 bytes frame 510 512 inside fits (lit≤ tt) i);
-      };
-    }
+unfolding with_key_mac fields_of key_mac_of block_data_of nonce_of write_counter_of address_of block_count_of result_of req_resp_of
+fields_of-with_key_mac bytes frame fits long = record {
+  long = length-with_bytes 196 32 bytes frame (omega arith) fits ∙ long;
+  each = fields_of-with_bytes 196 32 bytes frame (omega arith) fits;
+}
 
 pub fields_of-with_block_data : SetsBytes with_block_data 256 (λ fields bytes. record fields { block_data = bytes })
-unfolding fields_of with_block_data key_mac_of block_data_of nonce_of write_counter_of address_of block_count_of result_of req_resp_of
-fields_of-with_block_data bytes frame fits long =
-    let inside : 228 ≤ length frame = omega arith in
-    record {
-      long = length-with_bytes 228 256 bytes frame (omega arith) fits ∙ long;
-      each = λ i. record {
-        stuff = stays_before 228 256 bytes frame 0 196 inside (lit≤ tt) i;
-        key_mac = stays_before 228 256 bytes frame 196 228 inside (lit≤ tt) i;
-        block_data = read_back 228 256 bytes frame 484 inside fits i;
-        nonce = stays_after 228 256 bytes frame 484 500 inside fits (lit≤ tt) i;
-        write_counter = big_number 4 (stays_after 228 256 bytes frame 500 504 inside fits (lit≤ tt) i);
-        address = big_number 2 (stays_after 228 256 bytes frame 504 506 inside fits (lit≤ tt) i);
-        block_count = big_number 2 (stays_after 228 256 bytes frame 506 508 inside fits (lit≤ tt) i);
-        result_code = big_number 2 (stays_after 228 256 bytes frame 508 510 inside fits (lit≤ tt) i);
-        req_resp = big_number 2 (stays_after 228 256 bytes frame 510 512 inside fits (lit≤ tt) i);
-      };
-    }
+unfolding with_block_data fields_of key_mac_of block_data_of nonce_of write_counter_of address_of block_count_of result_of req_resp_of
+fields_of-with_block_data bytes frame fits long = record {
+  long = length-with_bytes 228 256 bytes frame (omega arith) fits ∙ long;
+  each = fields_of-with_bytes 228 256 bytes frame (omega arith) fits;
+}
 
 pub fields_of-with_nonce : SetsBytes with_nonce 16 (λ fields bytes. record fields { nonce = bytes })
-unfolding fields_of with_nonce key_mac_of block_data_of nonce_of write_counter_of address_of block_count_of result_of req_resp_of
-fields_of-with_nonce bytes frame fits long =
-    let inside : 484 ≤ length frame = omega arith in
-    record {
-      long = length-with_bytes 484 16 bytes frame (omega arith) fits ∙ long;
-      each = λ i. record {
-        stuff = stays_before 484 16 bytes frame 0 196 inside (lit≤ tt) i;
-        key_mac = stays_before 484 16 bytes frame 196 228 inside (lit≤ tt) i;
-        block_data = stays_before 484 16 bytes frame 228 484 inside (lit≤ tt) i;
-        nonce = read_back 484 16 bytes frame 500 inside fits i;
-        write_counter = big_number 4 (stays_after 484 16 bytes frame 500 504 inside fits (lit≤ tt) i);
-        address = big_number 2 (stays_after 484 16 bytes frame 504 506 inside fits (lit≤ tt) i);
-        block_count = big_number 2 (stays_after 484 16 bytes frame 506 508 inside fits (lit≤ tt) i);
-        result_code = big_number 2 (stays_after 484 16 bytes frame 508 510 inside fits (lit≤ tt) i);
-        req_resp = big_number 2 (stays_after 484 16 bytes frame 510 512 inside fits (lit≤ tt) i);
-      };
-    }
+unfolding with_nonce fields_of key_mac_of block_data_of nonce_of write_counter_of address_of block_count_of result_of req_resp_of
+fields_of-with_nonce bytes frame fits long = record {
+  long = length-with_bytes 484 16 bytes frame (omega arith) fits ∙ long;
+  each = fields_of-with_bytes 484 16 bytes frame (omega arith) fits;
+}
 
 pub fields_of-with_write_counter : SetsNumber with_write_counter 4 (λ fields number. record fields { write_counter = number })
-unfolding fields_of with_write_counter key_mac_of block_data_of nonce_of write_counter_of address_of block_count_of result_of req_resp_of
+unfolding with_write_counter fields_of key_mac_of block_data_of nonce_of write_counter_of address_of block_count_of result_of req_resp_of
 fields_of-with_write_counter number frame fits long =
     let size = length-bytes_high_first 4 number in
-    let inside : 500 ≤ length frame = omega arith in
     record {
       long = length-with_bytes 500 4 (big_bytes 4 number) frame (omega arith) size ∙ long;
-      each = λ i. record {
-        stuff = stays_before 500 4 (big_bytes 4 number) frame 0 196 inside (lit≤ tt) i;
-        key_mac = stays_before 500 4 (big_bytes 4 number) frame 196 228 inside (lit≤ tt) i;
-        block_data = stays_before 500 4 (big_bytes 4 number) frame 228 484 inside (lit≤ tt) i;
-        nonce = stays_before 500 4 (big_bytes 4 number) frame 484 500 inside (lit≤ tt) i;
-        write_counter = number_read_back 500 4 number frame 504 inside refl fits i;
-        address = big_number 2 (stays_after 500 4 (big_bytes 4 number) frame 504 506 inside size (lit≤ tt) i);
-        block_count = big_number 2 (stays_after 500 4 (big_bytes 4 number) frame 506 508 inside size (lit≤ tt) i);
-        result_code = big_number 2 (stays_after 500 4 (big_bytes 4 number) frame 508 510 inside size (lit≤ tt) i);
-        req_resp = big_number 2 (stays_after 500 4 (big_bytes 4 number) frame 510 512 inside size (lit≤ tt) i);
-      };
+      each = fields_of-with_bytes 500 4 (big_bytes 4 number) frame (omega arith) size
+          ∙ (λ i. record (fields_of frame) { write_counter = big_number-big_bytes 4 number fits i });
     }
 
 pub fields_of-with_address : SetsNumber with_address 2 (λ fields number. record fields { address = number })
-unfolding fields_of with_address key_mac_of block_data_of nonce_of write_counter_of address_of block_count_of result_of req_resp_of
+unfolding with_address fields_of key_mac_of block_data_of nonce_of write_counter_of address_of block_count_of result_of req_resp_of
 fields_of-with_address number frame fits long =
     let size = length-bytes_high_first 2 number in
-    let inside : 504 ≤ length frame = omega arith in
     record {
       long = length-with_bytes 504 2 (big_bytes 2 number) frame (omega arith) size ∙ long;
-      each = λ i. record {
-        stuff = stays_before 504 2 (big_bytes 2 number) frame 0 196 inside (lit≤ tt) i;
-        key_mac = stays_before 504 2 (big_bytes 2 number) frame 196 228 inside (lit≤ tt) i;
-        block_data = stays_before 504 2 (big_bytes 2 number) frame 228 484 inside (lit≤ tt) i;
-        nonce = stays_before 504 2 (big_bytes 2 number) frame 484 500 inside (lit≤ tt) i;
-        write_counter = big_number 4 (stays_before 504 2 (big_bytes 2 number) frame 500 504 inside (lit≤ tt) i);
-        address = number_read_back 504 2 number frame 506 inside refl fits i;
-        block_count = big_number 2 (stays_after 504 2 (big_bytes 2 number) frame 506 508 inside size (lit≤ tt) i);
-        result_code = big_number 2 (stays_after 504 2 (big_bytes 2 number) frame 508 510 inside size (lit≤ tt) i);
-        req_resp = big_number 2 (stays_after 504 2 (big_bytes 2 number) frame 510 512 inside size (lit≤ tt) i);
-      };
+      each = fields_of-with_bytes 504 2 (big_bytes 2 number) frame (omega arith) size
+          ∙ (λ i. record (fields_of frame) { address = big_number-big_bytes 2 number fits i });
     }
 
 pub fields_of-with_block_count : SetsNumber with_block_count 2 (λ fields number. record fields { block_count = number })
-unfolding fields_of with_block_count key_mac_of block_data_of nonce_of write_counter_of address_of block_count_of result_of req_resp_of
+unfolding with_block_count fields_of key_mac_of block_data_of nonce_of write_counter_of address_of block_count_of result_of req_resp_of
 fields_of-with_block_count number frame fits long =
     let size = length-bytes_high_first 2 number in
-    let inside : 506 ≤ length frame = omega arith in
     record {
       long = length-with_bytes 506 2 (big_bytes 2 number) frame (omega arith) size ∙ long;
-      each = λ i. record {
-        stuff = stays_before 506 2 (big_bytes 2 number) frame 0 196 inside (lit≤ tt) i;
-        key_mac = stays_before 506 2 (big_bytes 2 number) frame 196 228 inside (lit≤ tt) i;
-        block_data = stays_before 506 2 (big_bytes 2 number) frame 228 484 inside (lit≤ tt) i;
-        nonce = stays_before 506 2 (big_bytes 2 number) frame 484 500 inside (lit≤ tt) i;
-        write_counter = big_number 4 (stays_before 506 2 (big_bytes 2 number) frame 500 504 inside (lit≤ tt) i);
-        address = big_number 2 (stays_before 506 2 (big_bytes 2 number) frame 504 506 inside (lit≤ tt) i);
-        block_count = number_read_back 506 2 number frame 508 inside refl fits i;
-        result_code = big_number 2 (stays_after 506 2 (big_bytes 2 number) frame 508 510 inside size (lit≤ tt) i);
-        req_resp = big_number 2 (stays_after 506 2 (big_bytes 2 number) frame 510 512 inside size (lit≤ tt) i);
-      };
+      each = fields_of-with_bytes 506 2 (big_bytes 2 number) frame (omega arith) size
+          ∙ (λ i. record (fields_of frame) { block_count = big_number-big_bytes 2 number fits i });
     }
 
 pub fields_of-with_result : SetsNumber with_result 2 (λ fields number. record fields { result_code = number })
-unfolding fields_of with_result key_mac_of block_data_of nonce_of write_counter_of address_of block_count_of result_of req_resp_of
+unfolding with_result fields_of key_mac_of block_data_of nonce_of write_counter_of address_of block_count_of result_of req_resp_of
 fields_of-with_result number frame fits long =
     let size = length-bytes_high_first 2 number in
-    let inside : 508 ≤ length frame = omega arith in
     record {
       long = length-with_bytes 508 2 (big_bytes 2 number) frame (omega arith) size ∙ long;
-      each = λ i. record {
-        stuff = stays_before 508 2 (big_bytes 2 number) frame 0 196 inside (lit≤ tt) i;
-        key_mac = stays_before 508 2 (big_bytes 2 number) frame 196 228 inside (lit≤ tt) i;
-        block_data = stays_before 508 2 (big_bytes 2 number) frame 228 484 inside (lit≤ tt) i;
-        nonce = stays_before 508 2 (big_bytes 2 number) frame 484 500 inside (lit≤ tt) i;
-        write_counter = big_number 4 (stays_before 508 2 (big_bytes 2 number) frame 500 504 inside (lit≤ tt) i);
-        address = big_number 2 (stays_before 508 2 (big_bytes 2 number) frame 504 506 inside (lit≤ tt) i);
-        block_count = big_number 2 (stays_before 508 2 (big_bytes 2 number) frame 506 508 inside (lit≤ tt) i);
-        result_code = number_read_back 508 2 number frame 510 inside refl fits i;
-        req_resp = big_number 2 (stays_after 508 2 (big_bytes 2 number) frame 510 512 inside size (lit≤ tt) i);
-      };
+      each = fields_of-with_bytes 508 2 (big_bytes 2 number) frame (omega arith) size
+          ∙ (λ i. record (fields_of frame) { result_code = big_number-big_bytes 2 number fits i });
     }
 
 pub fields_of-with_req_resp : SetsNumber with_req_resp 2 (λ fields number. record fields { req_resp = number })
-unfolding fields_of with_req_resp key_mac_of block_data_of nonce_of write_counter_of address_of block_count_of result_of req_resp_of
+unfolding with_req_resp fields_of key_mac_of block_data_of nonce_of write_counter_of address_of block_count_of result_of req_resp_of
 fields_of-with_req_resp number frame fits long =
     let size = length-bytes_high_first 2 number in
-    let inside : 510 ≤ length frame = omega arith in
     record {
       long = length-with_bytes 510 2 (big_bytes 2 number) frame (omega arith) size ∙ long;
-      each = λ i. record {
-        stuff = stays_before 510 2 (big_bytes 2 number) frame 0 196 inside (lit≤ tt) i;
-        key_mac = stays_before 510 2 (big_bytes 2 number) frame 196 228 inside (lit≤ tt) i;
-        block_data = stays_before 510 2 (big_bytes 2 number) frame 228 484 inside (lit≤ tt) i;
-        nonce = stays_before 510 2 (big_bytes 2 number) frame 484 500 inside (lit≤ tt) i;
-        write_counter = big_number 4 (stays_before 510 2 (big_bytes 2 number) frame 500 504 inside (lit≤ tt) i);
-        address = big_number 2 (stays_before 510 2 (big_bytes 2 number) frame 504 506 inside (lit≤ tt) i);
-        block_count = big_number 2 (stays_before 510 2 (big_bytes 2 number) frame 506 508 inside (lit≤ tt) i);
-        result_code = big_number 2 (stays_before 510 2 (big_bytes 2 number) frame 508 510 inside (lit≤ tt) i);
-        req_resp = number_read_back 510 2 number frame 512 inside refl fits i;
-      };
+      each = fields_of-with_bytes 510 2 (big_bytes 2 number) frame (omega arith) size
+          ∙ (λ i. record (fields_of frame) { req_resp = big_number-big_bytes 2 number fits i });
     }

@@ -5,3 +5,5 @@ pub mod Seen
 pub mod Layout
 pub mod Config
 pub mod Fields
+pub mod Combined
+pub mod Decided

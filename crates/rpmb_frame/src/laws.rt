@@ -1,9 +1,11 @@
 //! Laws of the definitions.
-ghost use Rattle.std.specs.Prelude.{◌≡◌, ◌≤◌, ◌++◌, ℕ, List, [], ◌∷◌, length, true};
+ghost use Rattle.std.specs.Prelude.{◌≡◌, ◌≤◌, ◌++◌, ℕ, List, [], ◌∷◌, length, Bool, true};
 ghost use Rattle.std.specs.List.{flat_map, AllByRecursion};
 ghost use Rattle.rpmb_frame.specs.Frame.{req_resp_of, body_of, with_key_mac, with_block_data, with_nonce, with_write_counter, with_address, with_block_count, with_result, with_req_resp};
+ghost use Rattle.rpmb_frame.specs.Combined.{CombinesWrites};
+ghost use Rattle.rpmb_frame.specs.Decided.{IsDecided};
 ghost use Rattle.rpmb_frame.specs.Fields.{SetsBytes, SetsNumber};
-ghost use Rattle.rpmb_frame.specs.Request.{frames_of, command_of, ProgramKey};
+ghost use Rattle.rpmb_frame.specs.Request.{Command, ProgramKey, command_of, frames_of};
 ghost use Rattle.rpmb_frame.specs.declared.limits.Limits.{Limits};
 
 /// Frames that stand one after another are read as those frames.
@@ -31,4 +33,15 @@ pub fn fields_after_setters()
     ensures block_count { SetsNumber with_block_count 2 (λ fields number. record fields { block_count = number }) }
     ensures result_code { SetsNumber with_result 2 (λ fields number. record fields { result_code = number }) }
     ensures req_resp { SetsNumber with_req_resp 2 (λ fields number. record fields { req_resp = number }) }
+{}
+
+/// Frames that write, and one that asks for the result, are a write of the former.
+pub fn data_write_combined()
+    ensures { CombinesWrites }
+{}
+
+/// At most one row of a table decides, and the table answers what that row says.
+pub fn first_row_decides<A>()
+    ensures any { (rows : List (Bool × A)) (otherwise : A) → IsDecided rows otherwise }
+    ensures commands { (rows : List (Bool × Command)) (otherwise : Command) → IsDecided rows otherwise }
 {}
