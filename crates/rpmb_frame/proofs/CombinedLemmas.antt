@@ -1,11 +1,10 @@
 -- A write that brings the request for its result.
-use Rattle.std.proofs.Common.{◌≡◌, ◌≤◌, ◌+◌, ◌-◌, ◌*◌, ◌==◌, ℕ, zero, suc, List, [], ◌∷◌, ◌++◌, length, take, get_or, true, false, nat_eq, leb, ltb, refl, sym, ap, ◌∙◌, arith, length-append, append_assoc}
-use Rattle.std.specs.List.{flat_map, AllByRecursion}
+use Rattle.std.proofs.Common.{◌≡◌, ◌+◌, ◌-◌, ◌*◌, ℕ, suc, List, [], ◌∷◌, ◌++◌, length, take, get_or, true, false, nat_eq, leb, ltb, refl, sym, ap, ◌∙◌, arith, length-append, append_assoc}
+use Rattle.std.specs.List.{AllByRecursion}
 use Rattle.std.proofs.lemmas.Bool.Decides.{nat_tests}
 use Rattle.std.proofs.lemmas.List.{append-nil, take_at}
-use Rattle.rpmb_frame.specs.declared.limits.Limits.{Limits}
-use Rattle.rpmb_frame.specs.declared.frame.TheConstants.{DATA_WRITE, RESULT_READ}
-use Rattle.rpmb_frame.specs.Request.{command_of, frames_of, DataWrite}
+use Rattle.rpmb_frame.specs.declared.frame.TheConstants.{DATA_WRITE}
+use Rattle.rpmb_frame.specs.Request.{command_of, frames_of}
 use Rattle.rpmb_frame.specs.Combined.{CombinesWrites, IsFrameOf}
 use Rattle.rpmb_frame.proofs.Joined.{Are512, joined, frames_of-joined, length-joined}
 
