@@ -7,3 +7,5 @@ pub mod Layout
 pub mod Config
 pub mod Partition
 pub mod Fields
+pub mod Combined
+pub mod Decided

@@ -1,5 +1,6 @@
 ghost use Rattle.std.specs.Prelude.{◌≤◌};
 
+use crate::laws::first_row_decides;
 use crate::{BoardConfig, Command, GuestConfig, Limits, Request, RingKind};
 use std::alloc::Global;
 use std::test::Fail;
@@ -134,4 +135,9 @@ fn rows_of_the_table(rt: HostRuntime) -> Result<(), Fail> {
         assert_eq!(rt; request.limits.max_rd_cnt, 16);
     }
     Ok(())
+}
+
+#[test]
+fn law_of_tables_at_a_type() {
+    first_row_decides::<u16>();
 }
