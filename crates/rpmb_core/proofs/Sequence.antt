@@ -74,3 +74,18 @@ unfolding is_accepted
 read_stays p r code gives is =
     let refused : is_accepted p r ≡ false = rw (gives_none r.command code gives) refl in
     ap (λ q. verdict q r) (after_refused p r refused) ∙ sym is ∙ gives_ok r.command code gives
+
+keyed_change : (p : Partition) (command : Command) (writable : ℕ) (limits : Limits) → is_change command ≡ true → verdict_on p command writable limits ≡ 0 → sequence (changed p command) ≡ (changed p command).counter + 1
+keyed_change p (ProgramKey frame combined) writable limits is zero = refl
+keyed_change p (DataWrite frames combined) writable limits is zero = keyed p.key (p.counter + 1) (write_fits p frames limits zero).keyed
+keyed_change p (GetWriteCounter frame) writable limits is zero = absurd (cc)
+keyed_change p (DataRead frame) writable limits is zero = absurd (cc)
+keyed_change p ResultRead writable limits is zero = absurd (cc)
+keyed_change p Malformed writable limits is zero = absurd (cc)
+
+-- after an accepted request there is a key
+pub keyed_after : (p : Partition) (r : Request) → is_accepted p r ≡ true → sequence (partition_after p r) ≡ (partition_after p r).counter + 1
+unfolding verdict
+keyed_after p r is =
+    let after = after_accepted p r is in
+    rw after (keyed_change p r.command r.writable r.limits (changes p r is) (verdict_zero p r is))
