@@ -31,7 +31,8 @@ fn command_of<'a>(
     board: Option<&'a str>,
     script: Option<&'a str>,
 ) -> Option<Command<'a>>
-    ensures some { IfSome result (AsksFor name.now (option_copied board.entry) (option_copied script.entry)) }
+    ensures some { IfSome result
+        (AsksFor name.now (option_copied board.entry) (option_copied script.entry)) }
     ensures none { IfNone result ((c : Command)
         → ¬ AsksFor name.now (option_copied board.entry) (option_copied script.entry) c) }
 {

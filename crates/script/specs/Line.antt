@@ -5,7 +5,7 @@ use Rattle.script.specs.Words.{bytes_of, number_of, words_of}
 use Rattle.script.specs.declared.line.Line.{Line}
 use Rattle.script.specs.declared.line.Line.TheVariants as line
 
--- what a line may say: nothing, or that a guest offers these readable bytes and so many writable ones
+-- what a line may say: nothing, or that a guest offers these readable bytes and so many writable
 pub data Said : Type 0 where
   nothing : Said
   chain : ℕ → List ℕ → ℕ → Said
@@ -21,7 +21,8 @@ guest_of guests word = option_and_then (λ g. if nat_lt g guests then Some g els
 
 -- the bytes of a readable part, and the length of a writable one
 abbrev pub readable_of : List ℕ → Option (List ℕ)
-readable_of word = option_and_then (λ bytes. if nat_le (length bytes) 8704 then Some bytes else None) (bytes_of word)
+readable_of word =
+    option_and_then (λ bytes. if nat_le (length bytes) 8704 then Some bytes else None) (bytes_of word)
 
 abbrev pub writable_of : List ℕ → Option ℕ
 writable_of word = option_and_then (λ w. if nat_le w 8192 then Some w else None) (number_of word)
@@ -33,8 +34,8 @@ chain_of g bytes w = if nat_lt 0 (length bytes + w) then Some (chain g bytes w) 
 -- the words G, HEX and W after the word `chain`
 abbrev pub chain_line : ℕ → List ℕ → List ℕ → List ℕ → Option Said
 chain_line guests g hex w =
-    option_and_then (λ guest. option_and_then (λ writable. option_and_then (λ readable. chain_of guest readable writable)
-    (readable_of hex)) (writable_of w)) (guest_of guests g)
+    option_and_then (λ guest. option_and_then (λ writable. option_and_then (λ readable.
+    chain_of guest readable writable) (readable_of hex)) (writable_of w)) (guest_of guests g)
 
 -- a line in its words
 abbrev pub line_of_words : ℕ → List (List ℕ) → Option Said
@@ -53,4 +54,5 @@ line_of guests text = if is_skipped text then Some nothing else line_of_words gu
 -- what is said keeps to the board and to the sizes of a chain
 abbrev pub IsWithin : ℕ → Said → Type 0
 IsWithin guests nothing = ⊤
-IsWithin guests (chain g bytes w) = (g < guests) × (length bytes ≤ 8704) × (w ≤ 8192) × (0 < length bytes + w)
+IsWithin guests (chain g bytes w) =
+    (g < guests) × (length bytes ≤ 8704) × (w ≤ 8192) × (0 < length bytes + w)

@@ -11,4 +11,5 @@ lines_of script = slice_split (λ b. b == 10) script
 unfoldable pub first_bad : ℕ → List (List ℕ) → Option ℕ
 first_bad guests [] = None
 first_bad guests (line ∷ lines) =
-    if is_some (line_of guests line) then option_map (λ n. n + 1) (first_bad guests lines) else Some 1
+    if is_some (line_of guests line) then option_map (λ n. n + 1) (first_bad guests lines)
+    else Some 1

@@ -1,6 +1,7 @@
 //! One line of a script.
 ghost use Rattle.std.specs.Prelude.{◌≡◌, IfOk, Err, None, Ok, Some, map, option_map, true};
-ghost use Rattle.script.specs.Line.{IsWithin, chain_line, guest_of, is_skipped, line_of, line_of_words, readable_of, said, writable_of};
+ghost use Rattle.script.specs.Line.{IsWithin, chain_line, guest_of, is_skipped, line_of, line_of_words};
+ghost use Rattle.script.specs.Line.{readable_of, said, writable_of};
 
 use crate::fault::LineError;
 use crate::word::{first_words, read_bytes, read_number};
@@ -67,8 +68,10 @@ fn read_chain(
     hex: &str,
     writable: &str,
 ) -> Result<Line, LineError>
-    ensures ok { IfOk result (λ line. chain_line guests guest.now hex.now writable.now ≡ Some (said line)) }
-    ensures bad { result ≡ Err LineError.BadScript → chain_line guests guest.now hex.now writable.now ≡ None }
+    ensures ok { IfOk result (λ line. chain_line guests guest.now hex.now writable.now
+        ≡ Some (said line)) }
+    ensures bad { result ≡ Err LineError.BadScript
+        → chain_line guests guest.now hex.now writable.now ≡ None }
 {
     let Some(guest) = read_guest(guest, guests) else {
         return Err(LineError::BadScript);
@@ -93,8 +96,10 @@ fn read_chain(
 }
 
 fn read_words(alloc: Global, words: &[&str], guests: u16) -> Result<Line, LineError>
-    ensures ok { IfOk result (λ line. line_of_words guests (map (λ w. w.now) words.now) ≡ Some (said line)) }
-    ensures bad { result ≡ Err LineError.BadScript → line_of_words guests (map (λ w. w.now) words.now) ≡ None }
+    ensures ok { IfOk result (λ line. line_of_words guests (map (λ w. w.now) words.now)
+        ≡ Some (said line)) }
+    ensures bad { result ≡ Err LineError.BadScript
+        → line_of_words guests (map (λ w. w.now) words.now) ≡ None }
 {
     let [command, guest, hex, writable] = words else {
         return Err(LineError::BadScript);

@@ -17,9 +17,11 @@ use std::alloc::Global;
 /// `BadScript` with the number of the first line, counted from 1, that `read_line` refuses;
 /// `NoMemory` where memory is refused.
 pub fn read_script(alloc: Global, script: &str, guests: u16) -> Result<Vec<Line>, ScriptError>
-    ensures ok { IfOk result (λ lines. map (λ line. Some (said line)) lines.items ≡ map (line_of guests) (lines_of script.now)) }
+    ensures ok { IfOk result (λ lines. map (λ line. Some (said line)) lines.items
+        ≡ map (line_of guests) (lines_of script.now)) }
     ensures within { IfOk result (λ lines. All (λ line. IsWithin guests (said line)) lines.items) }
-    ensures bad { (n : ℕ) → result ≡ Err (ScriptError.BadScript n) → first_bad guests (lines_of script.now) ≡ Some n }
+    ensures bad { (n : ℕ) → result ≡ Err (ScriptError.BadScript n)
+        → first_bad guests (lines_of script.now) ≡ Some n }
 {
     let mut lines = Vec::new(alloc);
     for text in script.split('\n') {

@@ -8,7 +8,8 @@ use std::alloc::{AllocError, Global};
 /// The first words of a line: one more than a line that says something has, so that a line of
 /// many words takes no more memory.
 pub fn first_words<'a>(alloc: Global, line: &'a str) -> Result<Vec<&'a str>, AllocError>
-    ensures { IfOk result (λ words. map (λ w. w.now) words.items ≡ take 5 (words_of line.entry.now)) }
+    ensures { IfOk result (λ words. map (λ w. w.now) words.items
+        ≡ take 5 (words_of line.entry.now)) }
 {
     line.split(' ').take(5).collect(alloc)
 }
