@@ -1,0 +1,10 @@
+pub mod Job
+pub mod Guest
+pub mod Turn
+pub mod Replay
+pub mod Planned
+pub mod History
+pub mod Book
+pub mod Kept
+pub mod Receipt
+pub mod Opening
