@@ -14,7 +14,8 @@ use Rattle.rpmb_book.specs.Book.{refusal_at}
 use Rattle.rpmb_book.specs.Kept.{IsKept, IsFresh}
 use Rattle.rpmb_book.proofs.Places.{set-update, total}
 use Rattle.rpmb_book.proofs.Replay.{replay-push, legal-push}
-use Rattle.rpmb_book.proofs.Room.{IsOpening, IsSoundGuest, Fits, due, unsettled, submits_of, fits, sound, turn_pays, one_if}
+use Rattle.rpmb_book.specs.Sound.{IsSoundGuest}
+use Rattle.rpmb_book.proofs.Room.{IsOpening, Fits, due, unsettled, submits_of, fits, sound, turn_pays, one_if}
 
 fresh_guests_open : (gs : List GuestState) → AllByRecursion (λ g. g ≡ fresh g.core.limits g.core.partition) gs
     → (total due gs ≡ 0) × (total unsettled gs ≡ 0) × (total submits_of gs ≡ 0) × AllByRecursion IsSoundGuest gs

@@ -8,3 +8,6 @@ pub mod Submitting
 pub mod Settling
 pub mod OpeningLemmas
 pub mod Taking
+pub mod IsolationLemmas
+pub mod OutcomeLemmas
+pub mod LeadingOn

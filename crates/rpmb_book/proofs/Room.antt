@@ -10,21 +10,10 @@ use Rattle.rpmb_core.proofs.Sequence.{sequence_accepted, after_refused, keyed_af
 use Rattle.rpmb_book.specs.Job.{Job, Done, Entry, entry_sequence, done_of}
 use Rattle.rpmb_book.specs.Guest.{GuestCore, GuestState, submitted, took, collected, first_due, first_entry, first_sequence, joined_by, entry, entry_of, accepts, after, request_of, answer, need}
 use Rattle.rpmb_book.specs.Turn.{Turn, Submit, Take, Settle, Collect, State, after_turn, IsRight, is_submit, settled_all, are_within, move_some}
+use Rattle.rpmb_book.specs.Sound.{Follows, IsSoundGuest, IsSound}
 use Rattle.rpmb_book.specs.Replay.{replay, IsLegal}
 use Rattle.rpmb_book.specs.History.{is_settle}
 use Rattle.rpmb_book.proofs.Places.{total, total-update, all_at, all-update}
-
--- the entries' sequences follow each other from n, and end at m
-abbrev pub Follows : ℕ → List Entry → ℕ → Type 0
-Follows n [] m = n ≡ m
-Follows n (e ∷ es) m = (entry_sequence e ≡ n + 1) × Follows (entry_sequence e) es m
-
--- what waits leads from what was taken to the partition, and nothing is settled that wasn't taken
-abbrev pub IsSoundGuest : GuestState → Type 0
-IsSoundGuest g = Follows g.taken g.waiting (sequence g.core.partition) × (g.settled ≤ g.taken)
-
-abbrev pub IsSound : State → Type 0
-IsSound s = AllByRecursion IsSoundGuest s.guests
 
 -- how many accepted requests aren't settled
 abbrev pub unsettled : GuestState → ℕ

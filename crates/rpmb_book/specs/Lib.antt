@@ -8,3 +8,6 @@ pub mod Book
 pub mod Kept
 pub mod Receipt
 pub mod Opening
+pub mod Sound
+pub mod Isolation
+pub mod Outcome

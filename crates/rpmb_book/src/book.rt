@@ -5,12 +5,14 @@ ghost use Rattle.rpmb_book.specs.Replay.{opened, IsLegal};
 ghost use Rattle.rpmb_book.specs.Book.{BookView, state, with_turn, submit_of, refusal, is_share, is_taken, take_answer, after_take, next_entry, share_moved, are_taken, settle_answer, after_settle, due_of, after_collect, found_by, taken_marks};
 ghost use Rattle.std.specs.List.{list_any};
 ghost use Rattle.rpmb_book.specs.Turn.{settled_all};
+ghost use Rattle.rpmb_book.specs.Sound.{IsSound};
 ghost use Rattle.rpmb_book.specs.Receipt.{turn_seen, submission_seen};
 
+use crate::done::Done;
 use crate::guest_state::GuestState;
 use crate::history::{History, TurnRecord};
 use crate::intent::Intent;
-use crate::job::{Done, Job};
+use crate::job::Job;
 use crate::opening::{copied_guests, guests, sequences, tallies};
 use crate::receipt::{Receipt, TurnView};
 use crate::refused::Refused;
@@ -227,6 +229,8 @@ impl Book {
         ensures life { result ≡ self.now.life }
         // Each turn of the history is one that the book makes in the state where it stands.
         ensures legal { IsLegal self.now.opening self.now.history }
+        // What waits for the store follows what it took, and nothing is settled that it didn't take.
+        ensures sound { IsSound (state self.now) }
     {
         self.life
     }

@@ -1,10 +1,11 @@
 ghost use Rattle.std.specs.Prelude.{◌≡◌, ◌+◌, ◌-◌, ◌<◌, ◌^◌, IfOk, IfErr, if◌then◌else◌, is_some, length};
 ghost use Rattle.rpmb_book.specs.Guest.{submitted, answer, took, settled_at, collected, first_due, first_entry, fresh};
 
+use crate::done::Done;
 use crate::guest_core::{Answer, GuestCore};
 use crate::history::Submission;
 use crate::intent::Entry;
-use crate::job::{Done, Job};
+use crate::job::Job;
 use rpmb_core::Partition;
 use rpmb_frame::Limits;
 use std::alloc::Global;
@@ -91,7 +92,7 @@ impl GuestState {
             need,
             entry,
         } = self.core.carry_out(&job, plan);
-        self.held.push_reserved(job.done(reply, need));
+        self.held.push_reserved(Done::of(&job, reply, need));
         match entry {
             None => {}
             Some(entry) => self.waiting.push_reserved(entry),

@@ -1,5 +1,4 @@
 ghost use Rattle.std.specs.Prelude.{◌≡◌};
-ghost use Rattle.rpmb_book.specs.Job.{done_of};
 
 use std::marker::Model;
 
@@ -73,57 +72,6 @@ impl Job {
         &self.request
     }
 
-    /// The reply to this job, to leave once its need is settled.
-    pub(crate) fn done(&self, reply: Vec<u8>, need: u64) -> Done
-        ensures { result ≡ done_of self.now reply.items need }
-    {
-        Done {
-            guest: self.guest,
-            session: self.session,
-            id: self.id,
-            places: self.places,
-            writable: self.writable,
-            reply,
-            need,
-        }
-    }
-}
-
-/// A reply that may leave. Only `Book::collect` makes one.
-#[derive(Drop)]
-pub struct Done {
-    guest: u16,
-    session: u64,
-    id: u16,
-    places: u16,
-    writable: u64,
-    reply: Vec<u8>,
-    need: u64,
-}
-
-impl Model for Done {
-    ghost use Rattle.rpmb_book.specs.Job as model;
-
-    ghost Value = { model.Done };
-
-    ghost view = { λ d. record { guest = d.guest; session = d.session; id = d.id; places = d.places; writable = d.writable; reply = d.reply.items; need = d.need } };
-}
-
-impl Done {
-    /// The guest that the reply is for.
-    pub fn guest(&self) -> u16
-        ensures { result ≡ self.now.guest }
-    {
-        self.guest
-    }
-
-    /// The session in which the job came.
-    pub fn session(&self) -> u64
-        ensures { result ≡ self.now.session }
-    {
-        self.session
-    }
-
     /// The id of the chain.
     pub fn id(&self) -> u16
         ensures { result ≡ self.now.id }
@@ -136,26 +84,5 @@ impl Done {
         ensures { result ≡ self.now.places }
     {
         self.places
-    }
-
-    /// How many bytes the chain has for the reply.
-    pub fn writable(&self) -> u64
-        ensures { result ≡ self.now.writable }
-    {
-        self.writable
-    }
-
-    /// The bytes of the reply: none, or 512 for each frame.
-    pub fn reply(&self) -> &[u8]
-        ensures { result.now ≡ self.now.reply }
-    {
-        &self.reply
-    }
-
-    /// The sequence of the guest that had to be settled before the reply left.
-    pub fn need(&self) -> u64
-        ensures { result ≡ self.now.need }
-    {
-        self.need
     }
 }
