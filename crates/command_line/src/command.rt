@@ -1,0 +1,13 @@
+//! The commands.
+
+/// What the program is to do, with the paths of the files that the words name.
+#[derive(Clone, Copy, Debug, PartialEq, Eq)]
+pub enum Command<'a> {
+    /// Performs a script on the guests of a board.
+    Run {
+        /// The path of the board file.
+        board: &'a str,
+        /// The path of the script.
+        script: &'a str,
+    },
+}

@@ -1,0 +1,12 @@
+//! The command line of `rpmbd`: the commands that there are, and what a list of words asks for.
+#![tactic(auto)]
+
+mod command;
+mod grammar;
+mod words;
+
+pub use command::Command;
+pub use words::{WordsError, read_words};
+
+#[cfg(test)]
+mod tests;

@@ -1,0 +1,13 @@
+pub mod Planning
+pub mod Places
+pub mod Replay
+pub mod Turns
+pub mod Room
+pub mod Kept
+pub mod Submitting
+pub mod Settling
+pub mod OpeningLemmas
+pub mod Taking
+pub mod IsolationLemmas
+pub mod OutcomeLemmas
+pub mod LeadingOn

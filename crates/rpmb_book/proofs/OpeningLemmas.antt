@@ -1,0 +1,86 @@
+-- One more guest of an opening.
+use Rattle.std.proofs.Common.{◌≡◌, ◌<◌, ℕ, zero, suc, ◌+◌, List, [], ◌∷◌, ◌++◌, length, map, take, drop, refl, ap, ap₂, sym, ◌∙◌, arith, get_or, add-one}
+use Rattle.std.specs.List.{AllByRecursion}
+use Rattle.std.proofs.lemmas.List.{take_more, length-map, get_or-drop, drop-drop}
+use Rattle.rpmb_frame.specs.Limits.{Limits, limits_of}
+use Rattle.rpmb_frame.specs.Partition.{Partition}
+use Rattle.rpmb_frame.specs.declared.config.GuestConfig.{GuestConfig}
+use Rattle.rpmb_book.specs.Job.{Tally}
+use Rattle.rpmb_book.specs.Guest.{GuestState, fresh}
+use Rattle.rpmb_book.specs.Opening.{tallies_from}
+use Rattle.rpmb_book.specs.Replay.{fresh_guests}
+use Rattle.rpmb_book.specs.History.{HistoryView}
+use Rattle.rpmb_book.specs.Kept.{IsKept}
+
+tallies_from-suc : (n k : ℕ) → tallies_from n (suc k) ≡ tallies_from n k ++ record { guest = n + k; count = 0 } ∷ []
+unfolding tallies_from
+tallies_from-suc n zero = (let here : n ≡ n + 0 = omega arith in ap (λ m. record { guest = m; count = 0 } ∷ []) here)
+tallies_from-suc n (suc k) =
+    let next : suc n + k ≡ n + suc k = omega arith in
+    ap (λ r. record { guest = n; count = 0 } ∷ r) (tallies_from-suc (suc n) k)
+    ∙ ap (λ m. record { guest = n; count = 0 } ∷ (tallies_from (suc n) k ++ record { guest = m; count = 0 } ∷ [])) next
+
+pub more_tallies : (ts ts' : List Tally) (i : ℕ) (t : Tally) → ts ≡ tallies_from 0 i → t ≡ record { guest = i; count = 0 } → ts' ≡ ts ++ t ∷ [] → ts' ≡ tallies_from 0 (i + 1)
+more_tallies ts ts' i t so_far new is =
+    let here : 0 + i ≡ i = omega arith in
+    is ∙ ap₂ (λ (a : List Tally) (b : Tally). a ++ b ∷ []) so_far new
+    ∙ ap (λ m. tallies_from 0 i ++ record { guest = m; count = 0 } ∷ []) (sym here) ∙ sym (tallies_from-suc 0 i) ∙ ap (tallies_from 0) (sym (add-one i))
+
+fresh_guests-push : (gs : List GuestConfig) (ps : List Partition) (g : GuestConfig) (p : Partition) → length gs ≡ length ps → fresh_guests (gs ++ g ∷ []) (ps ++ p ∷ []) ≡ fresh_guests gs ps ++ fresh (limits_of g) p ∷ []
+fresh_guests-push [] [] g p same = refl
+fresh_guests-push [] (q ∷ ps) g p same = absurd (omega (arith, same))
+fresh_guests-push (x ∷ gs) [] g p same = absurd (omega (arith, same))
+fresh_guests-push (x ∷ gs) (q ∷ ps) g p same = ap (λ r. fresh (limits_of x) q ∷ r) (fresh_guests-push gs ps g p (omega (arith, same)))
+
+length-front : {X : Type 0} (i : ℕ) (xs : List X) → i < length xs → length (take i xs) ≡ i
+length-front zero xs lt = refl
+length-front (suc i) [] lt = absurd (omega arith)
+length-front (suc i) (x ∷ xs) lt = ap suc (length-front i xs (omega arith))
+
+pub more_guests : (gs : List GuestConfig) (ps : List Partition) (i : ℕ) (d g : GuestConfig) (p : Partition) (vs vs' : List GuestState) (v : GuestState) → i < length gs → i < length ps
+    → g ≡ get_or gs i d → p ≡ get_or ps i p → vs ≡ fresh_guests (take i gs) (take i ps) → v ≡ fresh (limits_of g) p → vs' ≡ vs ++ v ∷ []
+    → vs' ≡ fresh_guests (take (i + 1) gs) (take (i + 1) ps)
+more_guests gs ps i d g p vs vs' v lt lt' g_is p_is so_far new is =
+    let gs' : take (i + 1) gs ≡ take i gs ++ g ∷ [] = take_more gs i d lt ∙ ap (λ x. take i gs ++ x ∷ []) (sym g_is) in
+    let ps' : take (i + 1) ps ≡ take i ps ++ p ∷ [] = take_more ps i p lt' ∙ ap (λ x. take i ps ++ x ∷ []) (sym p_is) in
+    let same : length (take i gs) ≡ length (take i ps) = length-front i gs lt ∙ sym (length-front i ps lt') in
+    is ∙ ap₂ (λ (a : List GuestState) (b : GuestState). a ++ b ∷ []) so_far new ∙ sym (fresh_guests-push (take i gs) (take i ps) g p same) ∙ sym (ap₂ fresh_guests gs' ps')
+
+-- the same, where the limits were read from the configuration
+pub more_read : (read gs : List GuestConfig) (ps : List Partition) (i : ℕ) (d : GuestConfig) (l : Limits) (p : Partition) (vs vs' : List GuestState) (v : GuestState) → read ≡ gs → i < length read → i < length ps
+    → l ≡ limits_of (get_or read i d) → p ≡ get_or ps i p → vs ≡ fresh_guests (take i gs) (take i ps) → v ≡ fresh l p → vs' ≡ vs ++ v ∷ []
+    → vs' ≡ fresh_guests (take (i + 1) gs) (take (i + 1) ps)
+more_read read gs ps i d l p vs vs' v same lt lt' limits p_is so_far new is =
+    more_guests gs ps i d (get_or gs i d) p vs vs' v (omega (arith, ap length same)) lt' refl p_is so_far
+    (new ∙ ap (λ (x : Limits). fresh x p) (limits ∙ ap (λ (xs : List GuestConfig). limits_of (get_or xs i d)) same)) is
+
+-- the first of what is left
+pub first_left : (xs left : List Partition) (i : ℕ) (x : Partition) → i < length xs → left ≡ drop i xs → x ≡ get_or left 0 x → x ≡ get_or xs i x
+first_left xs left i x lt is read = read ∙ ap (λ (ys : List Partition). get_or ys 0 x) is ∙ get_or-drop i xs 0 x ∙ (let e : i + 0 ≡ i = omega arith in ap (λ k. get_or xs k x) e)
+
+pub rest_left : (xs left : List Partition) (i : ℕ) → left ≡ drop i xs → drop 1 left ≡ drop (i + 1) xs
+rest_left xs left i is = ap (drop 1) is ∙ drop-drop 1 i xs
+
+pub all_fresh : (gs : List GuestConfig) (ps : List Partition) → AllByRecursion (λ g. g ≡ fresh g.core.limits g.core.partition) (fresh_guests gs ps)
+all_fresh [] ps = tt
+all_fresh (g ∷ gs) [] = tt
+all_fresh (g ∷ gs) (p ∷ ps) = (refl, all_fresh gs ps)
+
+pub length-fresh_guests : (gs : List GuestConfig) (ps : List Partition) → length ps ≡ length gs → length (fresh_guests gs ps) ≡ length gs
+length-fresh_guests [] ps same = refl
+length-fresh_guests (g ∷ gs) [] same = absurd (omega (arith, same))
+length-fresh_guests (g ∷ gs) (p ∷ ps) same = ap suc (length-fresh_guests gs ps (omega (arith, same)))
+
+-- a book that was opened on these partitions
+pub kept_opening : (config : List GuestConfig) (ps : List Partition) (opening guests : List GuestState) (h : HistoryView) → map (λ p. p.capacity) ps ≡ map (λ g. g.capacity) config
+    → opening ≡ fresh_guests config ps → guests ≡ fresh_guests config ps → h ≡ record { guests = length config; turns = [] } → IsKept (record { guests = opening }) h guests 0
+kept_opening config ps opening guests h same is is' h_is =
+    let many : length ps ≡ length config = sym (length-map ps (λ p. p.capacity)) ∙ ap length same ∙ length-map config (λ g. g.capacity) in
+    rw (is, is', h_is) (record {
+      guests_are = refl;
+      legal = tt;
+      begins = all_fresh config ps;
+      counted = refl;
+      few = omega arith;
+      wide = sym (length-fresh_guests config ps many);
+    })

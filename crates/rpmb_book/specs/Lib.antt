@@ -1,0 +1,13 @@
+pub mod Job
+pub mod Guest
+pub mod Turn
+pub mod Replay
+pub mod Planned
+pub mod History
+pub mod Book
+pub mod Kept
+pub mod Receipt
+pub mod Opening
+pub mod Sound
+pub mod Isolation
+pub mod Outcome

@@ -1,0 +1,68 @@
+-- One turn of the book: what it changes, and where it may stand.
+use Rattle.std.specs.Prelude.{ℕ, zero, suc, ◌≡◌, ◌<◌, ◌&&◌, ◌||◌, nat_le, nat_lt, Bool, true, false, Option, Some, None, IsSome, List, [], ◌∷◌, length, slice_get}
+use Rattle.std.specs.Option.{ForSome}
+use Rattle.rpmb_book.specs.Job.{Job, Submission}
+use Rattle.rpmb_book.specs.Guest.{GuestState, submitted, took, settled_at, collected, first_due, first_entry, answer}
+
+pub data Turn : Type 0 where
+  -- a job was answered
+  Submit : (made : Submission) → Turn
+  -- the guest's first waiting entry went to the store
+  Take : (guest : ℕ) → Turn
+  -- the store has these sequences, one a guest
+  Settle : (marks : List ℕ) → Turn
+  -- the guest's first held reply left
+  Collect : (guest : ℕ) → Turn
+
+pub record State : Type 0 where
+  pub guests : List GuestState
+
+-- the list with one place changed
+abbrev pub update : {X : Type 0} → List X → ℕ → (X → X) → List X
+update [] n f = []
+update (x ∷ xs) zero f = f x ∷ xs
+update (x ∷ xs) (suc n) f = x ∷ update xs n f
+
+abbrev pub settled_all : List GuestState → List ℕ → List GuestState
+settled_all [] marks = []
+settled_all (g ∷ gs) [] = g ∷ gs
+settled_all (g ∷ gs) (m ∷ ms) = settled_at m g ∷ settled_all gs ms
+
+abbrev pub after_turn : State → Turn → State
+after_turn s (Submit w) = record { guests = update s.guests w.job.guest (submitted w.job) }
+after_turn s (Take n) = record { guests = update s.guests n took }
+after_turn s (Settle marks) = record { guests = settled_all s.guests marks }
+after_turn s (Collect n) = record { guests = update s.guests n collected }
+
+abbrev pub answer_from : Job → Option GuestState → List ℕ
+answer_from job None = []
+answer_from job (Some g) = answer g.core job
+
+-- the reply to a job now; a guest that the state lacks has none
+abbrev pub answer_of : State → Job → List ℕ
+answer_of s job = answer_from job (slice_get s.guests job.guest)
+
+-- no mark is above what was taken
+abbrev pub are_within : List GuestState → List ℕ → Bool
+are_within [] marks = true
+are_within (g ∷ gs) [] = true
+are_within (g ∷ gs) (m ∷ ms) = nat_le m g.taken && are_within gs ms
+
+-- some mark is above what was settled
+abbrev pub move_some : List GuestState → List ℕ → Bool
+move_some [] marks = false
+move_some (g ∷ gs) [] = false
+move_some (g ∷ gs) (m ∷ ms) = nat_lt g.settled m || move_some gs ms
+
+-- the turn is one that the book makes in that state, with the answer that it gives there
+abbrev pub IsRight : State → Turn → Type 0
+IsRight s (Submit w) = (w.job.guest < length s.guests) × (w.reply ≡ answer_of s w.job)
+IsRight s (Take n) = ForSome (slice_get s.guests n) (λ g. IsSome (first_entry g.waiting)) × (n < length s.guests)
+IsRight s (Settle marks) = (length marks ≡ length s.guests) × (are_within s.guests marks ≡ true) × (move_some s.guests marks ≡ true)
+IsRight s (Collect n) = ForSome (slice_get s.guests n) (λ g. IsSome (first_due g.settled g.held)) × (n < length s.guests)
+
+abbrev pub is_submit : Turn → Bool
+is_submit (Submit w) = true
+is_submit (Take n) = false
+is_submit (Settle marks) = false
+is_submit (Collect n) = false

@@ -1,0 +1,274 @@
+ghost use Rattle.std.specs.Prelude.{◌≡◌, ◌≤◌, ◌+◌, ◌<◌, ℕ, List, [], IfOk, IfErr, OnOk, OnErr, None, Some, nat_lt, if◌then◌else◌, unwrap_or, option_map, map, length};
+ghost use Rattle.rpmb_frame.specs.Partition.{sequence};
+ghost use Rattle.rpmb_book.specs.Opening.{tallies_from};
+ghost use Rattle.rpmb_book.specs.Replay.{opened, IsLegal};
+ghost use Rattle.rpmb_book.specs.Book.{BookView, state, with_turn, submit_of, refusal, is_share, is_taken, take_answer, after_take, next_entry, share_moved, are_taken, settle_answer, after_settle, due_of, after_collect, found_by, taken_marks};
+ghost use Rattle.std.specs.List.{list_any};
+ghost use Rattle.rpmb_book.specs.Turn.{settled_all};
+ghost use Rattle.rpmb_book.specs.Sound.{IsSound};
+ghost use Rattle.rpmb_book.specs.Receipt.{turn_seen, submission_seen};
+
+use crate::done::Done;
+use crate::guest_state::GuestState;
+use crate::history::{History, TurnRecord};
+use crate::intent::Intent;
+use crate::job::Job;
+use crate::opening::{copied_guests, guests, sequences, tallies};
+use crate::receipt::{Receipt, TurnView};
+use crate::refused::Refused;
+use crate::tally::{Shares, Tally};
+use rpmb_core::{NoMemory, Partition};
+use rpmb_frame::BoardConfig;
+use std::alloc::Global;
+use std::marker::Model;
+
+/// How many replies of one guest may wait to leave.
+const HELD: usize = 64;
+
+/// How many Submits a history may hold.
+const SUBMITS: u64 = 16_384;
+
+/// What all guests asked and were answered. Contracts see its life, its opening and its history; the
+/// state is the replay of the history on the opening.
+#[derive(Drop)]
+pub struct Book {
+    life: u64,
+    opening: Vec<GuestState>,
+    guests: Vec<GuestState>,
+    submits: u64,
+    history: History,
+}
+
+impl Model for Book {
+    ghost use Rattle.rpmb_book.specs.Book.{BookView};
+    ghost use Rattle.rpmb_book.specs.Kept.{IsKept};
+
+    ghost Value = { BookView };
+
+    ghost view = { λ b. record { life = b.life; opening = record { guests = b.opening.items }; history = b.history.turns } };
+
+    ghost invariant = { λ b. IsKept (record { guests = b.opening.items }) b.history b.guests.items b.submits };
+}
+
+impl Book {
+    /// A book of this life on these partitions, with an empty history; a tally for each guest; and the
+    /// shares, which stand at the partitions' sequences. All room for the history is made here.
+    pub fn open(
+        alloc: Global,
+        life: u64,
+        config: &BoardConfig,
+        partitions: Vec<Partition>,
+    ) -> Result<(Book, Vec<Tally>, Shares), NoMemory>
+        requires { map (λ p. p.capacity) partitions.items ≡ map (λ g. g.capacity) config.now }
+        ensures book { IfOk result (λ r. r.0 ≡ record { life = life; opening = opened config.now partitions.items; history = [] }) }
+        ensures tallies { IfOk result (λ r. r.1.items ≡ tallies_from 0 (length config.now)) }
+        ensures shares { IfOk result (λ r. r.2 ≡ map sequence partitions.items) }
+    {
+        let count = config.guests().len();
+        let history = History::new(alloc, count)?;
+        let tallies = tallies(alloc, count)?;
+        let sequences = sequences(alloc, &partitions)?;
+        let opening = copied_guests(alloc, config, &partitions)?;
+        let guests = guests(alloc, config, partitions)?;
+        let book = Book {
+            life,
+            opening,
+            guests,
+            submits: 0,
+            history,
+        };
+        Ok((book, tallies, Shares::of(sequences)))
+    }
+
+    /// Why a job is refused, whatever memory there is; None where it is not.
+    fn refusal(&self, tally: &Tally, job: &Job) -> Option<Refused>
+        ensures { result ≡ refusal self.now tally.now job.now }
+    {
+        let Some(guest) = self.guests.get(usize::from(job.guest())) else {
+            return Some(Refused::Foreign);
+        };
+        if tally.guest() != job.guest() || tally.count() != guest.submits() {
+            return Some(Refused::Foreign);
+        }
+        if guest.held_len() == HELD {
+            return Some(Refused::Busy);
+        }
+        if self.submits == SUBMITS {
+            return Some(Refused::HistoryFull);
+        }
+        None
+    }
+
+    /// Answers a job: the partition, the stored outcome and the waiting entries change as its request
+    /// says, and its reply is held until its need is settled. A refusal gives the job back and changes
+    /// nothing. It is the first of these that applies: `Foreign` where the book lacks the job's guest,
+    /// or the tally isn't of that guest, or not its count of Submits; `Busy` where the guest has 64
+    /// held replies; `HistoryFull` where 16,384 Submits stand; `NoMemory`.
+    pub fn submit(
+        &mut self,
+        alloc: Global,
+        tally: &mut Tally,
+        job: Job,
+    ) -> Result<Receipt, (Job, Refused)>
+        ensures made { OnOk result (self.new ≡ with_turn self.old (submit_of self.old job)) }
+        ensures counted { OnOk result (tally.new ≡ record tally.old { count = tally.old.count + 1 }) }
+        ensures named { IfOk result (λ r. r ≡ record { life = self.old.life; guest = job.guest; number = length self.old.history }) }
+        ensures allowed { OnOk result (refusal self.old tally.old job ≡ None) }
+        ensures refused { IfErr result (λ e. e.1 ≡ unwrap_or (refusal self.old tally.old job) Refused.NoMemory) }
+        ensures given_back { IfErr result (λ e. e.0 ≡ job) }
+        ensures unchanged { OnErr result ((self.new ≡ self.old) × (tally.new ≡ tally.old)) }
+    {
+        if let Some(refused) = self.refusal(tally, &job) {
+            return Err((job, refused));
+        }
+        let receipt = Receipt {
+            life: self.life,
+            guest: job.guest(),
+            number: self.history.len() as u64,
+        };
+        let guest = &mut self.guests[usize::from(job.guest())];
+        let made = match guest.submit(alloc, job) {
+            Err(job) => return Err((job, Refused::NoMemory)),
+            Ok(made) => made,
+        };
+        self.history.push(TurnRecord::Submit(made));
+        self.submits += 1;
+        tally.raise();
+        Ok(receipt)
+    }
+
+    /// Whether the guest is the book's, and its share is its taken sequence.
+    fn is_share(&self, shares: &Shares, guest: u16) -> bool
+        ensures { result ≡ is_share self.now shares.now guest }
+    {
+        let at = usize::from(guest);
+        match self.guests.get(at) {
+            Some(known) => is_taken(known, shares.get(at)),
+            None => false,
+        }
+    }
+
+    /// Gives the guest's oldest accepted request that was not taken, and moves its share there; None
+    /// where none waits. `Foreign` exactly where the book lacks the guest or the share isn't its taken
+    /// sequence. It takes no memory.
+    pub fn take(&mut self, shares: &mut Shares, guest: u16) -> Result<Option<Intent>, Refused>
+        ensures answer { result ≡ take_answer self.old shares.old guest }
+        ensures book { self.new ≡ after_take self.old shares.old guest }
+        ensures shares { shares.new ≡ share_moved shares.old guest (next_entry self.old shares.old guest) }
+    {
+        if !self.is_share(shares, guest) {
+            return Err(Refused::Foreign);
+        }
+        let at = usize::from(guest);
+        let known = &mut self.guests[at];
+        match known.take() {
+            None => Ok(None),
+            Some(entry) => {
+                shares.set(at, entry.sequence());
+                self.history.push(TurnRecord::Take(guest));
+                Ok(Some(Intent::of(guest, entry)))
+            }
+        }
+    }
+
+    /// Settles all that was taken, as a store does that has written and synced it. `Foreign` exactly
+    /// where the share of some guest isn't its taken sequence; then nothing changes. It takes no memory.
+    pub fn settle_taken(&mut self, shares: &Shares) -> Result<(), Refused>
+        ensures answer { result ≡ settle_answer self.old shares.now }
+        ensures book { self.new ≡ after_settle self.old shares.now }
+    {
+        if !are_taken(&self.guests, shares) {
+            return Err(Refused::Foreign);
+        }
+        if any_moves(&self.guests) {
+            self.history.push_settle(&self.guests);
+            settle_all(&mut self.guests);
+        }
+        Ok(())
+    }
+
+    /// Gives the guest's oldest held reply, where its need is settled; None where it isn't, where none
+    /// is held, and for a guest that the book lacks. It takes no memory.
+    pub fn collect(&mut self, guest: u16) -> Option<Done>
+        ensures done { result ≡ due_of self.old guest }
+        ensures book { self.new ≡ after_collect self.old guest }
+    {
+        let at = usize::from(guest);
+        if at >= self.guests.len() {
+            return None;
+        }
+        let known = &mut self.guests[at];
+        let done = known.collect()?;
+        self.history.push(TurnRecord::Collect(guest));
+        Some(done)
+    }
+
+    /// The request and the reply of the job that a receipt names, as both were then; None where the
+    /// receipt is of another life, or names no Submit of that guest in this history.
+    pub fn find(&self, receipt: &Receipt) -> Option<TurnView<'_>>
+        ensures { option_map turn_seen result ≡ option_map submission_seen (found_by self.now receipt.now) }
+    {
+        if receipt.life != self.life {
+            return None;
+        }
+        match self
+            .history
+            .submission(receipt.guest, receipt.number as usize)
+        {
+            None => None,
+            Some(made) => Some(TurnView {
+                request: made.job().request(),
+                writable: made.job().writable(),
+                reply: made.reply(),
+            }),
+        }
+    }
+
+    /// The life that the book was opened with.
+    pub fn life(&self) -> u64
+        ensures life { result ≡ self.now.life }
+        // Each turn of the history is one that the book makes in the state where it stands.
+        ensures legal { IsLegal self.now.opening self.now.history }
+        // What waits for the store follows what it took, and nothing is settled that it didn't take.
+        ensures sound { IsSound (state self.now) }
+    {
+        self.life
+    }
+}
+
+/// Whether each guest's share is its taken sequence.
+fn are_taken(guests: &[GuestState], shares: &Shares) -> bool
+    ensures { result ≡ are_taken guests.now shares.now }
+{
+    for (i, guest) in guests.iter().enumerate() {
+        if !is_taken(guest, shares.get(i)) {
+            return false;
+        }
+    }
+    true
+}
+
+fn is_taken(guest: &GuestState, share: Option<u64>) -> bool
+    ensures { result ≡ is_taken (Some guest.now) share }
+{
+    match share {
+        Some(share) => guest.taken() == share,
+        None => false,
+    }
+}
+
+/// Whether some guest has entries that were taken and aren't settled.
+fn any_moves(guests: &[GuestState]) -> bool
+    ensures { result ≡ list_any (λ g. nat_lt g.settled g.taken) guests.now }
+{
+    guests.iter().any(|guest| guest.settled() < guest.taken())
+}
+
+fn settle_all(guests: &mut [GuestState])
+    ensures { guests.new ≡ settled_all guests.old (taken_marks guests.old) }
+{
+    for guest in guests.iter_mut() {
+        let mark = guest.taken();
+        guest.settle(mark);
+    }
+}

@@ -1,0 +1,229 @@
+ghost use Rattle.std.specs.Prelude.{◌≡◌, IfOk, None, true, length};
+ghost use Rattle.rpmb_frame.specs.Partition.{Partition, sequence};
+ghost use Rattle.rpmb_core.specs.Verdict.{verdict};
+ghost use Rattle.rpmb_core.specs.Accept.{data_of, is_accepted, partition_after};
+ghost use Rattle.rpmb_book.specs.Guest.{stored, core_after, outcome_in, answer, need, entry, entry_of, blocks_in, address_in};
+ghost use Rattle.rpmb_book.specs.Planned.{IsPlanned};
+
+use crate::intent::Entry;
+use crate::job::Job;
+use rpmb_core::{NoMemory, OK, Outcome, Partition, is_change};
+use rpmb_frame::{Command, Frame, Limits, Request};
+use std::alloc::{AllocError, Global};
+use std::marker::Model;
+
+/// The stored outcome of a guest, with the session that it is of.
+#[derive(Clone, Copy, Debug, PartialEq, Eq)]
+pub struct StoredOutcome {
+    pub session: u64,
+    pub outcome: Outcome,
+}
+
+/// What the answers to a guest depend on: nothing else does.
+#[derive(Drop)]
+pub struct GuestCore {
+    limits: Limits,
+    partition: Partition,
+    last: Option<StoredOutcome>,
+}
+
+impl Model for GuestCore {
+    ghost use Rattle.rpmb_book.specs.Guest as model;
+
+    ghost Value = { model.GuestCore };
+
+    ghost view = { λ c. record { limits = c.limits; partition = c.partition; last = c.last } };
+}
+
+/// The verdict on a job, and all the memory that its answer takes.
+#[derive(Drop)]
+pub struct Plan {
+    pub code: u16,
+    pub is_accepted: bool,
+    pub reply: Vec<u8>,
+    pub copy: Vec<u8>,
+    pub blocks: Vec<u8>,
+}
+
+/// The answer to a job: its reply twice, what has to be settled before the reply may leave, and the
+/// entry of an accepted request.
+#[derive(Drop)]
+pub struct Answer {
+    pub reply: Vec<u8>,
+    pub copy: Vec<u8>,
+    pub need: u64,
+    pub entry: Option<Entry>,
+}
+
+impl GuestCore {
+    pub fn new(limits: Limits, partition: Partition) -> GuestCore
+        ensures { result ≡ record { limits = limits; partition = partition; last = None } }
+    {
+        GuestCore {
+            limits,
+            partition,
+            last: None,
+        }
+    }
+
+    pub fn sequence(&self) -> u64
+        ensures { result ≡ sequence self.now.partition }
+    {
+        self.partition.sequence()
+    }
+
+    /// Finds the verdict on a job, and makes all the memory that its answer takes.
+    pub fn plan(&self, alloc: Global, job: &Job) -> Result<Plan, NoMemory>
+        ensures { IfOk result (IsPlanned self.now job.now) }
+    {
+        let request = Request::classify(job.request(), job.writable(), self.limits);
+        let code = self.partition.verdict(&request);
+        let is_accepted = is_accepted(&request, code);
+        let len = Partition::reply_len(&request, code);
+        let Ok(reply) = zeros(alloc, len) else {
+            return Err(AllocError);
+        };
+        let Ok(copy) = zeros(alloc, len) else {
+            return Err(AllocError);
+        };
+        let Ok(blocks) = blocks_of(alloc, &request, is_accepted) else {
+            return Err(AllocError);
+        };
+        Ok(Plan {
+            code,
+            is_accepted,
+            reply,
+            copy,
+            blocks,
+        })
+    }
+
+    /// Answers a job as planned. It takes no memory.
+    pub fn carry_out(&mut self, job: &Job, plan: Plan) -> Answer
+        requires { IsPlanned self.old job.now plan }
+        ensures core { self.new ≡ core_after self.old job.now }
+        ensures reply { result.reply.items ≡ answer self.old job.now }
+        ensures copy { result.copy.items ≡ answer self.old job.now }
+        ensures need { result.need ≡ need self.old job.now }
+        ensures entry { result.entry ≡ entry self.old job.now }
+    {
+        let request = Request::classify(job.request(), job.writable(), self.limits);
+        let Plan {
+            code,
+            is_accepted,
+            mut reply,
+            mut copy,
+            blocks,
+        } = plan;
+        change(&mut self.partition, &request, is_accepted);
+        let outcome = Outcome::of(&request, code, self.partition.counter());
+        self.last = keep(self.last, job.session(), outcome);
+        let mut out = [0; 8192];
+        let len = self
+            .partition
+            .reply(&request, code, outcome_in(self.last), &mut out);
+        reply.copy_from_slice(&out[..len]);
+        copy.copy_from_slice(&out[..len]);
+        Answer {
+            reply,
+            copy,
+            need: self.partition.sequence(),
+            entry: if is_accepted {
+                Some(entry_of(&self.partition, &request, blocks))
+            } else {
+                None
+            },
+        }
+    }
+}
+
+/// Makes the change of a request that is accepted, and none of another.
+#[tactic(auto, unfolding(rpmb_core::specs::Accept::partition_after))]
+fn change(partition: &mut Partition, request: &Request<'_>, accepts: bool)
+    requires { accepts ≡ is_accepted partition.old request.now }
+    ensures { partition.new ≡ partition_after partition.old request.now }
+{
+    if accepts {
+        partition.accept(request);
+    }
+}
+
+fn outcome_in(last: Option<StoredOutcome>) -> Option<Outcome>
+    ensures { result ≡ outcome_in last }
+{
+    match last {
+        None => None,
+        Some(stored) => Some(stored.outcome),
+    }
+}
+
+/// The stored outcome after one more request of a session, which had this outcome.
+fn keep(
+    last: Option<StoredOutcome>,
+    session: u64,
+    outcome: Option<Outcome>,
+) -> Option<StoredOutcome>
+    ensures { result ≡ stored last session outcome }
+{
+    match (outcome, last) {
+        (Some(outcome), _) => Some(StoredOutcome { session, outcome }),
+        (None, Some(stored)) if stored.session == session => Some(stored),
+        _ => None,
+    }
+}
+
+/// Whether a request that has this verdict is accepted.
+#[tactic(auto, unfolding(rpmb_core::specs::Accept::is_accepted))]
+fn is_accepted(request: &Request<'_>, code: u16) -> bool
+    ensures { (p : Partition) → code ≡ verdict p request.now → result ≡ is_accepted p request.now }
+{
+    is_change(request) && code == OK
+}
+
+fn zeros(alloc: Global, len: usize) -> Result<Vec<u8>, NoMemory>
+    ensures { IfOk result (λ bytes. length bytes.items ≡ len) }
+{
+    vec![in alloc; 0; len]
+}
+
+/// The blocks of a write that is accepted, one after another.
+fn blocks_of(alloc: Global, request: &Request<'_>, accepted: bool) -> Result<Vec<u8>, NoMemory>
+    ensures { IfOk result (λ blocks. accepted ≡ true → blocks.items ≡ blocks_in request.now.command) }
+{
+    match request.command {
+        Command::DataWrite { frames, .. } if accepted => data_of(alloc, frames),
+        _ => Ok(Vec::new(alloc)),
+    }
+}
+
+#[tactic(auto, unfolding(rpmb_core::specs::Accept::data_of))]
+fn data_of(alloc: Global, frames: &[[u8; 512]]) -> Result<Vec<u8>, NoMemory>
+    ensures { IfOk result (λ blocks. blocks.items ≡ data_of frames.now) }
+{
+    let mut blocks = Vec::with_capacity(alloc, 256 * frames.len())?;
+    for frame in frames {
+        blocks.extend_from_slice(&frame[228..484])?;
+    }
+    Ok(blocks)
+}
+
+/// The entry of an accepted request, by the partition after it.
+fn entry_of(partition: &Partition, request: &Request<'_>, blocks: Vec<u8>) -> Entry
+    requires { blocks.items ≡ blocks_in request.now.command }
+    ensures { result ≡ entry_of partition.now request.now.command }
+{
+    let key = match partition.key() {
+        Some(key) => key,
+        None => [0; 32],
+    };
+    Entry::of(key, partition.counter(), address_in(request), blocks)
+}
+
+fn address_in(request: &Request<'_>) -> u16
+    ensures { result ≡ address_in request.now.command }
+{
+    match request.command {
+        Command::DataWrite { frames, .. } => Frame::from_bytes(&frames[0]).address(),
+        _ => 0,
+    }
+}

@@ -1,0 +1,134 @@
+ghost use Rattle.std.specs.Prelude.{◌≡◌, ◌+◌, ◌-◌, ◌<◌, ◌^◌, IfOk, IfErr, if◌then◌else◌, is_some, length};
+ghost use Rattle.rpmb_book.specs.Guest.{submitted, answer, took, settled_at, collected, first_due, first_entry, fresh};
+
+use crate::done::Done;
+use crate::guest_core::{Answer, GuestCore};
+use crate::history::Submission;
+use crate::intent::Entry;
+use crate::job::Job;
+use rpmb_core::Partition;
+use rpmb_frame::Limits;
+use std::alloc::Global;
+use std::marker::Model;
+
+/// What the book knows of one guest.
+#[derive(Drop)]
+pub struct GuestState {
+    core: GuestCore,
+    held: Vec<Done>,
+    waiting: Vec<Entry>,
+    taken: u64,
+    settled: u64,
+    submits: u64,
+}
+
+impl Model for GuestState {
+    ghost use Rattle.rpmb_book.specs.Guest as model;
+
+    ghost Value = { model.GuestState };
+
+    ghost view = { λ g. record { core = g.core; held = g.held.items; waiting = g.waiting.items; taken = g.taken; settled = g.settled; submits = g.submits } };
+}
+
+impl GuestState {
+    /// A guest of whom nothing was asked yet.
+    pub fn fresh(alloc: Global, limits: Limits, partition: Partition) -> GuestState
+        ensures { result ≡ fresh limits partition }
+    {
+        let sequence = partition.sequence();
+        GuestState {
+            core: GuestCore::new(limits, partition),
+            held: Vec::new(alloc),
+            waiting: Vec::new(alloc),
+            taken: sequence,
+            settled: sequence,
+            submits: 0,
+        }
+    }
+
+    pub fn taken(&self) -> u64
+        ensures { result ≡ self.now.taken }
+    {
+        self.taken
+    }
+
+    pub fn settled(&self) -> u64
+        ensures { result ≡ self.now.settled }
+    {
+        self.settled
+    }
+
+    pub fn submits(&self) -> u64
+        ensures { result ≡ self.now.submits }
+    {
+        self.submits
+    }
+
+    pub fn held_len(&self) -> usize
+        ensures { result ≡ length self.now.held }
+    {
+        self.held.len()
+    }
+
+    /// Answers a job, and hands it back where memory is refused. All growths come first.
+    pub fn submit(&mut self, alloc: Global, job: Job) -> Result<Submission, Job>
+        requires { self.old.submits < 2 ^ 64 - 1 }
+        ensures ok { IfOk result (λ w. w ≡ record { job = job; reply = answer self.old.core job }) }
+        ensures state { IfOk result (λ w. self.new ≡ submitted job self.old) }
+        ensures err { IfErr result (λ j. (j ≡ job) × (self.new ≡ self.old)) }
+    {
+        let Ok(plan) = self.core.plan(alloc, &job) else {
+            return Err(job);
+        };
+        if self.held.reserve(1).is_err() {
+            return Err(job);
+        }
+        if self.waiting.reserve(1).is_err() {
+            return Err(job);
+        }
+        let Answer {
+            reply,
+            copy,
+            need,
+            entry,
+        } = self.core.carry_out(&job, plan);
+        self.held.push_reserved(Done::of(&job, reply, need));
+        match entry {
+            None => {}
+            Some(entry) => self.waiting.push_reserved(entry),
+        }
+        self.submits += 1;
+        Ok(Submission::of(job, copy))
+    }
+
+    /// Gives the first entry that waits.
+    pub fn take(&mut self) -> Option<Entry>
+        ensures entry { result ≡ first_entry self.old.waiting }
+        ensures state { self.new ≡ took self.old }
+    {
+        if self.waiting.is_empty() {
+            return None;
+        }
+        let entry = self.waiting.remove(0);
+        self.taken = entry.sequence();
+        Some(entry)
+    }
+
+    /// Raises what is settled to a mark.
+    pub fn settle(&mut self, mark: u64)
+        ensures { self.new ≡ settled_at mark self.old }
+    {
+        self.settled = self.settled.max(mark);
+    }
+
+    /// Gives the first held reply, where its need is settled.
+    pub fn collect(&mut self) -> Option<Done>
+        ensures done { result ≡ first_due self.old.settled self.old.held }
+        ensures state { self.new ≡ (if is_some (first_due self.old.settled self.old.held) then collected self.old else self.old) }
+    {
+        if self.held.is_empty() || self.settled < self.held[0].need() {
+            return None;
+        }
+        Some(self.held.remove(0))
+    }
+}

@@ -1,0 +1,24 @@
+//! The book: what every guest asked and was answered, which replies may leave, and what the store is
+//! still to keep. Its history is exact: replayed from the opening, it gives the state.
+#![tactic(auto)]
+
+mod book;
+mod done;
+mod guest_core;
+mod guest_state;
+mod history;
+mod intent;
+mod job;
+pub mod laws;
+mod opening;
+mod receipt;
+mod refused;
+mod tally;
+
+pub use book::Book;
+pub use done::Done;
+pub use intent::{Entry, Intent};
+pub use job::Job;
+pub use receipt::{Receipt, TurnView};
+pub use refused::Refused;
+pub use tally::{Shares, Tally};

@@ -1,0 +1,69 @@
+//! The parts of a book that is opened.
+ghost use Rattle.std.specs.Prelude.{◌≡◌, ◌≤◌, IfOk, map, length, vec_len};
+ghost use Rattle.rpmb_frame.specs.Partition.{sequence};
+ghost use Rattle.rpmb_book.specs.Opening.{tallies_from};
+ghost use Rattle.rpmb_book.specs.Replay.{fresh_guests};
+
+use crate::guest_state::GuestState;
+use crate::tally::Tally;
+use rpmb_core::{NoMemory, Partition};
+use rpmb_frame::{BoardConfig, Limits};
+use std::alloc::Global;
+
+/// A tally for each guest.
+pub fn tallies(alloc: Global, count: usize) -> Result<Vec<Tally>, NoMemory>
+    requires { count ≤ 64 }
+    ensures { IfOk result (λ v. v.items ≡ tallies_from 0 count) }
+{
+    let mut tallies = Vec::with_capacity(alloc, count)?;
+    for guest in 0..count {
+        tallies.push(Tally::new(guest as u16))?;
+    }
+    Ok(tallies)
+}
+
+/// The sequence of each partition.
+pub fn sequences(alloc: Global, partitions: &[Partition]) -> Result<Vec<u64>, NoMemory>
+    ensures { IfOk result (λ v. v.items ≡ map sequence partitions.now) }
+{
+    let mut sequences = Vec::with_capacity(alloc, partitions.len())?;
+    for partition in partitions {
+        sequences.push(partition.sequence())?;
+    }
+    Ok(sequences)
+}
+
+/// Guests of whom nothing was asked yet, on copies of these partitions.
+pub fn copied_guests(
+    alloc: Global,
+    config: &BoardConfig,
+    partitions: &[Partition],
+) -> Result<Vec<GuestState>, NoMemory>
+    requires { length partitions.now ≡ length config.now }
+    ensures { IfOk result (λ v. v.items ≡ fresh_guests config.now partitions.now) }
+{
+    let mut guests = Vec::with_capacity(alloc, partitions.len())?;
+    for i in 0..partitions.len() {
+        let limits = Limits::of(&config.guests()[i]);
+        let partition = partitions[i].copy(alloc)?;
+        guests.push(GuestState::fresh(alloc, limits, partition))?;
+    }
+    Ok(guests)
+}
+
+/// Guests of whom nothing was asked yet, on these partitions.
+pub fn guests(
+    alloc: Global,
+    config: &BoardConfig,
+    mut partitions: Vec<Partition>,
+) -> Result<Vec<GuestState>, NoMemory>
+    requires { vec_len partitions ≡ length config.now }
+    ensures { IfOk result (λ v. v.items ≡ fresh_guests config.now partitions.items) }
+{
+    let mut guests = Vec::with_capacity(alloc, partitions.len())?;
+    for guest in config.guests() {
+        let partition = partitions.remove(0);
+        guests.push(GuestState::fresh(alloc, Limits::of(guest), partition))?;
+    }
+    Ok(guests)
+}

@@ -1,0 +1,5 @@
+pub mod Overwriting
+pub mod Frames
+pub mod Sealing
+pub mod Passing
+pub mod Sequence

@@ -1,0 +1,4 @@
+pub mod Verdict
+pub mod Accept
+pub mod Outcome
+pub mod Reply

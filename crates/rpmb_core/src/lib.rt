@@ -1,0 +1,17 @@
+//! The partition of an RPMB device: the verdict on a request, what an accepted one changes, and
+//! the reply (VIRTIO 1.2, 5.12.6).
+#![tactic(auto)]
+
+mod codes;
+mod outcome;
+mod partition;
+mod reply;
+mod response;
+mod verdict;
+
+pub use codes::{
+    ADDR_FAILURE, AUTH_FAILURE, COUNT_FAILURE, GENERAL_FAILURE, NO_AUTH_KEY, OK,
+    WRITE_COUNTER_EXPIRED, WRITE_FAILURE,
+};
+pub use outcome::{Outcome, is_change};
+pub use partition::{NoMemory, Partition};

@@ -1,0 +1,161 @@
+ghost use Rattle.std.specs.Prelude.{◌≡◌, ◌≤◌, if◌then◌else◌, ◌*◌, ◌++◌, ◌∷◌, [], ℕ, List, Some, length, drop};
+ghost use Rattle.std.specs.List.{AllByRecursion};
+ghost use Rattle.rpmb_frame.specs.Frame.{block_count_of};
+ghost use Rattle.rpmb_core.specs.Verdict.{verdict};
+ghost use Rattle.rpmb_core.specs.Reply.{reply, failure, sealed, joined, blocks_from, read_frames, one_frame, GivesBlocks, block_frames, is_answered, reply_length};
+
+use crate::codes::OK;
+use crate::outcome::Outcome;
+use crate::partition::Partition;
+use crate::response::{Response, failure_kind, is_answered};
+use rpmb_frame::{Command, FRAME_SIZE, Frame, Limits, Request};
+
+/// Where the MAC stands in a frame.
+const KEY_MAC: usize = 196;
+
+impl Partition {
+    /// Writes the reply to a request that had this result to the front of `out`, and says its length in
+    /// bytes: 0, 512, or 512 for each block of a DATA_READ. The partition is the one after the request,
+    /// `last` the stored outcome, this request's included. The last frame has the MAC of the whole
+    /// reply, where the partition has a key.
+    #[tactic(auto, unfolding(crate::specs::Reply::reply))]
+    pub fn reply(
+        &self,
+        request: &Request<'_>,
+        code: u16,
+        last: Option<Outcome>,
+        out: &mut [u8; 8192],
+    ) -> usize
+        requires { GivesBlocks request.now.command code → verdict self.now request.now ≡ 0 }
+        ensures size { result ≡ reply_length request.now.command request.now.writable code }
+        ensures len { result ≡ length (reply self.now request.now code last) }
+        ensures bytes { out.new ≡ reply self.now request.now code last ++ drop result out.old }
+    {
+        match request.command {
+            Command::DataRead { frame } => {
+                if code == OK {
+                    self.read_reply(frame, request.limits, out)
+                } else {
+                    self.frame_reply(request, code, last, out)
+                }
+            }
+            Command::ProgramKey { .. }
+            | Command::GetWriteCounter { .. }
+            | Command::DataWrite { .. }
+            | Command::ResultRead
+            | Command::Malformed => self.frame_reply(request, code, last, out),
+        }
+    }
+
+    /// Writes the only frame of a reply that gives no blocks, or nothing where none is due.
+    fn frame_reply(
+        &self,
+        request: &Request<'_>,
+        code: u16,
+        last: Option<Outcome>,
+        out: &mut [u8; 8192],
+    ) -> usize
+        ensures size { result ≡ (if is_answered request.now.command request.now.writable then 512 else 0) }
+        ensures len { result ≡ length (joined (sealed self.now.key (one_frame self.now request.now code last))) }
+        ensures bytes { out.new ≡ joined (sealed self.now.key (one_frame self.now request.now code last)) ++ drop result out.old }
+    {
+        if !is_answered(request) {
+            return 0;
+        }
+        let response = Response::to(request, self.counter(), code, last);
+        let frame = self.sealed(response.frame());
+        out[..FRAME_SIZE].copy_from_slice(&frame.to_bytes());
+        FRAME_SIZE
+    }
+
+    /// How many bytes the reply to a request has that had this result.
+    pub fn reply_len(request: &Request<'_>, code: u16) -> usize
+        ensures { result ≡ reply_length request.now.command request.now.writable code }
+    {
+        match request.command {
+            Command::DataRead { frame } if code == OK => {
+                FRAME_SIZE * usize::from(Frame::from_bytes(frame).block_count())
+            }
+            _ => { if is_answered(request) { FRAME_SIZE } else { 0 } }
+        }
+    }
+
+    /// Writes the failure reply, of zeros but for its type and this result, to the front of `out`, and
+    /// says its length in bytes: 512, or 0 where no frame was due.
+    #[tactic(auto, unfolding(crate::specs::Reply::failure))]
+    pub fn failure(request: &Request<'_>, code: u16, out: &mut [u8; 8192]) -> usize
+        ensures len { result ≡ length (failure request.now code) }
+        ensures bytes { out.new ≡ failure request.now code ++ drop result out.old }
+    {
+        if !is_answered(request) {
+            return 0;
+        }
+        let frame = Frame::zeros()
+            .with_result(code)
+            .with_req_resp(failure_kind(request));
+        out[..FRAME_SIZE].copy_from_slice(&frame.to_bytes());
+        FRAME_SIZE
+    }
+
+    /// Writes the frames of a DATA_READ that succeeds.
+    fn read_reply(&self, frame: &[u8; 512], limits: Limits, out: &mut [u8; 8192]) -> usize
+        requires some { 1 ≤ block_count_of frame.now }
+        requires few { block_count_of frame.now ≤ limits.max_rd_cnt }
+        ensures size { result ≡ 512 * block_count_of frame.now }
+        ensures len { result ≡ length (joined (sealed self.now.key (block_frames self.now frame.now))) }
+        ensures bytes { out.new ≡ joined (sealed self.now.key (block_frames self.now frame.now)) ++ drop result out.old }
+    {
+        // The limit is what says that the frames fit the reply.
+        let _limit = limits.max_rd_cnt();
+        let request = Frame::from_bytes(frame);
+        let count = usize::from(request.block_count());
+        let base = Response::to_read(frame, OK).frame();
+        self.put_blocks(&base, usize::from(request.address()), count, out);
+        self.seal(count, out);
+        FRAME_SIZE * count
+    }
+
+    /// Puts the MAC of the first frames of a reply into the last of them, where the partition has a key.
+    fn seal(&self, count: usize, out: &mut [u8; 8192])
+        requires some { 1 ≤ count }
+        requires few { count ≤ 16 }
+        ensures { (frames : List (List ℕ)) (rest : List ℕ) → AllByRecursion (λ frame. length frame ≡ 512) frames → length frames ≡ count
+            → out.old ≡ joined frames ++ rest → out.new ≡ joined (sealed self.now.key frames) ++ rest }
+    {
+        match self.mac_key() {
+            None => {}
+            Some(key) => {
+                let (frames, _) = out[..FRAME_SIZE * count].as_chunks::<512>();
+                let mac = key.mac(frames);
+                let at = FRAME_SIZE * (count - 1) + KEY_MAC;
+                out[at..at + 32].copy_from_slice(&mac);
+            }
+        }
+    }
+
+    /// Writes a frame like `base` for each of so many blocks from an address on.
+    fn put_blocks(&self, base: &Frame, address: usize, count: usize, out: &mut [u8; 8192])
+        requires few { count ≤ 16 }
+        requires low { address ≤ 65_535 }
+        ensures written { out.new ≡ joined (read_frames base.now (blocks_from self.now address count)) ++ drop (512 * count) out.old }
+        ensures whole { AllByRecursion (λ frame. length frame ≡ 512) (read_frames base.now (blocks_from self.now address count)) }
+        ensures many { length (read_frames base.now (blocks_from self.now address count)) ≡ count }
+    {
+        for i in 0..count {
+            let frame = base.with_block_data(&self.block_at(address + i)).to_bytes();
+            let at = FRAME_SIZE * i;
+            out[at..at + FRAME_SIZE].copy_from_slice(&frame);
+        }
+    }
+
+    /// The only frame of a reply, with its MAC where the partition has a key.
+    #[tactic(auto, unfolding(crate::specs::Reply::sealed))]
+    fn sealed(&self, frame: Frame) -> Frame
+        ensures { sealed self.now.key (frame ∷ []) ≡ result ∷ [] }
+    {
+        match self.mac_key() {
+            Some(key) => frame.with_key_mac(&key.mac(&[frame.to_bytes()])),
+            None => frame,
+        }
+    }
+}

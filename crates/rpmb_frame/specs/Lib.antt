@@ -1,0 +1,11 @@
+pub mod Frame
+pub mod Table
+pub mod Limits
+pub mod Request
+pub mod Seen
+pub mod Layout
+pub mod Config
+pub mod Partition
+pub mod Fields
+pub mod Combined
+pub mod Decided

@@ -1,0 +1,3 @@
+mod classification;
+mod configuration;
+mod fields;

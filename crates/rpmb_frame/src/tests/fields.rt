@@ -1,0 +1,42 @@
+use crate::Frame;
+
+/// The bytes of a frame: zeros before `from`, and then each the low byte of its own offset.
+fn numbered(from: usize) -> [u8; 512] {
+    let mut bytes = [0; 512];
+    for place in from..512 {
+        bytes[place] = (place % 256) as u8;
+    }
+    bytes
+}
+
+#[test]
+fn fields_of_numbered_bytes(rt: HostRuntime) {
+    let bytes = numbered(0);
+    let frame = Frame::from_bytes(&bytes);
+    assert_eq!(rt; frame.key_mac().as_slice(), &bytes[196..228]);
+    assert_eq!(rt; frame.block_data().as_slice(), &bytes[228..484]);
+    assert_eq!(rt; frame.nonce().as_slice(), &bytes[484..500]);
+    assert_eq!(rt; frame.write_counter(), 0xf4f5_f6f7);
+    assert_eq!(rt; frame.address(), 0xf8f9);
+    assert_eq!(rt; frame.block_count(), 0xfafb);
+    assert_eq!(rt; frame.result(), 0xfcfd);
+    assert_eq!(rt; frame.req_resp(), 0xfeff);
+    assert_eq!(rt; frame.body().as_slice(), &bytes[228..512]);
+    assert!(rt; frame.to_bytes() == bytes);
+}
+
+#[test]
+fn a_frame_is_its_fields_after_zeros(rt: HostRuntime) {
+    let given = Frame::from_bytes(&numbered(0));
+    let made = Frame::zeros()
+        .with_key_mac(&given.key_mac())
+        .with_block_data(&given.block_data())
+        .with_nonce(&given.nonce())
+        .with_write_counter(0xf4f5_f6f7)
+        .with_address(0xf8f9)
+        .with_block_count(0xfafb)
+        .with_result(0xfcfd)
+        .with_req_resp(0xfeff)
+        .to_bytes();
+    assert!(rt; made == numbered(196));
+}

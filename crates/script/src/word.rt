@@ -1,0 +1,42 @@
+//! The words of a line.
+ghost use Rattle.std.specs.Prelude.{◌≡◌, IfOk, map, option_map, take};
+ghost use Rattle.script.specs.Words.{bytes_of, number_of, words_of};
+
+use hex::FromHexError;
+use std::alloc::{AllocError, Global};
+
+/// The first words of a line: one more than a line that says something has, so that a line of
+/// many words takes no more memory.
+pub fn first_words<'a>(alloc: Global, line: &'a str) -> Result<Vec<&'a str>, AllocError>
+    ensures { IfOk result (λ words. map (λ w. w.now) words.items
+        ≡ take 5 (words_of line.entry.now)) }
+{
+    line.split(' ').take(5).collect(alloc)
+}
+
+/// The number that a word of decimal digits writes; leading zeros are allowed.
+pub fn read_number(word: &str) -> Option<u64>
+    ensures { result ≡ number_of word.now }
+{
+    if word.starts_with('+') {
+        return None;
+    }
+    word.parse::<u64>().ok()
+}
+
+/// The bytes that a word writes in hex digits of either case, or as `-` where there are none.
+pub fn read_bytes(alloc: Global, word: &str) -> Result<Option<Vec<u8>>, AllocError>
+    ensures { IfOk result (λ read. option_map (λ bytes. bytes.items) read ≡ bytes_of word.now) }
+{
+    if word == "-" {
+        return Ok(Some(Vec::new(alloc)));
+    }
+    if word.is_empty() {
+        return Ok(None);
+    }
+    match hex::decode(alloc, word) {
+        Ok(bytes) => Ok(Some(bytes)),
+        Err(FromHexError::OutOfMemory) => Err(AllocError),
+        Err(_) => Ok(None),
+    }
+}
