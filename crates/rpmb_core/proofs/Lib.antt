@@ -3,3 +3,5 @@ pub mod Frames
 pub mod Sealing
 pub mod Passing
 pub mod Sequence
+pub mod Writing
+pub mod Rightness

@@ -51,6 +51,11 @@ unfolding verdict
 sequence_accepted p r is =
     ap sequence (after_accepted p r is) ∙ raised p r.command r.writable r.limits (changes p r is) (verdict_zero p r is)
 
+-- any request but PROGRAM_KEY and DATA_WRITE
+pub after_other : (p : Partition) (r : Request) → is_change r.command ≡ false → partition_after p r ≡ p
+unfolding is_accepted
+after_other p r is = after_refused p r (rw is refl)
+
 -- a request that gives blocks is none that is accepted
 gives_none : (command : Command) (code : ℕ) → GivesBlocks command code → is_change command ≡ false
 gives_none (DataRead frame) code gives = refl

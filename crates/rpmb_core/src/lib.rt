@@ -3,6 +3,7 @@
 #![tactic(auto)]
 
 mod codes;
+pub mod laws;
 mod outcome;
 mod partition;
 mod reply;
@@ -15,3 +16,6 @@ pub use codes::{
 };
 pub use outcome::{Outcome, is_change};
 pub use partition::{NoMemory, Partition};
+
+#[cfg(test)]
+mod tests;
