@@ -131,8 +131,8 @@ fn rows_of_the_table(rt: HostRuntime) -> Result<(), Fail> {
         let request = Request::classify(&bytes[..*length], *writable, limits);
         assert_eq!(rt; told(&request.command), Some(*expected), "at {place}");
         assert_eq!(rt; request.writable, *writable);
-        assert_eq!(rt; request.limits.max_wr_cnt, *max_wr_cnt);
-        assert_eq!(rt; request.limits.max_rd_cnt, 16);
+        assert_eq!(rt; request.limits.max_wr_cnt(), *max_wr_cnt);
+        assert_eq!(rt; request.limits.max_rd_cnt(), 16);
     }
     Ok(())
 }
