@@ -25,7 +25,7 @@ keyed : (key : Option (List ℕ)) (counter : ℕ) → is_none key ≡ false → 
 keyed None counter is = absurd (cc)
 keyed (Some k) counter is = refl
 
-changes : (p : Partition) (r : Request) → is_accepted p r ≡ true → is_change r.command ≡ true
+pub changes : (p : Partition) (r : Request) → is_accepted p r ≡ true → is_change r.command ≡ true
 unfolding is_accepted
 changes p r is = first (is_change r.command) (eqb (verdict p r) 0) is
   where
