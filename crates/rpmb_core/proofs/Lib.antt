@@ -5,3 +5,4 @@ pub mod Passing
 pub mod Sequence
 pub mod Writing
 pub mod Rightness
+pub mod Fitting

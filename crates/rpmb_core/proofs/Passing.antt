@@ -10,6 +10,10 @@ use Rattle.rpmb_frame.specs.Request.{Request, DataWrite, DataRead}
 use Rattle.rpmb_core.specs.Verdict.{verdict, verdict_on, data_write_verdict, data_read_verdict, same_header}
 use Rattle.rpmb_core.specs.Accept.{is_accepted, is_change}
 
+pub by_test : {P : Type 0} (b : Bool) → (b ≡ true → P) → (b ≡ false → P) → P
+by_test true f g = f refl
+by_test false f g = g refl
+
 -- a row that would refuse didn't apply
 pub passed : (b : Bool) (a rest : ℕ) → 0 < a → (if b then a else rest) ≡ 0 → (b ≡ false) × (rest ≡ 0)
 passed true a rest some is = absurd (omega (arith, is))

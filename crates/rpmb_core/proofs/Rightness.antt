@@ -1,5 +1,5 @@
 -- Which writes are accepted.
-use Rattle.std.proofs.Common.{◌≡◌, ◌≢◌, ◌≤◌, ◌<◌, ◌+◌, ℕ, Bool, true, false, ◌||◌, ◌&&◌, List, [], length, refl, ap, sym, ◌∙◌, arith, lit<, eqb, ltb}
+use Rattle.std.proofs.Common.{◌≡◌, ◌≢◌, ◌≤◌, ◌<◌, ◌+◌, ◌*◌, ℕ, Bool, true, false, ◌||◌, ◌&&◌, List, [], length, refl, ap, sym, subst, ◌∙◌, arith, lit<, eqb, ltb}
 use Rattle.std.specs.Prelude.{if◌then◌else◌, is_none, is_some, not, unwrap_or, Option, Some, None}
 use Rattle.std.specs.List.{list_all}
 use Rattle.std.proofs.lemmas.Bool.Decides.{nat_tests}
@@ -9,11 +9,11 @@ use Rattle.rpmb_frame.specs.Partition.{Partition, block_count}
 use Rattle.rpmb_frame.specs.Limits.{Limits}
 use Rattle.rpmb_frame.specs.Request.{Request, Command, ProgramKey, GetWriteCounter, DataWrite, DataRead, ResultRead, Malformed}
 use Rattle.hmac256.specs.Hmac.{mac}
-use Rattle.rpmb_core.specs.Verdict.{verdict, verdict_on, data_write_verdict, same_header, is_authentic}
+use Rattle.rpmb_core.specs.Verdict.{verdict, verdict_on, data_write_verdict, program_key_verdict, data_read_verdict, same_header, is_authentic}
 use Rattle.rpmb_core.specs.Accept.{is_accepted, is_change, changed}
-use Rattle.rpmb_core.specs.Laws.{IsCounted, is_write, CountsWrites, IsRightHeader, IsRightWrite, AcceptsRightWrites, ExpiresAtTheEnd, ReachesTheEnd, last_count}
-use Rattle.rpmb_core.proofs.Passing.{passed, verdict_zero}
-use Rattle.rpmb_core.proofs.Sequence.{after_refused, after_accepted}
+use Rattle.rpmb_core.specs.Laws.{IsCounted, is_write, CountsWrites, IsRightHeader, IsRightWrite, AcceptsRightWrites, RefusesInOrder, ProgramsOnce, KeepsItsKey, IsRightRead, GivesRightReads, ExpiresAtTheEnd, ReachesTheEnd, last_count}
+use Rattle.rpmb_core.proofs.Passing.{by_test, passed, verdict_zero}
+use Rattle.rpmb_core.proofs.Sequence.{after_refused, after_accepted, changes}
 
 -- the test of the header, as the verdict makes it
 abbrev pub wrong_header : List (List ℕ) → Limits → Bool
@@ -45,25 +45,14 @@ equal a b same = grind (arith, nat_tests)
 not_past : (end at count many : ℕ) → at + many ≤ end → count ≡ many → ltb end (at + count) ≡ false
 not_past end at count many fits same = grind (arith, nat_tests)
 
--- a table of writes
-abbrev pub write_table : (no_key header expired past forged miscounted : Bool) → ℕ
-write_table no_key header expired past forged miscounted =
-    if no_key then 7 else if header then 1 else if expired then 0x80 else if past then 4 else if forged then 2 else if miscounted then 3 else 0
+right_mac : (p : Partition) (frames : List (List ℕ)) → key_mac_of (last_of frames) ≡ mac (unwrap_or p.key []) frames → is_authentic p frames ≡ true
+right_mac p frames same = (bytes_eq-Decides (key_mac_of (last_of frames)) (mac (unwrap_or p.key []) frames)).1 same
 
 pub right_write : (p : Partition) (frames : List (List ℕ)) (limits : Limits) → IsRightWrite p frames limits → p.counter ≢ last_count → data_write_verdict p frames limits ≡ 0
 right_write p frames limits w below =
-    let header : wrong_header frames limits ≡ false = right_header frames limits w.header in
-    let expired : eqb p.counter last_count ≡ false = not_equal p.counter last_count below in
-    let past : ltb (block_count p) (address_of (first_of frames) + block_count_of (first_of frames)) ≡ false = not_past (block_count p) (address_of (first_of frames)) (block_count_of (first_of frames)) (length frames) w.inside w.header.many in
-    let mac_is : is_authentic p frames ≡ true = (bytes_eq-Decides (key_mac_of (last_of frames)) (mac (unwrap_or p.key []) frames)).1 w.authentic in
-    let forged : not (is_authentic p frames) ≡ false = ap not mac_is in
-    let miscounted : not (eqb (write_counter_of (first_of frames)) p.counter) ≡ false = ap not (equal (write_counter_of (first_of frames)) p.counter w.counted) in
-    ap (λ b. write_table b (wrong_header frames limits) (eqb p.counter last_count) (ltb (block_count p) (address_of (first_of frames) + block_count_of (first_of frames))) (not (is_authentic p frames)) (not (eqb (write_counter_of (first_of frames)) p.counter))) w.keyed
-    ∙ ap (λ b. write_table false b (eqb p.counter last_count) (ltb (block_count p) (address_of (first_of frames) + block_count_of (first_of frames))) (not (is_authentic p frames)) (not (eqb (write_counter_of (first_of frames)) p.counter))) header
-    ∙ ap (λ b. write_table false false b (ltb (block_count p) (address_of (first_of frames) + block_count_of (first_of frames))) (not (is_authentic p frames)) (not (eqb (write_counter_of (first_of frames)) p.counter))) expired
-    ∙ ap (λ b. write_table false false false b (not (is_authentic p frames)) (not (eqb (write_counter_of (first_of frames)) p.counter))) past
-    ∙ ap (λ b. write_table false false false false b (not (eqb (write_counter_of (first_of frames)) p.counter))) forged
-    ∙ ap (λ b. write_table false false false false false b) miscounted
+    let past = not_past (block_count p) (address_of (first_of frames)) (block_count_of (first_of frames)) (length frames) w.inside w.header.many in
+    let counted = equal (write_counter_of (first_of frames)) p.counter w.counted in
+    rw (w.keyed, right_header frames limits w.header, not_equal p.counter last_count below, past, right_mac p frames w.authentic, counted) refl
 
 both_hold : (a b : Bool) → a ≡ true → b ≡ true → (a && b) ≡ true
 both_hold a b is also = rw (is, also) refl
@@ -163,18 +152,6 @@ counted p (DataRead frame) writable limits none is zero = absurd (cc)
 counted p ResultRead writable limits none is zero = absurd (cc)
 counted p Malformed writable limits none is zero = absurd (cc)
 
-by_test : {P : Type 0} (b : Bool) → (b ≡ true → P) → (b ≡ false → P) → P
-by_test true f g = f refl
-by_test false f g = g refl
-
-changes : (p : Partition) (r : Request) → is_accepted p r ≡ true → is_change r.command ≡ true
-unfolding is_accepted
-changes p r is = first (is_change r.command) (eqb (verdict p r) 0) is
-  where
-    first : (a b : Bool) → (a && b) ≡ true → a ≡ true
-    first true b is = refl
-    first false b is = is
-
 pub counts_writes : CountsWrites
 unfolding verdict
 counts_writes p r none =
@@ -182,3 +159,111 @@ counts_writes p r none =
     (λ is. ap (λ q. q.counter) (after_accepted p r is) ∙ counted p r.command r.writable r.limits none (changes p r is) (verdict_zero p r is)
     ∙ sym (ap (λ b. if b && is_write r.command then p.counter + 1 else p.counter) is))
     (λ is. ap (λ q. q.counter) (after_refused p r is) ∙ sym (ap (λ b. if b && is_write r.command then p.counter + 1 else p.counter) is))
+
+is_past : (end at count many : ℕ) → end < at + many → count ≡ many → ltb end (at + count) ≡ true
+is_past end at count many beyond same = grind (arith, nat_tests)
+
+no_header : (frames : List (List ℕ)) (limits : Limits) → (IsRightHeader frames limits → ⊥) → wrong_header frames limits ≡ true
+no_header frames limits wrong = by_test (wrong_header frames limits) (λ is. is) (λ is. absurd (wrong (header_of frames limits is)))
+
+no_mac : (p : Partition) (frames : List (List ℕ)) → key_mac_of (last_of frames) ≢ mac (unwrap_or p.key []) frames → is_authentic p frames ≡ false
+no_mac p frames apart =
+    by_test (is_authentic p frames) (λ is. absurd (apart ((bytes_eq-Decides (key_mac_of (last_of frames)) (mac (unwrap_or p.key []) frames)).0 is))) (λ is. is)
+
+in_order : (p : Partition) (frames : List (List ℕ)) (limits : Limits) → RefusesInOrder p frames limits (data_write_verdict p frames limits)
+in_order p frames limits =
+    let at = address_of (first_of frames) in
+    let count = block_count_of (first_of frames) in
+    record {
+      no_key = λ none. rw none refl;
+      header = λ keyed wrong. rw (keyed, no_header frames limits wrong) refl;
+      expired = λ keyed header end. rw (keyed, right_header frames limits header, equal p.counter last_count end) refl;
+      past = λ keyed header below beyond.
+          rw (keyed, right_header frames limits header, not_equal p.counter last_count below, is_past (block_count p) at count (length frames) beyond header.many) refl;
+      forged = λ keyed header below inside apart.
+          rw (keyed, right_header frames limits header, not_equal p.counter last_count below, not_past (block_count p) at count (length frames) inside header.many, no_mac p frames apart) refl;
+      miscounted = λ keyed header below inside authentic apart.
+          rw (keyed, right_header frames limits header, not_equal p.counter last_count below, not_past (block_count p) at count (length frames) inside header.many, right_mac p frames authentic, not_equal (write_counter_of (first_of frames)) p.counter apart) refl;
+    }
+
+pub refuses_in_order : (p : Partition) (r : Request) (frames : List (List ℕ)) (combined : Bool) → r.command ≡ DataWrite frames combined → RefusesInOrder p frames r.limits (verdict p r)
+refuses_in_order p r frames combined command =
+    subst (λ (code : ℕ). RefusesInOrder p frames r.limits code) (sym (verdict-of_write p r frames combined command)) (in_order p frames r.limits)
+
+-- keys
+none_of : (key : Option (List ℕ)) → is_some key ≡ false → key ≡ None
+none_of None is = refl
+none_of (Some k) is = absurd (cc)
+
+verdict-of_key : (p : Partition) (r : Request) (frame : List ℕ) (combined : Bool) → r.command ≡ ProgramKey frame combined → verdict p r ≡ program_key_verdict p frame
+unfolding verdict
+verdict-of_key p r frame combined command = ap (λ k. verdict_on p k r.writable r.limits) command
+
+pub programs_once : (p : Partition) (r : Request) (frame : List ℕ) (combined : Bool) → r.command ≡ ProgramKey frame combined → ProgramsOnce p r frame
+programs_once p r frame combined command =
+    let of_key = verdict-of_key p r frame combined command in
+    let zero : is_accepted p r ≡ true → program_key_verdict p frame ≡ 0 = λ is. sym of_key ∙ verdict_zero p r is in
+    record {
+      accepted = λ one fresh. accepts p r (ap is_change command) (of_key ∙ rw (one, fresh) refl);
+      counted = λ is. same_of (block_count_of frame) 1 (passed (not (eqb (block_count_of frame) 1)) 1 _ (lit< tt) (zero is)).0;
+      fresh = λ is. none_of p.key (passed (is_some p.key) 5 _ (lit< tt) (passed (not (eqb (block_count_of frame) 1)) 1 _ (lit< tt) (zero is)).1).0;
+      programmed = λ is. after_accepted p r is ∙ ap (changed p) command;
+    }
+
+stays : (p : Partition) (command : Command) (writable : ℕ) (limits : Limits) (key : List ℕ) → p.key ≡ Some key → verdict_on p command writable limits ≡ 0 → (changed p command).key ≡ Some key
+stays p (ProgramKey frame combined) writable limits key is zero =
+    let fresh = none_of p.key (passed (is_some p.key) 5 _ (lit< tt) (passed (not (eqb (block_count_of frame) 1)) 1 _ (lit< tt) zero).1).0 in
+    absurd (let e : Some key ≡ None = sym is ∙ fresh in cc)
+stays p (DataWrite frames combined) writable limits key is zero = is
+stays p (GetWriteCounter frame) writable limits key is zero = is
+stays p (DataRead frame) writable limits key is zero = is
+stays p ResultRead writable limits key is zero = is
+stays p Malformed writable limits key is zero = is
+
+pub keeps_its_key : KeepsItsKey
+unfolding verdict
+keeps_its_key p r key stands =
+    by_test (is_accepted p r)
+    (λ is. ap (λ q. q.key) (after_accepted p r is) ∙ stays p r.command r.writable r.limits key stands (verdict_zero p r is))
+    (λ is. ap (λ q. q.key) (after_refused p r is) ∙ stands)
+
+-- reads
+verdict-of_read : (p : Partition) (r : Request) (frame : List ℕ) → r.command ≡ DataRead frame → verdict p r ≡ data_read_verdict p frame r.writable r.limits
+unfolding verdict
+verdict-of_read p r frame command = ap (λ k. verdict_on p k r.writable r.limits) command
+
+abbrev pub wrong_read : List ℕ → ℕ → Limits → Bool
+wrong_read frame writable limits =
+    eqb (block_count_of frame) 0 || ltb limits.max_rd_cnt (block_count_of frame) || ltb writable (512 * block_count_of frame)
+
+read_test : (count limit writable : ℕ) → 1 ≤ count → count ≤ limit → 512 * count ≤ writable → (eqb count 0 || ltb limit count || ltb writable (512 * count)) ≡ false
+read_test count limit writable some few room = grind (arith, nat_tests)
+
+read_tells : (count limit writable : ℕ) → (eqb count 0 || ltb limit count || ltb writable (512 * count)) ≡ false → (1 ≤ count) × (count ≤ limit) × (512 * count ≤ writable)
+read_tells count limit writable is = (grind (arith, nat_tests), grind (arith, nat_tests), grind (arith, nat_tests))
+
+right_read : (p : Partition) (frame : List ℕ) (writable : ℕ) (limits : Limits) → IsRightRead p frame writable limits → data_read_verdict p frame writable limits ≡ 0
+right_read p frame writable limits h =
+    rw (h.keyed, read_test (block_count_of frame) limits.max_rd_cnt writable h.some h.few h.room, not_past (block_count p) (address_of frame) (block_count_of frame) (block_count_of frame) h.inside refl) refl
+
+pub read_passed : (p : Partition) (frame : List ℕ) (writable : ℕ) (limits : Limits) → data_read_verdict p frame writable limits ≡ 0 → IsRightRead p frame writable limits
+read_passed p frame writable limits is =
+    let keyed = passed (is_none p.key) 7 _ (lit< tt) is in
+    let header = passed (wrong_read frame writable limits) 1 _ (lit< tt) keyed.1 in
+    let placed = passed (ltb (block_count p) (address_of frame + block_count_of frame)) 4 _ (lit< tt) header.1 in
+    let h = read_tells (block_count_of frame) limits.max_rd_cnt writable header.0 in
+    record {
+      keyed = keyed.0;
+      some = h.0;
+      few = h.1;
+      room = h.2;
+      inside = inside_of (block_count p) (address_of frame) (block_count_of frame) (block_count_of frame) placed.0 refl;
+    }
+
+pub gives_right_reads : (p : Partition) (r : Request) (frame : List ℕ) → r.command ≡ DataRead frame → GivesRightReads p r frame
+gives_right_reads p r frame command =
+    let of_read = verdict-of_read p r frame command in
+    record {
+      succeeds = λ right. of_read ∙ right_read p frame r.writable r.limits right;
+      right = λ is. read_passed p frame r.writable r.limits (sym of_read ∙ is);
+    }

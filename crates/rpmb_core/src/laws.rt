@@ -1,9 +1,10 @@
 //! Laws of the definitions.
 ghost use Rattle.std.specs.Prelude.{◌≡◌, ◌+◌, ℕ, Bool, true, false, List};
 ghost use Rattle.rpmb_frame.specs.Partition.{Partition, sequence};
-ghost use Rattle.rpmb_frame.specs.Request.{Request, DataWrite};
+ghost use Rattle.rpmb_frame.specs.Request.{Request, ProgramKey, DataWrite, DataRead};
+ghost use Rattle.rpmb_core.specs.Verdict.{verdict};
 ghost use Rattle.rpmb_core.specs.Accept.{is_accepted, is_change, partition_after};
-ghost use Rattle.rpmb_core.specs.Laws.{CountsWrites, WritesItsBlocks, ReadsWhatWasWritten, AcceptsRightWrites, ExpiresAtTheEnd, ReachesTheEnd, TellsTheEnd};
+ghost use Rattle.rpmb_core.specs.Laws.{CountsWrites, WritesItsBlocks, ReadsWhatWasWritten, AcceptsRightWrites, RefusesInOrder, ProgramsOnce, KeepsItsKey, GivesRightReads, RepliesFit, ExpiresAtTheEnd, ReachesTheEnd, TellsTheEnd};
 
 /// An accepted request raises the sequence by one. A refused one changes nothing, and neither does
 /// any request but PROGRAM_KEY and DATA_WRITE.
@@ -31,6 +32,32 @@ pub fn blocks_after_write()
 pub fn right_writes_are_accepted()
     ensures { (p : Partition) (r : Request) (frames : List (List ℕ)) (combined : Bool)
         → r.command ≡ DataWrite frames combined → AcceptsRightWrites p r frames }
+{}
+
+/// A DATA_WRITE that is refused has the result of the first reason that applies: no key, the header,
+/// the counter's end, the address, the MAC, and only then the counter.
+pub fn refusals_of_writes_in_order()
+    ensures { (p : Partition) (r : Request) (frames : List (List ℕ)) (combined : Bool)
+        → r.command ≡ DataWrite frames combined
+        → RefusesInOrder p frames r.limits (verdict p r) }
+{}
+
+/// A PROGRAM_KEY is accepted exactly where there is no key; afterwards that key stands for good.
+pub fn keys_are_programmed_once()
+    ensures once { (p : Partition) (r : Request) (frame : List ℕ) (combined : Bool)
+        → r.command ≡ ProgramKey frame combined → ProgramsOnce p r frame }
+    ensures stays { KeepsItsKey }
+{}
+
+/// A DATA_READ succeeds exactly where it is right.
+pub fn right_reads_succeed()
+    ensures { (p : Partition) (r : Request) (frame : List ℕ) → r.command ≡ DataRead frame
+        → GivesRightReads p r frame }
+{}
+
+/// A reply is of whole frames, at most 16, and fits the writable part of its chain.
+pub fn replies_fit()
+    ensures { RepliesFit }
 {}
 
 /// At 0xFFFF_FFFF the write counter is at its end: the write that leaves it there is the last that is
