@@ -1,0 +1,180 @@
+//! What a command does, once its files are read.
+ghost use Rattle.std.specs.Prelude.{◌≡◌, ◌⊎◌, ℕ, List, Err, IfOk, IsErr, OnOk, Some, length, map, string_bytes};
+ghost use Rattle.std.specs.Io.KnownBytes.{Appends, Keeps};
+ghost use Rattle.script.specs.Line.{Said, line_of, said};
+ghost use Rattle.script.specs.Script.{first_bad, lines_of};
+ghost use Rattle.runner.specs.Runner.{fresh_view};
+ghost use Rattle.rpmbd.specs.Fault.{fault_line};
+ghost use Rattle.rpmbd.specs.Transcript.{cores_by, printed_by, shown, transcript, used_line};
+
+use crate::fault::Fault;
+use command_line::Command;
+use rpmb_book::Job;
+use rpmb_frame::BoardConfig;
+use runner::Runner;
+use script::{Line, ScriptError, read_script};
+use std::alloc::Global;
+use std::io;
+use std::io::Write;
+
+/// The one session of a guest that has no device: it never resets.
+const SESSION: u64 = 1;
+
+/// Writes the fault's line.
+pub fn write_fault<E: Write>(fault: Fault, err: &mut E) -> io::Result<()>
+    ensures { OnOk result (Appends (E.contents err.old) (E.contents err.new) (fault_line fault)) }
+{
+    writeln!(err, "rpmbd: {fault}")
+}
+
+/// Writes the fault's line, if it can, and gives the status that the program ends with.
+pub fn report<E: Write>(fault: Fault, err: &mut E) -> u8
+    ensures { result ≡ 1 }
+{
+    let _ = write_fault(fault, err);
+    1
+}
+
+/// The bytes in hex digits of lower case, or a dash where there are none.
+fn shown(alloc: Global, bytes: &[u8]) -> Result<String, Fault>
+    ensures { IfOk result (λ text. string_bytes text ≡ shown bytes.now) }
+{
+    let text = if bytes.is_empty() {
+        String::from_str(alloc, "-")
+    } else {
+        hex::encode(alloc, bytes)
+    };
+    match text {
+        Ok(text) => Ok(text),
+        Err(_) => Err(Fault::NoMemory),
+    }
+}
+
+/// Writes the line of a reply: `used G LEN HEX`.
+#[tactic(auto, unfolding(crate::specs::Transcript::used_line))]
+fn write_reply<W: Write>(alloc: Global, guest: u16, reply: &[u8], out: &mut W) -> Result<(), Fault>
+    ensures { OnOk result (Appends (W.contents out.old) (W.contents out.new) (used_line guest reply.now)) }
+{
+    let text = match shown(alloc, reply) {
+        Ok(text) => text,
+        Err(fault) => return Err(fault),
+    };
+    match writeln!(out, "used {guest} {} {text}", reply.len()) {
+        Ok(()) => Ok(()),
+        Err(_) => Err(Fault::FileFault),
+    }
+}
+
+fn read_lines(alloc: Global, script: &str, board: &BoardConfig) -> Result<Vec<Line>, Fault>
+    ensures ok { IfOk result (λ lines. map (λ line. Some (said line)) lines.items ≡ map (line_of (length board.now)) (lines_of script.now)) }
+    ensures bad { (n : ℕ) → result ≡ Err (Fault.BadScript n) → first_bad (length board.now) (lines_of script.now) ≡ Some n }
+{
+    match read_script(alloc, script, board.guests().len() as u16) {
+        Ok(lines) => Ok(lines),
+        Err(ScriptError::BadScript { line }) => Err(Fault::BadScript { line }),
+        Err(ScriptError::NoMemory) => Err(Fault::NoMemory),
+    }
+}
+
+/// Takes what a line asks for to its end.
+#[tactic(auto, unfolding(runner::specs::Runner::after_job))]
+fn run_line<W: Write>(
+    alloc: Global,
+    runner: &mut Runner,
+    line: Line,
+    out: &mut W,
+) -> Result<(), Fault>
+    ensures printed { OnOk result (Appends (W.contents out.old) (W.contents out.new) (printed_by runner.old.cores (said line))) }
+    ensures after { OnOk result (runner.new.cores ≡ cores_by runner.old.cores (said line)) }
+{
+    let Line::Chain {
+        guest,
+        readable,
+        writable,
+    } = line
+    else {
+        return Ok(());
+    };
+    let job = Job::of(guest, SESSION, 0, 1, u64::from(writable), readable);
+    match runner.answer(alloc, job) {
+        Ok(done) => write_reply(alloc, guest, done.reply(), out),
+        Err(refused) => Err(Fault::of(refused)),
+    }
+}
+
+fn run_lines<W: Write>(
+    alloc: Global,
+    runner: &mut Runner,
+    lines: Vec<Line>,
+    out: &mut W,
+) -> Result<(), Fault>
+    ensures { OnOk result (Appends (W.contents out.old) (W.contents out.new) (transcript runner.old.cores (map said lines.items))) }
+{
+    for line in lines {
+        run_line(alloc, runner, line, out)?;
+    }
+    Ok(())
+}
+
+/// Takes all lines to their end, one after another, on fresh partitions in memory.
+fn run_fresh<W: Write>(
+    alloc: Global,
+    board: &BoardConfig,
+    lines: Vec<Line>,
+    out: &mut W,
+) -> Result<(), Fault>
+    ensures { OnOk result (Appends (W.contents out.old) (W.contents out.new) (transcript (fresh_view board.now).cores (map said lines.items))) }
+{
+    let Ok(mut runner) = Runner::new(alloc, board) else {
+        return Err(Fault::NoMemory);
+    };
+    let ran = run_lines(alloc, &mut runner, lines, out);
+    // The lines so far are printed also where the next one ended the run.
+    let flushed = out.flush();
+    match (ran, flushed) {
+        (Ok(()), Ok(())) => Ok(()),
+        (Ok(()), Err(_)) => Err(Fault::FileFault),
+        (Err(fault), _) => Err(fault),
+    }
+}
+
+/// Performs a script. All its lines are read before one is performed.
+fn run<W: Write>(alloc: Global, board: &BoardConfig, script: &str, out: &mut W) -> Result<(), Fault>
+    ensures printed { OnOk result ((lines : List Said) → map Some lines ≡ map (line_of (length board.now)) (lines_of script.now)
+        → Appends (W.contents out.old) (W.contents out.new) (transcript (fresh_view board.now).cores lines)) }
+    ensures bad { (n : ℕ) → first_bad (length board.now) (lines_of script.now) ≡ Some n
+        → IsErr result × Keeps (W.contents out.old) (W.contents out.new) }
+{
+    match read_lines(alloc, script, board) {
+        Ok(lines) => run_fresh(alloc, board, lines, out),
+        Err(fault) => Err(fault),
+    }
+}
+
+/// Performs the command, and gives the status that the program ends with.
+pub fn perform<W: Write, E: Write>(
+    alloc: Global,
+    command: Command<'_>,
+    board: &BoardConfig,
+    script: &str,
+    out: &mut W,
+    err: &mut E,
+) -> u8
+    ensures status { (result ≡ 0) ⊎ (result ≡ 1) }
+    // A run that reached its end has printed the reply to each line, and nothing else.
+    ensures printed { result ≡ 0 → (lines : List Said) → map Some lines ≡ map (line_of (length board.now)) (lines_of script.now)
+        → Appends (W.contents out.old) (W.contents out.new) (transcript (fresh_view board.now).cores lines) }
+    // Nothing is printed of a script with a bad line.
+    ensures bad { (n : ℕ) → first_bad (length board.now) (lines_of script.now) ≡ Some n
+        → (result ≡ 1) × Keeps (W.contents out.old) (W.contents out.new) }
+    // Nothing is written on standard error unless the status says so.
+    ensures quiet { result ≡ 0 → Keeps (E.contents err.old) (E.contents err.new) }
+{
+    let done = match command {
+        Command::Run { .. } => run(alloc, board, script, out),
+    };
+    match done {
+        Ok(()) => 0,
+        Err(fault) => report(fault, err),
+    }
+}
