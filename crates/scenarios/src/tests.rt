@@ -1,0 +1,5 @@
+mod entries;
+mod limits;
+mod memory;
+mod receipts;
+mod scene;

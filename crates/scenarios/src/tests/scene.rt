@@ -1,0 +1,124 @@
+//! A book on fresh partitions of 512 blocks, and the requests that scenes make.
+
+use hmac256::mac_of;
+use rpmb_book::{Book, Job, Receipt, Refused, Shares, Tally};
+use rpmb_frame::{BoardConfig, Frame, GuestConfig, RingKind};
+use runner::fresh_partitions;
+use std::alloc::Global;
+use std::test::Fail;
+
+pub const KEY: [u8; 32] = [0x11; 32];
+
+/// The life that scenes open their book with.
+pub const LIFE: u64 = 7;
+
+/// A book, with what those hold that call it.
+#[derive(Drop)]
+pub struct Scene {
+    pub book: Book,
+    pub tallies: Vec<Tally>,
+    pub shares: Shares,
+}
+
+/// A board of guests that are all alike.
+fn board_of(alloc: Global, guests: usize) -> Result<BoardConfig, Fail> {
+    let mut configs = Vec::with_capacity(alloc, guests)?;
+    for _ in 0..guests {
+        configs.push(GuestConfig {
+            capacity: 1,
+            max_wr_cnt: 16,
+            max_rd_cnt: 16,
+            memory: 1_048_576,
+            queue: 16,
+            ring: RingKind::Split,
+            indirect: false,
+            event_idx: true,
+        })?;
+    }
+    Ok(BoardConfig::new(configs)?)
+}
+
+/// The scene at its opening, with so many guests.
+pub fn scene_of(alloc: Global, guests: usize) -> Result<Scene, Fail> {
+    let board = board_of(alloc, guests)?;
+    let partitions = fresh_partitions(alloc, &board)?;
+    let (book, tallies, shares) = Book::open(alloc, LIFE, &board, partitions)?;
+    Ok(Scene {
+        book,
+        tallies,
+        shares,
+    })
+}
+
+impl Scene {
+    /// Offers the book a job, with the tally of its guest.
+    pub fn offer(&mut self, alloc: Global, job: Job) -> Result<Receipt, (Job, Refused)> {
+        match self.tallies.get_mut(usize::from(job.guest())) {
+            Some(tally) => self.book.submit(alloc, tally, job),
+            None => Err((job, Refused::Foreign)),
+        }
+    }
+
+    /// Has the book answer a request of these frames, in the guest's first session.
+    pub fn submit(
+        &mut self,
+        alloc: Global,
+        guest: u16,
+        frames: &[[u8; 512]],
+    ) -> Result<Receipt, Fail> {
+        match self.offer(alloc, job_of(alloc, guest, 1, frames)?) {
+            Ok(receipt) => Ok(receipt),
+            Err((_, refused)) => Err(Fail::from(refused)),
+        }
+    }
+}
+
+/// A job of these frames with room for one frame, whose id is 5 and which has 3 places.
+pub fn job_of(alloc: Global, guest: u16, session: u64, frames: &[[u8; 512]]) -> Result<Job, Fail> {
+    let request = frames.as_flattened().to_vec(alloc)?;
+    Ok(Job::of(guest, session, 5, 3, 512, request))
+}
+
+/// The frame that asks for the result.
+pub fn result_read() -> [u8; 512] {
+    Frame::zeros().with_req_resp(0x0005).to_bytes()
+}
+
+/// The frames that program a key and ask for the result.
+pub fn program_key(key: &[u8; 32]) -> [[u8; 512]; 2] {
+    let frame = Frame::zeros()
+        .with_key_mac(key)
+        .with_block_count(1)
+        .with_req_resp(0x0001);
+    [frame.to_bytes(), result_read()]
+}
+
+/// The frame that asks for the write counter under this nonce.
+pub fn get_write_counter(nonce: u128) -> [[u8; 512]; 1] {
+    let frame = Frame::zeros()
+        .with_nonce(&nonce.to_be_bytes())
+        .with_block_count(1)
+        .with_req_resp(0x0002);
+    [frame.to_bytes()]
+}
+
+/// The frames that write one block of this byte at address 0 and ask for the result.
+pub fn write_of(byte: u8, counter: u32) -> [[u8; 512]; 2] {
+    let frame = Frame::zeros()
+        .with_block_data(&[byte; 256])
+        .with_write_counter(counter)
+        .with_block_count(1)
+        .with_req_resp(0x0003);
+    let mac = mac_of(&KEY, &[frame.to_bytes()]);
+    [frame.with_key_mac(&mac).to_bytes(), result_read()]
+}
+
+/// The last twelve bytes of a reply: write counter, address, block count, result and type.
+pub fn tail_of(reply: &[u8]) -> &[u8] {
+    &reply[reply.len().saturating_sub(12)..]
+}
+
+/// The nonce of the first frame of a request or a reply.
+pub fn nonce_of(bytes: &[u8]) -> Option<&[u8]> {
+    bytes.get(484..500)
+}
