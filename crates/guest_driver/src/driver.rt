@@ -66,7 +66,11 @@ impl Driver {
         })
     }
 
-    /// Offers a chain: these bytes to be read, and room for `writable` bytes to be written.
+    /// Offers a chain: these bytes for the device to read, and room for `writable` bytes that it may
+    /// write (VIRTIO 1.2, 2.7.13). Answers its head, which is its id. It takes no memory.
+    ///
+    /// Answers `NoRoom` exactly where too few descriptors are free, and `OutOfRange` where enough
+    /// are and the memory is smaller than the layout; then nothing changes.
     pub fn offer(
         &mut self,
         memory: &mut Memory,
@@ -94,7 +98,12 @@ impl Driver {
         Ok(head)
     }
 
-    /// The chain that came back next, if one did.
+    /// The chain that the device gave back next, or `None` exactly where its index says that there
+    /// is none (VIRTIO 1.2, 2.7.14).
+    ///
+    /// Answers `BadUsed` for an id that isn't that of a chain in flight, or a length above what its
+    /// chain may have; `OutOfRange` where the memory is smaller than the layout; `NoMemory` where the
+    /// bytes find no room. Then nothing changes, so the next call meets the same element.
     pub fn reap(&mut self, memory: &Memory) -> Result<Option<Reaped>, DriverFault>
         ensures { Reaps memory.now self.old result self.new }
     {
