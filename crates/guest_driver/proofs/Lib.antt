@@ -1,0 +1,11 @@
+pub mod DriverLemmas
+pub mod Kept
+pub mod OfferWrites
+pub mod Popping
+pub mod Tables
+pub mod Keeping
+pub mod Using
+pub mod Rounds
+pub mod Back
+pub mod Joins
+pub mod Leaves

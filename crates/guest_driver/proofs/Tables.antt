@@ -1,0 +1,133 @@
+-- Which chains the driver keeps, and how many there are.
+use Rattle.std.proofs.Common.{◌≡◌, ◌≢◌, ℕ, zero, suc, ◌+◌, ◌<◌, ◌≤◌, inl, inr, ◌==◌, if◌then◌else◌, List, [], ◌∷◌, ◌++◌, length, Option, Some, None, refl, sym, ap, ◌∙◌, arith}
+use Rattle.std.proofs.lemmas.Bool.{cases_eq, ne_eqb, eq-eqb}
+use Rattle.guest_driver.specs.Offered.{Offer, IsApart}
+use Rattle.guest_driver.specs.Used.{Reply, IsNone}
+use Rattle.guest_driver.specs.Driver.{DriverState, owner}
+use Rattle.guest_driver.specs.Law.{count, is_own, in_flight, IsKept, AreKept, offers_of}
+
+abbrev pub one_if : ℕ → ℕ → ℕ
+one_if h k = if h == k then 1 else 0
+
+pub one_same : (h k : ℕ) → h ≡ k → one_if h k ≡ 1
+one_same h k e = rw (eq-eqb h k e) refl
+
+pub one_other : (h k : ℕ) → h ≢ k → one_if h k ≡ 0
+one_other h k e = rw (ne_eqb h k e) refl
+
+pub count-append : (h : ℕ) (xs ys : List Offer) → count h (xs ++ ys) ≡ count h xs + count h ys
+count-append h [] ys = omega arith
+count-append h (x ∷ xs) ys = let rest = count-append h xs ys in omega (arith, rest)
+
+pub kept-append : (d : DriverState) (xs ys : List Offer) → AreKept d xs → AreKept d ys → AreKept d (xs ++ ys)
+kept-append d [] ys p q = q
+kept-append d (x ∷ xs) ys p q = (p.0, kept-append d xs ys p.1 q)
+
+pub kept_front : (d : DriverState) (xs ys : List Offer) → AreKept d (xs ++ ys) → AreKept d xs
+kept_front d [] ys p = tt
+kept_front d (x ∷ xs) ys p = (p.0, kept_front d xs ys p.1)
+
+pub kept_back : (d : DriverState) (xs ys : List Offer) → AreKept d (xs ++ ys) → AreKept d ys
+kept_back d [] ys p = p
+kept_back d (x ∷ xs) ys p = kept_back d xs ys p.1
+
+-- a sum over the numbers below one
+abbrev total : (ℕ → ℕ) → ℕ → ℕ
+total f zero = 0
+total f (suc n) = f n + total f n
+
+total-add : (f g : ℕ → ℕ) (n : ℕ) → total (λ h. f h + g h) n ≡ total f n + total g n
+total-add f g zero = omega arith
+total-add f g (suc n) = let rest = total-add f g n in omega (arith, rest)
+
+total-none : (k n : ℕ) → n ≤ k → total (λ h. one_if k h) n ≡ 0
+total-none k zero e = refl
+total-none k (suc n) e = let rest = total-none k n (omega (arith, e)) in let here = one_other k n (λ s. omega (arith, s, e)) in omega (arith, rest, here)
+
+total-one : (k n : ℕ) → k < n → total (λ h. one_if k h) n ≡ 1
+total-one k zero e = absurd (omega (arith, e))
+total-one k (suc n) e = elim (cases_eq k n) [
+  | inl same ↦ let rest = total-none k n (omega (arith, same)) in let here = one_same k n same in omega (arith, rest, here)
+  | inr other ↦ let rest = total-one k n (omega (arith, e, other)) in let here = one_other k n other in omega (arith, rest, here)
+]
+
+total-zero : (n : ℕ) → total (λ h. 0) n ≡ 0
+total-zero zero = refl
+total-zero (suc n) = let rest = total-zero n in omega (arith, rest)
+
+-- all of these heads are below a number
+abbrev Below : ℕ → List Offer → Type 0
+Below n [] = Unit {0}
+Below n (c ∷ cs) = (c.head < n) × Below n cs
+
+below_kept : (d : DriverState) (cs : List Offer) → AreKept d cs → Below d.size cs
+below_kept d [] k = tt
+below_kept d (c ∷ cs) k = (k.0.below, below_kept d cs k.1)
+
+total-count : (n : ℕ) (cs : List Offer) → Below n cs → total (λ h. count h cs) n ≡ length cs
+total-count n [] b = total-zero n
+total-count n (c ∷ cs) b =
+    let split = total-add (λ h. one_if c.head h) (λ h. count h cs) n in
+    let one = total-one c.head n b.0 in
+    let rest = total-count n cs b.1 in
+    omega (arith, split, one, rest)
+
+total-le : (f : ℕ → ℕ) (n : ℕ) → ((h : ℕ) → h < n → f h ≤ 1) → total f n ≤ n
+total-le f zero p = omega arith
+total-le f (suc n) p = let rest = total-le f n (λ h b. p h (omega (arith, b))) in let here = p n (omega arith) in omega (arith, rest, here)
+
+total-less : (f : ℕ → ℕ) (n k : ℕ) → k < n → f k ≡ 0 → ((h : ℕ) → h < n → f h ≤ 1) → total f n < n
+total-less f zero k e none p = absurd (omega (arith, e))
+total-less f (suc n) k e none p = elim (cases_eq k n) [
+  | inl same ↦ let rest = total-le f n (λ h b. p h (omega (arith, b))) in let here : f n ≡ 0 = ap f (sym same) ∙ none in omega (arith, rest, here)
+  | inr other ↦ let rest = total-less f n k (omega (arith, e, other)) none (λ h b. p h (omega (arith, b))) in let here = p n (omega arith) in omega (arith, rest, here)
+]
+
+pub own_at_most_one : (h : ℕ) (o : Option ℕ) → is_own h o ≤ 1
+own_at_most_one h None = omega arith
+own_at_most_one h (Some k) = elim (cases_eq k h) [
+  | inl same ↦ let e = one_same k h same in omega (arith, e)
+  | inr other ↦ let e = one_other k h other in omega (arith, e)
+]
+
+abbrev pub Once : DriverState → List Offer → Type 0
+Once d cs = (h : ℕ) → h < d.size → count h cs ≡ in_flight d h
+
+-- there are no more chains than descriptors, and fewer where one is free
+pub few_kept : (d : DriverState) (cs : List Offer) → AreKept d cs → Once d cs → length cs ≤ d.size
+few_kept d cs k once =
+    let all = total-count d.size cs (below_kept d cs k) in
+    let most = total-le (λ h. count h cs) d.size (λ h b. let e = once h b in let o = own_at_most_one h (owner d.owners h) in omega (arith, e, o)) in
+    omega (arith, all, most)
+
+pub fewer_kept : (d : DriverState) (cs : List Offer) (free : ℕ) → free < d.size → owner d.owners free ≡ None → AreKept d cs → Once d cs → length cs < d.size
+fewer_kept d cs free below none k once =
+    let all = total-count d.size cs (below_kept d cs k) in
+    let zero_there : count free cs ≡ 0 = once free below ∙ ap (is_own free) none in
+    let most = total-less (λ h. count h cs) d.size free below zero_there (λ h b. let e = once h b in let o = own_at_most_one h (owner d.owners h) in omega (arith, e, o)) in
+    omega (arith, all, most)
+
+-- what the table says of two chains with different heads
+abbrev the_owner : Option ℕ → ℕ
+the_owner None = 0
+the_owner (Some h) = h
+
+pub kept_apart : (d : DriverState) (x y : Offer) → IsKept d x → IsKept d y → x.head ≢ y.head → IsApart x y
+kept_apart d x y p q other = record {
+  heads = other;
+  head = λ e. other (ap the_owner (sym p.head ∙ ap (owner d.owners) e ∙ q.last));
+  last = λ e. other (ap the_owner (sym p.last ∙ ap (owner d.owners) e ∙ q.head));
+  lasts = λ e. other (ap the_owner (sym p.last ∙ ap (owner d.owners) e ∙ q.last));
+}
+
+-- a descriptor that a chain has isn't free
+pub not_free : (d : DriverState) (free k h : ℕ) → owner d.owners free ≡ None → owner d.owners k ≡ Some h → k ≢ free
+not_free d free k h none some e = let f = sym some ∙ ap (owner d.owners) e ∙ none in absurd (cc)
+
+-- a head that occurs once more than none among these is that of none of them
+pub count_zero : (h : ℕ) (c : Offer) (cs : List Offer) → count h (c ∷ cs) ≡ 0 → (c.head ≢ h) × (count h cs ≡ 0)
+count_zero h c cs e = ((λ same. let one = one_same c.head h same in omega (arith, one, e)), omega (arith, e))
+
+pub none_of : (c : Offer) (rs : List Reply) → count c.head (offers_of rs) ≡ 0 → IsNone c rs
+none_of c [] e = tt
+none_of c (r ∷ rs) e = let z = count_zero c.head r.offer (offers_of rs) e in (z.0, none_of c rs z.1)

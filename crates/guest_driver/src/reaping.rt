@@ -1,0 +1,69 @@
+ghost use Rattle.std.specs.Prelude.{◌≡◌, ◌≤◌, ◌<◌, IfSome, length};
+ghost use Rattle.guest_memory.specs.Memory.{bytes_at};
+ghost use Rattle.guest_driver.specs.Layout.{needed, writable_at};
+ghost use Rattle.guest_driver.specs.Reap.{used_idx, used_id, used_len};
+
+use crate::layout::{device_area, writable_at};
+use byteorder::{ByteOrder, LittleEndian};
+use guest_memory::Memory;
+use std::alloc::Global;
+
+/// A chain that came back.
+#[derive(Drop)]
+pub struct Reaped {
+    /// The head of the chain, as `offer` answered it.
+    pub id: u16,
+    /// How many bytes the device wrote.
+    pub len: u32,
+    /// These bytes.
+    pub bytes: Vec<u8>,
+}
+
+/// What an element of the used ring says.
+#[derive(Clone, Copy)]
+pub(crate) struct Element {
+    pub id: u32,
+    pub len: u32,
+}
+
+/// The device's index in the used ring (VIRTIO 1.2, 2.7.8).
+pub(crate) fn used_idx(memory: &Memory, size: u16) -> u16
+    requires { needed size ≤ length memory.now }
+    ensures { result ≡ used_idx memory.now size }
+{
+    LittleEndian::read_u16(memory.bytes(device_area(size) + 2, 2))
+}
+
+/// The element at a place of the used ring.
+pub(crate) fn used_element(memory: &Memory, size: u16, place: u16) -> Element
+    requires room { needed size ≤ length memory.now }
+    requires some { 0 < size }
+    ensures id { result.id ≡ used_id memory.now size place }
+    ensures len { result.len ≡ used_len memory.now size place }
+{
+    let bytes = memory.bytes(device_area(size) + 4 + 8 * (place % size) as u64, 8);
+    Element {
+        id: LittleEndian::read_u32(bytes),
+        len: LittleEndian::read_u32(&bytes[4..]),
+    }
+}
+
+/// A copy of the bytes that the device wrote for a chain.
+pub(crate) fn written(
+    alloc: Global,
+    memory: &Memory,
+    size: u16,
+    id: u16,
+    len: u32,
+) -> Option<Vec<u8>>
+    requires room { needed size ≤ length memory.now }
+    requires id { id < size }
+    requires len { len ≤ 8192 }
+    ensures { IfSome result (λ bytes. bytes.items ≡ bytes_at memory.now (writable_at size id) len) }
+{
+    let mut bytes = Vec::new(alloc);
+    match bytes.extend_from_slice(memory.bytes(writable_at(size, id), len as u64)) {
+        Ok(()) => Some(bytes),
+        Err(_) => None,
+    }
+}
