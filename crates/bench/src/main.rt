@@ -7,7 +7,7 @@ mod requests;
 
 use anyhow::{Context, Result, bail};
 use macs::{keyed_macs, plain_macs};
-use requests::{counters, writes};
+use requests::{counters, keyed, writes};
 use rpmb_frame::{BoardConfig, GuestConfig, RingKind};
 use std::alloc::Global;
 use std::env;
@@ -24,8 +24,10 @@ const GUEST: GuestConfig = GuestConfig {
     event_idx: true,
 };
 
+const GUESTS: u16 = 64;
+
 fn board(alloc: Global) -> Result<BoardConfig> {
-    Ok(BoardConfig::new(vec![in alloc; GUEST; 64]?)?)
+    Ok(BoardConfig::new(vec![in alloc; GUEST; usize::from(GUESTS)]?)?)
 }
 
 /// Nanoseconds for each of so many.
@@ -49,20 +51,25 @@ fn time_macs(rt: &HostRuntime, count: u32) -> Result<()> {
     Ok(())
 }
 
+/// A history holds 16,384 requests, and so COUNT is at most 255.
 fn time_requests(rt: &HostRuntime, count: u32) -> Result<()> {
     let alloc = rt.alloc();
-    // Half the load first: a time that grows with the requests alone gives the same time for each.
+    // Half the load first: where time grows with the requests alone, each takes as long in both.
     for part in [count / 2, count] {
+        let (mut counted, mut written) = (
+            keyed(alloc, &board(alloc)?)?,
+            keyed(alloc, &board(alloc)?)?,
+        );
         let start = Instant::now(rt)?;
-        let counted = counters(alloc, &board(alloc)?, part)?;
+        let counter = counters(alloc, &mut counted, GUESTS, part)?;
         let counters_took = start.elapsed(rt)?;
         let start = Instant::now(rt)?;
-        let written = writes(alloc, &board(alloc)?, part)?;
+        let write = writes(alloc, &mut written, GUESTS, part)?;
         let writes_took = start.elapsed(rt)?;
+        let each_counter = each(counters_took, part.saturating_mul(64));
+        let each_write = each(writes_took, part.saturating_mul(64));
         println!(rt;
-            "{part} for each guest: counter {} ns, write {} ns; {counted} {written}",
-            each(counters_took, part.saturating_mul(64)),
-            each(writes_took, part.saturating_mul(64))
+            "{part} a guest: counter {each_counter} ns, write {each_write} ns; {counter} {write}"
         )?;
     }
     Ok(())
@@ -74,8 +81,10 @@ fn main(rt: HostRuntime) -> Result<()> {
     if words.len() != 3 {
         // What the gate runs: a few of each, with no times.
         let macs = plain_macs(3) ^ keyed_macs(4);
-        let requests = counters(alloc, &board(alloc)?, 2)? ^ writes(alloc, &board(alloc)?, 2)?;
-        println!(rt; "{macs} {requests}")?;
+        let mut runner = keyed(alloc, &board(alloc)?)?;
+        let counter = counters(alloc, &mut runner, GUESTS, 2)?;
+        let write = writes(alloc, &mut runner, GUESTS, 2)?;
+        println!(rt; "{macs} {counter} {write}")?;
         return Ok(());
     }
     let count = words[2].parse::<u32>().context("reading COUNT")?;
