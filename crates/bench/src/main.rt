@@ -1,0 +1,96 @@
+//! Times MACs and the requests of many guests: `bench macs COUNT`, `bench requests COUNT`, where
+//! COUNT is of MACs, or of requests for each of 64 guests. Without arguments it prints checksums alone.
+#![tactic(auto)]
+
+mod macs;
+mod requests;
+
+use anyhow::{Context, Result, bail};
+use macs::{keyed_macs, plain_macs};
+use requests::{counters, keyed, writes};
+use rpmb_frame::{BoardConfig, GuestConfig, RingKind};
+use std::alloc::Global;
+use std::env;
+use std::time::{Duration, Instant};
+
+const GUEST: GuestConfig = GuestConfig {
+    capacity: 1,
+    max_wr_cnt: 16,
+    max_rd_cnt: 16,
+    memory: 1_048_576,
+    queue: 16,
+    ring: RingKind::Split,
+    indirect: false,
+    event_idx: true,
+};
+
+const GUESTS: u16 = 64;
+
+fn board(alloc: Global) -> Result<BoardConfig> {
+    Ok(BoardConfig::new(vec![in alloc; GUEST; usize::from(GUESTS)]?)?)
+}
+
+/// Nanoseconds for each of so many.
+fn each(took: Duration, count: u32) -> u128 {
+    took.as_nanos() / u128::from(count.max(1))
+}
+
+fn time_macs(rt: &HostRuntime, count: u32) -> Result<()> {
+    let start = Instant::now(rt)?;
+    let plain = plain_macs(count);
+    let plain_took = start.elapsed(rt)?;
+    let start = Instant::now(rt)?;
+    let keyed = keyed_macs(count);
+    let keyed_took = start.elapsed(rt)?;
+    let percent = keyed_took.as_nanos() * 100 / plain_took.as_nanos().max(1);
+    println!(rt;
+        "mac_of {} ns, MacKey {} ns, {percent} percent; {plain} {keyed}",
+        each(plain_took, count),
+        each(keyed_took, count)
+    )?;
+    Ok(())
+}
+
+/// A history holds 16,384 requests, and so COUNT is at most 255.
+fn time_requests(rt: &HostRuntime, count: u32) -> Result<()> {
+    let alloc = rt.alloc();
+    // Half the load first: where time grows with the requests alone, each takes as long in both.
+    for part in [count / 2, count] {
+        let (mut counted, mut written) = (
+            keyed(alloc, &board(alloc)?)?,
+            keyed(alloc, &board(alloc)?)?,
+        );
+        let start = Instant::now(rt)?;
+        let counter = counters(alloc, &mut counted, GUESTS, part)?;
+        let counters_took = start.elapsed(rt)?;
+        let start = Instant::now(rt)?;
+        let write = writes(alloc, &mut written, GUESTS, part)?;
+        let writes_took = start.elapsed(rt)?;
+        let each_counter = each(counters_took, part.saturating_mul(64));
+        let each_write = each(writes_took, part.saturating_mul(64));
+        println!(rt;
+            "{part} a guest: counter {each_counter} ns, write {each_write} ns; {counter} {write}"
+        )?;
+    }
+    Ok(())
+}
+
+fn main(rt: HostRuntime) -> Result<()> {
+    let alloc = rt.alloc();
+    let words: Vec<String> = env::args(&rt)?.collect(alloc)?;
+    if words.len() != 3 {
+        // What the gate runs: a few of each, with no times.
+        let macs = plain_macs(3) ^ keyed_macs(4);
+        let mut runner = keyed(alloc, &board(alloc)?)?;
+        let counter = counters(alloc, &mut runner, GUESTS, 2)?;
+        let write = writes(alloc, &mut runner, GUESTS, 2)?;
+        println!(rt; "{macs} {counter} {write}")?;
+        return Ok(());
+    }
+    let count = words[2].parse::<u32>().context("reading COUNT")?;
+    match words[1].as_str() {
+        "macs" => time_macs(&rt, count),
+        "requests" => time_requests(&rt, count),
+        _ => bail!("no such work"),
+    }
+}

@@ -1,0 +1,75 @@
+//! Requests of every guest of a board in turn.
+use anyhow::Result;
+use hmac256::mac_of;
+use rpmb_book::Job;
+use rpmb_frame::{BoardConfig, DATA_WRITE, Frame, GET_WRITE_COUNTER, PROGRAM_KEY, RESULT_READ};
+use runner::Runner;
+use std::alloc::Global;
+
+const KEY: [u8; 32] = [0x11; 32];
+
+fn mixed(all: u32, byte: u8) -> u32 {
+    all.wrapping_mul(31).wrapping_add(u32::from(byte))
+}
+
+/// Answers a request of a guest; the answer is the reply's bytes, mixed.
+fn asked(alloc: Global, runner: &mut Runner, guest: u16, request: &[u8]) -> Result<u8> {
+    let request = Vec::from_slice(alloc, request)?;
+    let job = Job::of(guest, 1, 0, 1, 512, request);
+    let done = runner.answer(alloc, job)?;
+    Ok(done.reply().iter().fold(0, |all, byte| all ^ *byte))
+}
+
+/// The guests of a board, each with its key.
+pub fn keyed(alloc: Global, board: &BoardConfig) -> Result<Runner> {
+    let mut runner = Runner::new(alloc, board)?;
+    let frame = Frame::zeros()
+        .with_key_mac(&KEY)
+        .with_block_count(1)
+        .with_req_resp(PROGRAM_KEY);
+    for guest in 0..board.guests().len() as u16 {
+        asked(alloc, &mut runner, guest, &frame.to_bytes())?;
+    }
+    Ok(runner)
+}
+
+/// So many requests for the counter from each guest.
+pub fn counters(alloc: Global, runner: &mut Runner, guests: u16, count: u32) -> Result<u32> {
+    let frame = Frame::zeros()
+        .with_block_count(1)
+        .with_req_resp(GET_WRITE_COUNTER);
+    let request = frame.to_bytes();
+    let mut all = 0u32;
+    for _ in 0..count {
+        for guest in 0..guests {
+            all = mixed(all, asked(alloc, runner, guest, &request)?);
+        }
+    }
+    Ok(all)
+}
+
+/// The write of block 0 under a counter, with its MAC and the frame that asks for its result.
+fn write(alloc: Global, counter: u32) -> Result<Vec<u8>> {
+    let frame = Frame::zeros()
+        .with_block_data(&[0x5a; 256])
+        .with_write_counter(counter)
+        .with_block_count(1)
+        .with_req_resp(DATA_WRITE);
+    let mac = mac_of(&KEY, &[frame.to_bytes()]);
+    let mut request = Vec::from_slice(alloc, frame.with_key_mac(&mac).to_bytes().as_slice())?;
+    let closing = Frame::zeros().with_req_resp(RESULT_READ);
+    request.extend_from_slice(closing.to_bytes().as_slice())?;
+    Ok(request)
+}
+
+/// So many writes of one block from each guest.
+pub fn writes(alloc: Global, runner: &mut Runner, guests: u16, count: u32) -> Result<u32> {
+    let mut all = 0u32;
+    for counter in 0..count {
+        let request = write(alloc, counter)?;
+        for guest in 0..guests {
+            all = mixed(all, asked(alloc, runner, guest, &request)?);
+        }
+    }
+    Ok(all)
+}
