@@ -1,13 +1,16 @@
-//! Times MACs and the requests of many guests: `bench macs COUNT`, `bench requests COUNT`, where
-//! COUNT is of MACs, or of requests for each of 64 guests. Without arguments it prints checksums alone.
+//! Times MACs, the requests of many guests, and chains through a ring: `bench macs COUNT`, `bench requests
+//! COUNT`, `bench rings COUNT`, where COUNT is of MACs, of requests for each of 64 guests, or of chains of
+//! 8,704 bytes. Without arguments it prints checksums alone.
 #![tactic(auto)]
 
 mod macs;
 mod requests;
+mod rings;
 
 use anyhow::{Context, Result, bail};
 use macs::{keyed_macs, plain_macs};
 use requests::{counters, keyed, writes};
+use rings::{chains, copies, new_queue};
 use rpmb_frame::{BoardConfig, GuestConfig, RingKind};
 use std::alloc::Global;
 use std::env;
@@ -75,22 +78,47 @@ fn time_requests(rt: &HostRuntime, count: u32) -> Result<()> {
     Ok(())
 }
 
-fn main(rt: HostRuntime) -> Result<()> {
+/// Times chains of 8,704 bytes that are popped and published, and copies of as many bytes.
+fn time_rings(rt: &HostRuntime, count: u32) -> Result<()> {
     let alloc = rt.alloc();
-    let words: Vec<String> = env::args(&rt)?.collect(alloc)?;
+    let mut queue = new_queue(alloc)?;
+    let start = Instant::now(rt)?;
+    let copied = copies(alloc, count)?;
+    let copied_took = start.elapsed(rt)?;
+    let start = Instant::now(rt)?;
+    let popped = chains(alloc, &mut queue, count)?;
+    let popped_took = start.elapsed(rt)?;
+    let percent = popped_took.as_nanos() * 100 / copied_took.as_nanos().max(1);
+    println!(rt;
+        "copy {} ns, pop and publish {} ns, {percent} percent; {copied} {popped}",
+        each(copied_took, count),
+        each(popped_took, count)
+    )?;
+    Ok(())
+}
+
+/// What the gate runs: a few of each, with no times.
+fn checksums(rt: &HostRuntime) -> Result<()> {
+    let alloc = rt.alloc();
+    let macs = plain_macs(3) ^ keyed_macs(4);
+    let mut runner = keyed(alloc, &board(alloc)?)?;
+    let counter = counters(alloc, &mut runner, GUESTS, 2)?;
+    let write = writes(alloc, &mut runner, GUESTS, 2)?;
+    let ring = chains(alloc, &mut new_queue(alloc)?, 40)? ^ copies(alloc, 3)?;
+    println!(rt; "{macs} {counter} {write} {ring}")?;
+    Ok(())
+}
+
+fn main(rt: HostRuntime) -> Result<()> {
+    let words: Vec<String> = env::args(&rt)?.collect(rt.alloc())?;
     if words.len() != 3 {
-        // What the gate runs: a few of each, with no times.
-        let macs = plain_macs(3) ^ keyed_macs(4);
-        let mut runner = keyed(alloc, &board(alloc)?)?;
-        let counter = counters(alloc, &mut runner, GUESTS, 2)?;
-        let write = writes(alloc, &mut runner, GUESTS, 2)?;
-        println!(rt; "{macs} {counter} {write}")?;
-        return Ok(());
+        return checksums(&rt);
     }
     let count = words[2].parse::<u32>().context("reading COUNT")?;
     match words[1].as_str() {
         "macs" => time_macs(&rt, count),
         "requests" => time_requests(&rt, count),
+        "rings" => time_rings(&rt, count),
         _ => bail!("no such work"),
     }
 }
