@@ -66,7 +66,9 @@ pub record IsOffered (memory : List ℕ) (driver : DriverState) (ring : RingStat
       → count head pending + (count head popped + count head (offers_of published)) ≡ in_flight driver head
 
 -- what an offer answers: the chain comes after those that were offered, or nothing changes
-abbrev pub JoinsBy : Result ℕ DriverFault → List ℕ → ℕ → List ℕ → DriverState → RingState → List Offer → List Offer → List Reply → Type 0
+abbrev pub JoinsBy :
+    Result ℕ DriverFault → List ℕ → ℕ → List ℕ → DriverState → RingState → List Offer → List Offer
+    → List Reply → Type 0
 JoinsBy (Ok head) readable writable memory driver ring pending popped published =
     (last : ℕ) × IsOffered memory driver ring (pending ++ offer_of readable writable head last ∷ []) popped published
 JoinsBy (Err fault) readable writable memory driver ring pending popped published = IsOffered memory driver ring pending popped published
@@ -84,7 +86,9 @@ pub record IsFirst (driver : DriverState) (c : Offer) (cs popped : List Offer) (
   pub rest : IsOffered memory' driver ring' cs (popped ++ c ∷ []) published
 
 -- what a pop may answer: the first chain, or that none is there, or that memory is wanted
-abbrev pub PopsFirst : List Offer → List ℕ → DriverState → RingState → List Offer → List Reply → Result (Option Popped) RingFault → List ℕ → RingState → Type 0
+abbrev pub PopsFirst :
+    List Offer → List ℕ → DriverState → RingState → List Offer → List Reply
+    → Result (Option Popped) RingFault → List ℕ → RingState → Type 0
 PopsFirst [] memory driver ring popped published (Ok None) memory' ring' = (ring' ≡ ring) × IsOffered memory' driver ring [] popped published
 PopsFirst [] memory driver ring popped published (Ok (Some answer)) memory' ring' = ⊥
 PopsFirst [] memory driver ring popped published (Err fault) memory' ring' = ⊥
@@ -113,7 +117,9 @@ pub record IsBack (memory : List ℕ) (ring : RingState) (pending popped : List 
   pub rest : IsOffered memory driver' ring pending popped rs
 
 -- what a reap may answer: the first reply, or that none is there, or that memory is wanted
-abbrev pub ReapsFirst : List Reply → List ℕ → DriverState → RingState → List Offer → List Offer → Result (Option Reaped) DriverFault → DriverState → Type 0
+abbrev pub ReapsFirst :
+    List Reply → List ℕ → DriverState → RingState → List Offer → List Offer
+    → Result (Option Reaped) DriverFault → DriverState → Type 0
 ReapsFirst [] memory driver ring pending popped (Ok None) driver' = driver' ≡ driver
 ReapsFirst [] memory driver ring pending popped (Ok (Some answer)) driver' = ⊥
 ReapsFirst [] memory driver ring pending popped (Err fault) driver' = ⊥

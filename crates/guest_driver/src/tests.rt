@@ -1,5 +1,5 @@
 use crate::{Driver, DriverFault};
-use chains::{Places, Reads};
+use chains::{Places, Popped, Reads};
 use guest_memory::Memory;
 use rpmb_frame::{DriverLayout, GuestConfig, RingKind};
 use split_ring::Ring;
@@ -44,32 +44,78 @@ fn new_ring(alloc: Global) -> Result<Ring, Fail> {
     Ok(ring)
 }
 
+fn pop(alloc: Global, ring: &mut Ring, memory: &mut Memory) -> Result<Popped, Fail> {
+    let mut reads = Reads::new();
+    if !ring.lies_in(memory) || ring.pops() > 1_000_000 {
+        return Err(Fail::from("no room for the ring"));
+    }
+    match ring.pop(alloc, memory, &mut reads) {
+        Ok(Some(popped)) => Ok(popped),
+        _ => Err(Fail::from("nothing popped")),
+    }
+}
+
+// Publishes a chain, with the reply where it has room for one.
+fn publish(ring: &mut Ring, memory: &mut Memory, popped: &Popped) -> Result<(), Fail> {
+    let room = popped.chain.writable_len();
+    let reply = if room < 2 { &REPLY[..0] } else { &REPLY[..] };
+    if !ring.lies_in(memory) || !popped.chain.lies_in(memory) {
+        return Err(Fail::from("no room for the reply"));
+    }
+    if !ring.is_outstanding(popped.id, popped.places) {
+        return Err(Fail::from("not outstanding"));
+    }
+    popped.chain.scatter(memory, reply);
+    ring.publish(memory, popped.id, popped.places, reply.len() as u32);
+    Ok(())
+}
+
+fn reap(driver: &mut Driver, memory: &Memory, id: u16, bytes: &[u8]) -> Result<(), Fail> {
+    let reaped = driver.reap(memory).ok().ok_or("reap")?;
+    let reaped = reaped.ok_or("nothing back")?;
+    if reaped.id == id && reaped.len as usize == bytes.len() && reaped.bytes.as_slice() == bytes {
+        Ok(())
+    } else {
+        Err(Fail::from("another chain came back"))
+    }
+}
+
+// The chains are published the last first, and come back so.
 #[test]
-fn a_chain_goes_there_and_back(rt: HostRuntime) -> Result<(), Fail> {
+fn chains_come_back_as_they_were_published(rt: HostRuntime) -> Result<(), Fail> {
     let mut memory = new_memory(rt.alloc())?;
     let mut driver = new_driver(rt.alloc())?;
     let mut ring = new_ring(rt.alloc())?;
-    let mut reads = Reads::new();
-    let head = driver.offer(&mut memory, &READABLE, 2).ok().ok_or("offer")?;
-    assert!(rt; ring.lies_in(&memory));
-    assert!(rt; ring.pops() < 10);
-    let popped = ring
-        .pop(rt.alloc(), &mut memory, &mut reads)
-        .ok()
-        .ok_or("pop")?;
-    let popped = popped.ok_or("nothing")?;
-    assert_eq!(rt; popped.id, head);
-    assert_eq!(rt; popped.request.as_slice(), READABLE.as_slice());
-    assert_eq!(rt; popped.chain.writable_len(), 2);
-    assert!(rt; popped.chain.lies_in(&memory));
-    popped.chain.scatter(&mut memory, &REPLY);
-    assert!(rt; ring.is_outstanding(popped.id, popped.places));
-    assert!(rt; ring.publish(&mut memory, popped.id, popped.places, 2));
-    let reaped = driver.reap(&memory).ok().ok_or("reap")?;
-    let reaped = reaped.ok_or("nothing back")?;
-    assert_eq!(rt; (reaped.id, reaped.len), (head, 2));
-    assert_eq!(rt; reaped.bytes.as_slice(), REPLY.as_slice());
+    assert_eq!(rt; driver.offer(&mut memory, &READABLE, 0), Ok(0));
+    assert_eq!(rt; driver.offer(&mut memory, &READABLE, 2), Ok(1));
+    assert_eq!(rt; driver.offer(&mut memory, &[], 2), Ok(3));
+    let first = pop(rt.alloc(), &mut ring, &mut memory)?;
+    let second = pop(rt.alloc(), &mut ring, &mut memory)?;
+    let third = pop(rt.alloc(), &mut ring, &mut memory)?;
+    assert_eq!(rt; first.request.as_slice(), READABLE.as_slice());
+    assert_eq!(rt; second.request.as_slice(), READABLE.as_slice());
+    assert_eq!(rt; third.request.len(), 0);
+    publish(&mut ring, &mut memory, &third)?;
+    publish(&mut ring, &mut memory, &second)?;
+    publish(&mut ring, &mut memory, &first)?;
+    reap(&mut driver, &memory, 3, &REPLY)?;
+    reap(&mut driver, &memory, 1, &REPLY)?;
+    reap(&mut driver, &memory, 0, &[])?;
     assert!(rt; matches!(driver.reap(&memory), Ok(None)));
+    Ok(())
+}
+
+#[test]
+fn the_indexes_run_round(rt: HostRuntime) -> Result<(), Fail> {
+    let mut memory = new_memory(rt.alloc())?;
+    let mut driver = new_driver(rt.alloc())?;
+    let mut ring = new_ring(rt.alloc())?;
+    for _ in 0..65540 {
+        driver.offer(&mut memory, &READABLE, 2).ok().ok_or("offer")?;
+        let popped = pop(rt.alloc(), &mut ring, &mut memory)?;
+        publish(&mut ring, &mut memory, &popped)?;
+        reap(&mut driver, &memory, 0, &REPLY)?;
+    }
     Ok(())
 }
 
@@ -85,6 +131,13 @@ fn offers_until_there_is_no_room(rt: HostRuntime) -> Result<(), Fail> {
     );
     assert_eq!(rt; driver.offer(&mut memory, &[], 2), Ok(3));
     assert_eq!(rt; driver.offer(&mut memory, &[], 2), Err(DriverFault::NoRoom));
+    let mut small = Memory::new(rt.alloc(), 65536).ok().ok_or("no memory")?;
+    let mut driver = new_driver(rt.alloc())?;
+    assert_eq!(rt;
+        driver.offer(&mut small, &[], 2),
+        Err(DriverFault::OutOfRange)
+    );
+    assert!(rt; matches!(driver.reap(&small), Err(DriverFault::OutOfRange)));
     Ok(())
 }
 
