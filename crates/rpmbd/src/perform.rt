@@ -1,11 +1,12 @@
 //! What a command does, once its files are read.
-ghost use Rattle.std.specs.Prelude.{◌≡◌, ◌⊎◌, ℕ, List, Err, IfOk, IsErr, OnOk, Some, length, map, string_bytes};
+ghost use Rattle.std.specs.Prelude.{◌≡◌, ◌⊎◌, ℕ, List, Err, IfOk, IsErr, OnOk, Some, length, map};
+ghost use Rattle.std.specs.Prelude.{string_bytes};
 ghost use Rattle.std.specs.Io.KnownBytes.{Appends, Keeps};
 ghost use Rattle.script.specs.Line.{Said, line_of, said};
-ghost use Rattle.script.specs.Script.{first_bad, lines_of};
-ghost use Rattle.runner.specs.Runner.{fresh_view};
+ghost use Rattle.script.specs.Script.{lines_of};
 ghost use Rattle.rpmbd.specs.Fault.{fault_line};
-ghost use Rattle.rpmbd.specs.Transcript.{cores_by, printed_by, shown, transcript, used_line};
+ghost use Rattle.rpmbd.specs.Transcript.{IsBadAt, Says, cores_by, output_of, printed_by, shown};
+ghost use Rattle.rpmbd.specs.Transcript.{transcript, used_line};
 
 use crate::fault::Fault;
 use command_line::Command;
@@ -66,8 +67,9 @@ fn write_reply<W: Write>(alloc: Global, guest: u16, reply: &[u8], out: &mut W) -
 }
 
 fn read_lines(alloc: Global, script: &str, board: &BoardConfig) -> Result<Vec<Line>, Fault>
-    ensures ok { IfOk result (λ lines. map (λ line. Some (said line)) lines.items ≡ map (line_of (length board.now)) (lines_of script.now)) }
-    ensures bad { (n : ℕ) → result ≡ Err (Fault.BadScript n) → first_bad (length board.now) (lines_of script.now) ≡ Some n }
+    ensures ok { IfOk result (λ lines. map (λ line. Some (said line)) lines.items
+        ≡ map (line_of (length board.now)) (lines_of script.now)) }
+    ensures bad { (n : ℕ) → result ≡ Err (Fault.BadScript n) → IsBadAt board.now script.now n }
 {
     match read_script(alloc, script, board.guests().len() as u16) {
         Ok(lines) => Ok(lines),
@@ -84,7 +86,8 @@ fn run_line<W: Write>(
     line: Line,
     out: &mut W,
 ) -> Result<(), Fault>
-    ensures printed { OnOk result (Appends (W.contents out.old) (W.contents out.new) (printed_by runner.old.cores (said line))) }
+    ensures printed { OnOk result (Appends (W.contents out.old) (W.contents out.new)
+        (printed_by runner.old.cores (said line))) }
     ensures after { OnOk result (runner.new.cores ≡ cores_by runner.old.cores (said line)) }
 {
     let Line::Chain {
@@ -108,7 +111,8 @@ fn run_lines<W: Write>(
     lines: Vec<Line>,
     out: &mut W,
 ) -> Result<(), Fault>
-    ensures { OnOk result (Appends (W.contents out.old) (W.contents out.new) (transcript runner.old.cores (map said lines.items))) }
+    ensures { OnOk result (Appends (W.contents out.old) (W.contents out.new)
+        (transcript runner.old.cores (map said lines.items))) }
 {
     for line in lines {
         run_line(alloc, runner, line, out)?;
@@ -123,7 +127,8 @@ fn run_fresh<W: Write>(
     lines: Vec<Line>,
     out: &mut W,
 ) -> Result<(), Fault>
-    ensures { OnOk result (Appends (W.contents out.old) (W.contents out.new) (transcript (fresh_view board.now).cores (map said lines.items))) }
+    ensures { OnOk result (Appends (W.contents out.old) (W.contents out.new)
+        (output_of board.now (map said lines.items))) }
 {
     let Ok(mut runner) = Runner::new(alloc, board) else {
         return Err(Fault::NoMemory);
@@ -140,9 +145,9 @@ fn run_fresh<W: Write>(
 
 /// Performs a script. All its lines are read before one is performed.
 fn run<W: Write>(alloc: Global, board: &BoardConfig, script: &str, out: &mut W) -> Result<(), Fault>
-    ensures printed { OnOk result ((lines : List Said) → map Some lines ≡ map (line_of (length board.now)) (lines_of script.now)
-        → Appends (W.contents out.old) (W.contents out.new) (transcript (fresh_view board.now).cores lines)) }
-    ensures bad { (n : ℕ) → first_bad (length board.now) (lines_of script.now) ≡ Some n
+    ensures printed { OnOk result ((lines : List Said) → Says board.now script.now lines
+        → Appends (W.contents out.old) (W.contents out.new) (output_of board.now lines)) }
+    ensures bad { (n : ℕ) → IsBadAt board.now script.now n
         → IsErr result × Keeps (W.contents out.old) (W.contents out.new) }
 {
     match read_lines(alloc, script, board) {
@@ -162,10 +167,10 @@ pub fn perform<W: Write, E: Write>(
 ) -> u8
     ensures status { (result ≡ 0) ⊎ (result ≡ 1) }
     // A run that reached its end has printed the reply to each line, and nothing else.
-    ensures printed { result ≡ 0 → (lines : List Said) → map Some lines ≡ map (line_of (length board.now)) (lines_of script.now)
-        → Appends (W.contents out.old) (W.contents out.new) (transcript (fresh_view board.now).cores lines) }
+    ensures printed { result ≡ 0 → (lines : List Said) → Says board.now script.now lines
+        → Appends (W.contents out.old) (W.contents out.new) (output_of board.now lines) }
     // Nothing is printed of a script with a bad line.
-    ensures bad { (n : ℕ) → first_bad (length board.now) (lines_of script.now) ≡ Some n
+    ensures bad { (n : ℕ) → IsBadAt board.now script.now n
         → (result ≡ 1) × Keeps (W.contents out.old) (W.contents out.new) }
     // Nothing is written on standard error unless the status says so.
     ensures quiet { result ≡ 0 → Keeps (E.contents err.old) (E.contents err.new) }

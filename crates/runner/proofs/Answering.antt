@@ -1,17 +1,15 @@
 -- One job to its reply, where no guest waited for one.
-use Rattle.std.proofs.Common.{◌≡◌, ◌<◌, ◌≤◌, ℕ, ◌+◌, length, map, get_or, Bool, true, false, List, [], ◌∷◌, Option, Some, None, max, set, refl, ap, ap₂, sym, ◌∙◌, arith}
-use Rattle.std.specs.Prelude.{slice_get, nat_le, nat_lt, if◌then◌else◌, option_map}
+use Rattle.std.proofs.Common.{◌≡◌, ◌<◌, ◌≤◌, ℕ, ◌+◌, length, map, get_or, Bool, true, false, List, [], ◌∷◌, Some, None, max, set, refl, ap, ap₂, sym, ◌∙◌, arith}
+use Rattle.std.specs.Prelude.{slice_get, nat_le, nat_lt, option_map}
 use Rattle.std.proofs.lemmas.List.{length-map}
 use Rattle.std.proofs.lemmas.Option.{slice_get_within}
 use Rattle.std.proofs.lemmas.Bool.Decides.{nat_tests}
-use Rattle.rpmb_frame.specs.Request.{Request}
-use Rattle.rpmb_frame.specs.Partition.{Partition, sequence}
-use Rattle.rpmb_core.specs.Accept.{is_accepted, partition_after}
+use Rattle.rpmb_frame.specs.Partition.{sequence}
 use Rattle.rpmb_core.proofs.Sequence.{after_refused, keyed_after, sequence_accepted}
-use Rattle.rpmb_book.specs.Job.{Done, Entry, Job, Tally, done_of, entry_sequence}
-use Rattle.rpmb_book.specs.Guest.{GuestCore, GuestState, accepts, after, answer, collected, core_after, entry, entry_of, first_due, first_entry, first_sequence, joined_by, need, request_of, submitted, took}
-use Rattle.rpmb_book.specs.Turn.{Submit, settled_all, update}
-use Rattle.rpmb_book.specs.Book.{BookView, after_collect, after_settle, after_take, are_taken, due_at, due_of, guest_of, is_share, next_entry, refusal, share_moved, state, submit_of, submits_in, taken_marks, with_turn}
+use Rattle.rpmb_book.specs.Job.{Job, Tally, done_of}
+use Rattle.rpmb_book.specs.Guest.{GuestCore, GuestState, accepts, after, answer, collected, core_after, need, request_of, submitted, took}
+use Rattle.rpmb_book.specs.Turn.{settled_all, update}
+use Rattle.rpmb_book.specs.Book.{BookView, after_collect, are_taken, due_at, due_of, guest_of, is_share, refusal, state, submit_of, submits_in, taken_marks, with_turn}
 use Rattle.rpmb_book.specs.declared.refused.Refused.TheVariants.{Foreign}
 use Rattle.runner.specs.Calm.{AreCalm, calm}
 use Rattle.runner.specs.Runner.{RunnerView, after_job, cores_after, need_of, refusal_of, reply_of}

@@ -1,10 +1,9 @@
-use Rattle.std.proofs.Common.{◌≡◌, List, Some, ap, length, map, subst, sym}
+use Rattle.std.proofs.Common.{List, length, subst, sym}
 use Rattle.std.proofs.lemmas.Result.{on_ok_weaker}
 use Rattle.std.specs.Io.KnownBytes.{Appends}
-use Rattle.script.specs.Line.{Said, line_of, said}
-use Rattle.script.specs.Script.{first_bad, lines_of}
-use Rattle.runner.specs.Runner.{fresh_view}
-use Rattle.rpmbd.specs.Transcript.{transcript}
+use Rattle.script.specs.Line.{Said}
+use Rattle.script.specs.Script.{lines_of}
+use Rattle.rpmbd.specs.Transcript.{output_of}
 use Rattle.rpmbd.proofs.Printing.{none_bad, not_bad, says_same}
 use Rattle.rpmbd.proofs.perform.run.Goals as goal
 
@@ -12,9 +11,8 @@ pub returns-in-Ok-clause-printed : goal.returns-in-Ok-clause-printed
 returns-in-Ok-clause-printed g c =
     let start = g.W.Write.contents c.args.out.now in
     let end = g.W.Write.contents c.run_fresh.new.out in
-    let cores = (fresh_view c.args.board.now).cores in
     on_ok_weaker c.run_fresh.result (λ done lines is.
-    subst (λ (x : List Said). Appends start end (transcript cores x)) (sym (says_same lines c.in-Ok.lines.items _ is c.in-Ok.ensures.ok)) done) c.run_fresh.ensures
+    subst (λ (x : List Said). Appends start end (output_of c.args.board.now x)) (sym (says_same lines c.in-Ok.lines.items _ is c.in-Ok.ensures.ok)) done) c.run_fresh.ensures
 
 pub returns-in-Ok-clause-bad : goal.returns-in-Ok-clause-bad
 returns-in-Ok-clause-bad g c n bad =

@@ -1,4 +1,4 @@
-use Rattle.std.proofs.Common.{◌≡◌, ◌<◌, ◌≤◌, ◌+◌, ◌∙◌, None, Some, ap, ap₂, sym, length, unwrap_or, arith}
+use Rattle.std.proofs.Common.{◌≡◌, ◌<◌, ◌≤◌, ◌+◌, ◌∙◌, ap, ap₂, sym, length, unwrap_or, arith}
 use Rattle.rpmb_book.specs.Book.{after_collect, due_of}
 use Rattle.rpmb_book.specs.Job.{Tally, done_of}
 use Rattle.rpmb_book.specs.declared.refused.Refused.TheVariants.{NoMemory}
