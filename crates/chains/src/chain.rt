@@ -52,6 +52,16 @@ impl Chain {
         }
     }
 
+    /// What a reply needs of the chain: the buffers that the device may write, and none that it may
+    /// read.
+    pub fn for_reply(&self, alloc: Global) -> Result<Chain, NoMemory>
+        ensures { IfOk result (λ chain. chain ≡ record { readable = []; writable = self.now.writable }) }
+    {
+        let mut ranges = Vec::with_capacity(alloc, self.writable.len())?;
+        ranges.extend_from_slice(&self.writable)?;
+        Ok(Chain::of_writable(alloc, ranges))
+    }
+
     /// A chain without buffers.
     pub(crate) fn empty(alloc: Global) -> Chain
         ensures { result ≡ no_buffers }

@@ -1,0 +1,8 @@
+use Rattle.std.proofs.Common.{length, subst, sym}
+use Rattle.mmio_transport.specs.Queue.{QueueState, AreasInside}
+use Rattle.mmio_transport.proofs.queue.Queue.publish.Goals as goal
+
+pub publish-requires-clause-areas : goal.publish-requires-clause-areas
+publish-requires-clause-areas c =
+    let lie : QueueState → Type 0 = λ q. AreasInside q.kind (length c.args.memory.now) q.ring in
+    subst lie (sym c.self.view_is) c.requires.areas

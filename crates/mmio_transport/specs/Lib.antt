@@ -1,0 +1,6 @@
+pub mod Job
+pub mod Registers
+pub mod Queue
+pub mod Device
+pub mod Popping
+pub mod Publishing

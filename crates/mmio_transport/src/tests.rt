@@ -1,0 +1,175 @@
+mod probe;
+mod queue;
+mod registers;
+mod sessions;
+
+use crate::{Device, Done, Job};
+use rpmb_frame::{GuestConfig, RingKind};
+use std::alloc::Global;
+use std::test::Fail;
+
+const SIZE: u64 = 65536;
+
+// A queue of 4: the descriptors at 0, the available ring at 64, the used ring at 96.
+const DRIVER_AREA: u32 = 64;
+
+const DEVICE_AREA: u32 = 96;
+
+const AVAIL_IDX: u64 = 66;
+
+const AVAIL_RING: u64 = 68;
+
+const USED_RING: u64 = 96;
+
+// The registers of VIRTIO 1.2, 4.2.2 that are written.
+const DEVICE_FEATURES_SEL: u32 = 0x014;
+
+const DRIVER_FEATURES: u32 = 0x020;
+
+const DRIVER_FEATURES_SEL: u32 = 0x024;
+
+const QUEUE_SEL: u32 = 0x030;
+
+const QUEUE_NUM: u32 = 0x038;
+
+const QUEUE_READY: u32 = 0x044;
+
+const QUEUE_NOTIFY: u32 = 0x050;
+
+const INTERRUPT_STATUS: u32 = 0x060;
+
+const INTERRUPT_ACK: u32 = 0x064;
+
+const STATUS: u32 = 0x070;
+
+const QUEUE_DESC: u32 = 0x080;
+
+const QUEUE_DRIVER: u32 = 0x090;
+
+const QUEUE_DEVICE: u32 = 0x0a0;
+
+fn config() -> GuestConfig {
+    GuestConfig {
+        capacity: 1,
+        max_wr_cnt: 2,
+        max_rd_cnt: 3,
+        memory: SIZE,
+        queue: 4,
+        ring: RingKind::Split,
+        indirect: false,
+        event_idx: true,
+    }
+}
+
+fn fresh_device(alloc: Global) -> Result<Device, Fail> {
+    match Device::new(alloc, 7, &config()) {
+        Ok(device) => Ok(device),
+        Err(_) => Err(Fail::from("no memory")),
+    }
+}
+
+// One write of 4 bytes after another.
+fn write_all(device: &mut Device, writes: &[(u32, u32)]) {
+    for (offset, value) in writes {
+        device.write(*offset, 4, *value);
+    }
+}
+
+// Features VERSION_1 and EVENT_IDX, and FEATURES_OK.
+const FEATURES: [(u32, u32); 7] = [
+    (STATUS, 1),
+    (STATUS, 3),
+    (DRIVER_FEATURES_SEL, 0),
+    (DRIVER_FEATURES, 0x2000_0000),
+    (DRIVER_FEATURES_SEL, 1),
+    (DRIVER_FEATURES, 1),
+    (STATUS, 11),
+];
+
+const QUEUE: [(u32, u32); 5] = [
+    (QUEUE_NUM, 4),
+    (QUEUE_DESC, 0),
+    (QUEUE_DRIVER, DRIVER_AREA),
+    (QUEUE_DEVICE, DEVICE_AREA),
+    (QUEUE_READY, 1),
+];
+
+fn negotiate(device: &mut Device) {
+    write_all(device, &FEATURES);
+    write_all(device, &QUEUE);
+    write_all(device, &[(STATUS, 15)]);
+}
+
+fn live_device(alloc: Global) -> Result<Device, Fail> {
+    let mut device = fresh_device(alloc)?;
+    negotiate(&mut device);
+    if device.read(STATUS, 4) != 15 || device.read(QUEUE_READY, 4) != 1 {
+        return Err(Fail::from("the device isn't live"));
+    }
+    Ok(device)
+}
+
+fn store(device: &mut Device, at: u64, bytes: &[u8]) -> Result<(), Fail> {
+    device.store(at, bytes).ok().ok_or("a store outside")?;
+    Ok(())
+}
+
+// struct virtq_desc of VIRTIO 1.2, 2.7.5: le64 addr, le32 len, le16 flags, le16 next.
+fn descriptor(addr: u64, len: u32, flags: u16, next: u16) -> [u8; 16] {
+    let mut bytes = [0; 16];
+    bytes[..8].copy_from_slice(&addr.to_le_bytes());
+    bytes[8..12].copy_from_slice(&len.to_le_bytes());
+    bytes[12..14].copy_from_slice(&flags.to_le_bytes());
+    bytes[14..].copy_from_slice(&next.to_le_bytes());
+    bytes
+}
+
+// The chain of descriptors 1 and 3: four bytes to be read at 1,000 and eight to be written at 2,000.
+fn offer(device: &mut Device) -> Result<(), Fail> {
+    store(device, 16, &descriptor(1000, 4, 1, 3))?;
+    store(device, 48, &descriptor(2000, 8, 2, 0))?;
+    store(device, 1000, &[1, 2, 3, 4])?;
+    store(device, AVAIL_RING, &[1, 0])?;
+    store(device, AVAIL_IDX, &[1, 0])
+}
+
+// All of guest memory, as a sum in which each byte counts by its place.
+fn fingerprint(device: &Device) -> Result<u64, Fail> {
+    let mut sum: u64 = 0;
+    let mut block = [0; 64];
+    for i in 0..SIZE / 64 {
+        device.load(64 * i, &mut block).ok().ok_or("a load outside")?;
+        for byte in block {
+            sum = (sum.wrapping_mul(31)).wrapping_add(byte as u64);
+        }
+    }
+    Ok(sum)
+}
+
+// The reply of these bytes to a job.
+fn answer(alloc: Global, job: Job, bytes: &[u8], need: u64) -> Result<Done, Fail> {
+    let mut reply = Vec::new(alloc);
+    reply.extend_from_slice(bytes).ok().ok_or("no memory")?;
+    if reply.len() as u64 > job.writable() {
+        return Err(Fail::from("no room for the reply"));
+    }
+    Ok(Done::of(job, reply, need))
+}
+
+fn pop(device: &mut Device) -> Result<Job, Fail> {
+    match device.pop() {
+        Ok(Some(job)) => Ok(job),
+        _ => Err(Fail::from("a job")),
+    }
+}
+
+// The bytes of guest memory from an address on.
+fn load12(device: &Device, at: u64) -> Result<[u8; 12], Fail> {
+    let mut bytes = [0; 12];
+    device.load(at, &mut bytes).ok().ok_or("a load outside")?;
+    Ok(bytes)
+}
+
+fn check(holds: bool, what: &'static str) -> Result<(), Fail> {
+    if holds { Ok(()) } else { Err(Fail::from(what)) }
+}

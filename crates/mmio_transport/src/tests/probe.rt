@@ -1,0 +1,156 @@
+// The accesses that Linux's virtio_mmio.c and virtio.c make, in their order, from knowledge of that
+// driver: probe, negotiation, set up of queue 0, a request, an interrupt, and removal.
+use super::{AVAIL_IDX, DEVICE_AREA, DRIVER_AREA, USED_RING, check, answer, fresh_device, load12, offer, pop, store};
+use super::{DEVICE_FEATURES_SEL, DRIVER_FEATURES, DRIVER_FEATURES_SEL, INTERRUPT_ACK, INTERRUPT_STATUS};
+use super::{QUEUE_NOTIFY, QUEUE_NUM, QUEUE_READY, QUEUE_SEL, STATUS};
+use crate::{Device, Kick, Published};
+use std::alloc::Global;
+use std::test::Fail;
+
+const VIRTIO_F_VERSION_1: u64 = 1 << 32;
+
+const VIRTIO_RING_F_EVENT_IDX: u64 = 1 << 29;
+
+// virtio_mmio_probe: what it reads before it takes the device.
+fn find(device: &Device) -> Result<(), Fail> {
+    check(device.read(0x000, 4) == 0x7472_6976, "MagicValue")?;
+    check(device.read(0x004, 4) == 2, "Version")?;
+    check(device.read(0x008, 4) == 28, "DeviceID")?;
+    check(device.read(0x00c, 4) == 0x5250_4d42, "VendorID")
+}
+
+// virtio_add_status: a bit is added to what is read.
+fn add_status(device: &mut Device, bit: u32) {
+    let status = device.read(STATUS, 4);
+    device.write(STATUS, 4, status | bit);
+}
+
+// vm_get_features: the upper half first.
+fn device_features(device: &mut Device) -> u64 {
+    device.write(DEVICE_FEATURES_SEL, 4, 1);
+    let high = device.read(0x010, 4) as u64;
+    device.write(DEVICE_FEATURES_SEL, 4, 0);
+    high * 4_294_967_296 + device.read(0x010, 4) as u64
+}
+
+// vm_finalize_features, then virtio_features_ok: what was accepted is asked for again.
+fn accept(device: &mut Device, features: u64) -> bool {
+    device.write(DRIVER_FEATURES_SEL, 4, 1);
+    device.write(DRIVER_FEATURES, 4, (features / 4_294_967_296) as u32);
+    device.write(DRIVER_FEATURES_SEL, 4, 0);
+    device.write(DRIVER_FEATURES, 4, (features % 4_294_967_296) as u32);
+    add_status(device, 8);
+    device.read(STATUS, 4) & 8 != 0
+}
+
+// vm_setup_vq: 0 where the queue can't be had.
+fn set_up_queue(device: &mut Device, size: u32) -> u32 {
+    device.write(QUEUE_SEL, 4, 0);
+    if device.read(QUEUE_READY, 4) != 0 || device.read(0x034, 4) == 0 {
+        return 0;
+    }
+    device.write(QUEUE_NUM, 4, size);
+    device.write(0x080, 4, 0);
+    device.write(0x084, 4, 0);
+    device.write(0x090, 4, DRIVER_AREA);
+    device.write(0x094, 4, 0);
+    device.write(0x0a0, 4, DEVICE_AREA);
+    device.write(0x0a4, 4, 0);
+    device.write(QUEUE_READY, 4, 1);
+    device.read(QUEUE_READY, 4)
+}
+
+// register_virtio_device resets first; then virtio_dev_probe.
+fn begin(device: &mut Device) {
+    device.write(STATUS, 4, 0);
+    add_status(device, 1);
+    add_status(device, 2);
+}
+
+// virtqueue_kick_prepare, vm_notify, vm_interrupt.
+fn serve(alloc: Global, device: &mut Device) -> Result<(), Fail> {
+    offer(device)?;
+    check(device.write(QUEUE_NOTIFY, 4, 0) == Kick::Notify, "a kick")?;
+    let job = pop(device)?;
+    let done = answer(alloc, job, &[], 0)?;
+    check(device.publish(done) == Published::Wrote { notify: true }, "published")?;
+    let pending = device.read(INTERRUPT_STATUS, 4);
+    check(pending == 1 && device.interrupt_status() == 1, "an interrupt")?;
+    device.write(INTERRUPT_ACK, 4, pending);
+    check(device.read(INTERRUPT_STATUS, 4) == 0, "acknowledged")?;
+    check(load12(device, USED_RING)? == [0, 0, 1, 0, 1, 0, 0, 0, 0, 0, 0, 0], "used")
+}
+
+#[test]
+fn as_linux_does(rt: HostRuntime) -> Result<(), Fail> {
+    let mut device = fresh_device(rt.alloc())?;
+    find(&device)?;
+    begin(&mut device);
+    check(device.read(STATUS, 4) == 3, "acknowledged, with a driver")?;
+    let features = device_features(&mut device);
+    check(features == VIRTIO_F_VERSION_1 | VIRTIO_RING_F_EVENT_IDX, "features")?;
+    check(accept(&mut device, features), "FEATURES_OK")?;
+    // virtio_cread of the three bytes, between two reads of ConfigGeneration.
+    check(device.read(0x0fc, 4) == 0, "ConfigGeneration")?;
+    check(device.read(0x100, 1) == 1, "capacity")?;
+    check(device.read(0x101, 1) == 2, "max_wr_cnt")?;
+    check(device.read(0x102, 1) == 3, "max_rd_cnt")?;
+    check(set_up_queue(&mut device, 4) == 1, "queue 0")?;
+    // virtio_device_ready.
+    add_status(&mut device, 4);
+    check(device.read(STATUS, 4) == 15, "DRIVER_OK")?;
+    serve(rt.alloc(), &mut device)?;
+    // vm_del_vq, vm_reset.
+    device.write(QUEUE_SEL, 4, 0);
+    device.write(QUEUE_READY, 4, 0);
+    check(device.read(QUEUE_READY, 4) == 0, "the queue is gone")?;
+    check(device.write(STATUS, 4, 0) == Kick::Reset, "a reset")
+}
+
+// Whether the probe goes on to the end where its n-th step is made wrong.
+fn goes_on(device: &mut Device, wrong: u32) -> bool {
+    begin(device);
+    let features = match wrong {
+        0 => VIRTIO_RING_F_EVENT_IDX,
+        1 => VIRTIO_F_VERSION_1 | 1 << 34,
+        2 => VIRTIO_F_VERSION_1 | 1,
+        _ => VIRTIO_F_VERSION_1,
+    };
+    let accepted = wrong != 3 && accept(device, features);
+    let size = match wrong {
+        4 => 512,
+        5 => 3,
+        6 => 0,
+        _ => 4,
+    };
+    if wrong == 7 {
+        // Another driver's queue stands there.
+        device.write(QUEUE_NUM, 4, 4);
+        device.write(0x090, 4, DRIVER_AREA);
+        device.write(0x0a0, 4, DEVICE_AREA);
+        device.write(QUEUE_READY, 4, 1);
+    }
+    let ready = set_up_queue(device, size) == 1;
+    if wrong != 8 {
+        add_status(device, 4);
+    }
+    let live = device.read(STATUS, 4) == 15;
+    accepted && ready && live
+}
+
+#[test]
+fn as_linux_does_but_for_one_step(rt: HostRuntime) -> Result<(), Fail> {
+    for wrong in 0..9 {
+        let mut device = fresh_device(rt.alloc())?;
+        check(!goes_on(&mut device, wrong), "a wrong step")?;
+        // No chain is popped unless the device was brought up in spite of it, and nothing is stopped.
+        offer(&mut device)?;
+        if device.read(STATUS, 4) != 15 || device.read(QUEUE_READY, 4) != 1 {
+            check(matches!(device.pop(), Ok(None)), "a pop")?;
+        }
+        store(&mut device, AVAIL_IDX, &[0, 0])?;
+        // The next probe, made rightly, succeeds.
+        check(goes_on(&mut device, 9), "the next probe")?;
+    }
+    Ok(())
+}
