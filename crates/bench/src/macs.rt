@@ -13,14 +13,15 @@ pub fn plain_macs(count: u32) -> u8 {
     all
 }
 
-/// The same with the pads hashed once.
-pub fn keyed_macs(count: u32) -> u8 {
+/// So many MACs of these frames, with the pads hashed once.
+pub fn keyed_macs(count: u32, frames: &mut [[u8; 512]]) -> u8 {
     let key = MacKey::new(&KEY);
-    let mut frame = [0x5au8; 512];
     let mut all = 0u8;
     for _ in 0..count {
-        frame[228] = all;
-        all ^= key.mac(&[frame])[0];
+        if let Some(frame) = frames.first_mut() {
+            frame[228] = all;
+        }
+        all ^= key.mac(frames)[0];
     }
     all
 }

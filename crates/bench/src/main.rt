@@ -1,13 +1,16 @@
-//! Times MACs, the requests of many guests, and chains through a ring: `bench macs COUNT`, `bench requests
-//! COUNT`, `bench rings COUNT`, where COUNT is of MACs, of requests for each of 64 guests, or of chains of
-//! 8,704 bytes. Without arguments it prints checksums alone.
+//! Times MACs, the requests of many guests, chains through a ring, and whole requests of one guest:
+//! `bench macs COUNT`, `bench requests COUNT`, `bench rings COUNT`, `bench device COUNT`, where COUNT is of
+//! MACs, of requests for each of 64 guests, of chains of 8,704 bytes, or of requests of each kind. Without
+//! arguments it prints checksums alone.
 #![tactic(auto)]
 
+mod devices;
 mod macs;
 mod requests;
 mod rings;
 
 use anyhow::{Context, Result, bail};
+use devices::{Kind, new_guest, requests_of, whole};
 use macs::{keyed_macs, plain_macs};
 use requests::{counters, keyed, writes};
 use rings::{chains, copies, new_queue};
@@ -29,6 +32,11 @@ const GUEST: GuestConfig = GuestConfig {
 
 const GUESTS: u16 = 64;
 
+const KINDS: [Kind; 3] = [Kind::Counter, Kind::Write, Kind::Read];
+
+/// A frame to be sealed.
+const FRAME: [u8; 512] = [0x5a; 512];
+
 fn board(alloc: Global) -> Result<BoardConfig> {
     Ok(BoardConfig::new(vec![in alloc; GUEST; usize::from(GUESTS)]?)?)
 }
@@ -43,7 +51,7 @@ fn time_macs(rt: &HostRuntime, count: u32) -> Result<()> {
     let plain = plain_macs(count);
     let plain_took = start.elapsed(rt)?;
     let start = Instant::now(rt)?;
-    let keyed = keyed_macs(count);
+    let keyed = keyed_macs(count, &mut [FRAME]);
     let keyed_took = start.elapsed(rt)?;
     let percent = keyed_took.as_nanos() * 100 / plain_took.as_nanos().max(1);
     println!(rt;
@@ -97,15 +105,54 @@ fn time_rings(rt: &HostRuntime, count: u32) -> Result<()> {
     Ok(())
 }
 
+/// As many MACs as so many requests of a kind need, each of as many frames.
+fn needed_macs(kind: Kind, count: u32) -> u8 {
+    let calls = count.saturating_mul(kind.macs());
+    match kind {
+        Kind::Counter | Kind::Write => keyed_macs(calls, &mut [FRAME]),
+        Kind::Read => keyed_macs(calls, &mut [FRAME; 16]),
+    }
+}
+
+/// Times requests from their offer to their reap, and the MACs that they need. A history holds 16,384
+/// requests, one of which programs the key, and so COUNT is at most 16,383.
+fn time_device(rt: &HostRuntime, count: u32) -> Result<()> {
+    let alloc = rt.alloc();
+    for kind in KINDS {
+        let mut guest = new_guest(alloc, &GUEST)?;
+        let requests = requests_of(alloc, kind, count)?;
+        let start = Instant::now(rt)?;
+        let answered = whole(alloc, &mut guest, kind, requests.as_slice())?;
+        let took = start.elapsed(rt)?;
+        let start = Instant::now(rt)?;
+        let macs = needed_macs(kind, count);
+        let macs_took = start.elapsed(rt)?;
+        let percent = took.as_nanos() * 100 / macs_took.as_nanos().max(1);
+        println!(rt;
+            "{}: {} ns, its MACs {} ns, {percent} percent; {answered} {macs}",
+            kind.name(),
+            each(took, count),
+            each(macs_took, count)
+        )?;
+    }
+    Ok(())
+}
+
 /// What the gate runs: a few of each, with no times.
 fn checksums(rt: &HostRuntime) -> Result<()> {
     let alloc = rt.alloc();
-    let macs = plain_macs(3) ^ keyed_macs(4);
+    let macs = plain_macs(3) ^ keyed_macs(4, &mut [FRAME]);
     let mut runner = keyed(alloc, &board(alloc)?)?;
     let counter = counters(alloc, &mut runner, GUESTS, 2)?;
     let write = writes(alloc, &mut runner, GUESTS, 2)?;
     let ring = chains(alloc, &mut new_queue(alloc)?, 40)? ^ copies(alloc, 3)?;
-    println!(rt; "{macs} {counter} {write} {ring}")?;
+    let mut device = 0u32;
+    for kind in KINDS {
+        let requests = requests_of(alloc, kind, 2)?;
+        let mut guest = new_guest(alloc, &GUEST)?;
+        device ^= whole(alloc, &mut guest, kind, requests.as_slice())?;
+    }
+    println!(rt; "{macs} {counter} {write} {ring} {device}")?;
     Ok(())
 }
 
@@ -119,6 +166,7 @@ fn main(rt: HostRuntime) -> Result<()> {
         "macs" => time_macs(&rt, count),
         "requests" => time_requests(&rt, count),
         "rings" => time_rings(&rt, count),
+        "device" => time_device(&rt, count),
         _ => bail!("no such work"),
     }
 }

@@ -1,12 +1,13 @@
 //! Requests of every guest of a board in turn.
 use anyhow::Result;
+use chains::Range;
 use hmac256::mac_of;
-use rpmb_book::Job;
+use mmio_transport::Job;
 use rpmb_frame::{BoardConfig, DATA_WRITE, Frame, GET_WRITE_COUNTER, PROGRAM_KEY, RESULT_READ};
 use runner::Runner;
 use std::alloc::Global;
 
-const KEY: [u8; 32] = [0x11; 32];
+pub const KEY: [u8; 32] = [0x11; 32];
 
 fn mixed(all: u32, byte: u8) -> u32 {
     all.wrapping_mul(31).wrapping_add(u32::from(byte))
@@ -15,7 +16,8 @@ fn mixed(all: u32, byte: u8) -> u32 {
 /// Answers a request of a guest; the answer is the reply's bytes, mixed.
 fn asked(alloc: Global, runner: &mut Runner, guest: u16, request: &[u8]) -> Result<u8> {
     let request = Vec::from_slice(alloc, request)?;
-    let job = Job::of(guest, 1, 0, 1, 512, request);
+    let writable = Vec::from_slice(alloc, &[Range { at: 0, len: 512 }])?;
+    let job = Job::of(alloc, guest, 1, 0, 1, writable, request);
     let done = runner.answer(alloc, job)?;
     Ok(done.reply().iter().fold(0, |all, byte| all ^ *byte))
 }
@@ -49,7 +51,7 @@ pub fn counters(alloc: Global, runner: &mut Runner, guests: u16, count: u32) -> 
 }
 
 /// The write of block 0 under a counter, with its MAC and the frame that asks for its result.
-fn write(alloc: Global, counter: u32) -> Result<Vec<u8>> {
+pub fn write(alloc: Global, counter: u32) -> Result<Vec<u8>> {
     let frame = Frame::zeros()
         .with_block_data(&[0x5a; 256])
         .with_write_counter(counter)

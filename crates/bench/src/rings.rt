@@ -1,10 +1,8 @@
-//! The largest request through a split ring, against a copy of its bytes.
+//! The largest request through a device's queue, against a copy of its bytes.
 use anyhow::{Result, bail};
-use chains::{Places, Reads};
 use guest_driver::Driver;
-use guest_memory::Memory;
+use mmio_transport::{Device, Done, Published};
 use rpmb_frame::{DriverLayout, GuestConfig, RingKind};
-use split_ring::Ring;
 use std::alloc::Global;
 
 /// The bytes of the largest request.
@@ -22,62 +20,54 @@ const GUEST: GuestConfig = GuestConfig {
     event_idx: true,
 };
 
-/// A device's ring, and a chain of two descriptors that stands at each of its places.
+/// A device, and a chain of two descriptors that stands at each place of its available ring.
 #[derive(Drop)]
 pub struct Queue {
-    memory: Memory,
-    ring: Ring,
-    reads: Reads,
+    device: Device,
     index_at: u64,
+    index: u16,
 }
 
 /// A queue of which nothing was popped.
 pub fn new_queue(alloc: Global) -> Result<Queue> {
-    let layout = DriverLayout::of(RingKind::Split, GUEST.queue);
-    let places = Places {
-        descriptors: 0,
-        driver: layout.driver_area,
-        device: layout.device_area,
-        indirect: false,
-        event_idx: true,
-    };
-    let (Ok(mut memory), Ok(mut driver), Ok(ring)) = (
-        Memory::new(alloc, GUEST.memory),
+    let (Ok(mut device), Ok(mut driver)) = (
+        Device::new(alloc, 0, &GUEST),
         Driver::new(alloc, &GUEST),
-        Ring::new(alloc, places, GUEST.queue),
     ) else {
-        bail!("no queue");
+        bail!("no device");
     };
+    if !driver.negotiate(&mut device) {
+        bail!("no queue");
+    }
     // The head is 0, and so are the entries of the available ring that were never written.
-    if driver.offer(&mut memory, &[0x5a; LENGTH], 512).is_err() {
+    if driver.offer(&mut device, &[0x5a; LENGTH], 512).is_err() {
         bail!("no room for the chain");
     }
+    let layout = DriverLayout::of(RingKind::Split, GUEST.queue);
     Ok(Queue {
-        memory,
-        ring,
-        reads: Reads::new(),
+        device,
         index_at: layout.driver_area.wrapping_add(2),
+        index: 0,
     })
 }
 
-/// Makes the chain available once more, pops it and publishes it.
+/// Makes the chain available once more, pops it and publishes it, with an empty reply.
 fn popped(alloc: Global, queue: &mut Queue) -> Result<u8> {
-    let index = ((queue.ring.pops() % 65_536) as u16).wrapping_add(1);
-    let made = queue.memory.write(queue.index_at, &index.to_le_bytes());
-    if made.is_err() || !queue.ring.lies_in(&queue.memory) || queue.ring.pops() == u64::MAX {
-        bail!("no ring");
+    queue.index = queue.index.wrapping_add(1);
+    let made = queue
+        .device
+        .store(queue.index_at, &queue.index.to_le_bytes());
+    if made.is_err() {
+        bail!("no index");
     }
-    let Ok(Some(popped)) = queue.ring.pop(alloc, &mut queue.memory, &mut queue.reads) else {
+    let Ok(Some(job)) = queue.device.pop() else {
         bail!("no chain");
     };
-    if !queue.ring.is_outstanding(popped.id, popped.places) {
-        bail!("no outstanding chain");
+    let last = job.request().last().copied().unwrap_or(0);
+    match queue.device.publish(Done::of(job, Vec::new(alloc), 0)) {
+        Published::Wrote { notify } => Ok(last ^ u8::from(notify)),
+        Published::Dropped => bail!("no outstanding chain"),
     }
-    let due = queue
-        .ring
-        .publish(&mut queue.memory, popped.id, popped.places, 512);
-    let last = popped.request.last().copied().unwrap_or(0);
-    Ok(last ^ u8::from(due))
 }
 
 /// So many chains, popped and published.

@@ -190,6 +190,7 @@ joined m d ring pending popped published r w head last short small some h ch =
       flown = length-set d.flights head (record { last = last; writable = w }) ∙ flown;
       available = ap (λ v. (v + 1) % 65536) h.available ∙ next_index place ∙ ap (λ v. v % 65536) (omega (arith, longer));
       offers = subst (λ v. Offers v size ring.popped (pending ++ c ∷ [])) same (offers_more m size ring.popped place pending c refl few is apart h.offers);
+      outstanding = h.outstanding;
       reaped = h.reaped;
       counted = h.counted;
       used = h.used;
@@ -229,12 +230,13 @@ get_or-replicate (suc n) zero x = refl
 get_or-replicate (suc n) (suc i) x = get_or-replicate n i x
 
 pub it_begins : ItBegins
-it_begins m places size room setup offered used = record {
+it_begins m places size event_idx room setup offered used = record {
   setup = setup;
   owned = length-replicate size None;
   flown = length-replicate size no_flight;
   available = refl;
   offers = record { inside = room; few = omega arith; index = offered; each = tt };
+  outstanding = tt;
   reaped = 0;
   counted = refl;
   used = refl;

@@ -25,7 +25,7 @@ use Rattle.guest_driver.proofs.Popping.{next_offered, none_offered, request_offe
 use Rattle.guest_driver.proofs.Rounds.{wraps, next_index}
 use Rattle.guest_driver.proofs.Using.{with_reply, used_more, offers_stay, reply_written}
 use Rattle.guest_driver.proofs.Back.{none_used, some_used, id_used, len_used, rest_used}
-use Rattle.guest_driver.proofs.Tables.{one_if, one_same, one_other, count-append, kept-append, kept_front, kept_back, few_kept, own_at_most_one, kept_apart, count_zero, none_of}
+use Rattle.guest_driver.proofs.Tables.{one_if, one_same, one_other, count-append, kept-append, kept_front, kept_back, few_kept, own_at_most_one, kept_apart, count_zero, none_of, out-append, out_removed}
 use Rattle.guest_driver.proofs.Joins.{all_of, all_kept, all_once, all_long}
 
 -- the same on another memory
@@ -37,6 +37,7 @@ on_memory m n d ring pending popped published h offers used = record {
   flown = h.flown;
   available = h.available;
   offers = offers;
+  outstanding = h.outstanding;
   reaped = h.reaped;
   counted = h.counted;
   used = h.used;
@@ -51,7 +52,7 @@ rest_offered m size popped c cs h =
     let few = h.few in
     record { inside = h.inside; few = omega (arith, few); index = h.index ∙ ap (λ v. little_bytes 2 (v % 65536)) (omega arith); each = h.each.2 }
 
-popped_more : (m : List ℕ) (d : DriverState) (ring : RingState) (c : Offer) (cs popped : List Offer) (published : List Reply)
+pub popped_more : (m : List ℕ) (d : DriverState) (ring : RingState) (c : Offer) (cs popped : List Offer) (published : List Reply)
     → IsOffered m d ring (c ∷ cs) popped published → IsOffered (event m (after_pop ring c.head 1)) d (after_pop ring c.head 1) cs (popped ++ c ∷ []) published
 popped_more m d ring c cs popped published h =
     let r = after_pop ring c.head 1 in
@@ -64,6 +65,7 @@ popped_more m d ring c cs popped published h =
       flown = h.flown;
       available = h.available ∙ ap (λ v. v % 65536) (omega arith);
       offers = both.0;
+      outstanding = out-append ring.outstanding (record { number = ring.pops + 1; id = c.head; places = 1 }) popped c refl refl h.outstanding;
       reaped = h.reaped;
       counted = h.counted;
       used = h.used;
@@ -72,7 +74,7 @@ popped_more m d ring c cs popped published h =
       once = λ k below. let more = count-append k popped (c ∷ []) in let is = h.once k below in omega (arith, more, is);
     }
 
-abbrev the_found : Found → Result (Option Found) ChainFault → Found
+abbrev pub the_found : Found → Result (Option Found) ChainFault → Found
 the_found d (Ok (Some f)) = f
 the_found d (Ok None) = d
 the_found d (Err e) = d
@@ -130,6 +132,7 @@ published_more m d ring pending before c after published reply fits h =
       flown = h.flown;
       available = h.available;
       offers = offers_stay m d.size ring.popped ring.used pending r is h.offers;
+      outstanding = (out_removed ring.outstanding before c after (omega (arith, one, bound, there, self)) h.outstanding).rest;
       reaped = h.reaped;
       counted = omega (arith, counted, longer);
       used = h.used;
@@ -156,7 +159,7 @@ publish_joins m m' d ring ring' pending before c after published reply told fits
 
 -- the driver without a chain whose last descriptor is this one
 abbrev freed : DriverState → ℕ → ℕ → DriverState
-freed d head last = record { size = d.size; available = d.available; used = (d.used + 1) % 65536; owners = slice_set (slice_set d.owners head None) last None; flights = d.flights }
+freed d head last = record d { used = (d.used + 1) % 65536; owners = slice_set (slice_set d.owners head None) last None }
 
 owner_left : (d : DriverState) (head last k : ℕ) → k ≢ head → k ≢ last → owner (freed d head last).owners k ≡ owner d.owners k
 owner_left d head last k p q = get_or-set_other (slice_set d.owners head None) last k None None q ∙ get_or-set_other d.owners head k None None p
@@ -223,6 +226,7 @@ reaped_one m d ring pending popped r rs h =
       flown = h.flown;
       available = h.available;
       offers = h.offers;
+      outstanding = h.outstanding;
       reaped = h.reaped + 1;
       counted = omega (arith, counted);
       used = ap (λ v. (v + 1) % 65536) h.used ∙ next_index h.reaped;

@@ -9,3 +9,9 @@ pub mod Rounds
 pub mod Back
 pub mod Joins
 pub mod Leaves
+pub mod DevicePublish
+pub mod DevicePop
+pub mod DeviceCalls
+pub mod FreshAreas
+pub mod Negotiating
+pub mod DeviceBegins

@@ -1,10 +1,13 @@
 -- Which chains the driver keeps, and how many there are.
-use Rattle.std.proofs.Common.{◌≡◌, ◌≢◌, ℕ, zero, suc, ◌+◌, ◌<◌, ◌≤◌, inl, inr, ◌==◌, if◌then◌else◌, List, [], ◌∷◌, ◌++◌, length, Option, Some, None, refl, sym, ap, ◌∙◌, arith}
+use Rattle.std.proofs.Common.{◌≡◌, ◌≢◌, ℕ, zero, suc, ◌+◌, ◌<◌, ◌≤◌, inl, inr, true, false, subst, ◌==◌, if◌then◌else◌, List, [], ◌∷◌, ◌++◌, length, Option, Some, None, refl, sym, ap, ◌∙◌, arith}
+use Rattle.std.specs.List.{position_or_len, remove}
 use Rattle.std.proofs.lemmas.Bool.{cases_eq, ne_eqb, eq-eqb}
+use Rattle.chains.specs.declared.places.Outstanding.{Outstanding}
+use Rattle.chains.specs.Ring.{is_chain}
 use Rattle.guest_driver.specs.Offered.{Offer, IsApart}
 use Rattle.guest_driver.specs.Used.{Reply, IsNone}
 use Rattle.guest_driver.specs.Driver.{DriverState, owner}
-use Rattle.guest_driver.specs.Law.{count, is_own, in_flight, IsKept, AreKept, offers_of}
+use Rattle.guest_driver.specs.Law.{count, is_own, in_flight, IsKept, AreKept, AreOutstanding, offers_of}
 
 abbrev pub one_if : ℕ → ℕ → ℕ
 one_if h k = if h == k then 1 else 0
@@ -131,3 +134,36 @@ count_zero h c cs e = ((λ same. let one = one_same c.head h same in omega (arit
 pub none_of : (c : Offer) (rs : List Reply) → count c.head (offers_of rs) ≡ 0 → IsNone c rs
 none_of c [] e = tt
 none_of c (r ∷ rs) e = let z = count_zero c.head r.offer (offers_of rs) e in (z.0, none_of c rs z.1)
+
+-- what a pop adds to the outstanding chains
+pub out-append : (os : List Outstanding) (o : Outstanding) (cs : List Offer) (c : Offer) → o.id ≡ c.head → o.places ≡ 1
+    → AreOutstanding os cs → AreOutstanding (os ++ o ∷ []) (cs ++ c ∷ [])
+out-append [] o [] c i p h = (i, p, tt)
+out-append [] o (x ∷ xs) c i p h = absurd h
+out-append (y ∷ ys) o [] c i p h = absurd h
+out-append (y ∷ ys) o (x ∷ xs) c i p h = (h.0, h.1, out-append ys o xs c i p h.2)
+
+-- a chain is outstanding, and the others are after it was used
+pub record IsAmong (os : List Outstanding) (head : ℕ) (others : List Offer) : Type 0 where
+  pub there : position_or_len (is_chain head 1) os < length os
+  pub rest : AreOutstanding (remove os (position_or_len (is_chain head 1) os)) others
+
+pub out_removed : (os : List Outstanding) (before : List Offer) (c : Offer) (after : List Offer) → count c.head before ≡ 0
+    → AreOutstanding os (before ++ c ∷ after) → IsAmong os c.head (before ++ after)
+out_removed [] [] c after none h = absurd h
+out_removed [] (b ∷ bs) c after none h = absurd h
+out_removed (o ∷ os) [] c after none h =
+    let is : is_chain c.head 1 o ≡ true = rw (eq-eqb o.id c.head h.0, eq-eqb o.places 1 h.1) refl in
+    let at : position_or_len (is_chain c.head 1) (o ∷ os) ≡ 0 = rw is refl in
+    let P : ℕ → Type 0 = λ n. AreOutstanding (remove (o ∷ os) n) after in
+    record { there = omega (arith, at); rest = subst P (sym at) h.2 }
+out_removed (o ∷ os) (b ∷ bs) c after none h =
+    let z = count_zero c.head b bs none in
+    let r = out_removed os bs c after z.1 h.2 in
+    let is : is_chain c.head 1 o ≡ false = rw (ne_eqb o.id c.head (λ e. z.0 (sym h.0 ∙ e))) refl in
+    let place = position_or_len (is_chain c.head 1) os in
+    let next : position_or_len (is_chain c.head 1) (o ∷ os) ≡ 1 + place = rw is refl in
+    let at : position_or_len (is_chain c.head 1) (o ∷ os) ≡ suc place = next ∙ omega arith in
+    let P : ℕ → Type 0 = λ n. AreOutstanding (remove (o ∷ os) n) ((b ∷ bs) ++ after) in
+    let there = r.there in
+    record { there = omega (arith, at, there); rest = subst P (sym at) (h.0, h.1, r.rest) }

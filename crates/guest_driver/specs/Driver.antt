@@ -15,6 +15,8 @@ pub record DriverState : Type 0 where
   pub owners : List (Option ℕ)
   -- of each head: what its chain is
   pub flights : List Flight
+  -- whether it accepts VIRTIO_F_EVENT_IDX
+  pub event_idx : Bool
 
 abbrev pub no_flight : Flight
 no_flight = record { last = 0; writable = 0 }
@@ -64,21 +66,31 @@ Chooses owners two (Some pair) = Takes owners two pair.0 pair.1
 Chooses owners two None = HasTooFew owners two
 
 -- the driver of a queue of which nothing was offered
-abbrev pub first_driver : ℕ → DriverState
-first_driver size = record { size = size; available = 0; used = 0; owners = replicate size None; flights = replicate size no_flight }
+abbrev pub first_driver : ℕ → Bool → DriverState
+first_driver size event_idx = record {
+  size = size;
+  available = 0;
+  used = 0;
+  owners = replicate size None;
+  flights = replicate size no_flight;
+  event_idx = event_idx;
+}
 
 abbrev pub offer_of : List ℕ → ℕ → ℕ → ℕ → Offer
 offer_of readable writable head last = record { head = head; last = last; bytes = readable; writable = writable }
 
 -- the driver with a chain more
 abbrev pub after_offer : DriverState → ℕ → ℕ → ℕ → DriverState
-after_offer driver head last writable = record {
-  size = driver.size;
+after_offer driver head last writable = record driver {
   available = (driver.available + 1) % 65536;
-  used = driver.used;
   owners = slice_set (slice_set driver.owners head (Some head)) last (Some head);
   flights = slice_set driver.flights head (record { last = last; writable = writable });
 }
+
+-- the driver of the same queue, with the same features
+pub record HasSameQueue (driver driver' : DriverState) : Type 0 where
+  pub size : driver'.size ≡ driver.size
+  pub event_idx : driver'.event_idx ≡ driver.event_idx
 
 -- the driver and the memory gained a chain, of the lowest descriptors that were free
 pub record Adds (memory : List ℕ) (driver : DriverState) (readable : List ℕ) (writable head : ℕ) (memory' : List ℕ) (driver' : DriverState) : Type 0 where

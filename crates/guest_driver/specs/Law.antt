@@ -2,6 +2,7 @@
 use Rattle.std.specs.Prelude.{◌≡◌, ℕ, ◌+◌, ◌%◌, ◌<◌, ◌≤◌, ◌==◌, if◌then◌else◌, Bool, List, [], ◌∷◌, ◌++◌, length, map, get_or, Option, Some, None, Result, Ok, Err}
 use Rattle.guest_memory.specs.Memory.{bytes_at}
 use Rattle.chains.specs.declared.places.Places.{Places}
+use Rattle.chains.specs.declared.places.Outstanding.{Outstanding}
 use Rattle.chains.specs.declared.places.Popped.{Popped}
 use Rattle.chains.specs.declared.fault.RingFault.{RingFault}
 use Rattle.chains.specs.declared.fault.RingFault.TheVariants.{NoMemory as RingNoMemory, Refused}
@@ -48,6 +49,13 @@ AreKept driver (c ∷ cs) = IsKept driver c × AreKept driver cs
 abbrev pub offers_of : List Reply → List Offer
 offers_of replies = map (λ r. r.offer) replies
 
+-- the ring's outstanding chains are these, in this order, of one place each
+abbrev pub AreOutstanding : List Outstanding → List Offer → Type 0
+AreOutstanding [] [] = Unit {0}
+AreOutstanding [] (c ∷ cs) = ⊥
+AreOutstanding (o ∷ os) [] = ⊥
+AreOutstanding (o ∷ os) (c ∷ cs) = (o.id ≡ c.head) × (o.places ≡ 1) × AreOutstanding os cs
+
 -- The chains in flight are those offered and not yet popped, those popped and not yet published, and
 -- those published and not yet reaped: each is one of these, once.
 pub record IsOffered (memory : List ℕ) (driver : DriverState) (ring : RingState) (pending popped : List Offer) (published : List Reply) : Type 0 where
@@ -56,6 +64,7 @@ pub record IsOffered (memory : List ℕ) (driver : DriverState) (ring : RingStat
   pub flown : length driver.flights ≡ driver.size
   pub available : driver.available ≡ (ring.popped + length pending) % 65536
   pub offers : Offers memory driver.size ring.popped pending
+  pub outstanding : AreOutstanding ring.outstanding popped
   -- how many chains were reaped
   pub reaped : ℕ
   pub counted : ring.used ≡ reaped + length published
@@ -162,7 +171,7 @@ ItStays = (m n : List ℕ) (driver : DriverState) (ring : RingState) (pending po
 
 -- a driver and a ring of which nothing was offered, over indexes that are 0
 abbrev pub ItBegins : Type 0
-ItBegins = (m : List ℕ) (places : Places) (size : ℕ)
+ItBegins = (m : List ℕ) (places : Places) (size : ℕ) (event_idx : Bool)
     → needed size ≤ length m → IsSetUp (first_state places size) size
     → bytes_at m (avail_idx_at size) 2 ≡ 0 ∷ 0 ∷ [] → bytes_at m (used_idx_at size) 2 ≡ 0 ∷ 0 ∷ []
-    → IsOffered m (first_driver size) (first_state places size) [] [] []
+    → IsOffered m (first_driver size event_idx) (first_state places size) [] [] []

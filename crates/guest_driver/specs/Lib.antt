@@ -4,3 +4,6 @@ pub mod Driver
 pub mod Reap
 pub mod Used
 pub mod Law
+pub mod Access
+pub mod Negotiation
+pub mod OnDevice

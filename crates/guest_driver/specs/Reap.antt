@@ -26,12 +26,9 @@ pub record IsFlight (driver : DriverState) (id len : ℕ) : Type 0 where
 
 -- the driver with a chain less
 abbrev pub after_reap : DriverState → ℕ → DriverState
-after_reap driver id = record {
-  size = driver.size;
-  available = driver.available;
+after_reap driver id = record driver {
   used = (driver.used + 1) % 65536;
   owners = slice_set (slice_set driver.owners id None) (get_or driver.flights id no_flight).last None;
-  flights = driver.flights;
 }
 
 -- the device's index has moved on

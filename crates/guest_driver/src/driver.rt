@@ -1,13 +1,15 @@
 ghost use Rattle.std.specs.Prelude.{◌≡◌, ◌≤◌, ◌<◌, ◌+◌, IfOk, IfSome, IsTrue, ◌↔◌, length, replicate};
-ghost use Rattle.guest_driver.specs.Driver.{Offering, first_driver};
+ghost use Rattle.guest_driver.specs.Driver.{Offering, HasSameQueue, first_driver};
+ghost use Rattle.guest_driver.specs.Negotiation.{negotiated, is_in_service};
 ghost use Rattle.guest_driver.specs.Reap.{Reaps, IsFlight};
 
 use crate::fault::DriverFault;
 use crate::layout::has_layout;
+use crate::negotiation::{is_in_service, make_areas, write_registers};
 use crate::offering::{descriptors, has_two, make_available, write_chain};
 use crate::reaping::{Reaped, used_element, used_idx, written};
 use chains::NoMemory;
-use guest_memory::Memory;
+use mmio_transport::Device;
 use rpmb_frame::GuestConfig;
 use std::alloc::Global;
 use std::marker::Model;
@@ -32,6 +34,7 @@ pub struct Driver {
     used: u16,
     owners: Vec<Option<u16>>,
     flights: Vec<Flight>,
+    event_idx: bool,
 }
 
 impl Model for Driver {
@@ -39,7 +42,7 @@ impl Model for Driver {
 
     ghost Value = { DriverState };
 
-    ghost view = { λ d. record { size = d.size; available = d.available; used = d.used; owners = d.owners.items; flights = d.flights.items } };
+    ghost view = { λ d. record { size = d.size; available = d.available; used = d.used; owners = d.owners.items; flights = d.flights.items; event_idx = d.event_idx } };
 
     ghost invariant = { λ d. Keeps d.size d.owners.items d.flights.items };
 }
@@ -47,7 +50,7 @@ impl Model for Driver {
 impl Driver {
     /// The driver of a guest's queue, of which nothing was offered.
     pub fn new(alloc: Global, guest: &GuestConfig) -> Result<Driver, NoMemory>
-        ensures { IfOk result (λ driver. driver ≡ first_driver guest.now.queue) }
+        ensures { IfOk result (λ driver. driver ≡ first_driver guest.now.queue guest.now.event_idx) }
     {
         let size = guest.queue;
         let owners = vec![in alloc; None; size as usize]?;
@@ -63,7 +66,39 @@ impl Driver {
             used: 0,
             owners,
             flights,
+            event_idx: guest.event_idx,
         })
+    }
+
+    /// Brings the device into service, as a driver does after it found it (VIRTIO 1.2, 3.1.1 and
+    /// 4.2.3), with VIRTIO_F_VERSION_1 and, where its configuration says so, VIRTIO_F_EVENT_IDX. It
+    /// doesn't reset the device before. From then on nothing is offered. It takes no memory.
+    ///
+    /// Answers whether Status then reads ACKNOWLEDGE, DRIVER, FEATURES_OK and DRIVER_OK alone, and
+    /// QueueReady 1. The areas are made zeros where the queue has at most 256 places and the memory
+    /// has room for the layout; the registers are written in any case.
+    pub fn negotiate(&mut self, device: &mut Device) -> bool
+        ensures value { result ≡ is_in_service device.new }
+        ensures device { device.new ≡ negotiated device.old self.old.size self.old.event_idx }
+        ensures driver { self.new ≡ first_driver self.old.size self.old.event_idx }
+    {
+        self.forget();
+        make_areas(device, self.size);
+        write_registers(device, self.size, self.event_idx);
+        is_in_service(device)
+    }
+
+    /// Forgets each chain.
+    fn forget(&mut self)
+        ensures { self.new ≡ first_driver self.old.size self.old.event_idx }
+    {
+        self.available = 0;
+        self.used = 0;
+        self.owners.fill(None);
+        self.flights.fill(Flight {
+            last: 0,
+            writable: 0,
+        });
     }
 
     /// Offers a chain: these bytes for the device to read, and room for `writable` bytes that it may
@@ -73,27 +108,29 @@ impl Driver {
     /// are and the memory is smaller than the layout; then nothing changes.
     pub fn offer(
         &mut self,
-        memory: &mut Memory,
+        device: &mut Device,
         readable: &[u8],
         writable: u32,
     ) -> Result<u16, DriverFault>
         requires readable { length readable.now ≤ 8704 }
         requires writable { writable ≤ 8192 }
         requires some { 0 < length readable.now + writable }
-        ensures { Offering memory.old self.old readable.now writable result memory.new self.new }
+        ensures offering { Offering device.old.memory self.old readable.now writable result device.new.memory self.new }
+        ensures rest { device.new ≡ record device.old { memory = device.new.memory } }
+        ensures queue { HasSameQueue self.old self.new }
     {
         let two = has_two(readable, writable);
         let Some((head, last)) = descriptors(&self.owners, two) else {
             return Err(DriverFault::NoRoom);
         };
-        if !has_layout(memory, self.size) {
+        if !has_layout(device, self.size) {
             return Err(DriverFault::OutOfRange);
         }
         self.owners[head as usize] = Some(head);
         self.owners[last as usize] = Some(head);
         self.flights[head as usize] = Flight { last, writable };
-        write_chain(memory, self.size, head, last, readable, writable);
-        make_available(memory, self.size, self.available, head);
+        write_chain(device, self.size, head, last, readable, writable);
+        make_available(device, self.size, self.available, head);
         self.available = ((self.available as u32 + 1) % 65536) as u16;
         Ok(head)
     }
@@ -104,24 +141,25 @@ impl Driver {
     /// Answers `BadUsed` for an id that isn't that of a chain in flight, or a length above what its
     /// chain may have; `OutOfRange` where the memory is smaller than the layout; `NoMemory` where the
     /// bytes find no room. Then nothing changes, so the next call meets the same element.
-    pub fn reap(&mut self, memory: &Memory) -> Result<Option<Reaped>, DriverFault>
-        ensures { Reaps memory.now self.old result self.new }
+    pub fn reap(&mut self, device: &Device) -> Result<Option<Reaped>, DriverFault>
+        ensures reaps { Reaps device.now.memory self.old result self.new }
+        ensures queue { HasSameQueue self.old self.new }
     {
-        if !has_layout(memory, self.size) {
+        if !has_layout(device, self.size) {
             return Err(DriverFault::OutOfRange);
         }
-        if used_idx(memory, self.size) == self.used {
+        if used_idx(device, self.size) == self.used {
             return Ok(None);
         }
         if self.size == 0 {
             return Err(DriverFault::BadUsed);
         }
-        let element = used_element(memory, self.size, self.used);
+        let element = used_element(device, self.size, self.used);
         if !self.is_flight(element.id, element.len) {
             return Err(DriverFault::BadUsed);
         }
         let id = element.id as u16;
-        let Some(bytes) = written(self.alloc, memory, self.size, id, element.len) else {
+        let Some(bytes) = written(self.alloc, device, self.size, id, element.len) else {
             return Err(DriverFault::NoMemory);
         };
         let last = self.flights[id as usize].last;

@@ -1,11 +1,13 @@
 ghost use Rattle.std.specs.Prelude.{◌≡◌, ◌≤◌, ◌<◌, ◌+◌, ◌*◌, IfSome, length, List, ℕ};
 ghost use Rattle.guest_driver.specs.Layout.{needed};
 ghost use Rattle.guest_driver.specs.Offered.{descriptor, readable_descriptor, writable_descriptor, with_readable, with_writable, with_chain, with_available};
+ghost use Rattle.guest_driver.specs.Access.{ButForMemory};
 ghost use Rattle.guest_driver.specs.Driver.{FindsFree, Chooses, has_two, offer_of};
 
+use crate::access::put;
 use crate::layout::{driver_area, readable_at, writable_at};
 use byteorder::{ByteOrder, LittleEndian};
-use guest_memory::Memory;
+use mmio_transport::Device;
 
 /// `VIRTQ_DESC_F_NEXT`: the chain goes on.
 const NEXT: u16 = 1;
@@ -70,15 +72,16 @@ fn readable_descriptor(size: u16, head: u16, last: u16, len: u32, writable: u32)
 }
 
 /// Writes the descriptor of the bytes to be read, where there are any.
-fn write_readable(memory: &mut Memory, size: u16, head: u16, last: u16, len: u32, writable: u32)
-    requires room { needed size ≤ length memory.old }
+fn write_readable(device: &mut Device, size: u16, head: u16, last: u16, len: u32, writable: u32)
+    requires room { needed size ≤ length device.old.memory }
     requires head { head < size }
-    ensures value { memory.new ≡ with_readable memory.old size head last len writable }
-    ensures size { length memory.new ≡ length memory.old }
+    ensures value { device.new.memory ≡ with_readable device.old.memory size head last len writable }
+    ensures size { length device.new.memory ≡ length device.old.memory }
+    ensures rest { ButForMemory device.old device.new }
 {
     if len != 0 {
         let bytes = readable_descriptor(size, head, last, len, writable);
-        memory.put(16 * head as u64, &bytes);
+        put(device, 16 * head as u64, &bytes);
     }
 }
 
@@ -90,48 +93,55 @@ fn writable_descriptor(size: u16, head: u16, writable: u32) -> [u8; 16]
 }
 
 /// Writes the descriptor of the bytes to be written, where there are any.
-fn write_writable(memory: &mut Memory, size: u16, head: u16, last: u16, writable: u32)
-    requires room { needed size ≤ length memory.old }
+fn write_writable(device: &mut Device, size: u16, head: u16, last: u16, writable: u32)
+    requires room { needed size ≤ length device.old.memory }
     requires last { last < size }
-    ensures value { memory.new ≡ with_writable memory.old size head last writable }
-    ensures size { length memory.new ≡ length memory.old }
+    ensures value { device.new.memory ≡ with_writable device.old.memory size head last writable }
+    ensures size { length device.new.memory ≡ length device.old.memory }
+    ensures rest { ButForMemory device.old device.new }
 {
     if writable != 0 {
         let bytes = writable_descriptor(size, head, writable);
-        memory.put(16 * last as u64, &bytes);
+        put(device, 16 * last as u64, &bytes);
     }
 }
 
 /// Writes a chain's bytes and its descriptors.
 pub(crate) fn write_chain(
-    memory: &mut Memory,
+    device: &mut Device,
     size: u16,
     head: u16,
     last: u16,
     readable: &[u8],
     writable: u32,
 )
-    requires room { needed size ≤ length memory.old }
+    requires room { needed size ≤ length device.old.memory }
     requires head { head < size }
     requires last { last < size }
     requires readable { length readable.now ≤ 8704 }
-    ensures value { memory.new ≡ with_chain memory.old size (offer_of readable.now writable head last) }
-    ensures size { length memory.new ≡ length memory.old }
+    ensures value { device.new.memory ≡ with_chain device.old.memory size (offer_of readable.now writable head last) }
+    ensures size { length device.new.memory ≡ length device.old.memory }
+    ensures rest { ButForMemory device.old device.new }
 {
-    memory.put(readable_at(size, head), readable);
-    write_readable(memory, size, head, last, readable.len() as u32, writable);
-    write_writable(memory, size, head, last, writable);
+    put(device, readable_at(size, head), readable);
+    write_readable(device, size, head, last, readable.len() as u32, writable);
+    write_writable(device, size, head, last, writable);
 }
 
 /// Names the chain at its place of the available ring, and then moves the index (2.7.13).
-pub(crate) fn make_available(memory: &mut Memory, size: u16, place: u16, head: u16)
-    requires room { needed size ≤ length memory.old }
+pub(crate) fn make_available(device: &mut Device, size: u16, place: u16, head: u16)
+    requires room { needed size ≤ length device.old.memory }
     requires some { 0 < size }
-    ensures value { memory.new ≡ with_available memory.old size place head }
-    ensures size { length memory.new ≡ length memory.old }
+    ensures value { device.new.memory ≡ with_available device.old.memory size place head }
+    ensures size { length device.new.memory ≡ length device.old.memory }
+    ensures rest { ButForMemory device.old device.new }
 {
     let at = driver_area(size);
     let next = ((place as u32 + 1) % 65536) as u16;
-    memory.put(at + 4 + 2 * (place % size) as u64, &head.to_le_bytes());
-    memory.put(at + 2, &next.to_le_bytes());
+    put(
+        device,
+        at + 4 + 2 * (place % size) as u64,
+        &head.to_le_bytes(),
+    );
+    put(device, at + 2, &next.to_le_bytes());
 }

@@ -3,9 +3,10 @@ ghost use Rattle.guest_memory.specs.Memory.{bytes_at};
 ghost use Rattle.guest_driver.specs.Layout.{needed, writable_at};
 ghost use Rattle.guest_driver.specs.Reap.{used_idx, used_id, used_len};
 
+use crate::access::fetch;
 use crate::layout::{device_area, writable_at};
 use byteorder::{ByteOrder, LittleEndian};
-use guest_memory::Memory;
+use mmio_transport::Device;
 use std::alloc::Global;
 
 /// A chain that came back.
@@ -27,23 +28,30 @@ pub(crate) struct Element {
 }
 
 /// The device's index in the used ring (VIRTIO 1.2, 2.7.8).
-pub(crate) fn used_idx(memory: &Memory, size: u16) -> u16
-    requires { needed size ≤ length memory.now }
-    ensures { result ≡ used_idx memory.now size }
+pub(crate) fn used_idx(device: &Device, size: u16) -> u16
+    requires { needed size ≤ length device.now.memory }
+    ensures { result ≡ used_idx device.now.memory size }
 {
-    LittleEndian::read_u16(memory.bytes(device_area(size) + 2, 2))
+    let mut index = [0; 2];
+    fetch(device, device_area(size) + 2, &mut index);
+    LittleEndian::read_u16(&index)
 }
 
 /// The element at a place of the used ring.
-pub(crate) fn used_element(memory: &Memory, size: u16, place: u16) -> Element
-    requires room { needed size ≤ length memory.now }
+pub(crate) fn used_element(device: &Device, size: u16, place: u16) -> Element
+    requires room { needed size ≤ length device.now.memory }
     requires some { 0 < size }
-    ensures id { result.id ≡ used_id memory.now size place }
-    ensures len { result.len ≡ used_len memory.now size place }
+    ensures id { result.id ≡ used_id device.now.memory size place }
+    ensures len { result.len ≡ used_len device.now.memory size place }
 {
-    let bytes = memory.bytes(device_area(size) + 4 + 8 * (place % size) as u64, 8);
+    let mut bytes = [0; 8];
+    fetch(
+        device,
+        device_area(size) + 4 + 8 * (place % size) as u64,
+        &mut bytes,
+    );
     Element {
-        id: LittleEndian::read_u32(bytes),
+        id: LittleEndian::read_u32(&bytes),
         len: LittleEndian::read_u32(&bytes[4..]),
     }
 }
@@ -51,19 +59,19 @@ pub(crate) fn used_element(memory: &Memory, size: u16, place: u16) -> Element
 /// A copy of the bytes that the device wrote for a chain.
 pub(crate) fn written(
     alloc: Global,
-    memory: &Memory,
+    device: &Device,
     size: u16,
     id: u16,
     len: u32,
 ) -> Option<Vec<u8>>
-    requires room { needed size ≤ length memory.now }
+    requires room { needed size ≤ length device.now.memory }
     requires id { id < size }
     requires len { len ≤ 8192 }
-    ensures { IfSome result (λ bytes. bytes.items ≡ bytes_at memory.now (writable_at size id) len) }
+    ensures { IfSome result (λ bytes. bytes.items ≡ bytes_at device.now.memory (writable_at size id) len) }
 {
-    let mut bytes = Vec::new(alloc);
-    match bytes.extend_from_slice(memory.bytes(writable_at(size, id), len as u64)) {
-        Ok(()) => Some(bytes),
-        Err(_) => None,
-    }
+    let Ok(mut bytes) = vec![in alloc; 0u8; len as usize] else {
+        return None;
+    };
+    fetch(device, writable_at(size, id), &mut bytes);
+    Some(bytes)
 }

@@ -5,7 +5,8 @@ use Rattle.std.specs.List.{AllByRecursion}
 use Rattle.std.proofs.lemmas.Bool.Decides.{nat_tests}
 use Rattle.std.proofs.lemmas.List.Sums.{sum_by_push}
 use Rattle.std.proofs.lemmas.Option.{slice_get_read}
-use Rattle.rpmb_book.specs.Job.{Job, Tally}
+use Rattle.mmio_transport.specs.Job.{Job}
+use Rattle.rpmb_book.specs.Job.{Tally}
 use Rattle.rpmb_book.specs.Guest.{GuestState, fresh}
 use Rattle.rpmb_book.specs.Turn.{Turn, State, after_turn, IsRight, is_submit, update}
 use Rattle.rpmb_book.specs.Replay.{replay}

@@ -7,7 +7,8 @@ use Rattle.std.proofs.lemmas.Bool.Decides.{nat_tests}
 use Rattle.std.proofs.lemmas.Option.{slice_get_cases}
 use Rattle.rpmb_frame.specs.Partition.{sequence}
 use Rattle.rpmb_core.proofs.Sequence.{sequence_accepted, after_refused, keyed_after}
-use Rattle.rpmb_book.specs.Job.{Job, Done, Entry, entry_sequence, done_of}
+use Rattle.mmio_transport.specs.Job.{Job, Done, done_of}
+use Rattle.rpmb_book.specs.Job.{Entry, entry_sequence}
 use Rattle.rpmb_book.specs.Guest.{GuestCore, GuestState, submitted, took, collected, first_due, first_entry, first_sequence, joined_by, entry, entry_of, accepts, after, request_of, answer, need}
 use Rattle.rpmb_book.specs.Turn.{Turn, Submit, Take, Settle, Collect, State, after_turn, IsRight, is_submit, settled_all, are_within, move_some}
 use Rattle.rpmb_book.specs.Sound.{Follows, IsSoundGuest, IsSound}

@@ -2,7 +2,8 @@
 use Rattle.std.proofs.Common.{◌≡◌, ◌≢◌, ◌<◌, ◌≤◌, ℕ, ◌+◌, List, [], ◌∷◌, ◌++◌, Some, None, length, set, refl, ap, sym, ◌∙◌, arith, get_or}
 use Rattle.std.specs.Prelude.{slice_get}
 use Rattle.std.proofs.lemmas.Option.{slice_get_within}
-use Rattle.rpmb_book.specs.Job.{Job, Tally, Submission}
+use Rattle.mmio_transport.specs.Job.{Job}
+use Rattle.rpmb_book.specs.Job.{Tally, Submission}
 use Rattle.rpmb_book.specs.Guest.{GuestState, submitted, answer}
 use Rattle.rpmb_book.specs.Turn.{Submit, State, IsRight, answer_of}
 use Rattle.rpmb_book.specs.Replay.{replay}

@@ -6,7 +6,8 @@ use Rattle.rpmb_book.specs.Guest.{GuestState, took, collected, first_entry, firs
 use Rattle.rpmb_book.specs.Turn.{Turn, Take, Collect, State, IsRight}
 use Rattle.rpmb_book.specs.Replay.{replay}
 use Rattle.rpmb_book.specs.History.{HistoryView}
-use Rattle.rpmb_book.specs.Job.{Done, Entry}
+use Rattle.mmio_transport.specs.Job.{Done}
+use Rattle.rpmb_book.specs.Job.{Entry}
 use Rattle.rpmb_book.specs.Book.{BookView, with_turn, guest_of, due_at, due_of, after_collect, is_share, is_taken, next_entry, waiting_of, take_answer, after_take, intent_of}
 use Rattle.rpmb_book.specs.declared.refused.Refused.TheVariants.{Foreign}
 use Rattle.rpmb_book.specs.Kept.{IsKept}

@@ -1,7 +1,8 @@
 -- What a book shows, and what each of its calls answers and makes of it.
 use Rattle.std.specs.Prelude.{ℕ, ◌==◌, ◌&&◌, ◌||◌, not, Bool, true, false, if◌then◌else◌, Option, Some, None, is_some, Result, Ok, Err, option_map, List, [], ◌∷◌, ◌++◌, length, map, count_by, slice_get, slice_set}
 use Rattle.rpmb_frame.specs.Table.{first_row}
-use Rattle.rpmb_book.specs.Job.{Job, Done, Entry, Intent, Tally, Submission, entry_sequence}
+use Rattle.mmio_transport.specs.Job.{Job, Done}
+use Rattle.rpmb_book.specs.Job.{Entry, Intent, Tally, Submission, entry_sequence}
 use Rattle.rpmb_book.specs.Guest.{GuestState, first_entry, first_due}
 use Rattle.rpmb_book.specs.Turn.{Turn, Submit, Take, Settle, Collect, State, answer_of, is_submit, move_some}
 use Rattle.rpmb_book.specs.Replay.{replay}

@@ -10,7 +10,8 @@ use Rattle.rpmb_core.specs.Outcome.{outcome_of}
 use Rattle.rpmb_core.specs.Reply.{reply}
 use Rattle.rpmb_core.specs.declared.outcome.Outcome.{Outcome}
 use Rattle.rpmb_book.specs.declared.guest_core.StoredOutcome.{StoredOutcome}
-use Rattle.rpmb_book.specs.Job.{Job, Done, Entry, done_of, entry_sequence}
+use Rattle.mmio_transport.specs.Job.{Job, Done, done_of, room_of}
+use Rattle.rpmb_book.specs.Job.{Entry, entry_sequence}
 
 -- what the answers to a guest depend on
 pub record GuestCore : Type 0 where
@@ -33,7 +34,7 @@ pub record GuestState : Type 0 where
 
 -- what a job asks for
 abbrev pub request_of : GuestCore → Job → Request
-request_of c job = request job.request job.writable c.limits
+request_of c job = request job.request (room_of job) c.limits
 
 abbrev pub verdict_of : GuestCore → Job → ℕ
 verdict_of c job = verdict c.partition (request_of c job)

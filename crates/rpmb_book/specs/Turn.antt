@@ -1,7 +1,8 @@
 -- One turn of the book: what it changes, and where it may stand.
 use Rattle.std.specs.Prelude.{ℕ, zero, suc, ◌≡◌, ◌<◌, ◌&&◌, ◌||◌, nat_le, nat_lt, Bool, true, false, Option, Some, None, IsSome, List, [], ◌∷◌, length, slice_get}
 use Rattle.std.specs.Option.{ForSome}
-use Rattle.rpmb_book.specs.Job.{Job, Submission}
+use Rattle.mmio_transport.specs.Job.{Job}
+use Rattle.rpmb_book.specs.Job.{Submission}
 use Rattle.rpmb_book.specs.Guest.{GuestState, submitted, took, settled_at, collected, first_due, first_entry, answer}
 
 pub data Turn : Type 0 where

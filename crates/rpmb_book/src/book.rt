@@ -8,15 +8,14 @@ ghost use Rattle.rpmb_book.specs.Turn.{settled_all};
 ghost use Rattle.rpmb_book.specs.Sound.{IsSound};
 ghost use Rattle.rpmb_book.specs.Receipt.{turn_seen, submission_seen};
 
-use crate::done::Done;
 use crate::guest_state::GuestState;
 use crate::history::{History, TurnRecord};
 use crate::intent::Intent;
-use crate::job::Job;
 use crate::opening::{copied_guests, guests, sequences, tallies};
 use crate::receipt::{Receipt, TurnView};
 use crate::refused::Refused;
 use crate::tally::{Shares, Tally};
+use mmio_transport::{Done, Job};
 use rpmb_core::{NoMemory, Partition};
 use rpmb_frame::BoardConfig;
 use std::alloc::Global;

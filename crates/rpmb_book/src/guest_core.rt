@@ -1,4 +1,5 @@
-ghost use Rattle.std.specs.Prelude.{◌≡◌, IfOk, None, true, length};
+ghost use Rattle.std.specs.Prelude.{◌≡◌, ◌≤◌, IfOk, None, true, length};
+ghost use Rattle.mmio_transport.specs.Job.{room_of};
 ghost use Rattle.rpmb_frame.specs.Partition.{Partition, sequence};
 ghost use Rattle.rpmb_core.specs.Verdict.{verdict};
 ghost use Rattle.rpmb_core.specs.Accept.{data_of, is_accepted, partition_after};
@@ -6,7 +7,7 @@ ghost use Rattle.rpmb_book.specs.Guest.{stored, core_after, outcome_in, answer, 
 ghost use Rattle.rpmb_book.specs.Planned.{IsPlanned};
 
 use crate::intent::Entry;
-use crate::job::Job;
+use mmio_transport::Job;
 use rpmb_core::{NoMemory, OK, Outcome, Partition, is_change};
 use rpmb_frame::{Command, Frame, Limits, Request};
 use std::alloc::{AllocError, Global};
@@ -77,6 +78,8 @@ impl GuestCore {
         ensures { IfOk result (IsPlanned self.now job.now) }
     {
         let request = Request::classify(job.request(), job.writable(), self.limits);
+        // No reply has more than 16 frames.
+        let _most = self.limits.max_rd_cnt();
         let code = self.partition.verdict(&request);
         let is_accepted = is_accepted(&request, code);
         let len = Partition::reply_len(&request, code);
@@ -103,6 +106,7 @@ impl GuestCore {
         requires { IsPlanned self.old job.now plan }
         ensures core { self.new ≡ core_after self.old job.now }
         ensures reply { result.reply.items ≡ answer self.old job.now }
+        ensures fits { length result.reply.items ≤ room_of job.now }
         ensures copy { result.copy.items ≡ answer self.old job.now }
         ensures need { result.need ≡ need self.old job.now }
         ensures entry { result.entry ≡ entry self.old job.now }

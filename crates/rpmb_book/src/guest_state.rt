@@ -1,11 +1,11 @@
 ghost use Rattle.std.specs.Prelude.{◌≡◌, ◌+◌, ◌-◌, ◌<◌, ◌^◌, IfOk, IfErr, if◌then◌else◌, is_some, length};
 ghost use Rattle.rpmb_book.specs.Guest.{submitted, answer, took, settled_at, collected, first_due, first_entry, fresh};
 
-use crate::done::Done;
 use crate::guest_core::{Answer, GuestCore};
+use crate::held::Held;
 use crate::history::Submission;
 use crate::intent::Entry;
-use crate::job::Job;
+use mmio_transport::{Done, Job};
 use rpmb_core::Partition;
 use rpmb_frame::Limits;
 use std::alloc::Global;
@@ -15,7 +15,7 @@ use std::marker::Model;
 #[derive(Drop)]
 pub struct GuestState {
     core: GuestCore,
-    held: Vec<Done>,
+    held: Vec<Held>,
     waiting: Vec<Entry>,
     taken: u64,
     settled: u64,
@@ -80,6 +80,9 @@ impl GuestState {
         let Ok(plan) = self.core.plan(alloc, &job) else {
             return Err(job);
         };
+        let Ok(held_job) = job.for_reply(alloc) else {
+            return Err(job);
+        };
         if self.held.reserve(1).is_err() {
             return Err(job);
         }
@@ -92,7 +95,7 @@ impl GuestState {
             need,
             entry,
         } = self.core.carry_out(&job, plan);
-        self.held.push_reserved(Done::of(&job, reply, need));
+        self.held.push_reserved(Held::of(held_job, reply, need));
         match entry {
             None => {}
             Some(entry) => self.waiting.push_reserved(entry),
@@ -129,6 +132,6 @@ impl GuestState {
         if self.held.is_empty() || self.settled < self.held[0].need() {
             return None;
         }
-        Some(self.held.remove(0))
+        Some(self.held.remove(0).done())
     }
 }

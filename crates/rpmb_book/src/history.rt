@@ -5,7 +5,7 @@ ghost use Rattle.rpmb_book.specs.History.{turn_of, has_marks, settles_in};
 ghost use Rattle.rpmb_book.specs.Book.{submission_of, taken_marks};
 
 use crate::guest_state::GuestState;
-use crate::job::Job;
+use mmio_transport::Job;
 use std::alloc::{AllocError, Global};
 use std::marker::Model;
 

@@ -3,12 +3,11 @@
 #![tactic(auto)]
 
 mod book;
-mod done;
 mod guest_core;
 mod guest_state;
+mod held;
 mod history;
 mod intent;
-mod job;
 pub mod laws;
 mod opening;
 mod receipt;
@@ -16,9 +15,7 @@ mod refused;
 mod tally;
 
 pub use book::Book;
-pub use done::Done;
 pub use intent::{Entry, Intent};
-pub use job::Job;
 pub use receipt::{Receipt, TurnView};
 pub use refused::Refused;
 pub use tally::{Shares, Tally};

@@ -1,37 +1,72 @@
 -- What lines print, one after another.
-use Rattle.std.proofs.Common.{◌≡◌, ℕ, List, [], ◌∷◌, ◌++◌, Option, Some, None, length, map, refl, ap, ap₂, subst, sym, ◌∙◌, arith}
+use Rattle.std.proofs.Common.{◌≡◌, ℕ, suc, ◌+◌, ◌<◌, List, [], ◌∷◌, ◌++◌, Option, Some, None, length, map, refl, ap, ap₂, subst, sym, ◌∙◌, arith}
 use Rattle.std.proofs.KnownBytes.{Appends-nil, Appends-trans}
 use Rattle.std.proofs.lemmas.List.{append_assoc, append-nil}
 use Rattle.std.specs.Io.KnownBytes.{Appends}
 use Rattle.script.specs.Line.{Said, line_of, said}
 use Rattle.script.specs.Script.{first_bad}
 use Rattle.script.specs.declared.line.Line.{Line}
-use Rattle.rpmb_book.specs.Guest.{GuestCore}
-use Rattle.rpmbd.specs.Transcript.{cores_by, printed_by, transcript}
+use Rattle.std.specs.Prelude.{All}
+use Rattle.mmio_transport.specs.Device.{last_count}
+use Rattle.script.specs.Line.{nothing, chain, store, reset}
+use Rattle.runner.specs.Host.{HostView}
+use Rattle.rpmbd.specs.Transcript.{StoresNothing, Told, printed_by, told_by, transcript}
+use Rattle.rpmbd.specs.Running.{HasRun, IsAt, IsSized, Runs}
 
 -- what was printed so far, and what the rest prints, are what all lines print
-pub record Going (start now : Option (List ℕ)) (first cores : List GuestCore) (all rest : List Said) : Type 0 where
+pub record Going (start now : Option (List ℕ)) (first : Told) (h : HostView) (all rest : List Said) : Type 0 where
+  pub steps : ℕ
+  pub told : Told
   pub bytes : List ℕ
   pub so_far : Appends start now bytes
-  pub whole : bytes ++ transcript cores rest ≡ transcript first all
+  pub whole : bytes ++ transcript told rest ≡ transcript first all
+  pub at : IsAt steps told h
+  pub clean : StoresNothing rest
+  pub counted : steps + length rest ≡ length all
 
-pub begin : (start : Option (List ℕ)) (cores : List GuestCore) (all : List Said) → Going start start cores cores all all
-begin start cores all = record { bytes = []; so_far = Appends-nil start; whole = refl }
+pub begin : (start : Option (List ℕ)) (h : HostView) (all : List Said) (t : Told) → IsAt 0 t h → StoresNothing all → Going start start t h all all
+begin start h all t at clean = record { steps = 0; told = t; bytes = []; so_far = Appends-nil start; whole = refl; at = at; clean = clean; counted = omega arith }
 
-pub step : (start now next : Option (List ℕ)) (first cores after : List GuestCore) (all rest : List Said) (line : Said)
-    → Going start now first cores all (line ∷ rest) → Appends now next (printed_by cores line) → after ≡ cores_by cores line
-    → Going start next first after all rest
+-- a line was run
+went_on : (start now next : Option (List ℕ)) (first : Told) (h h' : HostView) (all rest : List Said) (line : Said) → (going : Going start now first h all (line ∷ rest))
+    → HasRun going.steps going.told line now next h' → StoresNothing rest → Going start next first h' all rest
 unfolding transcript
-step start now next first cores after all rest line going prints after_is = record {
-  bytes = going.bytes ++ printed_by cores line;
-  so_far = Appends-trans start now next going.bytes (printed_by cores line) going.so_far prints;
-  whole = ap (λ c. (going.bytes ++ printed_by cores line) ++ transcript c rest) after_is
-      ∙ append_assoc going.bytes (printed_by cores line) (transcript (cores_by cores line) rest) ∙ going.whole;
-}
+went_on start now next first h h' all rest line going run clean =
+    let counted = going.counted in
+    record {
+      steps = going.steps + 1;
+      told = told_by going.told line;
+      bytes = going.bytes ++ printed_by going.told line;
+      so_far = Appends-trans start now next going.bytes (printed_by going.told line) going.so_far run.printed;
+      whole = append_assoc going.bytes (printed_by going.told line) (transcript (told_by going.told line) rest) ∙ going.whole;
+      at = run.after;
+      clean = clean;
+      counted = omega (arith, counted);
+    }
 
-pub finish : (start now : Option (List ℕ)) (first cores : List GuestCore) (all : List Said) → Going start now first cores all [] → Appends start now (transcript first all)
+pub step : (start now next : Option (List ℕ)) (first : Told) (h h' : HostView) (all rest : List Said) (line : Said) → length all + 2 < last_count
+    → Going start now first h all (line ∷ rest) → Runs h line now next h' → Going start next first h' all rest
+step start now next first h h' all rest nothing few going runs =
+    let counted = going.counted in
+    went_on start now next first h h' all rest nothing going (runs going.steps going.told (omega (arith, counted, few)) going.at) going.clean
+step start now next first h h' all rest (chain guest readable writable) few going runs =
+    let counted = going.counted in
+    went_on start now next first h h' all rest (chain guest readable writable) going (runs going.steps going.told (omega (arith, counted, few)) going.at) going.clean
+step start now next first h h' all rest (store guest at bytes) few going runs = absurd going.clean
+step start now next first h h' all rest (reset guest) few going runs =
+    let counted = going.counted in
+    went_on start now next first h h' all rest (reset guest) going (runs going.steps going.told (omega (arith, counted, few)) going.at) going.clean
+
+pub finish : (start now : Option (List ℕ)) (first : Told) (h : HostView) (all : List Said) → Going start now first h all [] → Appends start now (transcript first all)
 unfolding transcript
-finish start now first cores all going = subst (Appends start now) (sym (append-nil going.bytes) ∙ going.whole) going.so_far
+finish start now first h all going = subst (Appends start now) (sym (append-nil going.bytes) ∙ going.whole) going.so_far
+
+-- the lines that are left have the sizes of lines
+pub head_sized : (line : Line) (rest : List Line) → All (λ l. IsSized (said l)) (line ∷ rest) → IsSized (said line)
+head_sized line rest are = are 0 line (omega arith)
+
+pub rest_sized : (line : Line) (rest : List Line) → All (λ l. IsSized (said l)) (line ∷ rest) → All (λ l. IsSized (said l)) rest
+rest_sized line rest are = λ k d below. are (suc k) d (omega (arith, below))
 
 pub none_left : (lines : List Line) (n : ℕ) → n ≡ 0 → n ≡ length lines → lines ≡ []
 none_left [] n zero_is long = refl

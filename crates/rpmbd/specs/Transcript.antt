@@ -1,13 +1,17 @@
 -- What a script prints.
-use Rattle.std.specs.Prelude.{ℕ, ◌≡◌, List, [], ◌∷◌, ◌++◌, Some, codes, length, map}
+use Rattle.std.specs.Prelude.{ℕ, ◌≡◌, All, List, [], ◌∷◌, ◌++◌, Some, codes, get_or, length, map, replicate}
 use Rattle.std.specs.Fmt.{decimal}
 use Rattle.hex.specs.Hex.{encode_lower}
 use Rattle.rpmb_frame.specs.declared.config.GuestConfig.{GuestConfig}
-use Rattle.script.specs.Line.{Said, nothing, chain, line_of}
+use Rattle.rpmb_frame.specs.declared.config.RingKind.TheVariants.{Split}
+use Rattle.script.specs.Line.{Said, nothing, chain, store, reset, line_of}
 use Rattle.script.specs.Script.{first_bad, lines_of}
-use Rattle.rpmb_book.specs.Job.{Job}
 use Rattle.rpmb_book.specs.Guest.{GuestCore}
 use Rattle.runner.specs.Runner.{cores_after, fresh_view, reply_of}
+use Rattle.runner.specs.Ready.{job_of}
+use Rattle.runner.specs.Host.{sessions_after}
+use Rattle.runner.specs.declared.guest.Stuck.{Stuck}
+use Rattle.runner.specs.declared.guest.Stuck.TheVariants as stuck
 
 -- two digits a byte, in lower case; no bytes are shown by a dash
 abbrev pub shown : List ℕ → List ℕ
@@ -19,36 +23,59 @@ unfoldable pub used_line : ℕ → List ℕ → List ℕ
 used_line guest reply = codes "used " ++ decimal guest ++ codes " " ++ decimal (length reply)
     ++ codes " " ++ shown reply ++ 10 ∷ []
 
--- the chain of a line, in the one session of a guest that never resets
-abbrev pub job_of : ℕ → List ℕ → ℕ → Job
-job_of guest readable writable = record {
-  guest = guest;
-  session = 1;
-  id = 0;
-  places = 1;
-  writable = writable;
-  request = readable;
-}
+-- the line of a guest that is stuck
+abbrev pub stuck_text : Stuck → List ℕ
+stuck_text stuck.NeedsReset = codes "needs-reset"
+stuck_text stuck.NoAnswer = codes "no-answer"
+stuck_text stuck.BadUsed = codes "bad-used"
 
--- what one line prints
-abbrev pub printed_by : List GuestCore → Said → List ℕ
-printed_by cores nothing = []
-printed_by cores (chain guest readable writable) =
-    used_line guest (reply_of cores (job_of guest readable writable))
+unfoldable pub stuck_line : ℕ → Stuck → List ℕ
+stuck_line guest reason = stuck_text reason ++ codes " " ++ decimal guest ++ 10 ∷ []
 
--- and what it makes of the guests
-abbrev pub cores_by : List GuestCore → Said → List GuestCore
-cores_by cores nothing = cores
-cores_by cores (chain guest readable writable) = cores_after cores (job_of guest readable writable)
+-- what the lines so far made of the guests: what the answers to each depend on, and its session
+pub record Told : Type 0 where
+  pub cores : List GuestCore
+  pub sessions : List ℕ
+
+-- the reply to a chain of a guest
+abbrev pub reply_to : Told → ℕ → List ℕ → ℕ → List ℕ
+reply_to t guest readable writable = reply_of t.cores (job_of guest (get_or t.sessions guest 0) readable writable)
+
+-- what one line prints, where no line stored into guest memory
+abbrev pub printed_by : Told → Said → List ℕ
+printed_by t nothing = []
+printed_by t (chain guest readable writable) = used_line guest (reply_to t guest readable writable)
+printed_by t (store guest at bytes) = []
+printed_by t (reset guest) = []
+
+-- and what it makes of the guests: a chain changes what its guest's answers depend on, a reset begins
+-- its guest's next session
+abbrev pub told_by : Told → Said → Told
+told_by t nothing = t
+told_by t (chain guest readable writable) = record t { cores = cores_after t.cores (job_of guest (get_or t.sessions guest 0) readable writable) }
+told_by t (store guest at bytes) = t
+told_by t (reset guest) = record t { sessions = sessions_after t.sessions guest }
 
 -- what lines print, one after another
-unfoldable pub transcript : List GuestCore → List Said → List ℕ
-transcript cores [] = []
-transcript cores (line ∷ lines) = printed_by cores line ++ transcript (cores_by cores line) lines
+unfoldable pub transcript : Told → List Said → List ℕ
+transcript t [] = []
+transcript t (line ∷ lines) = printed_by t line ++ transcript (told_by t line) lines
+
+-- no line stores into guest memory, whose rings and requests are then the driver's alone
+abbrev pub StoresNothing : List Said → Type 0
+StoresNothing [] = Unit {0}
+StoresNothing (nothing ∷ lines) = StoresNothing lines
+StoresNothing (chain guest readable writable ∷ lines) = StoresNothing lines
+StoresNothing (store guest at bytes ∷ lines) = ⊥
+StoresNothing (reset guest ∷ lines) = StoresNothing lines
+
+-- each guest has a split ring, which is all that a board file may ask for yet
+abbrev pub AreSplit : List GuestConfig → Type 0
+AreSplit board = All (λ g. g.ring ≡ Split) board
 
 -- what they print on the fresh partitions of a board
 abbrev pub output_of : List GuestConfig → List Said → List ℕ
-output_of board lines = transcript (fresh_view board).cores lines
+output_of board lines = transcript (record { cores = (fresh_view board).cores; sessions = replicate (length board) 1 }) lines
 
 -- the script says these lines to the board
 abbrev pub Says : List GuestConfig → List ℕ → List Said → Type 0

@@ -2,18 +2,22 @@
 ghost use Rattle.std.specs.Prelude.{◌≡◌, Some};
 ghost use Rattle.rpmbd.specs.Fault.{fault_of, fault_text};
 
-use rpmb_book::Refused;
+use runner::HostFault;
 use std::fmt;
 
 /// Why a command didn't reach its end.
 #[derive(Clone, Copy, Debug, PartialEq, Eq)]
 pub enum Fault {
+    /// A range of a `store` line doesn't lie in the guest's memory.
+    OutOfRange,
     /// Memory was refused.
     NoMemory,
     /// A guest has 64 replies that have not left.
     Busy,
     /// The history holds 16,384 requests.
     HistoryFull,
+    /// A guest's driver has too few free descriptors.
+    NoRoom,
     /// The book lacks the guest, or counts otherwise than its caller.
     Foreign,
     /// The board file says nothing of a board.
@@ -25,15 +29,17 @@ pub enum Fault {
 }
 
 impl Fault {
-    /// The fault of a call that the book refused.
-    pub fn of(refused: Refused) -> Fault
-        ensures { result ≡ fault_of refused }
+    /// The fault of what a host didn't do.
+    pub fn of(fault: HostFault) -> Fault
+        ensures { result ≡ fault_of fault }
     {
-        match refused {
-            Refused::Foreign => Fault::Foreign,
-            Refused::Busy => Fault::Busy,
-            Refused::HistoryFull => Fault::HistoryFull,
-            Refused::NoMemory => Fault::NoMemory,
+        match fault {
+            HostFault::OutOfRange => Fault::OutOfRange,
+            HostFault::NoMemory => Fault::NoMemory,
+            HostFault::Busy => Fault::Busy,
+            HostFault::HistoryFull => Fault::HistoryFull,
+            HostFault::NoRoom => Fault::NoRoom,
+            HostFault::Foreign => Fault::Foreign,
         }
     }
 }
@@ -43,9 +49,11 @@ impl fmt::Display for Fault {
 
     fn fmt<W: fmt::Write>(&self, f: &mut fmt::Formatter<W>) -> fmt::Result {
         match *self {
+            Fault::OutOfRange => write!(f, "1 OutOfRange"),
             Fault::NoMemory => write!(f, "2 NoMemory"),
             Fault::Busy => write!(f, "14 Busy"),
             Fault::HistoryFull => write!(f, "15 HistoryFull"),
+            Fault::NoRoom => write!(f, "16 NoRoom"),
             Fault::Foreign => write!(f, "17 Foreign"),
             Fault::BadBoard => write!(f, "19 BadBoard"),
             Fault::BadScript { line } => write!(f, "20 BadScript line {line}"),

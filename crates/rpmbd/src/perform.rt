@@ -1,25 +1,22 @@
 //! What a command does, once its files are read.
-ghost use Rattle.std.specs.Prelude.{◌≡◌, ◌⊎◌, ℕ, List, Err, IfOk, IsErr, OnOk, Some, length, map};
+ghost use Rattle.std.specs.Prelude.{◌≡◌, ◌⊎◌, ℕ, All, List, Err, IfOk, IsErr, OnOk, Some, length, map};
 ghost use Rattle.std.specs.Prelude.{string_bytes};
 ghost use Rattle.std.specs.Io.KnownBytes.{Appends, Keeps};
-ghost use Rattle.script.specs.Line.{Said, line_of, said};
+ghost use Rattle.script.specs.Line.{Said, chain, line_of, said};
 ghost use Rattle.script.specs.Script.{lines_of};
 ghost use Rattle.rpmbd.specs.Fault.{fault_line};
-ghost use Rattle.rpmbd.specs.Transcript.{IsBadAt, Says, cores_by, output_of, printed_by, shown};
-ghost use Rattle.rpmbd.specs.Transcript.{transcript, used_line};
+ghost use Rattle.rpmbd.specs.Running.{IsAt, IsSized, Runs};
+ghost use Rattle.rpmbd.specs.Transcript.{AreSplit, IsBadAt, Says, StoresNothing, Told, output_of, shown};
+ghost use Rattle.rpmbd.specs.Transcript.{stuck_line, transcript, used_line};
 
 use crate::fault::Fault;
 use command_line::Command;
-use rpmb_book::Job;
 use rpmb_frame::BoardConfig;
-use runner::Runner;
+use runner::{Answer, Host, Stuck};
 use script::{Line, ScriptError, read_script};
 use std::alloc::Global;
 use std::io;
 use std::io::Write;
-
-/// The one session of a guest that has no device: it never resets.
-const SESSION: u64 = 1;
 
 /// Writes the fault's line.
 pub fn write_fault<E: Write>(fault: Fault, err: &mut E) -> io::Result<()>
@@ -66,9 +63,26 @@ fn write_reply<W: Write>(alloc: Global, guest: u16, reply: &[u8], out: &mut W) -
     }
 }
 
+/// Writes the line of a guest that is stuck: the text and the guest's number.
+#[tactic(auto, unfolding(crate::specs::Transcript::stuck_line))]
+fn write_stuck<W: Write>(guest: u16, stuck: Stuck, out: &mut W) -> Result<(), Fault>
+    ensures { OnOk result (Appends (W.contents out.old) (W.contents out.new) (stuck_line guest stuck)) }
+{
+    let text = match stuck {
+        Stuck::NeedsReset => "needs-reset",
+        Stuck::NoAnswer => "no-answer",
+        Stuck::BadUsed => "bad-used",
+    };
+    match writeln!(out, "{text} {guest}") {
+        Ok(()) => Ok(()),
+        Err(_) => Err(Fault::FileFault),
+    }
+}
+
 fn read_lines(alloc: Global, script: &str, board: &BoardConfig) -> Result<Vec<Line>, Fault>
     ensures ok { IfOk result (λ lines. map (λ line. Some (said line)) lines.items
         ≡ map (line_of (length board.now)) (lines_of script.now)) }
+    ensures sized { IfOk result (λ lines. All (λ line. IsSized (said line)) lines.items) }
     ensures bad { (n : ℕ) → result ≡ Err (Fault.BadScript n) → IsBadAt board.now script.now n }
 {
     match read_script(alloc, script, board.guests().len() as u16) {
@@ -78,44 +92,60 @@ fn read_lines(alloc: Global, script: &str, board: &BoardConfig) -> Result<Vec<Li
     }
 }
 
-/// Takes what a line asks for to its end.
-#[tactic(auto, unfolding(runner::specs::Runner::after_job))]
-fn run_line<W: Write>(
+/// Takes a chain of a guest to its end, and writes what it came to.
+fn run_chain<W: Write>(
     alloc: Global,
-    runner: &mut Runner,
-    line: Line,
+    host: &mut Host,
+    guest: u16,
+    readable: &[u8],
+    writable: u32,
     out: &mut W,
 ) -> Result<(), Fault>
-    ensures printed { OnOk result (Appends (W.contents out.old) (W.contents out.new)
-        (printed_by runner.old.cores (said line))) }
-    ensures after { OnOk result (runner.new.cores ≡ cores_by runner.old.cores (said line)) }
+    requires { IsSized (chain guest readable.now writable) }
+    ensures { OnOk result (Runs host.old (chain guest readable.now writable) (W.contents out.old) (W.contents out.new) host.new) }
 {
-    let Line::Chain {
-        guest,
-        readable,
-        writable,
-    } = line
-    else {
-        return Ok(());
-    };
-    let job = Job::of(guest, SESSION, 0, 1, u64::from(writable), readable);
-    match runner.answer(alloc, job) {
-        Ok(done) => write_reply(alloc, guest, done.reply(), out),
-        Err(refused) => Err(Fault::of(refused)),
+    match host.chain(alloc, guest, readable, writable) {
+        Ok(Answer::Used(reply)) => write_reply(alloc, guest, reply.as_slice(), out),
+        Ok(Answer::Stuck(stuck)) => write_stuck(guest, stuck, out),
+        Err(fault) => Err(Fault::of(fault)),
+    }
+}
+
+/// Takes what a line asks for to its end.
+fn run_line<W: Write>(alloc: Global, host: &mut Host, line: Line, out: &mut W) -> Result<(), Fault>
+    requires { IsSized (said line) }
+    ensures { OnOk result (Runs host.old (said line) (W.contents out.old) (W.contents out.new) host.new) }
+{
+    match line {
+        Line::Nothing => Ok(()),
+        Line::Chain {
+            guest,
+            readable,
+            writable,
+        } => run_chain(alloc, host, guest, readable.as_slice(), writable, out),
+        Line::Store { guest, at, bytes } => match host.store(guest, at, bytes.as_slice()) {
+            Ok(()) => Ok(()),
+            Err(fault) => Err(Fault::of(fault)),
+        },
+        Line::Reset { guest } => match host.reset(guest) {
+            Ok(()) => Ok(()),
+            Err(fault) => Err(Fault::of(fault)),
+        },
     }
 }
 
 fn run_lines<W: Write>(
     alloc: Global,
-    runner: &mut Runner,
+    host: &mut Host,
     lines: Vec<Line>,
     out: &mut W,
 ) -> Result<(), Fault>
-    ensures { OnOk result (Appends (W.contents out.old) (W.contents out.new)
-        (transcript runner.old.cores (map said lines.items))) }
+    requires { All (λ line. IsSized (said line)) lines.items }
+    ensures { OnOk result ((t : Told) → IsAt 0 t host.old → StoresNothing (map said lines.items)
+        → Appends (W.contents out.old) (W.contents out.new) (transcript t (map said lines.items))) }
 {
     for line in lines {
-        run_line(alloc, runner, line, out)?;
+        run_line(alloc, host, line, out)?;
     }
     Ok(())
 }
@@ -127,13 +157,14 @@ fn run_fresh<W: Write>(
     lines: Vec<Line>,
     out: &mut W,
 ) -> Result<(), Fault>
-    ensures { OnOk result (Appends (W.contents out.old) (W.contents out.new)
-        (output_of board.now (map said lines.items))) }
+    requires { All (λ line. IsSized (said line)) lines.items }
+    ensures { OnOk result (AreSplit board.now → StoresNothing (map said lines.items)
+        → Appends (W.contents out.old) (W.contents out.new) (output_of board.now (map said lines.items))) }
 {
-    let Ok(mut runner) = Runner::new(alloc, board) else {
+    let Ok(mut host) = Host::new(alloc, board) else {
         return Err(Fault::NoMemory);
     };
-    let ran = run_lines(alloc, &mut runner, lines, out);
+    let ran = run_lines(alloc, &mut host, lines, out);
     // The lines so far are printed also where the next one ended the run.
     let flushed = out.flush();
     match (ran, flushed) {
@@ -145,7 +176,7 @@ fn run_fresh<W: Write>(
 
 /// Performs a script. All its lines are read before one is performed.
 fn run<W: Write>(alloc: Global, board: &BoardConfig, script: &str, out: &mut W) -> Result<(), Fault>
-    ensures printed { OnOk result ((lines : List Said) → Says board.now script.now lines
+    ensures printed { OnOk result ((lines : List Said) → Says board.now script.now lines → AreSplit board.now → StoresNothing lines
         → Appends (W.contents out.old) (W.contents out.new) (output_of board.now lines)) }
     ensures bad { (n : ℕ) → IsBadAt board.now script.now n
         → IsErr result × Keeps (W.contents out.old) (W.contents out.new) }
@@ -166,8 +197,9 @@ pub fn perform<W: Write, E: Write>(
     err: &mut E,
 ) -> u8
     ensures status { (result ≡ 0) ⊎ (result ≡ 1) }
-    // A run that reached its end has printed the reply to each line, and nothing else.
-    ensures printed { result ≡ 0 → (lines : List Said) → Says board.now script.now lines
+    // A run that reached its end has printed the reply to each chain, and nothing else, where no line
+    // stored into guest memory.
+    ensures printed { result ≡ 0 → (lines : List Said) → Says board.now script.now lines → AreSplit board.now → StoresNothing lines
         → Appends (W.contents out.old) (W.contents out.new) (output_of board.now lines) }
     // Nothing is printed of a script with a bad line.
     ensures bad { (n : ℕ) → IsBadAt board.now script.now n

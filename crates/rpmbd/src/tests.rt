@@ -1,3 +1,4 @@
+mod devices;
 mod steps;
 
 use crate::perform::perform;
@@ -8,7 +9,7 @@ use std::alloc::Global;
 use std::io;
 use std::io::Write;
 use std::test::Fail;
-use steps::STEPS;
+use steps::{STEPS, Step};
 
 const RUN: Command<'static> = Command::Run {
     board: "",
@@ -42,17 +43,24 @@ fn board_of(alloc: Global, guests: usize) -> Result<BoardConfig, Fail> {
     Ok(board)
 }
 
+/// Puts a step's line behind a script, and the line of its reply behind what is wanted.
+fn add_step(alloc: Global, step: Step, script: &mut String, want: &mut String) -> Result<(), Fail> {
+    let (guest, request, writable, reply) = step;
+    let request = digits(alloc, request)?;
+    script.push_str(format!(in alloc; "chain {guest} {request} {writable}\n")?.as_str())?;
+    let reply = digits(alloc, reply)?;
+    let length = reply.len() / 2;
+    want.push_str(format!(in alloc; "used {guest} {length} {reply}\n")?.as_str())?;
+    Ok(())
+}
+
 #[test]
 fn answers_each_guest(rt: HostRuntime) -> Result<(), Fail> {
     let alloc = rt.alloc();
     let mut script = String::new(alloc);
     let mut want = String::new(alloc);
-    for (guest, request, writable, reply) in STEPS {
-        let request = digits(alloc, request)?;
-        script.push_str(format!(in alloc; "chain {guest} {request} {writable}\n")?.as_str())?;
-        let reply = digits(alloc, reply)?;
-        let length = reply.len() / 2;
-        want.push_str(format!(in alloc; "used {guest} {length} {reply}\n")?.as_str())?;
+    for step in STEPS {
+        add_step(alloc, step, &mut script, &mut want)?;
     }
     let board = board_of(alloc, 4)?;
     let mut out = Vec::new(alloc);

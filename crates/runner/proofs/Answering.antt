@@ -6,7 +6,8 @@ use Rattle.std.proofs.lemmas.Option.{slice_get_within}
 use Rattle.std.proofs.lemmas.Bool.Decides.{nat_tests}
 use Rattle.rpmb_frame.specs.Partition.{sequence}
 use Rattle.rpmb_core.proofs.Sequence.{after_refused, keyed_after, sequence_accepted}
-use Rattle.rpmb_book.specs.Job.{Job, Tally, done_of}
+use Rattle.mmio_transport.specs.Job.{Job, done_of}
+use Rattle.rpmb_book.specs.Job.{Tally}
 use Rattle.rpmb_book.specs.Guest.{GuestCore, GuestState, accepts, after, answer, collected, core_after, need, request_of, submitted, took}
 use Rattle.rpmb_book.specs.Turn.{settled_all, update}
 use Rattle.rpmb_book.specs.Book.{BookView, after_collect, are_taken, due_at, due_of, guest_of, is_share, refusal, state, submit_of, submits_in, taken_marks, with_turn}

@@ -4,7 +4,8 @@ use Rattle.std.specs.Prelude.{slice_get, nat_lt, is_some, if◌then◌else◌}
 use Rattle.std.proofs.lemmas.Bool.Decides.{nat_tests}
 use Rattle.std.proofs.lemmas.List.Sums.{sum_by_push}
 use Rattle.rpmb_book.specs.Guest.{GuestState, collected, first_entry, first_sequence, took}
-use Rattle.rpmb_book.specs.Job.{Done, Entry, Submission}
+use Rattle.mmio_transport.specs.Job.{Done}
+use Rattle.rpmb_book.specs.Job.{Entry, Submission}
 use Rattle.rpmb_book.specs.Turn.{Turn, Submit, Take, Settle, Collect, after_turn, is_submit, move_some, settled_all, update}
 use Rattle.rpmb_book.specs.Book.{BookView, after_collect, after_settle, after_take, are_taken, due_of, guest_of, is_share, next_entry, share_moved, state, submits_in, taken_marks, waiting_of, with_turn}
 use Rattle.rpmb_book.proofs.Replay.{replay-push}

@@ -1,9 +1,19 @@
--- The first bad line of a script.
-use Rattle.std.proofs.Common.{◌≡◌, ◌∙◌, ◌<◌, ◌+◌, ℕ, zero, suc, Bor, List, [], ◌∷◌, length, map, take, get_or, Some, None, refl, ap, arith, sym}
+-- Lines that say nothing, and the first bad line of a script.
+use Rattle.std.proofs.Common.{◌≡◌, ◌≢◌, ◌∙◌, ◌<◌, ◌+◌, ℕ, zero, suc, Bor, List, [], ◌∷◌, length, map, take, get_or, Some, None, refl, ap, arith, sym}
 use Rattle.std.proofs.lemmas.List.{length-map}
-use Rattle.script.specs.Line.{line_of, said}
+use Rattle.script.specs.Line.{line_of, line_of_words, said}
 use Rattle.script.specs.Script.{first_bad}
 use Rattle.script.specs.declared.line.Line.{Line}
+
+-- a line that says something has two words or four
+pub line_of_words-none : (g : ℕ) (words : List (Bor (List ℕ))) → length words ≢ 2 → length words ≢ 4
+    → line_of_words g (map (λ w. w.now) words) ≡ None
+line_of_words-none g [] two four = refl
+line_of_words-none g (a ∷ []) two four = refl
+line_of_words-none g (a ∷ b ∷ []) two four = absurd (two refl)
+line_of_words-none g (a ∷ b ∷ c ∷ []) two four = refl
+line_of_words-none g (a ∷ b ∷ c ∷ d ∷ []) two four = absurd (four refl)
+line_of_words-none g (a ∷ b ∷ c ∷ d ∷ e ∷ more) two four = refl
 
 -- the lines before it were read
 first_bad_at : (g : ℕ) (lines : List (List ℕ)) (k : ℕ) (d : List ℕ) (read : List Line)

@@ -1,19 +1,24 @@
 -- What a script's line says.
-use Rattle.std.specs.Prelude.{ℕ, ◌+◌, ◌<◌, ◌≤◌, ◌==◌, ◌||◌, nat_lt, nat_le, ⊤, Bool, if◌then◌else◌, List, [], ◌∷◌, length, slice_index, codes, Option, Some, None, option_and_then}
+use Rattle.std.specs.Prelude.{ℕ, ◌+◌, ◌<◌, ◌≤◌, ◌^◌, ◌==◌, ◌||◌, nat_lt, nat_le, ⊤, Bool, if◌then◌else◌, List, [], ◌∷◌, length, slice_index, codes, Option, Some, None, option_and_then, option_map}
 use Rattle.std.specs.Str.{bytes_eq}
 use Rattle.script.specs.Words.{bytes_of, number_of, words_of}
 use Rattle.script.specs.declared.line.Line.{Line}
 use Rattle.script.specs.declared.line.Line.TheVariants as line
 
--- what a line may say: nothing, or that a guest offers these readable bytes and so many writable
+-- what a line may say: nothing, that a guest offers these readable bytes and so many writable,
+-- that these bytes go into a guest's memory at an address, or that a guest's device is reset
 pub data Said : Type 0 where
   nothing : Said
   chain : ℕ → List ℕ → ℕ → Said
+  store : ℕ → ℕ → List ℕ → Said
+  reset : ℕ → Said
 
 -- what the code's line says
 abbrev pub said : Line → Said
 said line.Nothing = nothing
 said (line.Chain guest readable writable) = chain guest readable.items writable
+said (line.Store guest address bytes) = store guest address bytes.items
+said (line.Reset guest) = reset guest
 
 -- the number of a guest of the board
 abbrev pub guest_of : ℕ → List ℕ → Option ℕ
@@ -37,10 +42,29 @@ chain_line guests g hex w =
     option_and_then (λ guest. option_and_then (λ writable. option_and_then (λ readable.
     chain_of guest readable writable) (readable_of hex)) (writable_of w)) (guest_of guests g)
 
+-- the bytes of a store, at least one
+abbrev pub stored_of : List ℕ → Option (List ℕ)
+stored_of word =
+    option_and_then (λ bytes. if nat_lt 0 (length bytes) then Some bytes else None) (bytes_of word)
+
+-- the words G, ADDR and HEX after the word `store`
+abbrev pub store_line : ℕ → List ℕ → List ℕ → List ℕ → Option Said
+store_line guests g addr hex =
+    option_and_then (λ guest. option_and_then (λ address. option_map (λ bytes.
+    store guest address bytes) (stored_of hex)) (number_of addr)) (guest_of guests g)
+
+-- the word G after the word `reset`
+abbrev pub reset_line : ℕ → List ℕ → Option Said
+reset_line guests g = option_map (λ guest. reset guest) (guest_of guests g)
+
 -- a line in its words
 abbrev pub line_of_words : ℕ → List (List ℕ) → Option Said
-line_of_words guests (command ∷ g ∷ hex ∷ w ∷ []) =
-    if bytes_eq command (codes "chain") then chain_line guests g hex w else None
+line_of_words guests (command ∷ g ∷ []) =
+    if bytes_eq command (codes "reset") then reset_line guests g else None
+line_of_words guests (command ∷ g ∷ second ∷ third ∷ []) =
+    if bytes_eq command (codes "chain") then chain_line guests g second third
+    else if bytes_eq command (codes "store") then store_line guests g second third
+    else None
 line_of_words guests _ = None
 
 -- an empty line, or one that begins with `#`
@@ -51,8 +75,10 @@ is_skipped text = length text == 0 || slice_index text 0 == 35
 unfoldable pub line_of : ℕ → List ℕ → Option Said
 line_of guests text = if is_skipped text then Some nothing else line_of_words guests (words_of text)
 
--- what is said keeps to the board and to the sizes of a chain
+-- what is said keeps to the board, to the sizes of a chain and to those of a store
 abbrev pub IsWithin : ℕ → Said → Type 0
 IsWithin guests nothing = ⊤
 IsWithin guests (chain g bytes w) =
     (g < guests) × (length bytes ≤ 8704) × (w ≤ 8192) × (0 < length bytes + w)
+IsWithin guests (store g address bytes) = (g < guests) × (address < 2 ^ 64) × (0 < length bytes)
+IsWithin guests (reset g) = g < guests

@@ -1,7 +1,12 @@
-//! Scripts: what the guests of a board do, one request a line.
+//! Scripts: what the guests of a board do, one step a line.
 //!
-//! A line is empty, a comment (it begins with `#`), or `chain G HEX W`, in which guest G offers a
-//! chain of the bytes HEX and of W bytes for the reply. `docs/FORMATS.md` has the whole format.
+//! A line is empty, a comment (it begins with `#`), or one of these:
+//!
+//! - `chain G HEX W`: guest G offers a chain of the bytes HEX and of W bytes for the reply.
+//! - `store G ADDR HEX`: the bytes HEX go into the memory of guest G at the address ADDR.
+//! - `reset G`: the device of guest G is reset and negotiated with again.
+//!
+//! `docs/FORMATS.md` has the whole format.
 #![tactic(auto)]
 
 mod fault;

@@ -1,7 +1,7 @@
 //! One line of a script.
 ghost use Rattle.std.specs.Prelude.{◌≡◌, IfOk, Err, None, Ok, Some, map, option_map, true};
 ghost use Rattle.script.specs.Line.{IsWithin, chain_line, guest_of, is_skipped, line_of, line_of_words};
-ghost use Rattle.script.specs.Line.{readable_of, said, writable_of};
+ghost use Rattle.script.specs.Line.{readable_of, reset_line, said, store_line, stored_of, writable_of};
 
 use crate::fault::LineError;
 use crate::word::{first_words, read_bytes, read_number};
@@ -20,6 +20,20 @@ pub enum Line {
         readable: Vec<u8>,
         /// The length of the chain's writable part in bytes, at most 8,192.
         writable: u32,
+    },
+    /// Bytes go into the guest's memory.
+    Store {
+        /// The number of the guest.
+        guest: u16,
+        /// The address of the first byte in guest memory. It need not lie in the memory.
+        at: u64,
+        /// The bytes, at least one, in the order of their addresses.
+        bytes: Vec<u8>,
+    },
+    /// The guest's device is reset, and negotiated with again.
+    Reset {
+        /// The number of the guest.
+        guest: u16,
     },
 }
 
@@ -70,6 +84,7 @@ fn read_chain(
 ) -> Result<Line, LineError>
     ensures ok { IfOk result (λ line. chain_line guests guest.now hex.now writable.now
         ≡ Some (said line)) }
+    ensures within { IfOk result (λ line. IsWithin guests (said line)) }
     ensures bad { result ≡ Err LineError.BadScript
         → chain_line guests guest.now hex.now writable.now ≡ None }
 {
@@ -95,19 +110,81 @@ fn read_chain(
     }
 }
 
+fn read_stored(alloc: Global, word: &str) -> Result<Option<Vec<u8>>, AllocError>
+    ensures { IfOk result (λ read. option_map (λ bytes. bytes.items) read ≡ stored_of word.now) }
+{
+    let Some(bytes) = read_bytes(alloc, word)? else {
+        return Ok(None);
+    };
+    if bytes.is_empty() {
+        return Ok(None);
+    }
+    Ok(Some(bytes))
+}
+
+fn read_store(
+    alloc: Global,
+    guests: u16,
+    guest: &str,
+    at: &str,
+    hex: &str,
+) -> Result<Line, LineError>
+    ensures ok { IfOk result (λ line. store_line guests guest.now at.now hex.now
+        ≡ Some (said line)) }
+    ensures within { IfOk result (λ line. IsWithin guests (said line)) }
+    ensures bad { result ≡ Err LineError.BadScript
+        → store_line guests guest.now at.now hex.now ≡ None }
+{
+    let Some(guest) = read_guest(guest, guests) else {
+        return Err(LineError::BadScript);
+    };
+    let Some(at) = read_number(at) else {
+        return Err(LineError::BadScript);
+    };
+    match read_stored(alloc, hex) {
+        Ok(Some(bytes)) => Ok(Line::Store { guest, at, bytes }),
+        Ok(None) => Err(LineError::BadScript),
+        Err(_) => Err(LineError::NoMemory),
+    }
+}
+
+fn read_reset(guests: u16, guest: &str) -> Result<Line, LineError>
+    ensures ok { IfOk result (λ line. reset_line guests guest.now ≡ Some (said line)) }
+    ensures within { IfOk result (λ line. IsWithin guests (said line)) }
+    ensures bad { result ≡ Err LineError.BadScript → reset_line guests guest.now ≡ None }
+{
+    match read_guest(guest, guests) {
+        Some(guest) => Ok(Line::Reset { guest }),
+        None => Err(LineError::BadScript),
+    }
+}
+
 fn read_words(alloc: Global, words: &[&str], guests: u16) -> Result<Line, LineError>
     ensures ok { IfOk result (λ line. line_of_words guests (map (λ w. w.now) words.now)
         ≡ Some (said line)) }
+    ensures within { IfOk result (λ line. IsWithin guests (said line)) }
     ensures bad { result ≡ Err LineError.BadScript
         → line_of_words guests (map (λ w. w.now) words.now) ≡ None }
 {
-    let [command, guest, hex, writable] = words else {
-        return Err(LineError::BadScript);
-    };
-    if *command != "chain" {
-        return Err(LineError::BadScript);
+    match words {
+        [command, guest] => {
+            if *command == "reset" {
+                read_reset(guests, guest)
+            } else {
+                Err(LineError::BadScript)
+            }
+        }
+        [command, guest, second, third] => {
+            if *command == "chain" {
+                read_chain(alloc, guests, guest, second, third)
+            } else if *command == "store" {
+                read_store(alloc, guests, guest, second, third)
+            } else {
+                Err(LineError::BadScript)
+            }
+        }
+        _ => Err(LineError::BadScript),
     }
-    read_chain(alloc, guests, guest, hex, writable)
 }
 
 /// Whether the line is empty or a comment.
@@ -121,8 +198,9 @@ fn is_skipped(line: &str) -> bool
 ///
 /// # Errors
 ///
-/// `BadScript` where the line isn't empty, no comment and no `chain` line for one of the guests;
-/// `NoMemory` where memory is refused. An empty line or a comment takes no memory.
+/// `BadScript` where the line isn't empty, no comment and no `chain`, `store` or `reset` line for
+/// one of the guests; `NoMemory` where memory is refused. An empty line or a comment takes no
+/// memory.
 #[tactic(auto, unfolding(crate::specs::Line::line_of))]
 pub fn read_line(alloc: Global, line: &str, guests: u16) -> Result<Line, LineError>
     ensures ok { IfOk result (λ read. line_of guests line.now ≡ Some (said read)) }

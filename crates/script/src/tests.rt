@@ -33,6 +33,49 @@ fn reads_chains(rt: HostRuntime) -> Result<(), Fail> {
 }
 
 #[test]
+fn reads_stores(rt: HostRuntime) -> Result<(), Fail> {
+    let alloc = rt.alloc();
+    let zeros = "0".repeat(alloc, 5000)?;
+    let padded = format!(in alloc; "store {zeros}1 {zeros}18446744073709551615 00")?;
+    let longest = "5a".repeat(alloc, 20000)?;
+    let longest = format!(in alloc; "store 0 4096 {longest}")?;
+    for (text, guest, address, length, last) in [
+        ("store 0 0 07", 0, 0, 1, Some(7)),
+        ("store 1 4294967296 00ffAb", 1, 4294967296, 3, Some(0xab)),
+        (padded.as_str(), 1, 18446744073709551615, 1, Some(0)),
+        (longest.as_str(), 0, 4096, 20000, Some(0x5a)),
+    ] {
+        let Line::Store {
+            guest: found,
+            at,
+            bytes,
+        } = read_line(alloc, text, 2)?
+        else {
+            return Err("no store").map_err(Fail::from);
+        };
+        assert_eq!(rt; (found, at), (guest, address), "at {text}");
+        assert_eq!(rt;
+            (bytes.len(), bytes.last().copied()),
+            (length, last),
+            "at {text}"
+        );
+    }
+    Ok(())
+}
+
+#[test]
+fn reads_resets(rt: HostRuntime) -> Result<(), Fail> {
+    let alloc = rt.alloc();
+    for (text, guest) in [("reset 0", 0), ("reset 1", 1), ("reset 0001", 1)] {
+        let Line::Reset { guest: found } = read_line(alloc, text, 2)? else {
+            return Err("no reset").map_err(Fail::from);
+        };
+        assert_eq!(rt; found, guest, "at {text}");
+    }
+    Ok(())
+}
+
+#[test]
 fn refuses_lines(rt: HostRuntime) -> Result<(), Fail> {
     let alloc = rt.alloc();
     let long = "00".repeat(alloc, 8705)?;
@@ -64,8 +107,36 @@ fn refuses_lines(rt: HostRuntime) -> Result<(), Fail> {
         "\r",
         "chain 0 -",
         "CHAIN 0 - 1",
-        "store 0 0 00",
-        "reset 0",
+        "store 2 0 00",
+        "store 18446744073709551616 0 00",
+        "store 0 18446744073709551616 00",
+        "store 0 +0 00",
+        "store 0 -1 00",
+        "store 0 0x0 00",
+        "store 0 - 00",
+        "store 0 0 -",
+        "store 0 0 ",
+        "store 0 0 0",
+        "store 0 0 0g",
+        "store 0 0",
+        "store 0 0 00 1",
+        "store 0 0 00 ",
+        "store 0  0 00",
+        "STORE 0 0 00",
+        "store",
+        "reset 2",
+        "reset 18446744073709551616",
+        "reset +0",
+        "reset -",
+        "reset ",
+        "reset",
+        "reset 0 0",
+        "reset 0 ",
+        "reset 0 - 1",
+        "reset 0\r",
+        "RESET 0",
+        "chain 0",
+        "store 0",
         long.as_str(),
     ] {
         assert!(rt;
@@ -84,6 +155,7 @@ fn reads_scripts(rt: HostRuntime) -> Result<(), Fail> {
         ("chain 0 - 1", 1),
         ("chain 0 - 1\n", 2),
         ("# a comment\r\n\nchain 0 - 1\n", 4),
+        ("store 0 0 00\nreset 0\nchain 0 - 1", 3),
     ] {
         assert_eq!(rt;
             read_script(alloc, script, 1)?.len(),
@@ -96,6 +168,7 @@ fn reads_scripts(rt: HostRuntime) -> Result<(), Fail> {
         ("chain 0 - 1\r\nchain 0 - 1\r\n", 1),
         ("# a comment\n\nchain 0 - 1\nchain 1 - 1\nchain 0 - 0", 4),
         ("chain 0 - 1\n\rchain 0 - 1", 2),
+        ("store 0 0 00\nreset 0\nreset 1\nstore 0 0 -", 3),
     ] {
         let Err(ScriptError::BadScript { line }) = read_script(alloc, script, 1) else {
             return Err("read").map_err(Fail::from);

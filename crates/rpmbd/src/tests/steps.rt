@@ -141,3 +141,60 @@ pub const STEPS: [Step; 21] = [
         "00*196 2c8da25f140985519ceda4458f5f5c33e2591df9ab68a59b1e1f9f757fb10164 00*257 0102030405060708090a0b0c0d0e0f 00*7 0100000400",
     ),
 ];
+
+/// A key, a write and its result, of one guest in its first session.
+pub const BEFORE_RESET: [Step; 3] = [
+    // PROGRAM_KEY, with its result.
+    (
+        0,
+        "00*196 11*32 00*279 0100000001 00*511 05",
+        512,
+        "00*196 bff75fd505e63f82ebda9278dc612823f12d64799cf2b5a31af498ba900f45e7 00*279 0100000100",
+    ),
+    // A write without its result.
+    (
+        0,
+        "00*196 6a050c2a4d7d0df5aeb44091cd15b0092075a7f7dcf288adaa8557d442e3fd0e 5a*256 00*23 0100000003",
+        512,
+        "",
+    ),
+    // The result of that write.
+    (
+        0,
+        "00*511 05",
+        512,
+        "00*196 71b1cce72577266b7e62743a05b71115cc229dc92a849a4e2df048fd8b2cbf6c 00*275 010000000100000300",
+    ),
+];
+
+/// What the same guest is told in its next session.
+pub const AFTER_RESET: [Step; 3] = [
+    // The counter, which counted the write.
+    (
+        0,
+        "00*485 0102030405060708090a0b0c0d0e0f 00*7 0100000002",
+        512,
+        "00*196 d66a5625ab3fafed47a34766f709ed256c242f88e52dd8b81d8eb900fed58a98 00*257 0102030405060708090a0b0c0d0e0f 00000001 0000 0001 0000 0200",
+    ),
+    // No outcome is stored.
+    (
+        0,
+        "00*511 05",
+        512,
+        "00*196 b30b9ec74d892a3f5beba435ecf787d143ce23217bf4c19da953da97e91b35c1 00*272 000000000000000000010000",
+    ),
+    // The block that was written.
+    (
+        0,
+        "00*485 0102030405060708090a0b0c0d0e0f 00*7 0100000004",
+        512,
+        "00*196 e39afc26073b3b20b1d45fd29e8aff1342c29a5b9ed2f2984b97d4f62848ec82 5a*256 000102030405060708090a0b0c0d0e0f 00*7 0100000400",
+    ),
+];
+
+/// Requests that no frame makes, of two guests in turn.
+pub const MALFORMED: [Step; 3] = [
+    (0, "00*511", 512, "00*509 010000"),
+    (1, "", 512, "00*509 010000"),
+    (0, "", 16, ""),
+];

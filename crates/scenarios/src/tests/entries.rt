@@ -44,8 +44,6 @@ fn collects(rt: &impl Abort, scene: &mut Scene, guest: u16, need: u64, tail: [u8
     assert_eq!(rt; done.guest(), guest);
     assert_eq!(rt; done.session(), 1);
     assert_eq!(rt; done.id(), 5);
-    assert_eq!(rt; done.places(), 3);
-    assert_eq!(rt; done.writable(), 512);
     assert_eq!(rt; done.need(), need);
     assert_eq!(rt; tail_of(done.reply()), tail.as_slice());
 }

@@ -3,7 +3,8 @@
 use crate::tests::scene::{
     KEY, get_write_counter, job_of, nonce_of, program_key, scene_of, tail_of,
 };
-use rpmb_book::{Job, Refused};
+use mmio_transport::Job;
+use rpmb_book::Refused;
 use std::test::Fail;
 
 /// What a submitter offered a second time says of itself.

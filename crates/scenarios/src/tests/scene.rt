@@ -1,7 +1,9 @@
 //! A book on fresh partitions of 512 blocks, and the requests that scenes make.
 
+use chains::Range;
 use hmac256::mac_of;
-use rpmb_book::{Book, Job, Receipt, Refused, Shares, Tally};
+use mmio_transport::Job;
+use rpmb_book::{Book, Receipt, Refused, Shares, Tally};
 use rpmb_frame::{BoardConfig, Frame, GuestConfig, RingKind};
 use runner::fresh_partitions;
 use std::alloc::Global;
@@ -76,7 +78,10 @@ impl Scene {
 /// A job of these frames with room for one frame, whose id is 5 and which has 3 places.
 pub fn job_of(alloc: Global, guest: u16, session: u64, frames: &[[u8; 512]]) -> Result<Job, Fail> {
     let request = frames.as_flattened().to_vec(alloc)?;
-    Ok(Job::of(guest, session, 5, 3, 512, request))
+    let writable = Vec::from_slice(alloc, &[Range { at: 0, len: 512 }])?;
+    Ok(Job::of(
+        alloc, guest, session, 5, 3, writable, request,
+    ))
 }
 
 /// The frame that asks for the result.

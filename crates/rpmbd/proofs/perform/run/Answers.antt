@@ -3,7 +3,7 @@ use Rattle.std.proofs.lemmas.Result.{on_ok_weaker}
 use Rattle.std.specs.Io.KnownBytes.{Appends}
 use Rattle.script.specs.Line.{Said}
 use Rattle.script.specs.Script.{lines_of}
-use Rattle.rpmbd.specs.Transcript.{output_of}
+use Rattle.rpmbd.specs.Transcript.{StoresNothing, output_of}
 use Rattle.rpmbd.proofs.Printing.{none_bad, not_bad, says_same}
 use Rattle.rpmbd.proofs.perform.run.Goals as goal
 
@@ -11,8 +11,8 @@ pub returns-in-Ok-clause-printed : goal.returns-in-Ok-clause-printed
 returns-in-Ok-clause-printed g c =
     let start = g.W.Write.contents c.args.out.now in
     let end = g.W.Write.contents c.run_fresh.new.out in
-    on_ok_weaker c.run_fresh.result (λ done lines is.
-    subst (λ (x : List Said). Appends start end (output_of c.args.board.now x)) (sym (says_same lines c.in-Ok.lines.items _ is c.in-Ok.ensures.ok)) done) c.run_fresh.ensures
+    on_ok_weaker c.run_fresh.result (λ done lines is split.
+    subst (λ (x : List Said). StoresNothing x → Appends start end (output_of c.args.board.now x)) (sym (says_same lines c.in-Ok.lines.items _ is c.in-Ok.ensures.ok)) (done split)) c.run_fresh.ensures
 
 pub returns-in-Ok-clause-bad : goal.returns-in-Ok-clause-bad
 returns-in-Ok-clause-bad g c n bad =

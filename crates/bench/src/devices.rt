@@ -1,0 +1,172 @@
+//! Whole requests of one guest, from the offer to the reap.
+ghost use Rattle.std.specs.Prelude.{◌<◌, ◌≤◌};
+
+use crate::requests::{KEY, write};
+use anyhow::{Result, bail};
+use guest_driver::Driver;
+use mmio_transport::{Device, Published};
+use rpmb_frame::{
+    BoardConfig, DATA_READ, Frame, GET_WRITE_COUNTER, GuestConfig, PROGRAM_KEY, RESULT_READ,
+};
+use runner::Runner;
+use std::alloc::Global;
+
+/// The bytes of the longest request.
+const LONGEST: usize = 8704;
+
+/// What is asked for.
+#[derive(Clone, Copy)]
+pub enum Kind {
+    /// The write counter.
+    Counter,
+    /// A write of one block, with its result.
+    Write,
+    /// A read of 16 blocks.
+    Read,
+}
+
+impl Kind {
+    pub fn name(self) -> &'static str {
+        match self {
+            Kind::Counter => "counter",
+            Kind::Write => "write of 1 block",
+            Kind::Read => "read of 16 blocks",
+        }
+    }
+
+    /// The bytes of its reply.
+    fn writable(self) -> u32
+        ensures some { 0 < result }
+        ensures most { result ≤ 8192 }
+    {
+        match self {
+            Kind::Counter | Kind::Write => 512,
+            Kind::Read => 8192,
+        }
+    }
+
+    /// Where a good reply to it ends: the result 0x0000 and its type.
+    fn end(self) -> [u8; 4] {
+        match self {
+            Kind::Counter => [0, 0, 2, 0],
+            Kind::Write => [0, 0, 3, 0],
+            Kind::Read => [0, 0, 4, 0],
+        }
+    }
+
+    /// How many MACs it needs: a write is tested and its reply sealed.
+    pub fn macs(self) -> u32 {
+        match self {
+            Kind::Counter | Kind::Read => 1,
+            Kind::Write => 2,
+        }
+    }
+
+    /// A request under a write counter.
+    fn request(self, alloc: Global, counter: u32) -> Result<Vec<u8>> {
+        let frame = match self {
+            Kind::Counter => Frame::zeros()
+                .with_block_count(1)
+                .with_req_resp(GET_WRITE_COUNTER),
+            Kind::Write => return write(alloc, counter),
+            Kind::Read => Frame::zeros().with_block_count(16).with_req_resp(DATA_READ),
+        };
+        Ok(Vec::from_slice(alloc, frame.to_bytes().as_slice())?)
+    }
+}
+
+/// A guest with its driver and device, and the book that answers it.
+#[derive(Drop)]
+pub struct Guest {
+    device: Device,
+    driver: Driver,
+    runner: Runner,
+}
+
+/// A guest whose device is in service, with its key.
+pub fn new_guest(alloc: Global, config: &GuestConfig) -> Result<Guest> {
+    let board = BoardConfig::new(vec![in alloc; *config; 1]?)?;
+    let (Ok(mut device), Ok(mut driver)) = (
+        Device::new(alloc, 0, config),
+        Driver::new(alloc, config),
+    ) else {
+        bail!("no device");
+    };
+    if !driver.negotiate(&mut device) {
+        bail!("no queue");
+    }
+    let runner = Runner::new(alloc, &board)?;
+    let mut guest = Guest {
+        device,
+        driver,
+        runner,
+    };
+    let key = Frame::zeros()
+        .with_key_mac(&KEY)
+        .with_block_count(1)
+        .with_req_resp(PROGRAM_KEY);
+    let mut request = Vec::from_slice(alloc, key.to_bytes().as_slice())?;
+    let closing = Frame::zeros().with_req_resp(RESULT_READ);
+    request.extend_from_slice(closing.to_bytes().as_slice())?;
+    let reply = guest.reply(alloc, request.as_slice(), 512)?;
+    if !reply.ends_with(&[0, 0, 1, 0]) {
+        bail!("no key");
+    }
+    Ok(guest)
+}
+
+impl Guest {
+    /// Takes a request from its offer to its reap.
+    fn reply(&mut self, alloc: Global, request: &[u8], writable: u32) -> Result<Vec<u8>>
+        requires some { 0 < writable }
+        requires most { writable ≤ 8192 }
+    {
+        if request.len() > LONGEST {
+            bail!("too long a request");
+        }
+        if self
+            .driver
+            .offer(&mut self.device, request, writable)
+            .is_err()
+        {
+            bail!("no room for the chain");
+        }
+        let Ok(Some(job)) = self.device.pop() else {
+            bail!("no chain");
+        };
+        let done = self.runner.answer(alloc, job)?;
+        match self.device.publish(done) {
+            Published::Wrote { .. } => {}
+            Published::Dropped => bail!("no outstanding chain"),
+        }
+        match self.driver.reap(&self.device) {
+            Ok(Some(reaped)) => Ok(reaped.bytes),
+            _ => bail!("nothing came back"),
+        }
+    }
+}
+
+/// So many requests of a kind, each of them under the counter that it finds.
+pub fn requests_of(alloc: Global, kind: Kind, count: u32) -> Result<Vec<Vec<u8>>> {
+    let mut requests = Vec::new(alloc);
+    for counter in 0..count {
+        requests.push(kind.request(alloc, counter)?)?;
+    }
+    Ok(requests)
+}
+
+/// Takes each request to its reap; the answer is the first bytes of the replies' MACs, mixed.
+pub fn whole(alloc: Global, guest: &mut Guest, kind: Kind, requests: &[Vec<u8>]) -> Result<u32> {
+    let mut all = 0u32;
+    for request in requests {
+        let reply = guest.reply(alloc, request.as_slice(), kind.writable())?;
+        if !reply.ends_with(&kind.end()) {
+            bail!("a refusal");
+        }
+        // The MAC stands 316 bytes before the end of the last frame.
+        let at = reply.len().saturating_sub(316);
+        let first = reply.get(at).copied().unwrap_or(0);
+        all = all.wrapping_mul(31).wrapping_add(u32::from(first));
+    }
+    Ok(all)
+}

@@ -1,0 +1,118 @@
+//! Lines that go past the book: a guest's own stores into its memory, and resets of its device.
+
+use super::steps::{AFTER_RESET, BEFORE_RESET, MALFORMED};
+use super::{RUN, add_step, board_of, digits};
+use crate::perform::perform;
+use std::test::Fail;
+
+#[test]
+fn stores_inside_the_memory_alone(rt: HostRuntime) -> Result<(), Fail> {
+    let alloc = rt.alloc();
+    let board = board_of(alloc, 1)?;
+    // The memory has 1,048,576 bytes. The line stands between two chains, and where it is refused,
+    // what came before it is printed.
+    for (line, status, printed, fault) in [
+        ("store 0 1048575 00", 0, "used 0 0 -\nused 0 0 -\n", ""),
+        (
+            "store 0 1048576 00",
+            1,
+            "used 0 0 -\n",
+            "rpmbd: 1 OutOfRange\n",
+        ),
+        (
+            "store 0 1048575 0000",
+            1,
+            "used 0 0 -\n",
+            "rpmbd: 1 OutOfRange\n",
+        ),
+        (
+            "store 0 18446744073709551615 00",
+            1,
+            "used 0 0 -\n",
+            "rpmbd: 1 OutOfRange\n",
+        ),
+    ] {
+        let script = format!(in alloc; "chain 0 - 16\n{line}\nchain 0 - 16\n")?;
+        let mut out = Vec::new(alloc);
+        let mut err = Vec::new(alloc);
+        let found = perform(alloc, RUN, &board, script.as_str(), &mut out, &mut err);
+        assert_eq!(rt; found, status, "at {line}");
+        assert_eq!(rt; out.as_slice(), printed.as_bytes(), "at {line}");
+        assert_eq!(rt; err.as_slice(), fault.as_bytes(), "at {line}");
+    }
+    Ok(())
+}
+
+#[test]
+fn a_reset_forgets_the_outcome_alone(rt: HostRuntime) -> Result<(), Fail> {
+    let alloc = rt.alloc();
+    let board = board_of(alloc, 1)?;
+    let mut script = String::new(alloc);
+    let mut want = String::new(alloc);
+    for step in BEFORE_RESET {
+        add_step(alloc, step, &mut script, &mut want)?;
+    }
+    script.push_str("reset 0\n")?;
+    for step in AFTER_RESET {
+        add_step(alloc, step, &mut script, &mut want)?;
+    }
+    let mut out = Vec::new(alloc);
+    let mut err = Vec::new(alloc);
+    let status = perform(alloc, RUN, &board, script.as_str(), &mut out, &mut err);
+    assert_eq!(rt; status, 0);
+    assert_eq!(rt; out.as_slice(), want.as_bytes());
+    assert!(rt; err.is_empty());
+    Ok(())
+}
+
+// With 16 places the descriptors stand at 0, the available ring at 256 (its index at 258, its entries
+// from 260), and the used ring at 304 (its index at 306, its elements from 308).
+//
+// No script prints `needs-reset`, `no-answer` or `bad-used`: a store stands between two chains, never
+// between an offer and its pop or between a publication and its reap. An offer writes the descriptors,
+// the entry and the index that the pop reads, all of their bytes. A publication writes the element and
+// the index that the reap reads, and the reply's bytes. Both count in their own memory, not in the
+// guest's. So what a store spoiled is written anew before it is read.
+#[test]
+fn stores_into_the_rings_are_written_over(rt: HostRuntime) -> Result<(), Fail> {
+    let alloc = rt.alloc();
+    let board = board_of(alloc, 2)?;
+    let mut script = String::new(alloc);
+    let mut want = String::new(alloc);
+    for (at, bytes) in [
+        // Descriptors that lead to themselves, outside memory, and to a table.
+        (0, "00*8 00020000 0100 0000"),
+        (0, "ff*256"),
+        (8, "10*4 0400"),
+        // The available ring: flags, an index that jumps, heads outside, used_event, and all of it.
+        (256, "0100"),
+        (258, "0900"),
+        (258, "0080"),
+        (260, "ff*32"),
+        (292, "0500"),
+        (256, "ff*38"),
+        // The used ring: an index ahead, one behind, elements of no chain, one too long, avail_event.
+        (306, "0900"),
+        (306, "ffff"),
+        (308, "07000000 00020000"),
+        (308, "00000000 ff*4"),
+        (436, "0500"),
+        (304, "ff*134"),
+        // And everything before the buffers.
+        (0, "ff*960"),
+        (0, "00*960"),
+    ] {
+        let bytes = digits(alloc, bytes)?;
+        script.push_str(format!(in alloc; "store 0 {at} {bytes}\n")?.as_str())?;
+        for step in MALFORMED {
+            add_step(alloc, step, &mut script, &mut want)?;
+        }
+    }
+    let mut out = Vec::new(alloc);
+    let mut err = Vec::new(alloc);
+    let status = perform(alloc, RUN, &board, script.as_str(), &mut out, &mut err);
+    assert_eq!(rt; status, 0);
+    assert!(rt; out.as_slice() == want.as_bytes());
+    assert!(rt; err.is_empty());
+    Ok(())
+}

@@ -1,0 +1,67 @@
+-- Guests whose devices are in service, and what a chain of theirs comes to.
+use Rattle.std.specs.Prelude.{◌≡◌, ℕ, ◌+◌, ◌<◌, ◌≤◌, ◌==◌, if◌then◌else◌, List, [], ◌∷◌, None, Result, Ok, Err}
+use Rattle.chains.specs.declared.range.Range.{Range}
+use Rattle.rpmb_frame.specs.declared.config.RingKind.TheVariants.{Split}
+use Rattle.rpmb_frame.specs.Config.{IsGuest}
+use Rattle.mmio_transport.specs.Device.{last_count}
+use Rattle.mmio_transport.specs.Job.{Job}
+use Rattle.guest_driver.specs.OnDevice.{IsServed}
+use Rattle.runner.specs.Guest.{GuestView}
+use Rattle.runner.specs.Runner.{RunnerView, cores_after, reply_of}
+use Rattle.runner.specs.declared.fault.HostFault.{HostFault}
+use Rattle.runner.specs.declared.guest.Answer.{Answer}
+use Rattle.runner.specs.declared.guest.Answer.TheVariants.{Used, Stuck}
+
+-- a guest in this session, with this number, whose device is in service with nothing offered; none of
+-- its device's counts has grown by more than so many steps
+pub record IsReady (number session steps : ℕ) (g : GuestView) : Type 0 where
+  pub served : IsServed g.device g.driver [] [] []
+  pub named : g.device.guest ≡ number
+  pub current : g.device.session ≡ session
+  pub free : g.stuck ≡ None
+  pub guest : IsGuest g.device.config
+  pub split : g.device.config.ring ≡ Split
+  pub size : g.driver.size ≡ g.device.config.queue
+  pub event_idx : g.driver.event_idx ≡ g.device.config.event_idx
+  pub sessions : g.device.session ≤ steps + 1
+  pub readiness : g.device.readiness ≤ steps + 1
+  pub pops : g.device.pops ≤ steps
+
+-- the range for a reply of so many bytes
+abbrev pub reply_ranges : ℕ → List Range
+reply_ranges writable = if writable == 0 then [] else record { at = 0; len = writable } ∷ []
+
+-- The job of a chain that a guest offers in a session. The reply to it depends on nothing else: not
+-- on its place in the ring, nor on where its buffers stand.
+unfoldable pub job_of : ℕ → ℕ → List ℕ → ℕ → Job
+job_of number session readable writable = record {
+  guest = number;
+  session = session;
+  readiness = 0;
+  number = 0;
+  id = 0;
+  places = 1;
+  readable = [];
+  writable = reply_ranges writable;
+  request = readable;
+}
+
+-- the chain came back with these bytes
+abbrev pub IsUsedWith : List ℕ → Answer → Type 0
+IsUsedWith reply (Used bytes) = bytes.items ≡ reply
+IsUsedWith reply (Stuck reason) = ⊥
+
+-- it came back with the reply to its request, and the guest is ready again
+pub record ComesBack (number session steps : ℕ) (r : RunnerView) (readable : List ℕ) (writable : ℕ) (answer : Answer) (g' : GuestView) (r' : RunnerView) : Type 0 where
+  pub used : IsUsedWith (reply_of r.cores (job_of number session readable writable)) answer
+  pub ready : IsReady number session (steps + 1) g'
+  pub cores : r'.cores ≡ cores_after r.cores (job_of number session readable writable)
+
+abbrev pub AnswersTo : ℕ → ℕ → ℕ → RunnerView → List ℕ → ℕ → Result Answer HostFault → GuestView → RunnerView → Type 0
+AnswersTo number session steps r readable writable (Ok answer) g' r' = ComesBack number session steps r readable writable answer g' r'
+AnswersTo number session steps r readable writable (Err fault) g' r' = Unit {0}
+
+-- what a chain of a guest comes to, where the guest is ready
+abbrev pub Answers : GuestView → RunnerView → List ℕ → ℕ → Result Answer HostFault → GuestView → RunnerView → Type 0
+Answers g r readable writable answer g' r' = (number session steps : ℕ) → steps + 2 < last_count → IsReady number session steps g
+    → AnswersTo number session steps r readable writable answer g' r'
