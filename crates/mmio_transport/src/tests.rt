@@ -138,7 +138,10 @@ fn fingerprint(device: &Device) -> Result<u64, Fail> {
     let mut sum: u64 = 0;
     let mut block = [0; 64];
     for i in 0..SIZE / 64 {
-        device.load(64 * i, &mut block).ok().ok_or("a load outside")?;
+        device
+            .load(64 * i, &mut block)
+            .ok()
+            .ok_or("a load outside")?;
         for byte in block {
             sum = (sum.wrapping_mul(31)).wrapping_add(byte as u64);
         }

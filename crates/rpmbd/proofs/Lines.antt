@@ -23,11 +23,11 @@ pub used_runs : (h h' : HostView) (guest : ℕ) (readable : List ℕ) (writable 
     → Runs h (chain guest readable writable) start now h'
 used_runs h h' guest readable writable (Used bytes) reply start now answers same printed =
     λ steps t few at.
-      let b = answers steps t.sessions few at.ready in
-      record {
-        printed = subst (λ x. Appends start now (used_line guest x)) (same ∙ b.used ∙ ap (λ c. reply_of c (job_of guest (get_or t.sessions guest 0) readable writable)) at.cores) printed;
-        after = record { cores = b.cores ∙ ap (λ c. cores_after c (job_of guest (get_or t.sessions guest 0) readable writable)) at.cores; ready = b.ready };
-      }
+    let b = answers steps t.sessions few at.ready in
+    record {
+      printed = subst (λ x. Appends start now (used_line guest x)) (same ∙ b.used ∙ ap (λ c. reply_of c (job_of guest (get_or t.sessions guest 0) readable writable)) at.cores) printed;
+      after = record { cores = b.cores ∙ ap (λ c. cores_after c (job_of guest (get_or t.sessions guest 0) readable writable)) at.cores; ready = b.ready };
+    }
 used_runs h h' guest readable writable (Stuck reason) reply start now answers same printed = absurd same
 
 pub stuck_runs : (h h' : HostView) (guest : ℕ) (readable : List ℕ) (writable : ℕ) (reason : Reason) (start now : Option (List ℕ))

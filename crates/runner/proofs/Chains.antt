@@ -50,10 +50,10 @@ room_of_ranges : (writable : ℕ) → room_in (reply_ranges writable) ≡ writab
 room_of_ranges writable =
     let r : Range = record { at = 0; len = writable } in
     let both : (b : Bool) → (writable == 0) ≡ b → room_in (if b then [] else r ∷ []) ≡ writable =
-      λ b. elim b as (λ (x : Bool). (writable == 0) ≡ x → room_in (if x then [] else r ∷ []) ≡ writable) [
-        | true ↦ λ is. sym (eqb-true writable 0 is)
-        | false ↦ λ is. omega arith
-      ] in
+    λ b. elim b as (λ (x : Bool). (writable == 0) ≡ x → room_in (if x then [] else r ∷ []) ≡ writable) [
+      | true ↦ λ is. sym (eqb-true writable 0 is)
+      | false ↦ λ is. omega arith
+    ] in
     both (writable == 0) refl
 
 -- the job that was popped is answered as that of the guest and the session

@@ -56,9 +56,17 @@ later number session steps g ready =
     let readiness = ready.readiness in
     let pops = ready.pops in
     record {
-      served = ready.served; named = ready.named; current = ready.current; free = ready.free; guest = ready.guest; split = ready.split;
-      size = ready.size; event_idx = ready.event_idx;
-      sessions = omega (arith, sessions); readiness = omega (arith, readiness); pops = omega (arith, pops);
+      served = ready.served;
+      named = ready.named;
+      current = ready.current;
+      free = ready.free;
+      guest = ready.guest;
+      split = ready.split;
+      size = ready.size;
+      event_idx = ready.event_idx;
+      sessions = omega (arith, sessions);
+      readiness = omega (arith, readiness);
+      pops = omega (arith, pops);
     }
 
 -- one guest made a step, in the session that it has then
@@ -71,7 +79,7 @@ ready_after steps n session sessions guests g inside are ready =
       each = λ k y there. elim (set_get guests n k g y there) [
         | inl p ↦ subst (λ x. IsReady k (get_or (set sessions n session) k 0) (steps + 1) x) (sym p.1)
             (subst (λ i. IsReady i (get_or (set sessions n session) i 0) (steps + 1) g) (sym p.0)
-              (subst (λ s. IsReady n s (steps + 1) g) (sym (get_or_same sessions n session 0 (omega (arith, inside, count)))) ready))
+            (subst (λ s. IsReady n s (steps + 1) g) (sym (get_or_same sessions n session 0 (omega (arith, inside, count)))) ready))
         | inr p ↦ subst (λ s. IsReady k s (steps + 1) y) (sym (get_or_other sessions n k session 0 p.0)) (later k (get_or sessions k 0) steps y (are.each k y p.1))
       ];
     }
@@ -116,9 +124,11 @@ ready_again number session steps g few ready =
     let room = ready.served.offered.offers.inside in
     let grown : d.session ≡ g.device.session + 1 = one_more g.device.session (omega (arith, sessions, few)) in
     let found : IsFound config d = record {
-      guest = ready.guest; split = ready.split;
+      guest = ready.guest;
+      split = ready.split;
       memory = subst (λ q. needed q ≤ length g.device.memory) ready.size room;
-      registers = refl; none = refl;
+      registers = refl;
+      none = refl;
     } in
     let again = begun number (session + 1) (steps + 1) g.places d config found refl ready.named (grown ∙ ap (λ s. s + 1) old) (omega (arith, grown, sessions)) readiness (omega (arith, readiness, few)) (omega (arith, pops)) in
     let at : ℕ → Bool → Type 0 = λ q e. IsReady number (session + 1) (steps + 1) (record { device = negotiated d q e; driver = first_driver q e; places = g.places; stuck = None }) in
@@ -139,13 +149,13 @@ pub chain_of : (h : HostView) (guest : ℕ) (g g' : GuestView) (r' : RunnerView)
     → HostAnswers h guest readable writable answer (record { runner = r'; guests = set h.guests guest g' })
 chain_of h guest g g' r' readable writable (Ok answer) inside there answers =
     λ steps sessions few are.
-      let session = get_or sessions guest 0 in
-      let back = answers guest session steps few (are.each guest g there) in
-      record {
-        used = back.used;
-        ready = subst (λ s. AreReady (steps + 1) s (set h.guests guest g')) (set-get_or sessions guest 0) (ready_after steps guest session sessions h.guests g' inside are back.ready);
-        cores = back.cores;
-      }
+    let session = get_or sessions guest 0 in
+    let back = answers guest session steps few (are.each guest g there) in
+    record {
+      used = back.used;
+      ready = subst (λ s. AreReady (steps + 1) s (set h.guests guest g')) (set-get_or sessions guest 0) (ready_after steps guest session sessions h.guests g' inside are back.ready);
+      cores = back.cores;
+    }
 chain_of h guest g g' r' readable writable (Err fault) inside there answers = tt
 
 -- a reset of one guest, where all are ready
@@ -188,13 +198,13 @@ ready_all board is split =
     record {
       count = length_first 0 board ∙ sym count;
       each = λ n g there.
-        let t = first_there 0 n board g there in
-        let config = t.0 in
-        let inside = slice_get_within board n config t.1 in
-        let at : get_or board n config ≡ config = get_or_from_slice_get board n config config t.1 in
-        let guest = subst IsGuest at (is.each n config inside) in
-        let ring = subst (λ (x : GuestConfig). x.ring ≡ Split) at (split n config inside) in
-        subst (λ x. IsReady n (get_or (replicate (length board) 1) n 0) 0 x) (sym (t.2 ∙ ap (λ x. first_guest x config) (omega arith)))
+          let t = first_there 0 n board g there in
+          let config = t.0 in
+          let inside = slice_get_within board n config t.1 in
+          let at : get_or board n config ≡ config = get_or_from_slice_get board n config config t.1 in
+          let guest = subst IsGuest at (is.each n config inside) in
+          let ring = subst (λ (x : GuestConfig). x.ring ≡ Split) at (split n config inside) in
+          subst (λ x. IsReady n (get_or (replicate (length board) 1) n 0) 0 x) (sym (t.2 ∙ ap (λ x. first_guest x config) (omega arith)))
           (subst (λ s. IsReady n s 0 (first_guest n config)) (sym (get_or-replicate (length board) n 1 0 inside)) (ready_first n config guest ring));
     }
 

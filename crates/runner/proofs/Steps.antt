@@ -48,7 +48,7 @@ not_at_its_end d d' counting end =
     let pops = counting.pops in
     elim end.count [
       | inl is ↦ omega (arith, session, is)
-      | inr rest ↦ elim rest [ | inl is ↦ omega (arith, readiness, is) | inr is ↦ omega (arith, pops, is) ]
+      | inr rest ↦ elim rest [ inl is ↦ omega (arith, readiness, is) | inr is ↦ omega (arith, pops, is) ]
     ]
 
 pub reset_steps : (d d' : DeviceState) (r : RunnerView) → GivesJob d (Err NeedsReset) d' → ServesOne d r (Ok step.Stopped) d' r
@@ -62,10 +62,10 @@ pub room_of_chain : (size : ℕ) (c : Offer) → room_in (found_of size c).buffe
 room_of_chain size c =
     let r : Range = record { at = writable_at size c.head; len = c.writable } in
     let both : (b : Bool) → (c.writable == 0) ≡ b → room_in (if b then [] else r ∷ []) ≡ c.writable =
-      λ b. elim b as (λ (x : Bool). (c.writable == 0) ≡ x → room_in (if x then [] else r ∷ []) ≡ c.writable) [
-        | true ↦ λ is. sym (eqb-true c.writable 0 is)
-        | false ↦ λ is. omega arith
-      ] in
+    λ b. elim b as (λ (x : Bool). (c.writable == 0) ≡ x → room_in (if x then [] else r ∷ []) ≡ c.writable) [
+      | true ↦ λ is. sym (eqb-true c.writable 0 is)
+      | false ↦ λ is. omega arith
+    ] in
     both (c.writable == 0) refl
 
 -- the reply to a popped chain's job
@@ -87,8 +87,15 @@ reply_to d d1 size c job done reply need is same answers fits =
 same_job : (d : DeviceState) (size : ℕ) (c : Offer) (job : Job) → IsJobOf d size c job → job ≡ job_of d size c
 same_job d size c job is =
     let m = λ (g s rd n : ℕ) (f : Found) (q : List ℕ). (let j : Job = record {
-      guest = g; session = s; readiness = rd; number = n; id = f.id; places = f.places;
-      readable = f.buffers.readable; writable = f.buffers.writable; request = q;
+      guest = g;
+      session = s;
+      readiness = rd;
+      number = n;
+      id = f.id;
+      places = f.places;
+      readable = f.buffers.readable;
+      writable = f.buffers.writable;
+      request = q;
     } in j) in
     ap (λ x. m x job.session job.readiness job.number (found_by job) job.request) is.guest
     ∙ ap (λ x. m d.guest x job.readiness job.number (found_by job) job.request) is.session
@@ -143,7 +150,10 @@ still_counting d d' same pops counting =
 
 same_twice : (a b c : DeviceState) → IsSameSession a b → IsSameSession b c → IsSameSession a c
 same_twice a b c p q = record {
-  guest = q.guest ∙ p.guest; config = q.config ∙ p.config; session = q.session ∙ p.session; readiness = q.readiness ∙ p.readiness;
+  guest = q.guest ∙ p.guest;
+  config = q.config ∙ p.config;
+  session = q.session ∙ p.session;
+  readiness = q.readiness ∙ p.readiness;
 }
 
 pub quiet_more : (a d d' : DeviceState) (p r r' : RunnerView) → Drains a p (Ok false) d r → ServesOne d r (Ok step.Nothing) d' r' → Drains a p (Ok false) d' r'

@@ -1,8 +1,10 @@
 // The accesses that Linux's virtio_mmio.c and virtio.c make, in their order, from knowledge of that
 // driver: probe, negotiation, set up of queue 0, a request, an interrupt, and removal.
-use super::{AVAIL_IDX, DEVICE_AREA, DRIVER_AREA, USED_RING, check, answer, fresh_device, load12, offer, pop, store};
-use super::{DEVICE_FEATURES_SEL, DRIVER_FEATURES, DRIVER_FEATURES_SEL, INTERRUPT_ACK, INTERRUPT_STATUS};
-use super::{QUEUE_NOTIFY, QUEUE_NUM, QUEUE_READY, QUEUE_SEL, STATUS};
+use super::{
+    AVAIL_IDX, DEVICE_AREA, DEVICE_FEATURES_SEL, DRIVER_AREA, DRIVER_FEATURES, DRIVER_FEATURES_SEL,
+    INTERRUPT_ACK, INTERRUPT_STATUS, QUEUE_NOTIFY, QUEUE_NUM, QUEUE_READY, QUEUE_SEL, STATUS,
+    USED_RING, answer, check, fresh_device, load12, offer, pop, store,
+};
 use crate::{Device, Kick, Published};
 use std::alloc::Global;
 use std::test::Fail;
@@ -73,12 +75,21 @@ fn serve(alloc: Global, device: &mut Device) -> Result<(), Fail> {
     check(device.write(QUEUE_NOTIFY, 4, 0) == Kick::Notify, "a kick")?;
     let job = pop(device)?;
     let done = answer(alloc, job, &[], 0)?;
-    check(device.publish(done) == Published::Wrote { notify: true }, "published")?;
+    check(
+        device.publish(done) == Published::Wrote { notify: true },
+        "published",
+    )?;
     let pending = device.read(INTERRUPT_STATUS, 4);
-    check(pending == 1 && device.interrupt_status() == 1, "an interrupt")?;
+    check(
+        pending == 1 && device.interrupt_status() == 1,
+        "an interrupt",
+    )?;
     device.write(INTERRUPT_ACK, 4, pending);
     check(device.read(INTERRUPT_STATUS, 4) == 0, "acknowledged")?;
-    check(load12(device, USED_RING)? == [0, 0, 1, 0, 1, 0, 0, 0, 0, 0, 0, 0], "used")
+    check(
+        load12(device, USED_RING)? == [0, 0, 1, 0, 1, 0, 0, 0, 0, 0, 0, 0],
+        "used",
+    )
 }
 
 #[test]
@@ -88,7 +99,10 @@ fn as_linux_does(rt: HostRuntime) -> Result<(), Fail> {
     begin(&mut device);
     check(device.read(STATUS, 4) == 3, "acknowledged, with a driver")?;
     let features = device_features(&mut device);
-    check(features == VIRTIO_F_VERSION_1 | VIRTIO_RING_F_EVENT_IDX, "features")?;
+    check(
+        features == VIRTIO_F_VERSION_1 | VIRTIO_RING_F_EVENT_IDX,
+        "features",
+    )?;
     check(accept(&mut device, features), "FEATURES_OK")?;
     // virtio_cread of the three bytes, between two reads of ConfigGeneration.
     check(device.read(0x0fc, 4) == 0, "ConfigGeneration")?;

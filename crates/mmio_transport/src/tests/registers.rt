@@ -1,7 +1,9 @@
 // The register table of VIRTIO 1.2, 4.2.2, and where it leaves a choice.
-use super::{FEATURES, QUEUE, SIZE, check, fresh_device, write_all};
-use super::{DEVICE_FEATURES_SEL, DRIVER_FEATURES, DRIVER_FEATURES_SEL, INTERRUPT_STATUS, QUEUE_READY};
-use super::{QUEUE_DEVICE, QUEUE_DRIVER, QUEUE_NOTIFY, QUEUE_NUM, QUEUE_SEL, STATUS};
+use super::{
+    DEVICE_FEATURES_SEL, DRIVER_FEATURES, DRIVER_FEATURES_SEL, FEATURES, INTERRUPT_STATUS, QUEUE,
+    QUEUE_DEVICE, QUEUE_DRIVER, QUEUE_NOTIFY, QUEUE_NUM, QUEUE_READY, QUEUE_SEL, SIZE, STATUS,
+    check, fresh_device, write_all,
+};
 use crate::Kick;
 use std::test::Fail;
 
@@ -111,7 +113,14 @@ fn features_stand_once_accepted(rt: HostRuntime) -> Result<(), Fail> {
     let mut device = fresh_device(rt.alloc())?;
     write_all(&mut device, &FEATURES);
     // Neither taken back nor made ones that aren't offered: the queue may still be made ready.
-    write_all(&mut device, &[(DRIVER_FEATURES, 0), (DRIVER_FEATURES_SEL, 0), (DRIVER_FEATURES, 1)]);
+    write_all(
+        &mut device,
+        &[
+            (DRIVER_FEATURES, 0),
+            (DRIVER_FEATURES_SEL, 0),
+            (DRIVER_FEATURES, 1),
+        ],
+    );
     write_all(&mut device, &QUEUE);
     check(device.read(STATUS, 4) == 11, "the status")?;
     check(device.read(QUEUE_READY, 4) == 1, "the queue")
@@ -122,7 +131,10 @@ fn ready_with(rt: &HostRuntime, change: (u32, u32)) -> Result<u32, Fail> {
     let mut device = fresh_device(rt.alloc())?;
     write_all(&mut device, &FEATURES);
     let [size, descriptors, driver, used, ready] = QUEUE;
-    write_all(&mut device, &[size, descriptors, driver, used, change, ready]);
+    write_all(
+        &mut device,
+        &[size, descriptors, driver, used, change, ready],
+    );
     Ok(device.read(QUEUE_READY, 4))
 }
 
@@ -174,7 +186,10 @@ fn queue_registers_are_closed_while_ready(rt: HostRuntime) -> Result<(), Fail> {
     check(device.read(QUEUE_READY, 4) == 0, "a value above 1")?;
     device.write(QUEUE_READY, 4, 1);
     check(device.read(QUEUE_READY, 4) == 1, "ready")?;
-    write_all(&mut device, &[(QUEUE_NUM, 3), (QUEUE_DRIVER, 65), (QUEUE_READY, 3)]);
+    write_all(
+        &mut device,
+        &[(QUEUE_NUM, 3), (QUEUE_DRIVER, 65), (QUEUE_READY, 3)],
+    );
     check(device.read(QUEUE_READY, 4) == 1, "still ready")?;
     // Taken away and made ready again, with the size and the addresses as they stood.
     device.write(QUEUE_READY, 4, 0);
@@ -210,5 +225,8 @@ fn what_a_write_asks_for(rt: HostRuntime) -> Result<(), Fail> {
         check(device.write(offset, width, value) == kick, "a kick")?;
     }
     check(device.session() == 3, "each reset begins a session")?;
-    check(device.read(0x100, 4) == 0x0003_0201, "the configuration stays")
+    check(
+        device.read(0x100, 4) == 0x0003_0201,
+        "the configuration stays",
+    )
 }

@@ -1,6 +1,8 @@
 // Replies that come back after a reset, after another readiness, or from nowhere.
-use super::{AVAIL_IDX, QUEUE_READY, STATUS, answer, check, fingerprint, live_device};
-use super::{negotiate, offer, pop, store, write_all};
+use super::{
+    AVAIL_IDX, QUEUE_READY, STATUS, answer, check, fingerprint, live_device, negotiate, offer, pop,
+    store, write_all,
+};
 use crate::{Device, Done, Job, Published};
 use chains::Range;
 use std::test::Fail;
@@ -30,7 +32,10 @@ fn a_reply_of_an_earlier_session_is_dropped(rt: HostRuntime) -> Result<(), Fail>
     let again = popped(&rt, &mut device)?;
     check(again.session() == 2 && done.session() == 1, "the sessions")?;
     is_dropped(&mut device, done)?;
-    check(device.publish(again) == Published::Wrote { notify: true }, "the later one")
+    check(
+        device.publish(again) == Published::Wrote { notify: true },
+        "the later one",
+    )
 }
 
 #[test]
@@ -66,12 +71,18 @@ fn a_reply_to_a_job_of_no_device_is_dropped(rt: HostRuntime) -> Result<(), Fail>
     let mut device = live_device(rt.alloc())?;
     let _popped = popped(&rt, &mut device)?;
     let mut writable = Vec::new(rt.alloc());
-    writable.push(Range { at: 2000, len: 8 }).ok().ok_or("no memory")?;
+    writable
+        .push(Range { at: 2000, len: 8 })
+        .ok()
+        .ok_or("no memory")?;
     let job = Job::of(rt.alloc(), 7, 1, 1, 1, writable, Vec::new(rt.alloc()));
     let Ok(copy) = job.for_reply(rt.alloc()) else {
         return Err(Fail::from("no memory"));
     };
-    check(copy.writable() == 8 && copy.request().is_empty(), "for the reply")?;
+    check(
+        copy.writable() == 8 && copy.request().is_empty(),
+        "for the reply",
+    )?;
     let done = answer(rt.alloc(), copy, &[1], 0)?;
     is_dropped(&mut device, done)
 }

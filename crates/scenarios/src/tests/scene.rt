@@ -23,7 +23,7 @@ pub struct Scene {
 }
 
 /// A board of guests that are all alike.
-fn board_of(alloc: Global, guests: usize) -> Result<BoardConfig, Fail> {
+pub fn board_of(alloc: Global, guests: usize) -> Result<BoardConfig, Fail> {
     let mut configs = Vec::with_capacity(alloc, guests)?;
     for _ in 0..guests {
         configs.push(GuestConfig {
@@ -79,9 +79,7 @@ impl Scene {
 pub fn job_of(alloc: Global, guest: u16, session: u64, frames: &[[u8; 512]]) -> Result<Job, Fail> {
     let request = frames.as_flattened().to_vec(alloc)?;
     let writable = Vec::from_slice(alloc, &[Range { at: 0, len: 512 }])?;
-    Ok(Job::of(
-        alloc, guest, session, 5, 3, writable, request,
-    ))
+    Ok(Job::of(alloc, guest, session, 5, 3, writable, request))
 }
 
 /// The frame that asks for the result.

@@ -10,4 +10,4 @@ abbrev pub invariant-loop-line : goal.invariant-loop-line
 invariant-loop-line g l =
     All (λ line. IsSized (said line)) l.line-iterator.rest.items
     × ((t : Told) → IsAt 0 t l.fn.host → StoresNothing (map said l.fn.lines.items)
-      → Going (g.W.Write.contents l.fn.out) (g.W.Write.contents l.out) t l.host (map said l.fn.lines.items) (map said l.line-iterator.rest.items))
+    → Going (g.W.Write.contents l.fn.out) (g.W.Write.contents l.out) t l.host (map said l.fn.lines.items) (map said l.line-iterator.rest.items))

@@ -18,7 +18,7 @@ returns-in-Ok-Stopped c number session steps few ready =
     let serving : Served → Type 0 = λ x. Serves c.offer.new.device c.args.runner.now (Ok x) c.serve.new.device c.serve.new.runner in
     let there = subst (IsReady number session steps) (sym c.self.view_is) ready in
     let end = taken i.device c.offer.new.device c.serve.new.device i.driver c.offer.new.self c.args.runner.now c.serve.new.runner c.args.readable.now c.args.writable c.in-Ok.field-0 number session steps i.places i.stuck (Ok served.Stopped)
-      c.requires.readable c.requires.writable c.requires.some few there c.in-Ok.ensures.offering c.in-Ok.ensures.rest (subst serving c.in-Ok-Stopped.field-0-is c.in-Ok-Stopped.ensures) in
+    c.requires.readable c.requires.writable c.requires.some few there c.in-Ok.ensures.offering c.in-Ok.ensures.rest (subst serving c.in-Ok-Stopped.field-0-is c.in-Ok-Stopped.ensures) in
     absurd end.1
 
 pub returns-in-Ok-Nothing : goal.returns-in-Ok-Nothing
@@ -27,7 +27,7 @@ returns-in-Ok-Nothing c number session steps few ready =
     let serving : Served → Type 0 = λ x. Serves c.offer.new.device c.args.runner.now (Ok x) c.serve.new.device c.serve.new.runner in
     let there = subst (IsReady number session steps) (sym c.self.view_is) ready in
     let end = taken i.device c.offer.new.device c.serve.new.device i.driver c.offer.new.self c.args.runner.now c.serve.new.runner c.args.readable.now c.args.writable c.in-Ok.field-0 number session steps i.places i.stuck (Ok served.Nothing)
-      c.requires.readable c.requires.writable c.requires.some few there c.in-Ok.ensures.offering c.in-Ok.ensures.rest (subst serving c.in-Ok-Nothing.field-0-is c.in-Ok-Nothing.ensures) in
+    c.requires.readable c.requires.writable c.requires.some few there c.in-Ok.ensures.offering c.in-Ok.ensures.rest (subst serving c.in-Ok-Nothing.field-0-is c.in-Ok-Nothing.ensures) in
     absurd end.1
 
 pub returns : goal.returns
@@ -36,7 +36,7 @@ returns c number session steps few ready =
     let serving : Served → Type 0 = λ x. Serves c.offer.new.device c.args.runner.now (Ok x) c.serve.new.device c.serve.new.runner in
     let there = subst (IsReady number session steps) (sym c.self.view_is) ready in
     let end = taken i.device c.offer.new.device c.serve.new.device i.driver c.offer.new.self c.args.runner.now c.serve.new.runner c.args.readable.now c.args.writable c.in-Ok.field-0 number session steps i.places i.stuck (Ok served.Answered)
-      c.requires.readable c.requires.writable c.requires.some few there c.in-Ok.ensures.offering c.in-Ok.ensures.rest (subst serving c.in-Ok-Answered.field-0-is c.in-Ok-Answered.ensures) in
+    c.requires.readable c.requires.writable c.requires.some few there c.in-Ok.ensures.offering c.in-Ok.ensures.rest (subst serving c.in-Ok-Answered.field-0-is c.in-Ok-Answered.ensures) in
     let back : Result Answer HostFault → Type 0 = λ x. AnswersTo number session steps c.args.runner.now c.args.readable.now c.args.writable x (guest_at c.serve.new.device c.reap.new.self i.places i.stuck) c.serve.new.runner in
     let reaped : Option Reaped → Type 0 = λ x. Reaps c.serve.new.device.memory c.offer.new.self (Ok x) c.reap.new.self in
     let refused : DriverFault → Type 0 = λ x. Reaps c.serve.new.device.memory c.offer.new.self (Err x) c.reap.new.self in

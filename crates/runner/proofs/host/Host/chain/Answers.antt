@@ -15,4 +15,4 @@ returns c =
     let named : ℕ → Type 0 = λ n. HostAnswers before n c.args.readable.now c.args.writable c.chain.result after in
     let seen : HostView → Type 0 = λ h. HostAnswers h c.args.guest c.args.readable.now c.args.writable c.chain.result after in
     subst seen c.self.view_is
-      (subst named c.from-at.ensures (chain_of before at c.index_mut.result.now c.chain.new.self c.chain.new.runner c.args.readable.now c.args.writable c.chain.result inside there c.chain.ensures))
+    (subst named c.from-at.ensures (chain_of before at c.index_mut.result.now c.chain.new.self c.chain.new.runner c.args.readable.now c.args.writable c.chain.result inside there c.chain.ensures))

@@ -16,5 +16,5 @@ returns c steps sessions few are =
     let made : GuestView → Type 0 = λ g. IsReset steps sessions before at (record { runner = i.runner; guests = set guests at g }) in
     let after : HostView = record { runner = i.runner; guests = set guests at c.reset.new.self } in
     subst (λ h. IsReset steps sessions h c.args.guest after) c.self.view_is
-      (subst (λ n. IsReset steps sessions before n after) c.from-at.ensures
-        (subst made (sym c.reset.ensures) (reset_of before at c.index_mut.result.now inside there steps sessions few ready)))
+    (subst (λ n. IsReset steps sessions before n after) c.from-at.ensures
+    (subst made (sym c.reset.ensures) (reset_of before at c.index_mut.result.now inside there steps sessions few ready)))
