@@ -138,20 +138,39 @@ fn time_device(rt: &HostRuntime, count: u32) -> Result<()> {
     Ok(())
 }
 
+/// Two counter requests and two writes of each guest.
+fn few_answers(alloc: Global) -> Result<(u32, u32)> {
+    let mut runner = keyed(alloc, &board(alloc)?)?;
+    let counter = counters(alloc, &mut runner, GUESTS, 2)?;
+    let write = writes(alloc, &mut runner, GUESTS, 2)?;
+    Ok((counter, write))
+}
+
+/// Some chains through a ring, and some copies.
+fn few_chains(alloc: Global) -> Result<u32> {
+    let mut queue = new_queue(alloc)?;
+    let popped = chains(alloc, &mut queue, 40)?;
+    Ok(popped ^ copies(alloc, 3)?)
+}
+
+/// Two whole requests of each kind.
+fn few_requests(alloc: Global) -> Result<u32> {
+    let mut answered = 0u32;
+    for kind in KINDS {
+        let requests = requests_of(alloc, kind, 2)?;
+        let mut guest = new_guest(alloc, &GUEST)?;
+        answered ^= whole(alloc, &mut guest, kind, requests.as_slice())?;
+    }
+    Ok(answered)
+}
+
 /// What the gate runs: a few of each, with no times.
 fn checksums(rt: &HostRuntime) -> Result<()> {
     let alloc = rt.alloc();
     let macs = plain_macs(3) ^ keyed_macs(4, &mut [FRAME]);
-    let mut runner = keyed(alloc, &board(alloc)?)?;
-    let counter = counters(alloc, &mut runner, GUESTS, 2)?;
-    let write = writes(alloc, &mut runner, GUESTS, 2)?;
-    let ring = chains(alloc, &mut new_queue(alloc)?, 40)? ^ copies(alloc, 3)?;
-    let mut device = 0u32;
-    for kind in KINDS {
-        let requests = requests_of(alloc, kind, 2)?;
-        let mut guest = new_guest(alloc, &GUEST)?;
-        device ^= whole(alloc, &mut guest, kind, requests.as_slice())?;
-    }
+    let (counter, write) = few_answers(alloc)?;
+    let ring = few_chains(alloc)?;
+    let device = few_requests(alloc)?;
     println!(rt; "{macs} {counter} {write} {ring} {device}")?;
     Ok(())
 }
