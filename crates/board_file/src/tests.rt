@@ -27,7 +27,7 @@ const LEAST: GuestConfig = GuestConfig {
 // A board file, how many guests it has, the last of them, and the path of its image.
 type Row = (&'static str, usize, GuestConfig, Option<&'static str>);
 
-const BOARDS: [Row; 5] = [
+static BOARDS: [Row; 5] = [
     ("[[guest]]\ncapacity = 1", 1, DEFAULTS, None),
     (
         "# one guest\r\n[[guest]]\r\ncapacity = 0x1\r\n",
@@ -86,7 +86,7 @@ fn reads_boards(rt: HostRuntime) -> Result<(), Fail> {
     Ok(())
 }
 
-const NO_BOARDS: [&str; 18] = [
+static NO_BOARDS: [&str; 18] = [
     "",
     "guest",
     "image = 'disk.img'",
@@ -108,7 +108,7 @@ const NO_BOARDS: [&str; 18] = [
 ];
 
 // Lines that no guest may have beside a capacity of 1.
-const NO_LINES: [&str; 21] = [
+static NO_LINES: [&str; 21] = [
     "capacity = 1",
     "max_wr_cnt = 0",
     "max_wr_cnt = 17",

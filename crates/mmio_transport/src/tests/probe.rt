@@ -16,7 +16,7 @@ const VIRTIO_RING_F_EVENT_IDX: u64 = 1 << 29;
 
 // virtio_mmio_probe: MagicValue, Version, DeviceID and VendorID, which it reads before it takes the
 // device.
-const FIND: [Step; 4] = [
+static FIND: [Step; 4] = [
     Step::Reads(0x000, 0x7472_6976),
     Step::Reads(0x004, 2),
     Step::Reads(0x008, 28),

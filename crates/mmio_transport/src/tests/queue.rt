@@ -10,7 +10,7 @@ use std::alloc::Global;
 use std::test::Fail;
 
 // The guest overwrites the request, both descriptors and the available ring.
-const OVERWRITE: [Step; 4] = [
+static OVERWRITE: [Step; 4] = [
     Step::Stores(1000, &[9, 9, 9, 9]),
     Step::Describes(16, (3000, 1, 0, 0)),
     Step::Describes(48, (4000, 1, 2, 0)),
@@ -56,13 +56,13 @@ fn a_reply_is_that_of_the_chain_as_it_was_popped(rt: HostRuntime) -> Result<(), 
     exchange(rt.alloc(), &mut device)
 }
 
-const BEFORE_DRIVER_OK: [Step; 3] = [
+static BEFORE_DRIVER_OK: [Step; 3] = [
     Step::Pops(Ok(None)),
     Step::Writes(&FEATURES),
     Step::Writes(&QUEUE),
 ];
 
-const WITHOUT_A_QUEUE: [Step; 5] = [
+static WITHOUT_A_QUEUE: [Step; 5] = [
     // A chain is available, but for DRIVER_OK.
     Step::Pops(Ok(None)),
     Step::Writes(&[(STATUS, 4), (QUEUE_READY, 0)]),
@@ -80,7 +80,7 @@ fn nothing_is_popped_before_driver_ok_or_without_a_queue(rt: HostRuntime) -> Res
 }
 
 // The interrupt is raised once, and nothing but a reset brings the device back, not even a new queue.
-const A_LOOP: [Step; 13] = [
+static A_LOOP: [Step; 13] = [
     Step::Describes(16, (1000, 4, 1, 1)),
     Step::Pops(Err(DeviceFault::Refused(ChainFault::TooLong))),
     Step::Reads(STATUS, 79),
@@ -96,7 +96,7 @@ const A_LOOP: [Step; 13] = [
     Step::Negotiates,
 ];
 
-const POPPED: [Step; 1] = [Step::Pops(Ok(Some(1)))];
+static POPPED: [Step; 1] = [Step::Pops(Ok(Some(1)))];
 
 #[test]
 fn a_chain_that_leads_to_itself(rt: HostRuntime) -> Result<(), Fail> {
@@ -107,7 +107,7 @@ fn a_chain_that_leads_to_itself(rt: HostRuntime) -> Result<(), Fail> {
     take(&mut device, &POPPED)
 }
 
-const AN_INDEX_THAT_JUMPS: [Step; 2] = [
+static AN_INDEX_THAT_JUMPS: [Step; 2] = [
     Step::Stores(AVAIL_IDX, &[5, 0]),
     Step::Pops(Err(DeviceFault::Refused(ChainFault::BadRange))),
 ];

@@ -10,7 +10,7 @@ use std::alloc::Global;
 use std::test::Fail;
 
 // Offset and width of a read of a fresh device, and what it gives.
-const FRESH: [(u32, u8, u32); 35] = [
+static FRESH: [(u32, u8, u32); 35] = [
     (0x000, 4, 0x7472_6976),
     (0x004, 4, 2),
     (0x008, 4, 28),
@@ -65,7 +65,7 @@ fn a_fresh_device_reads(rt: HostRuntime) -> Result<(), Fail> {
     check(device.memory_size() == SIZE, "the size of the memory")
 }
 
-const FEATURES_BY_SELECTOR: [Step; 8] = [
+static FEATURES_BY_SELECTOR: [Step; 8] = [
     Step::Writes(&[(DEVICE_FEATURES_SEL, 0)]),
     Step::Reads(0x010, 0x2000_0000),
     Step::Writes(&[(DEVICE_FEATURES_SEL, 1)]),
@@ -96,7 +96,7 @@ const HIGH: (u32, u32) = (DRIVER_FEATURES_SEL, 1);
 const LOW: (u32, u32) = (DRIVER_FEATURES_SEL, 0);
 
 // Writes, and what Status reads after them.
-const STATUS_RULES: [(&[(u32, u32)], u32); 13] = [
+static STATUS_RULES: [(&[(u32, u32)], u32); 13] = [
     // Without VERSION_1 the features aren't accepted.
     (&[(STATUS, 11), (STATUS, 256)], 3),
     // Nor is DRIVER_OK without them.
@@ -146,7 +146,7 @@ fn status_rules(rt: HostRuntime) -> Result<(), Fail> {
 
 // Features that were accepted are neither taken back nor made ones that aren't offered: the queue may
 // still be made ready.
-const ACCEPTED: [Step; 5] = [
+static ACCEPTED: [Step; 5] = [
     Step::Writes(&FEATURES),
     Step::Writes(&[
         (DRIVER_FEATURES, 0),
@@ -174,7 +174,7 @@ fn ready_with(alloc: Global, change: (u32, u32)) -> Result<u32, Fail> {
     Ok(device.read(QUEUE_READY, 4))
 }
 
-const CHANGES: [((u32, u32), u32); 23] = [
+static CHANGES: [((u32, u32), u32); 23] = [
     ((QUEUE_NUM, 4), 1),
     ((QUEUE_NUM, 1), 1),
     ((QUEUE_NUM, 256), 1),
@@ -211,7 +211,7 @@ fn queues_that_may_be_ready(rt: HostRuntime) -> Result<(), Fail> {
     Ok(())
 }
 
-const CLOSED_WHILE_READY: [Step; 19] = [
+static CLOSED_WHILE_READY: [Step; 19] = [
     // Before FEATURES_OK no queue is made ready; the size and the addresses stand since.
     Step::Writes(&QUEUE),
     Step::Reads(QUEUE_READY, 0),
@@ -245,7 +245,7 @@ fn queue_registers_are_closed_while_ready(rt: HostRuntime) -> Result<(), Fail> {
 }
 
 // Offset, width and value of a write while another queue is selected, and what it asks for.
-const KICKS: [(u32, u8, u32, Kick); 10] = [
+static KICKS: [(u32, u8, u32, Kick); 10] = [
     (QUEUE_NOTIFY, 4, 0, Kick::Notify),
     (QUEUE_NOTIFY, 4, 1, Kick::None),
     (QUEUE_NOTIFY, 2, 0, Kick::None),

@@ -53,14 +53,14 @@ fn a_reply_of_an_earlier_session_is_dropped(rt: HostRuntime) -> Result<(), Fail>
 }
 
 // The ring begins at place 0 again: the same chain is popped, with the same id.
-const ANOTHER_READINESS: [Step; 2] = [
+static ANOTHER_READINESS: [Step; 2] = [
     Step::Writes(&[(QUEUE_READY, 0), (QUEUE_READY, 1)]),
     Step::Pops(Ok(Some(1))),
 ];
 
-const NO_QUEUE: [Step; 1] = [Step::Writes(&[(QUEUE_READY, 0)])];
+static NO_QUEUE: [Step; 1] = [Step::Writes(&[(QUEUE_READY, 0)])];
 
-const A_FAULT: [Step; 2] = [
+static A_FAULT: [Step; 2] = [
     Step::Stores(AVAIL_IDX, &[99, 0]),
     Step::Pops(Err(DeviceFault::Refused(ChainFault::BadRange))),
 ];

@@ -18,7 +18,7 @@ pub enum Step {
 }
 
 // The chain of descriptors 1 and 3: four bytes to be read at 1,000 and eight to be written at 2,000.
-pub const OFFER: [Step; 5] = [
+pub static OFFER: [Step; 5] = [
     Step::Describes(16, (1000, 4, 1, 3)),
     Step::Describes(48, (2000, 8, 2, 0)),
     Step::Stores(1000, &[1, 2, 3, 4]),

@@ -13,7 +13,7 @@ const MALFORMED: Told = ("Malformed", 0, false);
 type Row = (&'static [u16], usize, u64, u8, Told);
 
 /// Each row is decided by one row of the table of commands, and not by an earlier one.
-const ROWS: [Row; 40] = [
+static ROWS: [Row; 40] = [
     // no positive multiple of 512 bytes
     (&[2], 0, 512, 16, MALFORMED),
     (&[2], 511, 512, 16, MALFORMED),

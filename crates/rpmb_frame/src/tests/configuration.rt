@@ -11,7 +11,7 @@ const PACKED: RingKind = RingKind::Packed;
 type Row = (u8, u8, u8, u64, u16, RingKind, bool);
 
 /// Both sides of each end of each range, and of the length that the driver's layout takes.
-const ROWS: [Row; 35] = [
+static ROWS: [Row; 35] = [
     (1, 16, 16, 67_108_864, 16, SPLIT, true),
     (0, 16, 16, 67_108_864, 16, SPLIT, false),
     (128, 16, 16, 67_108_864, 16, SPLIT, true),
@@ -51,14 +51,14 @@ const ROWS: [Row; 35] = [
 
 /// Ring and queue, then where the driver area, the device area, the tables and the buffers begin,
 /// and the length.
-const LAYOUTS: [(RingKind, u16, [u64; 5]); 3] = [
+static LAYOUTS: [(RingKind, u16, [u64; 5]); 3] = [
     (SPLIT, 16, [256, 304, 448, 960, 271_296]),
     (PACKED, 3, [48, 64, 80, 176, 50_864]),
     (PACKED, 16, [256, 272, 288, 800, 271_136]),
 ];
 
 /// How many guests, and whether a board may have as many.
-const COUNTS: [(usize, bool); 4] = [(0, false), (1, true), (64, true), (65, false)];
+static COUNTS: [(usize, bool); 4] = [(0, false), (1, true), (64, true), (65, false)];
 
 fn guest_of(row: &Row) -> GuestConfig {
     let (capacity, max_wr_cnt, max_rd_cnt, memory, queue, ring, _) = *row;

@@ -162,7 +162,7 @@ fn leaves(scene: &mut Scene, guest: u16, tail: &[u8; 12]) -> bool {
 }
 
 /// Whose reply leaves, and its write counter, address, block count, result and type.
-const RESULTS: [(u16, [u8; 12]); 4] = [
+static RESULTS: [(u16, [u8; 12]); 4] = [
     (0, [0, 0, 0, 0, 0, 0, 0, 1, 0, 0, 1, 0]),
     (0, [0, 0, 0, 0, 0, 0, 0, 1, 0, 0, 1, 0]),
     (0, [0, 0, 0, 0, 0, 0, 0, 0, 0, 1, 0, 0]),
