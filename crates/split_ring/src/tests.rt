@@ -97,7 +97,7 @@ type Descriptor = (u64, u32, u16, u16);
 const PLAIN: Descriptor = (200, 8, 0, 0);
 
 // Two descriptors, what the pop of the first answers, and how many it reads.
-static HOSTILE: [([Descriptor; 2], Answer, u64); 12] = [
+const HOSTILE: [([Descriptor; 2], Answer, u64); 12] = [
     // A descriptor that names itself, and two that name each other.
     ([(200, 8, NEXT, 0), PLAIN], Answer::Refused(3), 4),
     (
