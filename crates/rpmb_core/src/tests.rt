@@ -1,5 +1,3 @@
-ghost use Rattle.std.specs.Prelude.{◌≤◌};
-
 mod blocks;
 mod failures;
 mod refusals;

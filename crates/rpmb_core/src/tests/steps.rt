@@ -1,7 +1,5 @@
 //! Requests to a partition one after another, with their results and all bytes of their replies.
 
-ghost use Rattle.std.specs.Prelude.{◌≤◌};
-
 use crate::{OK, Outcome, Partition, is_change};
 use rpmb_frame::{BoardConfig, GuestConfig, Limits, Request, RingKind};
 use std::alloc::Global;
