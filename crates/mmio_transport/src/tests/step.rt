@@ -18,6 +18,8 @@ pub enum Step {
 }
 
 // The chain of descriptors 1 and 3: four bytes to be read at 1,000 and eight to be written at 2,000.
+// Tables of steps are statics: a constant is copied into each function that names it, and each of the
+// goals of that function carries the copy.
 pub static OFFER: [Step; 5] = [
     Step::Describes(16, (1000, 4, 1, 3)),
     Step::Describes(48, (2000, 8, 2, 0)),
