@@ -1,0 +1,9 @@
+pub mod Ranges
+pub mod Bytes
+pub mod Same
+pub mod Over
+pub mod Again
+pub mod Buffers
+pub mod Starts
+pub mod Equal
+pub mod Parts
