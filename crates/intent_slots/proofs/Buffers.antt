@@ -65,7 +65,7 @@ pub more : (i : Group) (k : ℕ) (e : Entry) (c d : Content) → k < length i.en
 more i k e c d lt at is rest =
     let split : drop k i.entries ≡ e ∷ drop (k + 1) i.entries = drop-cons i.entries k e lt ∙ ap (λ (v : Entry). v ∷ drop (suc k) i.entries) at ∙ (let s : suc k ≡ k + 1 = omega arith in ap (λ n. e ∷ drop n i.entries) s) in
     let p : 8 + 4160 * (k + 1) ≡ 8 + 4160 * k + 4160 = omega arith in
-    let q : i.first + (k + 1) ≡ suc (i.first + k) = omega arith in
+    let q : i.first + (k + 1) ≡ i.first + k + 1 = omega arith in
     (λ j. entries_over (p j) i.key (q j) (drop (k + 1) i.entries) (is j)) ∙ sym (ap (λ (es : List Entry). entries_over (8 + 4160 * k) i.key (i.first + k) es c) split) ∙ rest
 
 drop_past : {X : Type 0} (es : List X) (k : ℕ) → length es ≤ k → drop k es ≡ []

@@ -7,3 +7,4 @@ pub mod Buffers
 pub mod Starts
 pub mod Equal
 pub mod Parts
+pub mod Homes

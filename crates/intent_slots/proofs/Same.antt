@@ -55,7 +55,7 @@ same_entries size c at d bt key counter (e ∷ []) fits same are = (same_entry c
 same_entries size c at d bt key counter (e ∷ f ∷ es) fits same are =
     let short = short_blocks size counter e fits.0 in
     (same_entry c at d bt key counter e (λ k lt. same k (omega arith)) are.0,
-     same_entries size c (at + 4160) d (bt + 4160) key (suc counter) (f ∷ es) fits.1 (part c at d bt (4160 + entries_length (f ∷ es)) (entries_length (f ∷ es)) 4160 (omega arith) same) are.1)
+     same_entries size c (at + 4160) d (bt + 4160) key (counter + 1) (f ∷ es) fits.1 (part c at d bt (4160 + entries_length (f ∷ es)) (entries_length (f ∷ es)) 4160 (omega arith) same) are.1)
 
 pub same_payload : (size : ℕ) (c : Content) (at : ℕ) (d : Content) (bt : ℕ) (i : Group) → Agree c at d bt (payload_length i) → IsPayload size c at i → IsPayload size d bt i
 same_payload size c at d bt i same is = record {
@@ -67,19 +67,21 @@ same_payload size c at d bt i same is = record {
 entries_short : (size counter : ℕ) (es : List Entry) → EntriesFit size counter es → entries_length es ≤ 4160 * length es
 entries_short size counter [] fits = omega arith
 entries_short size counter (e ∷ []) fits = (let short = short_blocks size counter e fits.0 in omega arith)
-entries_short size counter (e ∷ f ∷ es) fits = (let rest = entries_short size (suc counter) (f ∷ es) fits.1 in omega arith)
+entries_short size counter (e ∷ f ∷ es) fits = (let rest = entries_short size (counter + 1) (f ∷ es) fits.1 in omega arith)
 
 pub payload_short : (size : ℕ) (i : Group) → GroupFits size i → payload_length i ≤ 16648
 payload_short size i fits = (let s = entries_short size i.first i.entries fits.entries in let four = fits.four in omega arith)
 
 pub same_home : (c : Content) (at : ℕ) (d : Content) (bt : ℕ) (key : Option (List ℕ)) (counter : ℕ) → Agree c at d bt 64 → IsHome c at key counter → IsHome d bt key counter
-same_home c at d bt key counter same (Unkeyed flag k n s) = Unkeyed
-  (sym (same_place c at d bt 64 (omega arith) same) ∙ flag)
-  (sym (same_list c (at + 1) d (bt + 1) 32 (part c at d bt 64 32 1 (omega arith) same)) ∙ k)
-  (sym (same_number c (at + 33) d (bt + 33) 4 (part c at d bt 64 4 33 (omega arith) same)) ∙ n)
-  (sym (same_number c (at + 37) d (bt + 37) 8 (part c at d bt 64 8 37 (omega arith) same)) ∙ s)
-same_home c at d bt key counter same (Keyed kk cc flag k n s) = Keyed kk cc
-  (sym (same_place c at d bt 64 (omega arith) same) ∙ flag)
-  (sym (same_list c (at + 1) d (bt + 1) 32 (part c at d bt 64 32 1 (omega arith) same)) ∙ k)
-  (sym (same_number c (at + 33) d (bt + 33) 4 (part c at d bt 64 4 33 (omega arith) same)) ∙ n)
-  (sym (same_number c (at + 37) d (bt + 37) 8 (part c at d bt 64 8 37 (omega arith) same)) ∙ s)
+same_home c at d bt key counter same (Unkeyed is) = Unkeyed (record {
+  flag = sym (same_place c at d bt 64 (omega arith) same) ∙ is.flag;
+  key = sym (same_list c (at + 1) d (bt + 1) 32 (part c at d bt 64 32 1 (omega arith) same)) ∙ is.key;
+  counter = sym (same_number c (at + 33) d (bt + 33) 4 (part c at d bt 64 4 33 (omega arith) same)) ∙ is.counter;
+  sequence = sym (same_number c (at + 37) d (bt + 37) 8 (part c at d bt 64 8 37 (omega arith) same)) ∙ is.sequence;
+})
+same_home c at d bt key counter same (Keyed kk cc is) = Keyed kk cc (record {
+  flag = sym (same_place c at d bt 64 (omega arith) same) ∙ is.flag;
+  same_key = sym (same_list c (at + 1) d (bt + 1) 32 (part c at d bt 64 32 1 (omega arith) same)) ∙ is.same_key;
+  same_counter = sym (same_number c (at + 33) d (bt + 33) 4 (part c at d bt 64 4 33 (omega arith) same)) ∙ is.same_counter;
+  sequence = sym (same_number c (at + 37) d (bt + 37) 8 (part c at d bt 64 8 37 (omega arith) same)) ∙ is.sequence;
+})

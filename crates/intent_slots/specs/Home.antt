@@ -12,15 +12,28 @@ pub record Home : Type 0 where
 -- a partition without a key has counter 0
 abbrev pub HomeFits : Option (List ℕ) → ℕ → Type 0
 HomeFits None counter = counter ≡ 0
-HomeFits (Some key) counter = (length key ≡ 32) × (suc counter ≤ 256 ^ 4)
+HomeFits (Some key) counter = (length key ≡ 32) × (counter + 1 ≤ 256 ^ 4)
+
+-- without a key all fields are zeros
+pub record IsUnkeyed (c : Content) (at : ℕ) : Type 0 where
+  pub flag : c at ≡ 0
+  pub key : bytes_at c (at + 1) 32 ≡ replicate 32 0
+  pub counter : number_at c (at + 33) 4 ≡ 0
+  pub sequence : number_at c (at + 37) 8 ≡ 0
+
+pub record IsKeyed (c : Content) (at : ℕ) (key : List ℕ) (counter : ℕ) : Type 0 where
+  pub flag : c at ≡ 1
+  pub same_key : bytes_at c (at + 1) 32 ≡ key
+  pub same_counter : number_at c (at + 33) 4 ≡ counter
+  pub sequence : number_at c (at + 37) 8 ≡ counter + 1
 
 -- A well-formed home record from a place on. The zeros at its end aren't looked at.
 pub data IsHome (c : Content) (at : ℕ) : Option (List ℕ) → ℕ → Type 0 where
-  Unkeyed : c at ≡ 0 → bytes_at c (at + 1) 32 ≡ replicate 32 0 → number_at c (at + 33) 4 ≡ 0 → number_at c (at + 37) 8 ≡ 0 → IsHome c at None 0
-  Keyed : (key : List ℕ) (counter : ℕ) → c at ≡ 1 → bytes_at c (at + 1) 32 ≡ key → number_at c (at + 33) 4 ≡ counter → number_at c (at + 37) 8 ≡ suc counter → IsHome c at (Some key) counter
+  Unkeyed : IsUnkeyed c at → IsHome c at None 0
+  Keyed : (key : List ℕ) (counter : ℕ) → IsKeyed c at key counter → IsHome c at (Some key) counter
 
 abbrev pub home_content : List ℕ → ℕ → Content
-home_content key counter = over 37 (big_bytes 8 (suc counter)) (over 33 (big_bytes 4 counter) (over 1 key (over 0 (1 ∷ []) zeros)))
+home_content key counter = over 37 (big_bytes 8 (counter + 1)) (over 33 (big_bytes 4 counter) (over 1 key (over 0 (1 ∷ []) zeros)))
 
 -- the home record of a partition with this key
 unfoldable pub home_bytes : List ℕ → ℕ → List ℕ

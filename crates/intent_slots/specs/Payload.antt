@@ -29,7 +29,7 @@ pub data EntryFits (size counter : ℕ) (e : Entry) : Type 0 where
 
 abbrev pub EntriesFit : ℕ → ℕ → List Entry → Type 0
 EntriesFit size counter [] = Unit {0}
-EntriesFit size counter (e ∷ es) = EntryFits size counter e × EntriesFit size (suc counter) es
+EntriesFit size counter (e ∷ es) = EntryFits size counter e × EntriesFit size (counter + 1) es
 
 pub record GroupFits (size : ℕ) (i : Group) : Type 0 where
   pub one : 1 ≤ length i.entries
@@ -48,7 +48,7 @@ kind_of e = if length e.blocks == 0 then 1 else 3
 
 -- an entry's fields, from a place on
 pub record IsEntry (c : Content) (at : ℕ) (key : List ℕ) (counter : ℕ) (e : Entry) : Type 0 where
-  pub sequence : number_at c at 8 ≡ suc counter
+  pub sequence : number_at c at 8 ≡ counter + 1
   pub kind : c (at + 8) ≡ kind_of e
   pub same_key : bytes_at c (at + 9) 32 ≡ key
   pub left : number_at c (at + 41) 4 ≡ counter
@@ -58,7 +58,7 @@ pub record IsEntry (c : Content) (at : ℕ) (key : List ℕ) (counter : ℕ) (e 
 
 abbrev pub AreEntries : Content → ℕ → List ℕ → ℕ → List Entry → Type 0
 AreEntries c at key counter [] = Unit {0}
-AreEntries c at key counter (e ∷ es) = IsEntry c at key counter e × AreEntries c (at + 4160) key (suc counter) es
+AreEntries c at key counter (e ∷ es) = IsEntry c at key counter e × AreEntries c (at + 4160) key (counter + 1) es
 
 -- A well-formed payload from a place on, and the group that it holds. Gaps aren't looked at.
 pub record IsPayload (size : ℕ) (c : Content) (at : ℕ) (i : Group) : Type 0 where
@@ -69,11 +69,11 @@ pub record IsPayload (size : ℕ) (c : Content) (at : ℕ) (i : Group) : Type 0 
 -- an entry's bytes, put into a content field by field
 unfoldable pub entry_over : ℕ → List ℕ → ℕ → Entry → Content → Content
 entry_over at key counter e c =
-  over (at + 64) e.blocks (over (at + 47) (big_bytes 2 (length e.blocks / 256)) (over (at + 45) (big_bytes 2 e.address) (over (at + 41) (big_bytes 4 counter) (over (at + 9) key (over (at + 8) (kind_of e ∷ []) (over at (big_bytes 8 (suc counter)) c))))))
+  over (at + 64) e.blocks (over (at + 47) (big_bytes 2 (length e.blocks / 256)) (over (at + 45) (big_bytes 2 e.address) (over (at + 41) (big_bytes 4 counter) (over (at + 9) key (over (at + 8) (kind_of e ∷ []) (over at (big_bytes 8 (counter + 1)) c))))))
 
 abbrev pub entries_over : ℕ → List ℕ → ℕ → List Entry → Content → Content
 entries_over at key counter [] c = c
-entries_over at key counter (e ∷ es) c = entries_over (at + 4160) key (suc counter) es (entry_over at key counter e c)
+entries_over at key counter (e ∷ es) c = entries_over (at + 4160) key (counter + 1) es (entry_over at key counter e c)
 
 -- the payload of a group; what isn't named is zeros
 abbrev pub payload_content : Group → Content

@@ -70,3 +70,13 @@ pub(crate) fn has_bytes(buffer: &[u8], at: usize, bytes: &[u8]) -> bool
 {
     &buffer[at..at + bytes.len()] == bytes
 }
+
+/// The 32 bytes of a key.
+pub(crate) fn bytes_32_at(bytes: &[u8], at: usize) -> [u8; 32]
+    requires { at + 32 ≤ length bytes.now }
+    ensures { result ≡ bytes_at (content_of bytes.now) at 32 }
+{
+    let mut out = [0; 32];
+    out.copy_from_slice(&bytes[at..at + 32]);
+    out
+}

@@ -6,7 +6,9 @@
 
 mod fields;
 mod header;
+mod home;
 mod layout;
 
 pub use header::HeaderFault;
+pub use home::Home;
 pub use layout::{Layout, Side};
