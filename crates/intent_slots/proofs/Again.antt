@@ -18,7 +18,7 @@ record Whole (e : Entry) : Type 0 where
 
 whole : (size counter : ℕ) (e : Entry) → EntryFits size counter e → Whole e
 whole size counter e (Programs a b is) = (let none = ap length is in record { number = omega (arith, none); small = omega (arith, none); address = omega (arith, b) })
-whole size counter e (Stores n lo hi long within low) = record { number = omega (arith, long); small = omega (arith, long, hi); address = low }
+whole size counter e (Stores is) = (let few = is.few in record { number = is.whole; small = omega (arith, few); address = is.address })
 
 module _ (at : ℕ) (key : List ℕ) (counter : ℕ) (e : Entry) (c : Content) (long : length key ≡ 32) where
   l8 : length (big_bytes 8 (counter + 1)) ≡ 8

@@ -8,3 +8,4 @@ pub mod Starts
 pub mod Equal
 pub mod Parts
 pub mod Homes
+pub mod Groups

@@ -36,7 +36,7 @@ same_place c at d bt m some same = (let e : at ≡ at + 0 = omega arith in let f
 
 pub short_blocks : (size counter : ℕ) (e : Entry) → EntryFits size counter e → length e.blocks ≤ 4096
 short_blocks size counter e (Programs a b is) = (let none = ap length is in omega (arith, none))
-short_blocks size counter e (Stores n lo hi long within low) = omega arith
+short_blocks size counter e (Stores is) = is.few
 
 pub same_entry : (c : Content) (at : ℕ) (d : Content) (bt : ℕ) (key : List ℕ) (counter : ℕ) (e : Entry) → Agree c at d bt (64 + length e.blocks) → IsEntry c at key counter e → IsEntry d bt key counter e
 same_entry c at d bt key counter e same is = (let m = 64 + length e.blocks in record {

@@ -21,11 +21,19 @@ pub record Intent : Type 0 where
   pub guest : ℕ
   pub group : Group
 
+-- one to sixteen whole blocks of 256 bytes, inside a partition of so many bytes
+pub record IsWrite (size : ℕ) (e : Entry) : Type 0 where
+  pub some : 1 ≤ length e.blocks
+  pub few : length e.blocks ≤ 4096
+  pub whole : 256 * (length e.blocks / 256) ≡ length e.blocks
+  pub inside : 256 * e.address + length e.blocks ≤ size
+  pub address : e.address < 256 ^ 2
+
 -- Which entry a partition of so many bytes may have where it leaves this counter. A PROGRAM_KEY leaves
 -- counter 0, so it can stand first only.
 pub data EntryFits (size counter : ℕ) (e : Entry) : Type 0 where
   Programs : counter ≡ 0 → e.address ≡ 0 → e.blocks ≡ [] → EntryFits size counter e
-  Stores : (n : ℕ) → 1 ≤ n → n ≤ 16 → length e.blocks ≡ 256 * n → 256 * e.address + length e.blocks ≤ size → e.address < 256 ^ 2 → EntryFits size counter e
+  Stores : IsWrite size e → EntryFits size counter e
 
 abbrev pub EntriesFit : ℕ → ℕ → List Entry → Type 0
 EntriesFit size counter [] = Unit {0}

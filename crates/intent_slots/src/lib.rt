@@ -4,11 +4,15 @@
 //! has a relation between a content and what it holds, which reads its own bytes alone.
 #![tactic(auto)]
 
+mod entry;
 mod fields;
 mod header;
 mod home;
+mod intent;
 mod layout;
 
+pub use entry::Entry;
 pub use header::HeaderFault;
 pub use home::Home;
+pub use intent::{Intent, PAYLOAD_LENGTH};
 pub use layout::{Layout, Side};

@@ -1,0 +1,98 @@
+ghost use Rattle.std.specs.Prelude.{◌≡◌, ◌+◌, ◌≤◌, ◌*◌, [], ◌↔◌, IsTrue, length};
+ghost use Rattle.disk.specs.Content.{content_of};
+ghost use Rattle.intent_slots.specs.Payload.{kind_of, entry_over};
+
+use crate::fields::{put, put_u16, put_u32, put_u64};
+use std::alloc::Global;
+use std::default::MadeWith;
+use std::marker::Model;
+
+/// One accepted request: blocks of 256 bytes from an address on, or no blocks where it programs the
+/// key.
+#[derive(Drop)]
+pub struct Entry {
+    address: u16,
+    blocks: Vec<u8>,
+}
+
+impl Model for Entry {
+    ghost use Rattle.std.specs.Prelude.{length, ◌≤◌};
+    ghost use Rattle.intent_slots.specs.Payload as payload;
+
+    ghost Value = { payload.Entry };
+
+    ghost view = { λ e. record { address = e.address; blocks = e.blocks.items } };
+
+    ghost invariant = { λ e. length e.blocks.items ≤ 4096 };
+}
+
+impl MadeWith<Global> for Entry {
+    fn made_with(alloc: Global) -> Entry {
+        Entry::program_key(alloc)
+    }
+}
+
+#[tactic(auto, unfolding(crate::specs::Payload::entry_over))]
+impl Entry {
+    /// A PROGRAM_KEY.
+    pub fn program_key(alloc: Global) -> Entry
+        ensures { result ≡ record { address = 0; blocks = [] } }
+    {
+        Entry {
+            address: 0,
+            blocks: Vec::new(alloc),
+        }
+    }
+
+    /// A DATA_WRITE of at most 4,096 bytes of blocks from an address on.
+    pub fn write(address: u16, blocks: Vec<u8>) -> Entry
+        requires { length blocks.items ≤ 4096 }
+        ensures { result ≡ record { address = address; blocks = blocks.items } }
+    {
+        Entry { address, blocks }
+    }
+
+    /// The address of the first block.
+    pub fn address(&self) -> u16
+        ensures { result ≡ self.now.address }
+    {
+        self.address
+    }
+
+    /// The blocks, one after another; none for a PROGRAM_KEY.
+    pub fn blocks(&self) -> &[u8]
+        ensures value { result.now ≡ self.now.blocks }
+        ensures few { length result.now ≤ 4096 }
+    {
+        &self.blocks
+    }
+
+    /// Whether the blocks end in the first `size` bytes of all blocks.
+    pub(crate) fn lies_inside(&self, size: usize) -> bool
+        ensures { IsTrue result ↔ 256 * self.now.address + length self.now.blocks ≤ size }
+    {
+        256 * usize::from(self.address) + self.blocks.len() <= size
+    }
+
+    /// The kind's byte in a payload.
+    fn kind(&self) -> u8
+        ensures { result ≡ kind_of self.now }
+    {
+        if self.blocks.is_empty() { 1 } else { 3 }
+    }
+
+    /// Puts the entry's fields into their places.
+    pub(crate) fn put(&self, out: &mut [u8], at: usize, key: &[u8; 32], counter: u32)
+        requires { at + 4160 ≤ length out.old }
+        ensures content { content_of out.new ≡ entry_over at key.now counter self.now (content_of out.old) }
+        ensures len { length out.new ≡ length out.old }
+    {
+        put_u64(out, at, u64::from(counter) + 1);
+        put(out, at + 8, &[self.kind()]);
+        put(out, at + 9, key);
+        put_u32(out, at + 41, counter);
+        put_u16(out, at + 45, self.address);
+        put_u16(out, at + 47, (self.blocks.len() / 256) as u16);
+        put(out, at + 64, &self.blocks);
+    }
+}

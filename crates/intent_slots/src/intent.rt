@@ -1,0 +1,189 @@
+ghost use Rattle.std.specs.Prelude.{◌≡◌, ◌+◌, ◌-◌, ◌<◌, ◌≤◌, ◌*◌, ◌^◌, ◌++◌, ◌∷◌, [], ◌↔◌, IsTrue, length, take, slice_get, Some};
+ghost use Rattle.intent_slots.specs.Payload.{GroupFits, EntryFits, IsWrite, last_of, payload_bytes, payload_length};
+
+use crate::entry::Entry;
+use crate::fields::put;
+use crate::home::Home;
+use arrayvec::ArrayVec;
+use std::alloc::Global;
+use std::marker::Model;
+
+/// The length in bytes of the greatest payload.
+pub const PAYLOAD_LENGTH: usize = 16_648;
+
+/// The bytes from one entry of a payload to the next.
+const STRIDE: usize = 4160;
+
+/// What a guest's partition is to become: one to four accepted requests of one key, whose counters
+/// follow each other. A contract sees the guest, and the group of its requests.
+#[derive(Drop)]
+pub struct Intent {
+    guest: u16,
+    key: [u8; 32],
+    first: u32,
+    entries: ArrayVec<Entry, 4, Global>,
+}
+
+impl Model for Intent {
+    ghost use Rattle.std.specs.Prelude.{◌^◌};
+    ghost use Rattle.intent_slots.specs.Payload as payload;
+
+    ghost Value = { payload.Intent };
+
+    ghost view = { λ i. record { guest = i.guest; group = record { key = i.key; first = i.first; entries = i.entries.items } } };
+
+    ghost invariant = { λ i. payload.GroupFits (2 ^ 24) (record { key = i.key; first = i.first; entries = i.entries.items }) };
+}
+
+impl Intent {
+    /// The intent of one request, which leaves this key and this write counter.
+    pub fn new(alloc: Global, guest: u16, key: [u8; 32], counter: u32, entry: Entry) -> Intent
+        requires { EntryFits (2 ^ 24) counter entry }
+        ensures { result ≡ record { guest = guest; group = record { key = key; first = counter; entries = entry ∷ [] } } }
+    {
+        let mut entries = ArrayVec::new_in(alloc);
+        entries.push(entry);
+        Intent {
+            guest,
+            key,
+            first: counter,
+            entries,
+        }
+    }
+
+    /// The intent of a PROGRAM_KEY. It takes no memory.
+    pub fn program_key(alloc: Global, guest: u16, key: [u8; 32]) -> Intent
+        ensures { result ≡ record { guest = guest; group = record { key = key; first = 0; entries = record { address = 0; blocks = [] } ∷ [] } } }
+    {
+        Intent::new(alloc, guest, key, 0, Entry::program_key(alloc))
+    }
+
+    /// The intent of a DATA_WRITE of one to sixteen whole blocks from an address on, which leaves this
+    /// key and this write counter. It takes no memory.
+    pub fn write(
+        alloc: Global,
+        guest: u16,
+        key: [u8; 32],
+        counter: u32,
+        address: u16,
+        blocks: Vec<u8>,
+    ) -> Intent
+        requires { IsWrite (2 ^ 24) (record { address = address; blocks = blocks.items }) }
+        ensures { result ≡ record { guest = guest; group = record { key = key; first = counter; entries = record { address = address; blocks = blocks.items } ∷ [] } } }
+    {
+        Intent::new(alloc, guest, key, counter, Entry::write(address, blocks))
+    }
+
+    /// Adds the DATA_WRITE that comes next: it leaves the same key, and a counter one higher than the
+    /// last one's.
+    pub fn push(&mut self, entry: Entry)
+        requires room { length self.old.group.entries < 4 }
+        requires counter { self.old.group.first + length self.old.group.entries < 2 ^ 32 }
+        requires write { IsWrite (2 ^ 24) entry }
+        ensures { self.new ≡ record { guest = self.old.guest; group = record { key = self.old.group.key; first = self.old.group.first; entries = self.old.group.entries ++ entry ∷ [] } } }
+    {
+        self.entries.push(entry);
+    }
+
+    /// The number of the guest on its board.
+    pub fn guest(&self) -> u16
+        ensures { result ≡ self.now.guest }
+    {
+        self.guest
+    }
+
+    /// The key after each of the requests.
+    pub fn key(&self) -> &[u8; 32]
+        ensures { result.now ≡ self.now.group.key }
+    {
+        &self.key
+    }
+
+    /// How many requests: 1 to 4.
+    pub fn entries(&self) -> usize
+        ensures value { result ≡ length self.now.group.entries }
+        ensures well_formed { GroupFits (2 ^ 24) self.now.group }
+    {
+        self.entries.len()
+    }
+
+    /// A request of the intent.
+    pub fn entry(&self, k: usize) -> &Entry
+        requires { k < length self.now.group.entries }
+        ensures { slice_get self.now.group.entries k ≡ Some result.now }
+    {
+        &self.entries.as_slice()[k]
+    }
+
+    /// The write counter that the first request leaves.
+    pub fn first_counter(&self) -> u32
+        ensures { result ≡ self.now.group.first }
+    {
+        self.first
+    }
+
+    /// The write counter that the last request leaves.
+    pub fn last_counter(&self) -> u32
+        ensures { result ≡ last_of self.now.group }
+    {
+        self.first + (self.entries.len() - 1) as u32
+    }
+
+    /// The sequence after the first request: one more than its write counter.
+    pub fn first_sequence(&self) -> u64
+        ensures { result ≡ self.now.group.first + 1 }
+    {
+        u64::from(self.first) + 1
+    }
+
+    /// The sequence after the last request: one more than its write counter.
+    pub fn last_sequence(&self) -> u64
+        ensures { result ≡ last_of self.now.group + 1 }
+    {
+        u64::from(self.last_counter()) + 1
+    }
+
+    /// The home of the partition with these requests in it.
+    pub fn home(&self) -> Home
+        ensures { result ≡ record { key = Some self.now.group.key; counter = last_of self.now.group } }
+    {
+        Home::with_key(self.key, self.last_counter())
+    }
+
+    /// Whether each block lies in a partition of this capacity, in units of 512 blocks.
+    #[tactic(auto, using(crate::proofs::Groups::all_inside))]
+    pub fn lies_inside(&self, capacity: u8) -> bool
+        ensures { IsTrue result ↔ GroupFits (131_072 * capacity) self.now.group }
+    {
+        let size = 131_072 * usize::from(capacity);
+        self.entries.iter().all(|entry| entry.lies_inside(size))
+    }
+
+    /// The length of the payload in bytes: up to the end of the last entry's blocks.
+    pub fn payload_len(&self) -> usize
+        ensures value { result ≡ payload_length self.now.group }
+        ensures fits { result ≤ 16_648 }
+    {
+        let entries = self.entries.as_slice();
+        let last = entries.len() - 1;
+        let entry = &entries[last];
+        8 + STRIDE * last + 64 + entry.blocks().len()
+    }
+
+    /// Writes the payload to the front of a buffer, and zeros behind it. A byte with the number of
+    /// entries and 7 zeros, then each entry 4,160 bytes after the one before: the sequence in 8 bytes
+    /// of big endian, the kind (PROGRAM_KEY 1, DATA_WRITE 3), the key in 32, the counter in 4, the
+    /// address and the number of blocks in 2 each, 15 zeros, and the blocks.
+    pub fn encode(&self, out: &mut [u8])
+        requires { length out.old ≡ 16_648 }
+        ensures bytes { take (payload_length self.now.group) out.new ≡ payload_bytes self.now.group }
+        ensures buffer { length out.new ≡ 16_648 }
+    {
+        out.fill(0);
+        let entries = self.entries.as_slice();
+        put(out, 0, &[entries.len() as u8]);
+        for (k, entry) in entries.iter().enumerate() {
+            entry.put(out, 8 + STRIDE * k, &self.key, self.first + k as u32);
+        }
+    }
+}
