@@ -1,2 +1,8 @@
 //! A disk, by what reads give and what a stop may leave, and three disks.
 #![tactic(auto)]
+
+mod disk;
+mod mem_disk;
+
+pub use disk::{Disk, DiskFault};
+pub use mem_disk::MemDisk;
