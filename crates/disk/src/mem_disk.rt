@@ -3,6 +3,7 @@ ghost use Rattle.disk.specs.Content.{bytes_at, content_of, overwritten};
 ghost use Rattle.disk.specs.Disk.{DiskState, DiskCall, Read, Write, Sync, Effect};
 ghost use Rattle.disk.specs.MemDisk.{mem_state, MemMakes};
 
+use crate::bytes::{copy_out, put};
 use crate::disk::{Disk, DiskFault};
 use std::marker::Model;
 
@@ -50,14 +51,13 @@ impl Disk for MemDisk {
     }
 
     fn read_at(&mut self, at: u64, out: &mut [u8]) -> Result<(), DiskFault> {
-        let from = at as usize;
-        out.copy_from_slice(&self.content[from..from + out.len()]);
+        copy_out(&self.content, at, out);
         Ok(())
     }
 
+    #[tactic(auto, using(crate::proofs::MemCalls::makes_write))]
     fn write_at(&mut self, at: u64, bytes: &[u8]) -> Result<(), DiskFault> {
-        let from = at as usize;
-        self.content[from..from + bytes.len()].copy_from_slice(bytes);
+        put(&mut self.content, at, bytes);
         Ok(())
     }
 

@@ -1,0 +1,2 @@
+pub mod MemCalls
+pub mod Overwriting
