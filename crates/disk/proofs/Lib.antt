@@ -1,2 +1,4 @@
+pub mod CutCalls
+pub mod Fills
 pub mod MemCalls
 pub mod Overwriting

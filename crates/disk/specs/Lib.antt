@@ -1,3 +1,4 @@
 pub mod Content
+pub mod CutDisk
 pub mod Disk
 pub mod MemDisk

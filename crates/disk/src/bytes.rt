@@ -1,4 +1,4 @@
-ghost use Rattle.std.specs.Prelude.{◌≡◌, ◌+◌, ◌≤◌, length};
+ghost use Rattle.std.specs.Prelude.{◌≡◌, ◌+◌, ◌≤◌, true, false, length, replicate};
 ghost use Rattle.disk.specs.Content.{bytes_at, content_of, overwritten};
 
 /// Copies the bytes from `at` on into all of `out`.
@@ -19,4 +19,29 @@ pub fn put(content: &mut Vec<u8>, at: u64, bytes: &[u8])
 {
     let from = at as usize;
     content[from..from + bytes.len()].copy_from_slice(bytes);
+}
+
+/// Takes over all bytes of another list.
+pub fn copy_all(content: &mut Vec<u8>, from: &[u8])
+    requires { length from.now ≡ length content.old.items }
+    ensures { content.new.items ≡ from.now }
+{
+    content.copy_from_slice(from);
+}
+
+/// Sets the flags of a range.
+#[tactic(auto, unfolding(crate::specs::Content::overwritten))]
+pub fn mark(flags: &mut Vec<bool>, at: u64, count: usize)
+    requires { at + count ≤ length flags.old.items }
+    ensures { flags.new.items ≡ overwritten at (replicate count true) flags.old.items }
+{
+    let from = at as usize;
+    flags[from..from + count].fill(true);
+}
+
+/// Clears all flags.
+pub fn clear(flags: &mut Vec<bool>)
+    ensures { flags.new.items ≡ replicate (length flags.old.items) false }
+{
+    flags.fill(false);
 }

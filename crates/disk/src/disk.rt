@@ -2,7 +2,11 @@ ghost use Rattle.std.specs.Prelude.{◌≡◌, ◌+◌, ◌≤◌, true, length,
 ghost use Rattle.disk.specs.Content.{bytes_at};
 ghost use Rattle.disk.specs.Disk.{DiskState, DiskCall, Read, Write, Sync, Effect};
 
+use std::alloc::AllocError;
 use thiserror::Error;
+
+/// There was no room in memory.
+pub type NoMemory = AllocError;
 
 /// A call on a disk failed.
 #[derive(Debug, Clone, Copy, PartialEq, Eq, Error)]

@@ -2,8 +2,13 @@
 #![tactic(auto)]
 
 mod bytes;
+mod cut_disk;
 mod disk;
+mod filler;
+mod filling;
 mod mem_disk;
 
-pub use disk::{Disk, DiskFault};
+pub use cut_disk::CutDisk;
+pub use disk::{Disk, DiskFault, NoMemory};
+pub use filler::Filler;
 pub use mem_disk::MemDisk;

@@ -46,26 +46,45 @@ impl Disk for MemDisk {
 
     ghost effect = { λ old new call made. made.effect };
 
-    fn len(&self) -> u64 {
+    fn len(&self) -> u64
+        ensures { result ≡ length self.now }
+    {
         self.content.len() as u64
     }
 
-    fn read_at(&mut self, at: u64, out: &mut [u8]) -> Result<(), DiskFault> {
+    fn read_at(&mut self, at: u64, out: &mut [u8]) -> Result<(), DiskFault>
+        requires { at + length out.old ≤ length self.old }
+        ensures call { MemMakes self.old (Read (is_ok result)) self.new }
+        ensures succeeds { IsOk result }
+        ensures value { out.new ≡ bytes_at (content_of self.old) at (length out.old) }
+        ensures unchanged { self.new ≡ self.old }
+    {
         copy_out(&self.content, at, out);
         Ok(())
     }
 
     #[tactic(auto, using(crate::proofs::MemCalls::makes_write))]
-    fn write_at(&mut self, at: u64, bytes: &[u8]) -> Result<(), DiskFault> {
+    fn write_at(&mut self, at: u64, bytes: &[u8]) -> Result<(), DiskFault>
+        requires { at + length bytes.now ≤ length self.old }
+        ensures call { MemMakes self.old (Write at bytes.now (is_ok result)) self.new }
+        ensures succeeds { IsOk result }
+        ensures value { self.new ≡ overwritten at bytes.now self.old }
+    {
         put(&mut self.content, at, bytes);
         Ok(())
     }
 
-    fn sync(&mut self) -> Result<(), DiskFault> {
+    fn sync(&mut self) -> Result<(), DiskFault>
+        ensures call { MemMakes self.old (Sync (is_ok result)) self.new }
+        ensures succeeds { IsOk result }
+        ensures unchanged { self.new ≡ self.old }
+    {
         Ok(())
     }
 
-    fn failures(&self) -> u64 {
+    fn failures(&self) -> u64
+        ensures { result ≡ 0 }
+    {
         0
     }
 }
