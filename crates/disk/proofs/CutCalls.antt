@@ -4,7 +4,7 @@ use Rattle.std.specs.Prelude.{if◌then◌else◌, slice_index}
 use Rattle.std.proofs.lemmas.Bool.{cases_lt}
 use Rattle.std.proofs.lemmas.List.{length-replicate, get_or-replicate, get_or_past}
 use Rattle.disk.specs.Content.{IsOutside, content_of, overwritten}
-use Rattle.disk.specs.Disk.{HasRisen, MayLeave, DiskCall, Read, Write, Sync, Reads, Writes, Syncs}
+use Rattle.disk.specs.Disk.{HasRisen, MayLeave, DiskCall, Read, Write, Sync, Counts, Reads, Writes, Syncs}
 use Rattle.disk.specs.CutDisk.{CutState, IsCutDisk, CutMakes, Stops, left_by, cut_state, goes_on, next_chosen, next_failures, succeeds, counted, after_write, after_sync}
 use Rattle.disk.specs.declared.filler.Filler.{Filler}
 use Rattle.disk.specs.declared.filler.Filler.TheVariants.{Old, New, Fill}
@@ -25,16 +25,28 @@ cause : (chosen failures : ℕ) → goes_on chosen failures ≡ false → HasRis
 unfolding goes_on next_failures
 cause chosen failures stays = grind arith
 
+ended : (chosen failures : ℕ) → 2 ^ 64 ≤ failures + 1 → goes_on chosen failures ≡ false
+unfolding goes_on
+ended chosen failures full = grind arith
+
+counts_so : (d new : CutState) → length new.seen ≡ length d.seen → new.failures ≡ next_failures d.chosen d.failures
+    → Counts (succeeds d) (cut_state d) (cut_state new)
+unfolding succeeds
+counts_so d new long is = record {
+  len = long;
+  faithful = refl;
+  later = subst (λ (n : ℕ). d.failures ≤ n) (sym is) (later d.chosen d.failures);
+  unfailed = λ ok. is ∙ unfailed d.chosen d.failures ok;
+  cause = λ not_ok. subst (λ (n : ℕ). HasRisen d.failures n) (sym is) (cause d.chosen d.failures not_ok);
+  ended = ended d.chosen d.failures;
+}
+
 reads : (d : CutState) → Reads (succeeds d) (cut_state d) (cut_state (counted d))
 unfolding succeeds counted
 reads d = record {
-  len = refl;
-  faithful = refl;
+  counts = counts_so d (counted d) refl refl;
   seen = λ _ _. refl;
   unsynced = λ _ _ clear. clear;
-  later = later d.chosen d.failures;
-  unfailed = unfailed d.chosen d.failures;
-  cause = cause d.chosen d.failures;
 }
 
 makes_read : (d : CutState) → CutMakes d (Read (succeeds d)) (counted d)
@@ -100,14 +112,10 @@ writes : (d : CutState) (at : ℕ) (bytes : List ℕ) → IsCutDisk d → at + l
     → Writes at bytes (succeeds d) (cut_state d) (cut_state (after_write at bytes d))
 unfolding succeeds counted after_write
 writes d at bytes sound fits = (let fits_flags : at + length bytes ≤ length d.unsynced = omega (arith, sound.flag_each) in record {
-  len = length-written_seen (succeeds d) at bytes d.seen fits;
-  faithful = refl;
+  counts = counts_so d (after_write at bytes d) (length-written_seen (succeeds d) at bytes d.seen fits) refl;
   written = λ _ is k below. written_inside (succeeds d) at bytes d.seen k fits is below;
   outside = λ _ k outside. written_outside (succeeds d) at bytes d.seen k fits outside;
   unsynced = λ _ k outside clear. marked_outside at (length bytes) d.unsynced k fits_flags outside ∙ clear;
-  later = later d.chosen d.failures;
-  unfailed = unfailed d.chosen d.failures;
-  cause = cause d.chosen d.failures;
 })
 
 makes_write : (d : CutState) (at : ℕ) (bytes : List ℕ) → IsCutDisk d → at + length bytes ≤ length d.seen
@@ -165,14 +173,10 @@ synced_fewer false flags k clear = clear
 syncs : (d : CutState) → Syncs (succeeds d) (cut_state d) (cut_state (after_sync d))
 unfolding succeeds counted after_sync
 syncs d = record {
-  len = refl;
-  faithful = refl;
+  counts = counts_so d (after_sync d) refl refl;
   seen = λ _ _. refl;
   durable = λ _ is k. synced_clear (succeeds d) d.unsynced k is;
   unsynced = λ _ k clear. synced_fewer (succeeds d) d.unsynced k clear;
-  later = later d.chosen d.failures;
-  unfailed = unfailed d.chosen d.failures;
-  cause = cause d.chosen d.failures;
 }
 
 makes_sync : (d : CutState) → CutMakes d (Sync (succeeds d)) (after_sync d)

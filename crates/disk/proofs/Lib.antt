@@ -2,3 +2,4 @@ pub mod CutCalls
 pub mod Fills
 pub mod MemCalls
 pub mod Overwriting
+pub mod Ways

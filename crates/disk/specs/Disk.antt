@@ -30,37 +30,35 @@ pub data DiskCall : Type 0 where
 abbrev pub HasRisen : ℕ → ℕ → Type 0
 HasRisen before now = (before < now) ⊎ (2 ^ 64 ≤ before + 1)
 
--- A read that ended so. Nothing changes but the count of failures.
-pub record Reads (ok : Bool) (old new : DiskState) : Type 0 where
+-- What every call does, however it ends: the length stays, and a failure is counted.
+pub record Counts (ok : Bool) (old new : DiskState) : Type 0 where
   pub len : new.len ≡ old.len
   pub faithful : new.faithful ≡ old.faithful
-  pub seen : old.faithful ≡ true → (k : ℕ) → new.seen k ≡ old.seen k
-  pub unsynced : old.faithful ≡ true → (k : ℕ) → old.unsynced k ≡ false → new.unsynced k ≡ false
   pub later : old.failures ≤ new.failures
   pub unfailed : ok ≡ true → new.failures ≡ old.failures
   pub cause : ok ≡ false → HasRisen old.failures new.failures
+  -- where no further failure can be counted, every call fails
+  pub ended : 2 ^ 64 ≤ old.failures + 1 → ok ≡ false
+
+-- A read that ended so. Nothing changes but the count of failures.
+pub record Reads (ok : Bool) (old new : DiskState) : Type 0 where
+  pub counts : Counts ok old new
+  pub seen : old.faithful ≡ true → (k : ℕ) → new.seen k ≡ old.seen k
+  pub unsynced : old.faithful ≡ true → (k : ℕ) → old.unsynced k ≡ false → new.unsynced k ≡ false
 
 -- A write that ended so. Of its own range, a write that failed says nothing.
 pub record Writes (at : ℕ) (bytes : List ℕ) (ok : Bool) (old new : DiskState) : Type 0 where
-  pub len : new.len ≡ old.len
-  pub faithful : new.faithful ≡ old.faithful
+  pub counts : Counts ok old new
   pub written : old.faithful ≡ true → ok ≡ true → (k : ℕ) → k < length bytes → new.seen (at + k) ≡ slice_index bytes k
   pub outside : old.faithful ≡ true → (k : ℕ) → IsOutside at (length bytes) k → new.seen k ≡ old.seen k
   pub unsynced : old.faithful ≡ true → (k : ℕ) → IsOutside at (length bytes) k → old.unsynced k ≡ false → new.unsynced k ≡ false
-  pub later : old.failures ≤ new.failures
-  pub unfailed : ok ≡ true → new.failures ≡ old.failures
-  pub cause : ok ≡ false → HasRisen old.failures new.failures
 
 -- A sync that ended so: where it succeeded, a stop leaves what reads give.
 pub record Syncs (ok : Bool) (old new : DiskState) : Type 0 where
-  pub len : new.len ≡ old.len
-  pub faithful : new.faithful ≡ old.faithful
+  pub counts : Counts ok old new
   pub seen : old.faithful ≡ true → (k : ℕ) → new.seen k ≡ old.seen k
-  pub durable : old.faithful ≡ true → ok ≡ true → (k : ℕ) → new.unsynced k ≡ false
   pub unsynced : old.faithful ≡ true → (k : ℕ) → old.unsynced k ≡ false → new.unsynced k ≡ false
-  pub later : old.failures ≤ new.failures
-  pub unfailed : ok ≡ true → new.failures ≡ old.failures
-  pub cause : ok ≡ false → HasRisen old.failures new.failures
+  pub durable : old.faithful ≡ true → ok ≡ true → (k : ℕ) → new.unsynced k ≡ false
 
 -- what a call may do
 abbrev pub Effect : DiskState → DiskCall → DiskState → Type 0

@@ -4,11 +4,13 @@
 mod bytes;
 mod cut_disk;
 mod disk;
+mod file_disk;
 mod filler;
 mod filling;
 mod mem_disk;
 
 pub use cut_disk::CutDisk;
 pub use disk::{Disk, DiskFault, NoMemory};
+pub use file_disk::FileDisk;
 pub use filler::Filler;
 pub use mem_disk::MemDisk;
