@@ -1,5 +1,5 @@
 -- Contents of a disk: the byte at each place.
-use Rattle.std.specs.Prelude.{◌⊎◌, ℕ, zero, suc, ◌+◌, ◌-◌, ◌<◌, ◌≤◌, Bool, List, [], ◌∷◌, length, slice_index, nat_le, nat_lt, ◌&&◌, if◌then◌else◌}
+use Rattle.std.specs.Prelude.{◌⊎◌, ℕ, zero, suc, ◌+◌, ◌-◌, ◌<◌, ◌≤◌, Bool, List, [], ◌∷◌, ◌++◌, length, take, drop, slice_index, nat_le, nat_lt, ◌&&◌, if◌then◌else◌}
 
 -- the byte at each place
 abbrev pub Content : Type 0
@@ -29,3 +29,7 @@ over at bytes c = λ k. if in_range at (length bytes) k then slice_index bytes (
 -- the bytes of a list, from place 0 on
 abbrev pub content_of : List ℕ → Content
 content_of bytes = λ k. slice_index bytes k
+
+-- a list with these in place of its own from a place on
+unfoldable pub overwritten : {A : Type 0} → ℕ → List A → List A → List A
+overwritten at items list = take at list ++ (items ++ drop (length items) (drop at list))

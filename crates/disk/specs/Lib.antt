@@ -1,1 +1,5 @@
 pub mod Content
+pub mod CutDisk
+pub mod Disk
+pub mod FileDisk
+pub mod MemDisk

@@ -1,0 +1,5 @@
+pub mod CutCalls
+pub mod Fills
+pub mod MemCalls
+pub mod Overwriting
+pub mod Ways
