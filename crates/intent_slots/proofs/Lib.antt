@@ -9,3 +9,5 @@ pub mod Equal
 pub mod Parts
 pub mod Homes
 pub mod Groups
+pub mod Decoding
+pub mod Rooms

@@ -10,9 +10,11 @@ mod header;
 mod home;
 mod intent;
 mod layout;
+mod payload;
 
 pub use entry::Entry;
 pub use header::HeaderFault;
 pub use home::Home;
-pub use intent::{Intent, PAYLOAD_LENGTH};
+pub use intent::Intent;
 pub use layout::{Layout, Side};
+pub use payload::{NoMemory, PAYLOAD_LENGTH, Room};
