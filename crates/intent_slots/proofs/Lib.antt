@@ -11,3 +11,5 @@ pub mod Homes
 pub mod Groups
 pub mod Decoding
 pub mod Rooms
+pub mod ReadsBack
+pub mod Parting
