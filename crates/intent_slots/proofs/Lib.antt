@@ -13,3 +13,4 @@ pub mod Decoding
 pub mod Rooms
 pub mod ReadsBack
 pub mod Parting
+pub mod Boards
