@@ -9,3 +9,8 @@ pub mod Equal
 pub mod Parts
 pub mod Homes
 pub mod Groups
+pub mod Decoding
+pub mod Rooms
+pub mod ReadsBack
+pub mod Parting
+pub mod Boards

@@ -1,5 +1,6 @@
 -- Where the partitions of an image stand, and their parts (own). Places and lengths are in bytes.
 use Rattle.std.specs.Prelude.{◌≡◌, ◌≢◌, ◌⊎◌, ℕ, zero, suc, ◌+◌, ◌*◌, ◌<◌, ◌≤◌, List, [], ◌∷◌, length, map, slice_index, slice_get, Some}
+use Rattle.std.specs.List.{All}
 use Rattle.rpmb_frame.specs.declared.config.GuestConfig.{GuestConfig}
 use Rattle.intent_slots.specs.declared.layout.Side.{Side}
 use Rattle.intent_slots.specs.declared.layout.Side.TheVariants.{A, B}
@@ -7,6 +8,11 @@ use Rattle.intent_slots.specs.declared.layout.Side.TheVariants.{A, B}
 -- the capacities of a board's guests, in units of 512 blocks of 256 bytes
 unfoldable pub capacities_of : List GuestConfig → List ℕ
 capacities_of guests = map (λ g. g.capacity) guests
+
+-- the capacities of at most 64 guests, each at most 128
+pub record AreCapacities (capacities : List ℕ) : Type 0 where
+  pub few : length capacities ≤ 64
+  pub each : All (λ n. n ≤ 128) capacities
 
 -- a partition's bytes: its parts before the blocks, and the blocks
 abbrev pub extent : ℕ → ℕ

@@ -64,6 +64,10 @@ pub record IsEntry (c : Content) (at : ℕ) (key : List ℕ) (counter : ℕ) (e 
   pub number : 256 * number_at c (at + 47) 2 ≡ length e.blocks
   pub blocks : bytes_at c (at + 64) (length e.blocks) ≡ e.blocks
 
+-- a well-formed entry stands there, in a partition of so many bytes
+abbrev pub IsEntryIn : ℕ → Content → ℕ → List ℕ → ℕ → Entry → Type 0
+IsEntryIn size c at key counter e = IsEntry c at key counter e × EntryFits size counter e
+
 abbrev pub AreEntries : Content → ℕ → List ℕ → ℕ → List Entry → Type 0
 AreEntries c at key counter [] = Unit {0}
 AreEntries c at key counter (e ∷ es) = IsEntry c at key counter e × AreEntries c (at + 4160) key (counter + 1) es

@@ -1,8 +1,9 @@
-ghost use Rattle.std.specs.Prelude.{◌≡◌, ◌+◌, ◌≤◌, ◌*◌, [], ◌↔◌, IsTrue, length};
+ghost use Rattle.std.specs.Prelude.{◌≡◌, ◌+◌, ◌≤◌, ◌*◌, ◌^◌, ◌⊎◌, [], ◌↔◌, IsTrue, IfSome, None, length, vec_capacity};
 ghost use Rattle.disk.specs.Content.{content_of};
-ghost use Rattle.intent_slots.specs.Payload.{kind_of, entry_over};
+ghost use Rattle.intent_slots.specs.Payload.{Entry as EntryModel, IsEntryIn, kind_of, entry_over};
+ghost use Rattle.intent_slots.specs.Reading.{HasFields, HasKind, HasProgramKey, HasWrite};
 
-use crate::fields::{put, put_u16, put_u32, put_u64};
+use crate::fields::{has_bytes, put, put_u16, put_u32, put_u64, u16_at, u32_at, u64_at};
 use std::alloc::Global;
 use std::default::MadeWith;
 use std::marker::Model;
@@ -95,4 +96,79 @@ impl Entry {
         put_u16(out, at + 47, (self.blocks.len() / 256) as u16);
         put(out, at + 64, &self.blocks);
     }
+
+    /// The entry whose fields stand in a payload from a place on, where it is well formed, of this key
+    /// and of this counter, in a partition of `size` bytes of blocks. Its blocks go into the room.
+    pub(crate) fn decode(
+        payload: &[u8],
+        at: usize,
+        key: &[u8; 32],
+        counter: u32,
+        size: usize,
+        room: Vec<u8>,
+    ) -> Option<Entry>
+        requires size { size ≤ 2 ^ 24 }
+        requires within { at + 4160 ≤ length payload.now }
+        requires empty { room.items ≡ [] }
+        requires room { 4096 ≤ vec_capacity room }
+        ensures ok { IfSome result (λ entry. IsEntryIn size (content_of payload.now) at key.now counter entry) }
+        ensures refused { result ≡ None → (entry : EntryModel) → ¬ IsEntryIn size (content_of payload.now) at key.now counter entry }
+    {
+        if !is_entry(payload, at, key, counter, size) {
+            return None;
+        }
+        let address = u16_at(payload, at + 45);
+        let length = 256 * usize::from(u16_at(payload, at + 47));
+        let mut blocks = room;
+        match blocks.extend_from_slice(&payload[at + 64..at + 64 + length]) {
+            Ok(()) => {}
+            Err(_) => unreachable!(),
+        }
+        Some(Entry { address, blocks })
+    }
+}
+
+fn is_entry(payload: &[u8], at: usize, key: &[u8; 32], counter: u32, size: usize) -> bool
+    requires size { size ≤ 2 ^ 24 }
+    requires within { at + 4160 ≤ length payload.now }
+    ensures { IsTrue result ↔ (HasFields (content_of payload.now) at key.now counter × HasKind size (content_of payload.now) at counter) }
+{
+    has_fields(payload, at, key, counter) && has_kind(payload, at, counter, size)
+}
+
+fn has_fields(payload: &[u8], at: usize, key: &[u8; 32], counter: u32) -> bool
+    requires { at + 4160 ≤ length payload.now }
+    ensures { IsTrue result ↔ HasFields (content_of payload.now) at key.now counter }
+{
+    u64_at(payload, at) == u64::from(counter) + 1
+        && has_bytes(payload, at + 9, key)
+        && u32_at(payload, at + 41) == counter
+}
+
+fn has_kind(payload: &[u8], at: usize, counter: u32, size: usize) -> bool
+    requires size { size ≤ 2 ^ 24 }
+    requires within { at + 4160 ≤ length payload.now }
+    ensures { IsTrue result ↔ HasKind size (content_of payload.now) at counter }
+{
+    is_program_key(payload, at, counter) || is_write(payload, at, size)
+}
+
+fn is_program_key(payload: &[u8], at: usize, counter: u32) -> bool
+    requires { at + 4160 ≤ length payload.now }
+    ensures { IsTrue result ↔ HasProgramKey (content_of payload.now) at counter }
+{
+    payload[at + 8] == 1
+        && counter == 0
+        && u16_at(payload, at + 45) == 0
+        && u16_at(payload, at + 47) == 0
+}
+
+fn is_write(payload: &[u8], at: usize, size: usize) -> bool
+    requires size { size ≤ 2 ^ 24 }
+    requires within { at + 4160 ≤ length payload.now }
+    ensures { IsTrue result ↔ HasWrite size (content_of payload.now) at }
+{
+    let address = usize::from(u16_at(payload, at + 45));
+    let number = usize::from(u16_at(payload, at + 47));
+    payload[at + 8] == 3 && 1 <= number && number <= 16 && 256 * (address + number) <= size
 }

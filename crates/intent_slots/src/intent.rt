@@ -1,27 +1,20 @@
-ghost use Rattle.std.specs.Prelude.{◌≡◌, ◌+◌, ◌-◌, ◌<◌, ◌≤◌, ◌*◌, ◌^◌, ◌++◌, ◌∷◌, [], ◌↔◌, IsTrue, length, take, slice_get, Some};
-ghost use Rattle.intent_slots.specs.Payload.{GroupFits, EntryFits, IsWrite, last_of, payload_bytes, payload_length};
+ghost use Rattle.std.specs.Prelude.{◌≡◌, ◌+◌, ◌-◌, ◌<◌, ◌≤◌, ◌*◌, ◌^◌, ◌++◌, ◌∷◌, [], ◌↔◌, IsTrue, length, slice_get, Some};
+ghost use Rattle.intent_slots.specs.Payload.{GroupFits, EntryFits, IsWrite, last_of};
 
 use crate::entry::Entry;
-use crate::fields::put;
 use crate::home::Home;
 use arrayvec::ArrayVec;
 use std::alloc::Global;
 use std::marker::Model;
 
-/// The length in bytes of the greatest payload.
-pub const PAYLOAD_LENGTH: usize = 16_648;
-
-/// The bytes from one entry of a payload to the next.
-const STRIDE: usize = 4160;
-
 /// What a guest's partition is to become: one to four accepted requests of one key, whose counters
 /// follow each other. A contract sees the guest, and the group of its requests.
 #[derive(Drop)]
 pub struct Intent {
-    guest: u16,
-    key: [u8; 32],
-    first: u32,
-    entries: ArrayVec<Entry, 4, Global>,
+    pub(crate) guest: u16,
+    pub(crate) key: [u8; 32],
+    pub(crate) first: u32,
+    pub(crate) entries: ArrayVec<Entry, 4, Global>,
 }
 
 impl Model for Intent {
@@ -157,33 +150,5 @@ impl Intent {
     {
         let size = 131_072 * usize::from(capacity);
         self.entries.iter().all(|entry| entry.lies_inside(size))
-    }
-
-    /// The length of the payload in bytes: up to the end of the last entry's blocks.
-    pub fn payload_len(&self) -> usize
-        ensures value { result ≡ payload_length self.now.group }
-        ensures fits { result ≤ 16_648 }
-    {
-        let entries = self.entries.as_slice();
-        let last = entries.len() - 1;
-        let entry = &entries[last];
-        8 + STRIDE * last + 64 + entry.blocks().len()
-    }
-
-    /// Writes the payload to the front of a buffer, and zeros behind it. A byte with the number of
-    /// entries and 7 zeros, then each entry 4,160 bytes after the one before: the sequence in 8 bytes
-    /// of big endian, the kind (PROGRAM_KEY 1, DATA_WRITE 3), the key in 32, the counter in 4, the
-    /// address and the number of blocks in 2 each, 15 zeros, and the blocks.
-    pub fn encode(&self, out: &mut [u8])
-        requires { length out.old ≡ 16_648 }
-        ensures bytes { take (payload_length self.now.group) out.new ≡ payload_bytes self.now.group }
-        ensures buffer { length out.new ≡ 16_648 }
-    {
-        out.fill(0);
-        let entries = self.entries.as_slice();
-        put(out, 0, &[entries.len() as u8]);
-        for (k, entry) in entries.iter().enumerate() {
-            entry.put(out, 8 + STRIDE * k, &self.key, self.first + k as u32);
-        }
     }
 }

@@ -29,13 +29,14 @@ pub struct Layout {
 }
 
 impl Model for Layout {
-    ghost use Rattle.std.specs.Prelude.{List, ℕ, ◌≤◌, length};
+    ghost use Rattle.std.specs.Prelude.{List, ℕ};
+    ghost use Rattle.intent_slots.specs.Layout.{AreCapacities};
 
     ghost Value = { List ℕ };
 
     ghost view = { λ l. l.capacities.items };
 
-    ghost invariant = { λ l. length l.capacities.items ≤ 64 };
+    ghost invariant = { λ l. AreCapacities l.capacities.items };
 }
 
 #[tactic(auto, unfolding(crate::specs::Layout::place_at, crate::specs::Layout::image_length, crate::specs::Layout::capacities_of))]
@@ -75,10 +76,11 @@ impl Layout {
         start(self.capacities.as_slice(), self.capacities.len())
     }
 
-    /// A guest's capacity in units of 512 blocks of 256 bytes.
+    /// A guest's capacity in units of 512 blocks of 256 bytes: at most 128.
     pub fn capacity(&self, guest: u16) -> u8
         requires { guest < length self.now }
-        ensures { result ≡ slice_index self.now guest }
+        ensures value { result ≡ slice_index self.now guest }
+        ensures in_range { result ≤ 128 }
     {
         self.capacities.as_slice()[usize::from(guest)]
     }
