@@ -1,4 +1,4 @@
-use Rattle.std.proofs.Common.{◌≡◌, ◌∙◌}
+use Rattle.std.proofs.Common.{◌∙◌}
 use Rattle.disk.proofs.CutCalls.{stop_made, stop_leaves}
 use Rattle.disk.proofs.cut_disk.CutDisk.cut.Goals as goal
 
