@@ -1,10 +1,10 @@
 -- What the calls on the disk that can be cut do is what a call may do.
-use Rattle.std.proofs.Common.{◌≡◌, ◌⊎◌, inl, inr, ⊎_elim, Bool, true, false, not, ◌==◌, ◌&&◌, nat_lt, ℕ, ◌+◌, ◌-◌, ◌^◌, ◌≤◌, ◌<◌, List, length, get_or, replicate, refl, ap, sym, ◌∙◌, subst, arith}
+use Rattle.std.proofs.Common.{◌≡◌, inl, inr, ⊎_elim, Bool, true, false, ℕ, ◌+◌, ◌-◌, ◌^◌, ◌≤◌, ◌<◌, List, length, get_or, replicate, refl, ap, sym, ◌∙◌, subst, arith}
 use Rattle.std.specs.Prelude.{if◌then◌else◌, slice_index}
 use Rattle.std.proofs.lemmas.Bool.{cases_lt}
 use Rattle.std.proofs.lemmas.List.{length-replicate, get_or-replicate, get_or_past}
 use Rattle.disk.specs.Content.{IsOutside, content_of, overwritten}
-use Rattle.disk.specs.Disk.{HasRisen, MayLeave, DiskCall, Read, Write, Sync, Counts, Reads, Writes, Syncs}
+use Rattle.disk.specs.Disk.{HasRisen, MayLeave, Read, Write, Sync, Counts, Reads, Writes, Syncs}
 use Rattle.disk.specs.CutDisk.{CutState, IsCutDisk, CutMakes, Stops, left_by, cut_state, goes_on, next_chosen, next_failures, succeeds, counted, after_write, after_sync}
 use Rattle.disk.specs.declared.filler.Filler.{Filler}
 use Rattle.disk.specs.declared.filler.Filler.TheVariants.{Old, New, Fill}
@@ -59,9 +59,9 @@ pub read_made : (d old : CutState) → d ≡ old → (chosen failures : ℕ) (ok
 unfolding succeeds counted
 read_made d old same chosen failures ok is_ok is_chosen is_failures =
     let new : record d { chosen = chosen; failures = failures } ≡ counted d
-      = ap (λ (n : ℕ). record d { chosen = n; failures = failures }) is_chosen ∙ ap (λ (n : ℕ). record d { chosen = next_chosen d.chosen d.failures; failures = n }) is_failures in
+    = ap (λ (n : ℕ). record d { chosen = n; failures = failures }) is_chosen ∙ ap (λ (n : ℕ). record d { chosen = next_chosen d.chosen d.failures; failures = n }) is_failures in
     subst (λ (s : CutState). CutMakes s (Read ok) (record d { chosen = chosen; failures = failures })) same
-      (subst (λ (s : CutState). CutMakes d (Read ok) s) (sym new) (subst (λ (b : Bool). CutMakes d (Read b) (counted d)) (sym is_ok) (makes_read d)))
+    (subst (λ (s : CutState). CutMakes d (Read ok) s) (sym new) (subst (λ (b : Bool). CutMakes d (Read b) (counted d)) (sym is_ok) (makes_read d)))
 
 -- 2. A write
 
@@ -92,21 +92,21 @@ length-marked at n flags fits = (let long = length-replicate n true in length-ov
 
 marked_outside : (at n : ℕ) (flags : List Bool) (k : ℕ) → at + n ≤ length flags → IsOutside at n k → get_or (marked at n flags) k false ≡ get_or flags k false
 marked_outside at n flags k fits outside = (let long = length-replicate n true in
-  get_or-overwritten_outside at (replicate n true) flags k false (omega (arith, long)) (subst (λ (m : ℕ). IsOutside at m k) (sym long) outside))
+    get_or-overwritten_outside at (replicate n true) flags k false (omega (arith, long)) (subst (λ (m : ℕ). IsOutside at m k) (sym long) outside))
 
 marked_inside : (at n : ℕ) (flags : List Bool) (k : ℕ) → at + n ≤ length flags → k < n → get_or (marked at n flags) (at + k) false ≡ true
 marked_inside at n flags k fits below = (let long = length-replicate n true in
-  get_or-overwritten_inside at (replicate n true) flags k false (omega (arith, long)) (omega (arith, long, below)) ∙ get_or-replicate n k true false below)
+    get_or-overwritten_inside at (replicate n true) flags k false (omega (arith, long)) (omega (arith, long, below)) ∙ get_or-replicate n k true false below)
 
 -- a place whose flag is clear lies outside the range
 clear_outside : (at n : ℕ) (flags : List Bool) (k : ℕ) → at + n ≤ length flags → get_or (marked at n flags) k false ≡ false → IsOutside at n k
 clear_outside at n flags k fits clear = ⊎_elim
-  (λ (below : k < at). inl below)
-  (λ (from : at ≤ k). ⊎_elim
+    (λ (below : k < at). inl below)
+    (λ (from : at ≤ k). ⊎_elim
     (λ (inside : k < at + n). (let same : at + (k - at) ≡ k = omega arith in let set = marked_inside at n flags (k - at) fits (omega arith) in let set_here = ap (λ (m : ℕ). get_or (marked at n flags) m false) (sym same) ∙ set in cc))
     (λ (past : at + n ≤ k). inr past)
     (cases_lt k (at + n)))
-  (cases_lt k at)
+    (cases_lt k at)
 
 writes : (d : CutState) (at : ℕ) (bytes : List ℕ) → IsCutDisk d → at + length bytes ≤ length d.seen
     → Writes at bytes (succeeds d) (cut_state d) (cut_state (after_write at bytes d))
@@ -133,8 +133,8 @@ write_made d old same at bytes sound fits seen flags chosen failures ok is_ok is
     let new : record d { seen = seen; unsynced = flags; chosen = chosen; failures = failures } ≡ after_write at bytes d = cc in
     let fits_d : at + length bytes ≤ length d.seen = subst (λ (s : CutState). at + length bytes ≤ length s.seen) (sym same) fits in
     subst (λ (s : CutState). CutMakes s (Write at bytes ok) (record d { seen = seen; unsynced = flags; chosen = chosen; failures = failures })) same
-      (subst (λ (s : CutState). CutMakes d (Write at bytes ok) s) (sym new)
-        (subst (λ (b : Bool). CutMakes d (Write at bytes b) (after_write at bytes d)) (sym is_ok) (makes_write d at bytes sound fits_d)))
+    (subst (λ (s : CutState). CutMakes d (Write at bytes ok) s) (sym new)
+    (subst (λ (b : Bool). CutMakes d (Write at bytes b) (after_write at bytes d)) (sym is_ok) (makes_write d at bytes sound fits_d)))
 
 pub write_sound : (d old : CutState) → d ≡ old → (at : ℕ) (bytes : List ℕ) → IsCutDisk d → at + length bytes ≤ length old.seen
     → (seen : List ℕ) (flags : List Bool) (chosen failures : ℕ) (ok : Bool) → seen ≡ written_seen ok at bytes d.seen → flags ≡ marked at (length bytes) d.unsynced
@@ -148,9 +148,9 @@ write_sound d old same at bytes sound fits_old seen flags chosen failures ok is_
       same_len = sound.same_len ∙ sym seen_long;
       flag_each = flags_long ∙ sound.flag_each ∙ sym seen_long;
       agree = λ k clear. (let clear_mark = ap (λ (l : List Bool). get_or l k false) (sym is_flags) ∙ clear in
-        let outside = clear_outside at (length bytes) d.unsynced k fits_flags clear_mark in
-        sound.agree k (sym (marked_outside at (length bytes) d.unsynced k fits_flags outside) ∙ clear_mark)
-        ∙ sym (ap (λ (l : List ℕ). slice_index l k) is_seen ∙ written_outside ok at bytes d.seen k fits outside));
+          let outside = clear_outside at (length bytes) d.unsynced k fits_flags clear_mark in
+          sound.agree k (sym (marked_outside at (length bytes) d.unsynced k fits_flags outside) ∙ clear_mark)
+          ∙ sym (ap (λ (l : List ℕ). slice_index l k) is_seen ∙ written_outside ok at bytes d.seen k fits outside));
     }
 
 -- 3. A sync
@@ -191,8 +191,8 @@ unfolding succeeds counted after_sync
 sync_made d old same synced flags chosen failures ok is_ok is_synced is_flags is_chosen is_failures =
     let new : record d { synced = synced; unsynced = flags; chosen = chosen; failures = failures } ≡ after_sync d = cc in
     subst (λ (s : CutState). CutMakes s (Sync ok) (record d { synced = synced; unsynced = flags; chosen = chosen; failures = failures })) same
-      (subst (λ (s : CutState). CutMakes d (Sync ok) s) (sym new)
-        (subst (λ (b : Bool). CutMakes d (Sync b) (after_sync d)) (sym is_ok) (makes_sync d)))
+    (subst (λ (s : CutState). CutMakes d (Sync ok) s) (sym new)
+    (subst (λ (b : Bool). CutMakes d (Sync b) (after_sync d)) (sym is_ok) (makes_sync d)))
 
 -- 4. A stop
 

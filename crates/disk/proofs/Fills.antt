@@ -1,5 +1,5 @@
 -- The loop that fills the unsynced places.
-use Rattle.std.proofs.Common.{◌≡◌, ◌⊎◌, inl, inr, ⊎_elim, subst, Bool, true, false, ℕ, zero, suc, ◌+◌, ◌≤◌, ◌<◌, List, length, get_or, refl, ap, sym, ◌∙◌, arith, add-one, length-set}
+use Rattle.std.proofs.Common.{◌≡◌, ⊎_elim, subst, Bool, true, false, ℕ, ◌+◌, ◌≤◌, ◌<◌, List, length, get_or, refl, ap, sym, ◌∙◌, arith, add-one, length-set}
 use Rattle.std.specs.Prelude.{if◌then◌else◌, slice_index, slice_set}
 use Rattle.std.proofs.lemmas.Bool.{cases_lt}
 use Rattle.std.proofs.lemmas.List.{get_or_past, get_or-set_same, get_or-set_other}
@@ -58,10 +58,10 @@ filled_set_next bytes flags old seen count i byte f lt whole is is_byte = record
   counted = ap (λ n. n + 1) f.counted ∙ sym (below_set flags i is);
   whole = length-set seen i byte ∙ f.whole;
   below = λ k below. ⊎_elim
-    (λ (earlier : k < i). get_or-set_other seen i k byte 0 (omega arith) ∙ f.below k earlier)
-    (λ (here : i ≤ k). (let same : k ≡ i = omega arith in subst (λ (n : ℕ). slice_index (slice_set seen i byte) n ≡ filled bytes flags old n) (sym same)
+      (λ (earlier : k < i). get_or-set_other seen i k byte 0 (omega arith) ∙ f.below k earlier)
+      (λ (here : i ≤ k). (let same : k ≡ i = omega arith in subst (λ (n : ℕ). slice_index (slice_set seen i byte) n ≡ filled bytes flags old n) (sym same)
       (get_or-set_same seen i byte 0 (omega (arith, lt, whole, f.whole)) ∙ is_byte ∙ ap (filling bytes) f.counted ∙ sym (filled_set bytes flags old i is))))
-    (cases_lt k i);
+      (cases_lt k i);
   above = λ k above. get_or-set_other seen i k byte 0 (omega arith) ∙ f.above k (omega arith);
 }
 
@@ -72,10 +72,10 @@ filled_clear_next bytes flags old seen count i f is = record {
   counted = f.counted ∙ sym (below_clear flags i is);
   whole = f.whole;
   below = λ k below. ⊎_elim
-    (λ (earlier : k < i). f.below k earlier)
-    (λ (here : i ≤ k). (let same : k ≡ i = omega arith in subst (λ (n : ℕ). slice_index seen n ≡ filled bytes flags old n) (sym same)
+      (λ (earlier : k < i). f.below k earlier)
+      (λ (here : i ≤ k). (let same : k ≡ i = omega arith in subst (λ (n : ℕ). slice_index seen n ≡ filled bytes flags old n) (sym same)
       (f.above i (omega arith) ∙ sym (filled_clear bytes flags old i is))))
-    (cases_lt k i);
+      (cases_lt k i);
   above = λ k above. f.above k (omega arith);
 }
 
@@ -85,13 +85,13 @@ pub filled_next_set : (bytes : List ℕ) (flags : List Bool) (old seen new : Lis
     → new ≡ slice_set seen i byte → next ≡ count + 1 → IsFilled bytes flags old new next (i + 1)
 filled_next_set bytes flags old seen new count next i byte f lt whole is is_byte is_new is_next =
     subst (λ (l : List ℕ). IsFilled bytes flags old l next (i + 1)) (sym is_new)
-      (subst (λ (n : ℕ). IsFilled bytes flags old (slice_set seen i byte) n (i + 1)) (sym is_next) (filled_set_next bytes flags old seen count i byte f lt whole is is_byte))
+    (subst (λ (n : ℕ). IsFilled bytes flags old (slice_set seen i byte) n (i + 1)) (sym is_next) (filled_set_next bytes flags old seen count i byte f lt whole is is_byte))
 
 pub filled_next_clear : (bytes : List ℕ) (flags : List Bool) (old seen new : List ℕ) (count next i : ℕ) → IsFilled bytes flags old seen count i
     → get_or flags i false ≡ false → new ≡ seen → next ≡ count → IsFilled bytes flags old new next (i + 1)
 filled_next_clear bytes flags old seen new count next i f is is_new is_next =
     subst (λ (l : List ℕ). IsFilled bytes flags old l next (i + 1)) (sym is_new)
-      (subst (λ (n : ℕ). IsFilled bytes flags old seen n (i + 1)) (sym is_next) (filled_clear_next bytes flags old seen count i f is))
+    (subst (λ (n : ℕ). IsFilled bytes flags old seen n (i + 1)) (sym is_next) (filled_clear_next bytes flags old seen count i f is))
 
 pub filled_end : (bytes : List ℕ) (flags : List Bool) (old seen : List ℕ) (count i : ℕ) → IsFilled bytes flags old seen count i
     → length flags ≤ i → (k : ℕ) → slice_index seen k ≡ filled bytes flags old k

@@ -1,5 +1,7 @@
+pub mod Choosing
 pub mod CutCalls
 pub mod Fills
 pub mod MemCalls
 pub mod Overwriting
+pub mod Stopping
 pub mod Ways

@@ -1,8 +1,8 @@
 -- What the calls on a disk in memory do is what a call may do.
-use Rattle.std.proofs.Common.{◌≡◌, true, ℕ, ◌+◌, ◌≤◌, ◌⊎◌, inl, List, length, get_or, refl, ap, sym, ◌∙◌, arith}
-use Rattle.disk.specs.Content.{IsOutside, content_of, overwritten}
-use Rattle.disk.specs.Disk.{Write, Writes}
-use Rattle.disk.specs.MemDisk.{mem_state, MemMakes}
+use Rattle.std.proofs.Common.{◌≡◌, true, ℕ, ◌+◌, ◌≤◌, List, length, get_or, refl, ap, ◌∙◌, arith}
+use Rattle.disk.specs.Content.{overwritten}
+use Rattle.disk.specs.Disk.{Write}
+use Rattle.disk.specs.MemDisk.{MemMakes}
 use Rattle.disk.proofs.Overwriting.{length-overwritten, get_or-overwritten_inside, get_or-overwritten_outside}
 
 pub makes_write : (old new : List ℕ) (at : ℕ) (bytes : List ℕ) → at + length bytes ≤ length old

@@ -1,5 +1,5 @@
 -- What a list holds, place by place, after some of its items were overwritten.
-use Rattle.std.proofs.Common.{◌≡◌, ◌⊎◌, ℕ, zero, suc, ◌+◌, ◌-◌, ◌≤◌, ◌<◌, List, ◌∷◌, ◌++◌, length, take, drop, get_or, refl, ap, sym, ◌∙◌, arith, rules, drop-cons, length-append, length-drop}
+use Rattle.std.proofs.Common.{◌≡◌, ℕ, zero, suc, ◌+◌, ◌≤◌, ◌<◌, List, ◌∷◌, ◌++◌, length, take, drop, get_or, refl, ap, ◌∙◌, arith, drop-cons, length-append, length-drop}
 use Rattle.std.proofs.lemmas.List.{places, length-take-le}
 use Rattle.disk.specs.Content.{IsOutside, bytes_at, content_of, overwritten}
 

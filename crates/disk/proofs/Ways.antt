@@ -1,6 +1,5 @@
 -- Ways that a disk goes by calls, for every disk: what held at each moment may be weakened, and one
 -- way goes on after another.
-use Rattle.std.proofs.Common.{◌≡◌}
 use Rattle.disk.specs.Disk.{DiskState, DiskCall, during, Within, Still, Then}
 
 module _ {D : Type 0} (state : D → DiskState) (makes : D → DiskCall → D → Type 0) where

@@ -1,6 +1,6 @@
 -- The disk over a file. No contract can say what a file gives and keeps, so it is not known to be
 -- faithful: what it shows is its length and its count of failures alone.
-use Rattle.std.specs.Prelude.{◌≡◌, ◌+◌, ◌^◌, ◌<◌, ℕ, Bool, true, false}
+use Rattle.std.specs.Prelude.{◌≡◌, ◌+◌, ◌^◌, ◌<◌, ℕ, true, false}
 use Rattle.disk.specs.Content.{zeros}
 use Rattle.disk.specs.Disk.{DiskState, DiskCall, Effect}
 use Rattle.disk.specs.MemDisk.{is_success}

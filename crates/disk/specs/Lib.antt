@@ -2,4 +2,5 @@ pub mod Content
 pub mod CutDisk
 pub mod Disk
 pub mod FileDisk
+pub mod Laws
 pub mod MemDisk

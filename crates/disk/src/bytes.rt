@@ -39,9 +39,12 @@ pub fn mark(flags: &mut Vec<bool>, at: u64, count: usize)
     flags[from..from + count].fill(true);
 }
 
-/// Clears all flags.
-pub fn clear(flags: &mut Vec<bool>)
-    ensures { flags.new.items ≡ replicate (length flags.old.items) false }
+/// Makes all of a content synced: a stop then leaves it, and no flag is set.
+pub fn keep(content: &[u8], synced: &mut Vec<u8>, unsynced: &mut Vec<bool>)
+    requires { length content.now ≡ length synced.old.items }
+    ensures synced { synced.new.items ≡ content.now }
+    ensures unsynced { unsynced.new.items ≡ replicate (length unsynced.old.items) false }
 {
-    flags.fill(false);
+    synced.copy_from_slice(content);
+    unsynced.fill(false);
 }

@@ -3,7 +3,7 @@ ghost use Rattle.disk.specs.Content.{bytes_at, content_of};
 ghost use Rattle.disk.specs.Disk.{DiskState, DiskCall, Read, Write, Sync, Effect, MayLeave};
 ghost use Rattle.disk.specs.CutDisk.{cut_state, fresh, goes_on, next_chosen, next_failures, succeeds, counted, after_write, after_sync, CutMakes, Stops};
 
-use crate::bytes::{clear, copy_all, copy_out, mark, put};
+use crate::bytes::{copy_out, keep, mark, put};
 use crate::disk::{Disk, DiskFault, NoMemory};
 use crate::filler::Filler;
 use crate::filling::leave;
@@ -70,7 +70,7 @@ impl CutDisk {
     pub fn content(&self) -> &[u8]
         ensures { result.now ≡ self.now.seen }
     {
-        &self.seen
+        self.seen.as_slice()
     }
 
     /// Makes the k-th call from now on fail, of reads, writes and syncs, counted from 1; an empty
@@ -88,8 +88,7 @@ impl CutDisk {
         ensures left { MayLeave (cut_state self.old) (content_of self.new.seen) }
     {
         leave(&mut self.seen, &self.synced, &self.unsynced, filler);
-        copy_all(&mut self.synced, &self.seen);
-        clear(&mut self.unsynced);
+        keep(&self.seen, &mut self.synced, &mut self.unsynced);
     }
 }
 
@@ -143,8 +142,7 @@ impl Disk for CutDisk {
         if !counts(&mut self.chosen, &mut self.failures) {
             return Err(DiskFault);
         }
-        copy_all(&mut self.synced, &self.seen);
-        clear(&mut self.unsynced);
+        keep(&self.seen, &mut self.synced, &mut self.unsynced);
         Ok(())
     }
 

@@ -59,3 +59,32 @@ pub trait Disk: Drop {
     /// What a call may do.
     ghost effect: { (old new : Self) (call : DiskCall) → makes old call new → Effect (state old) call (state new) };
 }
+
+/// A disk that is lent is a disk.
+impl<D: Disk> Disk for &mut D {
+    ghost state = { λ d. D.state d.now };
+
+    ghost makes = { λ old call new. D.makes old.now call new.now };
+
+    ghost effect = { λ old new call made. D.effect old.now new.now call made };
+
+    fn len(&self) -> u64 {
+        (**self).len()
+    }
+
+    fn read_at(&mut self, at: u64, out: &mut [u8]) -> Result<(), DiskFault> {
+        (**self).read_at(at, out)
+    }
+
+    fn write_at(&mut self, at: u64, bytes: &[u8]) -> Result<(), DiskFault> {
+        (**self).write_at(at, bytes)
+    }
+
+    fn sync(&mut self) -> Result<(), DiskFault> {
+        (**self).sync()
+    }
+
+    fn failures(&self) -> u64 {
+        (**self).failures()
+    }
+}

@@ -7,6 +7,7 @@ mod disk;
 mod file_disk;
 mod filler;
 mod filling;
+pub mod laws;
 mod mem_disk;
 
 pub use cut_disk::CutDisk;
@@ -14,3 +15,6 @@ pub use disk::{Disk, DiskFault, NoMemory};
 pub use file_disk::FileDisk;
 pub use filler::Filler;
 pub use mem_disk::MemDisk;
+
+#[cfg(test)]
+mod tests;

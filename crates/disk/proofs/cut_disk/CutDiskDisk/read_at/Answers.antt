@@ -1,4 +1,4 @@
-use Rattle.std.proofs.Common.{◌≡◌, false, true, rules, sym, ◌∙◌}
+use Rattle.std.proofs.Common.{false, true, rules}
 use Rattle.disk.proofs.CutCalls.{read_made}
 use Rattle.disk.proofs.cut_disk.CutDiskDisk.read_at.Goals as goal
 

@@ -1,4 +1,4 @@
-use Rattle.std.proofs.Common.{◌≡◌, false, true, rules, refl, sym, ◌∙◌}
+use Rattle.std.proofs.Common.{false, true, rules, refl}
 use Rattle.disk.proofs.CutCalls.{sync_made}
 use Rattle.disk.proofs.cut_disk.CutDiskDisk.sync.Goals as goal
 

@@ -1,4 +1,4 @@
-use Rattle.std.proofs.Common.{◌≡◌, false, true, rules, refl, sym, ◌∙◌}
+use Rattle.std.proofs.Common.{false, true, rules, refl}
 use Rattle.disk.proofs.CutCalls.{write_made, write_sound}
 use Rattle.disk.proofs.cut_disk.CutDiskDisk.write_at.Goals as goal
 
