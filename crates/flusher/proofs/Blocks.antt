@@ -81,9 +81,9 @@ blocks_beyond place c k le = (let e : nat_lt k place.size ≡ false = grind (ari
 -- blocks that agree in place are the same blocks
 pub same_blocks_of : (place : Place) (c d : Content) → SameOn (blocks_at place) place.size c d → blocks_of place c ≡ blocks_of place d
 same_blocks_of place c d same = same_content (blocks_of place c) (blocks_of place d) (λ k. ⊎_elim
-  (λ lt. blocks_below place c k lt ∙ same (blocks_at place + k) (omega arith) (omega arith) ∙ sym (blocks_below place d k lt))
-  (λ le. blocks_beyond place c k le ∙ sym (blocks_beyond place d k le))
-  (cases_lt k place.size))
+    (λ lt. blocks_below place c k lt ∙ same (blocks_at place + k) (omega arith) (omega arith) ∙ sym (blocks_below place d k lt))
+    (λ le. blocks_beyond place c k le ∙ sym (blocks_beyond place d k le))
+    (cases_lt k place.size))
 
 -- A write into an entry's range changes nothing that the entries lead to.
 pub redo_written : (place : Place) (es : List Entry) (k : ℕ) (e : Entry) (c d : Content) → slice_get es k ≡ Some e → ((j : ℕ) → IsOutside (blocks_at place + 256 * e.address) (length e.blocks) j → d j ≡ c j) → redo es (blocks_of place d) ≡ redo es (blocks_of place c)
@@ -91,9 +91,9 @@ redo_written place es k e c d is out = same_content (redo es (blocks_of place d)
   where
     at : (j : ℕ) → IsOutsideAll es j → blocks_of place d j ≡ blocks_of place c j
     at j all = ⊎_elim
-      (λ lt. blocks_below place d j lt ∙ out (blocks_at place + j) (shifted (outside_at es k e j is all)) ∙ sym (blocks_below place c j lt))
-      (λ le. blocks_beyond place d j le ∙ sym (blocks_beyond place c j le))
-      (cases_lt j place.size)
+        (λ lt. blocks_below place d j lt ∙ out (blocks_at place + j) (shifted (outside_at es k e j is all)) ∙ sym (blocks_below place c j lt))
+        (λ le. blocks_beyond place d j le ∙ sym (blocks_beyond place c j le))
+        (cases_lt j place.size)
       where
         shifted : IsOutside (256 * e.address) (length e.blocks) j → IsOutside (blocks_at place + 256 * e.address) (length e.blocks) (blocks_at place + j)
         shifted (inl lt) = inl (omega arith)
@@ -101,14 +101,14 @@ redo_written place es k e c d is out = same_content (redo es (blocks_of place d)
 
 -- the blocks after an entry was written are the entry over the blocks
 pub blocks_written : (place : Place) (e : Entry) (c d : Content) → 256 * e.address + length e.blocks ≤ place.size
-  → ((j : ℕ) → IsOutside (blocks_at place + 256 * e.address) (length e.blocks) j → d j ≡ c j)
-  → ((j : ℕ) → j < length e.blocks → d (blocks_at place + 256 * e.address + j) ≡ get_or e.blocks j 0)
-  → over (256 * e.address) e.blocks (blocks_of place c) ≡ blocks_of place d
+    → ((j : ℕ) → IsOutside (blocks_at place + 256 * e.address) (length e.blocks) j → d j ≡ c j)
+    → ((j : ℕ) → j < length e.blocks → d (blocks_at place + 256 * e.address + j) ≡ get_or e.blocks j 0)
+    → over (256 * e.address) e.blocks (blocks_of place c) ≡ blocks_of place d
 blocks_written place e c d fits out written = same_content (over (256 * e.address) e.blocks (blocks_of place c)) (blocks_of place d) (λ k. elim (where_is (256 * e.address) (length e.blocks) k) [
   | Inside le lt ↦ (
-    let below : k < place.size = omega arith in
-    let there : blocks_at place + 256 * e.address + (k - 256 * e.address) ≡ blocks_at place + k = omega arith in
-    over_inside (256 * e.address) e.blocks (blocks_of place c) k le lt ∙ sym (written (k - 256 * e.address) (omega arith)) ∙ ap d there ∙ sym (blocks_below place d k below))
+      let below : k < place.size = omega arith in
+      let there : blocks_at place + 256 * e.address + (k - 256 * e.address) ≡ blocks_at place + k = omega arith in
+      over_inside (256 * e.address) e.blocks (blocks_of place c) k le lt ∙ sym (written (k - 256 * e.address) (omega arith)) ∙ ap d there ∙ sym (blocks_below place d k below))
   | Outside o ↦ over_outside (256 * e.address) e.blocks (blocks_of place c) k o ∙ elsewhere k o (cases_lt k place.size)
 ])
   where
@@ -121,7 +121,7 @@ blocks_written place e c d fits out written = same_content (over (256 * e.addres
 pub over_nothing : (at : ℕ) (bytes : List ℕ) (c : Content) → length bytes ≡ 0 → over at bytes c ≡ c
 over_nothing at bytes c none = same_content (over at bytes c) c (λ k. over_outside at bytes c k (⊎_elim (λ lt. inl lt) (λ le. inr (omega arith)) (cases_lt k at)))
 
-pub none_past : (es : List Entry) (k : ℕ) → length es ≤ k → slice_get es k ≡ None
+pub none_past : {X : Type 0} (xs : List X) (k : ℕ) → length xs ≤ k → slice_get xs k ≡ None
 none_past [] zero le = refl
 none_past [] (suc k) le = refl
 none_past (x ∷ xs) zero le = absurd (omega arith)

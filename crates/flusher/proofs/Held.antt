@@ -79,7 +79,6 @@ module _ {X : Type 0} (place : X → Place) (row seen : Part → X → Content �
     (row_stands : (p : Part) (x : X) (c : Content) → row p x c → stands p x c)
     (moved_stands : (p : Part) (x : X) (c : Content) → row p x c → (d : Content) → row p (moved x) d → stands p x d)
     (parts : ℕ → Part) (xs : List X) (s t : DiskState) where
-
   EachStopBy : DiskState → Type 0
   EachStopBy u = (g : ℕ) (x : X) → slice_get xs g ≡ Some x → (c : Content) → MayLeave u c → stands (parts g) x c
 
@@ -89,32 +88,32 @@ module _ {X : Type 0} (place : X → Place) (row seen : Part → X → Content �
   module _ (g : ℕ) (x : X) (at : ℕ) (bytes : List ℕ) (held : IsHeldBy place row seen parts xs false s) (is : slice_get xs g ≡ Some x) (next : write_of x ≡ Some (at, bytes)) (w : Touches at bytes s t) where
     elsewhere : (h : ℕ) (y : X) → h ≢ g → slice_get xs h ≡ Some y → (k : ℕ) → (place y).base ≤ k → k < (place y).base + (35328 + (place y).size) → IsOutside at (length bytes) k
     elsewhere h y other at_h k le lt = (let r = range (parts g) x s.seen at bytes (held.rows g x is s.seen (seen_left s)) next in
-      apart_out (place x) (place y) at (length bytes) k (held.apart g h x y (λ e. other (sym e)) is at_h) r.0 r.1 le lt)
+        apart_out (place x) (place y) at (length bytes) k (held.apart g h x y (λ e. other (sym e)) is at_h) r.0 r.1 le lt)
 
     row_written : (h : ℕ) (y : X) → slice_get (slice_set xs g (moved x)) h ≡ Some y → (c : Content) → MayLeave t c → row (parts h) y c
     row_written h y here c left =
         let was = before_write at (length bytes) s.seen c in
         let could = was_left at bytes s t c w left in
         ⊎_elim
-          (λ e. subst (λ (v : X). row (parts h) v c) (sym e.1) (subst (λ (v : ℕ). row (parts v) (moved x) c) (sym e.0)
-            (own_write (parts g) x was c at bytes next (λ k out. sym (before_outside at (length bytes) s.seen c k out)) (held.rows g x is was could))))
-          (λ e. row_frame (parts h) y was c (λ k le lt. before_outside at (length bytes) s.seen c k (elsewhere h y e.0 e.1 k le lt)) (held.rows h y e.1 was could))
-          (set_cases xs g h (moved x) y here)
+        (λ e. subst (λ (v : X). row (parts h) v c) (sym e.1) (subst (λ (v : ℕ). row (parts v) (moved x) c) (sym e.0)
+        (own_write (parts g) x was c at bytes next (λ k out. sym (before_outside at (length bytes) s.seen c k out)) (held.rows g x is was could))))
+        (λ e. row_frame (parts h) y was c (λ k le lt. before_outside at (length bytes) s.seen c k (elsewhere h y e.0 e.1 k le lt)) (held.rows h y e.1 was could))
+        (set_cases xs g h (moved x) y here)
 
     seen_written : (ok : Bool) → Writes at bytes ok s t → ok ≡ true → (h : ℕ) (y : X) → slice_get (slice_set xs g (moved x)) h ≡ Some y → seen (parts h) y t.seen
     seen_written ok wr went h y here =
         ⊎_elim
-          (λ e. subst (λ (v : X). seen (parts h) v t.seen) (sym e.1) (subst (λ (v : ℕ). seen (parts v) (moved x) t.seen) (sym e.0)
-            (own_seen (parts g) x s.seen t.seen at bytes next w.outside (wr.written held.known went) (held.rows g x is s.seen (seen_left s)) (held.seen_rows refl g x is))))
-          (λ e. seen_frame (parts h) y s.seen t.seen (λ k le lt. sym (w.outside k (elsewhere h y e.0 e.1 k le lt))) (held.seen_rows refl h y e.1))
-          (set_cases xs g h (moved x) y here)
+        (λ e. subst (λ (v : X). seen (parts h) v t.seen) (sym e.1) (subst (λ (v : ℕ). seen (parts v) (moved x) t.seen) (sym e.0)
+        (own_seen (parts g) x s.seen t.seen at bytes next w.outside (wr.written held.known went) (held.rows g x is s.seen (seen_left s)) (held.seen_rows refl g x is))))
+        (λ e. seen_frame (parts h) y s.seen t.seen (λ k le lt. sym (w.outside k (elsewhere h y e.0 e.1 k le lt))) (held.seen_rows refl h y e.1))
+        (set_cases xs g h (moved x) y here)
 
     -- whoever stands at h after the write stood there in the same place before it
     stood : (h : ℕ) (y : X) → slice_get (slice_set xs g (moved x)) h ≡ Some y → (z : X) × (slice_get xs h ≡ Some z) × (place y ≡ place z)
     stood h y here = ⊎_elim
-      (λ e. (x, subst (λ (v : ℕ). slice_get xs v ≡ Some x) (sym e.0) is, ap place e.1 ∙ place_moved x))
-      (λ e. (y, e.1, refl))
-      (set_cases xs g h (moved x) y here)
+        (λ e. (x, subst (λ (v : ℕ). slice_get xs v ≡ Some x) (sym e.0) is, ap place e.1 ∙ place_moved x))
+        (λ e. (y, e.1, refl))
+        (set_cases xs g h (moved x) y here)
 
     -- A write keeps every guest's row.
     pub held_write : (ok : Bool) → Writes at bytes ok s t → IsHeldBy place row seen parts (slice_set xs g (moved x)) (not ok) t
@@ -122,7 +121,7 @@ module _ {X : Type 0} (place : X → Place) (row seen : Part → X → Content �
       known = wr.counts.faithful ∙ held.known;
       fits = λ h y here. (let z = stood h y here in let old = held.fits h z.0 z.1 in let kept = wr.counts.len in subst (λ (v : Place). end_of v ≤ t.len) (sym z.2) (omega arith));
       apart = λ h k y y' other here there. (let z = stood h y here in let z' = stood k y' there in
-        subst (λ (v : Place). AreApart v (place y')) (sym z.2) (subst (λ (v : Place). AreApart (place z.0) v) (sym z'.2) (held.apart h k z.0 z'.0 other z.1 z'.1)));
+          subst (λ (v : Place). AreApart v (place y')) (sym z.2) (subst (λ (v : Place). AreApart (place z.0) v) (sym z'.2) (held.apart h k z.0 z'.0 other z.1 z'.1)));
       rows = row_written;
       seen_rows = λ un. seen_written ok wr (went_so ok un);
     }
@@ -133,13 +132,13 @@ module _ {X : Type 0} (place : X → Place) (row seen : Part → X → Content �
 
     pub stops_written : (h : ℕ) (y : X) → slice_get xs h ≡ Some y → (c : Content) → MayLeave t c → stands (parts h) y c
     stops_written h y at_h c left = ⊎_elim
-      (λ e. (
+        (λ e. (
         let same : x ≡ y = (let f : slice_get xs g ≡ Some y = ap (slice_get xs) (sym e) ∙ at_h in cc) in
         subst (λ (v : ℕ). stands (parts v) y c) (sym e)
-          (subst (λ (v : X). stands (parts g) v c) same
-            (moved_stands (parts g) x s.seen (held.rows g x is s.seen (seen_left s)) c (row_written g (moved x) (get_set_same xs g x (moved x) is) c left)))))
-      (λ other. row_stands (parts h) y c (row_written h y (get_set_other xs g h y (moved x) other at_h) c left))
-      (cases_eq h g)
+        (subst (λ (v : X). stands (parts g) v c) same
+        (moved_stands (parts g) x s.seen (held.rows g x is s.seen (seen_left s)) c (row_written g (moved x) (get_set_same xs g x (moved x) is) c left)))))
+        (λ other. row_stands (parts h) y c (row_written h y (get_set_other xs g h y (moved x) other at_h) c left))
+        (cases_eq h g)
 
   module _ (ok : Bool) (sy : Syncs ok s t) (known : s.faithful ≡ true) where
     -- a sync adds nothing to what a stop may leave
@@ -164,8 +163,8 @@ module _ {X : Type 0} (place : X → Place) (row seen : Part → X → Content �
       known = sy.counts.faithful ∙ known;
       fits = λ g y is. (let z = map_cases synced xs g y is in let kept = sy.counts.len in let old = held.fits g z.0 z.1 in let e : place y ≡ place z.0 = ap place z.2 ∙ place_synced z.0 in subst (λ (v : Place). end_of v ≤ t.len) (sym e) (omega arith));
       apart = λ g h y y' other here there. (let z = map_cases synced xs g y here in let z' = map_cases synced xs h y' there in
-        let e : place y ≡ place z.0 = ap place z.2 ∙ place_synced z.0 in let e' : place y' ≡ place z'.0 = ap place z'.2 ∙ place_synced z'.0 in
-        subst (λ (v : Place). AreApart v (place y')) (sym e) (subst (λ (v : Place). AreApart (place z.0) v) (sym e') (held.apart g h z.0 z'.0 other z.1 z'.1)));
+          let e : place y ≡ place z.0 = ap place z.2 ∙ place_synced z.0 in let e' : place y' ≡ place z'.0 = ap place z'.2 ∙ place_synced z'.0 in
+          subst (λ (v : Place). AreApart v (place y')) (sym e) (subst (λ (v : Place). AreApart (place z.0) v) (sym e') (held.apart g h z.0 z'.0 other z.1 z'.1)));
       rows = λ g y is c left. row_synced g y is c left;
       seen_rows = λ no g y is. seen_synced g y is;
     }

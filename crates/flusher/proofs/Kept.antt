@@ -46,10 +46,10 @@ module _ {D : Type 0} (state : D → DiskState) (makes : D → DiskCall → D �
   synced : (ok : Bool) → makes od (Sync ok) nd → new ≡ (if ok then map guest_after_sync old else old) → Ends ok (Synced (marks_of new)) result broken → IsHeld parts old false (state od) → IsHeld (parts_after result old parts) new broken (state nd)
   synced true call slots e held =
       subst (λ (r : Result Progress StoreFault). IsHeld (parts_after r old parts) new broken (state nd)) (sym e.0) (subst (λ (b : Bool). IsHeld (parts_after (Ok (Synced (marks_of new))) old parts) new b (state nd)) (sym e.1)
-        (subst (λ (l : List Guest). IsHeld (parts_after (Ok (Synced (marks_of new))) old parts) l false (state nd)) (sym slots) (held_synced parts old (state od) (state nd) true (effect od nd (Sync true) call) held.known refl held)))
+      (subst (λ (l : List Guest). IsHeld (parts_after (Ok (Synced (marks_of new))) old parts) l false (state nd)) (sym slots) (held_synced parts old (state od) (state nd) true (effect od nd (Sync true) call) held.known refl held)))
   synced false call slots e held =
       subst (λ (r : Result Progress StoreFault). IsHeld (parts_after r old parts) new broken (state nd)) (sym e.0) (subst (λ (b : Bool). IsHeld parts new b (state nd)) (sym e.1)
-        (subst (λ (l : List Guest). IsHeld parts l true (state nd)) (sym slots) (held_failed parts old (state od) (state nd) false (effect od nd (Sync false) call) held.known held)))
+      (subst (λ (l : List Guest). IsHeld parts l true (state nd)) (sym slots) (held_failed parts old (state od) (state nd) false (effect od nd (Sync false) call) held.known held)))
 
   by_plan : (p : Plan) → Round makes p od old result nd new broken → IsHeld parts old false (state od) → IsHeld (parts_after result old parts) new broken (state nd)
   by_plan (WriteOf g) r held = (let w = r.wrote in ended r.ok r.ends (subst (λ (l : List Guest). IsHeld parts l (not r.ok) (state nd)) (sym w.slots)
@@ -57,7 +57,7 @@ module _ {D : Type 0} (state : D → DiskState) (makes : D → DiskCall → D �
   by_plan SyncAll r held = synced r.ok r.synced.call r.synced.slots r.ends held
   by_plan Nothing r held =
       subst (λ (v : Result Progress StoreFault). IsHeld (parts_after v old parts) new broken (state nd)) (sym r.0) (subst (λ (b : Bool). IsHeld parts new b (state nd)) (sym r.3)
-        (subst (λ (l : List Guest). IsHeld parts l false (state nd)) (sym r.2) (subst (λ (d : D). IsHeld parts old false (state d)) (sym r.1) held)))
+      (subst (λ (l : List Guest). IsHeld parts l false (state nd)) (sym r.2) (subst (λ (d : D). IsHeld parts old false (state d)) (sym r.1) held)))
 
   stops_by_plan : (p : Plan) → Round makes p od old result nd new broken → IsHeld parts old false (state od) → Within state makes (EachStop parts old) od nd
   stops_by_plan (WriteOf g) r held = (let w = r.wrote in Then od od nd (Write w.at w.bytes r.ok) (Still od (stops parts old (state od) (state od) false held)) w.call

@@ -6,3 +6,4 @@ pub mod Held
 pub mod Writer
 pub mod Table
 pub mod Kept
+pub mod Lookups

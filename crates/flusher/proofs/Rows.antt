@@ -109,13 +109,15 @@ module _ (place : Place) (side : SlotPlace) (ok : IsSlotPlace place side) (p : P
   row_blocks i k e is out r = (
     out side.gate (inl (omega arith)) ∙ r.0,
     ap (λ (b : Content). record { key = Some i.group.key; counter = last_of i.group; blocks = b }) (redo_written place i.group.entries k e c d is out) ∙ r.1,
-    same_pl place side c d i.group (λ j le lt. sym (out j (inl (omega arith)))) r.2)
+    same_pl place side c d i.group (λ j le lt. sym (out j (inl (omega arith)))) r.2,
+  )
 
   row_home : (i : Intent) (k : ℕ) → SameBut place.base 64 c d → Row place side p (Open i k) c → Row place side p (Applying i) d
   row_home i k out r = (
     out side.gate (inr (omega arith)) ∙ r.0,
     keep_redone place side ok c d p i.group (same_blocks_of place c d (λ j le lt. sym (out j (inr (omega arith))))) r.1,
-    same_pl place side c d i.group (λ j le lt. sym (out j (inr (omega arith)))) r.2)
+    same_pl place side c d i.group (λ j le lt. sym (out j (inr (omega arith)))) r.2,
+  )
 
   open_row : (i : Intent) (k : ℕ) (o : Option Entry) → slice_get i.group.entries k ≡ o → Keeps place side (open_write i.group o) c d → Row place side p (Open i k) c → Row place side p (open_after i k o) d
   open_row i k None is out r = row_home i k out r
@@ -127,18 +129,21 @@ module _ (place : Place) (side : SlotPlace) (ok : IsSlotPlace place side) (p : P
   own_write (Given i) out r = (
     keep_shut place side ok c d (sym (out side.gate (inl (omega arith)))) r.0,
     keep_home place side ok c d p (λ k le lt. sym (out k (inl (omega arith)))) (λ k le lt. sym (out k (inr (omega arith)))) r.1,
-    r.2)
+    r.2,
+  )
   own_write (Written i) out r = absurd out
   own_write (Ready i) out r = (
     keep_home place side ok c d p (λ k le lt. sym (out k (inl (omega arith)))) (λ k le lt. sym (out k (inr (omega arith)))) r.1,
-    same_pl place side c d i.group (λ k le lt. sym (out k (inr (omega arith)))) r.2)
+    same_pl place side c d i.group (λ k le lt. sym (out k (inr (omega arith)))) r.2,
+  )
   own_write (Opening i) out r = absurd out
   own_write (Open i k) out r = open_row i k (slice_get i.group.entries k) refl out r
   own_write (Applying i) out r = absurd out
   own_write (Applied i) out r = (
     keep_redone place side ok c d p i.group (same_blocks_of place c d (λ k le lt. sym (out k (inr (omega arith))))) r.1,
     same_pl place side c d i.group (λ k le lt. sym (out k (inr (omega arith)))) r.2,
-    keep_home place side ok c d p (λ k le lt. sym (out k (inl (omega arith)))) (λ k le lt. sym (out k (inr (omega arith)))) r.3)
+    keep_home place side ok c d p (λ k le lt. sym (out k (inl (omega arith)))) (λ k le lt. sym (out k (inr (omega arith)))) r.3,
+  )
   own_write (Closing i) out r = absurd out
 
   seen_blocks : (i : Intent) (k : ℕ) (e : Entry) → slice_get i.group.entries k ≡ Some e → SameBut (blocks_at place + 256 * e.address) (length e.blocks) c d → IsWritten d (blocks_at place + 256 * e.address) e.blocks → Row place side p (Open i k) c → Seen place side p (Open i k) c → Seen place side p (Open i (k + 1)) d
@@ -176,9 +181,9 @@ redone_after place i c p h = ap (λ (b : Content). record { key = Some i.key; co
 skip : (es : List Entry) (c : Content) → redo es c ≡ redo (drop (skipped es) es) c
 skip [] c = refl
 skip (e ∷ es) c = ⊎_elim
-  (λ none. ap (redo es) (over_nothing (256 * e.address) e.blocks c none) ∙ sym (ap (λ (n : ℕ). redo (drop n (e ∷ es)) c) (one none)))
-  (λ some. sym (ap (λ (n : ℕ). redo (drop n (e ∷ es)) c) (zeros some)))
-  (cases_eq (length e.blocks) 0)
+    (λ none. ap (redo es) (over_nothing (256 * e.address) e.blocks c none) ∙ sym (ap (λ (n : ℕ). redo (drop n (e ∷ es)) c) (one none)))
+    (λ some. sym (ap (λ (n : ℕ). redo (drop n (e ∷ es)) c) (zeros some)))
+    (cases_eq (length e.blocks) 0)
   where
     one : length e.blocks ≡ 0 → skipped (e ∷ es) ≡ 1
     one none = grind (arith, nat_tests)

@@ -55,8 +55,9 @@ synced_mark p n (Closing i) is f = (is, f)
 
 pub t_write : (p : Part) (x : Guest) (c d : Content) (at : ℕ) (bytes : List ℕ) → guest_write x ≡ Some (at, bytes) → SameOutside c d at bytes → guest_row p x c → guest_row p (guest_after_write x) d
 t_write p x c d at bytes next out r = (
-    own_write (place_of x) (side_of x) (first_side (place_of x)) p c d x.slot (keeps (place_of x) (side_of x) (first_side (place_of x)) (next_write x.slot) at bytes c d (write_fits (place_of x) (side_of x) p x.slot c (at, bytes) r.0 next) next out) r.0,
-    written_mark p x r.1)
+  own_write (place_of x) (side_of x) (first_side (place_of x)) p c d x.slot (keeps (place_of x) (side_of x) (first_side (place_of x)) (next_write x.slot) at bytes c d (write_fits (place_of x) (side_of x) p x.slot c (at, bytes) r.0 next) next out) r.0,
+  written_mark p x r.1,
+)
 
 pub t_seen : (p : Part) (x : Guest) (c d : Content) (at : ℕ) (bytes : List ℕ) → guest_write x ≡ Some (at, bytes) → SameOutside c d at bytes → IsWritten d at bytes → guest_row p x c → guest_seen p x c → guest_seen p (guest_after_write x) d
 t_seen p x c d at bytes next out put r s = (let fits = write_fits (place_of x) (side_of x) p x.slot c (at, bytes) r.0 next in

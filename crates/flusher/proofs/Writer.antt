@@ -71,10 +71,12 @@ written_fits : (len : ℕ) (x : Guest) → GuestFits len x → GuestFits len (gu
 written_fits len x f = record { room = f.room; slot_fits = write_fits (131072 * x.capacity) x.slot f.slot_fits; mark = f.mark }
 
 pub map_fits : (len : ℕ) (xs : List Guest) → AllFit len xs → AllFit len (map guest_after_sync xs)
-map_fits len xs fits = record { each = λ g y at. (
-    let from = map_cases guest_after_sync xs g y at in
-    let old = fits.each g from.0 from.1 in
-    subst (λ (v : Guest). GuestFits len v) (sym from.2) (synced_fits len from.0 old)) }
+map_fits len xs fits = record {
+  each = λ g y at. (
+      let from = map_cases guest_after_sync xs g y at in
+      let old = fits.each g from.0 from.1 in
+      subst (λ (v : Guest). GuestFits len v) (sym from.2) (synced_fits len from.0 old));
+}
 
 pub default_is : (xs : List Guest) (g : ℕ) (a b : Guest) → position guest_has_write xs ≡ Some g → get_or xs g a ≡ get_or xs g b
 default_is xs g a b next = cc (slice_get-get_or xs g a (position-Some guest_has_write xs g a next).0, slice_get-get_or xs g b (position-Some guest_has_write xs g b next).0)
@@ -87,11 +89,13 @@ module _ (xs : List Guest) (g : ℕ) (none : Guest) (next : position guest_has_w
   can_write = (position-Some guest_has_write xs g none next).1
 
   pub still_fits : (len : ℕ) (moved : Guest) → AllFit len xs → moved ≡ guest_after_write (get_or xs g none) → AllFit len (slice_set xs g moved)
-  still_fits len moved fits is = record { each = λ h x at. ⊎_elim
-    (λ e. (let old = fits.each g (get_or xs g none) in_place in let x' = get_or xs g none in
-      subst (λ (v : Guest). GuestFits len v) (sym (e.1 ∙ is)) (written_fits len x' old)))
-    (λ e. fits.each h x e.1)
-    (set_cases xs g h moved x at) }
+  still_fits len moved fits is = record {
+    each = λ h x at. ⊎_elim
+        (λ e. (let old = fits.each g (get_or xs g none) in_place in let x' = get_or xs g none in
+        subst (λ (v : Guest). GuestFits len v) (sym (e.1 ∙ is)) (written_fits len x' old)))
+        (λ e. fits.each h x e.1)
+        (set_cases xs g h moved x at);
+  }
 
   pub its_fit : (len : ℕ) → AllFit len xs → GuestFits len (get_or xs g none)
   its_fit len fits = fits.each g (get_or xs g none) in_place

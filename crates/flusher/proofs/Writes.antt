@@ -53,49 +53,49 @@ InPart place w = (place.base ≤ w.0) × (w.0 + length w.1 ≤ end_of place)
 pub within : (place : Place) (side : SlotPlace) (ok : IsSlotPlace place side) (n : NextWrite) (w : ℕ × List ℕ) → WriteFits place n → spelled place side n ≡ Some w → (place.base ≤ w.0) × (w.0 + length w.1 ≤ end_of place)
 within place side ok NoWrite w fits is = absurd fits
 within place side ok (PayloadWrite i) w fits is = (
-  let e : (side.payload, payload_bytes i) ≡ w = cc in
-  let long = length-payload_bytes i in let short = payload_short place.size i fits in
-  subst (λ (v : ℕ × List ℕ). (place.base ≤ v.0) × (v.0 + length v.1 ≤ end_of place)) e (omega arith, omega (arith, long, short)))
+    let e : (side.payload, payload_bytes i) ≡ w = cc in
+    let long = length-payload_bytes i in let short = payload_short place.size i fits in
+    subst (λ (v : ℕ × List ℕ). (place.base ≤ v.0) × (v.0 + length v.1 ≤ end_of place)) e (omega arith, omega (arith, long, short)))
 within place side ok (GateWrite byte) w fits is = (
-  let e : (side.gate, byte ∷ []) ≡ w = cc in
-  subst (λ (v : ℕ × List ℕ). (place.base ≤ v.0) × (v.0 + length v.1 ≤ end_of place)) e (omega arith, omega arith))
+    let e : (side.gate, byte ∷ []) ≡ w = cc in
+    subst (λ (v : ℕ × List ℕ). (place.base ≤ v.0) × (v.0 + length v.1 ≤ end_of place)) e (omega arith, omega arith))
 within place side ok (BlocksWrite x) w fits is = (
-  let e : (blocks_at place + 256 * x.address, x.blocks) ≡ w = cc in
-  subst (λ (v : ℕ × List ℕ). (place.base ≤ v.0) × (v.0 + length v.1 ≤ end_of place)) e (omega arith, omega arith))
+    let e : (blocks_at place + 256 * x.address, x.blocks) ≡ w = cc in
+    subst (λ (v : ℕ × List ℕ). (place.base ≤ v.0) × (v.0 + length v.1 ≤ end_of place)) e (omega arith, omega arith))
 within place side ok (HomeWrite i) w fits is = (
-  let e : (place.base, home_bytes i.key (last_of i)) ≡ w = cc in
-  let long = length-home_bytes i.key (last_of i) in
-  subst (λ (v : ℕ × List ℕ). (place.base ≤ v.0) × (v.0 + length v.1 ≤ end_of place)) e (omega arith, omega (arith, long)))
+    let e : (place.base, home_bytes i.key (last_of i)) ≡ w = cc in
+    let long = length-home_bytes i.key (last_of i) in
+    subst (λ (v : ℕ × List ℕ). (place.base ≤ v.0) × (v.0 + length v.1 ≤ end_of place)) e (omega arith, omega (arith, long)))
 
 pub keeps : (place : Place) (side : SlotPlace) (ok : IsSlotPlace place side) (n : NextWrite) (at : ℕ) (bytes : List ℕ) (c d : Content) → WriteFits place n → spelled place side n ≡ Some (at, bytes) → SameOutside c d at bytes → Keeps place side n c d
 keeps place side ok NoWrite at bytes c d fits is same = fits
 keeps place side ok (PayloadWrite i) at bytes c d fits is same = (
-  let e : (side.payload, payload_bytes i) ≡ (at, bytes) = cc in
-  let long = length-payload_bytes i in let short = payload_short place.size i fits in
-  let here : SameOutside c d side.payload (payload_bytes i) = subst (λ (v : ℕ × List ℕ). SameOutside c d v.0 v.1) (sym e) same in
-  λ k out. here k (wider side.payload (length (payload_bytes i)) 16648 k (omega (arith, long, short)) out))
+    let e : (side.payload, payload_bytes i) ≡ (at, bytes) = cc in
+    let long = length-payload_bytes i in let short = payload_short place.size i fits in
+    let here : SameOutside c d side.payload (payload_bytes i) = subst (λ (v : ℕ × List ℕ). SameOutside c d v.0 v.1) (sym e) same in
+    λ k out. here k (wider side.payload (length (payload_bytes i)) 16648 k (omega (arith, long, short)) out))
 keeps place side ok (GateWrite byte) at bytes c d fits is same = (
-  let e : (side.gate, byte ∷ []) ≡ (at, bytes) = cc in subst (λ (v : ℕ × List ℕ). SameOutside c d v.0 v.1) (sym e) same)
+    let e : (side.gate, byte ∷ []) ≡ (at, bytes) = cc in subst (λ (v : ℕ × List ℕ). SameOutside c d v.0 v.1) (sym e) same)
 keeps place side ok (BlocksWrite x) at bytes c d fits is same = (
-  let e : (blocks_at place + 256 * x.address, x.blocks) ≡ (at, bytes) = cc in subst (λ (v : ℕ × List ℕ). SameOutside c d v.0 v.1) (sym e) same)
+    let e : (blocks_at place + 256 * x.address, x.blocks) ≡ (at, bytes) = cc in subst (λ (v : ℕ × List ℕ). SameOutside c d v.0 v.1) (sym e) same)
 keeps place side ok (HomeWrite i) at bytes c d fits is same = (
-  let e : (place.base, home_bytes i.key (last_of i)) ≡ (at, bytes) = cc in
-  let long = length-home_bytes i.key (last_of i) in
-  let here : SameOutside c d place.base (home_bytes i.key (last_of i)) = subst (λ (v : ℕ × List ℕ). SameOutside c d v.0 v.1) (sym e) same in
-  λ k out. here k (wider place.base (length (home_bytes i.key (last_of i))) 64 k (omega (arith, long)) out))
+    let e : (place.base, home_bytes i.key (last_of i)) ≡ (at, bytes) = cc in
+    let long = length-home_bytes i.key (last_of i) in
+    let here : SameOutside c d place.base (home_bytes i.key (last_of i)) = subst (λ (v : ℕ × List ℕ). SameOutside c d v.0 v.1) (sym e) same in
+    λ k out. here k (wider place.base (length (home_bytes i.key (last_of i))) 64 k (omega (arith, long)) out))
 
 pub puts : (place : Place) (side : SlotPlace) (ok : IsSlotPlace place side) (n : NextWrite) (at : ℕ) (bytes : List ℕ) (d : Content) → WriteFits place n → spelled place side n ≡ Some (at, bytes) → IsWritten d at bytes → Puts place side n d
 puts place side ok NoWrite at bytes d fits is put = fits
 puts place side ok (PayloadWrite i) at bytes d fits is put = (
-  let e : (side.payload, payload_bytes i) ≡ (at, bytes) = cc in
-  payload_written place.size i d side.payload fits (subst (λ (v : ℕ × List ℕ). IsWritten d v.0 v.1) (sym e) put))
+    let e : (side.payload, payload_bytes i) ≡ (at, bytes) = cc in
+    payload_written place.size i d side.payload fits (subst (λ (v : ℕ × List ℕ). IsWritten d v.0 v.1) (sym e) put))
 puts place side ok (GateWrite byte) at bytes d fits is put = (
-  let e : (side.gate, byte ∷ []) ≡ (at, bytes) = cc in
-  let here : IsWritten d side.gate (byte ∷ []) = subst (λ (v : ℕ × List ℕ). IsWritten d v.0 v.1) (sym e) put in
-  let z : side.gate ≡ side.gate + 0 = omega arith in ap d z ∙ here 0 (omega arith))
+    let e : (side.gate, byte ∷ []) ≡ (at, bytes) = cc in
+    let here : IsWritten d side.gate (byte ∷ []) = subst (λ (v : ℕ × List ℕ). IsWritten d v.0 v.1) (sym e) put in
+    let z : side.gate ≡ side.gate + 0 = omega arith in ap d z ∙ here 0 (omega arith))
 puts place side ok (BlocksWrite x) at bytes d fits is put = (
-  let e : (blocks_at place + 256 * x.address, x.blocks) ≡ (at, bytes) = cc in subst (λ (v : ℕ × List ℕ). IsWritten d v.0 v.1) (sym e) put)
+    let e : (blocks_at place + 256 * x.address, x.blocks) ≡ (at, bytes) = cc in subst (λ (v : ℕ × List ℕ). IsWritten d v.0 v.1) (sym e) put)
 puts place side ok (HomeWrite i) at bytes d fits is put = (
-  let e : (place.base, home_bytes i.key (last_of i)) ≡ (at, bytes) = cc in
-  let small = fits.counters in let one = fits.one in
-  home_written i.key (last_of i) d place.base fits.key (omega arith) (subst (λ (v : ℕ × List ℕ). IsWritten d v.0 v.1) (sym e) put))
+    let e : (place.base, home_bytes i.key (last_of i)) ≡ (at, bytes) = cc in
+    let small = fits.counters in let one = fits.one in
+    home_written i.key (last_of i) d place.base fits.key (omega arith) (subst (λ (v : ℕ × List ℕ). IsWritten d v.0 v.1) (sym e) put))

@@ -3,3 +3,4 @@ pub mod SlotInvariant
 pub mod Marks
 pub mod Round
 pub mod Store
+pub mod Laws

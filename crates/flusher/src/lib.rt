@@ -3,6 +3,7 @@
 #![tactic(auto)]
 
 mod guest;
+mod laws;
 mod marks;
 mod moving;
 mod progress;
@@ -11,6 +12,7 @@ mod store;
 mod writing;
 
 pub use guest::Guest;
+pub use laws::held_is_left;
 pub use marks::Marks;
 pub use progress::{Call, Progress, StoreFault};
 pub use slot::Slot;

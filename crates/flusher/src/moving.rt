@@ -45,4 +45,3 @@ pub(crate) fn sync_all(guests: &mut [Guest])
         move_synced(guest);
     }
 }
-

@@ -1,7 +1,6 @@
-ghost use Rattle.std.specs.Prelude.{◌≡◌, ◌≤◌, ◌+◌, ◌*◌, ◌^◌, length};
-ghost use Rattle.intent_slots.specs.Payload.{GroupFits};
+ghost use Rattle.std.specs.Prelude.{◌≡◌, ◌≤◌, ◌↔◌, IsTrue};
 ghost use Rattle.flusher.specs.Slot.{has_write, awaits_sync, after_write, after_sync, settled_after, pending_of, skipped, intent_of};
-ghost use Rattle.flusher.specs.Store.{pending, HasSameKey};
+ghost use Rattle.flusher.specs.Store.{is_empty, pending, HasSameKey};
 
 use intent_slots::Intent;
 
@@ -33,10 +32,52 @@ fn skipped(intent: &Intent) -> usize
     ensures { result ≡ skipped intent.now.group.entries }
 {
     let _some = intent.entries();
-    if intent.entry(0).blocks().is_empty() { 1 } else { 0 }
+    if intent.entry(0).blocks().is_empty() {
+        1
+    } else {
+        0
+    }
 }
 
 impl Slot {
+    /// Whether nothing is given, and nothing in it.
+    pub(crate) fn is_empty(&self) -> bool
+        ensures { result ≡ is_empty self.now }
+    {
+        matches!(self, Slot::Empty)
+    }
+
+    /// How many requests were given that aren't settled yet: at most 4.
+    pub(crate) fn pending(&self) -> u64
+        ensures value { result ≡ pending (pending_of self.now) }
+        ensures few { result ≤ 4 }
+    {
+        match self {
+            Slot::Given(intent)
+            | Slot::Written(intent)
+            | Slot::Ready(intent)
+            | Slot::Opening(intent) => intent.entries() as u64,
+            _ => 0,
+        }
+    }
+
+    /// Whether an intent has the key of the one that is given or in it.
+    pub(crate) fn has_key_of(&self, intent: &Intent) -> bool
+        ensures { IsTrue result ↔ HasSameKey (intent_of self.now) intent.now }
+    {
+        match self {
+            Slot::Empty => true,
+            Slot::Given(held)
+            | Slot::Written(held)
+            | Slot::Ready(held)
+            | Slot::Opening(held)
+            | Slot::Open(held, _)
+            | Slot::Applying(held)
+            | Slot::Applied(held)
+            | Slot::Closing(held) => intent.key() == held.key(),
+        }
+    }
+
     /// Whether a write comes next.
     pub(crate) fn has_write(&self) -> bool
         ensures { result ≡ has_write self.now }
