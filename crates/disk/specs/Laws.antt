@@ -6,17 +6,20 @@ use Rattle.disk.specs.CutDisk.{CutState, cut_after, succeeds}
 
 -- a write and then a sync, both successful: every stop leaves these bytes
 abbrev pub SyncedWritesStay : Type 0
-SyncedWritesStay = (at : ℕ) (bytes : List ℕ) (first second third : DiskState) → first.faithful ≡ true
+SyncedWritesStay = (at : ℕ) (bytes : List ℕ) (first second third : DiskState)
+    → first.faithful ≡ true
     → Effect first (Write at bytes true) second → Effect second (Sync true) third
     → (left : Content) → MayLeave third left → (k : ℕ) → k < length bytes → left (at + k) ≡ slice_index bytes k
 
--- a call that ended leaves nothing that a stop within it could not leave, and neither does a stop before it
+-- what a stop after a call may leave, a stop within the call may leave
 abbrev pub StopsWithinCover : Type 0
 StopsWithinCover = (old new : DiskState) (call : DiskCall) → old.faithful ≡ true → Effect old call new
     → (left : Content) → MayLeave new left → MayLeave (during old call) left
 
+-- what a stop before a call may leave, a stop within the call may leave
 abbrev pub StopsBeforeAreCovered : Type 0
-StopsBeforeAreCovered = (old : DiskState) (call : DiskCall) (left : Content) → MayLeave old left → MayLeave (during old call) left
+StopsBeforeAreCovered = (old : DiskState) (call : DiskCall) (left : Content)
+    → MayLeave old left → MayLeave (during old call) left
 
 -- the disk after calls, one after another
 unfoldable pub cut_after_calls : List DiskCall → CutState → CutState
