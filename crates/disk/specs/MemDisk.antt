@@ -1,5 +1,5 @@
 -- The disk in memory that never fails: each write is on it at once.
-use Rattle.std.specs.Prelude.{◌≡◌, Bool, true, false, List, ℕ, length}
+use Rattle.std.specs.Prelude.{◌≡◌, true, false, List, ℕ, length}
 use Rattle.disk.specs.Content.{content_of, overwritten}
 use Rattle.disk.specs.Disk.{DiskState, DiskCall, Read, Write, Sync, Effect, is_success}
 
