@@ -97,7 +97,8 @@ impl Layout {
     /// The place of the gate of one of a guest's slots, of one byte.
     pub fn gate(&self, side: Side, guest: u16) -> u64
         requires { guest < length self.now }
-        ensures { result ≡ (slot_place (place_at self.now guest) side).gate }
+        ensures value { result ≡ (slot_place (place_at self.now guest) side).gate }
+        ensures small { result < 2 ^ 32 }
     {
         let base = self.home(guest);
         match side {
@@ -109,7 +110,8 @@ impl Layout {
     /// The place of the payload of one of a guest's slots, of at most 16,648 bytes.
     pub fn payload(&self, side: Side, guest: u16) -> u64
         requires { guest < length self.now }
-        ensures { result ≡ (slot_place (place_at self.now guest) side).payload }
+        ensures value { result ≡ (slot_place (place_at self.now guest) side).payload }
+        ensures small { result < 2 ^ 32 }
     {
         let base = self.home(guest);
         match side {
@@ -121,7 +123,8 @@ impl Layout {
     /// The place of a guest's blocks, of 256 bytes each, by address.
     pub fn blocks(&self, guest: u16) -> u64
         requires { guest < length self.now }
-        ensures { result ≡ blocks_at (place_at self.now guest) }
+        ensures value { result ≡ blocks_at (place_at self.now guest) }
+        ensures small { result < 2 ^ 32 }
     {
         self.home(guest) + PARTS_LENGTH
     }

@@ -81,7 +81,7 @@ fn places(rt: HostRuntime) -> Result<(), Fail> {
 fn last_block(rt: HostRuntime) -> Result<(), Fail> {
     let layout = layout_of(rt.alloc(), &[1])?;
     if layout.guests() == 1 {
-        assert_eq!(rt; layout.blocks(0) + 256 * 511, 167_168);
+        assert_eq!(rt; layout.blocks(0), 167_168 - 256 * 511);
     }
     Ok(())
 }
