@@ -1,10 +1,10 @@
 -- What was encoded is well formed and holds the intent.
-use Rattle.std.proofs.Common.{◌≡◌, ◌⊎◌, inl, inr, ⊎_elim, Bool, Option, Some, None, ℕ, zero, suc, ◌+◌, ◌*◌, ◌/◌, ◌^◌, ◌-◌, ◌≤◌, ◌<◌, List, [], ◌∷◌, length, get_or, refl, ap, sym, ◌∙◌, subst, arith}
+use Rattle.std.proofs.Common.{◌≡◌, inl, Some, ℕ, ◌+◌, ◌*◌, ◌/◌, ◌^◌, ◌≤◌, ◌<◌, List, [], ◌∷◌, length, get_or, refl, ap, sym, ◌∙◌, subst, arith}
 use Rattle.byteorder.specs.Endian.{big_bytes}
 use Rattle.byteorder.specs.Numbers.{length-bytes_high_first}
 use Rattle.disk.specs.Content.{Content, bytes_at, over, zeros}
-use Rattle.intent_slots.specs.Fields.{number_at, Agree}
-use Rattle.intent_slots.specs.Payload.{Entry, Group, EntryFits, Programs, Stores, EntriesFit, GroupFits, IsEntry, AreEntries, IsPayload, kind_of, entry_over, entries_over, payload_content, entries_length, payload_length, payload_bytes}
+use Rattle.intent_slots.specs.Fields.{Agree}
+use Rattle.intent_slots.specs.Payload.{Entry, Group, EntryFits, Programs, Stores, EntriesFit, GroupFits, IsEntry, AreEntries, IsPayload, kind_of, entry_over, entries_over, payload_content, payload_length, payload_bytes}
 use Rattle.intent_slots.specs.Home.{IsHome, Keyed, home_content, home_bytes}
 use Rattle.intent_slots.proofs.Bytes.{length-bytes_at}
 use Rattle.intent_slots.proofs.Same.{same_number, same_list, same_place, same_entry, same_payload, same_home, short_blocks}
@@ -98,7 +98,7 @@ pub entries_below : (at : ℕ) (key : List ℕ) (counter : ℕ) (es : List Entry
 entries_below at key counter [] c long q n le = λ k lt. refl
 entries_below at key counter (e ∷ es) c long q n le =
     and_then (entries_over at key counter (e ∷ es) c) (entry_over at key counter e c) c q n
-      (entries_below (at + 4160) key (counter + 1) es (entry_over at key counter e c) long q n (omega arith)) (entry_below at key counter e c long q n le)
+    (entries_below (at + 4160) key (counter + 1) es (entry_over at key counter e c) long q n (omega arith)) (entry_below at key counter e c long q n le)
 
 pub entries_again : (size at : ℕ) (key : List ℕ) (counter : ℕ) (es : List Entry) (c : Content) → length key ≡ 32 → counter + length es ≤ 256 ^ 4 → EntriesFit size counter es → AreEntries (entries_over at key counter es c) at key counter es
 entries_again size at key counter [] c long small fits = tt
@@ -106,9 +106,10 @@ entries_again size at key counter (e ∷ es) c long small fits =
     let one = entry_over at key counter e c in
     let all = entries_over (at + 4160) key (counter + 1) es one in
     let short = short_blocks size counter e fits.0 in
-    let kept = entries_below (at + 4160) key (counter + 1) es one long at (64 + length e.blocks) (omega arith) in
-    (same_entry one at all at key counter e (λ k lt. sym (kept k lt)) (entry_again at key counter e c long size fits.0 (omega arith)),
-     entries_again size (at + 4160) key (counter + 1) es one long (omega arith) fits.1)
+    let kept = entries_below (at + 4160) key (counter + 1) es one long at (64 + length e.blocks) (omega arith) in (
+      same_entry one at all at key counter e (λ k lt. sym (kept k lt)) (entry_again at key counter e c long size fits.0 (omega arith)),
+      entries_again size (at + 4160) key (counter + 1) es one long (omega arith) fits.1,
+    )
 
 -- What was encoded decodes to itself.
 pub payload_again : (size : ℕ) (i : Group) → GroupFits size i → IsPayload size (payload_content i) 0 i

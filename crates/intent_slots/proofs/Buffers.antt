@@ -1,14 +1,14 @@
 -- Fields of a buffer that is a list.
 use Rattle.std.proofs.lemmas.List.{places}
-use Rattle.std.proofs.Common.{rules, ◌≡◌, ◌⊎◌, inl, inr, ⊎_elim, Bool, true, false, ℕ, zero, suc, ◌+◌, ◌*◌, ◌^◌, ◌-◌, ◌≤◌, ◌<◌, List, [], ◌∷◌, ◌++◌, length, take, drop, get_or, refl, ap, sym, ◌∙◌, subst, arith}
+use Rattle.std.proofs.Common.{rules, ◌≡◌, ◌⊎◌, inl, inr, ℕ, zero, suc, ◌+◌, ◌*◌, ◌-◌, ◌≤◌, ◌<◌, List, [], ◌∷◌, length, take, drop, get_or, refl, ap, sym, ◌∙◌, arith}
 use Rattle.std.proofs.lemmas.List.{get_or-take, get_or-drop}
 use borrow.Rule.Slice.PartMut.{put_mid}
 use Rattle.std.proofs.lemmas.Bool.{cases_lt}
 use Rattle.byteorder.specs.Endian.{big_from}
-use Rattle.disk.specs.Content.{Content, IsOutside, bytes_at, content_of, over, zeros}
+use Rattle.disk.specs.Content.{Content, bytes_at, content_of, over, zeros}
 use Rattle.intent_slots.specs.Payload.{Entry, Group, entry_over, entries_over, entries_length, payload_length, payload_content, payload_bytes}
 use Rattle.intent_slots.specs.Home.{home_content, home_bytes}
-use Rattle.intent_slots.specs.Fields.{number_at, Agree}
+use Rattle.intent_slots.specs.Fields.{number_at}
 use Rattle.intent_slots.proofs.Ranges.{range_bytes}
 use Rattle.std.specs.Prelude.{replicate}
 use Rattle.std.proofs.Common.{drop-cons, take_all}
@@ -60,8 +60,8 @@ start_is out filled i n d is = ap (entries_over 8 i.key i.first i.entries) (is �
 
 -- one more entry
 pub more : (i : Group) (k : ℕ) (e : Entry) (c d : Content) → k < length i.entries → get_or i.entries k e ≡ e → d ≡ entry_over (8 + 4160 * k) i.key (i.first + k) e c
-  → entries_over (8 + 4160 * k) i.key (i.first + k) (drop k i.entries) c ≡ payload_content i
-  → entries_over (8 + 4160 * (k + 1)) i.key (i.first + (k + 1)) (drop (k + 1) i.entries) d ≡ payload_content i
+    → entries_over (8 + 4160 * k) i.key (i.first + k) (drop k i.entries) c ≡ payload_content i
+    → entries_over (8 + 4160 * (k + 1)) i.key (i.first + (k + 1)) (drop (k + 1) i.entries) d ≡ payload_content i
 more i k e c d lt at is rest =
     let split : drop k i.entries ≡ e ∷ drop (k + 1) i.entries = drop-cons i.entries k e lt ∙ ap (λ (v : Entry). v ∷ drop (suc k) i.entries) at ∙ (let s : suc k ≡ k + 1 = omega arith in ap (λ n. e ∷ drop n i.entries) s) in
     let p : 8 + 4160 * (k + 1) ≡ 8 + 4160 * k + 4160 = omega arith in

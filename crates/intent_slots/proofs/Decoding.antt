@@ -1,11 +1,10 @@
 -- A payload that is read entry by entry.
-use Rattle.std.proofs.Common.{◌≡◌, ◌⊎◌, inl, inr, ⊎_elim, Bool, true, false, ℕ, zero, suc, ◌+◌, ◌*◌, ◌/◌, ◌^◌, ◌-◌, ◌≤◌, ◌<◌, List, [], ◌∷◌, ◌++◌, length, take, drop, refl, ap, sym, ◌∙◌, subst, arith, length-append}
-use Rattle.std.specs.Prelude.{◌==◌, if◌then◌else◌}
+use Rattle.std.proofs.Common.{◌≡◌, inl, inr, ℕ, zero, suc, ◌+◌, ◌*◌, ◌^◌, ◌-◌, ◌≤◌, ◌<◌, List, [], ◌∷◌, ◌++◌, length, take, drop, refl, ap, sym, ◌∙◌, subst, arith}
 use Rattle.std.proofs.lemmas.Bool.Decides.{nat_tests}
 use Rattle.disk.specs.Content.{Content, bytes_at, content_of}
 use Rattle.intent_slots.specs.Fields.{number_at}
-use Rattle.intent_slots.specs.Payload.{Entry, Group, IsWrite, EntryFits, Programs, Stores, EntriesFit, GroupFits, kind_of, IsEntry, IsEntryIn, AreEntries, IsPayload, OneGroup}
-use Rattle.intent_slots.specs.Reading.{HasFields, HasKind, HasProgramKey, HasWrite}
+use Rattle.intent_slots.specs.Payload.{Entry, Group, EntryFits, Programs, Stores, EntriesFit, GroupFits, kind_of, IsEntry, IsEntryIn, AreEntries, IsPayload, OneGroup}
+use Rattle.intent_slots.specs.Reading.{HasFields, HasKind}
 use Rattle.intent_slots.proofs.Bytes.{length-bytes_at}
 use Rattle.intent_slots.proofs.Ranges.{read_bytes}
 
@@ -50,34 +49,37 @@ module _ (size : ℕ) (c : Content) (at : ℕ) (key : List ℕ) (counter : ℕ) 
       let long = length-bytes_at c (at + 64) (256 * number_at c (at + 47) 2) in
       let some = w.some in
       let few = w.few in
-      let inside = w.inside in
-      (fields_of (w.kind ∙ kind_3 (entry_of c at) (omega (arith, long, some))) f,
-       Stores (record {
-         some = omega (arith, long, some);
-         few = omega (arith, long, few);
-         whole = omega (arith, long);
-         inside = omega (arith, long, inside);
-         address = omega (arith, some, inside, small);
-       }))
+      let inside = w.inside in (
+        fields_of (w.kind ∙ kind_3 (entry_of c at) (omega (arith, long, some))) f,
+        Stores (record {
+          some = omega (arith, long, some);
+          few = omega (arith, long, few);
+          whole = omega (arith, long);
+          inside = omega (arith, long, inside);
+          address = omega (arith, some, inside, small);
+        }),
+      )
 
   pub fields_there : (e : Entry) → IsEntryIn size c at key counter e → HasFields c at key counter × HasKind size c at counter
   fields_there e (is, Programs first address none) =
-      let long = ap length none in
-      (record { sequence = is.sequence; same_key = is.same_key; left = is.left },
-       inl (record { kind = is.kind ∙ sym (kind_1 e long); first = first; address = is.address ∙ address; number = (let number = is.number in omega (arith, number, long)) }))
+      let long = ap length none in (
+        record { sequence = is.sequence; same_key = is.same_key; left = is.left },
+        inl (record { kind = is.kind ∙ sym (kind_1 e long); first = first; address = is.address ∙ address; number = (let number = is.number in omega (arith, number, long)) }),
+      )
   fields_there e (is, Stores w) =
       let number = is.number in
       let address = is.address in
       let some = w.some in
       let few = w.few in
-      let inside = w.inside in
-      (record { sequence = is.sequence; same_key = is.same_key; left = is.left },
-       inr (record {
-         kind = is.kind ∙ sym (kind_3 e some);
-         some = omega (arith, number, some);
-         few = omega (arith, number, few);
-         inside = omega (arith, number, address, inside);
-       }))
+      let inside = w.inside in (
+        record { sequence = is.sequence; same_key = is.same_key; left = is.left },
+        inr (record {
+          kind = is.kind ∙ sym (kind_3 e some);
+          some = omega (arith, number, some);
+          few = omega (arith, number, few);
+          inside = omega (arith, number, address, inside);
+        }),
+      )
 
   -- a place holds at most one entry
   pub entry_is : (e : Entry) → IsEntry c at key counter e → e ≡ entry_of c at
@@ -182,7 +184,7 @@ number_small size c at counter (inr w) = w.few
 pub more_read : (size : ℕ) (c : Content) (key : List ℕ) (first : ℕ) (es new : List Entry) (e : Entry) (k : ℕ) → new ≡ es ++ e ∷ [] → length es ≡ k → AreEntries c 8 key first es → EntriesFit size first es → IsEntryIn size c (8 + 4160 * k) key (first + k) e → AreEntries c 8 key first new × EntriesFit size first new
 more_read size c key first es new e k is count are fits there =
     subst (λ (l : List Entry). AreEntries c 8 key first l × EntriesFit size first l) (sym is)
-      (are_more size c 8 key first es e are fits (subst (λ (n : ℕ). IsEntryIn size c (8 + 4160 * n) key (first + n) e) (sym count) there))
+    (are_more size c 8 key first es e are fits (subst (λ (n : ℕ). IsEntryIn size c (8 + 4160 * n) key (first + n) e) (sym count) there))
 
 -- all entries were read
 pub group_read : (size : ℕ) (c : Content) (key : List ℕ) (first count : ℕ) (es : List Entry) → key ≡ bytes_at c 17 32 → (1 ≤ count) × (count ≤ 4) × (first + count ≤ 2 ^ 32) → length es ≡ count → EntriesFit size first es → GroupFits size (record { key = key; first = first; entries = es })

@@ -1,5 +1,5 @@
 -- Home records that were read.
-use Rattle.std.proofs.Common.{◌≡◌, ◌⊎◌, Option, Some, None, ℕ, zero, suc, ◌+◌, ◌^◌, ◌≤◌, List, [], ◌∷◌, length, refl, ap, sym, ◌∙◌, subst, arith}
+use Rattle.std.proofs.Common.{◌≡◌, Some, None, ℕ, List, refl, ap, sym, ◌∙◌, subst, arith}
 use Rattle.disk.specs.Content.{Content, bytes_at}
 use Rattle.intent_slots.specs.Home.{Home, IsHome, IsUnkeyed, IsKeyed, Unkeyed, Keyed, OneHome}
 

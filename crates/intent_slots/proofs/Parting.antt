@@ -1,14 +1,12 @@
 -- Which partition a content holds.
-use Rattle.std.proofs.Common.{◌≡◌, ◌≢◌, ◌⊎◌, inl, inr, ⊎_elim, Bool, true, false, Option, Some, None, ℕ, zero, suc, ◌+◌, ◌*◌, ◌-◌, ◌≤◌, ◌<◌, List, [], ◌∷◌, ◌++◌, length, refl, ap, sym, ◌∙◌, subst, arith}
+use Rattle.std.proofs.Common.{◌≡◌, ◌⊎◌, inl, inr, Bool, true, false, Some, ℕ, ◌+◌, ◌*◌, ◌-◌, ◌≤◌, ◌<◌, length, refl, ap, sym, ◌∙◌, arith}
 use Rattle.std.specs.Prelude.{nat_lt, if◌then◌else◌}
 use Rattle.std.proofs.lemmas.Bool.{cases_lt}
 use Rattle.std.proofs.lemmas.Bool.Decides.{nat_tests}
-use Rattle.disk.specs.Content.{Content, content_of, over}
+use Rattle.disk.specs.Content.{Content}
 use Rattle.rpmb_frame.specs.Partition.{overwritten}
-use Rattle.intent_slots.specs.Layout.{Place, SlotPlace, IsSlotPlace, blocks_at, end_of}
-use Rattle.intent_slots.specs.Home.{IsHome}
-use Rattle.intent_slots.specs.Payload.{Entry, Group, IsPayload, payload_length}
-use Rattle.intent_slots.specs.Recovered.{Part, redo, blocks_of, HoldsHome, redone, StandsFor, ByHome, ByPayload, OnePart, PartIsItsBytes, RedoOverwrites}
+use Rattle.intent_slots.specs.Layout.{Place, blocks_at, end_of}
+use Rattle.intent_slots.specs.Recovered.{redo, blocks_of, redone, ByHome, ByPayload, OnePart, PartIsItsBytes, RedoOverwrites}
 use Rattle.intent_slots.proofs.Same.{same_home, same_payload, payload_short}
 use Rattle.intent_slots.proofs.Homes.{one_home}
 use Rattle.intent_slots.proofs.Decoding.{one_group}
@@ -57,8 +55,8 @@ part_own place slot c d p apart same (ByPayload i gate payload is) =
     let short = payload_short place.size i payload.fits in
     let there = same slot.gate (omega (arith, low)) (omega (arith, mid, high)) in
     ByPayload i (sym there ∙ gate)
-      (same_payload place.size c slot.payload d slot.payload i (λ k lt. same (slot.payload + k) (omega (arith, low, mid)) (omega (arith, lt, short, high))) payload)
-      (ap (λ (b : Content). record { key = Some i.key; counter = i.first + (length i.entries - 1); blocks = redo i.entries b }) (sym (blocks_same place c d same)) ∙ is)
+    (same_payload place.size c slot.payload d slot.payload i (λ k lt. same (slot.payload + k) (omega (arith, low, mid)) (omega (arith, lt, short, high))) payload)
+    (ap (λ (b : Content). record { key = Some i.key; counter = i.first + (length i.entries - 1); blocks = redo i.entries b }) (sym (blocks_same place c d same)) ∙ is)
 
 pub redo_over : RedoOverwrites
 unfolding overwritten

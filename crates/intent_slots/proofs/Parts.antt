@@ -1,9 +1,8 @@
 -- The parts of a partition.
-use Rattle.std.proofs.Common.{◌≡◌, ℕ, zero, suc, ◌+◌, ◌≤◌, ◌<◌, List, [], ◌∷◌, Option, Some, None, refl, ap, sym, ◌∙◌, subst, arith}
+use Rattle.std.proofs.Common.{◌≡◌, ℕ, zero, suc, ◌+◌, ◌≤◌, ◌<◌, List, [], ◌∷◌, Some, subst, arith}
 use Rattle.std.specs.Prelude.{slice_get}
-use Rattle.intent_slots.specs.declared.layout.Side.{Side}
 use Rattle.intent_slots.specs.declared.layout.Side.TheVariants.{A, B}
-use Rattle.intent_slots.specs.Layout.{Place, end_of, blocks_at, slot_place, Range, parts_of, IsSlotPlace, PartsNeverOverlap, PartsInside, SlotsBetween}
+use Rattle.intent_slots.specs.Layout.{Place, end_of, Range, parts_of, PartsNeverOverlap, PartsInside, SlotsBetween}
 
 -- ranges one behind another, from a place on and up to a place
 InTurn : ℕ → List Range → ℕ → Type 0

@@ -1,5 +1,5 @@
 -- A range of a list, byte by byte.
-use Rattle.std.proofs.Common.{◌≡◌, ℕ, zero, suc, ◌+◌, ◌-◌, ◌≤◌, ◌<◌, List, ◌∷◌, length, take, drop, get_or, refl, ap, sym, ◌∙◌, arith, drop-cons}
+use Rattle.std.proofs.Common.{◌≡◌, ℕ, zero, suc, ◌+◌, ◌-◌, ◌≤◌, ◌<◌, List, ◌∷◌, length, take, drop, get_or, refl, ap, ◌∙◌, arith, drop-cons}
 use Rattle.disk.specs.Content.{bytes_at, content_of}
 
 pub range_bytes : (xs : List ℕ) (at n : ℕ) → at + n ≤ length xs → take n (drop at xs) ≡ bytes_at (content_of xs) at n

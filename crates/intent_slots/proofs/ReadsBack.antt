@@ -1,14 +1,13 @@
 -- What was written reads back.
-use Rattle.std.proofs.Common.{◌≡◌, ◌⊎◌, inl, inr, ⊎_elim, Option, Some, None, ℕ, zero, suc, ◌+◌, ◌*◌, ◌^◌, ◌-◌, ◌≤◌, ◌<◌, List, [], ◌∷◌, ◌++◌, length, take, drop, get_or, refl, ap, sym, ◌∙◌, subst, arith, length-append, take_all, append_assoc}
+use Rattle.std.proofs.Common.{◌≡◌, Some, None, ℕ, zero, suc, ◌+◌, ◌≤◌, ◌<◌, List, [], ◌∷◌, ◌++◌, length, take, drop, get_or, refl, ap, sym, ◌∙◌, subst, arith, length-append, take_all, append_assoc}
 use Rattle.std.specs.Prelude.{replicate}
-use Rattle.byteorder.specs.Endian.{big_bytes, big_from}
+use Rattle.byteorder.specs.Endian.{big_bytes}
 use Rattle.byteorder.specs.Numbers.{big_number-reads_back, length-bytes_high_first}
 use Rattle.disk.specs.Content.{Content, bytes_at, content_of, zeros}
 use Rattle.intent_slots.specs.Fields.{number_at, Agree}
-use Rattle.intent_slots.specs.Header.{magic, header_bytes, HasMagic, HasCapacities, HeaderReadsBack}
-use Rattle.intent_slots.specs.Home.{HomeFits, IsHome, Unkeyed, home_bytes, home_record, HomeReadsBack, HomeIsItsBytes}
-use Rattle.intent_slots.specs.Payload.{Group, GroupFits, IsPayload, payload_bytes, PayloadReadsBack, PayloadIsItsBytes}
-use Rattle.intent_slots.proofs.Bytes.{length-bytes_at}
+use Rattle.intent_slots.specs.Header.{magic, header_bytes, HasMagic, HasCapacities}
+use Rattle.intent_slots.specs.Home.{IsHome, Unkeyed, home_bytes, HomeReadsBack, HomeIsItsBytes}
+use Rattle.intent_slots.specs.Payload.{payload_bytes, PayloadReadsBack, PayloadIsItsBytes}
 use Rattle.intent_slots.proofs.Ranges.{range_bytes}
 use Rattle.intent_slots.proofs.Same.{same_list, same_number, same_home, same_payload}
 use Rattle.intent_slots.proofs.Over.{get_bytes, number_of_list}
@@ -80,5 +79,9 @@ module _ (cs : List ℕ) (c : Content) (few : length cs ≤ 64) (is : bytes_at c
       front = (let a = length-append magic (big_bytes 2 (length cs)) in let b = length-bytes_high_first 2 (length cs) in omega (arith, a, b))
 
   pub header_back : (others : List ℕ) → HasMagic c × HasCapacities cs c × (HasCapacities others c → cs ≡ others)
-  header_back others = (magic_back, record { guests = number_back; each = each_back }, λ other.
-    (let n : length cs ≡ length others = sym number_back ∙ other.guests in sym each_back ∙ ap (bytes_at c 10) n ∙ other.each))
+  header_back others = (
+    magic_back,
+    record { guests = number_back; each = each_back },
+    λ other.
+        (let n : length cs ≡ length others = sym number_back ∙ other.guests in sym each_back ∙ ap (bytes_at c 10) n ∙ other.each),
+  )

@@ -1,5 +1,5 @@
 -- Rooms that are taken one by one.
-use Rattle.std.proofs.Common.{◌≡◌, Option, Some, None, ℕ, zero, suc, ◌-◌, ◌<◌, List, [], ◌∷◌, length, take, refl, sym, subst, arith}
+use Rattle.std.proofs.Common.{◌≡◌, Some, ℕ, zero, suc, List, [], ◌∷◌, take, subst, arith}
 use Rattle.std.specs.Prelude.{slice_get}
 use Rattle.std.specs.List.{All}
 

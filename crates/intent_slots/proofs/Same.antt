@@ -1,10 +1,9 @@
 -- A payload and a home speak of their own ranges alone.
-use Rattle.std.proofs.Common.{◌≡◌, ◌⊎◌, inl, inr, ⊎_elim, Bool, Option, Some, None, ℕ, zero, suc, ◌+◌, ◌*◌, ◌^◌, ◌-◌, ◌≤◌, ◌<◌, List, [], ◌∷◌, length, refl, ap, sym, ◌∙◌, subst, arith}
+use Rattle.std.proofs.Common.{◌≡◌, Option, ℕ, zero, suc, ◌+◌, ◌*◌, ◌^◌, ◌≤◌, ◌<◌, List, [], ◌∷◌, length, refl, ap, sym, ◌∙◌, arith}
 use Rattle.disk.specs.Content.{Content, bytes_at}
 use Rattle.intent_slots.specs.Fields.{number_at, Agree}
 use Rattle.intent_slots.specs.Payload.{Entry, Group, EntryFits, Programs, Stores, EntriesFit, GroupFits, IsEntry, AreEntries, IsPayload, entries_length, payload_length}
 use Rattle.intent_slots.specs.Home.{IsHome, Unkeyed, Keyed}
-use Rattle.intent_slots.proofs.Bytes.{SameOn, same_bytes}
 
 -- a part of places that agree
 part : (c : Content) (at : ℕ) (d : Content) (bt m n off : ℕ) → off + n ≤ m → Agree c at d bt m → Agree c (at + off) d (bt + off) n
@@ -53,9 +52,10 @@ pub same_entries : (size : ℕ) (c : Content) (at : ℕ) (d : Content) (bt : ℕ
 same_entries size c at d bt key counter [] fits same are = tt
 same_entries size c at d bt key counter (e ∷ []) fits same are = (same_entry c at d bt key counter e same are.0, tt)
 same_entries size c at d bt key counter (e ∷ f ∷ es) fits same are =
-    let short = short_blocks size counter e fits.0 in
-    (same_entry c at d bt key counter e (λ k lt. same k (omega arith)) are.0,
-     same_entries size c (at + 4160) d (bt + 4160) key (counter + 1) (f ∷ es) fits.1 (part c at d bt (4160 + entries_length (f ∷ es)) (entries_length (f ∷ es)) 4160 (omega arith) same) are.1)
+    let short = short_blocks size counter e fits.0 in (
+      same_entry c at d bt key counter e (λ k lt. same k (omega arith)) are.0,
+      same_entries size c (at + 4160) d (bt + 4160) key (counter + 1) (f ∷ es) fits.1 (part c at d bt (4160 + entries_length (f ∷ es)) (entries_length (f ∷ es)) 4160 (omega arith) same) are.1,
+    )
 
 pub same_payload : (size : ℕ) (c : Content) (at : ℕ) (d : Content) (bt : ℕ) (i : Group) → Agree c at d bt (payload_length i) → IsPayload size c at i → IsPayload size d bt i
 same_payload size c at d bt i same is = record {

@@ -1,7 +1,7 @@
 -- Where partitions begin and end.
-use Rattle.std.proofs.Common.{◌≡◌, ◌≢◌, ◌⊎◌, inl, inr, ⊎_elim, ℕ, zero, suc, ◌+◌, ◌*◌, ◌-◌, ◌≤◌, ◌<◌, List, [], ◌∷◌, length, take, drop, get_or, refl, ap, sym, ◌∙◌, subst, arith, drop-cons}
+use Rattle.std.proofs.Common.{◌≡◌, inl, inr, ⊎_elim, ℕ, zero, suc, ◌+◌, ◌*◌, ◌-◌, ◌≤◌, ◌<◌, List, [], ◌∷◌, length, take, get_or, refl, ap, sym, ◌∙◌, subst, arith}
 use Rattle.std.proofs.lemmas.Bool.{cases_lt}
-use Rattle.intent_slots.specs.Layout.{extent, start_from, start_of, image_length, Place, place_at, end_of, AreApart, NeverOverlap, AllInside}
+use Rattle.intent_slots.specs.Layout.{extent, start_from, start_of, image_length, place_at, end_of, NeverOverlap, AllInside}
 
 next : (at : ℕ) (cs : List ℕ) (g : ℕ) → g < length cs → start_from at cs (suc g) ≡ start_from at cs g + extent (get_or cs g 0)
 unfolding start_from
@@ -13,8 +13,8 @@ next at (c ∷ cs) (suc g) lt = next (at + extent c) cs g (omega arith)
 up : (at : ℕ) (cs : List ℕ) (g n : ℕ) → g + n ≤ length cs → start_from at cs g ≤ start_from at cs (g + n)
 up at cs g zero le = (let e : g + 0 ≡ g = omega arith in subst (λ h. start_from at cs g ≤ start_from at cs h) (sym e) (omega arith))
 up at cs g (suc n) le = (let e : g + suc n ≡ suc (g + n) = omega arith in
-  let before = up at cs g n (omega arith) in let step = next at cs (g + n) (omega arith) in
-  subst (λ h. start_from at cs g ≤ start_from at cs h) (sym e) (omega (arith, before, step)))
+    let before = up at cs g n (omega arith) in let step = next at cs (g + n) (omega arith) in
+    subst (λ h. start_from at cs g ≤ start_from at cs h) (sym e) (omega (arith, before, step)))
 
 pub ends_before : (cs : List ℕ) (g h : ℕ) → g < h → h ≤ length cs → end_of (place_at cs g) ≤ start_of cs h
 unfolding start_of place_at
@@ -28,9 +28,9 @@ ends_before cs g h lt le =
 pub overlaps_never : NeverOverlap
 unfolding place_at
 overlaps_never cs g h gl hl other = ⊎_elim
-  (λ lt. inl (ends_before cs g h lt (omega arith)))
-  (λ le. ⊎_elim (λ lt. inr (ends_before cs h g lt (omega arith))) (λ ge. absurd (other (omega arith))) (cases_lt h g))
-  (cases_lt g h)
+    (λ lt. inl (ends_before cs g h lt (omega arith)))
+    (λ le. ⊎_elim (λ lt. inr (ends_before cs h g lt (omega arith))) (λ ge. absurd (other (omega arith))) (cases_lt h g))
+    (cases_lt g h)
 
 pub lies_inside : AllInside
 unfolding start_of image_length start_from place_at

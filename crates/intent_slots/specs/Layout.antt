@@ -63,9 +63,9 @@ pub record Range : Type 0 where
 -- home, gate and payload of slot A, the same of slot B, and the blocks
 abbrev pub parts_of : Place → List Range
 parts_of place =
-  record { at = place.base; bytes = 64 } ∷ record { at = (slot_place place A).gate; bytes = 1 } ∷ record { at = (slot_place place A).payload; bytes = 16648 }
-  ∷ record { at = (slot_place place B).gate; bytes = 1 } ∷ record { at = (slot_place place B).payload; bytes = 16648 }
-  ∷ record { at = blocks_at place; bytes = place.size } ∷ []
+    record { at = place.base; bytes = 64 } ∷ record { at = (slot_place place A).gate; bytes = 1 } ∷ record { at = (slot_place place A).payload; bytes = 16648 }
+    ∷ record { at = (slot_place place B).gate; bytes = 1 } ∷ record { at = (slot_place place B).payload; bytes = 16648 }
+    ∷ record { at = blocks_at place; bytes = place.size } ∷ []
 
 -- each part ends before the next ones begin
 abbrev pub PartsNeverOverlap : Type 0

@@ -100,7 +100,11 @@ fn headers(rt: HostRuntime) -> Result<(), Fail> {
     let layout = layout_of(rt.alloc(), &[1, 2])?;
     assert_eq!(rt; layout.header().as_slice(), HEADER.as_slice());
     for (place, byte, refusal) in HEADERS {
-        assert_eq!(rt; layout.check_header(&front_with(place, byte)).err(), refusal, "at {place}");
+        assert_eq!(rt;
+            layout.check_header(&front_with(place, byte)).err(),
+            refusal,
+            "at {place}"
+        );
     }
     Ok(())
 }

@@ -61,7 +61,7 @@ fn block(alloc: Global) -> Result<Vec<u8>, Fail>
 
 #[test]
 fn program_key(rt: HostRuntime) -> Result<(), Fail> {
-    let intent = Intent::program_key(rt.alloc(), 3, KEY);
+    let intent = Intent::program_key(3, KEY);
     let buffer = encoded(rt.alloc(), &intent)?;
     assert_eq!(rt; intent.payload_len(), 72);
     assert!(rt; &buffer[..17] == &BEFORE_NEW_KEY[..]);
@@ -72,7 +72,7 @@ fn program_key(rt: HostRuntime) -> Result<(), Fail> {
 
 #[test]
 fn write_of_the_last_block(rt: HostRuntime) -> Result<(), Fail> {
-    let intent = Intent::write(rt.alloc(), 3, KEY, 1, 511, block(rt.alloc())?);
+    let intent = Intent::write(3, KEY, 1, 511, block(rt.alloc())?);
     let buffer = encoded(rt.alloc(), &intent)?;
     assert_eq!(rt; intent.payload_len(), 328);
     assert!(rt; &buffer[..17] == &BEFORE_KEY[..]);
@@ -86,7 +86,7 @@ fn write_of_the_last_block(rt: HostRuntime) -> Result<(), Fail> {
 fn two(alloc: Global) -> Result<Intent, Fail>
     ensures { IfOk result (λ intent. length intent.group.entries ≡ 2) }
 {
-    let mut intent = Intent::program_key(alloc, 3, KEY);
+    let mut intent = Intent::program_key(3, KEY);
     intent.push(Entry::write(511, block(alloc)?));
     Ok(intent)
 }

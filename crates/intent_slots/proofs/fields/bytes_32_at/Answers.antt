@@ -1,4 +1,4 @@
-use Rattle.std.proofs.Common.{◌≡◌, ◌+◌, ◌-◌, List, ℕ, take, drop, length, ap, sym, ◌∙◌, arith}
+use Rattle.std.proofs.Common.{◌+◌, ◌-◌, take, drop, ◌∙◌}
 use Rattle.intent_slots.proofs.Ranges.{read_bytes}
 use Rattle.intent_slots.proofs.fields.bytes_32_at.Goals as goal
 

@@ -1,4 +1,4 @@
-use Rattle.std.proofs.Common.{◌≡◌, ap, ◌∙◌, sym, length, ◌-◌, ◌+◌, arith}
+use Rattle.std.proofs.Common.{ap, ◌∙◌, length, ◌-◌, ◌+◌, arith}
 use borrow.Rule.Slice.PartMut.{put_mid}
 use Rattle.disk.specs.Content.{content_of}
 use Rattle.intent_slots.proofs.Buffers.{put_content}

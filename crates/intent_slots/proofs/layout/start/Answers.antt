@@ -1,4 +1,4 @@
-use Rattle.std.proofs.Common.{◌≡◌, ◌≤◌, ◌<◌, ◌∙◌, arith, length}
+use Rattle.std.proofs.Common.{◌<◌, ◌∙◌, arith}
 use Rattle.std.proofs.lemmas.List.{get_or-take}
 use Rattle.intent_slots.proofs.Starts.{first_start, start_next, take_short}
 use Rattle.intent_slots.proofs.layout.start.Goals as goal

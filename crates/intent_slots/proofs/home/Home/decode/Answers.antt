@@ -1,4 +1,4 @@
-use Rattle.std.proofs.Common.{rules, ◌≡◌, true, IsTrue}
+use Rattle.std.proofs.Common.{rules, IsTrue}
 use Rattle.disk.specs.Content.{content_of}
 use Rattle.intent_slots.proofs.Homes.{unkeyed_home, keyed_home}
 use Rattle.intent_slots.proofs.home.Home.decode.Goals as goal

@@ -1,6 +1,6 @@
-use Rattle.std.proofs.Common.{◌≡◌, ◌+◌, ◌≤◌, ◌*◌, ◌^◌, length, take, drop, ℕ, ◌-◌, ◌<◌}
+use Rattle.std.proofs.Common.{◌≡◌, ◌+◌, ◌*◌, length, drop}
 use Rattle.disk.specs.Content.{content_of}
-use Rattle.intent_slots.specs.Payload.{Group, entries_over, payload_content}
+use Rattle.intent_slots.specs.Payload.{entries_over, payload_content}
 use Rattle.intent_slots.proofs.intent.Intent.encode.Given as goal
 
 abbrev pub invariant-loop-k : goal.invariant-loop-k

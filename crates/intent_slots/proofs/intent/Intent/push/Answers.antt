@@ -1,4 +1,4 @@
-use Rattle.std.proofs.Common.{◌≡◌, ◌<◌, ◌+◌, ◌^◌, List, ◌++◌, ◌∷◌, [], length, ap, sym, subst, arith}
+use Rattle.std.proofs.Common.{◌<◌, ◌+◌, ◌^◌, List, length, sym, subst}
 use Rattle.intent_slots.specs.Payload.{Entry, Group, Intent, GroupFits}
 use Rattle.intent_slots.proofs.Groups.{group_more}
 use Rattle.intent_slots.proofs.intent.Intent.push.Goals as goal
