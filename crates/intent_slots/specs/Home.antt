@@ -33,7 +33,8 @@ pub data IsHome (c : Content) (at : ℕ) : Option (List ℕ) → ℕ → Type 0 
   Keyed : (key : List ℕ) (counter : ℕ) → IsKeyed c at key counter → IsHome c at (Some key) counter
 
 abbrev pub home_content : List ℕ → ℕ → Content
-home_content key counter = over 37 (big_bytes 8 (counter + 1)) (over 33 (big_bytes 4 counter) (over 1 key (over 0 (1 ∷ []) zeros)))
+home_content key counter = over 37 (big_bytes 8 (counter + 1))
+    (over 33 (big_bytes 4 counter) (over 1 key (over 0 (1 ∷ []) zeros)))
 
 -- the home record of a partition with this key
 unfoldable pub home_bytes : List ℕ → ℕ → List ℕ
@@ -55,5 +56,6 @@ HomeIsItsBytes = (key : Option (List ℕ)) (counter : ℕ) (c d : Content) (at b
     → IsHome c at key counter → IsHome d bt key counter
 
 abbrev pub OneHome : Type 0
-OneHome = (key other : Option (List ℕ)) (counter next : ℕ) (c : Content) (at : ℕ) → IsHome c at key counter → IsHome c at other next
+OneHome = (key other : Option (List ℕ)) (counter next : ℕ) (c : Content) (at : ℕ) → IsHome c at key counter
+    → IsHome c at other next
     → (key ≡ other) × (counter ≡ next)

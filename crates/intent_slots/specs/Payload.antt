@@ -87,7 +87,13 @@ pub record IsPayload (size : ℕ) (c : Content) (at : ℕ) (i : Group) : Type 0 
 -- an entry's bytes, put into a content field by field
 unfoldable pub entry_over : ℕ → List ℕ → ℕ → Entry → Content → Content
 entry_over at key counter e c =
-    over (at + 64) e.blocks (over (at + 47) (big_bytes 2 (length e.blocks / 256)) (over (at + 45) (big_bytes 2 e.address) (over (at + 41) (big_bytes 4 counter) (over (at + 9) key (over (at + 8) (kind_of e ∷ []) (over at (big_bytes 8 (counter + 1)) c))))))
+    over (at + 64) e.blocks
+    (over (at + 47) (big_bytes 2 (length e.blocks / 256))
+    (over (at + 45) (big_bytes 2 e.address)
+    (over (at + 41) (big_bytes 4 counter)
+    (over (at + 9) key
+    (over (at + 8) (kind_of e ∷ [])
+    (over at (big_bytes 8 (counter + 1)) c))))))
 
 abbrev pub entries_over : ℕ → List ℕ → ℕ → List Entry → Content → Content
 entries_over at key counter [] c = c

@@ -5,6 +5,15 @@ use arrayvec::ArrayVec;
 use rpmb_frame::BoardConfig;
 use std::marker::Model;
 
+/// The byte of an open gate; any other is shut.
+pub const OPEN_GATE: u8 = 0xA5;
+
+/// The byte that shuts a gate.
+pub const SHUT_GATE: u8 = 0x00;
+
+/// The place of the version byte in an image.
+pub const VERSION_PLACE: u64 = 512;
+
 /// The length of the header in bytes: what stands before partition 0.
 const HEADER_LENGTH: u64 = 1024;
 

@@ -21,7 +21,8 @@ pub use laws::{
     header_reads_back, home_reads_back, one_partition, payload_reads_back, redo_overwrites,
 };
 pub use layout::{
-    Layout, Side, partitions_lie_inside, partitions_never_overlap, parts_never_overlap,
+    Layout, OPEN_GATE, SHUT_GATE, Side, VERSION_PLACE, partitions_lie_inside,
+    partitions_never_overlap, parts_never_overlap,
 };
 pub use payload::{NoMemory, PAYLOAD_LENGTH, Room};
 
