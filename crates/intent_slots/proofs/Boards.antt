@@ -1,5 +1,5 @@
 -- The capacities of a board.
-use Rattle.std.proofs.Common.{◌≡◌, ℕ, zero, suc, ◌≤◌, ◌<◌, List, [], ◌∷◌, length, take, map, refl, ap, sym, ◌∙◌, subst, arith, take_all}
+use Rattle.std.proofs.Common.{◌≡◌, ℕ, zero, suc, ◌≤◌, List, [], ◌∷◌, length, take, refl, ap, sym, ◌∙◌, subst, arith, take_all}
 use Rattle.std.specs.List.{All}
 use Rattle.rpmb_frame.specs.declared.config.GuestConfig.{GuestConfig}
 use Rattle.rpmb_frame.specs.Config.{IsBoard, IsGuest}
@@ -16,9 +16,11 @@ each_small [] all k d lt = absurd (omega arith)
 each_small (g ∷ gs) all zero d lt = (all 0 g (omega arith)).capacity.1
 each_small (g ∷ gs) all (suc k) d lt = each_small gs (λ j e below. all (suc j) e (omega arith)) k d (omega arith)
 
-pub board_fits : (guests : List GuestConfig) (items : List ℕ) (k : ℕ) → IsBoard guests → length guests ≤ k → items ≡ capacities_of (take k guests) → AreCapacities items
+pub board_fits : (guests : List GuestConfig) (items : List ℕ) (k : ℕ) → IsBoard guests → length guests ≤ k
+    → items ≡ capacities_of (take k guests) → AreCapacities items
 board_fits guests items k board past is =
     let all : take k guests ≡ guests = take_all k guests past in
     let long = length-capacities guests in
     let count = board.count in
-    subst AreCapacities (sym (is ∙ ap capacities_of all)) (record { few = omega (arith, long, count); each = each_small guests board.each })
+    subst AreCapacities (sym (is ∙ ap capacities_of all))
+    (record { few = omega (arith, long, count); each = each_small guests board.each })

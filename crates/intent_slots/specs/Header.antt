@@ -1,5 +1,5 @@
 -- The image's header (own): 8 bytes of magic, the number of guests in 2, and a byte of capacity each.
-use Rattle.std.specs.Prelude.{◌≡◌, ◌≤◌, ℕ, ◌+◌, List, [], ◌∷◌, ◌++◌, length}
+use Rattle.std.specs.Prelude.{◌≡◌, ◌≤◌, ℕ, List, [], ◌∷◌, ◌++◌, length}
 use Rattle.byteorder.specs.Endian.{big_bytes}
 use Rattle.disk.specs.Content.{Content, bytes_at}
 use Rattle.intent_slots.specs.Fields.{number_at}
@@ -23,5 +23,5 @@ pub record HasCapacities (capacities : List ℕ) (c : Content) : Type 0 where
 -- what was written as header is the header of its board, and of no other
 abbrev pub HeaderReadsBack : Type 0
 HeaderReadsBack = (capacities others : List ℕ) (c : Content) → length capacities ≤ 64
-  → bytes_at c 0 (length (header_bytes capacities)) ≡ header_bytes capacities
-  → HasMagic c × HasCapacities capacities c × (HasCapacities others c → capacities ≡ others)
+    → bytes_at c 0 (length (header_bytes capacities)) ≡ header_bytes capacities
+    → HasMagic c × HasCapacities capacities c × (HasCapacities others c → capacities ≡ others)
