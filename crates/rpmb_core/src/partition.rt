@@ -1,4 +1,4 @@
-ghost use Rattle.std.specs.Prelude.{◌≡◌, ◌≤◌, ◌+◌, ◌*◌, ◌++◌, ℕ, List, None, true, IfOk, length, drop, vec_len};
+ghost use Rattle.std.specs.Prelude.{◌≡◌, ◌≤◌, ◌+◌, ◌*◌, ◌++◌, ℕ, List, None, true, is_none, IfOk, length, drop, vec_len};
 ghost use Rattle.std.specs.Option.{option_copied};
 ghost use Rattle.rpmb_frame.specs.Partition.{IsWhole, block_of, overwritten, sequence, empty_partition};
 ghost use Rattle.rpmb_core.specs.Accept.{is_accepted, partition_after, data_of};
@@ -49,6 +49,25 @@ impl Partition {
             counter: 0,
             blocks,
         })
+    }
+
+    /// The partition that an opening found: with this key, this write counter, which is 0 without a
+    /// key, and these blocks of 256 bytes one after another. It takes no memory.
+    pub fn of(capacity: u8, key: Option<[u8; 32]>, counter: u32, blocks: Vec<u8>) -> Partition
+        requires blocks { length blocks.items ≡ 131072 * capacity }
+        requires counter { is_none key ≡ true → counter ≡ 0 }
+        ensures { result ≡ record { capacity = capacity; key = key; counter = counter; blocks = blocks.items } }
+    {
+        let key = match key {
+            Some(key) => Some(MacKey::new(&key)),
+            None => None,
+        };
+        Partition {
+            capacity,
+            key,
+            counter,
+            blocks,
+        }
     }
 
     /// An equal partition.

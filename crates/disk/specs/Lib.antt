@@ -1,0 +1,6 @@
+pub mod Content
+pub mod CutDisk
+pub mod Disk
+pub mod FileDisk
+pub mod Laws
+pub mod MemDisk

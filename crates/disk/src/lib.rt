@@ -1,0 +1,20 @@
+//! A disk, by what reads give and what a stop may leave, and three disks.
+#![tactic(auto)]
+
+mod bytes;
+mod cut_disk;
+mod disk;
+mod file_disk;
+mod filler;
+mod filling;
+pub mod laws;
+mod mem_disk;
+
+pub use cut_disk::CutDisk;
+pub use disk::{Disk, DiskFault, NoMemory};
+pub use file_disk::FileDisk;
+pub use filler::Filler;
+pub use mem_disk::MemDisk;
+
+#[cfg(test)]
+mod tests;

@@ -1,0 +1,237 @@
+-- How the rows go on: by a write elsewhere, by the slot's own write, by a sync.
+use Rattle.std.proofs.Common.{◌≡◌, ◌≢◌, inl, inr, ⊎_elim, Option, Some, None, ℕ, ◌+◌, ◌*◌, ◌<◌, List, [], ◌∷◌, length, drop, get_or, refl, ap, sym, ◌∙◌, subst, arith}
+use Rattle.std.specs.Prelude.{slice_get}
+use Rattle.std.proofs.lemmas.Bool.{cases_eq}
+use Rattle.std.proofs.lemmas.Bool.Decides.{nat_tests}
+use Rattle.disk.specs.Content.{Content, IsOutside}
+use Rattle.intent_slots.specs.Layout.{Place, SlotPlace, IsSlotPlace, blocks_at}
+use Rattle.intent_slots.specs.Payload.{Entry, Group, Intent}
+use Rattle.intent_slots.specs.Home.{IsHome}
+use Rattle.intent_slots.proofs.Bytes.{SameOn}
+use Rattle.intent_slots.proofs.Same.{same_payload, same_home, payload_short}
+use Rattle.flusher.specs.declared.slot.Slot.{Slot}
+use Rattle.flusher.specs.declared.slot.Slot.TheVariants.{Empty, Given, Written, Ready, Opening, Open, Applying, Applied, Closing}
+use Rattle.intent_slots.specs.Recovered.{Part, HoldsHome, HasPayload, redone, redo, blocks_of, after, StandsFor, ByHome, ByPayload}
+use Rattle.intent_slots.specs.Payload.{last_of}
+use Rattle.flusher.specs.Slot.{skipped, next_write, NextWrite, NoWrite, PayloadWrite, GateWrite, BlocksWrite, HomeWrite, after_write, open_write, open_after, after_sync}
+use Rattle.flusher.specs.SlotInvariant.{settled, IsShut, Row, Seen, MayStand}
+use Rattle.flusher.proofs.Blocks.{same_blocks_of, redo_written, blocks_written, over_nothing, drop_at, drop_past, fits_at}
+
+pub same_pl : (place : Place) (side : SlotPlace) (c d : Content) (i : Group) → SameOn side.payload 16648 c d → HasPayload place side i c → HasPayload place side i d
+same_pl place side c d i same has = (let short = payload_short place.size i has.fits in same_payload place.size c side.payload d side.payload i (λ k lt. same (side.payload + k) (omega arith) (omega (arith, short))) has)
+
+module _ (place : Place) (side : SlotPlace) (ok : IsSlotPlace place side) (c d : Content) where
+  keep_shut : c side.gate ≡ d side.gate → IsShut side c → IsShut side d
+  keep_shut gate shut = λ e. shut (gate ∙ e)
+
+  keep_home : (p : Part) → SameOn place.base 64 c d → SameOn (blocks_at place) place.size c d → HoldsHome place c p → HoldsHome place d p
+  keep_home p home blocks is = record {
+    home = same_home c place.base d place.base p.key p.counter (λ k lt. home (place.base + k) (omega arith) (omega arith)) is.home;
+    same_blocks = sym (same_blocks_of place c d blocks) ∙ is.same_blocks;
+  }
+
+  keep_redone : (p : Part) (i : Group) → blocks_of place c ≡ blocks_of place d → redone place c i ≡ p → redone place d i ≡ p
+  keep_redone p i blocks is = ap (λ (b : Content). record { key = Some i.key; counter = last_of i; blocks = redo i.entries b }) (sym blocks) ∙ is
+
+  -- A row speaks of its gate, its payload, the home record and the blocks alone.
+  module _ (gate : c side.gate ≡ d side.gate) (on_home : SameOn place.base 64 c d) (on_payload : SameOn side.payload 16648 c d) (on_blocks : SameOn (blocks_at place) place.size c d) where
+    same_all : blocks_of place c ≡ blocks_of place d
+    same_all = same_blocks_of place c d on_blocks
+
+    home : (p : Part) → HoldsHome place c p → HoldsHome place d p
+    home p = keep_home p on_home on_blocks
+
+    payload : (i : Group) → HasPayload place side i c → HasPayload place side i d
+    payload i = same_pl place side c d i on_payload
+
+    redo_kept : (p : Part) (i : Group) → redone place c i ≡ p → redone place d i ≡ p
+    redo_kept p i = keep_redone p i same_all
+
+    pub row_beside : (p : Part) (slot : Slot) → Row place side p slot c → Row place side p slot d
+    row_beside p Empty r = (keep_shut gate r.0, home p r.1)
+    row_beside p (Given i) r = (keep_shut gate r.0, home p r.1, r.2)
+    row_beside p (Written i) r = (keep_shut gate r.0, home p r.1, r.2)
+    row_beside p (Ready i) r = (keep_shut gate r.0, home p r.1, payload i.group r.2)
+    row_beside p (Opening i) r = (home p r.0, payload i.group r.1)
+    row_beside p (Open i k) r = (sym gate ∙ r.0, redo_kept p i.group r.1, payload i.group r.2)
+    row_beside p (Applying i) r = (sym gate ∙ r.0, redo_kept p i.group r.1, payload i.group r.2)
+    row_beside p (Applied i) r = (sym gate ∙ r.0, redo_kept p i.group r.1, payload i.group r.2, home p r.3)
+    row_beside p (Closing i) r = (redo_kept p i.group r.0, payload i.group r.1, home p r.2)
+
+    pub seen_beside : (p : Part) (slot : Slot) → Seen place side p slot c → Seen place side p slot d
+    seen_beside p Empty s = tt
+    seen_beside p (Given i) s = tt
+    seen_beside p (Written i) s = payload i.group s
+    seen_beside p (Ready i) s = tt
+    seen_beside p (Opening i) s = sym gate ∙ s
+    seen_beside p (Open i k) s = ap (redo (drop k i.group.entries)) (sym same_all) ∙ s
+    seen_beside p (Applying i) s = home p s
+    seen_beside p (Applied i) s = tt
+    seen_beside p (Closing i) s = keep_shut gate s
+
+  module _ (same : SameOn place.base (35328 + place.size) c d) where
+    pub row_frame : (p : Part) (slot : Slot) → Row place side p slot c → Row place side p slot d
+    row_frame = row_beside (same side.gate (omega arith) (omega arith)) (λ k le lt. same k (omega arith) (omega arith)) (λ k le lt. same k (omega arith) (omega arith)) (λ k le lt. same k (omega arith) (omega arith))
+
+    pub seen_frame : (p : Part) (slot : Slot) → Seen place side p slot c → Seen place side p slot d
+    seen_frame = seen_beside (same side.gate (omega arith) (omega arith)) (λ k le lt. same k (omega arith) (omega arith)) (λ k le lt. same k (omega arith) (omega arith)) (λ k le lt. same k (omega arith) (omega arith))
+
+-- where a write of a partition goes, and how long it is
+pub record Target : Type 0 where
+  pub at : ℕ
+  pub long : ℕ
+
+-- what is known of the next write: what it leaves alone
+abbrev pub SameBut : ℕ → ℕ → Content → Content → Type 0
+SameBut at n c d = (k : ℕ) → IsOutside at n k → d k ≡ c k
+
+abbrev pub IsWritten : Content → ℕ → List ℕ → Type 0
+IsWritten d at bytes = (k : ℕ) → k < length bytes → d (at + k) ≡ get_or bytes k 0
+
+-- what a next write leaves alone: a payload's at most the slot's payload, a home's the home record
+abbrev pub Keeps : Place → SlotPlace → NextWrite → Content → Content → Type 0
+Keeps place side NoWrite c d = ⊥
+Keeps place side (PayloadWrite i) c d = SameBut side.payload 16648 c d
+Keeps place side (GateWrite byte) c d = SameBut side.gate 1 c d
+Keeps place side (BlocksWrite e) c d = SameBut (blocks_at place + 256 * e.address) (length e.blocks) c d
+Keeps place side (HomeWrite i) c d = SameBut place.base 64 c d
+
+-- what it leaves where it succeeds
+abbrev pub Puts : Place → SlotPlace → NextWrite → Content → Type 0
+Puts place side NoWrite d = ⊥
+Puts place side (PayloadWrite i) d = HasPayload place side i d
+Puts place side (GateWrite byte) d = d side.gate ≡ byte
+Puts place side (BlocksWrite e) d = IsWritten d (blocks_at place + 256 * e.address) e.blocks
+Puts place side (HomeWrite i) d = IsHome d place.base (Some i.key) (last_of i)
+
+module _ (place : Place) (side : SlotPlace) (ok : IsSlotPlace place side) (p : Part) (c d : Content) where
+  row_blocks : (i : Intent) (k : ℕ) (e : Entry) → slice_get i.group.entries k ≡ Some e → SameBut (blocks_at place + 256 * e.address) (length e.blocks) c d → Row place side p (Open i k) c → Row place side p (Open i (k + 1)) d
+  row_blocks i k e is out r = (
+    out side.gate (inl (omega arith)) ∙ r.0,
+    ap (λ (b : Content). record { key = Some i.group.key; counter = last_of i.group; blocks = b }) (redo_written place i.group.entries k e c d is out) ∙ r.1,
+    same_pl place side c d i.group (λ j le lt. sym (out j (inl (omega arith)))) r.2,
+  )
+
+  row_home : (i : Intent) (k : ℕ) → SameBut place.base 64 c d → Row place side p (Open i k) c → Row place side p (Applying i) d
+  row_home i k out r = (
+    out side.gate (inr (omega arith)) ∙ r.0,
+    keep_redone place side ok c d p i.group (same_blocks_of place c d (λ j le lt. sym (out j (inr (omega arith))))) r.1,
+    same_pl place side c d i.group (λ j le lt. sym (out j (inr (omega arith)))) r.2,
+  )
+
+  open_row : (i : Intent) (k : ℕ) (o : Option Entry) → slice_get i.group.entries k ≡ o → Keeps place side (open_write i.group o) c d → Row place side p (Open i k) c → Row place side p (open_after i k o) d
+  open_row i k None is out r = row_home i k out r
+  open_row i k (Some e) is out r = row_blocks i k e is out r
+
+  -- The slot's own write: whatever stands in its range, the next row holds.
+  pub own_write : (slot : Slot) → Keeps place side (next_write slot) c d → Row place side p slot c → Row place side p (after_write slot) d
+  own_write Empty out r = absurd out
+  own_write (Given i) out r = (
+    keep_shut place side ok c d (sym (out side.gate (inl (omega arith)))) r.0,
+    keep_home place side ok c d p (λ k le lt. sym (out k (inl (omega arith)))) (λ k le lt. sym (out k (inr (omega arith)))) r.1,
+    r.2,
+  )
+  own_write (Written i) out r = absurd out
+  own_write (Ready i) out r = (
+    keep_home place side ok c d p (λ k le lt. sym (out k (inl (omega arith)))) (λ k le lt. sym (out k (inr (omega arith)))) r.1,
+    same_pl place side c d i.group (λ k le lt. sym (out k (inr (omega arith)))) r.2,
+  )
+  own_write (Opening i) out r = absurd out
+  own_write (Open i k) out r = open_row i k (slice_get i.group.entries k) refl out r
+  own_write (Applying i) out r = absurd out
+  own_write (Applied i) out r = (
+    keep_redone place side ok c d p i.group (same_blocks_of place c d (λ k le lt. sym (out k (inr (omega arith))))) r.1,
+    same_pl place side c d i.group (λ k le lt. sym (out k (inr (omega arith)))) r.2,
+    keep_home place side ok c d p (λ k le lt. sym (out k (inl (omega arith)))) (λ k le lt. sym (out k (inr (omega arith)))) r.3,
+  )
+  own_write (Closing i) out r = absurd out
+
+  seen_blocks : (i : Intent) (k : ℕ) (e : Entry) → slice_get i.group.entries k ≡ Some e → SameBut (blocks_at place + 256 * e.address) (length e.blocks) c d → IsWritten d (blocks_at place + 256 * e.address) e.blocks → Row place side p (Open i k) c → Seen place side p (Open i k) c → Seen place side p (Open i (k + 1)) d
+  seen_blocks i k e is out put r s =
+      let over_it = blocks_written place e c d (fits_at place.size i.group.first i.group.entries k e r.2.fits.entries is) out put in
+      ap (redo (drop (k + 1) i.group.entries)) (sym over_it) ∙ ap (λ (es : List Entry). redo es (blocks_of place c)) (sym (drop_at i.group.entries k e is)) ∙ s
+
+  seen_home : (i : Intent) (k : ℕ) → slice_get i.group.entries k ≡ None → SameBut place.base 64 c d → IsHome d place.base (Some i.group.key) (last_of i.group) → Row place side p (Open i k) c → Seen place side p (Open i k) c → Seen place side p (Applying i) d
+  seen_home i k is out put r s = record {
+    home = subst (λ (q : Part). IsHome d place.base q.key q.counter) r.1 put;
+    same_blocks = sym (same_blocks_of place c d (λ j le lt. sym (out j (inr (omega arith))))) ∙ sym (ap (λ (es : List Entry). redo es (blocks_of place c)) (drop_past i.group.entries k is)) ∙ s;
+  }
+
+  open_seen : (i : Intent) (k : ℕ) (o : Option Entry) → slice_get i.group.entries k ≡ o → Keeps place side (open_write i.group o) c d → Puts place side (open_write i.group o) d → Row place side p (Open i k) c → Seen place side p (Open i k) c → Seen place side p (open_after i k o) d
+  open_seen i k None is out put r s = seen_home i k is out put r s
+  open_seen i k (Some e) is out put r s = seen_blocks i k e is out put r s
+
+  -- what reads give after it, where it succeeded
+  pub own_seen : (slot : Slot) → Keeps place side (next_write slot) c d → Puts place side (next_write slot) d → Row place side p slot c → Seen place side p slot c → Seen place side p (after_write slot) d
+  own_seen Empty out put r s = absurd out
+  own_seen (Given i) out put r s = put
+  own_seen (Written i) out put r s = absurd out
+  own_seen (Ready i) out put r s = put
+  own_seen (Opening i) out put r s = absurd out
+  own_seen (Open i k) out put r s = open_seen i k (slice_get i.group.entries k) refl out put r s
+  own_seen (Applying i) out put r s = absurd out
+  own_seen (Applied i) out put r s = λ e. absurd (omega (arith, put, e))
+  own_seen (Closing i) out put r s = absurd out
+
+-- the intent over the blocks of a partition at rest
+pub redone_after : (place : Place) (i : Group) (c : Content) (p : Part) → HoldsHome place c p → redone place c i ≡ after p i
+redone_after place i c p h = ap (λ (b : Content). record { key = Some i.key; counter = last_of i; blocks = redo i.entries b }) h.same_blocks
+
+-- an entry that is skipped leads nowhere
+skip : (es : List Entry) (c : Content) → redo es c ≡ redo (drop (skipped es) es) c
+skip [] c = refl
+skip (e ∷ es) c = ⊎_elim
+    (λ none. ap (redo es) (over_nothing (256 * e.address) e.blocks c none) ∙ sym (ap (λ (n : ℕ). redo (drop n (e ∷ es)) c) (one none)))
+    (λ some. sym (ap (λ (n : ℕ). redo (drop n (e ∷ es)) c) (zeros some)))
+    (cases_eq (length e.blocks) 0)
+  where
+    one : length e.blocks ≡ 0 → skipped (e ∷ es) ≡ 1
+    one none = grind (arith, nat_tests)
+
+    zeros : length e.blocks ≢ 0 → skipped (e ∷ es) ≡ 0
+    zeros some = grind (arith, nat_tests)
+
+-- One sync moves each slot by the table.
+pub synced_row : (place : Place) (side : SlotPlace) (p : Part) (slot : Slot) (c : Content) → Row place side p slot c → Seen place side p slot c → Row place side (settled slot p) (after_sync slot) c
+synced_row place side p Empty c r s = r
+synced_row place side p (Given i) c r s = r
+synced_row place side p (Written i) c r s = (r.0, r.1, s)
+synced_row place side p (Ready i) c r s = r
+synced_row place side p (Opening i) c r s = (s, redone_after place i.group c p r.0, r.1)
+synced_row place side p (Open i k) c r s = r
+synced_row place side p (Applying i) c r s = (r.0, r.1, r.2, s)
+synced_row place side p (Applied i) c r s = r
+synced_row place side p (Closing i) c r s = (s, r.2)
+
+pub synced_seen : (place : Place) (side : SlotPlace) (p : Part) (slot : Slot) (c : Content) → Row place side p slot c → Seen place side p slot c → Seen place side (settled slot p) (after_sync slot) c
+synced_seen place side p Empty c r s = s
+synced_seen place side p (Given i) c r s = s
+synced_seen place side p (Written i) c r s = tt
+synced_seen place side p (Ready i) c r s = s
+synced_seen place side p (Opening i) c r s = sym (skip i.group.entries (blocks_of place c)) ∙ ap (redo i.group.entries) r.0.same_blocks
+synced_seen place side p (Open i k) c r s = s
+synced_seen place side p (Applying i) c r s = tt
+synced_seen place side p (Applied i) c r s = s
+synced_seen place side p (Closing i) c r s = tt
+
+pub record Stands (place : Place) (side : SlotPlace) (p : Part) (slot : Slot) (c : Content) : Type 0 where
+  pub part : Part
+  pub is : StandsFor place side c part
+  pub may : MayStand p slot part
+
+pub row_stands : (place : Place) (side : SlotPlace) (p : Part) (slot : Slot) (c : Content) → Row place side p slot c → Stands place side p slot c
+row_stands place side p Empty c r = record { part = p; is = ByHome r.0 r.1; may = refl }
+row_stands place side p (Given i) c r = record { part = p; is = ByHome r.0 r.1; may = refl }
+row_stands place side p (Written i) c r = record { part = p; is = ByHome r.0 r.1; may = refl }
+row_stands place side p (Ready i) c r = record { part = p; is = ByHome r.0 r.1; may = refl }
+row_stands place side p (Opening i) c r = elim (cases_eq (c side.gate) 165) [
+  | inl is ↦ record { part = after p i.group; is = ByPayload i.group is r.1 (redone_after place i.group c p r.0); may = inr refl }
+  | inr shut ↦ record { part = p; is = ByHome shut r.0; may = inl refl }
+]
+row_stands place side p (Open i k) c r = record { part = p; is = ByPayload i.group r.0 r.2 r.1; may = refl }
+row_stands place side p (Applying i) c r = record { part = p; is = ByPayload i.group r.0 r.2 r.1; may = refl }
+row_stands place side p (Applied i) c r = record { part = p; is = ByPayload i.group r.0 r.2 r.1; may = refl }
+row_stands place side p (Closing i) c r = elim (cases_eq (c side.gate) 165) [
+  | inl is ↦ record { part = p; is = ByPayload i.group is r.1 r.0; may = refl }
+  | inr shut ↦ record { part = p; is = ByHome shut r.2; may = refl }
+]

@@ -1,0 +1,122 @@
+-- What every stop leaves of each guest (own).
+use Rattle.std.specs.Prelude.{◌≡◌, ◌≢◌, ◌⊎◌, ℕ, ◌≤◌, Bool, true, false, List, drop, slice_get, Option, Some, None}
+use Rattle.rpmb_frame.specs.Partition.{sequence_of}
+use Rattle.disk.specs.Content.{Content}
+use Rattle.disk.specs.Disk.{DiskState, MayLeave}
+use Rattle.intent_slots.specs.Layout.{Place, SlotPlace, AreApart, end_of}
+use Rattle.intent_slots.specs.Payload.{GroupFits, Intent}
+use Rattle.intent_slots.specs.Recovered.{Part, HoldsHome, HasPayload, redone, redo, blocks_of, after, StandsFor}
+use Rattle.flusher.specs.declared.slot.Slot.{Slot}
+use Rattle.flusher.specs.declared.slot.Slot.TheVariants.{Empty, Given, Written, Ready, Opening, Open, Applying, Applied, Closing}
+use Rattle.flusher.specs.declared.guest.Guest.{Guest}
+use Rattle.flusher.specs.Slot.{pending_of, place_of, side_of}
+
+abbrev pub IsShut : SlotPlace → Content → Type 0
+IsShut side c = c side.gate ≢ 165
+
+abbrev pub IsWideOpen : SlotPlace → Content → Type 0
+IsWideOpen side c = c side.gate ≡ 165
+
+-- What every stop leaves in a partition's place, where p is the settled partition. In Opening and
+-- Closing the gate may be any byte; in Open and Applying the blocks that the intent writes, and the
+-- home record, may be any bytes.
+abbrev pub Row : Place → SlotPlace → Part → Slot → Content → Type 0
+Row place side p Empty c = IsShut side c × HoldsHome place c p
+Row place side p (Given i) c = IsShut side c × HoldsHome place c p × GroupFits place.size i.group
+Row place side p (Written i) c = IsShut side c × HoldsHome place c p × GroupFits place.size i.group
+Row place side p (Ready i) c = IsShut side c × HoldsHome place c p × HasPayload place side i.group c
+Row place side p (Opening i) c = HoldsHome place c p × HasPayload place side i.group c
+Row place side p (Open i k) c = IsWideOpen side c × (redone place c i.group ≡ p) × HasPayload place side i.group c
+Row place side p (Applying i) c = IsWideOpen side c × (redone place c i.group ≡ p) × HasPayload place side i.group c
+Row place side p (Applied i) c = IsWideOpen side c × (redone place c i.group ≡ p) × HasPayload place side i.group c × HoldsHome place c p
+Row place side p (Closing i) c = (redone place c i.group ≡ p) × HasPayload place side i.group c × HoldsHome place c p
+
+-- What reads give besides, as long as no call has failed. In Open the entries that remain lead to the
+-- partition's blocks.
+abbrev pub Seen : Place → SlotPlace → Part → Slot → Content → Type 0
+Seen place side p Empty c = Unit {0}
+Seen place side p (Given i) c = Unit {0}
+Seen place side p (Written i) c = HasPayload place side i.group c
+Seen place side p (Ready i) c = Unit {0}
+Seen place side p (Opening i) c = IsWideOpen side c
+Seen place side p (Open i k) c = redo (drop k i.group.entries) (blocks_of place c) ≡ p.blocks
+Seen place side p (Applying i) c = HoldsHome place c p
+Seen place side p (Applied i) c = Unit {0}
+Seen place side p (Closing i) c = IsShut side c
+
+-- the settled partition after a sync that succeeded
+abbrev pub settled : Slot → Part → Part
+settled Empty p = p
+settled (Given i) p = p
+settled (Written i) p = p
+settled (Ready i) p = p
+settled (Opening i) p = after p i.group
+settled (Open i k) p = p
+settled (Applying i) p = p
+settled (Applied i) p = p
+settled (Closing i) p = p
+
+-- the partition that a stop leaves: in Opening the one before or after the intent, else the settled one
+abbrev pub MayStand : Part → Slot → Part → Type 0
+MayStand p Empty q = q ≡ p
+MayStand p (Given i) q = q ≡ p
+MayStand p (Written i) q = q ≡ p
+MayStand p (Ready i) q = q ≡ p
+MayStand p (Opening i) q = (q ≡ p) ⊎ (q ≡ after p i.group)
+MayStand p (Open i k) q = q ≡ p
+MayStand p (Applying i) q = q ≡ p
+MayStand p (Applied i) q = q ≡ p
+MayStand p (Closing i) q = q ≡ p
+
+-- the partition before or after an intent that isn't settled, where there is one
+abbrev pub BeforeOrAfter : Part → Option Intent → Part → Type 0
+BeforeOrAfter p None q = q ≡ p
+BeforeOrAfter p (Some i) q = (q ≡ p) ⊎ (q ≡ after p i.group)
+
+abbrev pub sequence_of_part : Part → ℕ
+sequence_of_part p = sequence_of p.key p.counter
+
+-- an intent follows a sequence: its first request comes next
+abbrev pub Follows : ℕ → Option Intent → Type 0
+Follows n None = Unit {0}
+Follows n (Some i) = i.group.first ≡ n
+
+-- the settled sequence is the settled partition's, and an intent that isn't settled follows it
+pub record IsMarked (p : Part) (x : Guest) : Type 0 where
+  pub mark : x.settled ≡ sequence_of_part p
+  pub follows : Follows x.settled (pending_of x.slot)
+
+-- Each guest's settled partition is held by every stop. X is what the store holds for one guest.
+pub record IsHeldBy {X : Type 0} (place : X → Place) (row seen : Part → X → Content → Type 0) (parts : ℕ → Part) (guests : List X) (broken : Bool) (s : DiskState) : Type 0 where
+  pub known : s.faithful ≡ true
+  pub fits : (g : ℕ) (x : X) → slice_get guests g ≡ Some x → end_of (place x) ≤ s.len
+  pub apart : (g h : ℕ) (x y : X) → g ≢ h → slice_get guests g ≡ Some x → slice_get guests h ≡ Some y → AreApart (place x) (place y)
+  pub rows : (g : ℕ) (x : X) → slice_get guests g ≡ Some x → (c : Content) → MayLeave s c → row (parts g) x c
+  pub seen_rows : broken ≡ false → (g : ℕ) (x : X) → slice_get guests g ≡ Some x → seen (parts g) x s.seen
+
+abbrev pub guest_row : Part → Guest → Content → Type 0
+guest_row p x c = Row (place_of x) (side_of x) p x.slot c × IsMarked p x
+
+abbrev pub guest_seen : Part → Guest → Content → Type 0
+guest_seen p x c = Seen (place_of x) (side_of x) p x.slot c
+
+abbrev pub IsHeld : (ℕ → Part) → List Guest → Bool → DiskState → Type 0
+IsHeld = IsHeldBy place_of guest_row guest_seen
+
+-- A content stands for the guest's partition before or after its intent, never below the mark.
+pub record IsKept (p : Part) (x : Guest) (c : Content) : Type 0 where
+  pub part : Part
+  pub stands : StandsFor (place_of x) (side_of x) c part
+  pub either : BeforeOrAfter p (pending_of x.slot) part
+  pub marked : x.settled ≤ sequence_of_part part
+
+-- every stop leaves, for each guest, such a content
+abbrev pub EachStop : (ℕ → Part) → List Guest → DiskState → Type 0
+EachStop parts guests s = (g : ℕ) (x : Guest) → slice_get guests g ≡ Some x → (c : Content) → MayLeave s c → IsKept (parts g) x c
+
+abbrev pub guest_settled : Guest → Part → Part
+guest_settled x p = settled x.slot p
+
+abbrev pub settled_by : {X : Type 0} → (X → Part → Part) → Option X → Part → Part
+settled_by settle None p = p
+settled_by settle (Some x) p = settle x p

@@ -1,0 +1,195 @@
+ghost use Rattle.std.specs.Prelude.{◌≡◌, ◌+◌, ◌*◌, ◌≤◌, ◌<◌, ◌^◌, ◌↔◌, ℕ, List, false, true, not, length, map, is_ok, IsTrue, Ok, Err, slice_get, slice_set, Some, None, MatchOption, OnErr, if◌then◌else◌};
+ghost use Rattle.disk.specs.Disk.{Within, HasRisen};
+ghost use Rattle.intent_slots.specs.Recovered.{Part};
+ghost use Rattle.flusher.specs.SlotInvariant.{IsHeld, EachStop};
+ghost use Rattle.flusher.specs.Round.{planned, Ends, Round, parts_after, call_of};
+ghost use Rattle.flusher.specs.Store.{StoreState, AllFit, Fits, is_free, next_sequence, given, next_call};
+ghost use Rattle.flusher.specs.Marks.{marks_of};
+
+use crate::guest::Guest;
+use crate::marks::Marks;
+use crate::moving::{any_awaits_sync, next_writer};
+use crate::progress::{Call, Progress, StoreFault};
+use crate::slot::Slot;
+use crate::writing::{sync_round, write_round};
+use disk::{CutDisk, Disk, DiskFault};
+use intent_slots::Intent;
+use std::marker::Model;
+
+/// How a call of the disk ends a round.
+fn ended(outcome: Result<(), DiskFault>, done: Progress) -> Result<Progress, StoreFault>
+    ensures { Ends (is_ok outcome) done result (not (is_ok outcome)) }
+{
+    match outcome {
+        Ok(()) => Ok(done),
+        Err(_) => Err(StoreFault::DiskFault),
+    }
+}
+
+/// The store of up to 64 guests over one disk. Contracts see the disk, what is held for each guest, and
+/// whether a call has failed.
+#[derive(Drop)]
+pub struct Store<D: Disk> {
+    disk: D,
+    guests: Vec<Guest>,
+    /// Where a payload is put together.
+    buffer: Vec<u8>,
+    broken: bool,
+}
+
+impl<D: Disk> Model for Store<D> {
+    ghost use Rattle.std.specs.Prelude.{◌≡◌, ◌≤◌, ◌<◌, ◌^◌, length};
+    ghost use Rattle.flusher.specs.Store.{StoreState, AllFit};
+
+    ghost Value = { StoreState D };
+
+    ghost view = { λ s. record { disk = s.disk; guests = s.guests.items; broken = s.broken } };
+
+    ghost invariant = { λ s. (length s.buffer.items ≡ 16648) × (length s.guests.items ≤ 64) × ((D.state s.disk).len < 2 ^ 64) × AllFit (D.state s.disk).len s.guests.items };
+}
+
+impl<D: Disk> Store<D> {
+    /// The store over a disk that an opening has read, with what it found for each guest, and a buffer
+    /// of 16,648 bytes in which payloads are put together. It takes no memory.
+    pub fn opened(disk: D, guests: Vec<Guest>, buffer: Vec<u8>) -> Store<D>
+        requires few { length guests.items ≤ 64 }
+        requires buffer { length buffer.items ≡ 16648 }
+        requires near { (D.state disk).len < 2 ^ 64 }
+        requires fits { AllFit (D.state disk).len guests.items }
+        ensures { result ≡ record { disk = disk; guests = guests.items; broken = false } }
+    {
+        Store {
+            disk,
+            guests,
+            buffer,
+            broken: false,
+        }
+    }
+
+    /// Whether nothing is given for the guest, and its slot is empty; false for a guest that the store
+    /// lacks.
+    #[tactic(auto, unfolding(crate::specs::Store::is_free))]
+    pub fn is_free(&self, guest: u16) -> bool
+        ensures { result ≡ is_free self.now.guests guest }
+    {
+        match self.guests.get(usize::from(guest)) {
+            Some(held) => held.slot.is_empty(),
+            None => false,
+        }
+    }
+
+    /// The sequence that comes next for the guest: one more than the last that was given or found by
+    /// the opening; 0 for a guest that the store lacks.
+    #[tactic(auto, unfolding(crate::specs::Store::next_sequence))]
+    pub fn next(&self, guest: u16) -> u64
+        ensures { result ≡ next_sequence self.now.guests guest }
+    {
+        match self.guests.get(usize::from(guest)) {
+            Some(held) => held.settled + held.slot.pending() + 1,
+            None => 0,
+        }
+    }
+
+    /// Whether every block of the intent lies in its guest's partition of this store, and its key is
+    /// that of the intent which is given or in the slot; false for a guest that the store lacks.
+    pub fn fits(&self, intent: &Intent) -> bool
+        ensures { IsTrue result ↔ Fits self.now.guests intent.now }
+    {
+        match self.guests.get(usize::from(intent.guest())) {
+            Some(held) => intent.lies_inside(held.capacity) && held.slot.has_key_of(intent),
+            None => false,
+        }
+    }
+
+    /// Gives an intent, whose first request comes next for its guest. It takes no memory and makes no
+    /// call.
+    #[tactic(auto, unfolding(crate::specs::Store::is_free, crate::specs::Store::given, crate::specs::Store::next_sequence))]
+    pub fn give(&mut self, intent: Intent)
+        requires free { is_free self.old.guests intent.guest ≡ true }
+        requires fits { Fits self.old.guests intent }
+        requires next { intent.group.first + 1 ≡ next_sequence self.old.guests intent.guest }
+        ensures store { self.new ≡ record self.old { guests = given self.old.guests intent } }
+        ensures held { (parts : ℕ → Part) → IsHeld parts self.old.guests self.old.broken (D.state self.old.disk) → IsHeld parts self.new.guests self.new.broken (D.state self.new.disk) }
+    {
+        let guest = usize::from(intent.guest());
+        self.guests[guest].slot = Slot::Given(intent);
+    }
+
+    /// The marks of the last sync that succeeded, or of the opening.
+    pub fn marks(&self) -> Marks
+        ensures { result ≡ marks_of self.now.guests }
+    {
+        Marks::of(&self.guests)
+    }
+
+    /// Which call `advance` would make: none where a call has failed.
+    pub fn next_call(&self) -> Call
+        ensures { result ≡ next_call self.now.broken self.now.guests }
+    {
+        if self.broken {
+            return Call::None;
+        }
+        if next_writer(&self.guests).is_some() {
+            return Call::Write;
+        }
+        if any_awaits_sync(&self.guests) {
+            Call::Sync
+        } else {
+            Call::None
+        }
+    }
+
+    /// The disk, with whatever is on it.
+    pub fn into_disk(self) -> D
+        ensures { result ≡ self.disk }
+    {
+        self.disk
+    }
+
+    /// The call of the phase table.
+    fn round(&mut self) -> Result<Progress, StoreFault>
+        requires { self.old.broken ≡ false }
+        ensures { Round D.makes (planned self.old.guests) self.old.disk self.old.guests result self.new.disk self.new.guests self.new.broken }
+    {
+        if let Some(guest) = next_writer(&self.guests) {
+            let wrote = write_round(&mut self.disk, &mut self.buffer, &mut self.guests, guest);
+            self.broken = wrote.is_err();
+            return ended(wrote, Progress::Wrote);
+        }
+        if !any_awaits_sync(&self.guests) {
+            return Ok(Progress::Idle);
+        }
+        let synced = sync_round(&mut self.disk, &mut self.guests);
+        self.broken = synced.is_err();
+        ended(synced, Progress::Synced(Marks::of(&self.guests)))
+    }
+
+    /// Makes the next call to the disk: the write of the lowest-numbered guest that has one, else a
+    /// sync where a slot awaits one, else none. It takes no memory.
+    ///
+    /// Answers `DiskFault` where that call failed, and `Broken`, without a call, ever after.
+    pub fn advance(&mut self) -> Result<Progress, StoreFault>
+        ensures round { self.old.broken ≡ false → Round D.makes (planned self.old.guests) self.old.disk self.old.guests result self.new.disk self.new.guests self.new.broken }
+        ensures broken { self.old.broken ≡ true → (result ≡ Err StoreFault.Broken) × (self.new ≡ self.old) }
+        ensures cause { result ≡ Err StoreFault.DiskFault → HasRisen (D.state self.old.disk).failures (D.state self.new.disk).failures }
+
+        // At each moment since the call's start a stop leaves, for each guest, the partition before its
+        // intent or after it, and never one below its mark.
+        ensures any_moment { (parts : ℕ → Part) → IsHeld parts self.old.guests self.old.broken (D.state self.old.disk) → Within D.state D.makes (EachStop parts self.old.guests) self.old.disk self.new.disk }
+        ensures held { (parts : ℕ → Part) → IsHeld parts self.old.guests self.old.broken (D.state self.old.disk) → IsHeld (parts_after result self.old.guests parts) self.new.guests self.new.broken (D.state self.new.disk) }
+    {
+        if self.broken {
+            return Err(StoreFault::Broken);
+        }
+        self.round()
+    }
+}
+
+impl Store<CutDisk> {
+    /// Chooses the disk's call that is to fail, as `CutDisk::fail` does. It changes nothing else.
+    pub fn fail(&mut self, k: u64)
+        ensures { self.new ≡ record self.old { disk = record self.old.disk { chosen = k } } }
+    {
+        self.disk.fail(k);
+    }
+}

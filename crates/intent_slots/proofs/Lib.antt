@@ -1,0 +1,16 @@
+pub mod Ranges
+pub mod Bytes
+pub mod Same
+pub mod Over
+pub mod Again
+pub mod Buffers
+pub mod Starts
+pub mod Equal
+pub mod Parts
+pub mod Homes
+pub mod Groups
+pub mod Decoding
+pub mod Rooms
+pub mod ReadsBack
+pub mod Parting
+pub mod Boards

@@ -1,0 +1,172 @@
+ghost use Rattle.std.specs.Prelude.{◌≡◌, ◌≤◌, ◌<◌, ◌+◌, ◌*◌, ◌^◌, length, slice_index};
+ghost use Rattle.intent_slots.specs.Layout.{capacities_of, place_at, start_of, image_length, slot_place, blocks_at, NeverOverlap, AllInside, PartsNeverOverlap, PartsInside, SlotsBetween};
+
+use arrayvec::ArrayVec;
+use rpmb_frame::BoardConfig;
+use std::marker::Model;
+
+/// The byte of an open gate; any other is shut.
+pub const OPEN_GATE: u8 = 0xA5;
+
+/// The byte that shuts a gate.
+pub const SHUT_GATE: u8 = 0x00;
+
+/// The place of the version byte in an image.
+pub const VERSION_PLACE: u64 = 512;
+
+/// The length of the header in bytes: what stands before partition 0.
+const HEADER_LENGTH: u64 = 1024;
+
+/// The length in bytes of a partition's parts before its blocks.
+const PARTS_LENGTH: u64 = 35_328;
+
+/// The length in bytes of the blocks of one unit of capacity.
+const UNIT_LENGTH: u64 = 131_072;
+
+/// One of a partition's two slots.
+#[derive(Clone, Copy, Debug, PartialEq, Eq)]
+pub enum Side {
+    A,
+    B,
+}
+
+/// Where each part of an image stands, in bytes from its first. Contracts see the capacities of the
+/// guests.
+#[derive(Drop)]
+pub struct Layout {
+    capacities: ArrayVec<u8, 64>,
+}
+
+impl Model for Layout {
+    ghost use Rattle.std.specs.Prelude.{List, ℕ};
+    ghost use Rattle.intent_slots.specs.Layout.{AreCapacities};
+
+    ghost Value = { List ℕ };
+
+    ghost view = { λ l. l.capacities.items };
+
+    ghost invariant = { λ l. AreCapacities l.capacities.items };
+}
+
+#[tactic(auto, unfolding(crate::specs::Layout::place_at, crate::specs::Layout::image_length, crate::specs::Layout::capacities_of))]
+impl Layout {
+    /// The layout of a board's image. It takes no memory.
+    pub fn of(board: &BoardConfig) -> Layout
+        ensures { result ≡ capacities_of board.now }
+    {
+        let mut capacities = ArrayVec::new();
+        for guest in board.guests() {
+            capacities.push(guest.capacity);
+        }
+        Layout { capacities }
+    }
+
+    /// How many guests the image has: at most 64.
+    pub fn guests(&self) -> usize
+        ensures value { result ≡ length self.now }
+        ensures few { result ≤ 64 }
+    {
+        self.capacities.len()
+    }
+
+    /// The capacities of the guests, in units of 512 blocks of 256 bytes.
+    pub(crate) fn capacities(&self) -> &[u8]
+        ensures value { result.now ≡ self.now }
+        ensures few { length result.now ≤ 64 }
+    {
+        self.capacities.as_slice()
+    }
+
+    /// The length of the image in bytes.
+    pub fn length(&self) -> u64
+        ensures value { result ≡ image_length self.now }
+        ensures small { result < 2 ^ 31 }
+    {
+        start(self.capacities.as_slice(), self.capacities.len())
+    }
+
+    /// A guest's capacity in units of 512 blocks of 256 bytes: at most 128.
+    pub fn capacity(&self, guest: u16) -> u8
+        requires { guest < length self.now }
+        ensures value { result ≡ slice_index self.now guest }
+        ensures in_range { result ≤ 128 }
+    {
+        self.capacities.as_slice()[usize::from(guest)]
+    }
+
+    /// The place of a guest's home record, of 64 bytes.
+    pub fn home(&self, guest: u16) -> u64
+        requires { guest < length self.now }
+        ensures value { result ≡ (place_at self.now guest).base }
+        ensures small { result < 2 ^ 31 }
+    {
+        start(self.capacities.as_slice(), usize::from(guest))
+    }
+
+    /// The place of the gate of one of a guest's slots, of one byte.
+    pub fn gate(&self, side: Side, guest: u16) -> u64
+        requires { guest < length self.now }
+        ensures value { result ≡ (slot_place (place_at self.now guest) side).gate }
+        ensures small { result < 2 ^ 32 }
+    {
+        let base = self.home(guest);
+        match side {
+            Side::A => base + 512,
+            Side::B => base + 17_920,
+        }
+    }
+
+    /// The place of the payload of one of a guest's slots, of at most 16,648 bytes.
+    pub fn payload(&self, side: Side, guest: u16) -> u64
+        requires { guest < length self.now }
+        ensures value { result ≡ (slot_place (place_at self.now guest) side).payload }
+        ensures small { result < 2 ^ 32 }
+    {
+        let base = self.home(guest);
+        match side {
+            Side::A => base + 1024,
+            Side::B => base + 18_432,
+        }
+    }
+
+    /// The place of a guest's blocks, of 256 bytes each, by address.
+    pub fn blocks(&self, guest: u16) -> u64
+        requires { guest < length self.now }
+        ensures value { result ≡ blocks_at (place_at self.now guest) }
+        ensures small { result < 2 ^ 32 }
+    {
+        self.home(guest) + PARTS_LENGTH
+    }
+}
+
+/// Where a partition begins; for the number of partitions, where the image ends.
+fn start(capacities: &[u8], guest: usize) -> u64
+    requires few { length capacities.now ≤ 64 }
+    requires guest { guest ≤ length capacities.now }
+    ensures value { result ≡ start_of capacities.now guest }
+    ensures small { result < 2 ^ 31 }
+{
+    let mut at: u64 = HEADER_LENGTH;
+    for capacity in &capacities[..guest] {
+        at += PARTS_LENGTH + UNIT_LENGTH * u64::from(*capacity);
+    }
+    at
+}
+
+/// Different partitions have no place in common.
+pub fn partitions_never_overlap()
+    ensures { NeverOverlap }
+{}
+
+/// Each partition lies behind the header, and in the image.
+pub fn partitions_lie_inside()
+    ensures { AllInside }
+{}
+
+/// The parts of a partition have no place in common, and lie in it; a slot's gate and payload stand
+/// between the home record and the blocks.
+pub fn parts_never_overlap()
+    ensures apart { PartsNeverOverlap }
+    ensures inside { PartsInside }
+    ensures slots { SlotsBetween }
+{}
