@@ -88,7 +88,7 @@ impl Entry {
 
     /// Puts the entry's fields into their places.
     pub(crate) fn put(&self, out: &mut [u8], at: usize, key: &[u8; 32], counter: u32)
-        requires { at + 4160 ≤ length out.old }
+        requires { at + 64 + length self.now.blocks ≤ length out.old }
         ensures content { content_of out.new ≡ entry_over at key.now counter self.now (content_of out.old) }
         ensures len { length out.new ≡ length out.old }
     {
