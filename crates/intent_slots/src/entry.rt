@@ -43,7 +43,8 @@ impl Entry {
         }
     }
 
-    /// A DATA_WRITE of at most 4,096 bytes of blocks from an address on.
+    /// A DATA_WRITE of at most 4,096 bytes of blocks from an address on. Without a byte, at address 0, it is
+    /// a PROGRAM_KEY.
     pub fn write(address: u16, blocks: Vec<u8>) -> Entry
         requires { length blocks.items ≤ 4096 }
         ensures { result ≡ record { address = address; blocks = blocks.items } }
