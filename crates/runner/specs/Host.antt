@@ -3,7 +3,7 @@ use Rattle.std.specs.Prelude.{◌≡◌, ℕ, ◌+◌, ◌<◌, List, length, ge
 use Rattle.rpmb_frame.specs.declared.config.GuestConfig.{GuestConfig}
 use Rattle.rpmb_frame.specs.declared.config.RingKind.TheVariants.{Split}
 use Rattle.mmio_transport.specs.Device.{last_count}
-use Rattle.runner.specs.Guest.{GuestView, StoresInto, StaysStuck}
+use Rattle.runner.specs.Guest.{GuestView, StoresInto, StaysStuck, after_reset}
 use Rattle.runner.specs.Ready.{IsReady, IsUsedWith, job_of}
 use Rattle.runner.specs.Runner.{RunnerView, cores_after, fresh_view, reply_of}
 use Rattle.runner.specs.declared.fault.HostFault.{HostFault}
@@ -70,3 +70,11 @@ ChainsAt (Some g) h guest told h' = (g' : GuestView) × StaysStuck g.stuck g h.r
 
 abbrev pub HostChains : HostView → ℕ → Result Answer HostFault → HostView → Type 0
 HostChains h guest told h' = ChainsAt (slice_get h.guests guest) h guest told h'
+
+-- what a reset does, by the guest of that number
+abbrev pub ResetsAt : Option GuestView → HostView → ℕ → Result (Unit {0}) HostFault → HostView → Type 0
+ResetsAt None h guest told h' = (told ≡ Err Foreign) × (h' ≡ h)
+ResetsAt (Some g) h guest told h' = (told ≡ Ok tt) × (h' ≡ with_guest h guest (after_reset g))
+
+abbrev pub HostResetsGuest : HostView → ℕ → Result (Unit {0}) HostFault → HostView → Type 0
+HostResetsGuest h guest told h' = ResetsAt (slice_get h.guests guest) h guest told h'

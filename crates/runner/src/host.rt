@@ -2,7 +2,7 @@
 ghost use Rattle.std.specs.Prelude.{◌≡◌, ◌≤◌, ◌<◌, ◌+◌, IfOk, OnErr, length};
 ghost use Rattle.rpmb_frame.specs.Config.{IsBoard};
 ghost use Rattle.runner.specs.Guest.{StoresInto, first_guests};
-ghost use Rattle.runner.specs.Host.{HostAnswers, HostChains, HostStores, HostResets, IsFresh};
+ghost use Rattle.runner.specs.Host.{HostAnswers, HostChains, HostStores, HostResets, HostResetsGuest, IsFresh};
 
 use crate::fault::HostFault;
 use crate::guest::{Answer, Guest};
@@ -94,7 +94,8 @@ impl Host {
     /// Resets a guest's device and brings it into service again, in the guest's next session.
     /// `Foreign` where there is no such guest; then nothing changes.
     pub fn reset(&mut self, guest: u16) -> Result<(), HostFault>
-        ensures { HostResets self.old guest result self.new }
+        ensures guest { HostResetsGuest self.old guest result self.new }
+        ensures ready { HostResets self.old guest result self.new }
     {
         let at = usize::from(guest);
         if at >= self.guests.len() {

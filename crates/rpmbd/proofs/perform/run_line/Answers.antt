@@ -23,4 +23,4 @@ pub returns-in-Ok-reset : goal.returns-in-Ok-reset
 returns-in-Ok-reset g c =
     let start = g.W.Write.contents c.args.out.now in
     let of : Line → Type 0 = λ l. Runs c.args.host.now (said l) start start c.reset.new.self in
-    subst of (sym c.in-Reset.is) (reset_runs c.args.host.now c.reset.new.self c.in-Reset.guest start c.in-Ok-reset.ensures)
+    subst of (sym c.in-Reset.is) (reset_runs c.args.host.now c.reset.new.self c.in-Reset.guest start c.in-Ok-reset.ensures.ready)
