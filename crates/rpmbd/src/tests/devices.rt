@@ -119,6 +119,11 @@ fn an_index_that_the_guest_moves(rt: HostRuntime) -> Result<(), Fail> {
     for (stores, printed) in [
         // 16 places are there, all of the head 0, and each is answered; the rest is reaped later.
         ("store 0 258 0f00\n", "used 0 0 -\nused 0 0 -\n"),
+        // All 16 are popped before the next chain is offered: else this would be 17 places ahead.
+        (
+            "store 0 258 0f00\nchain 0 - 16\nstore 0 258 1100\n",
+            "used 0 0 -\nused 0 0 -\nused 0 0 -\n",
+        ),
         // More places than the ring has, by one, and by all that 16 bits can say.
         ("store 0 258 1000\n", "needs-reset 0\nneeds-reset 0\n"),
         ("store 0 258 feff\n", "needs-reset 0\nneeds-reset 0\n"),
