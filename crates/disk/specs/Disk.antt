@@ -46,7 +46,7 @@ pub record Counts (ok : Bool) (old new : DiskState) : Type 0 where
   -- where no further failure can be counted, every call fails
   pub ended : 2 ^ 64 ≤ old.failures + 1 → ok ≡ false
 
--- A read that ended so. Nothing changes but the count of failures.
+-- A read that ended so. Nothing that reads give changes, and no place becomes unsynced.
 pub record Reads (ok : Bool) (old new : DiskState) : Type 0 where
   pub counts : Counts ok old new
   pub seen : old.faithful ≡ true → (k : ℕ) → new.seen k ≡ old.seen k

@@ -86,7 +86,8 @@ impl CutDisk {
     }
 
     /// Makes the k-th call from now on fail, of reads, writes and syncs, counted from 1; an empty
-    /// one counts too. It is that one alone, in place of an earlier choice; 0 chooses none.
+    /// one counts too. It is that one alone, in place of an earlier choice; 0 chooses none. Once
+    /// 2^64 - 1 calls have failed, every call fails.
     pub fn fail(&mut self, k: u64)
         ensures { self.new ≡ record self.old { chosen = k } }
     {

@@ -32,7 +32,7 @@ pub trait Disk: Drop {
     fn len(&self) -> u64
         ensures { result ≡ (state self.now).len };
 
-    /// Reads the bytes from the place `at` on into all of `out`.
+    /// Reads the bytes from the place `at` on into all of `out`. They lie on the disk.
     ///
     /// After a refusal `out` may hold anything.
     fn read_at(&mut self, at: u64, out: &mut [u8]) -> Result<(), DiskFault>
@@ -41,7 +41,7 @@ pub trait Disk: Drop {
         ensures ok { OnOk result ((state self.old).faithful ≡ true
             → out.new ≡ bytes_at (state self.old).seen at (length out.old)) };
 
-    /// Writes `bytes` from the place `at` on.
+    /// Writes `bytes` from the place `at` on. Their range lies on the disk.
     ///
     /// After a refusal that range may read as anything.
     fn write_at(&mut self, at: u64, bytes: &[u8]) -> Result<(), DiskFault>

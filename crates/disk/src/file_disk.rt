@@ -60,7 +60,8 @@ impl FileDisk {
         }
     }
 
-    /// The disk over an open file, of the length that the system tells now.
+    /// The disk over an open file, of the length in bytes that the system tells now. No contract
+    /// says that it is that length.
     pub fn of(file: File) -> io::Result<FileDisk>
         ensures { IfOk result (λ disk. disk.failures ≡ 0) }
     {

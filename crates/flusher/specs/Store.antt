@@ -22,7 +22,7 @@ abbrev pub IntentFits : ℕ → Option Intent → Type 0
 IntentFits size None = Unit {0}
 IntentFits size (Some i) = GroupFits size i.group
 
--- a guest whose partition lies on a disk of so many bytes
+-- a guest whose partition lies on a disk of so many bytes; its mark is a sequence of a 32-bit counter
 pub record GuestFits (len : ℕ) (x : Guest) : Type 0 where
   pub room : end_of (place_of x) ≤ len
   pub slot_fits : IntentFits (131072 * x.capacity) (intent_of x.slot)

@@ -15,8 +15,11 @@ pub enum Progress {
 /// Which call an advance would make.
 #[derive(Clone, Copy, Debug, PartialEq, Eq)]
 pub enum Call {
+    /// The write of the lowest-numbered guest that has one.
     Write,
+    /// A sync, which would move some slot.
     Sync,
+    /// No call: all slots are empty, or a call has failed.
     None,
 }
 

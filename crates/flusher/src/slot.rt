@@ -17,7 +17,8 @@ pub enum Slot {
     Ready(Intent),
     /// The gate is written open.
     Opening(Intent),
-    /// The gate is synced open, and so many entries are in place: the intent is settled.
+    /// The gate is synced open, and the blocks of so many entries are written, one that has none
+    /// counted with them: the intent is settled.
     Open(Intent, usize),
     /// The entries' blocks and the home record are written.
     Applying(Intent),

@@ -51,6 +51,11 @@ impl<D: Disk> Model for Store<D> {
 impl<D: Disk> Store<D> {
     /// The store over a disk that an opening has read, with what it found for each guest, and a buffer
     /// of 16,648 bytes in which payloads are put together. It takes no memory.
+    ///
+    /// There are at most 64 guests. Each one's partition lies on the disk, the blocks of an intent
+    /// in its slot lie in that partition, and its settled sequence is at most 2^32. That every stop
+    /// leaves what is settled isn't asked here: `advance` keeps it where the opening has found it
+    /// so.
     pub fn opened(disk: D, guests: Vec<Guest>, buffer: Vec<u8>) -> Store<D>
         requires few { length guests.items ≤ 64 }
         requires buffer { length buffer.items ≡ 16648 }
@@ -91,7 +96,8 @@ impl<D: Disk> Store<D> {
     }
 
     /// Whether every block of the intent lies in its guest's partition of this store, and its key is
-    /// that of the intent which is given or in the slot; false for a guest that the store lacks.
+    /// that of the intent which is given or in the slot, where there is one; false for a guest that the
+    /// store lacks. The key isn't compared with that of the partition.
     pub fn fits(&self, intent: &Intent) -> bool
         ensures { IsTrue result ↔ Fits self.now.guests intent.now }
     {
@@ -101,8 +107,9 @@ impl<D: Disk> Store<D> {
         }
     }
 
-    /// Gives an intent, whose first request comes next for its guest. It takes no memory and makes no
-    /// call.
+    /// Gives an intent that fits, whose first request comes next for its guest, to a slot that is
+    /// empty. Its key is the partition's, or programs it: the store doesn't look at that. It takes
+    /// no memory and makes no call.
     #[tactic(auto, unfolding(crate::specs::Store::is_free, crate::specs::Store::given, crate::specs::Store::next_sequence))]
     pub fn give(&mut self, intent: Intent)
         requires free { is_free self.old.guests intent.guest ≡ true }
@@ -167,7 +174,9 @@ impl<D: Disk> Store<D> {
     /// Makes the next call to the disk: the write of the lowest-numbered guest that has one, else a
     /// sync where a slot awaits one, else none. It takes no memory.
     ///
-    /// Answers `DiskFault` where that call failed, and `Broken`, without a call, ever after.
+    /// Answers `DiskFault` where that call failed, and `Broken`, without a call, ever after. A
+    /// write that failed moves its slot as one that succeeded, since it may have reached any byte
+    /// of its range; a sync that failed moves none.
     pub fn advance(&mut self) -> Result<Progress, StoreFault>
         ensures round { self.old.broken ≡ false → Round D.makes (planned self.old.guests) self.old.disk self.old.guests result self.new.disk self.new.guests self.new.broken }
         ensures broken { self.old.broken ≡ true → (result ≡ Err StoreFault.Broken) × (self.new ≡ self.old) }

@@ -48,7 +48,8 @@ impl Model for Driver {
 }
 
 impl Driver {
-    /// The driver of a guest's queue, of which nothing was offered.
+    /// The driver of a guest's queue, of which nothing was offered. `NoMemory` where the host has
+    /// no room for what is kept of each descriptor.
     pub fn new(alloc: Global, guest: &GuestConfig) -> Result<Driver, NoMemory>
         ensures { IfOk result (λ driver. driver ≡ first_driver guest.now.queue guest.now.event_idx) }
     {
@@ -99,9 +100,10 @@ impl Driver {
         });
     }
 
-    /// Offers a chain: these bytes for the device to read, and room for `writable` bytes that it may
-    /// write (VIRTIO 1.2, 2.7.13). Answers its head, which is its id. It takes no memory. The chain comes to
-    /// the place that the index in guest memory names, so whoever stores into it moves the place.
+    /// Offers a chain: these bytes for the device to read, at most 8,704, and room for `writable`
+    /// bytes that it may write, at most 8,192; one byte of either at least (VIRTIO 1.2, 2.7.13).
+    /// Answers its head, which is its id. It takes no memory. The chain comes to the place that the
+    /// index in guest memory names, so whoever stores into it moves the place.
     ///
     /// Answers `NoRoom` exactly where too few descriptors are free, and `OutOfRange` where enough
     /// are and the memory is smaller than the layout; then nothing changes.

@@ -28,7 +28,8 @@ impl Model for Intent {
 }
 
 impl Intent {
-    /// The intent of one request, which leaves this key and this write counter.
+    /// The intent of one request, which leaves this key and this write counter: a PROGRAM_KEY with the
+    /// counter 0, or a DATA_WRITE of one to sixteen whole blocks of 256 bytes.
     pub fn new(guest: u16, key: [u8; 32], counter: u32, entry: Entry) -> Intent
         requires { EntryFits (2 ^ 24) counter entry }
         ensures { result ≡ record { guest = guest; group = record { key = key; first = counter; entries = entry ∷ [] } } }
@@ -59,8 +60,9 @@ impl Intent {
         Intent::new(guest, key, counter, Entry::write(address, blocks))
     }
 
-    /// Adds the DATA_WRITE that comes next: it leaves the same key, and a counter one higher than the
-    /// last one's.
+    /// Adds the DATA_WRITE that comes next, of one to sixteen whole blocks: it leaves the same key,
+    /// and a counter one higher than the last one's. An intent of four requests has no room for it,
+    /// and one that leaves the counter 2^32 - 1 no counter.
     pub fn push(&mut self, entry: Entry)
         requires room { length self.old.group.entries < 4 }
         requires counter { self.old.group.first + length self.old.group.entries < 2 ^ 32 }
@@ -135,7 +137,7 @@ impl Intent {
         Home::with_key(self.key, self.last_counter())
     }
 
-    /// Whether each block lies in a partition of this capacity, in units of 512 blocks.
+    /// Whether each block lies in a partition of this capacity, in units of 512 blocks of 256 bytes.
     #[tactic(auto, using(crate::proofs::Groups::all_inside))]
     pub fn lies_inside(&self, capacity: u8) -> bool
         ensures { IsTrue result ↔ GroupFits (131_072 * capacity) self.now.group }

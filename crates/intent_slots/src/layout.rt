@@ -11,7 +11,7 @@ pub const OPEN_GATE: u8 = 0xA5;
 /// The byte that shuts a gate.
 pub const SHUT_GATE: u8 = 0x00;
 
-/// The place of the version byte in an image.
+/// The place of the version byte in an image. Nothing reads or writes that byte yet.
 pub const VERSION_PLACE: u64 = 512;
 
 /// The length of the header in bytes: what stands before partition 0.
@@ -23,10 +23,12 @@ const PARTS_LENGTH: u64 = 35_328;
 /// The length in bytes of the blocks of one unit of capacity.
 const UNIT_LENGTH: u64 = 131_072;
 
-/// One of a partition's two slots.
+/// One of a partition's two slots. Slot B has its place, and nothing reads or writes it yet.
 #[derive(Clone, Copy, Debug, PartialEq, Eq)]
 pub enum Side {
+    /// The slot that intents go through.
     A,
+    /// The other one.
     B,
 }
 

@@ -64,10 +64,11 @@ impl Intent {
         8 + STRIDE * last + 64 + entry.blocks().len()
     }
 
-    /// Writes the payload to the front of a buffer, and leaves the rest of it. A byte with the number of
-    /// entries and 7 zeros, then each entry 4,160 bytes after the one before: the sequence in 8 bytes
-    /// of big endian, the kind (PROGRAM_KEY 1, DATA_WRITE 3), the key in 32, the counter in 4, the
-    /// address and the number of blocks in 2 each, 15 zeros, and the blocks. Gaps are zeros.
+    /// Writes the payload to the front of a buffer of 16,648 bytes, and leaves the rest of it. A
+    /// byte with the number of entries and 7 zeros, then each entry 4,160 bytes after the one
+    /// before: the sequence in 8 bytes of big endian, the kind (PROGRAM_KEY 1, DATA_WRITE 3), the
+    /// key in 32, the counter in 4, the address and the number of blocks in 2 each, 15 zeros, and
+    /// the blocks. Gaps are zeros.
     pub fn encode(&self, out: &mut [u8])
         requires { length out.old ≡ 16_648 }
         ensures bytes { take (payload_length self.now.group) out.new ≡ payload_bytes self.now.group }
@@ -91,8 +92,8 @@ impl Intent {
         }
     }
 
-    /// The intent whose payload stands in a buffer, for a guest and its partition's capacity in units
-    /// of 512 blocks. It takes no memory.
+    /// The intent whose payload stands in a buffer of 16,648 bytes, for a guest and its partition's
+    /// capacity in units of 512 blocks of 256 bytes, at most 128. It takes no memory but the room.
     ///
     /// Answers `None` exactly where the payload isn't well formed: where the entries aren't 1 to 4; a
     /// kind is neither 1 nor 3; a kind 1 has a counter, an address or a number other than 0; a kind 3

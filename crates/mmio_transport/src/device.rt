@@ -79,10 +79,11 @@ impl Device {
         })
     }
 
-    /// What the driver reads at a register offset, by an access of `width` bytes (VIRTIO 1.2, 4.2.2).
+    /// What the driver reads at an offset of bytes from the device's base, by an access of `width` bytes
+    /// (VIRTIO 1.2, 4.2.2).
     ///
-    /// Registers are read by 4 bytes; the configuration, from 0x100 on, by 1, 2 or 4. All else
-    /// reads 0.
+    /// Registers are read by 4 bytes; the configuration, from 0x100 on, by 1, 2 or 4, as a number in
+    /// little endian. All else reads 0.
     pub fn read(&self, offset: u32, width: u8) -> u32
         ensures { result ≡ read_value self.now offset width }
     {
@@ -207,11 +208,13 @@ impl Device {
     }
 
     /// The chain at the place after those popped, or `None` where that place isn't available, before
-    /// DRIVER_OK, and without a ready queue.
+    /// DRIVER_OK, and without a ready queue. With VIRTIO_F_EVENT_IDX a pop that gives a chain, or finds
+    /// none in a ready queue after DRIVER_OK, writes avail_event (VIRTIO 1.2, 2.7.10); it writes nothing
+    /// else into guest memory.
     ///
     /// A fault of the chain sets DEVICE_NEEDS_RESET; from then on, and where a count stands at its
     /// end, each pop answers `NeedsReset` and changes nothing, until a reset. `NoMemory` changes
-    /// nothing. One pop reads at most the queue size and 1,024 descriptors.
+    /// nothing. By the ring's contract one pop reads at most the queue size and 1,024 descriptors.
     pub fn pop(&mut self) -> Result<Option<Job>, DeviceFault>
         ensures { GivesJob self.old result self.new }
     {

@@ -81,7 +81,8 @@ impl Done {
         self.ticket.id
     }
 
-    /// The bytes of the reply: none, or 512 for each frame.
+    /// The bytes of the reply, no more than its chain's ranges have. A book's are none, or 512 for each
+    /// frame.
     pub fn reply(&self) -> &[u8]
         ensures { result.now ≡ self.now.reply }
     {

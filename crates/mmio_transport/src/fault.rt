@@ -10,7 +10,7 @@ pub enum DeviceFault {
     /// The driver broke the queue's rules: the device set DEVICE_NEEDS_RESET.
     #[error("{0}")]
     Refused(ChainFault),
-    /// The device waits for a reset.
+    /// The device waits for a reset, or a count of sessions, readiness or pops stands at 2^64 - 1.
     #[error("NeedsReset")]
     NeedsReset,
 }

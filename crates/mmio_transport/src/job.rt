@@ -37,7 +37,8 @@ impl Model for Job {
 impl Job {
     /// A job that no device gave: one of a guest's session, for a chain with this id that took so
     /// many places of a ring, with these ranges for the reply. Its readiness and number are 0. A device
-    /// drops the reply to it, since the readiness of a queue that is ready is 1 or more.
+    /// drops the reply to it, since the readiness of a queue that is ready is 1 or more; no contract
+    /// says so.
     pub fn of(
         alloc: Global,
         guest: u16,

@@ -52,12 +52,15 @@ impl Host {
         Ok(Host { runner, guests })
     }
 
-    /// What a chain of a guest comes to: these readable bytes, and room for `writable` bytes. It is
-    /// offered, all that the device pops is taken to its end, and the driver reaps once.
+    /// What a chain of a guest comes to: these readable bytes, at most 8,704, and room for `writable`
+    /// bytes, at most 8,192; one byte of either at least. It is offered, all that the device pops is
+    /// taken to its end, and the driver reaps once.
     ///
-    /// Where all guests are ready it comes back with the reply to its request. A guest whose device
-    /// stopped, or gave nothing or nonsense back, is stuck until its reset. `Foreign` where there is
-    /// no such guest; else a fault is that of the book, of the driver, or want of memory.
+    /// Where all guests are ready, and no count of their devices comes near 2^64 - 1, an answer is the
+    /// reply to its request, and all are ready again. A guest whose device stopped, or gave nothing or nonsense back, is stuck until its reset. The
+    /// device and the driver of every other guest stay as they are. `Foreign` where there is no such
+    /// guest, and then nothing changes; else a fault is that of the book, of the driver, or want of
+    /// memory, and nothing is said of that guest and of the book after it.
     pub fn chain(
         &mut self,
         alloc: Global,
@@ -91,7 +94,8 @@ impl Host {
         self.guests[number].store(at, bytes)
     }
 
-    /// Resets a guest's device and brings it into service again, in the guest's next session.
+    /// Resets a guest's device and brings it into service again, in the guest's next session; a guest
+    /// that was stuck may offer again. The contract speaks of boards on which all guests are ready.
     /// `Foreign` where there is no such guest; then nothing changes.
     pub fn reset(&mut self, guest: u16) -> Result<(), HostFault>
         ensures guest { HostResetsGuest self.old guest result self.new }
