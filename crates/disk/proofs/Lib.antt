@@ -3,5 +3,6 @@ pub mod CutCalls
 pub mod Fills
 pub mod MemCalls
 pub mod Overwriting
+pub mod Reaching
 pub mod Stopping
 pub mod Ways

@@ -1,8 +1,8 @@
--- The disk in memory that can fail and be cut: exactly what each call does to it, and what a stop leaves.
+-- The disk in memory that can fail and be cut: exactly what each call does to it, and what a stop
+-- leaves.
 use Rattle.std.specs.Prelude.{◌≡◌, ℕ, zero, suc, ◌+◌, ◌-◌, ◌%◌, ◌^◌, Bool, true, false, not, ◌==◌, ◌&&◌, nat_lt, if◌then◌else◌, List, length, get_or, slice_index, replicate}
 use Rattle.disk.specs.Content.{Content, content_of, overwritten}
-use Rattle.disk.specs.Disk.{DiskState, DiskCall, Read, Write, Sync, Effect}
-use Rattle.disk.specs.MemDisk.{is_success}
+use Rattle.disk.specs.Disk.{DiskState, DiskCall, Read, Write, Sync, Effect, is_success}
 use Rattle.disk.specs.declared.filler.Filler.{Filler}
 use Rattle.disk.specs.declared.filler.Filler.TheVariants.{Old, New, Fill}
 
@@ -20,11 +20,23 @@ pub record CutState : Type 0 where
 
 -- what such a disk shows
 abbrev pub cut_state : CutState → DiskState
-cut_state d = record { len = length d.seen; seen = content_of d.seen; unsynced = λ k. get_or d.unsynced k false; failures = d.failures; faithful = true }
+cut_state d = record {
+  len = length d.seen;
+  seen = content_of d.seen;
+  unsynced = λ k. get_or d.unsynced k false;
+  failures = d.failures;
+  faithful = true;
+}
 
--- A disk with this content, all of it synced.
+-- such a disk with this content, all of it synced
 abbrev pub fresh : List ℕ → CutState
-fresh content = record { seen = content; synced = content; unsynced = replicate (length content) false; chosen = 0; failures = 0 }
+fresh content = record {
+  seen = content;
+  synced = content;
+  unsynced = replicate (length content) false;
+  chosen = 0;
+  failures = 0;
+}
 
 -- 1. Calls
 
@@ -38,8 +50,10 @@ next_chosen chosen failures = if nat_lt failures (2 ^ 64 - 1) then chosen - 1 el
 
 -- the failures after the next call
 unfoldable pub next_failures : (chosen failures : ℕ) → ℕ
-next_failures chosen failures = if nat_lt failures (2 ^ 64 - 1) && (chosen == 1) then failures + 1 else failures
+next_failures chosen failures =
+    if nat_lt failures (2 ^ 64 - 1) && (chosen == 1) then failures + 1 else failures
 
+-- whether the disk's next call succeeds
 unfoldable pub succeeds : CutState → Bool
 succeeds d = goes_on d.chosen d.failures
 
@@ -47,13 +61,14 @@ succeeds d = goes_on d.chosen d.failures
 unfoldable pub counted : CutState → CutState
 counted d = record d { chosen = next_chosen d.chosen d.failures; failures = next_failures d.chosen d.failures }
 
--- the range counts as unsynced also where the write fails
+-- the disk after a write: the range counts as unsynced also where the write fails
 unfoldable pub after_write : ℕ → List ℕ → CutState → CutState
 after_write at bytes d = record (counted d) {
   seen = if succeeds d then overwritten at bytes d.seen else d.seen;
   unsynced = overwritten at (replicate (length bytes) true) d.unsynced;
 }
 
+-- the disk after a sync
 unfoldable pub after_sync : CutState → CutState
 after_sync d = record (counted d) {
   synced = if succeeds d then d.seen else d.synced;
@@ -79,15 +94,18 @@ unfoldable pub unsynced_below : List Bool → ℕ → ℕ
 unsynced_below flags zero = 0
 unsynced_below flags (suc k) = unsynced_below flags k + (if get_or flags k false then 1 else 0)
 
--- the byte for the k-th unsynced place, counted from 0: the bytes over and over, or zeros where there are none
+-- the byte for the k-th unsynced place, counted from 0: the bytes over and over, or zeros where
+-- there are none
 unfoldable pub filling : List ℕ → ℕ → ℕ
 filling bytes k = if length bytes == 0 then 0 else slice_index bytes (k % length bytes)
 
 -- the content with the bytes put into the unsynced places, in ascending order
 unfoldable pub filled : List ℕ → List Bool → List ℕ → Content
-filled bytes flags seen k = if get_or flags k false then filling bytes (unsynced_below flags k) else slice_index seen k
+filled bytes flags seen k =
+    if get_or flags k false then filling bytes (unsynced_below flags k) else slice_index seen k
 
--- what a stop with this filler leaves at each place, by what reads give, what the last sync left and what is unsynced
+-- what a stop with this filler leaves at each place, by what reads give, what the last sync left and
+-- what is unsynced
 unfoldable pub left_by : Filler → (seen synced : List ℕ) → List Bool → Content
 left_by Old seen synced flags = content_of synced
 left_by New seen synced flags = content_of seen

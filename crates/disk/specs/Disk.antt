@@ -26,6 +26,12 @@ pub data DiskCall : Type 0 where
   Write : (at : ℕ) (bytes : List ℕ) (ok : Bool) → DiskCall
   Sync : (ok : Bool) → DiskCall
 
+-- whether it ended well
+abbrev pub is_success : DiskCall → Bool
+is_success (Read ok) = ok
+is_success (Write at bytes ok) = ok
+is_success (Sync ok) = ok
+
 -- a count of 64 bits rose, or stands at its end
 abbrev pub HasRisen : ℕ → ℕ → Type 0
 HasRisen before now = (before < now) ⊎ (2 ^ 64 ≤ before + 1)
@@ -49,9 +55,12 @@ pub record Reads (ok : Bool) (old new : DiskState) : Type 0 where
 -- A write that ended so. Of its own range, a write that failed says nothing.
 pub record Writes (at : ℕ) (bytes : List ℕ) (ok : Bool) (old new : DiskState) : Type 0 where
   pub counts : Counts ok old new
-  pub written : old.faithful ≡ true → ok ≡ true → (k : ℕ) → k < length bytes → new.seen (at + k) ≡ slice_index bytes k
-  pub outside : old.faithful ≡ true → (k : ℕ) → IsOutside at (length bytes) k → new.seen k ≡ old.seen k
-  pub unsynced : old.faithful ≡ true → (k : ℕ) → IsOutside at (length bytes) k → old.unsynced k ≡ false → new.unsynced k ≡ false
+  pub written : old.faithful ≡ true → ok ≡ true → (k : ℕ) → k < length bytes
+      → new.seen (at + k) ≡ slice_index bytes k
+  pub outside : old.faithful ≡ true → (k : ℕ) → IsOutside at (length bytes) k
+      → new.seen k ≡ old.seen k
+  pub unsynced : old.faithful ≡ true → (k : ℕ) → IsOutside at (length bytes) k
+      → old.unsynced k ≡ false → new.unsynced k ≡ false
 
 -- A sync that ended so: where it succeeded, a stop leaves what reads give.
 pub record Syncs (ok : Bool) (old new : DiskState) : Type 0 where
@@ -74,6 +83,8 @@ during s (Sync ok) = s
 
 -- By calls the disk went from one value to the other, and at each moment of the way, also within a
 -- call, P held.
-pub data Within {D : Type 0} (state : D → DiskState) (makes : D → DiskCall → D → Type 0) (P : DiskState → Type 0) : D → D → Type 0 where
+pub data Within {D : Type 0} (state : D → DiskState) (makes : D → DiskCall → D → Type 0)
+    (P : DiskState → Type 0) : D → D → Type 0 where
   Still : (d : D) → P (state d) → Within state makes P d d
-  Then : (a b c : D) (call : DiskCall) → Within state makes P a b → makes b call c → P (during (state b) call) → P (state c) → Within state makes P a c
+  Then : (a b c : D) (call : DiskCall) → Within state makes P a b → makes b call c
+      → P (during (state b) call) → P (state c) → Within state makes P a c

@@ -2,8 +2,7 @@
 -- faithful: what it shows is its length and its count of failures alone.
 use Rattle.std.specs.Prelude.{◌≡◌, ◌+◌, ◌^◌, ◌<◌, ℕ, true, false}
 use Rattle.disk.specs.Content.{zeros}
-use Rattle.disk.specs.Disk.{DiskState, DiskCall, Effect}
-use Rattle.disk.specs.MemDisk.{is_success}
+use Rattle.disk.specs.Disk.{DiskState, DiskCall, Effect, is_success}
 
 pub record FileState : Type 0 where
   -- the length in bytes

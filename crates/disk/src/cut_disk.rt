@@ -25,9 +25,21 @@ impl Model for CutDisk {
 
     ghost Value = { CutState };
 
-    ghost view = { λ d. record { seen = d.seen.items; synced = d.synced.items; unsynced = d.unsynced.items; chosen = d.chosen; failures = d.failures } };
+    ghost view = { λ d. record {
+      seen = d.seen.items;
+      synced = d.synced.items;
+      unsynced = d.unsynced.items;
+      chosen = d.chosen;
+      failures = d.failures;
+    } };
 
-    ghost invariant = { λ d. IsCutDisk (record { seen = d.seen.items; synced = d.synced.items; unsynced = d.unsynced.items; chosen = d.chosen; failures = d.failures }) };
+    ghost invariant = { λ d. IsCutDisk (record {
+      seen = d.seen.items;
+      synced = d.synced.items;
+      unsynced = d.unsynced.items;
+      chosen = d.chosen;
+      failures = d.failures;
+    }) };
 }
 
 // Counts one call, and answers whether it goes on.

@@ -38,7 +38,8 @@ pub trait Disk: Drop {
     fn read_at(&mut self, at: u64, out: &mut [u8]) -> Result<(), DiskFault>
         requires { at + length out.old ≤ (state self.old).len }
         ensures call { makes self.old (Read (is_ok result)) self.new }
-        ensures ok { OnOk result ((state self.old).faithful ≡ true → out.new ≡ bytes_at (state self.old).seen at (length out.old)) };
+        ensures ok { OnOk result ((state self.old).faithful ≡ true
+            → out.new ≡ bytes_at (state self.old).seen at (length out.old)) };
 
     /// Writes `bytes` from the place `at` on.
     ///
@@ -57,10 +58,11 @@ pub trait Disk: Drop {
         ensures { result ≡ (state self.now).failures };
 
     /// What a call may do.
-    ghost effect: { (old new : Self) (call : DiskCall) → makes old call new → Effect (state old) call (state new) };
+    ghost effect: { (old new : Self) (call : DiskCall) → makes old call new
+        → Effect (state old) call (state new) };
 }
 
-/// A disk that is lent is a disk.
+/// A disk that is lent is a disk, and each call on it is the call on that one.
 impl<D: Disk> Disk for &mut D {
     ghost state = { λ d. D.state d.now };
 

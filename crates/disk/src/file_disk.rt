@@ -10,12 +10,13 @@ use std::os::unix::fs::FileExt;
 
 /// A disk over an open file: positioned reads and writes, and `sync_all`.
 ///
-/// Each call makes one read or write of the system, and one that ends short is a `DiskFault`,
-/// just as one that fails; so is one that a signal interrupts. Nothing is tried again, but that
-/// `File::sync_all` repeats an fsync which a signal interrupted. A read or write of more than
-/// 2,147,479,552 bytes always ends short on Linux.
+/// Each call makes one read or write of the system. One that ends short is a `DiskFault`, just as
+/// one that fails or that a signal interrupts; nothing is tried again, but that `File::sync_all`
+/// repeats an fsync which a signal interrupted. On Linux a read or write of more than 2,147,479,552
+/// bytes ends short.
 ///
-/// No contract can say what a file gives and keeps: that it behaves as a disk is a premise.
+/// No contract can say what a file gives and keeps. That it behaves as a disk is a premise, and so
+/// is that a sync which succeeds has stored what an earlier one failed to store.
 #[derive(Drop)]
 pub struct FileDisk {
     file: File,

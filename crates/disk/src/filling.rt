@@ -21,7 +21,8 @@ fn byte_for(bytes: &[u8], k: usize) -> u8
 pub fn fill(seen: &mut Vec<u8>, unsynced: &[bool], bytes: &[u8])
     requires { length unsynced.now ≡ length seen.old.items }
     ensures len { length seen.new.items ≡ length seen.old.items }
-    ensures filled { (k : ℕ) → slice_index seen.new.items k ≡ filled bytes.now unsynced.now seen.old.items k }
+    ensures filled { (k : ℕ) → slice_index seen.new.items k
+        ≡ filled bytes.now unsynced.now seen.old.items k }
 {
     let mut count = 0;
     for i in 0..unsynced.len() {
@@ -38,7 +39,8 @@ pub fn leave(seen: &mut Vec<u8>, synced: &[u8], unsynced: &[bool], filler: &Fill
     requires copy { length synced.now ≡ length seen.old.items }
     requires flags { length unsynced.now ≡ length seen.old.items }
     ensures len { length seen.new.items ≡ length seen.old.items }
-    ensures left { (k : ℕ) → slice_index seen.new.items k ≡ left_by filler.now seen.old.items synced.now unsynced.now k }
+    ensures left { (k : ℕ) → slice_index seen.new.items k
+        ≡ left_by filler.now seen.old.items synced.now unsynced.now k }
 {
     match filler {
         Filler::Old => copy_all(seen, synced),

@@ -1,5 +1,5 @@
 //! Laws of the definitions.
-ghost use Rattle.disk.specs.Laws.{SyncedWritesStay, StopsWithinCover, StopsBeforeAreCovered, ChosenCallFailsAlone};
+ghost use Rattle.disk.specs.Laws.{SyncedWritesStay, StopsWithinCover, StopsBeforeAreCovered, ChosenCallFailsAlone, FillersReachAll};
 
 /// Where a write and then a sync succeeded, every stop leaves the bytes that were written.
 pub fn synced_writes_stay()
@@ -15,4 +15,9 @@ pub fn stops_within_cover()
 /// After `fail(k)` the k-th call on a `CutDisk` fails, and that one alone.
 pub fn chosen_call_fails_alone()
     ensures { ChosenCallFailsAlone }
+{}
+
+/// Every content that a stop may leave on a `CutDisk` is left by a filler of bytes of that content.
+pub fn fillers_reach_all()
+    ensures { FillersReachAll }
 {}

@@ -60,8 +60,8 @@ fn stops(rt: HostRuntime) -> Result<(), Fail> {
     Ok(())
 }
 
-// Makes the calls of a script: a digit chooses the call that fails, r reads, e reads nothing, w writes, s syncs, c is a
-// stop. It gives the script back, with x in place of each call that failed.
+// Makes the calls of a script: a digit chooses the call that fails, r reads, e reads nothing, w
+// writes, s syncs, c is a stop. It puts x into `out` in place of each call that failed.
 fn played(disk: &mut CutDisk, script: &[u8], out: &mut [u8]) {
     for (at, step) in script.iter().enumerate() {
         let done = match *step {

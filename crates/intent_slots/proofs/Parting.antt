@@ -1,14 +1,12 @@
 -- Which partition a content holds.
-use Rattle.std.proofs.Common.{◌≡◌, ◌≢◌, ◌⊎◌, inl, inr, ⊎_elim, Bool, true, false, Option, Some, None, ℕ, zero, suc, ◌+◌, ◌*◌, ◌-◌, ◌≤◌, ◌<◌, List, [], ◌∷◌, ◌++◌, length, refl, ap, sym, ◌∙◌, subst, arith}
+use Rattle.std.proofs.Common.{◌≡◌, ◌⊎◌, inl, inr, Bool, true, false, Some, [], ◌∷◌, ℕ, ◌+◌, ◌*◌, ◌-◌, ◌≤◌, ◌<◌, length, refl, ap, sym, ◌∙◌, arith}
 use Rattle.std.specs.Prelude.{nat_lt, if◌then◌else◌}
 use Rattle.std.proofs.lemmas.Bool.{cases_lt}
 use Rattle.std.proofs.lemmas.Bool.Decides.{nat_tests}
-use Rattle.disk.specs.Content.{Content, content_of, over}
+use Rattle.disk.specs.Content.{Content, over}
 use Rattle.rpmb_frame.specs.Partition.{overwritten}
-use Rattle.intent_slots.specs.Layout.{Place, SlotPlace, IsSlotPlace, blocks_at, end_of}
-use Rattle.intent_slots.specs.Home.{IsHome}
-use Rattle.intent_slots.specs.Payload.{Entry, Group, IsPayload, payload_length}
-use Rattle.intent_slots.specs.Recovered.{Part, redo, blocks_of, HoldsHome, redone, StandsFor, ByHome, ByPayload, OnePart, PartIsItsBytes, RedoOverwrites}
+use Rattle.intent_slots.specs.Layout.{Place, blocks_at, end_of}
+use Rattle.intent_slots.specs.Recovered.{redo, blocks_of, redone, ByHome, ByPayload, OnePart, PartIsItsBytes, RedoOverwrites, RedoInTurn}
 use Rattle.intent_slots.proofs.Same.{same_home, same_payload, payload_short}
 use Rattle.intent_slots.proofs.Homes.{one_home}
 use Rattle.intent_slots.proofs.Decoding.{one_group}
@@ -27,18 +25,22 @@ one_part place slot c p q (ByPayload i gate payload is) (ByPayload j gate_too th
     sym is ∙ ap (redone place c) (one_group place.size i j c slot.payload payload there) ∙ other
 
 -- blocks of a place whose bytes are the same
-blocks_same : (place : Place) (c d : Content) → ((k : ℕ) → place.base ≤ k → k < end_of place → c k ≡ d k) → blocks_of place c ≡ blocks_of place d
+blocks_same : (place : Place) (c d : Content) → ((k : ℕ) → place.base ≤ k → k < end_of place → c k ≡ d k)
+    → blocks_of place c ≡ blocks_of place d
 unfolding blocks_of
 blocks_same place c d same = λ i k. each k (cases_lt k place.size) i
   where
     each : (k : ℕ) → (k < place.size) ⊎ (place.size ≤ k) → blocks_of place c k ≡ blocks_of place d k
     each k (inl lt) =
         let yes : nat_lt k place.size ≡ true = grind (arith, nat_tests) in
-        let here : c (blocks_at place + k) ≡ d (blocks_at place + k) = same (blocks_at place + k) (omega arith) (omega arith) in
-        ap (λ (b : Bool). if b then c (blocks_at place + k) else 0) yes ∙ here ∙ ap (λ (b : Bool). if b then d (blocks_at place + k) else 0) (sym yes)
+        let here : c (blocks_at place + k) ≡ d (blocks_at place + k) =
+        same (blocks_at place + k) (omega arith) (omega arith) in
+        ap (λ (b : Bool). if b then c (blocks_at place + k) else 0) yes ∙ here
+        ∙ ap (λ (b : Bool). if b then d (blocks_at place + k) else 0) (sym yes)
     each k (inr le) =
         let no : nat_lt k place.size ≡ false = grind (arith, nat_tests) in
-        ap (λ (b : Bool). if b then c (blocks_at place + k) else 0) no ∙ ap (λ (b : Bool). if b then d (blocks_at place + k) else 0) (sym no)
+        ap (λ (b : Bool). if b then c (blocks_at place + k) else 0) no
+        ∙ ap (λ (b : Bool). if b then d (blocks_at place + k) else 0) (sym no)
 
 pub part_own : PartIsItsBytes
 part_own place slot c d p apart same (ByHome shut held) =
@@ -47,7 +49,8 @@ part_own place slot c d p apart same (ByHome shut held) =
     let high = apart.before_blocks in
     let gate = same slot.gate (omega (arith, low)) (omega (arith, mid, high)) in
     ByHome (λ e. shut (gate ∙ e)) (record {
-      home = same_home c place.base d place.base p.key p.counter (λ k lt. same (place.base + k) (omega arith) (omega (arith, lt))) held.home;
+      home = same_home c place.base d place.base p.key p.counter
+          (λ k lt. same (place.base + k) (omega arith) (omega (arith, lt))) held.home;
       same_blocks = sym (blocks_same place c d same) ∙ held.same_blocks;
     })
 part_own place slot c d p apart same (ByPayload i gate payload is) =
@@ -57,9 +60,20 @@ part_own place slot c d p apart same (ByPayload i gate payload is) =
     let short = payload_short place.size i payload.fits in
     let there = same slot.gate (omega (arith, low)) (omega (arith, mid, high)) in
     ByPayload i (sym there ∙ gate)
-      (same_payload place.size c slot.payload d slot.payload i (λ k lt. same (slot.payload + k) (omega (arith, low, mid)) (omega (arith, lt, short, high))) payload)
-      (ap (λ (b : Content). record { key = Some i.key; counter = i.first + (length i.entries - 1); blocks = redo i.entries b }) (sym (blocks_same place c d same)) ∙ is)
+    (same_payload place.size c slot.payload d slot.payload i
+    (λ k lt. same (slot.payload + k) (omega (arith, low, mid)) (omega (arith, lt, short, high)))
+    payload)
+    (ap (λ (b : Content). record {
+      key = Some i.key;
+      counter = i.first + (length i.entries - 1);
+      blocks =
+          redo i.entries b;
+    }) (sym (blocks_same place c d same)) ∙ is)
 
 pub redo_over : RedoOverwrites
 unfolding overwritten
 redo_over e blocks fits = sym (put_content (256 * e.address) (length e.blocks) blocks e.blocks refl fits)
+
+pub redo_turn : RedoInTurn
+redo_turn [] fs c = refl
+redo_turn (e ∷ es) fs c = redo_turn es fs (over (256 * e.address) e.blocks c)

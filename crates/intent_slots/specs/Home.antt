@@ -1,5 +1,5 @@
 -- The home record (own): key flag, key of 32 bytes, counter of 4, sequence of 8, and zeros to 64 bytes.
-use Rattle.std.specs.Prelude.{◌≡◌, ℕ, suc, ◌+◌, ◌^◌, ◌≤◌, List, [], ◌∷◌, length, replicate, Option, Some, None}
+use Rattle.std.specs.Prelude.{◌≡◌, ℕ, ◌+◌, ◌^◌, ◌≤◌, List, [], ◌∷◌, length, replicate, Option, Some, None}
 use Rattle.byteorder.specs.Endian.{big_bytes}
 use Rattle.disk.specs.Content.{Content, bytes_at, over, zeros}
 use Rattle.intent_slots.specs.Fields.{number_at, Agree}
@@ -33,7 +33,8 @@ pub data IsHome (c : Content) (at : ℕ) : Option (List ℕ) → ℕ → Type 0 
   Keyed : (key : List ℕ) (counter : ℕ) → IsKeyed c at key counter → IsHome c at (Some key) counter
 
 abbrev pub home_content : List ℕ → ℕ → Content
-home_content key counter = over 37 (big_bytes 8 (counter + 1)) (over 33 (big_bytes 4 counter) (over 1 key (over 0 (1 ∷ []) zeros)))
+home_content key counter = over 37 (big_bytes 8 (counter + 1))
+    (over 33 (big_bytes 4 counter) (over 1 key (over 0 (1 ∷ []) zeros)))
 
 -- the home record of a partition with this key
 unfoldable pub home_bytes : List ℕ → ℕ → List ℕ
@@ -47,13 +48,14 @@ home_record (Some key) counter = home_bytes key counter
 -- what was encoded is well formed and holds what was encoded
 abbrev pub HomeReadsBack : Type 0
 HomeReadsBack = (key : Option (List ℕ)) (counter : ℕ) (c : Content) (at : ℕ) → HomeFits key counter
-  → bytes_at c at 64 ≡ home_record key counter → IsHome c at key counter
+    → bytes_at c at 64 ≡ home_record key counter → IsHome c at key counter
 
 -- a content that has the same 64 bytes holds the same home record
 abbrev pub HomeIsItsBytes : Type 0
 HomeIsItsBytes = (key : Option (List ℕ)) (counter : ℕ) (c d : Content) (at bt : ℕ) → Agree c at d bt 64
-  → IsHome c at key counter → IsHome d bt key counter
+    → IsHome c at key counter → IsHome d bt key counter
 
 abbrev pub OneHome : Type 0
-OneHome = (key other : Option (List ℕ)) (counter next : ℕ) (c : Content) (at : ℕ) → IsHome c at key counter → IsHome c at other next
-  → (key ≡ other) × (counter ≡ next)
+OneHome = (key other : Option (List ℕ)) (counter next : ℕ) (c : Content) (at : ℕ) → IsHome c at key counter
+    → IsHome c at other next
+    → (key ≡ other) × (counter ≡ next)

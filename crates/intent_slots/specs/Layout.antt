@@ -63,17 +63,23 @@ pub record Range : Type 0 where
 -- home, gate and payload of slot A, the same of slot B, and the blocks
 abbrev pub parts_of : Place → List Range
 parts_of place =
-  record { at = place.base; bytes = 64 } ∷ record { at = (slot_place place A).gate; bytes = 1 } ∷ record { at = (slot_place place A).payload; bytes = 16648 }
-  ∷ record { at = (slot_place place B).gate; bytes = 1 } ∷ record { at = (slot_place place B).payload; bytes = 16648 }
-  ∷ record { at = blocks_at place; bytes = place.size } ∷ []
+    record { at = place.base; bytes = 64 }
+    ∷ record { at = (slot_place place A).gate; bytes = 1 }
+    ∷ record { at = (slot_place place A).payload; bytes = 16648 }
+    ∷ record { at = (slot_place place B).gate; bytes = 1 }
+    ∷ record { at = (slot_place place B).payload; bytes = 16648 }
+    ∷ record { at = blocks_at place; bytes = place.size }
+    ∷ []
 
 -- each part ends before the next ones begin
 abbrev pub PartsNeverOverlap : Type 0
-PartsNeverOverlap = (place : Place) (i j : ℕ) (p q : Range) → slice_get (parts_of place) i ≡ Some p → slice_get (parts_of place) j ≡ Some q → i < j → p.at + p.bytes ≤ q.at
+PartsNeverOverlap = (place : Place) (i j : ℕ) (p q : Range) → slice_get (parts_of place) i ≡ Some p
+    → slice_get (parts_of place) j ≡ Some q → i < j → p.at + p.bytes ≤ q.at
 
 -- the parts lie in the partition
 abbrev pub PartsInside : Type 0
-PartsInside = (place : Place) (i : ℕ) (p : Range) → slice_get (parts_of place) i ≡ Some p → (place.base ≤ p.at) × (p.at + p.bytes ≤ end_of place)
+PartsInside = (place : Place) (i : ℕ) (p : Range) → slice_get (parts_of place) i ≡ Some p
+    → (place.base ≤ p.at) × (p.at + p.bytes ≤ end_of place)
 
 -- a slot's parts stand between the home record and the blocks
 pub record IsSlotPlace (place : Place) (slot : SlotPlace) : Type 0 where
@@ -89,8 +95,10 @@ abbrev pub AreApart : Place → Place → Type 0
 AreApart p q = (end_of p ≤ q.base) ⊎ (end_of q ≤ p.base)
 
 abbrev pub NeverOverlap : Type 0
-NeverOverlap = (capacities : List ℕ) (g h : ℕ) → g < length capacities → h < length capacities → g ≢ h → AreApart (place_at capacities g) (place_at capacities h)
+NeverOverlap = (capacities : List ℕ) (g h : ℕ) → g < length capacities → h < length capacities → g ≢ h
+    → AreApart (place_at capacities g) (place_at capacities h)
 
 -- each partition lies behind the header and in the image
 abbrev pub AllInside : Type 0
-AllInside = (capacities : List ℕ) (g : ℕ) → g < length capacities → (1024 ≤ (place_at capacities g).base) × (end_of (place_at capacities g) ≤ image_length capacities)
+AllInside = (capacities : List ℕ) (g : ℕ) → g < length capacities → (1024 ≤ (place_at capacities g).base)
+    × (end_of (place_at capacities g) ≤ image_length capacities)

@@ -1,5 +1,6 @@
 -- Intents and their payloads (own).
-use Rattle.std.specs.Prelude.{◌≡◌, ℕ, zero, suc, ◌+◌, ◌*◌, ◌/◌, ◌^◌, ◌-◌, ◌<◌, ◌≤◌, List, [], ◌∷◌, length, ◌==◌, if◌then◌else◌}
+use Rattle.std.specs.Prelude.{◌≡◌, ℕ, ◌+◌, ◌*◌, ◌/◌, ◌^◌, ◌-◌, ◌<◌, ◌≤◌, List, [], ◌∷◌, length, ◌==◌, if◌then◌else◌, Option, Some, None}
+use Rattle.std.proofs.Common.{Vec, Global}
 use Rattle.byteorder.specs.Endian.{big_bytes}
 use Rattle.disk.specs.Content.{Content, bytes_at, over, zeros}
 use Rattle.intent_slots.specs.Fields.{number_at, Agree}
@@ -8,6 +9,11 @@ use Rattle.intent_slots.specs.Fields.{number_at, Agree}
 pub record Entry : Type 0 where
   pub address : ℕ
   pub blocks : List ℕ
+
+-- the bytes in the room of an entry's blocks, if it has any
+abbrev pub blocks_in : Option (Vec ℕ Global) → List ℕ
+blocks_in None = []
+blocks_in (Some room) = room.items
 
 -- One to four requests of one key. The first leaves the counter `first`, each further one a counter
 -- one higher.
@@ -81,7 +87,13 @@ pub record IsPayload (size : ℕ) (c : Content) (at : ℕ) (i : Group) : Type 0 
 -- an entry's bytes, put into a content field by field
 unfoldable pub entry_over : ℕ → List ℕ → ℕ → Entry → Content → Content
 entry_over at key counter e c =
-  over (at + 64) e.blocks (over (at + 47) (big_bytes 2 (length e.blocks / 256)) (over (at + 45) (big_bytes 2 e.address) (over (at + 41) (big_bytes 4 counter) (over (at + 9) key (over (at + 8) (kind_of e ∷ []) (over at (big_bytes 8 (counter + 1)) c))))))
+    over (at + 64) e.blocks
+    (over (at + 47) (big_bytes 2 (length e.blocks / 256))
+    (over (at + 45) (big_bytes 2 e.address)
+    (over (at + 41) (big_bytes 4 counter)
+    (over (at + 9) key
+    (over (at + 8) (kind_of e ∷ [])
+    (over at (big_bytes 8 (counter + 1)) c))))))
 
 abbrev pub entries_over : ℕ → List ℕ → ℕ → List Entry → Content → Content
 entries_over at key counter [] c = c
@@ -106,12 +118,12 @@ payload_bytes i = bytes_at (payload_content i) 0 (payload_length i)
 -- what was encoded is well formed and holds what was encoded
 abbrev pub PayloadReadsBack : Type 0
 PayloadReadsBack = (size : ℕ) (i : Group) (c : Content) (at : ℕ) → GroupFits size i
-  → bytes_at c at (length (payload_bytes i)) ≡ payload_bytes i → IsPayload size c at i
+    → bytes_at c at (length (payload_bytes i)) ≡ payload_bytes i → IsPayload size c at i
 
 -- a content that has the same bytes, as many as the payload is long, holds the same group
 abbrev pub PayloadIsItsBytes : Type 0
 PayloadIsItsBytes = (size : ℕ) (i : Group) (c d : Content) (at bt : ℕ) → Agree c at d bt (payload_length i)
-  → IsPayload size c at i → IsPayload size d bt i
+    → IsPayload size c at i → IsPayload size d bt i
 
 abbrev pub OneGroup : Type 0
 OneGroup = (size : ℕ) (i j : Group) (c : Content) (at : ℕ) → IsPayload size c at i → IsPayload size c at j → i ≡ j

@@ -1,5 +1,5 @@
 -- Which partition an image holds in a place (own).
-use Rattle.std.specs.Prelude.{◌≡◌, ◌≢◌, ℕ, ◌+◌, ◌*◌, ◌<◌, ◌≤◌, List, [], ◌∷◌, length, nat_lt, if◌then◌else◌, Option, Some, None}
+use Rattle.std.specs.Prelude.{◌≡◌, ◌≢◌, ℕ, ◌+◌, ◌*◌, ◌<◌, ◌≤◌, List, [], ◌∷◌, ◌++◌, length, nat_lt, if◌then◌else◌, Option, Some}
 use Rattle.disk.specs.Content.{Content, over, content_of}
 use Rattle.rpmb_frame.specs.Partition.{Partition, overwritten}
 use Rattle.intent_slots.specs.Layout.{Place, SlotPlace, IsSlotPlace, blocks_at, end_of}
@@ -45,19 +45,25 @@ HasPayload place slot i c = IsPayload place.size c slot.payload i
 -- The partition that a content holds: the home's where the gate isn't 0xA5, else the payload's.
 pub data StandsFor (place : Place) (slot : SlotPlace) (c : Content) (p : Part) : Type 0 where
   ByHome : c slot.gate ≢ 165 → HoldsHome place c p → StandsFor place slot c p
-  ByPayload : (i : Group) → c slot.gate ≡ 165 → HasPayload place slot i c → redone place c i ≡ p → StandsFor place slot c p
+  ByPayload : (i : Group) → c slot.gate ≡ 165 → HasPayload place slot i c → redone place c i ≡ p
+      → StandsFor place slot c p
 
 -- a content holds at most one partition in a place
 abbrev pub OnePart : Type 0
-OnePart = (place : Place) (slot : SlotPlace) (c : Content) (p q : Part) → StandsFor place slot c p → StandsFor place slot c q → p ≡ q
+OnePart = (place : Place) (slot : SlotPlace) (c : Content) (p q : Part) → StandsFor place slot c p
+    → StandsFor place slot c q → p ≡ q
 
 -- what a content holds in a place rests on the bytes of that place alone
 abbrev pub PartIsItsBytes : Type 0
 PartIsItsBytes = (place : Place) (slot : SlotPlace) (c d : Content) (p : Part) → IsSlotPlace place slot
-  → ((k : ℕ) → place.base ≤ k → k < end_of place → c k ≡ d k)
-  → StandsFor place slot c p → StandsFor place slot d p
+    → ((k : ℕ) → place.base ≤ k → k < end_of place → c k ≡ d k)
+    → StandsFor place slot c p → StandsFor place slot d p
 
 -- to redo an entry is to overwrite the partition's blocks
 abbrev pub RedoOverwrites : Type 0
 RedoOverwrites = (e : Entry) (blocks : List ℕ) → 256 * e.address + length e.blocks ≤ length blocks
-  → redo (e ∷ []) (content_of blocks) ≡ content_of (overwritten (256 * e.address) e.blocks blocks)
+    → redo (e ∷ []) (content_of blocks) ≡ content_of (overwritten (256 * e.address) e.blocks blocks)
+
+-- entries that stand behind others are redone after them
+abbrev pub RedoInTurn : Type 0
+RedoInTurn = (es fs : List Entry) (c : Content) → redo (es ++ fs) c ≡ redo fs (redo es c)

@@ -4,8 +4,6 @@ ghost use Rattle.intent_slots.specs.Payload.{Entry as EntryModel, IsEntryIn, kin
 ghost use Rattle.intent_slots.specs.Reading.{HasFields, HasKind, HasProgramKey, HasWrite};
 
 use crate::fields::{has_bytes, put, put_u16, put_u32, put_u64, u16_at, u32_at, u64_at};
-use std::alloc::Global;
-use std::default::MadeWith;
 use std::marker::Model;
 
 /// One accepted request: blocks of 256 bytes from an address on, or no blocks where it programs the
@@ -13,7 +11,7 @@ use std::marker::Model;
 #[derive(Drop)]
 pub struct Entry {
     address: u16,
-    blocks: Vec<u8>,
+    blocks: Option<Vec<u8>>,
 }
 
 impl Model for Entry {
@@ -22,26 +20,26 @@ impl Model for Entry {
 
     ghost Value = { payload.Entry };
 
-    ghost view = { λ e. record { address = e.address; blocks = e.blocks.items } };
+    ghost view = { λ e. record { address = e.address; blocks = payload.blocks_in e.blocks } };
 
-    ghost invariant = { λ e. length e.blocks.items ≤ 4096 };
+    ghost invariant = { λ e. length (payload.blocks_in e.blocks) ≤ 4096 };
 }
 
-impl MadeWith<Global> for Entry {
-    fn made_with(alloc: Global) -> Entry {
-        Entry::program_key(alloc)
+impl Default for Entry {
+    fn default() -> Entry {
+        Entry::program_key()
     }
 }
 
 #[tactic(auto, unfolding(crate::specs::Payload::entry_over))]
 impl Entry {
     /// A PROGRAM_KEY.
-    pub fn program_key(alloc: Global) -> Entry
+    pub fn program_key() -> Entry
         ensures { result ≡ record { address = 0; blocks = [] } }
     {
         Entry {
             address: 0,
-            blocks: Vec::new(alloc),
+            blocks: None,
         }
     }
 
@@ -50,7 +48,10 @@ impl Entry {
         requires { length blocks.items ≤ 4096 }
         ensures { result ≡ record { address = address; blocks = blocks.items } }
     {
-        Entry { address, blocks }
+        Entry {
+            address,
+            blocks: Some(blocks),
+        }
     }
 
     /// The address of the first block.
@@ -65,21 +66,24 @@ impl Entry {
         ensures value { result.now ≡ self.now.blocks }
         ensures few { length result.now ≤ 4096 }
     {
-        &self.blocks
+        match &self.blocks {
+            Some(blocks) => blocks,
+            None => &[],
+        }
     }
 
     /// Whether the blocks end in the first `size` bytes of all blocks.
     pub(crate) fn lies_inside(&self, size: usize) -> bool
         ensures { IsTrue result ↔ 256 * self.now.address + length self.now.blocks ≤ size }
     {
-        256 * usize::from(self.address) + self.blocks.len() <= size
+        256 * usize::from(self.address) + self.blocks().len() <= size
     }
 
     /// The kind's byte in a payload.
     fn kind(&self) -> u8
         ensures { result ≡ kind_of self.now }
     {
-        if self.blocks.is_empty() { 1 } else { 3 }
+        if self.blocks().is_empty() { 1 } else { 3 }
     }
 
     /// Puts the entry's fields into their places.
@@ -88,13 +92,14 @@ impl Entry {
         ensures content { content_of out.new ≡ entry_over at key.now counter self.now (content_of out.old) }
         ensures len { length out.new ≡ length out.old }
     {
+        let blocks = self.blocks();
         put_u64(out, at, u64::from(counter) + 1);
         put(out, at + 8, &[self.kind()]);
         put(out, at + 9, key);
         put_u32(out, at + 41, counter);
-        put_u16(out, at + 45, self.address);
-        put_u16(out, at + 47, (self.blocks.len() / 256) as u16);
-        put(out, at + 64, &self.blocks);
+        put_u16(out, at + 45, self.address());
+        put_u16(out, at + 47, (blocks.len() / 256) as u16);
+        put(out, at + 64, blocks);
     }
 
     /// The entry whose fields stand in a payload from a place on, where it is well formed, of this key
@@ -124,7 +129,7 @@ impl Entry {
             Ok(()) => {}
             Err(_) => unreachable!(),
         }
-        Some(Entry { address, blocks })
+        Some(Entry::write(address, blocks))
     }
 }
 

@@ -85,16 +85,16 @@ impl Home {
     /// What a home record tells. Answers `None` exactly where it isn't well formed: where the flag is
     /// 0 and key, counter or sequence is not; where the flag is 1 and the sequence isn't one more than
     /// the counter; and for another flag. The last 19 bytes aren't looked at.
-    pub fn decode(record: &[u8; 64]) -> Option<Home>
-        ensures ok { IfSome result (λ home. IsHome (content_of record.now) 0 home.key home.counter) }
-        ensures refused { result ≡ None → (key : Option (List ℕ)) (counter : ℕ) → ¬ IsHome (content_of record.now) 0 key counter }
+    pub fn decode(bytes: &[u8; 64]) -> Option<Home>
+        ensures ok { IfSome result (λ home. IsHome (content_of bytes.now) 0 home.key home.counter) }
+        ensures refused { result ≡ None → (key : Option (List ℕ)) (counter : ℕ) → ¬ IsHome (content_of bytes.now) 0 key counter }
     {
-        if is_unkeyed(record) {
+        if is_unkeyed(bytes) {
             return Some(Home::without_key());
         }
-        let key = bytes_32_at(record, 1);
-        let counter = u32_at(record, 33);
-        if !is_keyed(record, counter) {
+        let key = bytes_32_at(bytes, 1);
+        let counter = u32_at(bytes, 33);
+        if !is_keyed(bytes, counter) {
             return None;
         }
         Some(Home::with_key(key, counter))
@@ -113,19 +113,19 @@ fn keyed_record(key: &[u8; 32], counter: u32) -> [u8; 64]
     out
 }
 
-fn is_unkeyed(record: &[u8; 64]) -> bool
-    ensures { IsTrue result ↔ IsUnkeyed (content_of record.now) 0 }
+fn is_unkeyed(bytes: &[u8; 64]) -> bool
+    ensures { IsTrue result ↔ IsUnkeyed (content_of bytes.now) 0 }
 {
-    record[0] == 0
-        && has_bytes(record, 1, &[0; 32])
-        && u32_at(record, 33) == 0
-        && u64_at(record, 37) == 0
+    bytes[0] == 0
+        && has_bytes(bytes, 1, &[0; 32])
+        && u32_at(bytes, 33) == 0
+        && u64_at(bytes, 37) == 0
 }
 
 /// Whether the record is of a partition with a key, given its counter.
-fn is_keyed(record: &[u8; 64], counter: u32) -> bool
-    requires { counter ≡ number_at (content_of record.now) 33 4 }
-    ensures { IsTrue result ↔ IsKeyed (content_of record.now) 0 (bytes_at (content_of record.now) 1 32) counter }
+fn is_keyed(bytes: &[u8; 64], counter: u32) -> bool
+    requires { counter ≡ number_at (content_of bytes.now) 33 4 }
+    ensures { IsTrue result ↔ IsKeyed (content_of bytes.now) 0 (bytes_at (content_of bytes.now) 1 32) counter }
 {
-    record[0] == 1 && u64_at(record, 37) == u64::from(counter) + 1
+    bytes[0] == 1 && u64_at(bytes, 37) == u64::from(counter) + 1
 }

@@ -4,7 +4,6 @@ ghost use Rattle.intent_slots.specs.Payload.{GroupFits, EntryFits, IsWrite, last
 use crate::entry::Entry;
 use crate::home::Home;
 use arrayvec::ArrayVec;
-use std::alloc::Global;
 use std::marker::Model;
 
 /// What a guest's partition is to become: one to four accepted requests of one key, whose counters
@@ -14,7 +13,7 @@ pub struct Intent {
     pub(crate) guest: u16,
     pub(crate) key: [u8; 32],
     pub(crate) first: u32,
-    pub(crate) entries: ArrayVec<Entry, 4, Global>,
+    pub(crate) entries: ArrayVec<Entry, 4>,
 }
 
 impl Model for Intent {
@@ -30,11 +29,11 @@ impl Model for Intent {
 
 impl Intent {
     /// The intent of one request, which leaves this key and this write counter.
-    pub fn new(alloc: Global, guest: u16, key: [u8; 32], counter: u32, entry: Entry) -> Intent
+    pub fn new(guest: u16, key: [u8; 32], counter: u32, entry: Entry) -> Intent
         requires { EntryFits (2 ^ 24) counter entry }
         ensures { result ≡ record { guest = guest; group = record { key = key; first = counter; entries = entry ∷ [] } } }
     {
-        let mut entries = ArrayVec::new_in(alloc);
+        let mut entries = ArrayVec::new();
         entries.push(entry);
         Intent {
             guest,
@@ -44,27 +43,20 @@ impl Intent {
         }
     }
 
-    /// The intent of a PROGRAM_KEY. It takes no memory.
-    pub fn program_key(alloc: Global, guest: u16, key: [u8; 32]) -> Intent
+    /// The intent of a PROGRAM_KEY.
+    pub fn program_key(guest: u16, key: [u8; 32]) -> Intent
         ensures { result ≡ record { guest = guest; group = record { key = key; first = 0; entries = record { address = 0; blocks = [] } ∷ [] } } }
     {
-        Intent::new(alloc, guest, key, 0, Entry::program_key(alloc))
+        Intent::new(guest, key, 0, Entry::program_key())
     }
 
     /// The intent of a DATA_WRITE of one to sixteen whole blocks from an address on, which leaves this
-    /// key and this write counter. It takes no memory.
-    pub fn write(
-        alloc: Global,
-        guest: u16,
-        key: [u8; 32],
-        counter: u32,
-        address: u16,
-        blocks: Vec<u8>,
-    ) -> Intent
+    /// key and this write counter.
+    pub fn write(guest: u16, key: [u8; 32], counter: u32, address: u16, blocks: Vec<u8>) -> Intent
         requires { IsWrite (2 ^ 24) (record { address = address; blocks = blocks.items }) }
         ensures { result ≡ record { guest = guest; group = record { key = key; first = counter; entries = record { address = address; blocks = blocks.items } ∷ [] } } }
     {
-        Intent::new(alloc, guest, key, counter, Entry::write(address, blocks))
+        Intent::new(guest, key, counter, Entry::write(address, blocks))
     }
 
     /// Adds the DATA_WRITE that comes next: it leaves the same key, and a counter one higher than the

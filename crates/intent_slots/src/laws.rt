@@ -2,7 +2,7 @@
 ghost use Rattle.intent_slots.specs.Header.{HeaderReadsBack};
 ghost use Rattle.intent_slots.specs.Home.{HomeReadsBack, HomeIsItsBytes, OneHome};
 ghost use Rattle.intent_slots.specs.Payload.{PayloadReadsBack, PayloadIsItsBytes, OneGroup};
-ghost use Rattle.intent_slots.specs.Recovered.{OnePart, PartIsItsBytes, RedoOverwrites};
+ghost use Rattle.intent_slots.specs.Recovered.{OnePart, PartIsItsBytes, RedoOverwrites, RedoInTurn};
 
 /// A header that was written is that of its board, and of no other.
 pub fn header_reads_back()
@@ -31,7 +31,8 @@ pub fn one_partition()
     ensures own_bytes { PartIsItsBytes }
 {}
 
-/// To redo an entry is to overwrite the partition's blocks.
+/// To redo an entry is to overwrite the partition's blocks, and entries are redone in turn.
 pub fn redo_overwrites()
-    ensures { RedoOverwrites }
+    ensures one { RedoOverwrites }
+    ensures in_turn { RedoInTurn }
 {}

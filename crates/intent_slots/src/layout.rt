@@ -5,6 +5,15 @@ use arrayvec::ArrayVec;
 use rpmb_frame::BoardConfig;
 use std::marker::Model;
 
+/// The byte of an open gate; any other is shut.
+pub const OPEN_GATE: u8 = 0xA5;
+
+/// The byte that shuts a gate.
+pub const SHUT_GATE: u8 = 0x00;
+
+/// The place of the version byte in an image.
+pub const VERSION_PLACE: u64 = 512;
+
 /// The length of the header in bytes: what stands before partition 0.
 const HEADER_LENGTH: u64 = 1024;
 
@@ -97,7 +106,8 @@ impl Layout {
     /// The place of the gate of one of a guest's slots, of one byte.
     pub fn gate(&self, side: Side, guest: u16) -> u64
         requires { guest < length self.now }
-        ensures { result ≡ (slot_place (place_at self.now guest) side).gate }
+        ensures value { result ≡ (slot_place (place_at self.now guest) side).gate }
+        ensures small { result < 2 ^ 32 }
     {
         let base = self.home(guest);
         match side {
@@ -109,7 +119,8 @@ impl Layout {
     /// The place of the payload of one of a guest's slots, of at most 16,648 bytes.
     pub fn payload(&self, side: Side, guest: u16) -> u64
         requires { guest < length self.now }
-        ensures { result ≡ (slot_place (place_at self.now guest) side).payload }
+        ensures value { result ≡ (slot_place (place_at self.now guest) side).payload }
+        ensures small { result < 2 ^ 32 }
     {
         let base = self.home(guest);
         match side {
@@ -121,7 +132,8 @@ impl Layout {
     /// The place of a guest's blocks, of 256 bytes each, by address.
     pub fn blocks(&self, guest: u16) -> u64
         requires { guest < length self.now }
-        ensures { result ≡ blocks_at (place_at self.now guest) }
+        ensures value { result ≡ blocks_at (place_at self.now guest) }
+        ensures small { result < 2 ^ 32 }
     {
         self.home(guest) + PARTS_LENGTH
     }

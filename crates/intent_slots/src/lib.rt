@@ -17,6 +17,14 @@ pub use entry::Entry;
 pub use header::HeaderFault;
 pub use home::Home;
 pub use intent::Intent;
-pub use laws::{header_reads_back, home_reads_back, one_partition, payload_reads_back, redo_overwrites};
-pub use layout::{Layout, Side, partitions_lie_inside, partitions_never_overlap, parts_never_overlap};
+pub use laws::{
+    header_reads_back, home_reads_back, one_partition, payload_reads_back, redo_overwrites,
+};
+pub use layout::{
+    Layout, OPEN_GATE, SHUT_GATE, Side, VERSION_PLACE, partitions_lie_inside,
+    partitions_never_overlap, parts_never_overlap,
+};
 pub use payload::{NoMemory, PAYLOAD_LENGTH, Room};
+
+#[cfg(test)]
+mod tests;

@@ -24,7 +24,6 @@ pub type NoMemory = AllocError;
 /// Room for the blocks of one payload, so that decoding takes no memory.
 #[derive(Drop)]
 pub struct Room {
-    entries: ArrayVec<Entry, 4, Global>,
     blocks: ArrayVec<Vec<u8>, 4, Global>,
 }
 
@@ -36,7 +35,7 @@ impl Model for Room {
 
     ghost view = { λ r. tt };
 
-    ghost invariant = { λ r. (r.entries.items ≡ []) × (length r.blocks.items ≡ 4) × All (λ v. (v.items ≡ []) × (4096 ≤ vec_capacity v)) r.blocks.items };
+    ghost invariant = { λ r. (length r.blocks.items ≡ 4) × All (λ v. (v.items ≡ []) × (4096 ≤ vec_capacity v)) r.blocks.items };
 }
 
 impl Room {
@@ -49,10 +48,7 @@ impl Room {
                 Err(refused) => return Err(refused),
             }
         }
-        Ok(Room {
-            entries: ArrayVec::new_in(alloc),
-            blocks,
-        })
+        Ok(Room { blocks })
     }
 }
 
@@ -105,7 +101,7 @@ impl Intent {
         }
         let size = 131_072 * usize::from(capacity);
         let key = bytes_32_at(payload, 17);
-        let mut entries = room.entries;
+        let mut entries = ArrayVec::new();
         let mut rooms = room.blocks;
         for k in 0..count {
             let counter = first + k as u32;
