@@ -1,3 +1,6 @@
 pub mod Ways
 pub mod Blocks
 pub mod Found
+pub mod Lists
+pub mod Headers
+pub mod Guests

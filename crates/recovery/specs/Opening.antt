@@ -36,10 +36,14 @@ pub record HasPart (capacities : List ℕ) (c : Content) (g : ℕ) : Type 0 wher
   pub part : Part
   pub stands : StandsFor (place_at capacities g) (slot_place (place_at capacities g) A) c part
 
+-- the content stands for some partition of each guest
+abbrev pub HoldsEach : List ℕ → Content → Type 0
+HoldsEach capacities c = (g : ℕ) → g < length capacities → HasPart capacities c g
+
 -- the image is as long as its header says, and stands for a partition of each guest
 pub record HasParts (capacities : List ℕ) (len : ℕ) (c : Content) : Type 0 where
   pub long : len ≡ image_length capacities
-  pub each : (g : ℕ) → g < length capacities → HasPart capacities c g
+  pub each : HoldsEach capacities c
 
 -- an image of a board of these capacities
 pub record IsImage (capacities : List ℕ) (len : ℕ) (c : Content) : Type 0 where
@@ -57,13 +61,16 @@ pub data IsUnformatted (capacities : List ℕ) (len : ℕ) (c : Content) : Type 
   NoFront : ¬ HasFront len c → IsUnformatted capacities len c
   NoParts : HasFront len c → HasCapacities capacities c → ¬ HasParts capacities len c → IsUnformatted capacities len c
 
--- Which content leads to which outcome. No two of them hold of one content.
+abbrev pub AnswersFault : List ℕ → ℕ → Content → OpenFault → Type 0
+AnswersFault capacities len c fault.NotFormatted = IsUnformatted capacities len c
+AnswersFault capacities len c fault.OtherConfig = IsOther capacities len c
+AnswersFault capacities len c fault.DiskFault = Unit {0}
+AnswersFault capacities len c fault.NoMemory = Unit {0}
+
+-- Which content leads to which outcome: no content is two of image, other board's image and no image.
 abbrev pub Answers : {X : Type 0} → List ℕ → ℕ → Content → Result X OpenFault → Type 0
 Answers capacities len c (Ok opened) = IsImage capacities len c
-Answers capacities len c (Err fault.NotFormatted) = IsUnformatted capacities len c
-Answers capacities len c (Err fault.OtherConfig) = IsOther capacities len c
-Answers capacities len c (Err fault.DiskFault) = Unit {0}
-Answers capacities len c (Err fault.NoMemory) = Unit {0}
+Answers capacities len c (Err f) = AnswersFault capacities len c f
 
 -- 2. What is opened
 
@@ -89,11 +96,14 @@ pub record IsBegun (capacities : List ℕ) (g : ℕ) (x : Guest) (p : Partition)
   pub slot : IsFirst x.slot
   pub fits : IntentFits (131072 * x.capacity) (intent_of x.slot)
 
+abbrev pub EachBegun : List ℕ → List Guest → List Partition → Type 0
+EachBegun capacities guests partitions = (g : ℕ) (x : Guest) (p : Partition) → slice_get guests g ≡ Some x → slice_get partitions g ≡ Some p → IsBegun capacities g x p
+
 -- each guest of the board in its place
 pub record AllBegun (capacities : List ℕ) (guests : List Guest) (partitions : List Partition) : Type 0 where
   pub all_guests : length guests ≡ length capacities
   pub all_partitions : length partitions ≡ length capacities
-  pub each : (g : ℕ) (x : Guest) (p : Partition) → slice_get guests g ≡ Some x → slice_get partitions g ≡ Some p → IsBegun capacities g x p
+  pub each : EachBegun capacities guests partitions
 
 -- each partition is what the content stands for
 abbrev pub AllStand : Content → List Guest → List Partition → Type 0

@@ -11,7 +11,8 @@ use Rattle.flusher.specs.Slot.{place_of, side_of}
 use Rattle.flusher.specs.SlotInvariant.{Row, Seen}
 use Rattle.recovery.specs.declared.fault.OpenFault.{OpenFault}
 use Rattle.recovery.specs.declared.fault.OpenFault.TheVariants as fault
-use Rattle.recovery.specs.Opening.{Untouched, IsBegun, HasPart}
+use Rattle.intent_slots.specs.Header.{HasCapacities}
+use Rattle.recovery.specs.Opening.{Untouched, IsBegun, HasPart, HoldsEach, HasFront, IsOther}
 
 -- reads of the disk give this content
 pub record Gives (s : DiskState) (c : Content) : Type 0 where
@@ -53,3 +54,25 @@ Finds capacities g c (Err f) = FindsFault capacities g c f
 -- each guest and its partition are what the content holds
 pub record AllFound (c : Content) (guests : List Guest) (partitions : List Partition) : Type 0 where
   pub each : (g : ℕ) (x : Guest) (p : Partition) → slice_get guests g ≡ Some x → slice_get partitions g ≡ Some p → IsFound c x p
+
+-- What the reading of all guests tells of the content.
+abbrev pub FindsAllFault : List ℕ → Content → OpenFault → Type 0
+FindsAllFault capacities c fault.NotFormatted = ¬ HoldsEach capacities c
+FindsAllFault capacities c fault.OtherConfig = ⊥
+FindsAllFault capacities c fault.DiskFault = Unit {0}
+FindsAllFault capacities c fault.NoMemory = ⊥
+
+abbrev pub FindsAll : List ℕ → Content → List Guest → List Partition → Result (Unit {0}) OpenFault → Type 0
+FindsAll capacities c guests partitions (Ok done) = AllFound c guests partitions
+FindsAll capacities c guests partitions (Err f) = FindsAllFault capacities c f
+
+-- What the header tells of the content.
+abbrev pub TellsHeaderFault : List ℕ → ℕ → Content → OpenFault → Type 0
+TellsHeaderFault capacities len c fault.NotFormatted = ¬ HasFront len c
+TellsHeaderFault capacities len c fault.OtherConfig = IsOther capacities len c
+TellsHeaderFault capacities len c fault.DiskFault = Unit {0}
+TellsHeaderFault capacities len c fault.NoMemory = ⊥
+
+abbrev pub TellsHeader : List ℕ → ℕ → Content → Result (Unit {0}) OpenFault → Type 0
+TellsHeader capacities len c (Ok done) = HasFront len c × HasCapacities capacities c
+TellsHeader capacities len c (Err f) = TellsHeaderFault capacities len c f

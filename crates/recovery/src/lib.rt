@@ -2,6 +2,8 @@
 #![tactic(auto)]
 
 mod fault;
+mod opening;
 mod reading;
+mod space;
 
 pub use fault::OpenFault;

@@ -11,9 +11,10 @@ ghost use Rattle.recovery.specs.Opening.{IsBegun};
 ghost use Rattle.recovery.specs.Reading.{Gives, Passes, Finds, is_disk_fault};
 
 use crate::fault::OpenFault;
+use crate::space::Space;
 use disk::{Disk, DiskFault};
 use flusher::{Guest, Slot};
-use intent_slots::{Home, Intent, Layout, Room, Side};
+use intent_slots::{Home, Intent, Layout, Side};
 use rpmb_core::Partition;
 
 /// A gate that is open.
@@ -65,15 +66,6 @@ fn redo_all(blocks: &mut [u8], intent: &Intent)
     }
 }
 
-/// What an opening takes of memory for one guest before its first call.
-#[derive(Drop)]
-pub(crate) struct Space {
-    /// Room for an intent.
-    pub(crate) room: Room,
-    /// As many bytes as the partition has of blocks.
-    pub(crate) blocks: Vec<u8>,
-}
-
 /// The guest whose gate is shut: its home and its blocks as they stand.
 fn read_shut<D: Disk>(
     disk: &mut D,
@@ -86,6 +78,7 @@ fn read_shut<D: Disk>(
     requires size { length blocks.items ≡ 131072 * slice_index layout.now number }
     ensures passes { Passes D.state D.makes disk.old disk.new (is_disk_fault result) }
     ensures begun { IfOk result (λ r. IsBegun layout.now number r.0 r.1) }
+    ensures memory { ¬ result ≡ Err OpenFault.NoMemory }
     ensures finds { (c : Content) → Gives (D.state disk.old) c → IsShut (slot_place (place_at layout.now number) A) c → Finds layout.now number c result }
 {
     let mut record = [0; 64];
@@ -135,6 +128,7 @@ fn read_open<D: Disk>(
     requires buffer { length buffer.old ≡ 16648 }
     ensures passes { Passes D.state D.makes disk.old disk.new (is_disk_fault result) }
     ensures begun { IfOk result (λ r. IsBegun layout.now number r.0 r.1) }
+    ensures memory { ¬ result ≡ Err OpenFault.NoMemory }
     ensures finds { (c : Content) → Gives (D.state disk.old) c → IsWideOpen (slot_place (place_at layout.now number) A) c → Finds layout.now number c result }
 {
     match read(disk, layout.payload(Side::A, number), buffer) {
@@ -183,6 +177,7 @@ pub(crate) fn read_guest<D: Disk>(
     requires buffer { length buffer.old ≡ 16648 }
     ensures passes { Passes D.state D.makes disk.old disk.new (is_disk_fault result) }
     ensures begun { IfOk result (λ r. IsBegun layout.now number r.0 r.1) }
+    ensures memory { ¬ result ≡ Err OpenFault.NoMemory }
     ensures finds { (c : Content) → Gives (D.state disk.old) c → Finds layout.now number c result }
 {
     let mut gate = [0; 1];
