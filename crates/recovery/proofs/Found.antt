@@ -56,7 +56,7 @@ no_home cs g c at bytes there is refused shut has = none has.part has.stands
   where
     none : (p : Part) → ¬ StandsFor (place_at cs g) (slot_place (place_at cs g) A) c p
     none p (ByHome s holds) = refused p.key p.counter (home_own p.key p.counter c (content_of bytes) (place_at cs g).base 0
-      (agree_there c (place_at cs g).base 64 64 bytes (is ∙ ap (λ n. bytes_at c n 64) there) (omega arith)) holds.home)
+        (agree_there c (place_at cs g).base 64 64 bytes (is ∙ ap (λ n. bytes_at c n 64) there) (omega arith)) holds.home)
     none p (ByPayload i wide payload done) = shut wide
 
 pub found_shut : (cs : List ℕ) (g : ℕ) (c : Content) (at blocks_from : ℕ) (bytes blocks : List ℕ) (key told_key : Option (List ℕ)) (counter told_counter : ℕ) (base capacity settled : ℕ) (p : Partition)
@@ -70,7 +70,7 @@ found_shut cs g c at blocks_from bytes blocks key told_key counter told_counter 
     let place = place_at cs g in
     let part : Part = record { key = told_key; counter = told_counter; blocks = content_of blocks } in
     let home' : IsHome c place.base key counter = home_own key counter (content_of bytes) c 0 place.base
-      (agree_read c place.base 64 64 bytes (is ∙ ap (λ m. bytes_at c m 64) there) (omega arith)) home in
+    (agree_read c place.base 64 64 bytes (is ∙ ap (λ m. bytes_at c m 64) there) (omega arith)) home in
     let home'' : IsHome c place.base told_key told_counter = subst (λ k. IsHome c place.base k told_counter) (sym same_key) (subst (λ m. IsHome c place.base key m) (sym same_counter) home') in
     let holds : HoldsHome place c part = record { home = home''; same_blocks = blocks_read place c blocks (bs ∙ ap (λ m. bytes_at c m place.size) bt) } in
     let row : Row place (slot_place place A) part Empty c = (shut, holds) in
@@ -85,14 +85,14 @@ pub begun_shut : (cs : List ℕ) (g : ℕ) (key told_key : Option (List ℕ)) (c
     → settled ≡ sequence_of key counter → told_counter < 2 ^ 32
     → IsBegun cs g (record { base = base; capacity = capacity; settled = settled; slot = Empty }) p
 begun_shut cs g key told_key counter told_counter blocks base capacity settled p same_key same_counter b n q mark small = record {
-    place = place_is cs g base capacity b n;
-    capacity = n;
-    same_capacity = ap (λ v. v.capacity) q;
-    mark = mark ∙ ap (λ k. sequence_of k counter) (sym same_key) ∙ ap (λ m. sequence_of told_key m) (sym same_counter) ∙ sym (ap (λ v. sequence_of v.key v.counter) q);
-    small = subst (λ m. m ≤ 2 ^ 32) (sym mark) (bound key);
-    slot = tt;
-    fits = tt;
-  }
+  place = place_is cs g base capacity b n;
+  capacity = n;
+  same_capacity = ap (λ v. v.capacity) q;
+  mark = mark ∙ ap (λ k. sequence_of k counter) (sym same_key) ∙ ap (λ m. sequence_of told_key m) (sym same_counter) ∙ sym (ap (λ v. sequence_of v.key v.counter) q);
+  small = subst (λ m. m ≤ 2 ^ 32) (sym mark) (bound key);
+  slot = tt;
+  fits = tt;
+}
   where
     bound : (k : Option (List ℕ)) → sequence_of k counter ≤ 2 ^ 32
     bound None = omega arith
@@ -109,9 +109,9 @@ no_payload cs g c at capacity bytes there is n refused wide has = none has.part 
     none : (p : Part) → ¬ StandsFor (place_at cs g) (slot_place (place_at cs g) A) c p
     none p (ByHome shut holds) = shut wide
     none p (ByPayload i w payload done) = (let short = payload_short (place_at cs g).size i payload.fits in
-      refused i (subst (λ m. IsPayload (131072 * m) (content_of bytes) 0 i) (sym n)
+        refused i (subst (λ m. IsPayload (131072 * m) (content_of bytes) 0 i) (sym n)
         (payload_own (place_at cs g).size i c (content_of bytes) (slot_place (place_at cs g) A).payload 0
-          (agree_there c (slot_place (place_at cs g) A).payload 16648 (payload_length i) bytes (is ∙ ap (λ m. bytes_at c m 16648) there) short) payload)))
+        (agree_there c (slot_place (place_at cs g) A).payload 16648 (payload_length i) bytes (is ∙ ap (λ m. bytes_at c m 16648) there) short) payload)))
 
 pub found_open : (cs : List ℕ) (g : ℕ) (c : Content) (at blocks_from : ℕ) (bytes blocks redone_blocks key : List ℕ) (i : Intent) (told_counter done : ℕ) (base capacity settled : ℕ) (p : Partition)
     → at ≡ (slot_place (place_at cs g) A).payload → bytes ≡ bytes_at c at 16648 → IsPayload (131072 * capacity) (content_of bytes) 0 i.group
@@ -128,13 +128,13 @@ found_open cs g c at blocks_from bytes blocks redone_blocks key i told_counter d
     let part : Part = record { key = Some key; counter = told_counter; blocks = content_of redone_blocks } in
     let short = payload_short (131072 * capacity) i.group payload.fits in
     let has : HasPayload place side i.group c = subst (λ m. IsPayload (131072 * m) c side.payload i.group) n
-      (payload_own (131072 * capacity) i.group (content_of bytes) c 0 side.payload
-        (agree_read c side.payload 16648 (payload_length i.group) bytes (is ∙ ap (λ m. bytes_at c m 16648) there) short) payload) in
+    (payload_own (131072 * capacity) i.group (content_of bytes) c 0 side.payload
+    (agree_read c side.payload 16648 (payload_length i.group) bytes (is ∙ ap (λ m. bytes_at c m 16648) there) short) payload) in
     let read : blocks_of place c ≡ content_of blocks = blocks_read place c blocks (bs ∙ ap (λ m. bytes_at c m place.size) bt) in
     let whole : redo i.group.entries (blocks_of place c) ≡ content_of redone_blocks = ap (redo i.group.entries) read ∙ sym again in
     let stood : redone place c i.group ≡ part = ap (λ (d : Content). record { key = Some i.group.key; counter = last_of i.group; blocks = d }) whole
-      ∙ ap (λ (l : List ℕ). record { key = Some l; counter = last_of i.group; blocks = content_of redone_blocks }) (sym same_key)
-      ∙ ap (λ (m : ℕ). record { key = Some key; counter = m; blocks = content_of redone_blocks }) (sym same_counter) in
+    ∙ ap (λ (l : List ℕ). record { key = Some l; counter = last_of i.group; blocks = content_of redone_blocks }) (sym same_key)
+    ∙ ap (λ (m : ℕ). record { key = Some key; counter = m; blocks = content_of redone_blocks }) (sym same_counter) in
     let row : Row place side part (Open i done) c = (wide, stood, has) in
     let seen : Seen place side part (Open i done) c = ap (λ m. redo (drop m i.group.entries) (blocks_of place c)) first ∙ sym (skip i.group.entries (blocks_of place c)) ∙ whole in
     let here = sym (place_is cs g base capacity b n) in
@@ -149,14 +149,14 @@ pub begun_open : (cs : List ℕ) (g : ℕ) (c : Content) (redone_blocks key : Li
     → p ≡ record { capacity = capacity; key = Some key; counter = told_counter; blocks = redone_blocks }
     → IsBegun cs g (record { base = base; capacity = capacity; settled = settled; slot = Open i done }) p
 begun_open cs g c redone_blocks key i told_counter done base capacity settled p payload first mark same_key same_counter b n q = record {
-    place = place_is cs g base capacity b n;
-    capacity = n;
-    same_capacity = ap (λ v. v.capacity) q;
-    mark = mark ∙ ap (λ m. m + 1) (sym same_counter) ∙ sym (ap (λ v. sequence_of v.key v.counter) q);
-    small = (let one = payload.fits.one in let counters = payload.fits.counters in omega (arith, one, counters, mark));
-    slot = first;
-    fits = payload.fits;
-  }
+  place = place_is cs g base capacity b n;
+  capacity = n;
+  same_capacity = ap (λ v. v.capacity) q;
+  mark = mark ∙ ap (λ m. m + 1) (sym same_counter) ∙ sym (ap (λ v. sequence_of v.key v.counter) q);
+  small = (let one = payload.fits.one in let counters = payload.fits.counters in omega (arith, one, counters, mark));
+  slot = first;
+  fits = payload.fits;
+}
 
 -- 3. The gate
 

@@ -16,10 +16,10 @@ use Rattle.recovery.specs.Opening.{HasFront, IsOther}
 
 -- lists that can't differ are equal
 same_lists : (xs ys : List ℕ) → ¬ (¬ xs ≡ ys) → xs ≡ ys
-same_lists xs ys never = by_test (pointwise eqb xs ys) (λ yes. pointwise_yes xs ys yes) (λ no. absurd (never (λ e. differ e no)))
+same_lists xs ys never = by_test (pointwise eqb xs ys) (λ yes. pointwise_yes xs ys yes) (λ other. absurd (never (λ e. differ e other)))
   where
     differ : xs ≡ ys → pointwise eqb xs ys ≡ false → ⊥
-    differ e no = (let same : pointwise eqb xs ys ≡ true = ap (λ l. pointwise eqb xs l) (sym e) ∙ pointwise_same xs in let f : true ≡ false = sym same ∙ no in cc)
+    differ e other = (let same : pointwise eqb xs ys ≡ true = ap (λ l. pointwise eqb xs l) (sym e) ∙ pointwise_same xs in let f : true ≡ false = sym same ∙ other in cc)
 
 module _ (c : Content) (front : List ℕ) (is : front ≡ bytes_at c 0 74) where
   there : (at n : ℕ) → at + n ≤ 74 → Agree (content_of front) at c at n
@@ -55,24 +55,24 @@ module _ (c : Content) (front : List ℕ) (is : front ≡ bytes_at c 0 74) where
 
 -- 2. What the outcome of the comparison tells
 
-abbrev Succeeds : List ℕ → List ℕ → Result (Unit {0}) HeaderFault → Type 0
+abbrev pub Succeeds : List ℕ → List ℕ → Result (Unit {0}) HeaderFault → Type 0
 Succeeds cs front checked = IsOk checked ↔ (HasMagic (content_of front) × HasCapacities cs (content_of front))
 
-abbrev Magic : List ℕ → Result (Unit {0}) HeaderFault → Type 0
+abbrev pub Magic : List ℕ → Result (Unit {0}) HeaderFault → Type 0
 Magic front checked = (checked ≡ Err header.NotFormatted) ↔ (¬ HasMagic (content_of front))
 
 module _ (cs : List ℕ) (few : length cs ≤ 64) (len : ℕ) (long : 1024 ≤ len) (c : Content) (front : List ℕ) (is : front ≡ bytes_at c 0 74) where
   pub tells_ok : (done : Unit {0}) → Succeeds cs front (Ok done) → HasFront len c × HasCapacities cs c
-  tells_ok done s = (let both = s.0 tt in (record { long = long; magic = magic_there c front is both.0 }, capacities_there c front is cs few both.1))
+  tells_ok done s = (let both = s.0 refl in (record { long = long; magic = magic_there c front is both.0 }, capacities_there c front is cs few both.1))
 
   pub tells_no_front : Magic front (Err header.NotFormatted) → ¬ HasFront len c
   tells_no_front m f = (m.0 refl) (magic_here c front is f.magic)
 
   pub tells_other : Succeeds cs front (Err header.OtherConfig) → Magic front (Err header.OtherConfig) → IsOther cs len c
   tells_other s m = record {
-    front = record { long = long; magic = magic_sure c front is (λ no. other (m.1 no)) };
-    other = λ h. s.1 (magic_here c front is (magic_sure c front is (λ no. other (m.1 no))), capacities_here c front is cs few h);
+    front = record { long = long; magic = magic_sure c front is (λ none. never (Err header.OtherConfig) refl (m.1 none)) };
+    other = λ h. (let e : false ≡ true = s.1 (magic_here c front is (magic_sure c front is (λ none. never (Err header.OtherConfig) refl (m.1 none))), capacities_here c front is cs few h) in cc);
   }
     where
-      other : Err {Unit {0}} header.OtherConfig ≡ Err header.NotFormatted → ⊥
-      other e = cc
+      never : (r : Result (Unit {0}) HeaderFault) → r ≡ Err header.OtherConfig → r ≡ Err header.NotFormatted → ⊥
+      never r a b = (let e = sym a ∙ b in cc)

@@ -22,13 +22,13 @@ none_each P xs ys is g x y at there = absurd (let short = slice_get_within xs g 
 pub each_more : {X Y : Type 0} (P : ℕ → X → Y → Type 0) (xs : List X) (ys : List Y) (x : X) (y : Y) → length xs ≡ length ys → Each P xs ys → P (length xs) x y → Each P (xs ++ x ∷ []) (ys ++ y ∷ [])
 each_more P xs ys x y same all last g v w at there = ⊎_elim
     (λ old. ⊎_elim
-      (λ older. all g v w old older)
-      (λ new. absurd (let short = slice_get_within xs g v old in let e = new.0 in omega (arith, short, e, same)))
-      (push_cases ys y w g there))
+    (λ older. all g v w old older)
+    (λ new. absurd (let short = slice_get_within xs g v old in let e = new.0 in omega (arith, short, e, same)))
+    (push_cases ys y w g there))
     (λ new. ⊎_elim
-      (λ old. absurd (let short = slice_get_within ys g w old in let e = new.0 in omega (arith, short, e, same)))
-      (λ newer. subst (λ n. P n v w) (sym new.0) (subst (λ a. P (length xs) a w) new.1 (subst (λ b. P (length xs) x b) newer.1 last)))
-      (push_cases ys y w g there))
+    (λ old. absurd (let short = slice_get_within ys g w old in let e = new.0 in omega (arith, short, e, same)))
+    (λ newer. subst (λ n. P n v w) (sym new.0) (subst (λ a. P (length xs) a w) new.1 (subst (λ b. P (length xs) x b) newer.1 last)))
+    (push_cases ys y w g there))
     (push_cases xs x v g at)
 
 pub no_space : (cs : List ℕ) (spaces : List Space) → spaces ≡ [] → EachFits cs spaces
@@ -53,7 +53,7 @@ fit_first cs g [] space all some is = absurd (omega arith)
 fit_first cs g (s ∷ spaces) space all some is = (let z : g + 0 ≡ g = omega arith in ap (λ (v : Space). length v.blocks.items) is ∙ all 0 s refl ∙ ap (λ n. 131072 * slice_index cs n) z)
 
 pub fit_rest : (cs : List ℕ) (g : ℕ) (spaces rest : List Space) → rest ≡ remove spaces 0 → 0 < length spaces → FitFrom cs g spaces → FitFrom cs (g + 1) rest
-fit_rest cs g [] rest is some all = absurd (omega arith)
+fit_rest cs g [] rest is some all k s at = absurd (omega arith)
 fit_rest cs g (x ∷ spaces) rest is some all k s at = (let z : g + suc k ≡ g + 1 + k = omega arith in
     all (suc k) s (sym (ap (λ l. slice_get l k) is) ∙ at) ∙ ap (λ n. 131072 * slice_index cs n) z)
 

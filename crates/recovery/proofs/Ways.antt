@@ -52,13 +52,13 @@ module _ {D : Type 0} (state : D → DiskState) (makes : D → DiskCall → D �
     pub pass_read : (a b : D) (ok failed : Bool) → makes a (Read ok) b → (failed ≡ true → ok ≡ false) → Passes state makes a b failed
     pass_read a b ok failed made why = (let e = effect a b (Read ok) made in record {
       moments = within_call state makes (Untouched (state a)) a b (Read ok) (untouched_here (state a)) made (untouched_here (state a))
-        (record { len = e.counts.len; faithful = e.counts.faithful; later = e.counts.later; seen = e.seen; unsynced = e.unsynced });
+          (record { len = e.counts.len; faithful = e.counts.faithful; later = e.counts.later; seen = e.seen; unsynced = e.unsynced });
       cause = λ f. e.counts.cause (why f);
     })
 
     pub pass_sync : (a b : D) (ok failed : Bool) → makes a (Sync ok) b → (failed ≡ true → ok ≡ false) → Passes state makes a b failed
     pass_sync a b ok failed made why = (let e = effect a b (Sync ok) made in record {
       moments = within_call state makes (Untouched (state a)) a b (Sync ok) (untouched_here (state a)) made (untouched_here (state a))
-        (record { len = e.counts.len; faithful = e.counts.faithful; later = e.counts.later; seen = e.seen; unsynced = e.unsynced });
+          (record { len = e.counts.len; faithful = e.counts.faithful; later = e.counts.later; seen = e.seen; unsynced = e.unsynced });
       cause = λ f. e.counts.cause (why f);
     })

@@ -8,6 +8,7 @@ abbrev pub EachFits : List ℕ → List Space → Type 0
 EachFits capacities spaces = (g : ℕ) (s : Space) → slice_get spaces g ≡ Some s → length s.blocks.items ≡ 131072 * slice_index capacities g
 
 pub record AreSpaces (capacities : List ℕ) (spaces : List Space) : Type 0 where
+  pub few : length capacities ≤ 64
   pub count : length spaces ≡ length capacities
   pub each : EachFits capacities spaces
 

@@ -7,3 +7,4 @@ mod reading;
 mod space;
 
 pub use fault::OpenFault;
+pub use opening::open;

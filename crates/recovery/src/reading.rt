@@ -145,12 +145,7 @@ fn read_open<D: Disk>(
         Err(_) => return Err(OpenFault::DiskFault),
     }
     redo(&mut blocks, &intent);
-    let partition = Partition::of(
-        capacity,
-        Some(*intent.key()),
-        intent.last_counter(),
-        blocks,
-    );
+    let partition = Partition::of(capacity, Some(*intent.key()), intent.last_counter(), blocks);
     let base = layout.home(number);
     let settled = intent.last_sequence();
     let done = skipped(&intent);

@@ -58,5 +58,5 @@ loop-number-preserved g c =
       partition_room = omega (arith, v.partition_room, c.push_reserved-in-Ok.ensures.capacity);
       begun = begun_more c.args.layout.now xs _ ps _ c.in-Ok.guest c.in-Ok.partition c.loop-number.number v.count v.same_count c.push_reserved.ensures.items c.push_reserved-in-Ok.ensures.items v.begun c.in-Ok.ensures.begun;
       found = λ content gives. found_more content xs _ ps _ c.in-Ok.guest c.in-Ok.partition c.loop-number.number v.count v.same_count c.push_reserved.ensures.items c.push_reserved-in-Ok.ensures.items (v.found content gives)
-        (c.in-Ok.ensures.finds content (gives_on _ _ content (pass_end g.D.Disk.state g.D.Disk.makes _ _ _ v.passes) gives));
+          (c.in-Ok.ensures.finds content (gives_on _ _ content (pass_end g.D.Disk.state g.D.Disk.makes _ _ _ v.passes) gives));
     }

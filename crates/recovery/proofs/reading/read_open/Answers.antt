@@ -16,7 +16,7 @@ read_blocks-requires g c =
 pub returns-in_default-clause-finds : goal.returns-in_default-clause-finds
 returns-in_default-clause-finds g c content gives wide =
     no_payload c.args.layout.now c.args.number content _ _ _ c.payload.ensures.value (c.in-Ok.ensures.bytes content gives ∙ ap (bytes_at content c.payload.result) c.requires.buffer)
-      c.capacity-capacity.ensures.value (c.in_default.ensures.refused refl) wide
+    c.capacity-capacity.ensures.value (c.in_default.ensures.refused refl) wide
 
 pub returns-in-Err-read_blocks-clause-passes : goal.returns-in-Err-read_blocks-clause-passes
 returns-in-Err-read_blocks-clause-passes g c = pass_on g.D.Disk.state g.D.Disk.makes _ _ _ _ _ c.read.ensures.passes c.in-Err-read_blocks.ensures.passes
@@ -27,13 +27,13 @@ returns-clause-passes g c = pass_on g.D.Disk.state g.D.Disk.makes _ _ _ _ _ c.re
 pub returns-clause-begun : goal.returns-clause-begun
 returns-clause-begun g c =
     begun_open c.args.layout.now c.args.number _ _ _ c.in-Some.intent _ _ _ _ _ _ c.in-Some.ensures.ok.1 c.skipped-done.ensures c.last_sequence-settled.ensures c.key.ensures c.last_counter.ensures
-      c.home-base.ensures.value c.capacity-capacity.ensures.value c.of-partition.ensures
+    c.home-base.ensures.value c.capacity-capacity.ensures.value c.of-partition.ensures
 
 pub returns-clause-finds : goal.returns-clause-finds
 returns-clause-finds g c content gives wide =
     let on = gives_on _ _ content (pass_end g.D.Disk.state g.D.Disk.makes _ _ _ c.read.ensures.passes) gives in
     let long = c.requires.size ∙ sym (size_is c.args.layout.now c.args.number) in
     found_open c.args.layout.now c.args.number content _ _ _ _ _ _ c.in-Some.intent _ _ _ _ _ _ c.payload.ensures.value
-      (c.in-Ok.ensures.bytes content gives ∙ ap (bytes_at content c.payload.result) c.requires.buffer) c.in-Some.ensures.ok.1
-      c.blocks-2.ensures.value (c.in-Ok-read_blocks.ensures.bytes content on ∙ ap (bytes_at content c.blocks-2.result) long) c.redo.ensures.content c.skipped-done.ensures
-      c.key.ensures c.last_counter.ensures c.home-base.ensures.value c.capacity-capacity.ensures.value c.of-partition.ensures wide
+    (c.in-Ok.ensures.bytes content gives ∙ ap (bytes_at content c.payload.result) c.requires.buffer) c.in-Some.ensures.ok.1
+    c.blocks-2.ensures.value (c.in-Ok-read_blocks.ensures.bytes content on ∙ ap (bytes_at content c.blocks-2.result) long) c.redo.ensures.content c.skipped-done.ensures
+    c.key.ensures c.last_counter.ensures c.home-base.ensures.value c.capacity-capacity.ensures.value c.of-partition.ensures wide

@@ -32,4 +32,4 @@ returns-clause-finds g c content gives shut =
     let on = gives_on _ _ content (pass_end g.D.Disk.state g.D.Disk.makes _ _ _ c.read.ensures.passes) gives in
     let long = c.requires.size ∙ sym (size_is c.args.layout.now c.args.number) in
     found_shut c.args.layout.now c.args.number content _ _ _ _ _ _ _ _ _ _ _ _ c.home.ensures.value (c.in-Ok.ensures.bytes content gives) c.in-Some.ensures.ok
-      c.blocks-2.ensures.value (c.in-Ok-read_blocks.ensures.bytes content on ∙ ap (bytes_at content c.blocks-2.result) long) c.key.ensures c.counter.ensures.value c.home-2.ensures.value c.capacity-capacity.ensures.value c.of-partition.ensures shut
+    c.blocks-2.ensures.value (c.in-Ok-read_blocks.ensures.bytes content on ∙ ap (bytes_at content c.blocks-2.result) long) c.key.ensures c.counter.ensures.value c.home-2.ensures.value c.capacity-capacity.ensures.value c.of-partition.ensures shut

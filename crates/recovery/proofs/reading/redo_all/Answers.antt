@@ -17,5 +17,5 @@ pub loop-k-preserved : goal.loop-k-preserved
 loop-k-preserved c = record {
   long = c.put.auto.blocks ∙ c.loop-k.invariant.long;
   rest = redo_step c.args.intent.now.group.entries c.loop-k.k c.from.result c.entry-entry.result.now c.blocks-in-loop-k.result.now _ _ _ c.entry-entry.ensures
-    (c.from.ensures ∙ c.address.ensures) c.blocks-in-loop-k.ensures.value c.put.ensures c.loop-k.invariant.rest;
+      (c.from.ensures ∙ c.address.ensures) c.blocks-in-loop-k.ensures.value c.put.ensures c.loop-k.invariant.rest;
 }

@@ -11,5 +11,5 @@ loop-guest-preserved c =
     record {
       count = length-push c.loop-guest.spaces.items _ c.in_ok-space.space c.in_ok-push.ensures.items ∙ ap (λ n. n + 1) v.count;
       each = subst (EachFits cs) (sym c.in_ok-push.ensures.items)
-        (space_more cs c.loop-guest.spaces.items c.in_ok-space.space c.capacity.result v.each c.in_ok-space.ensures (c.capacity.ensures.value ∙ ap (slice_index cs) (sym v.count)));
+          (space_more cs c.loop-guest.spaces.items c.in_ok-space.space c.capacity.result v.each c.in_ok-space.ensures (c.capacity.ensures.value ∙ ap (slice_index cs) (sym v.count)));
     }
