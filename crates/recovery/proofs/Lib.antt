@@ -4,3 +4,5 @@ pub mod Found
 pub mod Lists
 pub mod Headers
 pub mod Guests
+pub mod Zeros
+pub mod Fresh
