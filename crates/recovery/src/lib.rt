@@ -10,3 +10,6 @@ mod space;
 pub use fault::OpenFault;
 pub use formatting::{format, fresh_is_empty};
 pub use opening::open;
+
+#[cfg(test)]
+mod tests;
