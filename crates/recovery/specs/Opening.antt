@@ -2,7 +2,7 @@
 use Rattle.std.specs.Prelude.{◌≡◌, ◌⊎◌, ℕ, ◌+◌, ◌*◌, ◌≤◌, ◌<◌, ◌^◌, Bool, true, false, List, length, slice_get, slice_index, Option, Some, None, Result, Ok, Err}
 use Rattle.rpmb_frame.specs.Partition.{Partition, sequence_of}
 use Rattle.disk.specs.Content.{Content, zeros}
-use Rattle.disk.specs.Disk.{DiskState, HasRisen}
+use Rattle.disk.specs.Disk.{DiskState, DiskCall, Read, Sync, HasRisen}
 use Rattle.intent_slots.specs.Header.{HasMagic, HasCapacities}
 use Rattle.intent_slots.specs.Layout.{Place, SlotPlace, place_at, slot_place, image_length}
 use Rattle.intent_slots.specs.declared.layout.Side.TheVariants.{A}
@@ -23,6 +23,16 @@ pub record Untouched (old new : DiskState) : Type 0 where
   pub later : old.failures ≤ new.failures
   pub seen : old.faithful ≡ true → (k : ℕ) → new.seen k ≡ old.seen k
   pub unsynced : old.faithful ≡ true → (k : ℕ) → old.unsynced k ≡ false → new.unsynced k ≡ false
+
+-- Reads alone led from one value of the disk to the other.
+pub data OnlyReads {D : Type 0} (makes : D → DiskCall → D → Type 0) : D → D → Type 0 where
+  NoRead : (d : D) → OnlyReads makes d d
+  OneRead : (a b c : D) (ok : Bool) → OnlyReads makes a b → makes b (Read ok) c → OnlyReads makes a c
+
+-- The first call was a sync. Only where it succeeded further calls were made, all of them reads.
+pub data SyncsFirst {D : Type 0} (makes : D → DiskCall → D → Type 0) (old new : D) : Type 0 where
+  SyncFailed : makes old (Sync false) new → SyncsFirst makes old new
+  SyncWent : (synced : D) → makes old (Sync true) synced → OnlyReads makes synced new → SyncsFirst makes old new
 
 -- 1. What a content is
 
@@ -127,6 +137,17 @@ parts_of partitions g = part_or (slice_get partitions g)
 abbrev pub disk_after : {D P : Type 0} → Result (StoreState D × P) (D × OpenFault) → D
 disk_after (Ok opened) = opened.0.disk
 disk_after (Err refused) = refused.0
+
+-- The calls of an opening. Without memory it makes none.
+abbrev pub CallsFault : {D : Type 0} → (makes : D → DiskCall → D → Type 0) → D → D → OpenFault → Type 0
+CallsFault makes old new fault.NoMemory = new ≡ old
+CallsFault makes old new fault.DiskFault = SyncsFirst makes old new
+CallsFault makes old new fault.NotFormatted = SyncsFirst makes old new
+CallsFault makes old new fault.OtherConfig = SyncsFirst makes old new
+
+abbrev pub Calls : {D P : Type 0} → (makes : D → DiskCall → D → Type 0) → D → Result (StoreState D × P) (D × OpenFault) → Type 0
+Calls makes old (Ok opened) = SyncsFirst makes old opened.0.disk
+Calls makes old (Err refused) = CallsFault makes old refused.0 refused.1
 
 -- how it ended
 abbrev pub outcome_of : {D P : Type 0} → Result (StoreState D × P) (D × OpenFault) → Result (StoreState D × P) OpenFault

@@ -12,7 +12,7 @@ use Rattle.flusher.specs.SlotInvariant.{Row, Seen}
 use Rattle.recovery.specs.declared.fault.OpenFault.{OpenFault}
 use Rattle.recovery.specs.declared.fault.OpenFault.TheVariants as fault
 use Rattle.intent_slots.specs.Header.{HasCapacities}
-use Rattle.recovery.specs.Opening.{Untouched, IsBegun, HasPart, HoldsEach, HasFront, IsOther}
+use Rattle.recovery.specs.Opening.{Untouched, OnlyReads, SyncsFirst, IsBegun, HasPart, HoldsEach, HasFront, IsOther}
 
 -- reads of the disk give this content
 pub record Gives (s : DiskState) (c : Content) : Type 0 where
@@ -30,10 +30,17 @@ abbrev pub is_disk_fault : {X : Type 0} → Result X OpenFault → Bool
 is_disk_fault (Ok x) = false
 is_disk_fault (Err f) = is_disk f
 
--- Calls that leave the disk as it was; where they end with a fault of the disk, one of them failed.
+-- Reads that leave the disk as it was; where they end with a fault of the disk, one of them failed.
 pub record Passes {D : Type 0} (state : D → DiskState) (makes : D → DiskCall → D → Type 0) (old new : D) (failed : Bool) : Type 0 where
   pub moments : Within state makes (Untouched (state old)) old new
   pub cause : failed ≡ true → HasRisen (state old).failures (state new).failures
+  pub reads : OnlyReads makes old new
+
+-- The same, with a sync before the reads.
+pub record Opens {D : Type 0} (state : D → DiskState) (makes : D → DiskCall → D → Type 0) (old new : D) (failed : Bool) : Type 0 where
+  pub moments : Within state makes (Untouched (state old)) old new
+  pub cause : failed ≡ true → HasRisen (state old).failures (state new).failures
+  pub order : SyncsFirst makes old new
 
 -- what a content holds for one guest
 pub record IsFound (c : Content) (x : Guest) (p : Partition) : Type 0 where

@@ -4,8 +4,8 @@ ghost use Rattle.disk.specs.Content.{Content};
 ghost use Rattle.disk.specs.Disk.{Within, HasRisen};
 ghost use Rattle.intent_slots.specs.Layout.{capacities_of, image_length};
 ghost use Rattle.flusher.specs.SlotInvariant.{IsHeld};
-ghost use Rattle.recovery.specs.Opening.{Untouched, AllBegun, AllStand, Answers, parts_of, disk_after, outcome_of};
-ghost use Rattle.recovery.specs.Reading.{Gives, Passes, AllFound, FindsAll, TellsHeader, is_disk_fault};
+ghost use Rattle.recovery.specs.Opening.{Untouched, Calls, AllBegun, AllStand, Answers, parts_of, disk_after, outcome_of};
+ghost use Rattle.recovery.specs.Reading.{Gives, Passes, Opens, AllFound, FindsAll, TellsHeader, is_disk_fault};
 ghost use Rattle.recovery.specs.Space.{AreSpaces};
 
 use crate::fault::OpenFault;
@@ -93,7 +93,7 @@ fn read_image<D: Disk>(
     requires no_partitions { partitions.old.items ≡ [] }
     requires guest_room { length layout.now ≤ vec_capacity guests.old }
     requires partition_room { length layout.now ≤ vec_capacity partitions.old }
-    ensures passes { Passes D.state D.makes disk.old disk.new (is_disk_fault result) }
+    ensures opens { Opens D.state D.makes disk.old disk.new (is_disk_fault result) }
     ensures memory { ¬ result ≡ Err OpenFault.NoMemory }
     ensures begun { OnOk result (AllBegun layout.now guests.new.items partitions.new.items) }
     ensures long { OnOk result ((D.state disk.old).len ≡ image_length layout.now) }
@@ -136,6 +136,9 @@ pub fn open<D: Disk>(
     ensures answers { (D.state disk).faithful ≡ true → Answers (capacities_of board.now) (D.state disk).len (D.state disk).seen (outcome_of result) }
     ensures no_memory { IfErr result (λ e. e.1 ≡ OpenFault.NoMemory → e.0 ≡ disk) }
     ensures cause { IfErr result (λ e. e.1 ≡ OpenFault.DiskFault → HasRisen (D.state disk).failures (D.state e.0).failures) }
+
+    // The first call is a sync, and only where it succeeded there are others, all of them reads.
+    ensures calls { Calls D.makes disk result }
 
     // At each moment a stop leaves only what it could leave before the call.
     ensures any_moment { Within D.state D.makes (Untouched (D.state disk)) disk (disk_after result) }

@@ -49,14 +49,22 @@ fn opened(alloc: Global, disk: CutDisk, board: &BoardConfig) -> Result<Store<Cut
 }
 
 /// Whether there is a key, the counter, and the first byte of the blocks 0, 7 and 8, of each partition.
-fn found(alloc: Global, disk: CutDisk, board: &BoardConfig) -> Result<Vec<(bool, u32, [u8; 3])>, Fail> {
+fn found(
+    alloc: Global,
+    disk: CutDisk,
+    board: &BoardConfig,
+) -> Result<Vec<(bool, u32, [u8; 3])>, Fail> {
     let (_, partitions) = match open(alloc, disk, board) {
         Ok(opened) => opened,
         Err((_, fault)) => return Err(fault.into()),
     };
     let mut told = Vec::new(alloc);
     for partition in &partitions {
-        let firsts = [partition.block(0)[0], partition.block(7)[0], partition.block(8)[0]];
+        let firsts = [
+            partition.block(0)[0],
+            partition.block(7)[0],
+            partition.block(8)[0],
+        ];
         told.push((partition.key() == Some(KEY), partition.counter(), firsts))?;
     }
     Ok(told)
@@ -85,6 +93,7 @@ fn advance(store: &mut Store<CutDisk>, times: usize) {
 }
 
 const NOTHING: (bool, u32, [u8; 3]) = (false, 0, [0; 3]);
+
 const KEYED: (bool, u32, [u8; 3]) = (true, 0, [0; 3]);
 
 #[test]
@@ -94,7 +103,9 @@ fn formatted(rt: HostRuntime) -> Result<(), Fail> {
     let store = opened(alloc, fresh(alloc, &board)?, &board)?;
     assert_eq!(rt; (store.next(0), store.next(1), store.next(2)), (1, 1, 0));
     assert!(rt; store.next_call() == Call::None);
-    assert!(rt; found(alloc, store.into_disk(), &board)?.as_slice() == [NOTHING, NOTHING].as_slice());
+    assert!(rt;
+        found(alloc, store.into_disk(), &board)?.as_slice() == [NOTHING, NOTHING].as_slice()
+    );
     Ok(())
 }
 
@@ -118,10 +129,16 @@ fn three_guests(alloc: Global, board: &BoardConfig, more: usize) -> Result<CutDi
 fn stopped_at_a_sync(rt: HostRuntime) -> Result<(), Fail> {
     let alloc = rt.alloc();
     let board = board(alloc, &[1, 1, 1])?;
-    for (more, wanted) in [[KEYED, NOTHING, NOTHING], [KEYED, KEYED, NOTHING]].iter().enumerate() {
+    for (more, wanted) in [[KEYED, NOTHING, NOTHING], [KEYED, KEYED, NOTHING]]
+        .iter()
+        .enumerate()
+    {
         let mut disk = three_guests(alloc, &board, more)?;
         disk.cut(&Filler::Old);
-        assert!(rt; found(alloc, disk, &board)?.as_slice() == wanted.as_slice(), "{more}");
+        assert!(rt;
+            found(alloc, disk, &board)?.as_slice() == wanted.as_slice(),
+            "{more}"
+        );
     }
     Ok(())
 }
@@ -165,7 +182,10 @@ fn failed_calls(rt: HostRuntime) -> Result<(), Fail> {
     for k in 1..9 {
         let wanted = if k < 4 { NOTHING } else { KEYED };
         let disk = failed(alloc, &board, k)?;
-        assert!(rt; found(alloc, disk, &board)?.as_slice() == [wanted].as_slice(), "{k}");
+        assert!(rt;
+            found(alloc, disk, &board)?.as_slice() == [wanted].as_slice(),
+            "{k}"
+        );
     }
     let mut disk = failed(alloc, &board, 3)?;
     disk.cut(&Filler::Fill([0xa5].to_vec(alloc)?));
@@ -189,7 +209,10 @@ fn last_counter(rt: HostRuntime) -> Result<(), Fail> {
     let disk = written(alloc, &board, 1024, &home)?;
     let store = opened(alloc, disk, &board)?;
     assert_eq!(rt; store.marks().get(0), 0xffff_ffff);
-    assert!(rt; found(alloc, store.into_disk(), &board)?.as_slice() == [(true, 0xffff_fffe, [0; 3])].as_slice());
+    assert!(rt;
+        found(alloc, store.into_disk(), &board)?.as_slice()
+            == [(true, 0xffff_fffe, [0; 3])].as_slice()
+    );
     Ok(())
 }
 
@@ -209,9 +232,16 @@ fn refused(rt: HostRuntime) -> Result<(), Fail> {
     let board = board(alloc, &[1, 1])?;
     for (at, byte, fault) in FAULTS {
         let disk = written(alloc, &board, at, &[byte])?;
-        assert_eq!(rt; open(alloc, disk, &board).err().map(|e| e.1), Some(fault), "{at}");
+        assert_eq!(rt;
+            open(alloc, disk, &board).err().map(|e| e.1),
+            Some(fault),
+            "{at}"
+        );
     }
     let short = CutDisk::new(alloc, vec![in alloc; 0; 1000]?)?;
-    assert_eq!(rt; open(alloc, short, &board).err().map(|e| e.1), Some(OpenFault::NotFormatted));
+    assert_eq!(rt;
+        open(alloc, short, &board).err().map(|e| e.1),
+        Some(OpenFault::NotFormatted)
+    );
     Ok(())
 }
