@@ -178,7 +178,7 @@ pub redone_after : (place : Place) (i : Group) (c : Content) (p : Part) → Hold
 redone_after place i c p h = ap (λ (b : Content). record { key = Some i.key; counter = last_of i; blocks = redo i.entries b }) h.same_blocks
 
 -- an entry that is skipped leads nowhere
-skip : (es : List Entry) (c : Content) → redo es c ≡ redo (drop (skipped es) es) c
+pub skip : (es : List Entry) (c : Content) → redo es c ≡ redo (drop (skipped es) es) c
 skip [] c = refl
 skip (e ∷ es) c = ⊎_elim
     (λ none. ap (redo es) (over_nothing (256 * e.address) e.blocks c none) ∙ sym (ap (λ (n : ℕ). redo (drop n (e ∷ es)) c) (one none)))

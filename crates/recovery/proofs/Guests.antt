@@ -1,0 +1,164 @@
+-- All guests of an opening.
+use Rattle.std.proofs.Common.{◌≡◌, ◌≢◌, ◌⊎◌, inl, inr, ⊎_elim, ℕ, ◌+◌, ◌*◌, ◌<◌, ◌≤◌, Bool, true, false, Option, Some, None, List, [], ◌∷◌, ◌++◌, length, refl, ap, sym, subst, ◌∙◌, arith}
+use Rattle.std.specs.Prelude.{Result, Ok, Err, OnOk, slice_get}
+use Rattle.std.proofs.lemmas.Option.{slice_get_within, slice_get_cases}
+use Rattle.rpmb_frame.specs.Partition.{Partition}
+use Rattle.disk.specs.Content.{Content}
+use Rattle.disk.specs.Disk.{DiskState, MayLeave}
+use Rattle.intent_slots.specs.Header.{HasCapacities}
+use Rattle.intent_slots.specs.Layout.{Place, SlotPlace, place_at, slot_place, image_length, end_of, AreApart}
+use Rattle.intent_slots.specs.declared.layout.Side.TheVariants.{A}
+use Rattle.intent_slots.specs.Recovered.{Part, part_of, StandsFor, ByHome, ByPayload}
+use Rattle.intent_slots.proofs.Starts.{lies_inside, overlaps_never}
+use Rattle.flusher.specs.declared.guest.Guest.{Guest}
+use Rattle.flusher.specs.declared.slot.Slot.{Slot}
+use Rattle.flusher.specs.declared.slot.Slot.TheVariants.{Empty, Given, Written, Ready, Opening, Open, Applying, Applied, Closing}
+use Rattle.flusher.specs.Slot.{place_of, side_of, pending_of}
+use Rattle.flusher.specs.SlotInvariant.{Row, Seen, IsHeld, guest_row, guest_seen, Follows, IsMarked}
+use Rattle.flusher.specs.Store.{AllFit, GuestFits}
+use Rattle.flusher.proofs.Blocks.{same_content}
+use Rattle.recovery.specs.declared.fault.OpenFault.{OpenFault}
+use Rattle.recovery.specs.declared.fault.OpenFault.TheVariants as fault
+use Rattle.recovery.specs.Opening.{Untouched, IsBegun, EachBegun, AllBegun, AllStand, IsFirst, HasFront, HasPart, HasParts, IsImage, IsUnformatted, NoFront, NoParts, Answers, AnswersFault, parts_of, part_or}
+use Rattle.recovery.specs.Reading.{Gives, IsFound, AllFound, FindsFault, FindsAll, FindsAllFault, TellsHeaderFault}
+use Rattle.recovery.proofs.Lists.{Each, none_each, each_more}
+use Rattle.recovery.proofs.Ways.{gives_on}
+
+-- what ends the reading of one guest ends that of all
+pub ends_all : (cs : List ℕ) (c : Content) (g : ℕ) (f : OpenFault) → g < length cs → FindsFault cs g c f → FindsAllFault cs c f
+ends_all cs c g fault.NotFormatted lt none = λ each. none (each g lt)
+ends_all cs c g fault.OtherConfig lt never = never
+ends_all cs c g fault.DiskFault lt any = tt
+ends_all cs c g fault.NoMemory lt never = never
+
+pub none_found : (c : Content) (xs : List Guest) (ps : List Partition) → xs ≡ [] → AllFound c xs ps
+none_found c xs ps is = record { each = none_each (λ g x p. IsFound c x p) xs ps is }
+
+module _ (P : ℕ → Guest → Partition → Type 0) (xs new : List Guest) (ps next : List Partition) (x : Guest) (p : Partition) (n : ℕ)
+    (count : length xs ≡ n) (same_count : length ps ≡ n) (pushed : new ≡ xs ++ x ∷ []) (also : next ≡ ps ++ p ∷ []) where
+  pair_more : Each P xs ps → P n x p → Each P new next
+  pair_more all last = subst (λ l. Each P l next) (sym pushed) (subst (λ l. Each P (xs ++ x ∷ []) l) (sym also)
+      (each_more P xs ps x p (count ∙ sym same_count) all (subst (λ m. P m x p) (sym count) last)))
+
+pub begun_more : (cs : List ℕ) (xs new : List Guest) (ps next : List Partition) (x : Guest) (p : Partition) (n : ℕ) → length xs ≡ n → length ps ≡ n
+    → new ≡ xs ++ x ∷ [] → next ≡ ps ++ p ∷ [] → EachBegun cs xs ps → IsBegun cs n x p → EachBegun cs new next
+begun_more cs xs new ps next x p n count same_count pushed also all last = pair_more (IsBegun cs) xs new ps next x p n count same_count pushed also all last
+
+pub found_more : (c : Content) (xs new : List Guest) (ps next : List Partition) (x : Guest) (p : Partition) (n : ℕ) → length xs ≡ n → length ps ≡ n
+    → new ≡ xs ++ x ∷ [] → next ≡ ps ++ p ∷ [] → AllFound c xs ps → IsFound c x p → AllFound c new next
+found_more c xs new ps next x p n count same_count pushed also all last = record {
+  each = pair_more (λ g y q. IsFound c y q) xs new ps next x p n count same_count pushed also all.each last;
+}
+
+-- 2. What was found stands there
+
+stands_row : (place : Place) (side : SlotPlace) (p : Part) (slot : Slot) (c : Content) → IsFirst slot → Row place side p slot c → StandsFor place side c p
+stands_row place side p Empty c first r = ByHome r.0 r.1
+stands_row place side p (Given i) c first r = absurd first
+stands_row place side p (Written i) c first r = absurd first
+stands_row place side p (Ready i) c first r = absurd first
+stands_row place side p (Opening i) c first r = absurd first
+stands_row place side p (Open i k) c first r = ByPayload i.group r.0 r.2 r.1
+stands_row place side p (Applying i) c first r = absurd first
+stands_row place side p (Applied i) c first r = absurd first
+stands_row place side p (Closing i) c first r = absurd first
+
+follows : (slot : Slot) (n : ℕ) → IsFirst slot → Follows n (pending_of slot)
+follows Empty n first = tt
+follows (Given i) n first = absurd first
+follows (Written i) n first = absurd first
+follows (Ready i) n first = absurd first
+follows (Opening i) n first = absurd first
+follows (Open i k) n first = tt
+follows (Applying i) n first = absurd first
+follows (Applied i) n first = absurd first
+follows (Closing i) n first = absurd first
+
+-- the element at a place of a list that is as long
+there : {X Y : Type 0} (xs : List X) (ys : List Y) (g : ℕ) (x : X) → length xs ≡ length ys → slice_get xs g ≡ Some x → (y : Y) × (slice_get ys g ≡ Some y)
+there xs ys g x same at = ⊎_elim
+    (λ here. (here.0, here.2))
+    (λ past. absurd (let short = slice_get_within xs g x at in let e = past.0 in omega (arith, short, e, same)))
+    (slice_get_cases ys g).1
+
+module _ (cs : List ℕ) (xs : List Guest) (ps : List Partition) (all : AllBegun cs xs ps) where
+  partition_there : (g : ℕ) (x : Guest) → slice_get xs g ≡ Some x → (p : Partition) × (slice_get ps g ≡ Some p)
+  partition_there g x at = there xs ps g x (all.all_guests ∙ sym all.all_partitions) at
+
+  begun_there : (g : ℕ) (x : Guest) → slice_get xs g ≡ Some x → (p : Partition) × (slice_get ps g ≡ Some p) × IsBegun cs g x p
+  begun_there g x at = (let p = partition_there g x at in (p.0, p.1, all.each g x p.0 at p.1))
+
+  pub all_stand : (c : Content) → AllFound c xs ps → AllStand c xs ps
+  all_stand c found g x p at here = stands_row _ _ _ x.slot c (all.each g x p at here).slot (found.each g x p at here).row
+
+  pub has_each : (c : Content) → AllFound c xs ps → (g : ℕ) → g < length cs → HasPart cs c g
+  has_each c found g lt =
+      let x = at_place xs g (omega (arith, lt, all.all_guests)) in
+      let p = partition_there g x.0 x.1 in
+      record { part = part_of p.0; stands = subst (λ (v : Place). StandsFor v (slot_place v A) c (part_of p.0)) (all.each g x.0 p.0 x.1 p.1).place (all_stand c found g x.0 p.0 x.1 p.1) }
+    where
+      at_place : {X : Type 0} (ys : List X) (g : ℕ) → g < length ys → (y : X) × (slice_get ys g ≡ Some y)
+      at_place ys g lt = ⊎_elim (λ here. (here.0, here.2)) (λ past. absurd (let e = past.0 in omega (arith, lt, e))) (slice_get_cases ys g).1
+
+  pub all_fit : (len : ℕ) → image_length cs ≤ len → AllFit len xs
+  all_fit len room = record { each = λ g x at. fits g x at (begun_there g x at) }
+    where
+      fits : (g : ℕ) (x : Guest) → slice_get xs g ≡ Some x → (p : Partition) × (slice_get ps g ≡ Some p) × IsBegun cs g x p → GuestFits len x
+      fits g x at (p, here, b) = record {
+        room = (let lt = slice_get_within xs g x at in let inside = (lies_inside cs g (omega (arith, lt, all.all_guests))).1 in
+            subst (λ (v : Place). end_of v ≤ len) (sym b.place) (omega (arith, inside, room)));
+        slot_fits = b.fits;
+        mark = b.small;
+      }
+
+  -- every stop leaves what reads gave
+  pub all_held : (s t : DiskState) → s.faithful ≡ true → Untouched s t → ((k : ℕ) → t.unsynced k ≡ false) → image_length cs ≤ t.len → AllFound s.seen xs ps → IsHeld (parts_of ps) xs false t
+  all_held s t known u synced room found = record {
+    known = u.faithful ∙ known;
+    fits = λ g x at. ((all_fit t.len room).each g x at).room;
+    apart = λ g h x y other at here. apart g h x y other at here;
+    rows = λ g x at c left. row g x at c left (partition_there g x at);
+    seen_rows = λ whole g x at. seen g x at (partition_there g x at);
+  }
+    where
+      apart : (g h : ℕ) (x y : Guest) → g ≢ h → slice_get xs g ≡ Some x → slice_get xs h ≡ Some y → AreApart (place_of x) (place_of y)
+      apart g h x y other at here =
+          let a = begun_there g x at in
+          let b = begun_there h y here in
+          let lt = slice_get_within xs g x at in
+          let less = slice_get_within xs h y here in
+          subst (λ (v : Place). AreApart v (place_of y)) (sym a.2.place) (subst (λ (v : Place). AreApart (place_at cs g) v) (sym b.2.place)
+          (overlaps_never cs g h (omega (arith, lt, all.all_guests)) (omega (arith, less, all.all_guests)) other))
+
+      row : (g : ℕ) (x : Guest) → slice_get xs g ≡ Some x → (c : Content) → MayLeave t c → (p : Partition) × (slice_get ps g ≡ Some p) → guest_row (parts_of ps g) x c
+      row g x at c left (p, here) =
+          let b = all.each g x p at here in
+          subst (λ (o : Option Partition). guest_row (part_or o) x c) (sym here) (
+            subst (λ (d : Content). Row (place_of x) (side_of x) (part_of p) x.slot d) (same_content s.seen c (λ k. sym (left k (synced k) ∙ u.seen known k))) (found.each g x p at here).row,
+            record { mark = b.mark; follows = follows x.slot x.settled b.slot },
+          )
+
+      seen : (g : ℕ) (x : Guest) → slice_get xs g ≡ Some x → (p : Partition) × (slice_get ps g ≡ Some p) → guest_seen (parts_of ps g) x t.seen
+      seen g x at (p, here) = subst (λ (o : Option Partition). guest_seen (part_or o) x t.seen) (sym here)
+          (subst (λ (d : Content). Seen (place_of x) (side_of x) (part_of p) x.slot d) (same_content s.seen t.seen (λ k. sym (u.seen known k))) (found.each g x p at here).seen)
+
+-- 3. The outcomes
+
+pub header_answers : (cs : List ℕ) (len : ℕ) (c : Content) (f : OpenFault) → TellsHeaderFault cs len c f → AnswersFault cs len c f
+header_answers cs len c fault.NotFormatted none = NoFront none
+header_answers cs len c fault.OtherConfig other = other
+header_answers cs len c fault.DiskFault any = tt
+header_answers cs len c fault.NoMemory never = tt
+
+pub on_found : (cs : List ℕ) (xs : List Guest) (ps : List Partition) (s t : DiskState) (r : Result (Unit {0}) OpenFault) → Untouched s t
+    → ((c : Content) → Gives t c → FindsAll cs c xs ps r) → OnOk r ((c : Content) → Gives s c → AllFound c xs ps)
+on_found cs xs ps s t (Ok done) u finds = λ c gives. finds c (gives_on s t c u gives)
+on_found cs xs ps s t (Err f) u finds = tt
+
+pub all_answers : (cs : List ℕ) (len now : ℕ) (c : Content) (xs : List Guest) (ps : List Partition) (r : Result (Unit {0}) OpenFault) → now ≡ len
+    → HasFront now c → HasCapacities cs c → now ≡ image_length cs → OnOk r (AllBegun cs xs ps) → FindsAll cs c xs ps r → Answers cs len c r
+all_answers cs len now c xs ps (Ok done) same front header long begun found = subst (λ (n : ℕ). IsImage cs n c) same (record { front = front; header = header; parts = record { long = long; each = has_each cs xs ps begun c found } })
+all_answers cs len now c xs ps (Err fault.NotFormatted) same front header long begun none = subst (λ (n : ℕ). IsUnformatted cs n c) same (NoParts front header (λ (h : HasParts cs now c). none h.each))
+all_answers cs len now c xs ps (Err fault.OtherConfig) same front header long begun never = absurd never
+all_answers cs len now c xs ps (Err fault.DiskFault) same front header long begun any = tt
+all_answers cs len now c xs ps (Err fault.NoMemory) same front header long begun never = tt

@@ -1,0 +1,48 @@
+use Rattle.std.proofs.Common.{◌≡◌, ◌∙◌, sym, ap, subst, refl, true, false, ℕ, arith}
+use Rattle.recovery.specs.Opening.{AnswersFault}
+use Rattle.recovery.proofs.Ways.{opens_failed, opens_went, sync_end, pass_on, pass_end, gives_on, untouched_on}
+use Rattle.recovery.proofs.Guests.{header_answers, on_found, all_answers}
+use Rattle.recovery.proofs.Zeros.{on_ok}
+use Rattle.recovery.proofs.opening.read_image.Goals as goal
+
+pub returns-in-Err-clause-opens : goal.returns-in-Err-clause-opens
+returns-in-Err-clause-opens g c = opens_failed g.D.Disk.state g.D.Disk.makes g.met.D.Disk.effect _ _ c.in-Err.ensures.call
+
+pub returns-in-Err-read_header-clause-opens : goal.returns-in-Err-read_header-clause-opens
+returns-in-Err-read_header-clause-opens g c = opens_went g.D.Disk.state g.D.Disk.makes g.met.D.Disk.effect _ _ _ _ c.in-Ok.ensures.call c.in-Err-read_header.ensures.passes
+
+pub returns-then-len-length-clause-opens : goal.returns-then-len-length-clause-opens
+returns-then-len-length-clause-opens g c = opens_went g.D.Disk.state g.D.Disk.makes g.met.D.Disk.effect _ _ _ _ c.in-Ok.ensures.call c.in-Ok-read_header.ensures.passes
+
+pub returns-clause-opens : goal.returns-clause-opens
+returns-clause-opens g c = opens_went g.D.Disk.state g.D.Disk.makes g.met.D.Disk.effect _ _ _ _ c.in-Ok.ensures.call
+    (pass_on g.D.Disk.state g.D.Disk.makes _ _ _ _ _ c.in-Ok-read_header.ensures.passes c.read_guests.ensures.passes)
+
+pub returns-in-Err-read_header-clause-answers : goal.returns-in-Err-read_header-clause-answers
+returns-in-Err-read_header-clause-answers g c content gives =
+    let u = sync_end g.D.Disk.state g.D.Disk.makes g.met.D.Disk.effect _ _ _ c.in-Ok.ensures.call in
+    subst (λ (n : ℕ). AnswersFault c.args.layout.now n content c.in-Err-read_header.fault) u.len
+    (header_answers c.args.layout.now _ content c.in-Err-read_header.fault (c.in-Err-read_header.ensures.tells content (gives_on _ _ content u gives)))
+
+pub returns-clause-found : goal.returns-clause-found
+returns-clause-found g c =
+    let u = sync_end g.D.Disk.state g.D.Disk.makes g.met.D.Disk.effect _ _ _ c.in-Ok.ensures.call in
+    let v = pass_end g.D.Disk.state g.D.Disk.makes _ _ _ c.in-Ok-read_header.ensures.passes in
+    on_found c.args.layout.now c.read_guests.new.guests.items c.read_guests.new.partitions.items _ _ c.read_guests.result (untouched_on _ _ _ u v) c.read_guests.ensures.finds
+
+pub returns-clause-answers : goal.returns-clause-answers
+returns-clause-answers g c content gives =
+    let u = sync_end g.D.Disk.state g.D.Disk.makes g.met.D.Disk.effect _ _ _ c.in-Ok.ensures.call in
+    let v = pass_end g.D.Disk.state g.D.Disk.makes _ _ _ c.in-Ok-read_header.ensures.passes in
+    let on = gives_on _ _ content u gives in
+    let told = c.in-Ok-read_header.ensures.tells content on in
+    all_answers c.args.layout.now _ _ content c.read_guests.new.guests.items c.read_guests.new.partitions.items c.read_guests.result u.len told.0 told.1 (omega (arith, v.len, c.if-len-length.false, c.len.ensures, c.length.ensures.value))
+    c.read_guests.ensures.begun (c.read_guests.ensures.finds content (gives_on _ _ content v on))
+
+pub returns-clause-synced : goal.returns-clause-synced
+returns-clause-synced g c = on_ok c.read_guests.result _ (λ ok known k.
+    let e = g.met.D.Disk.effect _ _ _ c.in-Ok.ensures.call in
+    let v = pass_end g.D.Disk.state g.D.Disk.makes _ _ _ c.in-Ok-read_header.ensures.passes in
+    let w = pass_end g.D.Disk.state g.D.Disk.makes _ _ _ c.read_guests.ensures.passes in
+    let here = e.counts.faithful ∙ known in
+    w.unsynced (v.faithful ∙ here) k (v.unsynced here k (e.durable known refl k)))

@@ -1,0 +1,35 @@
+use Rattle.std.proofs.Common.{◌≡◌, ◌∙◌, ◌+◌, ◌*◌, ap, sym, length, refl, true, arith}
+use Rattle.disk.specs.Content.{bytes_at}
+use Rattle.recovery.proofs.Ways.{pass_on, pass_end, gives_on}
+use Rattle.recovery.proofs.Found.{no_home, found_shut, begun_shut, part_inside, size_is}
+use Rattle.recovery.proofs.reading.read_shut.Goals as goal
+
+pub read-requires : goal.read-requires
+read-requires g c = part_inside c.args.layout.now c.args.number c.home.result 64 _ 0 c.requires.guest c.requires.room (omega (arith, c.home.ensures.value)) (omega arith)
+
+pub read_blocks-requires : goal.read_blocks-requires
+read_blocks-requires g c =
+    let len = (pass_end g.D.Disk.state g.D.Disk.makes _ _ _ c.read.ensures.passes).len in
+    let fits = part_inside c.args.layout.now c.args.number c.blocks-2.result (length c.args.blocks.items) _ 35328 c.requires.guest c.requires.room c.blocks-2.ensures.value (omega (arith, c.requires.size)) in
+    omega (arith, fits, len)
+
+pub returns-in_default-clause-finds : goal.returns-in_default-clause-finds
+returns-in_default-clause-finds g c content gives shut =
+    no_home c.args.layout.now c.args.number content _ _ c.home.ensures.value (c.in-Ok.ensures.bytes content gives) (c.in_default.ensures.refused refl) shut
+
+pub returns-in-Err-read_blocks-clause-passes : goal.returns-in-Err-read_blocks-clause-passes
+returns-in-Err-read_blocks-clause-passes g c = pass_on g.D.Disk.state g.D.Disk.makes _ _ _ _ _ c.read.ensures.passes c.in-Err-read_blocks.ensures.passes
+
+pub returns-clause-passes : goal.returns-clause-passes
+returns-clause-passes g c = pass_on g.D.Disk.state g.D.Disk.makes _ _ _ _ _ c.read.ensures.passes c.in-Ok-read_blocks.ensures.passes
+
+pub returns-clause-begun : goal.returns-clause-begun
+returns-clause-begun g c =
+    begun_shut c.args.layout.now c.args.number _ _ _ _ _ _ _ _ _ c.key.ensures c.counter.ensures.value c.home-2.ensures.value c.capacity-capacity.ensures.value c.of-partition.ensures c.sequence.ensures c.counter.type_inv
+
+pub returns-clause-finds : goal.returns-clause-finds
+returns-clause-finds g c content gives shut =
+    let on = gives_on _ _ content (pass_end g.D.Disk.state g.D.Disk.makes _ _ _ c.read.ensures.passes) gives in
+    let long = c.requires.size ∙ sym (size_is c.args.layout.now c.args.number) in
+    found_shut c.args.layout.now c.args.number content _ _ _ _ _ _ _ _ _ _ _ _ c.home.ensures.value (c.in-Ok.ensures.bytes content gives) c.in-Some.ensures.ok
+    c.blocks-2.ensures.value (c.in-Ok-read_blocks.ensures.bytes content on ∙ ap (bytes_at content c.blocks-2.result) long) c.key.ensures c.counter.ensures.value c.home-2.ensures.value c.capacity-capacity.ensures.value c.of-partition.ensures shut

@@ -1,0 +1,161 @@
+//! Making a fresh image.
+ghost use Rattle.std.specs.Prelude.{◌≡◌, ◌≤◌, ◌<◌, ◌+◌, ◌*◌, ◌^◌, ℕ, true, false, length, is_ok, OnOk, OnErr, Err};
+ghost use Rattle.disk.specs.Content.{zeros};
+ghost use Rattle.disk.specs.Disk.{HasRisen};
+ghost use Rattle.intent_slots.specs.Layout.{capacities_of, image_length};
+ghost use Rattle.recovery.specs.Format.{Attempts, formatted, Holds, IsFormatted, Zeroes, FormattedIsImage, FormattedIsEmpty};
+
+use crate::fault::OpenFault;
+use disk::{Disk, DiskFault};
+use intent_slots::{Layout, Side};
+use rpmb_frame::BoardConfig;
+
+/// The most bytes of one write.
+const CHUNK_LENGTH: u64 = 16_648;
+
+/// The place of the version byte.
+const VERSION_PLACE: u64 = 512;
+
+/// The length of a home record in bytes.
+const HOME_LENGTH: usize = 64;
+
+/// Writes zeros.
+fn write_zeros<D: Disk>(disk: &mut D, at: u64, count: usize) -> Result<(), DiskFault>
+    requires few { count ≤ 16648 }
+    requires room { at + count ≤ (D.state disk.old).len }
+    ensures attempts { Attempts (is_ok result) (D.state disk.old) (D.state disk.new) }
+    ensures zeros { OnOk result ((D.state disk.old).faithful ≡ true → Zeroes at count (D.state disk.old) (D.state disk.new)) }
+{
+    let zeros = [0; 16_648];
+    disk.write_at(at, &zeros[..count])
+}
+
+/// Writes zeros over the whole disk, in ascending chunks.
+fn write_all_zeros<D: Disk>(disk: &mut D) -> Result<(), DiskFault>
+    ensures attempts { Attempts (is_ok result) (D.state disk.old) (D.state disk.new) }
+    ensures zeros { OnOk result ((D.state disk.old).faithful ≡ true → Holds zeros (D.state disk.old).len (D.state disk.new).seen) }
+{
+    let len = disk.len();
+    let whole = len / CHUNK_LENGTH;
+    for chunk in 0..whole {
+        match write_zeros(disk, CHUNK_LENGTH * chunk, CHUNK_LENGTH as usize) {
+            Ok(()) => {}
+            Err(fault) => return Err(fault),
+        }
+    }
+    write_zeros(disk, CHUNK_LENGTH * whole, (len % CHUNK_LENGTH) as usize)
+}
+
+/// Writes a guest's home record without a key, and its gates shut.
+fn write_guest<D: Disk>(disk: &mut D, layout: &Layout, guest: u16) -> Result<(), DiskFault>
+    requires guest { guest < length layout.now }
+    requires room { image_length layout.now ≤ (D.state disk.old).len }
+    ensures attempts { Attempts (is_ok result) (D.state disk.old) (D.state disk.new) }
+    ensures zeros { OnOk result ((D.state disk.old).faithful ≡ true → Holds zeros (D.state disk.old).len (D.state disk.old).seen → Holds zeros (D.state disk.old).len (D.state disk.new).seen) }
+{
+    match write_zeros(disk, layout.home(guest), HOME_LENGTH) {
+        Ok(()) => {}
+        Err(fault) => return Err(fault),
+    }
+    match write_zeros(disk, layout.gate(Side::A, guest), 1) {
+        Ok(()) => {}
+        Err(fault) => return Err(fault),
+    }
+    write_zeros(disk, layout.gate(Side::B, guest), 1)
+}
+
+/// Writes each guest's home record without a key, and its gates shut.
+fn write_guests<D: Disk>(disk: &mut D, layout: &Layout) -> Result<(), DiskFault>
+    requires { image_length layout.now ≤ (D.state disk.old).len }
+    ensures attempts { Attempts (is_ok result) (D.state disk.old) (D.state disk.new) }
+    ensures zeros { OnOk result ((D.state disk.old).faithful ≡ true → Holds zeros (D.state disk.old).len (D.state disk.old).seen → Holds zeros (D.state disk.old).len (D.state disk.new).seen) }
+{
+    for guest in 0..layout.guests() {
+        match write_guest(disk, layout, guest as u16) {
+            Ok(()) => {}
+            Err(fault) => return Err(fault),
+        }
+    }
+    Ok(())
+}
+
+/// Writes the header and the version byte.
+fn write_header<D: Disk>(disk: &mut D, layout: &Layout) -> Result<(), DiskFault>
+    requires { image_length layout.now ≤ (D.state disk.old).len }
+    ensures attempts { Attempts (is_ok result) (D.state disk.old) (D.state disk.new) }
+    ensures header { OnOk result ((D.state disk.old).faithful ≡ true → Holds zeros (D.state disk.old).len (D.state disk.old).seen → Holds (formatted layout.now) (D.state disk.old).len (D.state disk.new).seen) }
+{
+    match disk.write_at(0, layout.header().as_slice()) {
+        Ok(()) => {}
+        Err(fault) => return Err(fault),
+    }
+    disk.write_at(VERSION_PLACE, &[1])
+}
+
+/// Makes all durable.
+fn sync<D: Disk>(disk: &mut D) -> Result<(), DiskFault>
+    ensures attempts { Attempts (is_ok result) (D.state disk.old) (D.state disk.new) }
+    ensures seen { (D.state disk.old).faithful ≡ true → (k : ℕ) → (D.state disk.new).seen k ≡ (D.state disk.old).seen k }
+    ensures durable { OnOk result ((D.state disk.old).faithful ≡ true → (k : ℕ) → (D.state disk.new).unsynced k ≡ false) }
+{
+    disk.sync()
+}
+
+/// Makes a fresh image: the header, the version byte 1 at place 512, and zeros, so that each partition
+/// is empty. It writes zeros over the whole disk, and for each guest a home record without a key and
+/// both gates shut, makes a sync, writes the header and the version byte, and makes a sync. So a stop
+/// in between leaves no header over what stood there before. It takes no memory.
+///
+/// Answers `DiskFault` where a call failed. Other faults never come.
+pub fn format<D: Disk>(disk: &mut D, board: &BoardConfig) -> Result<(), OpenFault>
+    requires { (D.state disk.old).len ≡ image_length (capacities_of board.now) }
+    ensures formatted { OnOk result ((D.state disk.old).faithful ≡ true → IsFormatted (capacities_of board.now) (D.state disk.new)) }
+    ensures only { (fault : OpenFault) → result ≡ Err fault → fault ≡ OpenFault.DiskFault }
+    ensures cause { OnErr result (HasRisen (D.state disk.old).failures (D.state disk.new).failures) }
+{
+    match write_image(disk, &Layout::of(board)) {
+        Ok(()) => Ok(()),
+        Err(_) => Err(OpenFault::DiskFault),
+    }
+}
+
+/// Writes a fresh image.
+fn write_image<D: Disk>(disk: &mut D, layout: &Layout) -> Result<(), DiskFault>
+    requires { (D.state disk.old).len ≡ image_length layout.now }
+    ensures attempts { Attempts (is_ok result) (D.state disk.old) (D.state disk.new) }
+    ensures formatted { OnOk result ((D.state disk.old).faithful ≡ true → IsFormatted layout.now (D.state disk.new)) }
+{
+    match clear(disk, layout) {
+        Ok(()) => {}
+        Err(fault) => return Err(fault),
+    }
+    match write_header(disk, layout) {
+        Ok(()) => {}
+        Err(fault) => return Err(fault),
+    }
+    sync(disk)
+}
+
+/// Makes zeros of the whole disk, and makes them durable.
+fn clear<D: Disk>(disk: &mut D, layout: &Layout) -> Result<(), DiskFault>
+    requires { (D.state disk.old).len ≡ image_length layout.now }
+    ensures attempts { Attempts (is_ok result) (D.state disk.old) (D.state disk.new) }
+    ensures zeros { OnOk result ((D.state disk.old).faithful ≡ true → Holds zeros (D.state disk.old).len (D.state disk.new).seen) }
+    ensures durable { OnOk result ((D.state disk.old).faithful ≡ true → (k : ℕ) → (D.state disk.new).unsynced k ≡ false) }
+{
+    match write_all_zeros(disk) {
+        Ok(()) => {}
+        Err(fault) => return Err(fault),
+    }
+    match write_guests(disk, layout) {
+        Ok(()) => {}
+        Err(fault) => return Err(fault),
+    }
+    sync(disk)
+}
+
+/// Each partition of a fresh image is empty, and the image is its board's.
+pub fn fresh_is_empty()
+    ensures image { FormattedIsImage }
+    ensures empty { FormattedIsEmpty }
+{}

@@ -1,0 +1,171 @@
+//! Opening an image that a stop may have left.
+ghost use Rattle.std.specs.Prelude.{◌≡◌, ◌≤◌, ◌<◌, ◌+◌, ◌*◌, ◌^◌, [], ℕ, true, false, length, IfOk, IfErr, OnOk, Err, vec_capacity};
+ghost use Rattle.disk.specs.Content.{Content};
+ghost use Rattle.disk.specs.Disk.{Within, HasRisen};
+ghost use Rattle.intent_slots.specs.Layout.{capacities_of, image_length};
+ghost use Rattle.flusher.specs.SlotInvariant.{IsHeld};
+ghost use Rattle.recovery.specs.Opening.{Untouched, Calls, AllBegun, AllStand, Answers, parts_of, disk_after, outcome_of};
+ghost use Rattle.recovery.specs.Reading.{Gives, Passes, Opens, AllFound, FindsAll, TellsHeader, is_disk_fault};
+ghost use Rattle.recovery.specs.Space.{AreSpaces};
+
+use crate::fault::OpenFault;
+use crate::reading::{read, read_guest};
+use crate::space::{Space, Supplies};
+use disk::Disk;
+use flusher::{Guest, Store};
+use intent_slots::{HeaderFault, Layout};
+use rpmb_core::Partition;
+use rpmb_frame::BoardConfig;
+use std::alloc::Global;
+
+/// The least length of an image in bytes: its header.
+const HEADER_LENGTH: u64 = 1024;
+
+/// Whether the front of the image is the header of this layout.
+fn read_header<D: Disk>(disk: &mut D, layout: &Layout) -> Result<(), OpenFault>
+    requires { length layout.now ≤ 64 }
+    ensures passes { Passes D.state D.makes disk.old disk.new (is_disk_fault result) }
+    ensures memory { ¬ result ≡ Err OpenFault.NoMemory }
+    ensures tells { (c : Content) → Gives (D.state disk.old) c → TellsHeader layout.now (D.state disk.old).len c result }
+{
+    if disk.len() < HEADER_LENGTH {
+        return Err(OpenFault::NotFormatted);
+    }
+    let mut front = [0; 74];
+    match read(disk, 0, &mut front) {
+        Ok(()) => {}
+        Err(_) => return Err(OpenFault::DiskFault),
+    }
+    match layout.check_header(&front) {
+        Ok(()) => Ok(()),
+        Err(HeaderFault::NotFormatted) => Err(OpenFault::NotFormatted),
+        Err(HeaderFault::OtherConfig) => Err(OpenFault::OtherConfig),
+    }
+}
+
+/// Reads each guest, in ascending order.
+fn read_guests<D: Disk>(
+    disk: &mut D,
+    layout: &Layout,
+    spaces: Vec<Space>,
+    buffer: &mut [u8],
+    guests: &mut Vec<Guest>,
+    partitions: &mut Vec<Partition>,
+) -> Result<(), OpenFault>
+    requires room { image_length layout.now ≤ (D.state disk.old).len }
+    requires spaces { AreSpaces layout.now spaces.items }
+    requires payload { length buffer.old ≡ 16648 }
+    requires no_guests { guests.old.items ≡ [] }
+    requires no_partitions { partitions.old.items ≡ [] }
+    requires guest_room { length layout.now ≤ vec_capacity guests.old }
+    requires partition_room { length layout.now ≤ vec_capacity partitions.old }
+    ensures passes { Passes D.state D.makes disk.old disk.new (is_disk_fault result) }
+    ensures memory { ¬ result ≡ Err OpenFault.NoMemory }
+    ensures begun { OnOk result (AllBegun layout.now guests.new.items partitions.new.items) }
+    ensures finds { (c : Content) → Gives (D.state disk.old) c → FindsAll layout.now c guests.new.items partitions.new.items result }
+{
+    let mut spaces = spaces;
+    for number in 0..layout.guests() {
+        let space = spaces.remove(0);
+        match read_guest(disk, layout, number as u16, space, buffer) {
+            Ok((guest, partition)) => {
+                guests.push_reserved(guest);
+                partitions.push_reserved(partition);
+            }
+            Err(fault) => return Err(fault),
+        }
+    }
+    Ok(())
+}
+
+/// Reads the image, after a sync.
+fn read_image<D: Disk>(
+    disk: &mut D,
+    layout: &Layout,
+    spaces: Vec<Space>,
+    buffer: &mut [u8],
+    guests: &mut Vec<Guest>,
+    partitions: &mut Vec<Partition>,
+) -> Result<(), OpenFault>
+    requires spaces { AreSpaces layout.now spaces.items }
+    requires payload { length buffer.old ≡ 16648 }
+    requires no_guests { guests.old.items ≡ [] }
+    requires no_partitions { partitions.old.items ≡ [] }
+    requires guest_room { length layout.now ≤ vec_capacity guests.old }
+    requires partition_room { length layout.now ≤ vec_capacity partitions.old }
+    ensures opens { Opens D.state D.makes disk.old disk.new (is_disk_fault result) }
+    ensures memory { ¬ result ≡ Err OpenFault.NoMemory }
+    ensures begun { OnOk result (AllBegun layout.now guests.new.items partitions.new.items) }
+    ensures long { OnOk result ((D.state disk.old).len ≡ image_length layout.now) }
+    ensures near { OnOk result ((D.state disk.old).len < 2 ^ 64) }
+    ensures synced { OnOk result ((D.state disk.old).faithful ≡ true → (k : ℕ) → (D.state disk.new).unsynced k ≡ false) }
+    ensures found { OnOk result ((c : Content) → Gives (D.state disk.old) c → AllFound c guests.new.items partitions.new.items) }
+    ensures answers { (c : Content) → Gives (D.state disk.old) c → Answers layout.now (D.state disk.old).len c result }
+{
+    match disk.sync() {
+        Ok(()) => {}
+        Err(_) => return Err(OpenFault::DiskFault),
+    }
+    match read_header(disk, layout) {
+        Ok(()) => {}
+        Err(fault) => return Err(fault),
+    }
+    if disk.len() != layout.length() {
+        return Err(OpenFault::NotFormatted);
+    }
+    read_guests(disk, layout, spaces, buffer, guests, partitions)
+}
+
+/// Opens an image that a stop may have left: the store over it, and the partition of each guest of the
+/// board. It takes all its memory first, then makes a sync, and only after its success it reads.
+/// Nothing is written. The payload behind an open gate goes on from its first write.
+///
+/// Answers `NoMemory` before any call, and `DiskFault` where a call failed. Else it answers, in this
+/// order, `NotFormatted` where the disk is shorter than 1,024 bytes or has another magic;
+/// `OtherConfig` where the header has another number of guests, or for a guest another capacity than
+/// the board; and `NotFormatted` where the disk hasn't the length of the board's image, or the home
+/// behind a shut gate or the payload behind an open gate (0xA5) isn't well formed.
+pub fn open<D: Disk>(
+    alloc: Global,
+    disk: D,
+    board: &BoardConfig,
+) -> Result<(Store<D>, Vec<Partition>), (D, OpenFault)>
+    ensures begun { IfOk result (λ r. AllBegun (capacities_of board.now) r.0.guests r.1.items) }
+    ensures unbroken { IfOk result (λ r. r.0.broken ≡ false) }
+    ensures stand { IfOk result (λ r. (D.state disk).faithful ≡ true → AllStand (D.state disk).seen r.0.guests r.1.items) }
+    ensures answers { (D.state disk).faithful ≡ true → Answers (capacities_of board.now) (D.state disk).len (D.state disk).seen (outcome_of result) }
+    ensures no_memory { IfErr result (λ e. e.1 ≡ OpenFault.NoMemory → e.0 ≡ disk) }
+    ensures cause { IfErr result (λ e. e.1 ≡ OpenFault.DiskFault → HasRisen (D.state disk).failures (D.state e.0).failures) }
+
+    // The first call is a sync, and only where it succeeded there are others, all of them reads.
+    ensures calls { Calls D.makes disk result }
+
+    // At each moment a stop leaves only what it could leave before the call.
+    ensures any_moment { Within D.state D.makes (Untouched (D.state disk)) disk (disk_after result) }
+
+    // Every stop after it leaves what reads give, which stands for these partitions.
+    ensures held { IfOk result (λ r. (D.state disk).faithful ≡ true → IsHeld (parts_of r.1.items) r.0.guests r.0.broken (D.state r.0.disk)) }
+{
+    let mut disk = disk;
+    let layout = Layout::of(board);
+    let Ok(supplies) = Supplies::new(alloc, &layout) else {
+        return Err((disk, OpenFault::NoMemory));
+    };
+    let Supplies {
+        mut guests,
+        mut partitions,
+        spaces,
+        mut buffer,
+    } = supplies;
+    match read_image(
+        &mut disk,
+        &layout,
+        spaces,
+        buffer.as_mut_slice(),
+        &mut guests,
+        &mut partitions,
+    ) {
+        Ok(()) => Ok((Store::opened(disk, guests, buffer), partitions)),
+        Err(fault) => Err((disk, fault)),
+    }
+}
