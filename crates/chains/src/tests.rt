@@ -24,6 +24,13 @@ fn descriptor(addr: u64, len: u32, third: u16, fourth: u16) -> [u8; 16] {
     bytes
 }
 
+fn put(memory: &mut Memory, at: u64, bytes: &[u8]) -> Result<(), Fail> {
+    match memory.write(at, bytes) {
+        Ok(()) => Ok(()),
+        Err(_) => Err(Fail::from("a write outside")),
+    }
+}
+
 // What the walk from place 0 of a ring of 4 answers on 65,536 bytes that hold these descriptors: 0
 // for a chain, else the refusal's number; and how many descriptors it read.
 fn answer(
@@ -34,18 +41,8 @@ fn answer(
     table: [[u8; 16]; 2],
 ) -> Result<(u64, u64), Fail> {
     let mut memory = Memory::new(alloc, 65536).ok().ok_or("no memory")?;
-    for i in 0..4 {
-        memory
-            .write(RING + 16 * i as u64, &ring[i])
-            .ok()
-            .ok_or("ring")?;
-    }
-    for i in 0..2 {
-        memory
-            .write(TABLE + 16 * i as u64, &table[i])
-            .ok()
-            .ok_or("table")?;
-    }
+    put(&mut memory, RING, ring.as_flattened())?;
+    put(&mut memory, TABLE, table.as_flattened())?;
     let area = Area {
         shape,
         base: RING,
@@ -148,57 +145,61 @@ fn packed_chains(rt: HostRuntime) -> Result<(), Fail> {
     Ok(())
 }
 
-#[test]
-fn gathers_and_scatters(rt: HostRuntime) -> Result<(), Fail> {
-    let mut memory = Memory::new(rt.alloc(), 65536).ok().ok_or("no memory")?;
-    memory
-        .write(0, &descriptor(4096, 8704, NEXT, 1))
-        .ok()
-        .ok_or("write")?;
-    memory
-        .write(16, &descriptor(2048, 3, NEXT, 2))
-        .ok()
-        .ok_or("write")?;
-    memory
-        .write(32, &descriptor(100, 2, NEXT + WRITE, 3))
-        .ok()
-        .ok_or("write")?;
-    memory
-        .write(48, &descriptor(200, 4, WRITE, 0))
-        .ok()
-        .ok_or("write")?;
-    memory.write(2048, &[5, 6, 7]).ok().ok_or("write")?;
+// Four descriptors: two to be read, the first of 8,704 bytes, and two to be written.
+fn offer(memory: &mut Memory) -> Result<(), Fail> {
+    put(memory, 0, &descriptor(4096, 8704, NEXT, 1))?;
+    put(memory, 16, &descriptor(2048, 3, NEXT, 2))?;
+    put(memory, 32, &descriptor(100, 2, NEXT + WRITE, 3))?;
+    put(memory, 48, &descriptor(200, 4, WRITE, 0))?;
+    put(memory, 2048, &[5, 6, 7])
+}
+
+// The chain of the ring's first place, and its request.
+fn chain_at_0(alloc: Global, memory: &Memory) -> Result<(Chain, Vec<u8>), Fail> {
     let area = Area {
         shape: Shape::SplitRing,
         base: 0,
         limit: 4,
         tables: false,
     };
-    assert!(rt; memory.contains(0, 64));
-    let mut reads = Reads::new();
-    let walked = walk(rt.alloc(), &memory, &mut reads, &area, 0)
-        .ok()
-        .ok_or("walk")?;
-    let request = walked.chain.gather(rt.alloc(), &memory)?;
-    assert_eq!(rt; request.len(), 8705);
-    assert_eq!(rt; request.last(), Some(&5));
-    assert_eq!(rt; walked.chain.writable_len(), 6);
-    assert!(rt; walked.chain.lies_in(&memory));
-    assert!(rt; walked.chain.writable_len() >= 3);
-    walked.chain.scatter(&mut memory, &[1, 2, 3]);
+    if !memory.contains(0, 64) {
+        return Err(Fail::from("no room for the ring"));
+    }
+    let Ok(walked) = walk(alloc, memory, &mut Reads::new(), &area, 0) else {
+        return Err(Fail::from("no chain"));
+    };
+    let request = walked.chain.gather(alloc, memory)?;
+    Ok((walked.chain, request))
+}
+
+fn scatters(chain: &Chain, memory: &mut Memory) -> bool {
+    if chain.writable_len() != 6 || !chain.lies_in(memory) {
+        return false;
+    }
+    chain.scatter(memory, &[1, 2, 3]);
+    true
+}
+
+fn holds(memory: &Memory, at: u64, bytes: [u8; 3]) -> bool {
     let mut out = [9; 3];
-    memory.read(100, &mut out).ok().ok_or("read")?;
-    assert_eq!(rt; out, [1, 2, 0]);
-    memory.read(200, &mut out).ok().ok_or("read")?;
-    assert_eq!(rt; out, [3, 0, 0]);
+    memory.read(at, &mut out).is_ok() && out == bytes
+}
+
+#[test]
+fn gathers_and_scatters(rt: HostRuntime) -> Result<(), Fail> {
+    let mut memory = Memory::new(rt.alloc(), 65536).ok().ok_or("no memory")?;
+    offer(&mut memory)?;
+    let (chain, request) = chain_at_0(rt.alloc(), &memory)?;
+    // A byte past the longest request, so that one that is too long can be told.
+    assert!(rt; request.len() == 8705 && request.last() == Some(&5));
+    assert!(rt; scatters(&chain, &mut memory));
+    assert!(rt; holds(&memory, 100, [1, 2, 0]) && holds(&memory, 200, [3, 0, 0]));
     Ok(())
 }
 
 #[test]
 fn a_chain_to_be_written(rt: HostRuntime) -> Result<(), Fail> {
-    let mut ranges = Vec::new(rt.alloc());
-    ranges.push(Range { at: 7, len: 9 })?;
-    let chain = Chain::of_writable(rt.alloc(), ranges);
-    assert_eq!(rt; chain.writable_len(), 9);
+    let ranges = Vec::from_array(rt.alloc(), [Range { at: 7, len: 9 }])?;
+    assert_eq!(rt; Chain::of_writable(rt.alloc(), ranges).writable_len(), 9);
     Ok(())
 }

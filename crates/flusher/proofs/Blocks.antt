@@ -1,12 +1,12 @@
 -- Entries over the blocks of a partition.
-use Rattle.std.proofs.Common.{◌≡◌, ◌≢◌, ◌⊎◌, inl, inr, ⊎_elim, Bool, true, false, Option, Some, None, ℕ, zero, suc, ◌+◌, ◌*◌, ◌-◌, ◌≤◌, ◌<◌, List, [], ◌∷◌, length, drop, get_or, refl, ap, sym, ◌∙◌, subst, arith}
-use Rattle.std.specs.Prelude.{slice_get, nat_lt, nat_le, ◌&&◌, if◌then◌else◌}
-use Rattle.std.proofs.lemmas.Bool.{cases_lt, cases_eq}
+use Rattle.std.proofs.Common.{◌≡◌, ◌⊎◌, inl, inr, ⊎_elim, Bool, true, false, Some, None, ℕ, zero, suc, ◌+◌, ◌*◌, ◌-◌, ◌≤◌, ◌<◌, List, [], ◌∷◌, length, drop, get_or, refl, ap, sym, ◌∙◌, subst, arith}
+use Rattle.std.specs.Prelude.{slice_get, nat_lt, if◌then◌else◌}
+use Rattle.std.proofs.lemmas.Bool.{cases_lt}
 use Rattle.std.proofs.lemmas.Bool.Decides.{nat_tests}
-use Rattle.disk.specs.Content.{Content, in_range, IsOutside}
+use Rattle.disk.specs.Content.{Content, IsOutside}
 use Rattle.disk.specs.Content.{over}
 use Rattle.intent_slots.specs.Layout.{Place, blocks_at}
-use Rattle.intent_slots.specs.Payload.{Entry, Group, EntryFits, Programs, Stores, EntriesFit, GroupFits}
+use Rattle.intent_slots.specs.Payload.{Entry, EntryFits, Programs, Stores, EntriesFit}
 use Rattle.intent_slots.specs.Recovered.{redo, blocks_of}
 use Rattle.intent_slots.proofs.Bytes.{SameOn}
 use Rattle.intent_slots.proofs.Over.{over_inside, over_outside}

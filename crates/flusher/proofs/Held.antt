@@ -1,15 +1,15 @@
 -- What a round keeps, for whatever the store holds for one guest.
-use Rattle.std.proofs.Common.{◌≡◌, ◌≢◌, ◌⊎◌, inl, inr, ⊎_elim, Bool, true, false, not, Option, Some, None, ℕ, suc, ◌+◌, ◌*◌, ◌-◌, ◌≤◌, ◌<◌, List, [], ◌∷◌, length, map, get_or, refl, ap, sym, ◌∙◌, subst, arith}
+use Rattle.std.proofs.Common.{◌≡◌, ◌≢◌, inl, inr, ⊎_elim, Bool, true, false, not, Option, Some, ℕ, suc, ◌+◌, ◌≤◌, ◌<◌, List, [], ◌∷◌, length, map, refl, ap, sym, ◌∙◌, subst, arith}
 use Rattle.std.specs.Prelude.{slice_get, slice_set, nat_lt, ◌||◌, if◌then◌else◌}
-use Rattle.std.proofs.lemmas.Bool.{cases_lt, cases_eq}
+use Rattle.std.proofs.lemmas.Bool.{cases_eq}
 use Rattle.std.proofs.lemmas.Bool.Decides.{nat_tests}
 use Rattle.disk.specs.Content.{Content, IsOutside, in_range}
-use Rattle.disk.specs.Disk.{DiskState, MayLeave, DiskCall, Write, Sync, Writes, Syncs, during}
+use Rattle.disk.specs.Disk.{DiskState, MayLeave, Write, Writes, Syncs, during}
 use Rattle.intent_slots.specs.Layout.{Place, AreApart, end_of}
 use Rattle.intent_slots.proofs.Bytes.{SameOn}
 use Rattle.intent_slots.specs.Recovered.{Part}
 use Rattle.flusher.specs.SlotInvariant.{IsHeldBy, settled_by}
-use Rattle.flusher.proofs.Blocks.{Where, Inside, Outside, where_is}
+use Rattle.flusher.proofs.Blocks.{Inside, Outside, where_is}
 use Rattle.flusher.proofs.Rows.{IsWritten}
 use Rattle.flusher.proofs.Writes.{SameOutside}
 use Rattle.flusher.proofs.Guests.{set_cases, map_cases, get_set_same, get_set_other}

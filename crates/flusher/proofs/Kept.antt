@@ -1,17 +1,16 @@
 -- What a whole round keeps, over any disk.
-use Rattle.std.proofs.Common.{◌≡◌, ◌≢◌, ◌⊎◌, inl, inr, ⊎_elim, Bool, true, false, not, Option, Some, None, Result, Ok, Err, ℕ, ◌+◌, ◌*◌, ◌≤◌, ◌<◌, List, length, map, refl, ap, sym, ◌∙◌, subst, arith}
+use Rattle.std.proofs.Common.{◌≡◌, Bool, true, false, not, Some, Result, Ok, ℕ, List, map, refl, sym, subst}
 use Rattle.std.specs.Prelude.{slice_get, slice_set, if◌then◌else◌}
-use Rattle.disk.specs.Disk.{DiskState, DiskCall, Read, Write, Sync, Effect, during, Within, Still, Then, Writes, Syncs}
+use Rattle.disk.specs.Disk.{DiskState, DiskCall, Write, Sync, Effect, during, Within, Still, Then, Writes, Syncs}
 use Rattle.flusher.specs.declared.guest.Guest.{Guest}
 use Rattle.flusher.specs.declared.progress.Progress.{Progress}
-use Rattle.flusher.specs.declared.progress.Progress.TheVariants.{Wrote, Synced, Idle}
+use Rattle.flusher.specs.declared.progress.Progress.TheVariants.{Wrote, Synced}
 use Rattle.flusher.specs.declared.progress.StoreFault.{StoreFault}
-use Rattle.flusher.specs.declared.progress.StoreFault.TheVariants.{DiskFault, Broken}
 use Rattle.flusher.specs.Marks.{marks_of}
 use Rattle.intent_slots.specs.Recovered.{Part}
 use Rattle.flusher.specs.Slot.{place_of, guest_write, guest_after_write, guest_after_sync}
 use Rattle.flusher.specs.SlotInvariant.{IsKept, guest_row, guest_seen, guest_settled, settled_by, IsHeld, EachStop}
-use Rattle.flusher.specs.Round.{Plan, WriteOf, SyncAll, Nothing, planned, Ends, Round, WriteRound, SyncRound, parts_after}
+use Rattle.flusher.specs.Round.{Plan, WriteOf, SyncAll, Nothing, planned, Ends, Round, parts_after}
 use Rattle.flusher.proofs.Table.{t_range, t_write, t_seen, t_stands, t_moved, t_frame, t_seen_frame, t_synced, t_synced_seen}
 use Rattle.flusher.proofs.Held.{Touches, touches_written, touches_during}
 use Rattle.flusher.proofs.Held as held_of

@@ -1,11 +1,11 @@
 -- How the rows go on: by a write elsewhere, by the slot's own write, by a sync.
-use Rattle.std.proofs.Common.{◌≡◌, ◌≢◌, ◌⊎◌, inl, inr, ⊎_elim, Bool, true, false, Option, Some, None, ℕ, zero, suc, ◌+◌, ◌*◌, ◌-◌, ◌≤◌, ◌<◌, List, [], ◌∷◌, length, drop, get_or, refl, ap, sym, ◌∙◌, subst, arith}
-use Rattle.std.specs.Prelude.{slice_get, ◌==◌, if◌then◌else◌}
+use Rattle.std.proofs.Common.{◌≡◌, ◌≢◌, inl, inr, ⊎_elim, Option, Some, None, ℕ, ◌+◌, ◌*◌, ◌<◌, List, [], ◌∷◌, length, drop, get_or, refl, ap, sym, ◌∙◌, subst, arith}
+use Rattle.std.specs.Prelude.{slice_get}
 use Rattle.std.proofs.lemmas.Bool.{cases_eq}
 use Rattle.std.proofs.lemmas.Bool.Decides.{nat_tests}
 use Rattle.disk.specs.Content.{Content, IsOutside}
-use Rattle.intent_slots.specs.Layout.{Place, SlotPlace, IsSlotPlace, end_of, blocks_at}
-use Rattle.intent_slots.specs.Payload.{Entry, Group, Intent, GroupFits, IsPayload}
+use Rattle.intent_slots.specs.Layout.{Place, SlotPlace, IsSlotPlace, blocks_at}
+use Rattle.intent_slots.specs.Payload.{Entry, Group, Intent}
 use Rattle.intent_slots.specs.Home.{IsHome}
 use Rattle.intent_slots.proofs.Bytes.{SameOn}
 use Rattle.intent_slots.proofs.Same.{same_payload, same_home, payload_short}
@@ -14,7 +14,7 @@ use Rattle.flusher.specs.declared.slot.Slot.TheVariants.{Empty, Given, Written, 
 use Rattle.intent_slots.specs.Recovered.{Part, HoldsHome, HasPayload, redone, redo, blocks_of, after, StandsFor, ByHome, ByPayload}
 use Rattle.intent_slots.specs.Payload.{last_of}
 use Rattle.flusher.specs.Slot.{skipped, next_write, NextWrite, NoWrite, PayloadWrite, GateWrite, BlocksWrite, HomeWrite, after_write, open_write, open_after, after_sync}
-use Rattle.flusher.specs.SlotInvariant.{settled, IsShut, IsWideOpen, Row, Seen, MayStand}
+use Rattle.flusher.specs.SlotInvariant.{settled, IsShut, Row, Seen, MayStand}
 use Rattle.flusher.proofs.Blocks.{same_blocks_of, redo_written, blocks_written, over_nothing, drop_at, drop_past, fits_at}
 
 pub same_pl : (place : Place) (side : SlotPlace) (c d : Content) (i : Group) → SameOn side.payload 16648 c d → HasPayload place side i c → HasPayload place side i d

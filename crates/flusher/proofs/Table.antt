@@ -1,10 +1,10 @@
 -- The rows of one guest, as a round asks for them.
-use Rattle.std.proofs.Common.{◌≡◌, ◌⊎◌, inl, inr, Bool, true, false, Option, Some, None, ℕ, ◌+◌, ◌*◌, ◌≤◌, ◌<◌, List, length, refl, ap, sym, ◌∙◌, subst, arith}
+use Rattle.std.proofs.Common.{◌≡◌, inl, inr, Option, Some, None, ℕ, ◌+◌, ◌*◌, ◌≤◌, List, length, refl, ap, arith}
 use Rattle.std.specs.Prelude.{slice_get}
 use Rattle.disk.specs.Content.{Content}
-use Rattle.intent_slots.specs.Layout.{Place, SlotPlace, slot_place, IsSlotPlace, end_of}
+use Rattle.intent_slots.specs.Layout.{Place, slot_place, IsSlotPlace, end_of}
 use Rattle.intent_slots.specs.declared.layout.Side.TheVariants.{A}
-use Rattle.intent_slots.specs.Payload.{Entry, Intent, last_of}
+use Rattle.intent_slots.specs.Payload.{Entry, Intent}
 use Rattle.intent_slots.proofs.Bytes.{SameOn}
 use Rattle.flusher.specs.declared.slot.Slot.{Slot}
 use Rattle.flusher.specs.declared.slot.Slot.TheVariants.{Empty, Given, Written, Ready, Opening, Open, Applying, Applied, Closing}
@@ -12,7 +12,7 @@ use Rattle.flusher.specs.declared.guest.Guest.{Guest}
 use Rattle.intent_slots.specs.Recovered.{Part}
 use Rattle.flusher.specs.Slot.{next_write, place_of, side_of, pending_of, settled_after, after_sync, guest_write, guest_after_write, guest_after_sync, after_write, open_after}
 use Rattle.flusher.specs.SlotInvariant.{guest_row, guest_seen, guest_settled, MayStand, BeforeOrAfter, Follows, IsMarked, IsKept, sequence_of_part, settled}
-use Rattle.flusher.proofs.Rows.{row_frame, seen_frame, IsWritten, own_write, own_seen, synced_row, synced_seen, Stands, row_stands}
+use Rattle.flusher.proofs.Rows.{row_frame, seen_frame, IsWritten, own_write, own_seen, synced_row, synced_seen, row_stands}
 use Rattle.flusher.proofs.Writes.{SameOutside, write_fits, within, keeps, puts}
 
 first_side : (place : Place) → IsSlotPlace place (slot_place place A)

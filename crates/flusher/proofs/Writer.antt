@@ -1,5 +1,5 @@
 -- The guest whose turn it is.
-use Rattle.std.proofs.Common.{◌≡◌, Bool, true, IsTrue, Option, Some, None, ℕ, zero, suc, arith, ◌+◌, ◌*◌, ◌^◌, ◌≤◌, ◌<◌, [], ◌∷◌, List, length, get_or, set, refl, ap, sym, ◌∙◌, subst, ⊎_elim, inl, inr, ◌⊎◌}
+use Rattle.std.proofs.Common.{◌≡◌, Bool, IsTrue, Option, Some, None, ℕ, arith, ◌*◌, ◌^◌, ◌≤◌, List, get_or, refl, ap, sym, ◌∙◌, subst, ⊎_elim, [], ◌∷◌, ◌+◌, zero, suc, length}
 use Rattle.std.specs.Prelude.{slice_get, slice_set, position, MatchOption}
 use Rattle.std.proofs.lemmas.List.Quantifiers.{position-Some}
 use Rattle.std.proofs.lemmas.Option.{slice_get-get_or}
@@ -16,8 +16,7 @@ use Rattle.flusher.specs.Slot.{guest_has_write}
 use Rattle.flusher.specs.Store.{AllFit, GuestFits, IntentFits}
 use Rattle.flusher.specs.Round.{WroteSlot}
 use Rattle.flusher.proofs.Guests.{set_cases, map_cases}
-use Rattle.std.specs.Prelude.{map, nat_le, ◌&&◌}
-use Rattle.std.proofs.lemmas.Bool.Decides.{nat_tests}
+use Rattle.std.specs.Prelude.{map}
 
 pub of_home : {D : Type 0} (makes : D → DiskCall → D → Type 0) (od nd : D) (ok : Bool) (place : Place) (side : SlotPlace) (i : Group) (o : Option Entry) (bytes : List ℕ) → o ≡ None → bytes ≡ home_bytes i.key (last_of i) → makes od (Write place.base bytes ok) nd → MatchOption (spelled place side (open_write i o)) ⊥ (λ w. makes od (Write w.0 w.1 ok) nd)
 of_home makes od nd ok place side i None bytes none is call = subst (λ (b : List ℕ). makes od (Write place.base b ok) nd) is call
@@ -115,3 +114,22 @@ module _ (xs : List Guest) (g : ℕ) (none : Guest) (next : position guest_has_w
       call = w.2;
       slots = ap (λ (v : Guest). slice_set xs g v) is;
     })
+
+-- a list of guests that fit, one after another
+pub none_fit : (len : ℕ) → AllFit len []
+none_fit len = record { each = λ g x at. absurd (none g x at) }
+  where
+    none : (g : ℕ) (x : Guest) → slice_get [] g ≡ Some x → ⊥
+    none zero x at = cc
+    none (suc g) x at = cc
+
+pub more_fit : (len : ℕ) (y : Guest) (ys : List Guest) → GuestFits len y → AllFit len ys → AllFit len (y ∷ ys)
+more_fit len y ys one rest = record { each = at }
+  where
+    at : (g : ℕ) (x : Guest) → slice_get (y ∷ ys) g ≡ Some x → GuestFits len x
+    at zero x is = (let same : y ≡ x = cc in subst (GuestFits len) same one)
+    at (suc g) x is = rest.each g x is
+
+-- a guest with nothing in its slot and nothing settled
+pub empty_fits : (len base capacity : ℕ) → base + 35328 + 131072 * capacity ≤ len → GuestFits len (record { base = base; capacity = capacity; settled = 0; slot = Empty })
+empty_fits len base capacity room = record { room = room; slot_fits = tt; mark = omega arith }

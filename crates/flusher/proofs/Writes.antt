@@ -1,20 +1,20 @@
 -- The bytes of a slot's next write do what the rows need.
-use Rattle.std.proofs.Common.{◌≡◌, ◌≢◌, ◌⊎◌, inl, inr, ⊎_elim, Bool, true, false, Option, Some, None, ℕ, zero, suc, ◌+◌, ◌*◌, ◌-◌, ◌^◌, ◌≤◌, ◌<◌, List, [], ◌∷◌, length, get_or, refl, ap, sym, ◌∙◌, subst, arith}
+use Rattle.std.proofs.Common.{◌≡◌, inl, inr, Option, Some, None, ℕ, ◌+◌, ◌*◌, ◌≤◌, List, [], ◌∷◌, length, refl, ap, sym, ◌∙◌, subst, arith}
 use Rattle.std.specs.Prelude.{slice_get}
 use Rattle.disk.specs.Content.{Content, IsOutside}
 use Rattle.intent_slots.specs.Layout.{Place, SlotPlace, IsSlotPlace, end_of, blocks_at}
-use Rattle.intent_slots.specs.Payload.{Entry, Group, Intent, GroupFits, payload_bytes, payload_length}
+use Rattle.intent_slots.specs.Payload.{Entry, Intent, GroupFits, payload_bytes}
 use Rattle.intent_slots.specs.Home.{home_bytes}
 use Rattle.intent_slots.proofs.Same.{payload_short}
 use Rattle.intent_slots.proofs.Again.{payload_written, home_written, length-payload_bytes, length-home_bytes}
 use Rattle.flusher.specs.declared.slot.Slot.{Slot}
 use Rattle.flusher.specs.declared.slot.Slot.TheVariants.{Empty, Given, Written, Ready, Opening, Open, Applying, Applied, Closing}
-use Rattle.intent_slots.specs.Recovered.{Part, HasPayload}
+use Rattle.intent_slots.specs.Recovered.{Part}
 use Rattle.intent_slots.specs.Payload.{last_of}
 use Rattle.flusher.specs.Slot.{NextWrite, NoWrite, PayloadWrite, GateWrite, BlocksWrite, HomeWrite, next_write, open_write, spelled}
 use Rattle.flusher.specs.SlotInvariant.{Row}
 use Rattle.flusher.proofs.Blocks.{fits_at}
-use Rattle.flusher.proofs.Rows.{SameBut, IsWritten, Keeps, Puts}
+use Rattle.flusher.proofs.Rows.{IsWritten, Keeps, Puts}
 
 abbrev pub SameOutside : Content → Content → ℕ → List ℕ → Type 0
 SameOutside c d at bytes = (k : ℕ) → IsOutside at (length bytes) k → d k ≡ c k

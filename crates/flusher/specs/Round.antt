@@ -1,5 +1,5 @@
 -- The one call that an advance makes (own).
-use Rattle.std.specs.Prelude.{◌≡◌, ◌⊎◌, ℕ, ◌+◌, ◌*◌, ◌≤◌, Bool, true, false, not, IsTrue, List, [], ◌∷◌, length, map, slice_get, slice_set, Option, Some, None, Result, Ok, Err, position, nat_le, ◌&&◌, if◌then◌else◌}
+use Rattle.std.specs.Prelude.{◌≡◌, ℕ, Bool, true, false, List, map, slice_get, slice_set, Option, Some, None, Result, Ok, Err, position, if◌then◌else◌}
 use Rattle.std.specs.List.{list_any}
 use Rattle.disk.specs.Disk.{DiskCall, Write, Sync}
 use Rattle.flusher.specs.declared.guest.Guest.{Guest}
@@ -8,7 +8,7 @@ use Rattle.flusher.specs.declared.progress.Call.TheVariants as call
 use Rattle.flusher.specs.declared.progress.Progress.{Progress}
 use Rattle.flusher.specs.declared.progress.Progress.TheVariants.{Wrote, Synced, Idle}
 use Rattle.flusher.specs.declared.progress.StoreFault.{StoreFault}
-use Rattle.flusher.specs.declared.progress.StoreFault.TheVariants.{DiskFault, Broken}
+use Rattle.flusher.specs.declared.progress.StoreFault.TheVariants.{DiskFault}
 use Rattle.intent_slots.specs.Recovered.{Part}
 use Rattle.flusher.specs.Slot.{guest_write, guest_has_write, guest_awaits, guest_after_write, guest_after_sync}
 use Rattle.flusher.specs.SlotInvariant.{guest_settled, settled_by}

@@ -1,5 +1,5 @@
 -- The store of all guests (own).
-use Rattle.std.specs.Prelude.{◌≡◌, ◌⊎◌, ℕ, ◌+◌, ◌*◌, ◌^◌, ◌<◌, ◌≤◌, Bool, true, false, ◌&&◌, List, length, slice_get, slice_set, Option, Some, None}
+use Rattle.std.specs.Prelude.{◌≡◌, ℕ, ◌+◌, ◌*◌, ◌^◌, ◌≤◌, Bool, true, false, List, length, slice_get, slice_set, Option, Some, None}
 use Rattle.intent_slots.specs.Layout.{end_of}
 use Rattle.intent_slots.specs.Payload.{Intent, GroupFits}
 use Rattle.flusher.specs.declared.slot.Slot.{Slot}

@@ -9,6 +9,8 @@ mod moving;
 mod progress;
 mod slot;
 mod store;
+#[cfg(test)]
+mod tests;
 mod writing;
 
 pub use guest::Guest;

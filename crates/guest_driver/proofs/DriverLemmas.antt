@@ -6,7 +6,7 @@ use Rattle.guest_memory.specs.Memory.{bytes_at, with_bytes}
 use Rattle.guest_driver.specs.declared.driver.Flight.{Flight}
 use Rattle.guest_driver.specs.declared.reaping.Reaped.{Reaped}
 use Rattle.guest_driver.specs.Layout.{needed, readable_at, writable_at}
-use Rattle.guest_driver.specs.Offered.{Offer, writable_descriptor, with_chain, with_readable, with_writable, with_available}
+use Rattle.guest_driver.specs.Offered.{Offer, writable_descriptor, with_chain, with_readable, with_writable, with_available, with_offer, avail_idx}
 use Rattle.guest_driver.specs.Driver.{DriverState, Keeps, Takes, Adds, has_two, offer_of, no_flight}
 use Rattle.guest_driver.specs.Reap.{used_idx, used_id, used_len, IsFlight, ComesBack}
 
@@ -43,13 +43,13 @@ keeps_offer size owners flights head last w x y k below in_range fits =
           ];
     }
 
-pub adds_is : (m m1 m' r : List ℕ) (w head last size available used : ℕ) (now : DriverState) (owners given : List (Option ℕ)) (flights : List Flight) (event_idx two : Bool)
-    → record { size = size; available = available; used = used; owners = owners; flights = flights; event_idx = event_idx } ≡ now → given ≡ owners
-    → needed size ≤ length m → length owners ≡ size → two ≡ has_two r w → Takes given two head last
-    → m1 ≡ with_chain m size (offer_of r w head last) → m' ≡ with_available m1 size available head
-    → Adds m now r w head m' (record { size = size; available = (available + 1) % 65536; used = used; owners = slice_set (slice_set owners head (Some head)) last (Some head); flights = slice_set flights head (record { last = last; writable = w }); event_idx = event_idx })
-adds_is m m1 m' r w head last size available used now owners given flights event_idx two view same inside sized is takes chain named =
-    let new : DriverState = record { size = size; available = (available + 1) % 65536; used = used; owners = slice_set (slice_set owners head (Some head)) last (Some head); flights = slice_set flights head (record { last = last; writable = w }); event_idx = event_idx } in
+pub adds_is : (m m1 m' r : List ℕ) (w head last size place used : ℕ) (now : DriverState) (owners given : List (Option ℕ)) (flights : List Flight) (event_idx two : Bool)
+    → record { size = size; used = used; owners = owners; flights = flights; event_idx = event_idx } ≡ now → given ≡ owners
+    → needed size ≤ length m → length owners ≡ size → two ≡ has_two r w → Takes given two head last → place ≡ avail_idx m size
+    → m1 ≡ with_chain m size (offer_of r w head last) → m' ≡ with_available m1 size place head
+    → Adds m now r w head m' (record { size = size; used = used; owners = slice_set (slice_set owners head (Some head)) last (Some head); flights = slice_set flights head (record { last = last; writable = w }); event_idx = event_idx })
+adds_is m m1 m' r w head last size place used now owners given flights event_idx two view same inside sized is takes at chain named =
+    let new : DriverState = record { size = size; used = used; owners = slice_set (slice_set owners head (Some head)) last (Some head); flights = slice_set flights head (record { last = last; writable = w }); event_idx = event_idx } in
     let P : DriverState → Type 0 = λ s. Adds m s r w head m' new in
     let Q : Bool → Type 0 = λ b. Takes owners b head last in
     subst P view (record {
@@ -57,19 +57,19 @@ adds_is m m1 m' r w head last size available used now owners given flights event
       inside = inside;
       sized = sized;
       takes = subst Q is (subst (λ (v : List (Option ℕ)). Takes v two head last) same takes);
-      written = named ∙ ap (λ v. with_available v size available head) chain;
+      written = named ∙ ap (λ v. with_available v size place head) chain ∙ ap (λ p. with_offer m size p (offer_of r w head last)) at;
       after = refl;
     })
 
-pub comes_back : (m : List ℕ) (size available used : ℕ) (owners : List (Option ℕ)) (flights : List Flight) (event_idx : Bool) (now : DriverState) (back : Reaped) (last : ℕ)
-    → record { size = size; available = available; used = used; owners = owners; flights = flights; event_idx = event_idx } ≡ now
+pub comes_back : (m : List ℕ) (size used : ℕ) (owners : List (Option ℕ)) (flights : List Flight) (event_idx : Bool) (now : DriverState) (back : Reaped) (last : ℕ)
+    → record { size = size; used = used; owners = owners; flights = flights; event_idx = event_idx } ≡ now
     → needed size ≤ length m → (used_idx m size ≢ used) → back.id ≡ used_id m size used → back.len ≡ used_len m size used
     → IsFlight now back.id back.len → back.bytes.items ≡ bytes_at m (writable_at size back.id) back.len
     → last ≡ (get_or flights back.id no_flight).last
-    → ComesBack m now back (record { size = size; available = available; used = (used + 1) % 65536; owners = slice_set (slice_set owners back.id None) last None; flights = flights; event_idx = event_idx })
-comes_back m size available used owners flights event_idx now back last view inside moved id len flight bytes last_is =
-    let new : DriverState = record { size = size; available = available; used = (used + 1) % 65536; owners = slice_set (slice_set owners back.id None) last None; flights = flights; event_idx = event_idx } in
-    let old : DriverState = record { size = size; available = available; used = used; owners = owners; flights = flights; event_idx = event_idx } in
+    → ComesBack m now back (record { size = size; used = (used + 1) % 65536; owners = slice_set (slice_set owners back.id None) last None; flights = flights; event_idx = event_idx })
+comes_back m size used owners flights event_idx now back last view inside moved id len flight bytes last_is =
+    let new : DriverState = record { size = size; used = (used + 1) % 65536; owners = slice_set (slice_set owners back.id None) last None; flights = flights; event_idx = event_idx } in
+    let old : DriverState = record { size = size; used = used; owners = owners; flights = flights; event_idx = event_idx } in
     let P : DriverState → Type 0 = λ s. ComesBack m s back new in
     subst P view (record {
       new = record { inside = inside; moved = moved };
@@ -77,7 +77,7 @@ comes_back m size available used owners flights event_idx now back last view ins
       len = len;
       flight = subst (λ (s : DriverState). IsFlight s back.id back.len) (sym view) flight;
       bytes = bytes;
-      after = ap (λ (l : ℕ). let s : DriverState = record { size = size; available = available; used = (used + 1) % 65536; owners = slice_set (slice_set owners back.id None) l None; flights = flights; event_idx = event_idx } in s) last_is;
+      after = ap (λ (l : ℕ). let s : DriverState = record { size = size; used = (used + 1) % 65536; owners = slice_set (slice_set owners back.id None) l None; flights = flights; event_idx = event_idx } in s) last_is;
     })
 
 pub chain_is : (m m1 m2 m3 : List ℕ) (size : ℕ) (c : Offer) (from : ℕ) → from ≡ readable_at size c.head → m1 ≡ with_bytes m from c.bytes

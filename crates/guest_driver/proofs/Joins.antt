@@ -2,12 +2,14 @@
 use Rattle.std.proofs.Common.{◌≡◌, ◌≢◌, ℕ, ◌+◌, ◌*◌, ◌%◌, ◌<◌, ◌≤◌, inl, inr, Bool, true, false, List, [], ◌∷◌, ◌++◌, length, replicate, zero, suc, get_or, slice_set, Option, Some, None, Ok, Err, refl, sym, ap, ◌∙◌, arith, subst, length-append}
 use Rattle.std.proofs.lemmas.List.{get_or-set_same, get_or-set_other, length-set, length-map, length-replicate}
 use Rattle.std.proofs.lemmas.Bool.{cases_eq, ne_eqb, eq-eqb}
-use Rattle.byteorder.specs.Endian.{little_bytes}
+use Rattle.std.proofs.lemmas.Nat.{mod_below}
+use Rattle.byteorder.specs.Endian.{little_bytes, little_number}
+use Rattle.byteorder.specs.Numbers.{little_number-reads_back}
 use Rattle.guest_memory.specs.Memory.{with_bytes}
 use Rattle.chains.specs.Ring.{RingState}
 use Rattle.guest_driver.specs.declared.fault.DriverFault.TheVariants.{NoRoom, OutOfRange, NoMemory, BadUsed}
 use Rattle.guest_driver.specs.Layout.{driver_area, avail_idx_at}
-use Rattle.guest_driver.specs.Offered.{Offer, IsOffer, Offers, with_chain, with_offer}
+use Rattle.guest_driver.specs.Offered.{Offer, IsOffer, Offers, with_chain, with_offer, avail_idx}
 use Rattle.guest_driver.specs.Used.{Reply}
 use Rattle.guest_driver.specs.Driver.{DriverState, owner, no_flight, Takes, has_two, offer_of, after_offer}
 use Rattle.guest_driver.specs.Law.{count, is_own, in_flight, IsKept, AreKept, offers_of, IsOffered, AnOfferJoins, ItBegins}
@@ -156,9 +158,14 @@ offer_wraps m size p c same =
     ap (λ s. with_bytes (with_bytes (with_chain m size c) (driver_area size + 4 + 2 * s) (little_bytes 2 c.head)) (avail_idx_at size) (little_bytes 2 ((p % 65536 + 1) % 65536))) same
     ∙ ap (λ i. with_bytes (with_bytes (with_chain m size c) (driver_area size + 4 + 2 * (p % size)) (little_bytes 2 c.head)) (avail_idx_at size) (little_bytes 2 i)) (next_index p)
 
+-- the index in the memory is that of the place after the chains offered
+index_offered : (m : List ℕ) (size popped : ℕ) (pending : List Offer) → Offers m size popped pending → avail_idx m size ≡ (popped + length pending) % 65536
+index_offered m size popped pending h =
+    ap (little_number 2) h.index ∙ little_number-reads_back 2 ((popped + length pending) % 65536) [] (mod_below (popped + length pending) 65536 (omega arith))
+
 joined : (m : List ℕ) (d : DriverState) (ring : RingState) (pending popped : List Offer) (published : List Reply) (r : List ℕ) (w head last : ℕ)
     → length r ≤ 8704 → w ≤ 8192 → 0 < length r + w → IsOffered m d ring pending popped published → Chosen d.owners r w head last
-    → IsOffered (with_offer m d.size d.available (offer_of r w head last)) (after_offer d head last w) ring (pending ++ offer_of r w head last ∷ []) popped published
+    → IsOffered (with_offer m d.size (avail_idx m d.size) (offer_of r w head last)) (after_offer d head last w) ring (pending ++ offer_of r w head last ∷ []) popped published
 joined m d ring pending popped published r w head last short small some h ch =
     let c = offer_of r w head last in
     let new = after_offer d head last w in
@@ -174,7 +181,8 @@ joined m d ring pending popped published r w head last short small some h ch =
     let few : length pending < size = omega (arith, fewer, long) in
     let apart = all_apart d pending c h.kept.0 ch.head_free ch.last_free in
     let slot = wraps size place h.setup.sizes.power h.setup.sizes.small in
-    let same : with_offer m size place c ≡ with_offer m size d.available c = sym (ap (λ v. with_offer m size v c) h.available ∙ offer_wraps m size place c slot) in
+    let index = index_offered m size ring.popped pending h.offers in
+    let same : with_offer m size place c ≡ with_offer m size (avail_idx m size) c = sym (ap (λ v. with_offer m size v c) index ∙ offer_wraps m size place c slot) in
     let longer : length (pending ++ c ∷ []) ≡ length pending + 1 = length-append pending (c ∷ []) in
     let kept_new : IsKept new c = record {
       below = omega (arith, hb, owned);
@@ -188,13 +196,12 @@ joined m d ring pending popped published r w head last short small some h ch =
       setup = h.setup;
       owned = length-set (slice_set d.owners head (Some head)) last (Some head) ∙ length-set d.owners head (Some head) ∙ owned;
       flown = length-set d.flights head (record { last = last; writable = w }) ∙ flown;
-      available = ap (λ v. (v + 1) % 65536) h.available ∙ next_index place ∙ ap (λ v. v % 65536) (omega (arith, longer));
       offers = subst (λ v. Offers v size ring.popped (pending ++ c ∷ [])) same (offers_more m size ring.popped place pending c refl few is apart h.offers);
       outstanding = h.outstanding;
       reaped = h.reaped;
       counted = h.counted;
       used = h.used;
-      replies = used_kept m (with_offer m size d.available c) size h.reaped published (offer_keeps_used m size d.available h.reaped c published is h.replies) h.replies;
+      replies = used_kept m (with_offer m size (avail_idx m size) c) size h.reaped published (offer_keeps_used m size (avail_idx m size) h.reaped c published is h.replies) h.replies;
       kept = (
         kept-append new pending (c ∷ []) (kept_stays d head last w pending ch.head_free ch.last_free h.kept.0) (kept_new, tt),
         kept_stays d head last w popped ch.head_free ch.last_free h.kept.1,
@@ -218,7 +225,7 @@ offer_joins m m' d d' ring pending popped published r w (Ok head) short small so
     let c = offer_of r w head a.last in
     let ch = chosen d.owners (has_two r w) r w head a.last refl a.takes in
     let P : List ℕ → DriverState → Type 0 = λ v s. IsOffered v s ring (pending ++ c ∷ []) popped published in
-    (a.last, subst (λ v. P v d') (sym a.written) (subst (P (with_offer m d.size d.available c)) (sym a.after) (joined m d ring pending popped published r w head a.last short small some h ch)))
+    (a.last, subst (λ v. P v d') (sym a.written) (subst (P (with_offer m d.size (avail_idx m d.size) c)) (sym a.after) (joined m d ring pending popped published r w head a.last short small some h ch)))
 offer_joins m m' d d' ring pending popped published r w (Err NoRoom) short small some h a = refused m m' d d' ring pending popped published a.untouched a.same h
 offer_joins m m' d d' ring pending popped published r w (Err OutOfRange) short small some h a = refused m m' d d' ring pending popped published a.untouched a.same h
 offer_joins m m' d d' ring pending popped published r w (Err NoMemory) short small some h a = absurd a
@@ -234,7 +241,6 @@ it_begins m places size event_idx room setup offered used = record {
   setup = setup;
   owned = length-replicate size None;
   flown = length-replicate size no_flight;
-  available = refl;
   offers = record { inside = room; few = omega arith; index = offered; each = tt };
   outstanding = tt;
   reaped = 0;

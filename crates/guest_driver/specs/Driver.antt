@@ -4,12 +4,11 @@ use Rattle.guest_driver.specs.declared.driver.Flight.{Flight}
 use Rattle.guest_driver.specs.declared.fault.DriverFault.{DriverFault}
 use Rattle.guest_driver.specs.declared.fault.DriverFault.TheVariants.{NoRoom, OutOfRange, NoMemory, BadUsed}
 use Rattle.guest_driver.specs.Layout.{needed}
-use Rattle.guest_driver.specs.Offered.{Offer, with_offer}
+use Rattle.guest_driver.specs.Offered.{Offer, with_offer, avail_idx}
 
 pub record DriverState : Type 0 where
   pub size : ℕ
-  -- the index of the next place of the available ring, and of the used ring, modulo 65,536
-  pub available : ℕ
+  -- the index of the used ring's next place, modulo 65,536
   pub used : ℕ
   -- of each descriptor: the head of the chain that it belongs to, where it isn't free
   pub owners : List (Option ℕ)
@@ -69,7 +68,6 @@ Chooses owners two None = HasTooFew owners two
 abbrev pub first_driver : ℕ → Bool → DriverState
 first_driver size event_idx = record {
   size = size;
-  available = 0;
   used = 0;
   owners = replicate size None;
   flights = replicate size no_flight;
@@ -82,7 +80,6 @@ offer_of readable writable head last = record { head = head; last = last; bytes 
 -- the driver with a chain more
 abbrev pub after_offer : DriverState → ℕ → ℕ → ℕ → DriverState
 after_offer driver head last writable = record driver {
-  available = (driver.available + 1) % 65536;
   owners = slice_set (slice_set driver.owners head (Some head)) last (Some head);
   flights = slice_set driver.flights head (record { last = last; writable = writable });
 }
@@ -92,13 +89,14 @@ pub record HasSameQueue (driver driver' : DriverState) : Type 0 where
   pub size : driver'.size ≡ driver.size
   pub event_idx : driver'.event_idx ≡ driver.event_idx
 
--- the driver and the memory gained a chain, of the lowest descriptors that were free
+-- The driver and the memory gained a chain, of the lowest descriptors that were free, at the place
+-- that the index in the memory names.
 pub record Adds (memory : List ℕ) (driver : DriverState) (readable : List ℕ) (writable head : ℕ) (memory' : List ℕ) (driver' : DriverState) : Type 0 where
   pub last : ℕ
   pub inside : needed driver.size ≤ length memory
   pub sized : length driver.owners ≡ driver.size
   pub takes : Takes driver.owners (has_two readable writable) head last
-  pub written : memory' ≡ with_offer memory driver.size driver.available (offer_of readable writable head last)
+  pub written : memory' ≡ with_offer memory driver.size (avail_idx memory driver.size) (offer_of readable writable head last)
   pub after : driver' ≡ after_offer driver head last writable
 
 -- nothing changed, for a reason

@@ -62,7 +62,6 @@ pub record IsOffered (memory : List ℕ) (driver : DriverState) (ring : RingStat
   pub setup : IsSetUp ring driver.size
   pub owned : length driver.owners ≡ driver.size
   pub flown : length driver.flights ≡ driver.size
-  pub available : driver.available ≡ (ring.popped + length pending) % 65536
   pub offers : Offers memory driver.size ring.popped pending
   pub outstanding : AreOutstanding ring.outstanding popped
   -- how many chains were reaped

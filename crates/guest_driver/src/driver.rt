@@ -6,7 +6,7 @@ ghost use Rattle.guest_driver.specs.Reap.{Reaps, IsFlight};
 use crate::fault::DriverFault;
 use crate::layout::has_layout;
 use crate::negotiation::{is_in_service, make_areas, write_registers};
-use crate::offering::{descriptors, has_two, make_available, write_chain};
+use crate::offering::{available_idx, descriptors, has_two, make_available, write_chain};
 use crate::reaping::{Reaped, used_element, used_idx, written};
 use chains::NoMemory;
 use mmio_transport::Device;
@@ -25,12 +25,12 @@ pub struct Flight {
 
 /// The driver of one split queue.
 ///
-/// A contract sees which descriptors are in use, and the two indexes, each modulo 65,536.
+/// A contract sees which descriptors are in use, and the used ring's index, modulo 65,536. The available
+/// ring's index stands in guest memory alone.
 #[derive(Drop)]
 pub struct Driver {
     alloc: Global,
     size: u16,
-    available: u16,
     used: u16,
     owners: Vec<Option<u16>>,
     flights: Vec<Flight>,
@@ -42,7 +42,7 @@ impl Model for Driver {
 
     ghost Value = { DriverState };
 
-    ghost view = { λ d. record { size = d.size; available = d.available; used = d.used; owners = d.owners.items; flights = d.flights.items; event_idx = d.event_idx } };
+    ghost view = { λ d. record { size = d.size; used = d.used; owners = d.owners.items; flights = d.flights.items; event_idx = d.event_idx } };
 
     ghost invariant = { λ d. Keeps d.size d.owners.items d.flights.items };
 }
@@ -62,7 +62,6 @@ impl Driver {
         Ok(Driver {
             alloc,
             size,
-            available: 0,
             used: 0,
             owners,
             flights,
@@ -92,7 +91,6 @@ impl Driver {
     fn forget(&mut self)
         ensures { self.new ≡ first_driver self.old.size self.old.event_idx }
     {
-        self.available = 0;
         self.used = 0;
         self.owners.fill(None);
         self.flights.fill(Flight {
@@ -102,7 +100,8 @@ impl Driver {
     }
 
     /// Offers a chain: these bytes for the device to read, and room for `writable` bytes that it may
-    /// write (VIRTIO 1.2, 2.7.13). Answers its head, which is its id. It takes no memory.
+    /// write (VIRTIO 1.2, 2.7.13). Answers its head, which is its id. It takes no memory. The chain comes to
+    /// the place that the index in guest memory names, so whoever stores into it moves the place.
     ///
     /// Answers `NoRoom` exactly where too few descriptors are free, and `OutOfRange` where enough
     /// are and the memory is smaller than the layout; then nothing changes.
@@ -129,9 +128,9 @@ impl Driver {
         self.owners[head as usize] = Some(head);
         self.owners[last as usize] = Some(head);
         self.flights[head as usize] = Flight { last, writable };
+        let place = available_idx(device, self.size);
         write_chain(device, self.size, head, last, readable, writable);
-        make_available(device, self.size, self.available, head);
-        self.available = ((self.available as u32 + 1) % 65536) as u16;
+        make_available(device, self.size, place, head);
         Ok(head)
     }
 

@@ -3,7 +3,7 @@ ghost use Rattle.guest_memory.specs.Memory.{bytes_at};
 ghost use Rattle.guest_driver.specs.Layout.{needed, writable_at};
 ghost use Rattle.guest_driver.specs.Reap.{used_idx, used_id, used_len};
 
-use crate::access::fetch;
+use crate::access::{fetch, fetch_u16};
 use crate::layout::{device_area, writable_at};
 use byteorder::{ByteOrder, LittleEndian};
 use mmio_transport::Device;
@@ -32,9 +32,7 @@ pub(crate) fn used_idx(device: &Device, size: u16) -> u16
     requires { needed size ≤ length device.now.memory }
     ensures { result ≡ used_idx device.now.memory size }
 {
-    let mut index = [0; 2];
-    fetch(device, device_area(size) + 2, &mut index);
-    LittleEndian::read_u16(&index)
+    fetch_u16(device, device_area(size) + 2)
 }
 
 /// The element at a place of the used ring.

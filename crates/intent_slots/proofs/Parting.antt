@@ -1,12 +1,13 @@
 -- Which partition a content holds.
-use Rattle.std.proofs.Common.{◌≡◌, ◌⊎◌, inl, inr, Bool, true, false, Some, [], ◌∷◌, ℕ, ◌+◌, ◌*◌, ◌-◌, ◌≤◌, ◌<◌, length, refl, ap, sym, ◌∙◌, arith}
+use Rattle.std.proofs.Common.{◌≡◌, ◌⊎◌, inl, inr, Bool, true, false, Some, List, [], ◌∷◌, ◌++◌, length-append, ℕ, ◌+◌, ◌*◌, ◌-◌, ◌≤◌, ◌<◌, length, refl, ap, sym, ◌∙◌, arith}
 use Rattle.std.specs.Prelude.{nat_lt, if◌then◌else◌}
 use Rattle.std.proofs.lemmas.Bool.{cases_lt}
 use Rattle.std.proofs.lemmas.Bool.Decides.{nat_tests}
 use Rattle.disk.specs.Content.{Content, over}
 use Rattle.rpmb_frame.specs.Partition.{overwritten}
 use Rattle.intent_slots.specs.Layout.{Place, blocks_at, end_of}
-use Rattle.intent_slots.specs.Recovered.{redo, blocks_of, redone, ByHome, ByPayload, OnePart, PartIsItsBytes, RedoOverwrites, RedoInTurn}
+use Rattle.intent_slots.specs.Payload.{Entry, last_of}
+use Rattle.intent_slots.specs.Recovered.{redo, blocks_of, redone, ByHome, ByPayload, OnePart, PartIsItsBytes, RedoOverwrites, AfterOverwrites, AfterInTurn}
 use Rattle.intent_slots.proofs.Same.{same_home, same_payload, payload_short}
 use Rattle.intent_slots.proofs.Homes.{one_home}
 use Rattle.intent_slots.proofs.Decoding.{one_group}
@@ -74,6 +75,20 @@ pub redo_over : RedoOverwrites
 unfolding overwritten
 redo_over e blocks fits = sym (put_content (256 * e.address) (length e.blocks) blocks e.blocks refl fits)
 
-pub redo_turn : RedoInTurn
+pub after_one : AfterOverwrites
+after_one p key counter e fits =
+    let blocks = redo_over e p.blocks fits in
+    let last : counter + (length (e ∷ []) - 1) ≡ counter = omega arith in
+    λ i. record { key = Some key; counter = last i; blocks = blocks i }
+
+redo_turn : (es fs : List Entry) (c : Content) → redo (es ++ fs) c ≡ redo fs (redo es c)
 redo_turn [] fs c = refl
 redo_turn (e ∷ es) fs c = redo_turn es fs (over (256 * e.address) e.blocks c)
+
+pub after_turn : AfterInTurn
+after_turn p i e some =
+    let long = length-append i.entries (e ∷ []) in
+    let last : i.first + (length (i.entries ++ e ∷ []) - 1) ≡ last_of i + 1 + (length (e ∷ []) - 1) =
+    omega (arith, long, some) in
+    let blocks = redo_turn i.entries (e ∷ []) p.blocks in
+    λ k. record { key = Some i.key; counter = last k; blocks = blocks k }

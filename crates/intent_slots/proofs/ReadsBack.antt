@@ -5,11 +5,11 @@ use Rattle.byteorder.specs.Endian.{big_bytes}
 use Rattle.byteorder.specs.Numbers.{big_number-reads_back, length-bytes_high_first}
 use Rattle.disk.specs.Content.{Content, bytes_at, content_of, zeros}
 use Rattle.intent_slots.specs.Fields.{number_at, Agree}
-use Rattle.intent_slots.specs.Header.{magic, header_bytes, HasMagic, HasCapacities}
+use Rattle.intent_slots.specs.Header.{magic, header_bytes, HasMagic, HasCapacities, HeaderIsItsBytes}
 use Rattle.intent_slots.specs.Home.{IsHome, Unkeyed, home_bytes, HomeReadsBack, HomeIsItsBytes}
 use Rattle.intent_slots.specs.Payload.{payload_bytes, PayloadReadsBack, PayloadIsItsBytes}
 use Rattle.intent_slots.proofs.Ranges.{range_bytes}
-use Rattle.intent_slots.proofs.Same.{same_list, same_number, same_home, same_payload}
+use Rattle.intent_slots.proofs.Same.{part, same_list, same_number, same_home, same_payload}
 use Rattle.intent_slots.proofs.Over.{get_bytes, number_of_list}
 use Rattle.intent_slots.proofs.Again.{home_written, payload_written, length-home_bytes}
 use Rattle.intent_slots.proofs.Buffers.{zeros_content}
@@ -99,3 +99,14 @@ module _ (cs : List ℕ) (c : Content) (few : length cs ≤ 64)
         (let n : length cs ≡ length others = sym number_back ∙ other.guests in sym each_back
         ∙ ap (bytes_at c 10) n ∙ other.each),
   )
+
+pub header_own : (c d : Content) → Agree c 0 d 0 74 → HeaderIsItsBytes c d
+unfolding HasMagic
+header_own c d alike = record {
+  same_magic = λ is. sym (same_list c 0 d 0 8 (part c 0 d 0 74 8 0 (omega arith) alike)) ∙ is;
+  same_capacities = λ cs few is. record {
+    guests = sym (same_number c 8 d 8 2 (part c 0 d 0 74 2 8 (omega arith) alike)) ∙ is.guests;
+    each = sym (same_list c 10 d 10 (length cs) (part c 0 d 0 74 (length cs) 10 (omega (arith, few)) alike))
+        ∙ is.each;
+  };
+}

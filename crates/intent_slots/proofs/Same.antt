@@ -6,7 +6,7 @@ use Rattle.intent_slots.specs.Payload.{Entry, Group, EntryFits, Programs, Stores
 use Rattle.intent_slots.specs.Home.{IsHome, Unkeyed, Keyed}
 
 -- a part of places that agree
-part : (c : Content) (at : ℕ) (d : Content) (bt m n off : ℕ) → off + n ≤ m → Agree c at d bt m
+pub part : (c : Content) (at : ℕ) (d : Content) (bt m n off : ℕ) → off + n ≤ m → Agree c at d bt m
     → Agree c (at + off) d (bt + off) n
 part c at d bt m n off fits same k lt = (let e : at + off + k ≡ at + (off + k) = omega arith in
     let f : bt + (off + k) ≡ bt + off + k = omega arith in ap c e ∙ same (off + k) (omega arith) ∙ ap d f)

@@ -64,6 +64,14 @@ abbrev pub RedoOverwrites : Type 0
 RedoOverwrites = (e : Entry) (blocks : List ℕ) → 256 * e.address + length e.blocks ≤ length blocks
     → redo (e ∷ []) (content_of blocks) ≡ content_of (overwritten (256 * e.address) e.blocks blocks)
 
--- entries that stand behind others are redone after them
-abbrev pub RedoInTurn : Type 0
-RedoInTurn = (es fs : List Entry) (c : Content) → redo (es ++ fs) c ≡ redo fs (redo es c)
+-- what one request makes of a partition's model
+abbrev pub AfterOverwrites : Type 0
+AfterOverwrites = (p : Partition) (key : List ℕ) (counter : ℕ) (e : Entry) → 256 * e.address + length e.blocks ≤ length p.blocks
+    → after (part_of p) (record { key = key; first = counter; entries = e ∷ [] })
+    ≡ part_of (record p { key = Some key; counter = counter; blocks = overwritten (256 * e.address) e.blocks p.blocks })
+
+-- a group with one more request is the group, and then that request
+abbrev pub AfterInTurn : Type 0
+AfterInTurn = (p : Part) (i : Group) (e : Entry) → 1 ≤ length i.entries
+    → after p (record { key = i.key; first = i.first; entries = i.entries ++ e ∷ [] })
+    ≡ after (after p i) (record { key = i.key; first = last_of i + 1; entries = e ∷ [] })

@@ -43,7 +43,8 @@ impl Entry {
         }
     }
 
-    /// A DATA_WRITE of at most 4,096 bytes of blocks from an address on.
+    /// A DATA_WRITE of at most 4,096 bytes of blocks from an address on. Without a byte, at address 0, it is
+    /// a PROGRAM_KEY.
     pub fn write(address: u16, blocks: Vec<u8>) -> Entry
         requires { length blocks.items ≤ 4096 }
         ensures { result ≡ record { address = address; blocks = blocks.items } }
@@ -88,7 +89,7 @@ impl Entry {
 
     /// Puts the entry's fields into their places.
     pub(crate) fn put(&self, out: &mut [u8], at: usize, key: &[u8; 32], counter: u32)
-        requires { at + 4160 ≤ length out.old }
+        requires { at + 64 + length self.now.blocks ≤ length out.old }
         ensures content { content_of out.new ≡ entry_over at key.now counter self.now (content_of out.old) }
         ensures len { length out.new ≡ length out.old }
     {

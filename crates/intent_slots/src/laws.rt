@@ -1,12 +1,16 @@
 //! Laws of the definitions.
-ghost use Rattle.intent_slots.specs.Header.{HeaderReadsBack};
+ghost use Rattle.intent_slots.specs.Header.{HeaderReadsBack, HeaderIsItsBytes};
+ghost use Rattle.disk.specs.Content.{Content};
+ghost use Rattle.intent_slots.specs.Fields.{Agree};
 ghost use Rattle.intent_slots.specs.Home.{HomeReadsBack, HomeIsItsBytes, OneHome};
 ghost use Rattle.intent_slots.specs.Payload.{PayloadReadsBack, PayloadIsItsBytes, OneGroup};
-ghost use Rattle.intent_slots.specs.Recovered.{OnePart, PartIsItsBytes, RedoOverwrites, RedoInTurn};
+ghost use Rattle.intent_slots.specs.Recovered.{OnePart, PartIsItsBytes, RedoOverwrites, AfterOverwrites, AfterInTurn};
 
-/// A header that was written is that of its board, and of no other.
+/// A header that was written is that of its board, and of no other; it speaks of the first 74 bytes
+/// alone.
 pub fn header_reads_back()
-    ensures { HeaderReadsBack }
+    ensures same { HeaderReadsBack }
+    ensures own_bytes { (c d : Content) → Agree c 0 d 0 74 → HeaderIsItsBytes c d }
 {}
 
 /// A home record that was written is well formed and holds what was written; it speaks of its 64 bytes
@@ -31,8 +35,10 @@ pub fn one_partition()
     ensures own_bytes { PartIsItsBytes }
 {}
 
-/// To redo an entry is to overwrite the partition's blocks, and entries are redone in turn.
-pub fn redo_overwrites()
-    ensures one { RedoOverwrites }
-    ensures in_turn { RedoInTurn }
+/// What a request makes of a partition: its blocks are overwritten, under the key and the counter that
+/// the request leaves. A group with one more request is the group, and then that request.
+pub fn requests_in_turn()
+    ensures blocks { RedoOverwrites }
+    ensures one { AfterOverwrites }
+    ensures in_turn { AfterInTurn }
 {}

@@ -18,7 +18,7 @@ pub use header::HeaderFault;
 pub use home::Home;
 pub use intent::Intent;
 pub use laws::{
-    header_reads_back, home_reads_back, one_partition, payload_reads_back, redo_overwrites,
+    header_reads_back, home_reads_back, one_partition, payload_reads_back, requests_in_turn,
 };
 pub use layout::{
     Layout, OPEN_GATE, SHUT_GATE, Side, VERSION_PLACE, partitions_lie_inside,

@@ -1,4 +1,4 @@
-ghost use Rattle.std.specs.Prelude.{◌≡◌, ◌+◌, ◌-◌, ◌<◌, ◌≤◌, ◌*◌, ◌^◌, ◌↔◌, IsTrue, IfSome, None, length, take, vec_capacity};
+ghost use Rattle.std.specs.Prelude.{◌≡◌, ◌+◌, ◌-◌, ◌<◌, ◌≤◌, ◌*◌, ◌^◌, ◌↔◌, IsTrue, IfSome, None, length, take, drop, vec_capacity};
 ghost use Rattle.disk.specs.Content.{content_of};
 ghost use Rattle.intent_slots.specs.Payload.{Group, IsPayload, payload_bytes, payload_length};
 
@@ -64,14 +64,24 @@ impl Intent {
         8 + STRIDE * last + 64 + entry.blocks().len()
     }
 
-    /// Writes the payload to the front of a buffer, and zeros behind it. A byte with the number of
+    /// Writes the payload to the front of a buffer, and leaves the rest of it. A byte with the number of
     /// entries and 7 zeros, then each entry 4,160 bytes after the one before: the sequence in 8 bytes
     /// of big endian, the kind (PROGRAM_KEY 1, DATA_WRITE 3), the key in 32, the counter in 4, the
-    /// address and the number of blocks in 2 each, 15 zeros, and the blocks.
+    /// address and the number of blocks in 2 each, 15 zeros, and the blocks. Gaps are zeros.
     pub fn encode(&self, out: &mut [u8])
         requires { length out.old ≡ 16_648 }
         ensures bytes { take (payload_length self.now.group) out.new ≡ payload_bytes self.now.group }
+        ensures rest { drop (payload_length self.now.group) out.new ≡ drop (payload_length self.now.group) out.old }
         ensures buffer { length out.new ≡ 16_648 }
+    {
+        let len = self.payload_len();
+        self.fill(&mut out[..len]);
+    }
+
+    /// Fills a buffer of just its length with the payload.
+    fn fill(&self, out: &mut [u8])
+        requires { length out.old ≡ payload_length self.now.group }
+        ensures { out.new ≡ payload_bytes self.now.group }
     {
         out.fill(0);
         let entries = self.entries.as_slice();

@@ -2,6 +2,7 @@ mod probe;
 mod queue;
 mod registers;
 mod sessions;
+mod step;
 
 use crate::{Device, Done, Job};
 use rpmb_frame::{GuestConfig, RingKind};
@@ -103,34 +104,28 @@ fn negotiate(device: &mut Device) {
 fn live_device(alloc: Global) -> Result<Device, Fail> {
     let mut device = fresh_device(alloc)?;
     negotiate(&mut device);
-    if device.read(STATUS, 4) != 15 || device.read(QUEUE_READY, 4) != 1 {
-        return Err(Fail::from("the device isn't live"));
+    if is_live(&device) {
+        Ok(device)
+    } else {
+        Err(Fail::from("the device isn't live"))
     }
-    Ok(device)
 }
 
-fn store(device: &mut Device, at: u64, bytes: &[u8]) -> Result<(), Fail> {
-    device.store(at, bytes).ok().ok_or("a store outside")?;
-    Ok(())
+fn is_live(device: &Device) -> bool {
+    device.read(STATUS, 4) == 15 && device.read(QUEUE_READY, 4) == 1
 }
 
 // struct virtq_desc of VIRTIO 1.2, 2.7.5: le64 addr, le32 len, le16 flags, le16 next.
-fn descriptor(addr: u64, len: u32, flags: u16, next: u16) -> [u8; 16] {
+type Descriptor = (u64, u32, u16, u16);
+
+fn descriptor(fields: Descriptor) -> [u8; 16] {
+    let (addr, len, flags, next) = fields;
     let mut bytes = [0; 16];
     bytes[..8].copy_from_slice(&addr.to_le_bytes());
     bytes[8..12].copy_from_slice(&len.to_le_bytes());
     bytes[12..14].copy_from_slice(&flags.to_le_bytes());
     bytes[14..].copy_from_slice(&next.to_le_bytes());
     bytes
-}
-
-// The chain of descriptors 1 and 3: four bytes to be read at 1,000 and eight to be written at 2,000.
-fn offer(device: &mut Device) -> Result<(), Fail> {
-    store(device, 16, &descriptor(1000, 4, 1, 3))?;
-    store(device, 48, &descriptor(2000, 8, 2, 0))?;
-    store(device, 1000, &[1, 2, 3, 4])?;
-    store(device, AVAIL_RING, &[1, 0])?;
-    store(device, AVAIL_IDX, &[1, 0])
 }
 
 // All of guest memory, as a sum in which each byte counts by its place.
@@ -151,8 +146,9 @@ fn fingerprint(device: &Device) -> Result<u64, Fail> {
 
 // The reply of these bytes to a job.
 fn answer(alloc: Global, job: Job, bytes: &[u8], need: u64) -> Result<Done, Fail> {
-    let mut reply = Vec::new(alloc);
-    reply.extend_from_slice(bytes).ok().ok_or("no memory")?;
+    let Ok(reply) = bytes.to_vec(alloc) else {
+        return Err(Fail::from("no memory"));
+    };
     if reply.len() as u64 > job.writable() {
         return Err(Fail::from("no room for the reply"));
     }

@@ -36,6 +36,8 @@ pub struct Book {
     guests: Vec<GuestState>,
     submits: u64,
     history: History,
+    /// Where a reply is built: no request has to clear or make it.
+    reply: Box<[u8; 8192]>,
 }
 
 impl Model for Book {
@@ -65,6 +67,7 @@ impl Book {
     {
         let count = config.guests().len();
         let history = History::new(alloc, count)?;
+        let reply = Box::new(alloc, [0; 8192])?;
         let tallies = tallies(alloc, count)?;
         let sequences = sequences(alloc, &partitions)?;
         let opening = copied_guests(alloc, config, &partitions)?;
@@ -75,6 +78,7 @@ impl Book {
             guests,
             submits: 0,
             history,
+            reply,
         };
         Ok((book, tallies, Shares::of(sequences)))
     }
@@ -126,7 +130,7 @@ impl Book {
             number: self.history.len() as u64,
         };
         let guest = &mut self.guests[usize::from(job.guest())];
-        let made = match guest.submit(alloc, job) {
+        let made = match guest.submit(alloc, job, &mut self.reply) {
             Err(job) => return Err((job, Refused::NoMemory)),
             Ok(made) => made,
         };

@@ -101,8 +101,8 @@ impl GuestCore {
         })
     }
 
-    /// Answers a job as planned. It takes no memory.
-    pub fn carry_out(&mut self, job: &Job, plan: Plan) -> Answer
+    /// Answers a job as planned, and builds its reply in `out`. It takes no memory.
+    pub fn carry_out(&mut self, job: &Job, plan: Plan, out: &mut [u8; 8192]) -> Answer
         requires { IsPlanned self.old job.now plan }
         ensures core { self.new ≡ core_after self.old job.now }
         ensures reply { result.reply.items ≡ answer self.old job.now }
@@ -122,10 +122,9 @@ impl GuestCore {
         change(&mut self.partition, &request, is_accepted);
         let outcome = Outcome::of(&request, code, self.partition.counter());
         self.last = keep(self.last, job.session(), outcome);
-        let mut out = [0; 8192];
         let len = self
             .partition
-            .reply(&request, code, outcome_in(self.last), &mut out);
+            .reply(&request, code, outcome_in(self.last), out);
         reply.copy_from_slice(&out[..len]);
         copy.copy_from_slice(&out[..len]);
         Answer {

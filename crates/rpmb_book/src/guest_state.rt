@@ -70,8 +70,14 @@ impl GuestState {
         self.held.len()
     }
 
-    /// Answers a job, and hands it back where memory is refused. All growths come first.
-    pub fn submit(&mut self, alloc: Global, job: Job) -> Result<Submission, Job>
+    /// Answers a job, whose reply is built in `out`, and hands it back where memory is refused. All
+    /// growths come first.
+    pub fn submit(
+        &mut self,
+        alloc: Global,
+        job: Job,
+        out: &mut [u8; 8192],
+    ) -> Result<Submission, Job>
         requires { self.old.submits < 2 ^ 64 - 1 }
         ensures ok { IfOk result (λ w. w ≡ record { job = job; reply = answer self.old.core job }) }
         ensures state { IfOk result (λ w. self.new ≡ submitted job self.old) }
@@ -94,7 +100,7 @@ impl GuestState {
             copy,
             need,
             entry,
-        } = self.core.carry_out(&job, plan);
+        } = self.core.carry_out(&job, plan, out);
         self.held.push_reserved(Held::of(held_job, reply, need));
         match entry {
             None => {}

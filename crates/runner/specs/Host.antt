@@ -1,12 +1,13 @@
 -- All guests of a board, and the book that answers them.
-use Rattle.std.specs.Prelude.{◌≡◌, ℕ, ◌+◌, ◌<◌, List, length, get_or, replicate, All, Some, slice_get, slice_set, Result, Ok, Err}
+use Rattle.std.specs.Prelude.{◌≡◌, ℕ, ◌+◌, ◌<◌, List, length, get_or, replicate, All, Option, Some, None, slice_get, slice_set, Result, Ok, Err}
 use Rattle.rpmb_frame.specs.declared.config.GuestConfig.{GuestConfig}
 use Rattle.rpmb_frame.specs.declared.config.RingKind.TheVariants.{Split}
 use Rattle.mmio_transport.specs.Device.{last_count}
-use Rattle.runner.specs.Guest.{GuestView}
+use Rattle.runner.specs.Guest.{GuestView, StoresInto, StaysStuck}
 use Rattle.runner.specs.Ready.{IsReady, IsUsedWith, job_of}
 use Rattle.runner.specs.Runner.{RunnerView, cores_after, fresh_view, reply_of}
 use Rattle.runner.specs.declared.fault.HostFault.{HostFault}
+use Rattle.runner.specs.declared.fault.HostFault.TheVariants.{Foreign}
 use Rattle.runner.specs.declared.guest.Answer.{Answer}
 
 pub record HostView : Type 0 where
@@ -49,3 +50,23 @@ abbrev pub HostResets : HostView → ℕ → Result (Unit {0}) HostFault → Hos
 HostResets h guest (Ok done) h' = (steps : ℕ) → (sessions : List ℕ) → steps + 2 < last_count → AreReady steps sessions h.guests
     → IsReset steps sessions h guest h'
 HostResets h guest (Err fault) h' = h' ≡ h
+
+-- the guest of this number became another one, and the other guests stay
+abbrev pub with_guest : HostView → ℕ → GuestView → HostView
+with_guest h guest g = record h { guests = slice_set h.guests guest g }
+
+-- what a store does, by the guest of that number
+abbrev pub StoresAt : Option GuestView → HostView → ℕ → ℕ → List ℕ → Result (Unit {0}) HostFault → HostView → Type 0
+StoresAt None h guest at bytes told h' = (told ≡ Err Foreign) × (h' ≡ h)
+StoresAt (Some g) h guest at bytes told h' = (g' : GuestView) × StoresInto g at bytes told g' × (h' ≡ with_guest h guest g')
+
+abbrev pub HostStores : HostView → ℕ → ℕ → List ℕ → Result (Unit {0}) HostFault → HostView → Type 0
+HostStores h guest at bytes told h' = StoresAt (slice_get h.guests guest) h guest at bytes told h'
+
+-- what a chain does to whom it isn't of, and to a guest that is stuck
+abbrev pub ChainsAt : Option GuestView → HostView → ℕ → Result Answer HostFault → HostView → Type 0
+ChainsAt None h guest told h' = (told ≡ Err Foreign) × (h' ≡ h)
+ChainsAt (Some g) h guest told h' = (g' : GuestView) × StaysStuck g.stuck g h.runner told g' h'.runner × (h'.guests ≡ slice_set h.guests guest g')
+
+abbrev pub HostChains : HostView → ℕ → Result Answer HostFault → HostView → Type 0
+HostChains h guest told h' = ChainsAt (slice_get h.guests guest) h guest told h'

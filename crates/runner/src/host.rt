@@ -2,7 +2,7 @@
 ghost use Rattle.std.specs.Prelude.{◌≡◌, ◌≤◌, ◌<◌, ◌+◌, IfOk, OnErr, length};
 ghost use Rattle.rpmb_frame.specs.Config.{IsBoard};
 ghost use Rattle.runner.specs.Guest.{StoresInto, first_guests};
-ghost use Rattle.runner.specs.Host.{HostAnswers, HostResets, IsFresh};
+ghost use Rattle.runner.specs.Host.{HostAnswers, HostChains, HostStores, HostResets, IsFresh};
 
 use crate::fault::HostFault;
 use crate::guest::{Answer, Guest};
@@ -68,7 +68,8 @@ impl Host {
         requires readable { length readable.now ≤ 8704 }
         requires writable { writable ≤ 8192 }
         requires some { 0 < length readable.now + writable }
-        ensures { HostAnswers self.old guest readable.now writable result self.new }
+        ensures answer { HostAnswers self.old guest readable.now writable result self.new }
+        ensures others { HostChains self.old guest result self.new }
     {
         let at = usize::from(guest);
         if at >= self.guests.len() {
@@ -81,8 +82,7 @@ impl Host {
     /// `OutOfRange` where they don't all lie in it, `Foreign` where there is no such guest; then
     /// nothing changes.
     pub fn store(&mut self, guest: u16, at: u64, bytes: &[u8]) -> Result<(), HostFault>
-        ensures runner { self.new.runner ≡ self.old.runner }
-        ensures unchanged { OnErr result (self.new ≡ self.old) }
+        ensures { HostStores self.old guest at bytes.now result self.new }
     {
         let number = usize::from(guest);
         if number >= self.guests.len() {

@@ -1,5 +1,5 @@
 use crate::Ring;
-use chains::{ChainFault, Places, Reads, RingFault};
+use chains::{ChainFault, Places, Popped, Reads, RingFault};
 use guest_memory::Memory;
 use std::alloc::Global;
 use std::test::Fail;
@@ -29,8 +29,9 @@ const USED_RING: u64 = 96;
 
 const AVAIL_EVENT: u64 = 132;
 
-// struct virtq_desc of VIRTIO 1.2, 2.7.5: le64 addr, le32 len, le16 flags, le16 next.
-fn descriptor(addr: u64, len: u32, flags: u16, next: u16) -> [u8; 16] {
+// The 16 bytes of a descriptor: le64 addr, le32 len, le16 flags, le16 next.
+fn descriptor(fields: Descriptor) -> [u8; 16] {
+    let (addr, len, flags, next) = fields;
     let mut bytes = [0; 16];
     bytes[..8].copy_from_slice(&addr.to_le_bytes());
     bytes[8..12].copy_from_slice(&len.to_le_bytes());
@@ -45,12 +46,15 @@ fn word(memory: &Memory, at: u64) -> Result<u16, Fail> {
     Ok(u16::from_le_bytes(bytes))
 }
 
+fn put(memory: &mut Memory, at: u64, bytes: &[u8]) -> Result<(), Fail> {
+    match memory.write(at, bytes) {
+        Ok(()) => Ok(()),
+        Err(_) => Err(Fail::from("a write outside")),
+    }
+}
+
 fn set_word(memory: &mut Memory, at: u64, word: u16) -> Result<(), Fail> {
-    memory
-        .write(at, &word.to_le_bytes())
-        .ok()
-        .ok_or("a word outside")?;
-    Ok(())
+    put(memory, at, &word.to_le_bytes())
 }
 
 fn new_ring(alloc: Global) -> Result<(Memory, Ring), Fail> {
@@ -60,7 +64,7 @@ fn new_ring(alloc: Global) -> Result<(Memory, Ring), Fail> {
 }
 
 // What a pop answers: how many bytes may be read and written, or the refusal's number, or nothing.
-#[derive(Debug, PartialEq, Eq, Clone, Copy)]
+#[derive(PartialEq, Eq, Clone, Copy)]
 enum Answer {
     Chain(usize, u64),
     Refused(u8),
@@ -87,121 +91,94 @@ fn pop(
     })
 }
 
+// struct virtq_desc of VIRTIO 1.2, 2.7.5, as its four fields.
+type Descriptor = (u64, u32, u16, u16);
+
+const PLAIN: Descriptor = (200, 8, 0, 0);
+
+// Two descriptors, what the pop of the first answers, and how many it reads.
+const HOSTILE: [([Descriptor; 2], Answer, u64); 12] = [
+    // A descriptor that names itself, and two that name each other.
+    ([(200, 8, NEXT, 0), PLAIN], Answer::Refused(3), 4),
+    (
+        [(200, 8, NEXT, 1), (200, 8, NEXT, 0)],
+        Answer::Refused(3),
+        4,
+    ),
+    // A next that the table doesn't have.
+    ([(200, 8, NEXT, 4), PLAIN], Answer::Refused(4), 1),
+    // Buffers at the end of the memory.
+    ([(SIZE - 1, 1, 0, 0), PLAIN], Answer::Chain(1, 0), 1),
+    ([(SIZE, 0, WRITE, 0), PLAIN], Answer::Chain(0, 0), 1),
+    ([(SIZE - 1, 2, 0, 0), PLAIN], Answer::Refused(4), 1),
+    ([(u64::MAX, 1, WRITE, 0), PLAIN], Answer::Refused(4), 1),
+    // Readable after writable, also where one is empty; both outside and out of order is 4.
+    ([(200, 8, WRITE + NEXT, 1), PLAIN], Answer::Refused(5), 2),
+    (
+        [(200, 0, WRITE + NEXT, 1), (200, 0, 0, 0)],
+        Answer::Refused(5),
+        2,
+    ),
+    (
+        [(200, 8, WRITE + NEXT, 1), (SIZE, 1, 0, 0)],
+        Answer::Refused(4),
+        2,
+    ),
+    // A table, which wasn't accepted.
+    ([(1024, 16, INDIRECT, 0), PLAIN], Answer::Refused(6), 1),
+    (
+        [(200, 8, NEXT, 1), (300, 9, WRITE, 0)],
+        Answer::Chain(8, 9),
+        2,
+    ),
+];
+
+fn popped_of(alloc: Global, descriptors: [Descriptor; 2]) -> Result<(Answer, u64), Fail> {
+    let (mut memory, mut ring) = new_ring(alloc)?;
+    put(&mut memory, 0, &descriptor(descriptors[0]))?;
+    put(&mut memory, 16, &descriptor(descriptors[1]))?;
+    set_word(&mut memory, AVAIL_IDX, 1)?;
+    let mut reads = Reads::new();
+    let answer = pop(alloc, &mut ring, &mut memory, &mut reads)?;
+    Ok((answer, reads.count()))
+}
+
 #[test]
 fn hostile_chains(rt: HostRuntime) -> Result<(), Fail> {
-    let plain = descriptor(200, 8, 0, 0);
-    let cases = [
-        // A descriptor that names itself, and two that name each other.
-        ([descriptor(200, 8, NEXT, 0), plain], Answer::Refused(3), 4),
-        (
-            [descriptor(200, 8, NEXT, 1), descriptor(200, 8, NEXT, 0)],
-            Answer::Refused(3),
-            4,
-        ),
-        // A next that the table doesn't have.
-        ([descriptor(200, 8, NEXT, 4), plain], Answer::Refused(4), 1),
-        // Buffers at the end of the memory.
-        (
-            [descriptor(SIZE - 1, 1, 0, 0), plain],
-            Answer::Chain(1, 0),
-            1,
-        ),
-        (
-            [descriptor(SIZE, 0, WRITE, 0), plain],
-            Answer::Chain(0, 0),
-            1,
-        ),
-        (
-            [descriptor(SIZE - 1, 2, 0, 0), plain],
-            Answer::Refused(4),
-            1,
-        ),
-        (
-            [descriptor(u64::MAX, 1, WRITE, 0), plain],
-            Answer::Refused(4),
-            1,
-        ),
-        // Readable after writable, also where one is empty; both outside and out of order is 4.
-        (
-            [descriptor(200, 8, WRITE + NEXT, 1), plain],
-            Answer::Refused(5),
-            2,
-        ),
-        (
-            [
-                descriptor(200, 0, WRITE + NEXT, 1),
-                descriptor(200, 0, 0, 0),
-            ],
-            Answer::Refused(5),
-            2,
-        ),
-        (
-            [
-                descriptor(200, 8, WRITE + NEXT, 1),
-                descriptor(SIZE, 1, 0, 0),
-            ],
-            Answer::Refused(4),
-            2,
-        ),
-        // A table, which wasn't accepted.
-        (
-            [descriptor(1024, 16, INDIRECT, 0), plain],
-            Answer::Refused(6),
-            1,
-        ),
-        (
-            [descriptor(200, 8, NEXT, 1), descriptor(300, 9, WRITE, 0)],
-            Answer::Chain(8, 9),
-            2,
-        ),
-    ];
-    for (descriptors, answer, count) in cases {
-        let (mut memory, mut ring) = new_ring(rt.alloc())?;
-        for i in 0..2 {
-            memory
-                .write(16 * i as u64, &descriptors[i])
-                .ok()
-                .ok_or("write")?;
-        }
-        set_word(&mut memory, AVAIL_IDX, 1)?;
-        let mut reads = Reads::new();
-        assert_eq!(rt;
-            pop(rt.alloc(), &mut ring, &mut memory, &mut reads)?,
-            answer
-        );
-        assert_eq!(rt; reads.count(), count);
+    for (place, (descriptors, answer, count)) in HOSTILE.iter().enumerate() {
+        let popped = popped_of(rt.alloc(), *descriptors)?;
+        assert!(rt; popped == (*answer, *count), "at {place}");
     }
     Ok(())
+}
+
+// Five places are available of a ring of four: nothing is read, and nothing changes.
+fn jumps(alloc: Global, memory: &mut Memory, ring: &mut Ring) -> Result<bool, Fail> {
+    let mut reads = Reads::new();
+    set_word(memory, AVAIL_IDX, 5)?;
+    let before = copy(memory, alloc)?;
+    let answer = pop(alloc, ring, memory, &mut reads)?;
+    Ok(answer == Answer::Refused(4) && copy(memory, alloc)? == before && reads.count() == 0)
+}
+
+fn pops_four(alloc: Global, memory: &mut Memory, ring: &mut Ring) -> Result<bool, Fail> {
+    let mut reads = Reads::new();
+    set_word(memory, AVAIL_IDX, 4)?;
+    for _ in 0..4 {
+        if pop(alloc, ring, memory, &mut reads)? != Answer::Chain(8, 0) {
+            return Ok(false);
+        }
+    }
+    Ok(pop(alloc, ring, memory, &mut reads)? == Answer::Nothing)
 }
 
 #[test]
 fn an_index_that_jumps(rt: HostRuntime) -> Result<(), Fail> {
     let (mut memory, mut ring) = new_ring(rt.alloc())?;
-    let mut reads = Reads::new();
-    memory
-        .write(0, &descriptor(200, 8, 0, 0))
-        .ok()
-        .ok_or("write")?;
+    put(&mut memory, 0, &descriptor(PLAIN))?;
     set_word(&mut memory, AVAIL_EVENT, 77)?;
-    set_word(&mut memory, AVAIL_IDX, 5)?;
-    let before = copy(&memory, rt.alloc())?;
-    assert_eq!(rt;
-        pop(rt.alloc(), &mut ring, &mut memory, &mut reads)?,
-        Answer::Refused(4)
-    );
-    assert!(rt; copy(&memory, rt.alloc())? == before);
-    assert_eq!(rt; reads.count(), 0);
-    set_word(&mut memory, AVAIL_IDX, 4)?;
-    for _ in 0..4 {
-        assert_eq!(rt;
-            pop(rt.alloc(), &mut ring, &mut memory, &mut reads)?,
-            Answer::Chain(8, 0)
-        );
-    }
-    assert_eq!(rt;
-        pop(rt.alloc(), &mut ring, &mut memory, &mut reads)?,
-        Answer::Nothing
-    );
+    assert!(rt; jumps(rt.alloc(), &mut memory, &mut ring)?);
+    assert!(rt; pops_four(rt.alloc(), &mut memory, &mut ring)?);
     assert_eq!(rt; word(&memory, AVAIL_EVENT)?, 4);
     Ok(())
 }
@@ -213,26 +190,29 @@ fn copy(memory: &Memory, alloc: Global) -> Result<Vec<u8>, Fail> {
     Ok(bytes)
 }
 
+// Pops and publishes one chain, up to this index, and answers whether the driver is to be notified.
+fn serve(alloc: Global, memory: &mut Memory, ring: &mut Ring, index: u16) -> Result<bool, Fail> {
+    let mut reads = Reads::new();
+    set_word(memory, AVAIL_IDX, index)?;
+    if pop(alloc, ring, memory, &mut reads)? != Answer::Chain(0, 8) {
+        return Err(Fail::from("no chain"));
+    }
+    if !ring.lies_in(memory) || !ring.is_outstanding(0, 1) {
+        return Err(Fail::from("not outstanding"));
+    }
+    Ok(ring.publish(memory, 0, 1, 8))
+}
+
 // Pops and publishes one chain for each place from 0 to 65,535, and answers whether the last one is
 // to be notified where the driver asked for the index that `event` names.
 fn notified_at_the_wrap(alloc: Global, event: u16) -> Result<bool, Fail> {
     let (mut memory, mut ring) = new_ring(alloc)?;
-    let mut reads = Reads::new();
-    memory
-        .write(0, &descriptor(200, 8, WRITE, 0))
-        .ok()
-        .ok_or("write")?;
+    put(&mut memory, 0, &descriptor((200, 8, WRITE, 0)))?;
     set_word(&mut memory, USED_EVENT, event)?;
     let mut due = false;
-    for place in 0..65536u64 {
-        set_word(&mut memory, AVAIL_IDX, ((place + 1) % 65536) as u16)?;
-        if pop(alloc, &mut ring, &mut memory, &mut reads)? != Answer::Chain(0, 8) {
-            return Err(Fail::from("no chain"));
-        }
-        if !ring.lies_in(&memory) || !ring.is_outstanding(0, 1) {
-            return Err(Fail::from("not outstanding"));
-        }
-        due = ring.publish(&mut memory, 0, 1, 8);
+    for place in 0..65536_u64 {
+        let index = ((place + 1) % 65536) as u16;
+        due = serve(alloc, &mut memory, &mut ring, index)?;
     }
     if word(&memory, AVAIL_EVENT)? != 0 || word(&memory, USED_RING + 2)? != 0 {
         return Err(Fail::from("the indexes didn't wrap"));
@@ -247,36 +227,44 @@ fn notifications_at_the_wrap(rt: HostRuntime) -> Result<(), Fail> {
     Ok(())
 }
 
+fn pop_one(alloc: Global, memory: &mut Memory, ring: &mut Ring) -> Result<Popped, Fail> {
+    if !ring.lies_in(memory) || ring.pops() > 9 {
+        return Err(Fail::from("the ring isn't inside"));
+    }
+    match ring.pop(alloc, memory, &mut Reads::new()) {
+        Ok(Some(popped)) => Ok(popped),
+        _ => Err(Fail::from("no chain")),
+    }
+}
+
+// Writes 16 bytes of 0xee as the reply, gives the chain back, and answers whether the driver is to be
+// notified.
+fn reply(memory: &mut Memory, ring: &mut Ring, popped: &Popped) -> Result<bool, Fail> {
+    if !popped.chain.lies_in(memory) || popped.chain.writable_len() < 16 {
+        return Err(Fail::from("no room for the reply"));
+    }
+    popped.chain.scatter(memory, &[0xee; 16]);
+    if !ring.lies_in(memory) || !ring.is_outstanding(popped.id, popped.places) {
+        return Err(Fail::from("not outstanding"));
+    }
+    Ok(ring.publish(memory, popped.id, popped.places, 16))
+}
+
 // A writable range over the used ring: the reply is there first, the used fields over it.
 #[test]
 fn a_reply_over_the_used_ring(rt: HostRuntime) -> Result<(), Fail> {
     let (mut memory, mut ring) = new_ring(rt.alloc())?;
-    let mut reads = Reads::new();
-    memory
-        .write(32, &descriptor(USED_RING, 16, WRITE, 0))
-        .ok()
-        .ok_or("write")?;
+    put(&mut memory, 32, &descriptor((USED_RING, 16, WRITE, 0)))?;
     set_word(&mut memory, AVAIL_IDX + 2, 2)?;
     set_word(&mut memory, AVAIL_IDX, 1)?;
-    assert!(rt; ring.lies_in(&memory));
-    assert!(rt; ring.pops() < 9);
-    let popped = ring
-        .pop(rt.alloc(), &mut memory, &mut reads)
-        .ok()
-        .ok_or("pop")?;
-    let popped = popped.ok_or("nothing")?;
-    assert!(rt; popped.chain.lies_in(&memory));
-    assert!(rt; popped.chain.writable_len() >= 16);
-    popped.chain.scatter(&mut memory, &[0xee; 16]);
-    assert!(rt; ring.lies_in(&memory));
-    assert!(rt; ring.is_outstanding(popped.id, popped.places));
+    let popped = pop_one(rt.alloc(), &mut memory, &mut ring)?;
     // used_event is 0, which the index passes as it goes from 0 to 1.
-    assert!(rt; ring.publish(&mut memory, popped.id, popped.places, 16));
+    assert!(rt; reply(&mut memory, &mut ring, &popped)?);
     let mut used = [0; 16];
     memory.read(USED_RING, &mut used).ok().ok_or("read")?;
     let expected = [
         0xee, 0xee, 1, 0, 2, 0, 0, 0, 16, 0, 0, 0, 0xee, 0xee, 0xee, 0xee,
     ];
-    assert_eq!(rt; used, expected);
+    assert!(rt; used == expected);
     Ok(())
 }

@@ -1,9 +1,10 @@
 // The accesses that Linux's virtio_mmio.c and virtio.c make, in their order, from knowledge of that
 // driver: probe, negotiation, set up of queue 0, a request, an interrupt, and removal.
+use super::step::{OFFER, Step, take};
 use super::{
     AVAIL_IDX, DEVICE_AREA, DEVICE_FEATURES_SEL, DRIVER_AREA, DRIVER_FEATURES, DRIVER_FEATURES_SEL,
     INTERRUPT_ACK, INTERRUPT_STATUS, QUEUE_NOTIFY, QUEUE_NUM, QUEUE_READY, QUEUE_SEL, STATUS,
-    USED_RING, answer, check, fresh_device, load12, offer, pop, store,
+    USED_RING, answer, check, fresh_device, is_live, load12, pop,
 };
 use crate::{Device, Kick, Published};
 use std::alloc::Global;
@@ -13,13 +14,14 @@ const VIRTIO_F_VERSION_1: u64 = 1 << 32;
 
 const VIRTIO_RING_F_EVENT_IDX: u64 = 1 << 29;
 
-// virtio_mmio_probe: what it reads before it takes the device.
-fn find(device: &Device) -> Result<(), Fail> {
-    check(device.read(0x000, 4) == 0x7472_6976, "MagicValue")?;
-    check(device.read(0x004, 4) == 2, "Version")?;
-    check(device.read(0x008, 4) == 28, "DeviceID")?;
-    check(device.read(0x00c, 4) == 0x5250_4d42, "VendorID")
-}
+// virtio_mmio_probe: MagicValue, Version, DeviceID and VendorID, which it reads before it takes the
+// device.
+static FIND: [Step; 4] = [
+    Step::Reads(0x000, 0x7472_6976),
+    Step::Reads(0x004, 2),
+    Step::Reads(0x008, 28),
+    Step::Reads(0x00c, 0x5250_4d42),
+];
 
 // virtio_add_status: a bit is added to what is read.
 fn add_status(device: &mut Device, bit: u32) {
@@ -69,16 +71,20 @@ fn begin(device: &mut Device) {
     add_status(device, 2);
 }
 
-// virtqueue_kick_prepare, vm_notify, vm_interrupt.
+// virtqueue_kick_prepare and vm_notify; then the device's host answers.
 fn serve(alloc: Global, device: &mut Device) -> Result<(), Fail> {
-    offer(device)?;
+    take(device, &OFFER)?;
     check(device.write(QUEUE_NOTIFY, 4, 0) == Kick::Notify, "a kick")?;
     let job = pop(device)?;
     let done = answer(alloc, job, &[], 0)?;
     check(
         device.publish(done) == Published::Wrote { notify: true },
         "published",
-    )?;
+    )
+}
+
+// vm_interrupt: what is read is acknowledged.
+fn interrupt(device: &mut Device) -> Result<(), Fail> {
     let pending = device.read(INTERRUPT_STATUS, 4);
     check(
         pending == 1 && device.interrupt_status() == 1,
@@ -92,59 +98,83 @@ fn serve(alloc: Global, device: &mut Device) -> Result<(), Fail> {
     )
 }
 
-#[test]
-fn as_linux_does(rt: HostRuntime) -> Result<(), Fail> {
-    let mut device = fresh_device(rt.alloc())?;
-    find(&device)?;
-    begin(&mut device);
+// virtio_cread of the three bytes, between two reads of ConfigGeneration.
+fn read_configuration(device: &Device) -> Result<(), Fail> {
+    check(device.read(0x0fc, 4) == 0, "ConfigGeneration")?;
+    for (offset, value) in [(0x100, 1), (0x101, 2), (0x102, 3)] {
+        check(device.read(offset, 1) == value, "the configuration")?;
+    }
+    Ok(())
+}
+
+fn negotiate_as_linux(device: &mut Device) -> Result<(), Fail> {
+    take(device, &FIND)?;
+    begin(device);
     check(device.read(STATUS, 4) == 3, "acknowledged, with a driver")?;
-    let features = device_features(&mut device);
+    let features = device_features(device);
     check(
         features == VIRTIO_F_VERSION_1 | VIRTIO_RING_F_EVENT_IDX,
         "features",
     )?;
-    check(accept(&mut device, features), "FEATURES_OK")?;
-    // virtio_cread of the three bytes, between two reads of ConfigGeneration.
-    check(device.read(0x0fc, 4) == 0, "ConfigGeneration")?;
-    check(device.read(0x100, 1) == 1, "capacity")?;
-    check(device.read(0x101, 1) == 2, "max_wr_cnt")?;
-    check(device.read(0x102, 1) == 3, "max_rd_cnt")?;
-    check(set_up_queue(&mut device, 4) == 1, "queue 0")?;
+    check(accept(device, features), "FEATURES_OK")?;
+    read_configuration(device)?;
+    check(set_up_queue(device, 4) == 1, "queue 0")?;
     // virtio_device_ready.
-    add_status(&mut device, 4);
-    check(device.read(STATUS, 4) == 15, "DRIVER_OK")?;
-    serve(rt.alloc(), &mut device)?;
-    // vm_del_vq, vm_reset.
+    add_status(device, 4);
+    check(device.read(STATUS, 4) == 15, "DRIVER_OK")
+}
+
+// vm_del_vq, vm_reset.
+fn remove(device: &mut Device) -> Result<(), Fail> {
     device.write(QUEUE_SEL, 4, 0);
     device.write(QUEUE_READY, 4, 0);
     check(device.read(QUEUE_READY, 4) == 0, "the queue is gone")?;
     check(device.write(STATUS, 4, 0) == Kick::Reset, "a reset")
 }
 
-// Whether the probe goes on to the end where its n-th step is made wrong.
-fn goes_on(device: &mut Device, wrong: u32) -> bool {
-    begin(device);
-    let features = match wrong {
+#[test]
+fn as_linux_does(rt: HostRuntime) -> Result<(), Fail> {
+    let mut device = fresh_device(rt.alloc())?;
+    negotiate_as_linux(&mut device)?;
+    serve(rt.alloc(), &mut device)?;
+    interrupt(&mut device)?;
+    remove(&mut device)
+}
+
+fn wrong_features(wrong: u32) -> u64 {
+    match wrong {
         0 => VIRTIO_RING_F_EVENT_IDX,
         1 => VIRTIO_F_VERSION_1 | 1 << 34,
         2 => VIRTIO_F_VERSION_1 | 1,
         _ => VIRTIO_F_VERSION_1,
-    };
-    let accepted = wrong != 3 && accept(device, features);
-    let size = match wrong {
+    }
+}
+
+fn wrong_size(wrong: u32) -> u32 {
+    match wrong {
         4 => 512,
         5 => 3,
         6 => 0,
         _ => 4,
-    };
-    if wrong == 7 {
-        // Another driver's queue stands there.
-        device.write(QUEUE_NUM, 4, 4);
-        device.write(0x090, 4, DRIVER_AREA);
-        device.write(0x0a0, 4, DEVICE_AREA);
-        device.write(QUEUE_READY, 4, 1);
     }
-    let ready = set_up_queue(device, size) == 1;
+}
+
+// Another driver's queue stands there.
+fn leave_a_queue(device: &mut Device) {
+    device.write(QUEUE_NUM, 4, 4);
+    device.write(0x090, 4, DRIVER_AREA);
+    device.write(0x0a0, 4, DEVICE_AREA);
+    device.write(QUEUE_READY, 4, 1);
+}
+
+// Whether the probe goes on to the end where its n-th step is made wrong.
+fn goes_on(device: &mut Device, wrong: u32) -> bool {
+    begin(device);
+    let accepted = wrong != 3 && accept(device, wrong_features(wrong));
+    if wrong == 7 {
+        leave_a_queue(device);
+    }
+    let ready = set_up_queue(device, wrong_size(wrong)) == 1;
     if wrong != 8 {
         add_status(device, 4);
     }
@@ -152,17 +182,21 @@ fn goes_on(device: &mut Device, wrong: u32) -> bool {
     accepted && ready && live
 }
 
+// No chain is popped unless the device was brought up in spite of it, and nothing is stopped.
+fn try_a_chain(device: &mut Device) -> Result<(), Fail> {
+    take(device, &OFFER)?;
+    if !is_live(device) {
+        take(device, &[Step::Pops(Ok(None))])?;
+    }
+    take(device, &[Step::Stores(AVAIL_IDX, &[0, 0])])
+}
+
 #[test]
 fn as_linux_does_but_for_one_step(rt: HostRuntime) -> Result<(), Fail> {
     for wrong in 0..9 {
         let mut device = fresh_device(rt.alloc())?;
         check(!goes_on(&mut device, wrong), "a wrong step")?;
-        // No chain is popped unless the device was brought up in spite of it, and nothing is stopped.
-        offer(&mut device)?;
-        if device.read(STATUS, 4) != 15 || device.read(QUEUE_READY, 4) != 1 {
-            check(matches!(device.pop(), Ok(None)), "a pop")?;
-        }
-        store(&mut device, AVAIL_IDX, &[0, 0])?;
+        try_a_chain(&mut device)?;
         // The next probe, made rightly, succeeds.
         check(goes_on(&mut device, 9), "the next probe")?;
     }

@@ -4,7 +4,7 @@
 use crate::tests::steps::{CLOSING, KEY, NO_MAC, NONCE, Step};
 
 /// Blocks that are written and read.
-pub const BLOCKS: [Step; 10] = [
+pub static BLOCKS: [Step; 10] = [
     // PROGRAM_KEY with its result
     Step {
         readable: &[(0, 0, 0x00000000_0000_0001_0000_0001), CLOSING],
@@ -193,7 +193,7 @@ pub const BLOCKS: [Step; 10] = [
 ];
 
 /// Requests that ask for no result.
-pub const ALONE: [Step; 4] = [
+pub static ALONE: [Step; 4] = [
     // PROGRAM_KEY that asks for no result
     Step {
         readable: &[(0, 0, 0x00000000_0000_0001_0000_0001)],
@@ -242,7 +242,7 @@ pub const ALONE: [Step; 4] = [
 ];
 
 /// A guest that may write two blocks and read one.
-pub const LIMITED: [Step; 7] = [
+pub static LIMITED: [Step; 7] = [
     // PROGRAM_KEY with its result
     Step {
         readable: &[(0, 0, 0x00000000_0000_0001_0000_0001), CLOSING],

@@ -4,7 +4,7 @@
 use crate::tests::steps::{CLOSING, KEY, NO_MAC, NONCE, Step};
 
 /// Failure replies with these results.
-pub const FAILURES: [Step; 11] = [
+pub static FAILURES: [Step; 11] = [
     // PROGRAM_KEY
     Step {
         readable: &[(0, NONCE, 0x00000007_0009_0001_0000_0001), CLOSING],

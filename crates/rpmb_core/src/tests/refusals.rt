@@ -4,7 +4,7 @@
 use crate::tests::steps::{CLOSING, KEY, NO_MAC, NONCE, OTHER_KEY, Step};
 
 /// A partition whose blocks stay zeros.
-pub const REFUSALS: [Step; 27] = [
+pub static REFUSALS: [Step; 27] = [
     // PROGRAM_KEY with its result
     Step {
         readable: &[(0, 0, 0x00000000_0000_0001_0000_0001), CLOSING],

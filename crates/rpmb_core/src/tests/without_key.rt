@@ -4,7 +4,7 @@
 use crate::tests::steps::{CLOSING, KEY, NO_MAC, NONCE, Step};
 
 /// A partition that gets no key.
-pub const WITHOUT_KEY: [Step; 18] = [
+pub static WITHOUT_KEY: [Step; 18] = [
     // RESULT_READ, no outcome stored
     Step {
         readable: &[CLOSING],

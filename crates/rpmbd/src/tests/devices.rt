@@ -67,30 +67,23 @@ fn a_reset_forgets_the_outcome_alone(rt: HostRuntime) -> Result<(), Fail> {
 
 // With 16 places the descriptors stand at 0, the available ring at 256 (its index at 258, its entries
 // from 260), and the used ring at 304 (its index at 306, its elements from 308).
-//
-// No script prints `needs-reset`, `no-answer` or `bad-used`: a store stands between two chains, never
-// between an offer and its pop or between a publication and its reap. An offer writes the descriptors,
-// the entry and the index that the pop reads, all of their bytes. A publication writes the element and
-// the index that the reap reads, and the reply's bytes. Both count in their own memory, not in the
-// guest's. So what a store spoiled is written anew before it is read.
 #[test]
-fn stores_into_the_rings_are_written_over(rt: HostRuntime) -> Result<(), Fail> {
+fn stores_that_are_written_over(rt: HostRuntime) -> Result<(), Fail> {
     let alloc = rt.alloc();
     let board = board_of(alloc, 2)?;
     let mut script = String::new(alloc);
     let mut want = String::new(alloc);
+    // An offer writes the descriptors and the entry that the pop reads, all of their bytes, and a
+    // publication the element and the index that the reap reads.
     for (at, bytes) in [
         // Descriptors that lead to themselves, outside memory, and to a table.
         (0, "00*8 00020000 0100 0000"),
         (0, "ff*256"),
         (8, "10*4 0400"),
-        // The available ring: flags, an index that jumps, heads outside, used_event, and all of it.
+        // The available ring: flags, heads outside, used_event.
         (256, "0100"),
-        (258, "0900"),
-        (258, "0080"),
         (260, "ff*32"),
         (292, "0500"),
-        (256, "ff*38"),
         // The used ring: an index ahead, one behind, elements of no chain, one too long, avail_event.
         (306, "0900"),
         (306, "ffff"),
@@ -98,9 +91,9 @@ fn stores_into_the_rings_are_written_over(rt: HostRuntime) -> Result<(), Fail> {
         (308, "00000000 ff*4"),
         (436, "0500"),
         (304, "ff*134"),
-        // And everything before the buffers.
-        (0, "ff*960"),
-        (0, "00*960"),
+        // All between the available ring and the buffers.
+        (294, "ff*666"),
+        (294, "00*666"),
     ] {
         let bytes = digits(alloc, bytes)?;
         script.push_str(format!(in alloc; "store 0 {at} {bytes}\n")?.as_str())?;
@@ -114,5 +107,44 @@ fn stores_into_the_rings_are_written_over(rt: HostRuntime) -> Result<(), Fail> {
     assert_eq!(rt; status, 0);
     assert!(rt; out.as_slice() == want.as_bytes());
     assert!(rt; err.is_empty());
+    Ok(())
+}
+
+// An offer goes on from the available index that stands in guest memory (at 258), so a guest that
+// moves it moves the place of its own next chain. Guest 1 goes on, and so does guest 0 after a reset.
+#[test]
+fn an_index_that_the_guest_moves(rt: HostRuntime) -> Result<(), Fail> {
+    let alloc = rt.alloc();
+    let board = board_of(alloc, 2)?;
+    for (stores, printed) in [
+        // 16 places are there, all of the head 0, and each is answered; the rest is reaped later.
+        ("store 0 258 0f00\n", "used 0 0 -\nused 0 0 -\n"),
+        // More places than the ring has, by one, and by all that 16 bits can say.
+        ("store 0 258 1000\n", "needs-reset 0\nneeds-reset 0\n"),
+        ("store 0 258 feff\n", "needs-reset 0\nneeds-reset 0\n"),
+        // The index comes to the place that the device awaits: nothing is there.
+        ("store 0 258 ffff\n", "no-answer 0\nno-answer 0\n"),
+        // The place before the chain names a descriptor that no offer took.
+        (
+            "store 0 258 0100\nstore 0 260 0500\n",
+            "bad-used 0\nbad-used 0\n",
+        ),
+        // The place before the chain names no descriptor at all.
+        (
+            "store 0 258 0100\nstore 0 260 1000\n",
+            "needs-reset 0\nneeds-reset 0\n",
+        ),
+    ] {
+        let script = format!(in alloc;
+            "{stores}chain 0 - 16\nchain 0 - 16\nchain 1 - 16\nreset 0\nchain 0 - 16\n"
+        )?;
+        let want = format!(in alloc; "{printed}used 1 0 -\nused 0 0 -\n")?;
+        let mut out = Vec::new(alloc);
+        let mut err = Vec::new(alloc);
+        let status = perform(alloc, RUN, &board, script.as_str(), &mut out, &mut err);
+        assert_eq!(rt; status, 0, "at {stores}");
+        assert_eq!(rt; out.as_slice(), want.as_bytes(), "at {stores}");
+        assert!(rt; err.is_empty());
+    }
     Ok(())
 }

@@ -1,7 +1,9 @@
 //! A guest whose requests go through driver and device, and who resets its device while a reply is on
 //! its way.
 
-use super::scene::{board_of, get_write_counter, program_key, result_read, tail_of, write_of};
+use super::scene::{
+    board_of, check, get_write_counter, has_tail, program_key, result_read, write_of,
+};
 use guest_driver::Driver;
 use mmio_transport::{Device, Done, Published};
 use runner::Runner;
@@ -76,31 +78,41 @@ impl Guest {
     }
 }
 
+/// A reply that is on its way while the device is reset.
+fn drop_a_reply(alloc: Global, guest: &mut Guest) -> Result<(), Fail> {
+    let done = guest.answered(alloc, &write_of(0x5a, 0))?;
+    guest.device.write(STATUS, 4, 0);
+    let before = guest.used_ring()?;
+    check(guest.device.publish(done) == Published::Dropped, "dropped")?;
+    check(guest.used_ring()? == before, "the used ring is as it was")
+}
+
+/// Asks, and looks at the tail of the reply.
+fn ask_for(
+    alloc: Global,
+    guest: &mut Guest,
+    frames: &[[u8; 512]],
+    tail: [u8; 12],
+) -> Result<(), Fail> {
+    let reply = guest.ask(alloc, frames)?;
+    check(has_tail(reply.as_slice(), &tail), "the reply")
+}
+
+/// The write was accepted, whatever became of its reply; what its session could ask for is gone.
+fn ask_after_the_reset(alloc: Global, guest: &mut Guest) -> Result<(), Fail> {
+    let counter = [0, 0, 0, 1, 0, 0, 0, 1, 0, 0, 2, 0];
+    ask_for(alloc, guest, &get_write_counter(5), counter)?;
+    let no_result = [0, 0, 0, 0, 0, 0, 0, 0, 0, 1, 0, 0];
+    ask_for(alloc, guest, &[result_read()], no_result)
+}
+
 #[test]
 fn a_reset_drops_the_reply_and_keeps_the_write(rt: HostRuntime) -> Result<(), Fail> {
     let alloc = rt.alloc();
     let mut guest = guest_in_service(alloc)?;
-    let reply = guest.ask(alloc, &program_key(&[0x11; 32]))?;
-    assert_eq!(rt;
-        tail_of(reply.as_slice()),
-        [0, 0, 0, 0, 0, 0, 0, 1, 0, 0, 1, 0].as_slice()
-    );
-    let done = guest.answered(alloc, &write_of(0x5a, 0))?;
-    guest.device.write(STATUS, 4, 0);
-    let before = guest.used_ring()?;
-    assert!(rt; guest.device.publish(done) == Published::Dropped);
-    assert!(rt; guest.used_ring()? == before);
+    let programmed = [0, 0, 0, 0, 0, 0, 0, 1, 0, 0, 1, 0];
+    ask_for(alloc, &mut guest, &program_key(&[0x11; 32]), programmed)?;
+    drop_a_reply(alloc, &mut guest)?;
     guest.negotiate()?;
-    // The write was accepted, whatever became of its reply; what its session could ask for is gone.
-    let reply = guest.ask(alloc, &get_write_counter(5))?;
-    assert_eq!(rt;
-        tail_of(reply.as_slice()),
-        [0, 0, 0, 1, 0, 0, 0, 1, 0, 0, 2, 0].as_slice()
-    );
-    let reply = guest.ask(alloc, &[result_read()])?;
-    assert_eq!(rt;
-        tail_of(reply.as_slice()),
-        [0, 0, 0, 0, 0, 0, 0, 0, 0, 1, 0, 0].as_slice()
-    );
-    Ok(())
+    ask_after_the_reset(alloc, &mut guest)
 }

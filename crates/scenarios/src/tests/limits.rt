@@ -1,10 +1,12 @@
 //! How many replies a guest may have held, how many requests a book answers, and whom it knows.
 
 use crate::tests::scene::{
-    KEY, get_write_counter, job_of, nonce_of, program_key, scene_of, tail_of,
+    KEY, Scene, accepted, check, get_write_counter, has_tail, job_of, nonce_of, program_key,
+    result_read, scene_of,
 };
-use mmio_transport::Job;
-use rpmb_book::Refused;
+use mmio_transport::{Done, Job};
+use rpmb_book::{Receipt, Refused};
+use std::alloc::Global;
 use std::test::Fail;
 
 /// What a submitter offered a second time says of itself.
@@ -17,110 +19,169 @@ fn is_the_same(job: &Job, guest: u16, frames: &[[u8; 512]]) -> bool {
         && job.request() == frames.as_flattened()
 }
 
+/// The job that was given back as it was offered, for this reason.
+fn given_back(
+    offered: Result<Receipt, (Job, Refused)>,
+    guest: u16,
+    frames: &[[u8; 512]],
+    reason: Refused,
+) -> Result<Job, Fail> {
+    let Err((job, refused)) = offered else {
+        return Err(Fail::from("not refused"));
+    };
+    check(
+        refused == reason && is_the_same(&job, guest, frames),
+        "refused otherwise",
+    )?;
+    Ok(job)
+}
+
+fn hold_64(alloc: Global, scene: &mut Scene) -> Result<(), Fail> {
+    for nonce in 0..64_u8 {
+        scene.submit(alloc, 1, &get_write_counter(u128::from(nonce)))?;
+    }
+    Ok(())
+}
+
+fn is_of_nonce_0(collected: Option<Done>) -> bool {
+    match collected {
+        Some(done) => nonce_of(done.reply()) == Some([0; 16].as_slice()),
+        None => false,
+    }
+}
+
+fn offer_the_65th(alloc: Global, scene: &mut Scene) -> Result<(), Fail> {
+    let frames = get_write_counter(64);
+    let offered = scene.offer(alloc, job_of(alloc, 1, 1, &frames)?);
+    let job = given_back(offered, 1, &frames, Refused::Busy)?;
+    // Another guest isn't held up.
+    scene.submit(alloc, 0, &frames)?;
+    check(is_of_nonce_0(scene.book.collect(1)), "the first reply")?;
+    accepted(scene.offer(alloc, job))?;
+    Ok(())
+}
+
 #[test]
 fn the_65th_held_reply_is_refused(rt: HostRuntime) -> Result<(), Fail> {
     let alloc = rt.alloc();
     let mut scene = scene_of(alloc, 2)?;
-    for nonce in 0..64_u8 {
-        scene.submit(alloc, 1, &get_write_counter(u128::from(nonce)))?;
-    }
-    let frames = get_write_counter(64);
-    let refused = scene.offer(alloc, job_of(alloc, 1, 1, &frames)?);
-    let Err((job, refusal)) = refused else {
-        return Err(Fail::from(Refused::Busy));
+    hold_64(alloc, &mut scene)?;
+    offer_the_65th(alloc, &mut scene)
+}
+
+/// The job of a guest that is offered with the tally of guest 0, and given back.
+fn foreign(alloc: Global, scene: &mut Scene, guest: u16) -> Result<Job, Fail> {
+    let frames = get_write_counter(1);
+    let job = job_of(alloc, guest, 1, &frames)?;
+    let Some(tally) = scene.tallies.get_mut(0) else {
+        return Err(Fail::from("no tally"));
     };
-    assert_eq!(rt; refusal, Refused::Busy);
-    assert!(rt; is_the_same(&job, 1, &frames));
-    // Another guest isn't held up.
-    scene.submit(alloc, 0, &frames)?;
-    let first = scene.book.collect(1);
-    assert!(rt; first.is_some());
-    if let Some(done) = first {
-        assert!(rt; nonce_of(done.reply()) == Some([0; 16].as_slice()));
-    }
-    assert!(rt; scene.offer(alloc, job).is_ok());
-    Ok(())
+    let offered = scene.book.submit(alloc, tally, job);
+    check(tally.count() == 0, "the tally counts none of them")?;
+    given_back(offered, guest, &frames, Refused::Foreign)
+}
+
+fn knows_no_guest_2(scene: &mut Scene) -> bool {
+    scene.book.take(&mut scene.shares, 2).is_err() && scene.book.collect(2).is_none()
+}
+
+/// The shares of a book that counted otherwise.
+fn refuses_shares_of(scene: &mut Scene, other: &mut Scene) -> bool {
+    scene.book.take(&mut other.shares, 1).is_err()
+        && scene.book.settle_taken(&other.shares) == Err(Refused::Foreign)
+}
+
+fn take_another(alloc: Global, other: &mut Scene) -> Result<(), Fail> {
+    other.submit(alloc, 1, &program_key(&KEY))?;
+    check(other.book.take(&mut other.shares, 1).is_ok(), "a take")
 }
 
 #[test]
 fn strangers_are_foreign(rt: HostRuntime) -> Result<(), Fail> {
     let alloc = rt.alloc();
     let mut scene = scene_of(alloc, 2)?;
-    let frames = get_write_counter(1);
-    let job = job_of(alloc, 2, 1, &frames)?;
-    let Some(tally) = scene.tallies.get_mut(0) else {
-        return Err(Fail::from(Refused::Foreign));
-    };
-    let Err((job, refusal)) = scene.book.submit(alloc, tally, job) else {
-        return Err(Fail::from(Refused::Foreign));
-    };
-    assert_eq!(rt; refusal, Refused::Foreign);
-    assert!(rt; is_the_same(&job, 2, &frames));
-    let of_guest_1 = job_of(alloc, 1, 1, &frames)?;
-    let Err((job, refusal)) = scene.book.submit(alloc, tally, of_guest_1) else {
-        return Err(Fail::from(Refused::Foreign));
-    };
-    assert_eq!(rt; refusal, Refused::Foreign);
-    assert!(rt; is_the_same(&job, 1, &frames));
-    assert_eq!(rt; tally.count(), 0);
-    assert!(rt; scene.book.take(&mut scene.shares, 2).is_err());
-    assert!(rt; scene.book.collect(2).is_none());
-    // The tally and the shares of another book, which counted otherwise.
-    let mut other = scene_of(alloc, 2)?;
-    other.submit(alloc, 1, &program_key(&KEY))?;
-    let taken = other.book.take(&mut other.shares, 1);
-    assert!(rt; taken.is_ok());
-    assert!(rt; scene.book.take(&mut other.shares, 1).is_err());
-    assert_eq!(rt;
-        scene.book.settle_taken(&other.shares),
-        Err(Refused::Foreign)
-    );
-    assert!(rt; scene.offer(alloc, job).is_ok());
+    foreign(alloc, &mut scene, 2)?;
+    let job = foreign(alloc, &mut scene, 1)?;
+    check(knows_no_guest_2(&mut scene), "no guest 2")?;
+    // With its own guest's tally the same job is answered.
+    accepted(scene.offer(alloc, job))?;
     Ok(())
+}
+
+#[test]
+fn shares_of_another_book_are_foreign(rt: HostRuntime) -> Result<(), Fail> {
+    let mut scene = scene_of(rt.alloc(), 2)?;
+    let mut other = scene_of(rt.alloc(), 2)?;
+    take_another(rt.alloc(), &mut other)?;
+    check(refuses_shares_of(&mut scene, &mut other), "the shares")
+}
+
+fn answer_one(alloc: Global, scene: &mut Scene, number: u32) -> Result<(), Fail> {
+    scene.submit(alloc, 0, &get_write_counter(u128::from(number)))?;
+    check(scene.book.collect(0).is_some(), "a reply")
+}
+
+fn refuse_one_more(alloc: Global, scene: &mut Scene) -> Result<(), Fail> {
+    let frames = get_write_counter(16_384);
+    let offered = scene.offer(alloc, job_of(alloc, 0, 1, &frames)?);
+    given_back(offered, 0, &frames, Refused::HistoryFull)?;
+    check(scene.book.collect(0).is_none(), "no reply")
 }
 
 #[test]
 fn the_book_answers_16384_requests(rt: HostRuntime) -> Result<(), Fail> {
     let alloc = rt.alloc();
     let mut scene = scene_of(alloc, 1)?;
-    for number in 0..16_384_u32 {
-        scene.submit(alloc, 0, &get_write_counter(u128::from(number)))?;
-        assert!(rt; scene.book.collect(0).is_some());
+    for number in 0..16_384 {
+        answer_one(alloc, &mut scene, number)?;
     }
-    let frames = get_write_counter(16_384);
-    let Err((job, refusal)) = scene.offer(alloc, job_of(alloc, 0, 1, &frames)?) else {
-        return Err(Fail::from(Refused::HistoryFull));
-    };
-    assert_eq!(rt; refusal, Refused::HistoryFull);
-    assert!(rt; is_the_same(&job, 0, &frames));
-    assert!(rt; scene.book.collect(0).is_none());
+    refuse_one_more(alloc, &mut scene)
+}
+
+/// A key that guest 0 programs, and who asks for the result then: guest 1, and guest 0 in this session
+/// and in the next.
+fn ask_for_the_result(alloc: Global, scene: &mut Scene) -> Result<(), Fail> {
+    let asked = [result_read()];
+    scene.submit(alloc, 0, &program_key(&[0x22; 32]))?;
+    scene.submit(alloc, 1, &asked)?;
+    scene.submit(alloc, 0, &asked)?;
+    accepted(scene.offer(alloc, job_of(alloc, 0, 2, &asked)?))?;
     Ok(())
+}
+
+fn settle_one(scene: &mut Scene) -> bool {
+    matches!(scene.book.take(&mut scene.shares, 0), Ok(Some(_)))
+        && scene.book.settle_taken(&scene.shares) == Ok(())
+}
+
+fn leaves(scene: &mut Scene, guest: u16, tail: &[u8; 12]) -> bool {
+    match scene.book.collect(guest) {
+        Some(done) => has_tail(done.reply(), tail),
+        None => false,
+    }
+}
+
+/// Whose reply leaves, and its write counter, address, block count, result and type.
+static RESULTS: [(u16, [u8; 12]); 4] = [
+    (0, [0, 0, 0, 0, 0, 0, 0, 1, 0, 0, 1, 0]),
+    (0, [0, 0, 0, 0, 0, 0, 0, 1, 0, 0, 1, 0]),
+    (0, [0, 0, 0, 0, 0, 0, 0, 0, 0, 1, 0, 0]),
+    (1, [0, 0, 0, 0, 0, 0, 0, 0, 0, 1, 0, 0]),
+];
+
+fn results_leave(scene: &mut Scene) -> bool {
+    for (guest, tail) in &RESULTS {
+        if !leaves(scene, *guest, tail) {
+            return false;
+        }
+    }
+    true
 }
 
 #[test]
 fn another_session_forgets_the_outcome(rt: HostRuntime) -> Result<(), Fail> {
-    let alloc = rt.alloc();
-    let mut scene = scene_of(alloc, 2)?;
-    let asked = [crate::tests::scene::result_read()];
-    scene.submit(alloc, 0, &program_key(&[0x22; 32]))?;
-    scene.submit(alloc, 1, &asked)?;
-    scene.submit(alloc, 0, &asked)?;
-    let later = scene.offer(alloc, job_of(alloc, 0, 2, &asked)?);
-    assert!(rt; later.is_ok());
-    assert!(rt; matches!(scene.book.take(&mut scene.shares, 0), Ok(Some(_))));
-    assert_eq!(rt; scene.book.settle_taken(&scene.shares), Ok(()));
-    let tails: [(u16, [u8; 12]); 4] = [
-        (0, [0, 0, 0, 0, 0, 0, 0, 1, 0, 0, 1, 0]),
-        (0, [0, 0, 0, 0, 0, 0, 0, 1, 0, 0, 1, 0]),
-        (0, [0, 0, 0, 0, 0, 0, 0, 0, 0, 1, 0, 0]),
-        (1, [0, 0, 0, 0, 0, 0, 0, 0, 0, 1, 0, 0]),
-    ];
-    for (guest, tail) in &tails {
-        let done = scene.book.collect(*guest);
-        assert!(rt; done.is_some());
-        if let Some(done) = done {
-            assert_eq!(rt; tail_of(done.reply()), tail.as_slice());
-        }
-    }
-    Ok(())
+    let mut scene = scene_of(rt.alloc(), 2)?;
+    ask_for_the_result(rt.alloc(), &mut scene)?;
+    check(settle_one(&mut scene), "the key is settled")?;
+    check(results_leave(&mut scene), "the results")
 }

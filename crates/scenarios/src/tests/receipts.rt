@@ -1,46 +1,54 @@
 //! Receipts, and the turns that they name.
 
-use crate::tests::scene::{LIFE, get_write_counter, nonce_of, scene_of};
-use rpmb_book::Receipt;
+use crate::tests::scene::{LIFE, Scene, check, get_write_counter, nonce_of, scene_of};
+use rpmb_book::{Book, Receipt, TurnView};
+use std::alloc::Global;
 use std::test::Fail;
+
+/// Submits of 64 guests in turn, 64 of each, the nonce of each its number.
+fn submit_4096(alloc: Global, scene: &mut Scene) -> Result<Vec<Receipt>, Fail> {
+    let mut receipts = Vec::new(alloc);
+    for number in 0..4096_u16 {
+        let frames = get_write_counter(u128::from(number));
+        receipts.push(scene.submit(alloc, number % 64, &frames)?)?;
+    }
+    Ok(receipts)
+}
+
+/// Whether it is the turn of the request with this nonce.
+fn is_of_nonce(turn: &TurnView, nonce: u128) -> bool {
+    let frames = get_write_counter(nonce);
+    turn.request == frames.as_flattened()
+        && turn.writable == 512
+        && turn.reply.len() == 512
+        && nonce_of(turn.reply) == nonce_of(frames.as_flattened())
+}
+
+fn is_found(book: &Book, receipt: &Receipt, number: usize) -> bool {
+    if receipt.number != number as u64 || usize::from(receipt.guest) != number % 64 {
+        return false;
+    }
+    match book.find(receipt) {
+        Some(turn) => is_of_nonce(&turn, number as u128),
+        None => false,
+    }
+}
 
 #[test]
 fn each_of_64_held_replies_of_64_guests_is_found(rt: HostRuntime) -> Result<(), Fail> {
-    let alloc = rt.alloc();
-    let mut scene = scene_of(alloc, 64)?;
-    let mut receipts = Vec::new(alloc);
-    for round in 0..64_u16 {
-        for guest in 0..64_u16 {
-            let nonce = 64 * u128::from(round) + u128::from(guest);
-            receipts.push(scene.submit(alloc, guest, &get_write_counter(nonce))?)?;
-        }
-    }
-    assert_eq!(rt; receipts.len(), 4_096);
+    let mut scene = scene_of(rt.alloc(), 64)?;
+    let receipts = submit_4096(rt.alloc(), &mut scene)?;
+    check(receipts.len() == 4_096, "all receipts")?;
     for (number, receipt) in receipts.iter().enumerate() {
-        assert_eq!(rt; receipt.number, number as u64);
-        assert_eq!(rt; usize::from(receipt.guest), number % 64);
-        let found = scene.book.find(receipt);
-        assert!(rt; found.is_some());
-        let Some(turn) = found else {
-            continue;
-        };
-        let frames = get_write_counter(number as u128);
-        assert!(rt; turn.request == frames.as_flattened());
-        assert_eq!(rt; turn.writable, 512);
-        assert_eq!(rt; turn.reply.len(), 512);
-        assert!(rt; nonce_of(turn.reply) == nonce_of(frames.as_flattened()));
+        check(is_found(&scene.book, receipt, number), "a receipt")?;
     }
     Ok(())
 }
 
-#[test]
-fn receipts_of_no_request_find_nothing(rt: HostRuntime) -> Result<(), Fail> {
-    let alloc = rt.alloc();
-    let mut scene = scene_of(alloc, 2)?;
-    let receipt = scene.submit(alloc, 0, &get_write_counter(1))?;
-    assert!(rt; scene.book.collect(0).is_some());
-    assert!(rt; scene.book.find(&receipt).is_some());
-    let strangers = [
+/// Receipts of another life, of other guests, of the turn that collected the reply, and of turns that
+/// aren't there.
+fn strangers(receipt: Receipt) -> [Receipt; 6] {
+    [
         Receipt {
             life: LIFE + 1,
             ..receipt
@@ -53,7 +61,6 @@ fn receipts_of_no_request_find_nothing(rt: HostRuntime) -> Result<(), Fail> {
             guest: 64,
             ..receipt
         },
-        // The turn that collected the reply, and one that isn't there.
         Receipt {
             number: 1,
             ..receipt
@@ -66,9 +73,23 @@ fn receipts_of_no_request_find_nothing(rt: HostRuntime) -> Result<(), Fail> {
             number: u64::MAX,
             ..receipt
         },
-    ];
-    for stranger in &strangers {
-        assert!(rt; scene.book.find(stranger).is_none());
+    ]
+}
+
+fn finds_none(book: &Book, receipts: &[Receipt]) -> bool {
+    for receipt in receipts {
+        if book.find(receipt).is_some() {
+            return false;
+        }
     }
-    Ok(())
+    true
+}
+
+#[test]
+fn receipts_of_no_request_find_nothing(rt: HostRuntime) -> Result<(), Fail> {
+    let mut scene = scene_of(rt.alloc(), 2)?;
+    let receipt = scene.submit(rt.alloc(), 0, &get_write_counter(1))?;
+    check(scene.book.collect(0).is_some(), "a reply")?;
+    check(scene.book.find(&receipt).is_some(), "its own receipt")?;
+    check(finds_none(&scene.book, &strangers(receipt)), "a stranger")
 }

@@ -68,11 +68,20 @@ impl Scene {
         guest: u16,
         frames: &[[u8; 512]],
     ) -> Result<Receipt, Fail> {
-        match self.offer(alloc, job_of(alloc, guest, 1, frames)?) {
-            Ok(receipt) => Ok(receipt),
-            Err((_, refused)) => Err(Fail::from(refused)),
-        }
+        accepted(self.offer(alloc, job_of(alloc, guest, 1, frames)?))
     }
+}
+
+/// The receipt of a job that is to be answered.
+pub fn accepted(offered: Result<Receipt, (Job, Refused)>) -> Result<Receipt, Fail> {
+    match offered {
+        Ok(receipt) => Ok(receipt),
+        Err((_, refused)) => Err(Fail::from(refused)),
+    }
+}
+
+pub fn check(holds: bool, what: &'static str) -> Result<(), Fail> {
+    if holds { Ok(()) } else { Err(Fail::from(what)) }
 }
 
 /// A job of these frames with room for one frame, whose id is 5 and which has 3 places.
@@ -116,8 +125,13 @@ pub fn write_of(byte: u8, counter: u32) -> [[u8; 512]; 2] {
     [frame.with_key_mac(&mac).to_bytes(), result_read()]
 }
 
+/// Whether the last twelve bytes of a reply are these.
+pub fn has_tail(reply: &[u8], tail: &[u8; 12]) -> bool {
+    tail_of(reply) == tail.as_slice()
+}
+
 /// The last twelve bytes of a reply: write counter, address, block count, result and type.
-pub fn tail_of(reply: &[u8]) -> &[u8] {
+fn tail_of(reply: &[u8]) -> &[u8] {
     &reply[reply.len().saturating_sub(12)..]
 }
 

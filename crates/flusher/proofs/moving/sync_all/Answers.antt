@@ -2,7 +2,6 @@ use Rattle.std.proofs.Common.{◌≡◌, ◌∙◌, ap, set, get_or, length, ◌
 use Rattle.std.proofs.lemmas.Option.{slice_get-get_or}
 use Rattle.std.proofs.lemmas.List.Edits.{map_over_more}
 use Rattle.flusher.specs.declared.guest.Guest.{Guest}
-use Rattle.flusher.specs.declared.slot.Slot.TheVariants.{Empty}
 use Rattle.flusher.specs.Slot.{guest_after_sync}
 use Rattle.flusher.proofs.moving.sync_all.Goals as goal
 

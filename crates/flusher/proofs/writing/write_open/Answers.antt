@@ -1,4 +1,4 @@
-use Rattle.std.proofs.Common.{◌∙◌, ◌+◌, ◌*◌, ◌≤◌, ap, length, arith}
+use Rattle.std.proofs.Common.{◌∙◌, ◌*◌, ap, length, arith}
 use Rattle.intent_slots.specs.Home.{Home, home_record}
 use Rattle.flusher.proofs.Blocks.{none_past, fits_at}
 use Rattle.flusher.proofs.Writer.{of_home}

@@ -1,6 +1,6 @@
 use Rattle.std.proofs.Common.{◌∙◌, ap}
 use Rattle.flusher.specs.Slot.{guest_after_write}
-use Rattle.flusher.proofs.Writer.{can_write, still_fits, wrote_slot, in_place, its_fit, default_is}
+use Rattle.flusher.proofs.Writer.{can_write, still_fits, wrote_slot, its_fit, default_is}
 use Rattle.flusher.proofs.writing.write_round.Goals as goal
 
 pub write_next-wrote-requires-clause-fits : goal.write_next-wrote-requires-clause-fits

@@ -12,7 +12,7 @@ returns-in-Ok-Used g c =
     let end = g.W.Write.contents c.write_reply.new.out in
     let given : Answer → Type 0 = λ x. HostAnswers c.args.host.now c.args.guest c.args.readable.now c.args.writable (Ok x) c.chain.new.self in
     on_ok_weaker c.write_reply.result (λ printed. used_runs c.args.host.now c.chain.new.self c.args.guest c.args.readable.now c.args.writable (Used c.in-Ok-Used.reply) c.as_slice.result.now start end
-    (subst given c.in-Ok-Used.field-0-is c.in-Ok-Used.ensures) c.as_slice.ensures.value printed) c.write_reply.ensures
+    (subst given c.in-Ok-Used.field-0-is c.in-Ok-Used.ensures.answer) c.as_slice.ensures.value printed) c.write_reply.ensures
 
 pub returns-in-Ok-Stuck : goal.returns-in-Ok-Stuck
 returns-in-Ok-Stuck g c =
@@ -20,4 +20,4 @@ returns-in-Ok-Stuck g c =
     let end = g.W.Write.contents c.write_stuck.new.out in
     let given : Answer → Type 0 = λ x. HostAnswers c.args.host.now c.args.guest c.args.readable.now c.args.writable (Ok x) c.chain.new.self in
     on_ok_weaker c.write_stuck.result (λ printed. stuck_runs c.args.host.now c.chain.new.self c.args.guest c.args.readable.now c.args.writable c.in-Ok-Stuck.stuck start end
-    (subst given c.in-Ok-Stuck.field-0-is c.in-Ok-Stuck.ensures)) c.write_stuck.ensures
+    (subst given c.in-Ok-Stuck.field-0-is c.in-Ok-Stuck.ensures.answer)) c.write_stuck.ensures

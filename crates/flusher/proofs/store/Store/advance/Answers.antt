@@ -1,4 +1,4 @@
-use Rattle.std.proofs.Common.{◌≡◌, ◌∙◌, ap, subst, sym, false}
+use Rattle.std.proofs.Common.{◌∙◌, ap, subst, sym}
 use Rattle.disk.specs.Disk.{Still}
 use Rattle.flusher.specs.SlotInvariant.{IsHeld}
 use Rattle.flusher.proofs.Kept.{stops, round_held, round_stops}

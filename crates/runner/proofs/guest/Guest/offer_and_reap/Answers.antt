@@ -12,8 +12,8 @@ use Rattle.runner.proofs.Chains.{guest_at, taken, came_back, none_back, bad_back
 use Rattle.runner.proofs.guest.Guest.offer_and_reap.Goals.{in-Ok-Some, in-Ok-None, in-Err-BadUsed-reap, in-Err-NoMemory-reap, in-Err-OutOfRange-reap}
 use Rattle.runner.proofs.guest.Guest.offer_and_reap.Goals as goal
 
-pub returns-in-Ok-Stopped : goal.returns-in-Ok-Stopped
-returns-in-Ok-Stopped c number session steps few ready =
+pub returns-in-Ok-Stopped-clause-answer : goal.returns-in-Ok-Stopped-clause-answer
+returns-in-Ok-Stopped-clause-answer c number session steps few ready =
     let i = c.self.inside in
     let serving : Served → Type 0 = λ x. Serves c.offer.new.device c.args.runner.now (Ok x) c.serve.new.device c.serve.new.runner in
     let there = subst (IsReady number session steps) (sym c.self.view_is) ready in
@@ -21,8 +21,8 @@ returns-in-Ok-Stopped c number session steps few ready =
     c.requires.readable c.requires.writable c.requires.some few there c.in-Ok.ensures.offering c.in-Ok.ensures.rest (subst serving c.in-Ok-Stopped.field-0-is c.in-Ok-Stopped.ensures) in
     absurd end.1
 
-pub returns-in-Ok-Nothing : goal.returns-in-Ok-Nothing
-returns-in-Ok-Nothing c number session steps few ready =
+pub returns-in-Ok-Nothing-clause-answer : goal.returns-in-Ok-Nothing-clause-answer
+returns-in-Ok-Nothing-clause-answer c number session steps few ready =
     let i = c.self.inside in
     let serving : Served → Type 0 = λ x. Serves c.offer.new.device c.args.runner.now (Ok x) c.serve.new.device c.serve.new.runner in
     let there = subst (IsReady number session steps) (sym c.self.view_is) ready in
@@ -30,8 +30,8 @@ returns-in-Ok-Nothing c number session steps few ready =
     c.requires.readable c.requires.writable c.requires.some few there c.in-Ok.ensures.offering c.in-Ok.ensures.rest (subst serving c.in-Ok-Nothing.field-0-is c.in-Ok-Nothing.ensures) in
     absurd end.1
 
-pub returns : goal.returns
-returns c number session steps few ready =
+pub returns-clause-answer : goal.returns-clause-answer
+returns-clause-answer c number session steps few ready =
     let i = c.self.inside in
     let serving : Served → Type 0 = λ x. Serves c.offer.new.device c.args.runner.now (Ok x) c.serve.new.device c.serve.new.runner in
     let there = subst (IsReady number session steps) (sym c.self.view_is) ready in
