@@ -1,17 +1,21 @@
 //! Times MACs, the requests of many guests, chains through a ring, and whole requests of one guest:
-//! `bench macs COUNT`, `bench requests COUNT`, `bench rings COUNT`, `bench device COUNT`, where COUNT is of
-//! MACs, of requests for each of 64 guests, of chains of 8,704 bytes, or of requests of each kind. Without
-//! arguments it prints checksums alone.
+//! `bench macs COUNT`, `bench requests COUNT`, `bench rings COUNT`, `bench device COUNT`, `bench store COUNT`,
+//! `bench open COUNT`, where COUNT is of MACs, of requests for each of 64 guests, of chains of 8,704 bytes,
+//! of requests of each kind, of writes of each of 64 guests, or of openings. Without arguments it prints
+//! checksums alone.
 #![tactic(auto)]
 
 mod devices;
+mod images;
 mod macs;
 mod requests;
 mod rings;
 
 use anyhow::{Context, Result, bail};
 use devices::{Kind, new_guest, requests_of, whole};
+use images::{Calls, give_keys, give_writes, new_disk, new_store, put_writes, read_all, settle};
 use macs::{keyed_macs, plain_macs};
+use recovery::open;
 use requests::{counters, keyed, writes};
 use rings::{chains, copies, new_queue};
 use rpmb_frame::{BoardConfig, GuestConfig, RingKind};
@@ -138,6 +142,91 @@ fn time_device(rt: &HostRuntime, count: u32) -> Result<()> {
     Ok(())
 }
 
+/// Settles so many writes of each guest; answers the time, and the calls of the last ones.
+fn settle_writes(rt: &HostRuntime, count: u32) -> Result<(Duration, Calls)> {
+    let alloc = rt.alloc();
+    let mut store = new_store(alloc, &board(alloc)?)?;
+    give_keys(&mut store, GUESTS)?;
+    let mut calls = settle(&mut store)?;
+    let mut took = Duration::from_nanos(0);
+    for counter in 0..count {
+        give_writes(alloc, &mut store, GUESTS, counter.wrapping_add(1))?;
+        let start = Instant::now(rt)?;
+        calls = settle(&mut store)?;
+        took = took.saturating_add(start.elapsed(rt)?);
+    }
+    Ok((took, calls))
+}
+
+/// Times the settling of writes of 64 guests, and the same calls made to the disk itself.
+fn time_store(rt: &HostRuntime, count: u32) -> Result<()> {
+    let alloc = rt.alloc();
+    let (took, calls) = settle_writes(rt, count)?;
+    let board = board(alloc)?;
+    let mut disk = new_disk(alloc, &board)?;
+    let start = Instant::now(rt)?;
+    for _ in 0..count {
+        put_writes(&mut disk, &board)?;
+    }
+    let own_took = start.elapsed(rt)?;
+    let percent = took.as_nanos() * 100 / own_took.as_nanos().max(1);
+    println!(rt;
+        "64 writes: {} calls, {} syncs, {} ns, {} ns on the disk itself, {percent} percent",
+        calls.all,
+        calls.syncs,
+        each(took, count),
+        each(own_took, count)
+    )?;
+    Ok(())
+}
+
+/// Opens so many images of a board; answers the time.
+fn openings(rt: &HostRuntime, board: &BoardConfig, count: u32) -> Result<Duration> {
+    let alloc = rt.alloc();
+    let mut took = Duration::from_nanos(0);
+    for _ in 0..count {
+        let disk = new_disk(alloc, board)?;
+        let start = Instant::now(rt)?;
+        let opened = open(alloc, disk, board).is_ok();
+        took = took.saturating_add(start.elapsed(rt)?);
+        if !opened {
+            bail!("no image");
+        }
+    }
+    Ok(took)
+}
+
+/// Times openings of an image of 64 guests, and reads of all its bytes.
+fn time_open(rt: &HostRuntime, count: u32) -> Result<()> {
+    let alloc = rt.alloc();
+    let board = board(alloc)?;
+    let took = openings(rt, &board, count)?;
+    let mut disk = new_disk(alloc, &board)?;
+    let mut bytes = vec![in alloc; 0u8; disk.content().len()]?;
+    let start = Instant::now(rt)?;
+    for _ in 0..count {
+        read_all(&mut disk, &mut bytes)?;
+    }
+    let read_took = start.elapsed(rt)?;
+    let percent = took.as_nanos() * 100 / read_took.as_nanos().max(1);
+    println!(rt;
+        "open {} ns, one read of its bytes {} ns, {percent} percent",
+        each(took, count),
+        each(read_took, count)
+    )?;
+    Ok(())
+}
+
+/// The calls and syncs of 64 keys, and of 64 writes.
+fn few_calls(alloc: Global) -> Result<(Calls, Calls)> {
+    let mut store = new_store(alloc, &board(alloc)?)?;
+    give_keys(&mut store, GUESTS)?;
+    let keys = settle(&mut store)?;
+    give_writes(alloc, &mut store, GUESTS, 1)?;
+    let writes = settle(&mut store)?;
+    Ok((keys, writes))
+}
+
 /// Two counter requests and two writes of each guest.
 fn few_answers(alloc: Global) -> Result<(u32, u32)> {
     let mut runner = keyed(alloc, &board(alloc)?)?;
@@ -171,7 +260,12 @@ fn checksums(rt: &HostRuntime) -> Result<()> {
     let (counter, write) = few_answers(alloc)?;
     let ring = few_chains(alloc)?;
     let device = few_requests(alloc)?;
+    let (keys, stored) = few_calls(alloc)?;
     println!(rt; "{macs} {counter} {write} {ring} {device}")?;
+    println!(rt;
+        "{} {}, {} {}",
+        keys.all, keys.syncs, stored.all, stored.syncs
+    )?;
     Ok(())
 }
 
@@ -186,6 +280,8 @@ fn main(rt: HostRuntime) -> Result<()> {
         "requests" => time_requests(&rt, count),
         "rings" => time_rings(&rt, count),
         "device" => time_device(&rt, count),
+        "store" => time_store(&rt, count),
+        "open" => time_open(&rt, count),
         _ => bail!("no such work"),
     }
 }

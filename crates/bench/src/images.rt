@@ -1,0 +1,141 @@
+//! The store of many guests over a disk in memory, and openings of an image.
+ghost use Rattle.std.specs.Prelude.{◌<◌, length};
+
+use crate::requests::KEY;
+use anyhow::{Result, bail};
+use disk::{Disk, MemDisk};
+use flusher::{Progress, Store};
+use intent_slots::{Intent, Layout, Side};
+use recovery::open;
+use rpmb_frame::BoardConfig;
+use std::alloc::Global;
+
+/// How many calls were made to a disk, and how many of them were syncs.
+#[derive(Clone, Copy)]
+pub struct Calls {
+    pub all: u32,
+    pub syncs: u32,
+}
+
+/// The image of a board, in which no partition has a key.
+fn image(alloc: Global, board: &BoardConfig) -> Result<Vec<u8>> {
+    let layout = Layout::of(board);
+    let mut bytes = vec![in alloc; 0u8; layout.length() as usize]?;
+    let header = layout.header();
+    let front = header.as_slice();
+    if front.len() > bytes.len() {
+        bail!("an image without room for its header");
+    }
+    bytes[..front.len()].copy_from_slice(front);
+    Ok(bytes)
+}
+
+/// A disk with the image of a board.
+pub fn new_disk(alloc: Global, board: &BoardConfig) -> Result<MemDisk> {
+    Ok(MemDisk::new(image(alloc, board)?))
+}
+
+/// The store over the image of a board.
+pub fn new_store(alloc: Global, board: &BoardConfig) -> Result<Store<MemDisk>> {
+    match open(alloc, new_disk(alloc, board)?, board) {
+        Ok((store, _partitions)) => Ok(store),
+        Err((_disk, fault)) => bail!("{fault}"),
+    }
+}
+
+fn give(store: &mut Store<MemDisk>, intent: Intent) -> Result<()> {
+    let guest = intent.guest();
+    if !store.is_free(guest)
+        || !store.fits(&intent)
+        || store.next(guest) != intent.first_sequence()
+    {
+        bail!("an intent that can't be given");
+    }
+    store.give(intent);
+    Ok(())
+}
+
+/// Gives each of so many guests its key.
+pub fn give_keys(store: &mut Store<MemDisk>, guests: u16) -> Result<()> {
+    for guest in 0..guests {
+        give(store, Intent::program_key(guest, KEY))?;
+    }
+    Ok(())
+}
+
+/// Gives each of so many guests a write of its first block, which leaves this write counter.
+pub fn give_writes(
+    alloc: Global,
+    store: &mut Store<MemDisk>,
+    guests: u16,
+    counter: u32,
+) -> Result<()> {
+    for guest in 0..guests {
+        let blocks = vec![in alloc; 0x5a; 256]?;
+        give(store, Intent::write(guest, KEY, counter, 0, blocks))?;
+    }
+    Ok(())
+}
+
+/// Advances until nothing is on its way.
+pub fn settle(store: &mut Store<MemDisk>) -> Result<Calls> {
+    let mut calls = Calls { all: 0, syncs: 0 };
+    for _ in 0..1_000_000 {
+        match store.advance() {
+            Ok(Progress::Idle) => return Ok(calls),
+            Ok(Progress::Wrote) => {}
+            Ok(Progress::Synced(_)) => calls.syncs = calls.syncs.wrapping_add(1),
+            Err(fault) => bail!("{fault}"),
+        }
+        calls.all = calls.all.wrapping_add(1);
+    }
+    bail!("a store that doesn't come to its end")
+}
+
+/// Writes bytes to a disk that has room for them.
+fn put(disk: &mut MemDisk, at: u64, bytes: &[u8]) -> Result<()> {
+    if at > disk.len() || bytes.len() as u64 > disk.len() - at {
+        bail!("no room on the disk");
+    }
+    if disk.write_at(at, bytes).is_err() {
+        bail!("a failed write");
+    }
+    Ok(())
+}
+
+/// The calls that a guest's write of one block takes, made to the disk itself; four syncs go with them,
+/// whatever the number of guests.
+fn put_write(disk: &mut MemDisk, layout: &Layout, guest: u16) -> Result<()>
+    requires { guest < length layout.now }
+{
+    put(disk, layout.payload(Side::A, guest), &[0x5a; 328])?;
+    put(disk, layout.gate(Side::A, guest), &[0xA5])?;
+    put(disk, layout.blocks(guest), &[0x5a; 256])?;
+    put(disk, layout.home(guest), &[0x5a; 64])?;
+    put(disk, layout.gate(Side::A, guest), &[0])
+}
+
+/// The same calls for each guest of a board.
+pub fn put_writes(disk: &mut MemDisk, board: &BoardConfig) -> Result<()> {
+    let layout = Layout::of(board);
+    for guest in 0..layout.guests() {
+        put_write(disk, &layout, guest as u16)?;
+    }
+    for _ in 0..4 {
+        if disk.sync().is_err() {
+            bail!("a failed sync");
+        }
+    }
+    Ok(())
+}
+
+/// Reads a disk's bytes, all in one call.
+pub fn read_all(disk: &mut MemDisk, bytes: &mut [u8]) -> Result<()> {
+    if bytes.len() as u64 > disk.len() {
+        bail!("a disk that is too short");
+    }
+    if disk.read_at(0, bytes).is_err() {
+        bail!("a failed read");
+    }
+    Ok(())
+}
