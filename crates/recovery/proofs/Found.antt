@@ -1,24 +1,22 @@
 -- What was read for one guest is what the content holds.
-use Rattle.std.proofs.Common.{◌≡◌, ◌≢◌, ◌⊎◌, inl, inr, ⊎_elim, Option, Some, None, ℕ, zero, suc, ◌+◌, ◌*◌, ◌-◌, ◌^◌, ◌≤◌, ◌<◌, List, length, drop, get_or, refl, ap, sym, ◌∙◌, subst, arith}
+use Rattle.std.proofs.Common.{◌≡◌, ⊎_elim, Option, Some, None, ℕ, ◌+◌, ◌*◌, ◌^◌, ◌≤◌, ◌<◌, List, length, drop, get_or, refl, ap, sym, ◌∙◌, subst, arith}
 use Rattle.std.specs.Prelude.{slice_index}
 use Rattle.std.proofs.lemmas.Bool.{cases_lt}
 use Rattle.std.proofs.lemmas.List.{get_or_past}
 use Rattle.rpmb_frame.specs.Partition.{Partition, sequence_of}
 use Rattle.disk.specs.Content.{Content, bytes_at, content_of}
-use Rattle.intent_slots.specs.Layout.{Place, SlotPlace, place_at, slot_place, blocks_at, image_length}
+use Rattle.intent_slots.specs.Layout.{Place, place_at, slot_place, blocks_at, image_length}
 use Rattle.intent_slots.proofs.Starts.{lies_inside}
 use Rattle.intent_slots.specs.declared.layout.Side.TheVariants.{A}
 use Rattle.intent_slots.specs.Fields.{Agree}
 use Rattle.intent_slots.specs.Home.{IsHome}
-use Rattle.intent_slots.specs.Payload.{Group, Intent, GroupFits, IsPayload, last_of, payload_length}
+use Rattle.intent_slots.specs.Payload.{Group, Intent, IsPayload, last_of, payload_length}
 use Rattle.intent_slots.specs.Recovered.{Part, part_of, HoldsHome, HasPayload, StandsFor, ByHome, ByPayload, redo, redone, blocks_of}
 use Rattle.intent_slots.proofs.Bytes.{length-bytes_at}
 use Rattle.intent_slots.proofs.Over.{get_bytes}
 use Rattle.intent_slots.proofs.ReadsBack.{home_own, payload_own}
 use Rattle.intent_slots.proofs.Same.{payload_short}
-use Rattle.flusher.specs.declared.slot.Slot.{Slot}
 use Rattle.flusher.specs.declared.slot.Slot.TheVariants.{Empty, Open}
-use Rattle.flusher.specs.declared.guest.Guest.{Guest}
 use Rattle.flusher.specs.Slot.{skipped}
 use Rattle.flusher.specs.SlotInvariant.{IsShut, IsWideOpen, Row, Seen}
 use Rattle.flusher.proofs.Blocks.{same_content, blocks_below, blocks_beyond}

@@ -1,20 +1,19 @@
 -- A fresh image is its board's, and its partitions are empty.
-use Rattle.std.proofs.Common.{◌≡◌, ◌⊎◌, inl, inr, ⊎_elim, ℕ, zero, suc, ◌+◌, ◌*◌, ◌≤◌, ◌<◌, List, [], ◌∷◌, length, replicate, None, refl, ap, sym, ◌∙◌, arith}
+use Rattle.std.proofs.Common.{◌≡◌, inl, inr, ⊎_elim, ℕ, zero, suc, ◌+◌, ◌≤◌, ◌<◌, List, [], ◌∷◌, length, replicate, refl, ap, ◌∙◌, arith}
 use Rattle.std.proofs.lemmas.Bool.{cases_lt}
-use Rattle.disk.specs.Content.{Content, bytes_at, over, zeros}
+use Rattle.disk.specs.Content.{bytes_at, over, zeros}
 use Rattle.intent_slots.specs.Fields.{Agree, number_at}
 use Rattle.intent_slots.specs.Header.{header_bytes}
-use Rattle.intent_slots.specs.Home.{IsHome, Unkeyed}
-use Rattle.intent_slots.specs.Layout.{Place, place_at, slot_place, end_of, image_length}
-use Rattle.intent_slots.specs.declared.layout.Side.TheVariants.{A}
-use Rattle.intent_slots.specs.Recovered.{Part, StandsFor, ByHome, blocks_of}
+use Rattle.intent_slots.specs.Home.{Unkeyed}
+use Rattle.intent_slots.specs.Layout.{place_at, end_of}
+use Rattle.intent_slots.specs.Recovered.{ByHome, blocks_of}
 use Rattle.intent_slots.proofs.Over.{over_outside, list_over}
 use Rattle.intent_slots.proofs.ReadsBack.{header_back}
 use Rattle.intent_slots.proofs.Same.{same_list, same_number}
 use Rattle.intent_slots.proofs.Starts.{lies_inside}
 use Rattle.flusher.proofs.Blocks.{same_content, blocks_below, blocks_beyond}
-use Rattle.recovery.specs.Opening.{no_part, IsImage, HasPart}
-use Rattle.recovery.specs.Format.{formatted, Holds, FormattedIsImage, FormattedIsEmpty}
+use Rattle.recovery.specs.Opening.{no_part}
+use Rattle.recovery.specs.Format.{formatted, FormattedIsImage, FormattedIsEmpty}
 use Rattle.recovery.proofs.Zeros.{length-header_bytes, image_long}
 
 zero_there : (cs : List ℕ) (k : ℕ) → length cs ≤ 64 → 1024 ≤ k → formatted cs k ≡ 0

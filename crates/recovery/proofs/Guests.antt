@@ -1,5 +1,5 @@
 -- All guests of an opening.
-use Rattle.std.proofs.Common.{◌≡◌, ◌≢◌, ◌⊎◌, inl, inr, ⊎_elim, ℕ, ◌+◌, ◌*◌, ◌<◌, ◌≤◌, Bool, true, false, Option, Some, None, List, [], ◌∷◌, ◌++◌, length, refl, ap, sym, subst, ◌∙◌, arith}
+use Rattle.std.proofs.Common.{◌≡◌, ◌≢◌, ⊎_elim, ℕ, ◌<◌, ◌≤◌, true, false, Option, Some, List, [], ◌∷◌, ◌++◌, length, sym, subst, ◌∙◌, arith}
 use Rattle.std.specs.Prelude.{Result, Ok, Err, OnOk, slice_get}
 use Rattle.std.proofs.lemmas.Option.{slice_get_within, slice_get_cases}
 use Rattle.rpmb_frame.specs.Partition.{Partition}
@@ -14,7 +14,7 @@ use Rattle.flusher.specs.declared.guest.Guest.{Guest}
 use Rattle.flusher.specs.declared.slot.Slot.{Slot}
 use Rattle.flusher.specs.declared.slot.Slot.TheVariants.{Empty, Given, Written, Ready, Opening, Open, Applying, Applied, Closing}
 use Rattle.flusher.specs.Slot.{place_of, side_of, pending_of}
-use Rattle.flusher.specs.SlotInvariant.{Row, Seen, IsHeld, guest_row, guest_seen, Follows, IsMarked}
+use Rattle.flusher.specs.SlotInvariant.{Row, Seen, IsHeld, guest_row, guest_seen, Follows}
 use Rattle.flusher.specs.Store.{AllFit, GuestFits}
 use Rattle.flusher.proofs.Blocks.{same_content}
 use Rattle.recovery.specs.declared.fault.OpenFault.{OpenFault}

@@ -1,8 +1,8 @@
 -- Ways of a disk on which nothing changes but what is unsynced, and the faults on them.
-use Rattle.std.proofs.Common.{◌≡◌, ◌⊎◌, inl, inr, ⊎_elim, Bool, true, false, not, ℕ, ◌+◌, ◌^◌, ◌≤◌, ◌<◌, refl, sym, ◌∙◌, ap, arith}
+use Rattle.std.proofs.Common.{◌≡◌, inl, inr, ⊎_elim, Bool, true, false, not, refl, ◌∙◌, arith}
 use Rattle.std.proofs.lemmas.Bool.{cases_lt}
-use Rattle.disk.specs.Content.{Content, bytes_at}
-use Rattle.disk.specs.Disk.{DiskState, DiskCall, Read, Sync, Effect, HasRisen, Counts, Reads, Syncs, during, Within, Still}
+use Rattle.disk.specs.Content.{Content}
+use Rattle.disk.specs.Disk.{DiskState, DiskCall, Read, Sync, Effect, HasRisen, Within, Still}
 use Rattle.disk.proofs.Ways.{within_end, within_both, within_call}
 use Rattle.recovery.specs.Opening.{Untouched, OnlyReads, NoRead, OneRead, SyncsFirst, SyncFailed, SyncWent, CallsFault}
 use Rattle.recovery.specs.declared.fault.OpenFault.{OpenFault}

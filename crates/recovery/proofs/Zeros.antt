@@ -1,11 +1,11 @@
 -- Writes of zeros, and of a header over them.
-use Rattle.std.proofs.Common.{◌≡◌, ◌⊎◌, inl, inr, ⊎_elim, Bool, true, false, ℕ, zero, suc, ◌+◌, ◌*◌, ◌-◌, ◌^◌, ◌≤◌, ◌<◌, List, [], ◌∷◌, ◌++◌, length, take, replicate, get_or, refl, ap, sym, ◌∙◌, subst, arith, length-append}
+use Rattle.std.proofs.Common.{◌≡◌, inl, inr, ⊎_elim, Bool, true, ℕ, zero, suc, ◌+◌, ◌-◌, ◌≤◌, ◌<◌, List, [], ◌∷◌, length, take, replicate, get_or, refl, ap, sym, ◌∙◌, subst, arith, length-append}
 use Rattle.std.specs.Prelude.{Result, Ok, Err, OnOk, is_ok, slice_index}
 use Rattle.std.proofs.lemmas.Bool.{cases_lt}
-use Rattle.std.proofs.lemmas.List.{get_or-take, get_or_past, length-replicate}
+use Rattle.std.proofs.lemmas.List.{get_or-take, get_or_past}
 use Rattle.byteorder.specs.Endian.{big_bytes}
 use Rattle.byteorder.specs.Numbers.{length-bytes_high_first}
-use Rattle.disk.specs.Content.{Content, content_of, over, zeros}
+use Rattle.disk.specs.Content.{Content, over, zeros}
 use Rattle.disk.specs.Disk.{DiskState, Writes}
 use Rattle.intent_slots.specs.Header.{magic, header_bytes}
 use Rattle.intent_slots.proofs.Over.{over_inside, over_outside}

@@ -1,17 +1,16 @@
 -- What an opening answers, and what it leaves as it was (own).
-use Rattle.std.specs.Prelude.{◌≡◌, ◌⊎◌, ℕ, ◌+◌, ◌*◌, ◌≤◌, ◌<◌, ◌^◌, Bool, true, false, List, length, slice_get, slice_index, Option, Some, None, Result, Ok, Err}
+use Rattle.std.specs.Prelude.{◌≡◌, ℕ, ◌*◌, ◌≤◌, ◌<◌, ◌^◌, Bool, true, false, List, length, slice_get, slice_index, Option, Some, None, Result, Ok, Err}
 use Rattle.rpmb_frame.specs.Partition.{Partition, sequence_of}
 use Rattle.disk.specs.Content.{Content, zeros}
-use Rattle.disk.specs.Disk.{DiskState, DiskCall, Read, Sync, HasRisen}
+use Rattle.disk.specs.Disk.{DiskState, DiskCall, Read, Sync}
 use Rattle.intent_slots.specs.Header.{HasMagic, HasCapacities}
-use Rattle.intent_slots.specs.Layout.{Place, SlotPlace, place_at, slot_place, image_length}
+use Rattle.intent_slots.specs.Layout.{place_at, slot_place, image_length}
 use Rattle.intent_slots.specs.declared.layout.Side.TheVariants.{A}
 use Rattle.intent_slots.specs.Recovered.{Part, part_of, StandsFor}
 use Rattle.flusher.specs.declared.slot.Slot.{Slot}
 use Rattle.flusher.specs.declared.slot.Slot.TheVariants.{Empty, Given, Written, Ready, Opening, Open, Applying, Applied, Closing}
 use Rattle.flusher.specs.declared.guest.Guest.{Guest}
 use Rattle.flusher.specs.Slot.{skipped, intent_of, place_of, side_of}
-use Rattle.flusher.specs.SlotInvariant.{Row, Seen}
 use Rattle.flusher.specs.Store.{IntentFits, StoreState}
 use Rattle.recovery.specs.declared.fault.OpenFault.{OpenFault}
 use Rattle.recovery.specs.declared.fault.OpenFault.TheVariants as fault

@@ -1,18 +1,16 @@
 -- What the steps of an opening tell (own).
-use Rattle.std.specs.Prelude.{◌≡◌, ℕ, ◌+◌, ◌*◌, Bool, true, false, List, length, slice_get, Option, Some, None, Result, Ok, Err}
+use Rattle.std.specs.Prelude.{◌≡◌, ℕ, Bool, true, false, List, slice_get, Some, Result, Ok, Err}
 use Rattle.rpmb_frame.specs.Partition.{Partition}
 use Rattle.disk.specs.Content.{Content}
 use Rattle.disk.specs.Disk.{DiskState, DiskCall, HasRisen, Within}
-use Rattle.intent_slots.specs.Layout.{Place, place_at, slot_place}
-use Rattle.intent_slots.specs.declared.layout.Side.TheVariants.{A}
-use Rattle.intent_slots.specs.Recovered.{Part, part_of, StandsFor}
+use Rattle.intent_slots.specs.Recovered.{part_of}
 use Rattle.flusher.specs.declared.guest.Guest.{Guest}
 use Rattle.flusher.specs.Slot.{place_of, side_of}
 use Rattle.flusher.specs.SlotInvariant.{Row, Seen}
 use Rattle.recovery.specs.declared.fault.OpenFault.{OpenFault}
 use Rattle.recovery.specs.declared.fault.OpenFault.TheVariants as fault
 use Rattle.intent_slots.specs.Header.{HasCapacities}
-use Rattle.recovery.specs.Opening.{Untouched, OnlyReads, SyncsFirst, IsBegun, HasPart, HoldsEach, HasFront, IsOther}
+use Rattle.recovery.specs.Opening.{Untouched, OnlyReads, SyncsFirst, HasPart, HoldsEach, HasFront, IsOther}
 
 -- reads of the disk give this content
 pub record Gives (s : DiskState) (c : Content) : Type 0 where

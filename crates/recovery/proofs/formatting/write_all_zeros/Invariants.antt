@@ -1,5 +1,4 @@
-use Rattle.std.proofs.Common.{◌≡◌, ◌<◌, ◌*◌, ◌≤◌, ℕ, true}
-use Rattle.disk.specs.Disk.{Counts}
+use Rattle.std.proofs.Common.{◌≡◌, ◌<◌, ◌*◌, ℕ, true}
 use Rattle.recovery.proofs.formatting.write_all_zeros.Given as goal
 
 abbrev pub invariant-loop-chunk : goal.invariant-loop-chunk

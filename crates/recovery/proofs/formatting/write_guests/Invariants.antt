@@ -1,4 +1,4 @@
-use Rattle.std.proofs.Common.{◌≡◌, ◌<◌, ◌*◌, ◌≤◌, ℕ, true}
+use Rattle.std.proofs.Common.{◌≡◌, true}
 use Rattle.disk.specs.Content.{zeros}
 use Rattle.recovery.specs.Format.{Holds}
 use Rattle.recovery.proofs.formatting.write_guests.Given as goal

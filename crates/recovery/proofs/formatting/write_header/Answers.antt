@@ -1,4 +1,4 @@
-use Rattle.std.proofs.Common.{◌≡◌, ◌∙◌, ap, length, arith}
+use Rattle.std.proofs.Common.{◌∙◌, ap, length, arith}
 use Rattle.std.specs.Prelude.{is_ok}
 use Rattle.recovery.proofs.Zeros.{on_ok, header_written, image_long, length-header_bytes}
 use Rattle.recovery.proofs.formatting.write_header.Goals as goal

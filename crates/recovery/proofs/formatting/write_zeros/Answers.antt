@@ -1,5 +1,4 @@
-use Rattle.std.proofs.Common.{◌≡◌, refl, true}
-use Rattle.recovery.specs.Format.{Zeroes}
+use Rattle.std.proofs.Common.{refl}
 use Rattle.recovery.proofs.Zeros.{on_ok, zero_write}
 use Rattle.recovery.proofs.formatting.write_zeros.Goals as goal
 

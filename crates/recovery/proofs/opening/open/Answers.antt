@@ -1,10 +1,10 @@
-use Rattle.std.proofs.Common.{◌≡◌, ◌∙◌, ◌≤◌, sym, ap, subst, refl, true, false, ℕ, List, arith}
+use Rattle.std.proofs.Common.{sym, ap, subst, refl, ℕ, List, arith}
 use Rattle.std.specs.Prelude.{Err}
 use Rattle.disk.specs.Disk.{Still}
 use Rattle.flusher.specs.declared.guest.Guest.{Guest}
 use Rattle.flusher.specs.Store.{StoreState}
 use Rattle.flusher.specs.SlotInvariant.{IsHeld}
-use Rattle.recovery.specs.Opening.{SyncsFirst, AllStand, Answers, AnswersFault, IsImage, parts_of}
+use Rattle.recovery.specs.Opening.{SyncsFirst, AllStand, AnswersFault, IsImage, parts_of}
 use Rattle.recovery.proofs.Ways.{opens_end, untouched_here, calls_fault}
 use Rattle.recovery.proofs.Guests.{all_stand, all_fit, all_held}
 use Rattle.recovery.proofs.opening.open.Goals as goal

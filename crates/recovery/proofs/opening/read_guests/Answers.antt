@@ -1,10 +1,7 @@
-use Rattle.std.proofs.Common.{◌≡◌, ◌∙◌, ◌<◌, ◌+◌, ◌++◌, ◌∷◌, [], List, ℕ, ap, sym, subst, length, refl, arith}
-use Rattle.disk.specs.Content.{Content}
-use Rattle.flusher.specs.declared.guest.Guest.{Guest}
-use Rattle.recovery.specs.Opening.{IsBegun, EachBegun}
-use Rattle.recovery.specs.Reading.{IsFound, AllFound, FindsFault}
+use Rattle.std.proofs.Common.{◌∙◌, ◌<◌, ◌+◌, ap, length, arith}
+use Rattle.recovery.specs.Opening.{IsBegun}
 use Rattle.recovery.proofs.Ways.{pass_still, pass_on, pass_end, gives_on}
-use Rattle.recovery.proofs.Lists.{fit_start, fit_first, fit_rest, length-remove_first, length-push, none_each, each_more}
+use Rattle.recovery.proofs.Lists.{fit_start, fit_first, fit_rest, length-remove_first, length-push, none_each}
 use Rattle.recovery.proofs.Guests.{ends_all, none_found, begun_more, found_more}
 use Rattle.recovery.proofs.opening.read_guests.Goals as goal
 

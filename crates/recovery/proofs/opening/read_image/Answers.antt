@@ -1,4 +1,4 @@
-use Rattle.std.proofs.Common.{◌≡◌, ◌∙◌, sym, ap, subst, refl, true, false, ℕ, arith}
+use Rattle.std.proofs.Common.{◌∙◌, subst, refl, ℕ, arith}
 use Rattle.recovery.specs.Opening.{AnswersFault}
 use Rattle.recovery.proofs.Ways.{opens_failed, opens_went, sync_end, pass_on, pass_end, gives_on, untouched_on}
 use Rattle.recovery.proofs.Guests.{header_answers, on_found, all_answers}

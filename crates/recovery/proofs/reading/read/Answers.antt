@@ -1,4 +1,3 @@
-use Rattle.std.proofs.Common.{◌≡◌, ap, true, false, Bool, not}
 use Rattle.std.specs.Prelude.{is_ok}
 use Rattle.recovery.proofs.Ways.{pass_read, not_true}
 use Rattle.recovery.proofs.reading.read.Goals as goal

@@ -1,4 +1,4 @@
-use Rattle.std.proofs.Common.{◌≡◌, ◌∙◌, ◌+◌, ap, sym, length, refl, true, arith}
+use Rattle.std.proofs.Common.{◌∙◌, sym, arith}
 use Rattle.recovery.proofs.Ways.{pass_on, pass_end, gives_on}
 use Rattle.recovery.proofs.Found.{gate_is, part_inside}
 use Rattle.recovery.proofs.reading.read_guest.Goals as goal

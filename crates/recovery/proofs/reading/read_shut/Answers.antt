@@ -1,4 +1,4 @@
-use Rattle.std.proofs.Common.{◌≡◌, ◌∙◌, ◌+◌, ◌*◌, ap, sym, length, refl, true, arith}
+use Rattle.std.proofs.Common.{◌∙◌, ap, sym, length, refl, arith}
 use Rattle.disk.specs.Content.{bytes_at}
 use Rattle.recovery.proofs.Ways.{pass_on, pass_end, gives_on}
 use Rattle.recovery.proofs.Found.{no_home, found_shut, begun_shut, part_inside, size_is}

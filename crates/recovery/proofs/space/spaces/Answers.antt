@@ -1,4 +1,4 @@
-use Rattle.std.proofs.Common.{◌≡◌, ◌∙◌, ◌+◌, ap, sym, subst}
+use Rattle.std.proofs.Common.{◌∙◌, ◌+◌, ap, sym, subst}
 use Rattle.std.specs.Prelude.{slice_index}
 use Rattle.recovery.specs.Space.{EachFits}
 use Rattle.recovery.proofs.Lists.{space_more, length-push}

@@ -1,4 +1,4 @@
-use Rattle.std.proofs.Common.{◌≡◌, ◌∙◌, sym, length, arith}
+use Rattle.std.proofs.Common.{arith}
 use Rattle.recovery.proofs.space.Supplies.new.Goals as goal
 
 pub returns : goal.returns
