@@ -6,7 +6,8 @@ use arrayvec::ArrayVec;
 use std::marker::Model;
 
 /// Of each guest the sequence up to which its requests are settled: every stop since then keeps them.
-/// Only a sync that succeeded makes marks. Contracts see the sequences, in the order of the guests.
+/// A store's marks are what its opening found, raised by each sync that succeeded and by nothing
+/// else. Contracts see the sequences, in the order of the guests.
 #[derive(Drop)]
 pub struct Marks {
     sequences: ArrayVec<u64, 64>,
