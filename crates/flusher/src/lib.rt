@@ -17,5 +17,5 @@ pub use guest::Guest;
 pub use laws::held_is_left;
 pub use marks::Marks;
 pub use progress::{Call, Progress, StoreFault};
-pub use slot::Slot;
+pub use slot::{Slot, skipped};
 pub use store::Store;

@@ -28,8 +28,9 @@ pub enum Slot {
     Closing(Intent),
 }
 
-/// How many entries have no blocks to write.
-fn skipped(intent: &Intent) -> usize
+/// How many entries of an intent have no blocks to write: 1 where its first programs the key, else 0.
+/// So many of its writes are done when its slot becomes `Open`.
+pub fn skipped(intent: &Intent) -> usize
     ensures { result ≡ skipped intent.now.group.entries }
 {
     let _some = intent.entries();

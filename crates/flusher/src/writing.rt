@@ -12,7 +12,9 @@ use crate::guest::Guest;
 use crate::moving::{move_written, sync_all};
 use crate::slot::Slot;
 use disk::{Disk, DiskFault};
-use intent_slots::Intent;
+use intent_slots::{
+    BLOCK_LENGTH, GATE_PLACE, Intent, OPEN_GATE, PARTS_LENGTH, PAYLOAD_PLACE, SHUT_GATE,
+};
 
 /// Writes the blocks of the entry that comes next, or the home record once all are written.
 fn write_open<D: Disk>(
@@ -30,7 +32,7 @@ fn write_open<D: Disk>(
     if done < intent.entries() {
         let entry = intent.entry(done);
         disk.write_at(
-            base + 35_328 + 256 * u64::from(entry.address()),
+            base + PARTS_LENGTH + BLOCK_LENGTH * u64::from(entry.address()),
             entry.blocks(),
         )
     } else {
@@ -50,11 +52,11 @@ fn write_next<D: Disk>(disk: &mut D, buffer: &mut [u8], guest: &Guest) -> Result
     match &guest.slot {
         Slot::Given(intent) => {
             intent.encode(buffer);
-            disk.write_at(guest.base + 1024, &buffer[..intent.payload_len()])
+            disk.write_at(guest.base + PAYLOAD_PLACE, &buffer[..intent.payload_len()])
         }
-        Slot::Ready(_) => disk.write_at(guest.base + 512, &[0xA5]),
+        Slot::Ready(_) => disk.write_at(guest.base + GATE_PLACE, &[OPEN_GATE]),
         Slot::Open(intent, done) => write_open(disk, guest.base, guest.capacity, intent, *done),
-        Slot::Applied(_) => disk.write_at(guest.base + 512, &[0]),
+        Slot::Applied(_) => disk.write_at(guest.base + GATE_PLACE, &[SHUT_GATE]),
         _ => Ok(()),
     }
 }

@@ -11,17 +11,26 @@ pub const OPEN_GATE: u8 = 0xA5;
 /// The byte that shuts a gate.
 pub const SHUT_GATE: u8 = 0x00;
 
-/// The place of the version byte in an image. Nothing reads or writes that byte yet.
+/// The place of the version byte in an image. A fresh image has 1 there, and nothing reads it yet.
 pub const VERSION_PLACE: u64 = 512;
 
 /// The length of the header in bytes: what stands before partition 0.
-const HEADER_LENGTH: u64 = 1024;
+pub const HEADER_LENGTH: u64 = 1024;
 
-/// The length in bytes of a partition's parts before its blocks.
-const PARTS_LENGTH: u64 = 35_328;
+/// The place of slot A's gate in a partition, in bytes from its first.
+pub const GATE_PLACE: u64 = 512;
+
+/// The place of slot A's payload in a partition, in bytes from its first.
+pub const PAYLOAD_PLACE: u64 = 1024;
+
+/// The length in bytes of a partition's parts before its blocks: the place of block 0 in it.
+pub const PARTS_LENGTH: u64 = 35_328;
+
+/// The length in bytes of a block.
+pub const BLOCK_LENGTH: u64 = 256;
 
 /// The length in bytes of the blocks of one unit of capacity.
-const UNIT_LENGTH: u64 = 131_072;
+pub const UNIT_LENGTH: u64 = 131_072;
 
 /// One of a partition's two slots. Slot B has its place, and nothing reads or writes it yet.
 #[derive(Clone, Copy, Debug, PartialEq, Eq)]
@@ -113,7 +122,7 @@ impl Layout {
     {
         let base = self.home(guest);
         match side {
-            Side::A => base + 512,
+            Side::A => base + GATE_PLACE,
             Side::B => base + 17_920,
         }
     }
@@ -126,7 +135,7 @@ impl Layout {
     {
         let base = self.home(guest);
         match side {
-            Side::A => base + 1024,
+            Side::A => base + PAYLOAD_PLACE,
             Side::B => base + 18_432,
         }
     }

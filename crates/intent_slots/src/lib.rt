@@ -15,14 +15,15 @@ mod payload;
 
 pub use entry::Entry;
 pub use header::HeaderFault;
-pub use home::Home;
+pub use home::{HOME_LENGTH, Home};
 pub use intent::Intent;
 pub use laws::{
     header_reads_back, home_reads_back, one_partition, payload_reads_back, requests_in_turn,
 };
 pub use layout::{
-    Layout, OPEN_GATE, SHUT_GATE, Side, VERSION_PLACE, partitions_lie_inside,
-    partitions_never_overlap, parts_never_overlap,
+    BLOCK_LENGTH, GATE_PLACE, HEADER_LENGTH, Layout, OPEN_GATE, PARTS_LENGTH, PAYLOAD_PLACE,
+    SHUT_GATE, Side, UNIT_LENGTH, VERSION_PLACE, partitions_lie_inside, partitions_never_overlap,
+    parts_never_overlap,
 };
 pub use payload::{NoMemory, PAYLOAD_LENGTH, Room};
 

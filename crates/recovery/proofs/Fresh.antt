@@ -1,12 +1,13 @@
 -- A fresh image is its board's, and its partitions are empty.
 use Rattle.std.proofs.Common.{◌≡◌, inl, inr, ⊎_elim, ℕ, zero, suc, ◌+◌, ◌≤◌, ◌<◌, List, [], ◌∷◌, length, replicate, refl, ap, ◌∙◌, arith}
 use Rattle.std.proofs.lemmas.Bool.{cases_lt}
-use Rattle.disk.specs.Content.{bytes_at, over, zeros}
+use Rattle.disk.specs.Content.{Content, bytes_at, over, zeros}
 use Rattle.intent_slots.specs.Fields.{Agree, number_at}
 use Rattle.intent_slots.specs.Header.{header_bytes}
 use Rattle.intent_slots.specs.Home.{Unkeyed}
-use Rattle.intent_slots.specs.Layout.{place_at, end_of}
-use Rattle.intent_slots.specs.Recovered.{ByHome, blocks_of}
+use Rattle.intent_slots.specs.Layout.{place_at, slot_place, end_of, image_length}
+use Rattle.intent_slots.specs.declared.layout.Side.TheVariants.{A}
+use Rattle.intent_slots.specs.Recovered.{StandsFor, ByHome, blocks_of}
 use Rattle.intent_slots.proofs.Over.{over_outside, list_over}
 use Rattle.intent_slots.proofs.ReadsBack.{header_back}
 use Rattle.intent_slots.proofs.Same.{same_list, same_number}
@@ -35,13 +36,15 @@ unfolding bytes_at
 zero_list zero at = refl
 zero_list (suc n) at = ap (λ (l : List ℕ). 0 ∷ l) (zero_list n (suc at))
 
-pub fresh_empty : FormattedIsEmpty
-fresh_empty cs g c few lt is =
+-- zeros behind the header are an empty partition of each guest
+pub zeros_empty : (cs : List ℕ) (g : ℕ) (c : Content) → g < length cs → ((k : ℕ) → 1024 ≤ k → k < image_length cs → c k ≡ 0)
+    → StandsFor (place_at cs g) (slot_place (place_at cs g) A) c no_part
+zeros_empty cs g c lt is =
     let place = place_at cs g in
     let inside = lies_inside cs g lt in
     let low = inside.0 in
     let high = inside.1 in
-    let z = λ (k : ℕ) (from : place.base ≤ k) (to : k < end_of place). is k (omega (arith, to, high)) ∙ zero_there cs k few (omega (arith, from, low)) in
+    let z = λ (k : ℕ) (from : place.base ≤ k) (to : k < end_of place). is k (omega (arith, from, low)) (omega (arith, to, high)) in
     let agree = λ (at n : ℕ) (a : place.base ≤ at) (b : at + n ≤ end_of place) (k : ℕ) (l : k < n). z (at + k) (omega arith) (omega arith) in
     ByHome
     (λ e. absurd (let gate = z (place.base + 512) (omega arith) (omega arith) in omega (arith, gate, e)))
@@ -54,6 +57,9 @@ fresh_empty cs g c few lt is =
       });
       same_blocks = same_content (blocks_of place c) zeros (λ k. ⊎_elim (λ below. blocks_below place c k below ∙ z (place.base + 35328 + k) (omega arith) (omega arith)) (λ past. blocks_beyond place c k past) (cases_lt k place.size));
     })
+
+pub fresh_empty : FormattedIsEmpty
+fresh_empty cs g c few lt is = zeros_empty cs g c lt (λ k from to. is k to ∙ zero_there cs k few from)
 
 pub fresh_image : FormattedIsImage
 fresh_image cs c few is =

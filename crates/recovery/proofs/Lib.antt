@@ -6,3 +6,4 @@ pub mod Headers
 pub mod Guests
 pub mod Zeros
 pub mod Fresh
+pub mod Clearing

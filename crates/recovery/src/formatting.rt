@@ -1,23 +1,17 @@
 //! Making a fresh image.
 ghost use Rattle.std.specs.Prelude.{◌≡◌, ◌≤◌, ◌<◌, ◌+◌, ◌*◌, ◌^◌, ℕ, true, false, length, is_ok, OnOk, OnErr, Err};
 ghost use Rattle.disk.specs.Content.{zeros};
-ghost use Rattle.disk.specs.Disk.{HasRisen};
+ghost use Rattle.disk.specs.Disk.{HasRisen, Sync};
 ghost use Rattle.intent_slots.specs.Layout.{capacities_of, image_length};
-ghost use Rattle.recovery.specs.Format.{Attempts, formatted, Holds, IsFormatted, Zeroes, FormattedIsImage, FormattedIsEmpty};
+ghost use Rattle.recovery.specs.Format.{Attempts, formatted, Holds, IsFormatted, Zeroes, FormattedIsImage, FormattedIsEmpty, WritesZeros, SyncsZeros, IsBlank, StaysEmpty, ClearsFirst};
 
 use crate::fault::OpenFault;
 use disk::{Disk, DiskFault};
-use intent_slots::{Layout, Side};
+use intent_slots::{HOME_LENGTH, Layout, Side, VERSION_PLACE};
 use rpmb_frame::BoardConfig;
 
 /// The most bytes of one write.
 const CHUNK_LENGTH: u64 = 16_648;
-
-/// The place of the version byte.
-const VERSION_PLACE: u64 = 512;
-
-/// The length of a home record in bytes.
-const HOME_LENGTH: usize = 64;
 
 /// Writes zeros.
 fn write_zeros<D: Disk>(disk: &mut D, at: u64, count: usize) -> Result<(), DiskFault>
@@ -25,6 +19,7 @@ fn write_zeros<D: Disk>(disk: &mut D, at: u64, count: usize) -> Result<(), DiskF
     requires room { at + count ≤ (D.state disk.old).len }
     ensures attempts { Attempts (is_ok result) (D.state disk.old) (D.state disk.new) }
     ensures zeros { OnOk result ((D.state disk.old).faithful ≡ true → Zeroes at count (D.state disk.old) (D.state disk.new)) }
+    ensures calls { WritesZeros D.makes disk.old disk.new }
 {
     let zeros = [0; 16_648];
     disk.write_at(at, &zeros[..count])
@@ -34,6 +29,7 @@ fn write_zeros<D: Disk>(disk: &mut D, at: u64, count: usize) -> Result<(), DiskF
 fn write_all_zeros<D: Disk>(disk: &mut D) -> Result<(), DiskFault>
     ensures attempts { Attempts (is_ok result) (D.state disk.old) (D.state disk.new) }
     ensures zeros { OnOk result ((D.state disk.old).faithful ≡ true → Holds zeros (D.state disk.old).len (D.state disk.new).seen) }
+    ensures calls { WritesZeros D.makes disk.old disk.new }
 {
     let len = disk.len();
     let whole = len / CHUNK_LENGTH;
@@ -52,6 +48,7 @@ fn write_guest<D: Disk>(disk: &mut D, layout: &Layout, guest: u16) -> Result<(),
     requires room { image_length layout.now ≤ (D.state disk.old).len }
     ensures attempts { Attempts (is_ok result) (D.state disk.old) (D.state disk.new) }
     ensures zeros { OnOk result ((D.state disk.old).faithful ≡ true → Holds zeros (D.state disk.old).len (D.state disk.old).seen → Holds zeros (D.state disk.old).len (D.state disk.new).seen) }
+    ensures calls { WritesZeros D.makes disk.old disk.new }
 {
     match write_zeros(disk, layout.home(guest), HOME_LENGTH) {
         Ok(()) => {}
@@ -69,6 +66,7 @@ fn write_guests<D: Disk>(disk: &mut D, layout: &Layout) -> Result<(), DiskFault>
     requires { image_length layout.now ≤ (D.state disk.old).len }
     ensures attempts { Attempts (is_ok result) (D.state disk.old) (D.state disk.new) }
     ensures zeros { OnOk result ((D.state disk.old).faithful ≡ true → Holds zeros (D.state disk.old).len (D.state disk.old).seen → Holds zeros (D.state disk.old).len (D.state disk.new).seen) }
+    ensures calls { WritesZeros D.makes disk.old disk.new }
 {
     for guest in 0..layout.guests() {
         match write_guest(disk, layout, guest as u16) {
@@ -84,6 +82,7 @@ fn write_header<D: Disk>(disk: &mut D, layout: &Layout) -> Result<(), DiskFault>
     requires { image_length layout.now ≤ (D.state disk.old).len }
     ensures attempts { Attempts (is_ok result) (D.state disk.old) (D.state disk.new) }
     ensures header { OnOk result ((D.state disk.old).faithful ≡ true → Holds zeros (D.state disk.old).len (D.state disk.old).seen → Holds (formatted layout.now) (D.state disk.old).len (D.state disk.new).seen) }
+    ensures empty { IsBlank layout.now (D.state disk.old) → StaysEmpty D.state D.makes layout.now disk.old disk.new }
 {
     match disk.write_at(0, layout.header().as_slice()) {
         Ok(()) => {}
@@ -94,6 +93,7 @@ fn write_header<D: Disk>(disk: &mut D, layout: &Layout) -> Result<(), DiskFault>
 
 /// Makes all durable.
 fn sync<D: Disk>(disk: &mut D) -> Result<(), DiskFault>
+    ensures call { D.makes disk.old (Sync (is_ok result)) disk.new }
     ensures attempts { Attempts (is_ok result) (D.state disk.old) (D.state disk.new) }
     ensures seen { (D.state disk.old).faithful ≡ true → (k : ℕ) → (D.state disk.new).seen k ≡ (D.state disk.old).seen k }
     ensures durable { OnOk result ((D.state disk.old).faithful ≡ true → (k : ℕ) → (D.state disk.new).unsynced k ≡ false) }
@@ -103,8 +103,8 @@ fn sync<D: Disk>(disk: &mut D) -> Result<(), DiskFault>
 
 /// Makes a fresh image: the header, the version byte 1 at place 512, and zeros, so that each partition
 /// is empty. It writes zeros over the whole disk, and for each guest a home record without a key and
-/// both gates shut, makes a sync, writes the header and the version byte, and makes a sync. So a stop
-/// in between leaves no header over what stood there before. It takes no memory.
+/// both gates shut, makes a sync, writes the header and the version byte, and makes a sync. So no stop
+/// leaves the new header over what stood there before. It takes no memory.
 ///
 /// Answers `DiskFault` where a call failed. Other faults never come.
 pub fn format<D: Disk>(disk: &mut D, board: &BoardConfig) -> Result<(), OpenFault>
@@ -112,6 +112,10 @@ pub fn format<D: Disk>(disk: &mut D, board: &BoardConfig) -> Result<(), OpenFaul
     ensures formatted { OnOk result ((D.state disk.old).faithful ≡ true → IsFormatted (capacities_of board.now) (D.state disk.new)) }
     ensures only { (fault : OpenFault) → result ≡ Err fault → fault ≡ OpenFault.DiskFault }
     ensures cause { OnErr result (HasRisen (D.state disk.old).failures (D.state disk.new).failures) }
+
+    // However it ends: until a sync succeeds it writes zeros alone, and from then on every stop leaves
+    // empty partitions.
+    ensures order { ClearsFirst D.state D.makes (capacities_of board.now) disk.old disk.new }
 {
     match write_image(disk, &Layout::of(board)) {
         Ok(()) => Ok(()),
@@ -124,6 +128,7 @@ fn write_image<D: Disk>(disk: &mut D, layout: &Layout) -> Result<(), DiskFault>
     requires { (D.state disk.old).len ≡ image_length layout.now }
     ensures attempts { Attempts (is_ok result) (D.state disk.old) (D.state disk.new) }
     ensures formatted { OnOk result ((D.state disk.old).faithful ≡ true → IsFormatted layout.now (D.state disk.new)) }
+    ensures order { ClearsFirst D.state D.makes layout.now disk.old disk.new }
 {
     match clear(disk, layout) {
         Ok(()) => {}
@@ -142,6 +147,8 @@ fn clear<D: Disk>(disk: &mut D, layout: &Layout) -> Result<(), DiskFault>
     ensures attempts { Attempts (is_ok result) (D.state disk.old) (D.state disk.new) }
     ensures zeros { OnOk result ((D.state disk.old).faithful ≡ true → Holds zeros (D.state disk.old).len (D.state disk.new).seen) }
     ensures durable { OnOk result ((D.state disk.old).faithful ≡ true → (k : ℕ) → (D.state disk.new).unsynced k ≡ false) }
+    ensures cleared { OnOk result (SyncsZeros D.makes true disk.old disk.new) }
+    ensures refused { OnErr result (ClearsFirst D.state D.makes layout.now disk.old disk.new) }
 {
     match write_all_zeros(disk) {
         Ok(()) => {}

@@ -13,13 +13,10 @@ use crate::reading::{read, read_guest};
 use crate::space::{Space, Supplies};
 use disk::Disk;
 use flusher::{Guest, Store};
-use intent_slots::{HeaderFault, Layout};
+use intent_slots::{HEADER_LENGTH, HeaderFault, Layout};
 use rpmb_core::Partition;
 use rpmb_frame::BoardConfig;
 use std::alloc::Global;
-
-/// The least length of an image in bytes: its header.
-const HEADER_LENGTH: u64 = 1024;
 
 /// Whether the front of the image is the header of this layout.
 fn read_header<D: Disk>(disk: &mut D, layout: &Layout) -> Result<(), OpenFault>

@@ -6,19 +6,15 @@ ghost use Rattle.intent_slots.specs.declared.layout.Side.TheVariants.{A};
 ghost use Rattle.flusher.specs.SlotInvariant.{IsShut, IsWideOpen};
 ghost use Rattle.intent_slots.specs.Payload.{GroupFits};
 ghost use Rattle.intent_slots.specs.Recovered.{redo};
-ghost use Rattle.flusher.specs.Slot.{skipped};
 ghost use Rattle.recovery.specs.Opening.{IsBegun};
 ghost use Rattle.recovery.specs.Reading.{Gives, Passes, Finds, is_disk_fault};
 
 use crate::fault::OpenFault;
 use crate::space::Space;
 use disk::{Disk, DiskFault};
-use flusher::{Guest, Slot};
-use intent_slots::{Home, Intent, Layout, Side};
+use flusher::{Guest, Slot, skipped};
+use intent_slots::{BLOCK_LENGTH, HOME_LENGTH, Home, Intent, Layout, OPEN_GATE, Side};
 use rpmb_core::Partition;
-
-/// A gate that is open.
-const OPEN: u8 = 0xA5;
 
 /// Reads a range.
 pub(crate) fn read<D: Disk>(disk: &mut D, at: u64, out: &mut [u8]) -> Result<(), DiskFault>
@@ -62,7 +58,11 @@ fn redo_all(blocks: &mut [u8], intent: &Intent)
 {
     for k in 0..intent.entries() {
         let entry = intent.entry(k);
-        put(blocks, 256 * usize::from(entry.address()), entry.blocks());
+        put(
+            blocks,
+            BLOCK_LENGTH as usize * usize::from(entry.address()),
+            entry.blocks(),
+        );
     }
 }
 
@@ -81,7 +81,7 @@ fn read_shut<D: Disk>(
     ensures memory { ¬ result ≡ Err OpenFault.NoMemory }
     ensures finds { (c : Content) → Gives (D.state disk.old) c → IsShut (slot_place (place_at layout.now number) A) c → Finds layout.now number c result }
 {
-    let mut record = [0; 64];
+    let mut record = [0; HOME_LENGTH];
     match read(disk, layout.home(number), &mut record) {
         Ok(()) => {}
         Err(_) => return Err(OpenFault::DiskFault),
@@ -103,14 +103,6 @@ fn read_shut<D: Disk>(
     };
     let partition = Partition::of(capacity, home.key(), home.counter(), blocks);
     Ok((guest, partition))
-}
-
-/// How many of the entries have no blocks to write.
-fn skipped(intent: &Intent) -> usize
-    ensures { result ≡ skipped intent.now.group.entries }
-{
-    let _some = intent.entries();
-    usize::from(intent.entry(0).blocks().is_empty())
 }
 
 /// The guest whose gate is open: its blocks with those of the payload over them. Its home isn't
@@ -180,7 +172,7 @@ pub(crate) fn read_guest<D: Disk>(
         Ok(()) => {}
         Err(_) => return Err(OpenFault::DiskFault),
     }
-    if gate[0] == OPEN {
+    if gate[0] == OPEN_GATE {
         read_open(disk, layout, number, space, buffer)
     } else {
         read_shut(disk, layout, number, space.blocks)

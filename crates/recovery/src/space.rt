@@ -3,12 +3,9 @@ ghost use Rattle.std.specs.Prelude.{◌≡◌, ◌≤◌, ◌*◌, [], length, I
 ghost use Rattle.recovery.specs.Space.{AreSpaces, AreSupplies};
 
 use flusher::Guest;
-use intent_slots::{Layout, NoMemory, PAYLOAD_LENGTH, Room};
+use intent_slots::{Layout, NoMemory, PAYLOAD_LENGTH, Room, UNIT_LENGTH};
 use rpmb_core::Partition;
 use std::alloc::Global;
-
-/// The length in bytes of the blocks of one unit of capacity.
-const UNIT_LENGTH: usize = 131_072;
 
 /// What one guest takes.
 #[derive(Drop)]
@@ -24,7 +21,7 @@ impl Space {
         ensures { IfOk result (λ space. length space.blocks.items ≡ 131072 * capacity) }
     {
         let room = Room::new(alloc)?;
-        let blocks = vec![in alloc; 0; UNIT_LENGTH * usize::from(capacity)]?;
+        let blocks = vec![in alloc; 0; UNIT_LENGTH as usize * usize::from(capacity)]?;
         Ok(Space { room, blocks })
     }
 }

@@ -245,3 +245,67 @@ fn refused(rt: HostRuntime) -> Result<(), Fail> {
     );
     Ok(())
 }
+
+/// A fresh image of one guest but for its length.
+fn resized(alloc: Global, board: &BoardConfig, length: usize) -> Result<CutDisk, Fail> {
+    let mut content = fresh(alloc, board)?.content().to_vec(alloc)?;
+    content.resize(length, 0)?;
+    Ok(CutDisk::new(alloc, content)?)
+}
+
+/// Lengths in bytes of such images, the call that would fail, and the fault. The first call is the
+/// sync, the second reads the header, and the third would read a gate.
+const LENGTHS: [(usize, u64, OpenFault); 7] = [
+    (167_425, 3, OpenFault::NotFormatted),
+    (167_423, 3, OpenFault::NotFormatted),
+    (1_024, 3, OpenFault::NotFormatted),
+    (1_024, 2, OpenFault::DiskFault),
+    (1_023, 2, OpenFault::NotFormatted),
+    (1_023, 1, OpenFault::DiskFault),
+    (0, 2, OpenFault::NotFormatted),
+];
+
+#[test]
+fn other_lengths(rt: HostRuntime) -> Result<(), Fail> {
+    let alloc = rt.alloc();
+    let board = board(alloc, &[1])?;
+    for (length, failing, fault) in LENGTHS {
+        let mut disk = resized(alloc, &board, length)?;
+        disk.fail(failing);
+        assert_eq!(rt;
+            open(alloc, disk, &board).err().map(|e| e.1),
+            Some(fault),
+            "{length}"
+        );
+    }
+    Ok(())
+}
+
+/// Opens once more what an opening refused, each time on the disk that it gave back. Where memory was
+/// refused no call was made: the second call from then on is still the one that fails.
+fn retried(alloc: Global, disk: CutDisk, board: &BoardConfig) -> Result<Store<CutDisk>, Fail> {
+    let mut disk = disk;
+    disk.fail(2);
+    match open(alloc, disk, board) {
+        Ok(_) => Err("a call fails".into()),
+        Err((disk, OpenFault::DiskFault)) => opened(alloc, disk, board),
+        Err((disk, OpenFault::NoMemory)) => {
+            let mut disk = disk;
+            if disk.sync().is_err() || disk.sync().is_ok() {
+                return Err("a call was made".into());
+            }
+            opened(alloc, disk, board)
+        }
+        Err((_, fault)) => Err(fault.into()),
+    }
+}
+
+/// With `rt try --test --fail-alloc` each allocation of an opening fails once.
+#[test]
+fn refused_memory(rt: HostRuntime) -> Result<(), Fail> {
+    let alloc = rt.alloc();
+    let board = board(alloc, &[1, 1])?;
+    let store = retried(alloc, fresh(alloc, &board)?, &board)?;
+    assert_eq!(rt; (store.next(0), store.next(1)), (1, 1));
+    Ok(())
+}
