@@ -74,6 +74,7 @@ kept_turn o h gs n kept t right gs' guests long n' counted few h' is =
       guests_are = guests ∙ ap (λ s. s.guests) (sym (replay-push o h.turns t));
       legal = legal-push o h.turns t kept.legal right;
       begins = kept.begins;
+      of_board = kept.of_board;
       counted = counted ∙ ap (λ k. k + one_if (is_submit t)) kept.counted ∙ sym (sum_by_push (λ u. if is_submit u then 1 else 0) h.turns t);
       few = few;
       wide = kept.wide ∙ sym long;

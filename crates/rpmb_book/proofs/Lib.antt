@@ -11,3 +11,6 @@ pub mod Taking
 pub mod IsolationLemmas
 pub mod OutcomeLemmas
 pub mod LeadingOn
+pub mod Asking
+pub mod OnBoard
+pub mod Giving

@@ -8,8 +8,8 @@ use Rattle.std.proofs.lemmas.Option.{slice_get_cases}
 use Rattle.rpmb_frame.specs.Partition.{sequence}
 use Rattle.rpmb_core.proofs.Sequence.{sequence_accepted, after_refused, keyed_after}
 use Rattle.mmio_transport.specs.Job.{Job, Done, done_of}
-use Rattle.rpmb_book.specs.Job.{Entry, entry_sequence}
-use Rattle.rpmb_book.specs.Guest.{GuestCore, GuestState, submitted, took, collected, first_due, first_entry, first_sequence, joined_by, entry, entry_of, accepts, after, request_of, answer, need}
+use Rattle.intent_slots.specs.Payload.{Intent}
+use Rattle.rpmb_book.specs.Guest.{GuestCore, GuestState, submitted, took, collected, first_due, first_intent, first_sequence, joined_by, intent, intent_of, intent_sequence, accepts, after, request_of, answer, need}
 use Rattle.rpmb_book.specs.Turn.{Turn, Submit, Take, Settle, Collect, State, after_turn, IsRight, is_submit, settled_all, are_within, move_some}
 use Rattle.rpmb_book.specs.Sound.{Follows, IsSoundGuest, IsSound}
 use Rattle.rpmb_book.specs.Replay.{replay, IsLegal}
@@ -34,19 +34,19 @@ pub record IsOpening (s : State) : Type 0 where
   pub uncounted : total submits_of s.guests ≡ 0
   pub sound : IsSound s
 
-follows_le : (n : ℕ) (es : List Entry) (m : ℕ) → Follows n es m → n ≤ m
+follows_le : (n : ℕ) (es : List Intent) (m : ℕ) → Follows n es m → n ≤ m
 follows_le n [] m f = omega arith
-follows_le n (e ∷ es) m f = omega (arith, follows_le (entry_sequence e) es m f.1)
+follows_le n (e ∷ es) m f = omega (arith, follows_le (intent_sequence e) es m f.1)
 
-follows-push : (n : ℕ) (es : List Entry) (m : ℕ) (e : Entry) → Follows n es m → entry_sequence e ≡ m + 1 → Follows n (es ++ e ∷ []) (m + 1)
+follows-push : (n : ℕ) (es : List Intent) (m : ℕ) (e : Intent) → Follows n es m → intent_sequence e ≡ m + 1 → Follows n (es ++ e ∷ []) (m + 1)
 follows-push n [] m e f is = (is ∙ ap (λ k. k + 1) (sym f), is)
-follows-push n (x ∷ es) m e f is = (f.0, follows-push (entry_sequence x) es m e f.1 is)
+follows-push n (x ∷ es) m e f is = (f.0, follows-push (intent_sequence x) es m e f.1 is)
 
-follows-first : (n : ℕ) (es : List Entry) (m : ℕ) → Follows n es m → Follows (first_sequence n es) (drop 1 es) m
+follows-first : (n : ℕ) (es : List Intent) (m : ℕ) → Follows n es m → Follows (first_sequence n es) (drop 1 es) m
 follows-first n [] m f = f
 follows-first n (e ∷ es) m f = f.1
 
-first_le : (n : ℕ) (es : List Entry) (m : ℕ) → Follows n es m → n ≤ first_sequence n es
+first_le : (n : ℕ) (es : List Intent) (m : ℕ) → Follows n es m → n ≤ first_sequence n es
 first_le n [] m f = omega arith
 first_le n (e ∷ es) m f = omega arith
 
@@ -55,23 +55,27 @@ by_test : {P : Type 0} (b : Bool) → (b ≡ true → P) → (b ≡ false → P)
 by_test true f g = f refl
 by_test false f g = g refl
 
--- what a Submit does to the waiting entries and to the sequence
+-- what a Submit does to the waiting intents and to the sequence
 pub record Joins (old new : GuestState) (by : ℕ) : Type 0 where
   pub long : length new.waiting ≡ length old.waiting + by
   pub later : sequence new.core.partition ≡ sequence old.core.partition + by
   pub follows : Follows old.taken old.waiting (sequence old.core.partition) → Follows new.taken new.waiting (sequence new.core.partition)
 
-joined_some : (n : ℕ) (w : List Entry) (o : Option Entry) (e : Entry) (m k : ℕ) → o ≡ Some e → entry_sequence e ≡ k → k ≡ m + 1 → (length (joined_by w o) ≡ length w + 1) × (Follows n w m → Follows n (joined_by w o) k)
+joined_some : (n : ℕ) (w : List Intent) (o : Option Intent) (e : Intent) (m k : ℕ) → o ≡ Some e → intent_sequence e ≡ k → k ≡ m + 1 → (length (joined_by w o) ≡ length w + 1) × (Follows n w m → Follows n (joined_by w o) k)
 joined_some n w o e m k is at next = rw (is, next) (length-append w (e ∷ []), λ f. follows-push n w m e f (at ∙ next))
 
-joined_none : (n : ℕ) (w : List Entry) (o : Option Entry) (m k : ℕ) → o ≡ None → k ≡ m → (length (joined_by w o) ≡ length w + 0) × (Follows n w m → Follows n (joined_by w o) k)
+joined_none : (n : ℕ) (w : List Intent) (o : Option Intent) (m k : ℕ) → o ≡ None → k ≡ m → (length (joined_by w o) ≡ length w + 0) × (Follows n w m → Follows n (joined_by w o) k)
 joined_none n w o m k is same = rw (is, same) (omega arith, λ f. f)
 
-entry_some : (c : GuestCore) (job : Job) → accepts c job ≡ true → entry c job ≡ Some (entry_of (after c job) (request_of c job).command)
-entry_some c job is = rw is refl
+pub intent_some : (c : GuestCore) (job : Job) → accepts c job ≡ true → intent c job ≡ Some (intent_of job.guest (after c job) (request_of c job).command)
+intent_some c job is = rw is refl
 
-entry_none : (c : GuestCore) (job : Job) → accepts c job ≡ false → entry c job ≡ None
-entry_none c job is = rw is refl
+-- it has the sequence of the partition after the request
+pub intent_counted : (c : GuestCore) (job : Job) → accepts c job ≡ true → intent_sequence (intent_of job.guest (after c job) (request_of c job).command) ≡ sequence (after c job)
+intent_counted c job is = omega (arith, keyed_after c.partition (request_of c job) is)
+
+pub intent_none : (c : GuestCore) (job : Job) → accepts c job ≡ false → intent c job ≡ None
+intent_none c job is = rw is refl
 
 submit_joins : (job : Job) (g : GuestState) → (by : ℕ) × (by ≤ 1) × Joins g (submitted job g) by
 submit_joins job g =
@@ -79,12 +83,12 @@ submit_joins job g =
     (λ is.
     let r = request_of g.core job in
     let next = sequence_accepted g.core.partition r is in
-    let more = joined_some g.taken g.waiting (entry g.core job) (entry_of (after g.core job) r.command) (sequence g.core.partition) (sequence (after g.core job)) (entry_some g.core job is) (sym (keyed_after g.core.partition r is)) next in
+    let more = joined_some g.taken g.waiting (intent g.core job) (intent_of job.guest (after g.core job) r.command) (sequence g.core.partition) (sequence (after g.core job)) (intent_some g.core job is) (intent_counted g.core job is) next in
     (1, omega arith, record { long = more.0; later = next; follows = more.1 }))
     (λ is.
     let r = request_of g.core job in
     let same = ap sequence (after_refused g.core.partition r is) in
-    let none = joined_none g.taken g.waiting (entry g.core job) (sequence g.core.partition) (sequence (after g.core job)) (entry_none g.core job is) same in
+    let none = joined_none g.taken g.waiting (intent g.core job) (sequence g.core.partition) (sequence (after g.core job)) (intent_none g.core job is) same in
     (0, omega arith, record { long = none.0; later = same ∙ omega arith; follows = none.1 }))
 
 submit_cost : (job : Job) (g : GuestState) → due (submitted job g) ≤ due g + 3
@@ -98,10 +102,10 @@ submit_unsettled job g = let j = submit_joins job g in omega (arith, j.1, j.2.la
 submit_sound : (job : Job) (g : GuestState) → IsSoundGuest g → IsSoundGuest (submitted job g)
 submit_sound job g sound = ((submit_joins job g).2.follows sound.0, sound.1)
 
-take_cost : (g : GuestState) → IsSome (first_entry g.waiting) → due (took g) + 1 ≤ due g
+take_cost : (g : GuestState) → IsSome (first_intent g.waiting) → due (took g) + 1 ≤ due g
 take_cost g some = omega (arith, some_waits g.waiting some, length-drop 1 g.waiting)
   where
-    some_waits : (w : List Entry) → IsSome (first_entry w) → 1 ≤ length w
+    some_waits : (w : List Intent) → IsSome (first_intent w) → 1 ≤ length w
     some_waits [] some = absurd (cc)
     some_waits (e ∷ es) some = omega arith
 

@@ -10,6 +10,8 @@ use Rattle.rpmb_book.specs.Replay.{replay}
 use Rattle.rpmb_book.specs.History.{HistoryView}
 use Rattle.rpmb_book.specs.Book.{BookView, refusal, with_turn, submit_of}
 use Rattle.rpmb_book.specs.Kept.{IsKept}
+use Rattle.rpmb_book.specs.Sound.{IsCoreOfBoard}
+use Rattle.rpmb_book.proofs.OnBoard.{core_at, on_board}
 use Rattle.rpmb_book.proofs.Kept.{not_refused, known, kept_guest, few_submits}
 
 abbrev pub shown : ℕ → State → HistoryView → BookView
@@ -21,6 +23,7 @@ pub record AnswersHere (o : State) (h : HistoryView) (n : ℕ) (tally : Tally) (
   pub counts : tally.count ≡ g.submits
   pub more : n ≢ 16384
   pub few : g.submits ≤ 16384
+  pub of_board : IsCoreOfBoard g.core
 
 pub answers_here : (life : ℕ) (o : State) (h : HistoryView) (gs : List GuestState) (n : ℕ) (v : BookView) (tally : Tally) (job : Job) (at : ℕ) (g : GuestState) → IsKept o h gs n
     → shown life o h ≡ v → None ≡ refusal v tally job → at ≡ job.guest → g ≡ get_or gs at g → AnswersHere o h n tally job g
@@ -35,6 +38,7 @@ answers_here life o h gs n v tally job at g kept is none at_is read =
       counts = told.2 ∙ ap (λ x. x.submits) same;
       more = λ e. told.3 (sym kept.counted ∙ e);
       few = few_submits o h gs n job.guest g kept here;
+      of_board = core_at s job.guest g here (on_board o h.turns kept.of_board kept.legal);
     }
   where
     some_same : {x y : GuestState} → Some x ≡ Some y → x ≡ y

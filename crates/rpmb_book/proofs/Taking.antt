@@ -1,14 +1,14 @@
 -- Turns of one guest that take no memory.
 use Rattle.std.proofs.Common.{◌≡◌, ◌<◌, ℕ, Bool, true, false, List, [], ◌∷◌, ◌++◌, Option, Some, None, length, set, refl, ap, sym, ◌∙◌, subst, arith, get_or}
-use Rattle.std.specs.Prelude.{slice_get, IsSome, is_some, if◌then◌else◌, Ok, Err, option_map}
+use Rattle.std.specs.Prelude.{slice_get, IsSome, is_some, if◌then◌else◌, Ok, Err}
 use Rattle.std.proofs.lemmas.Option.{slice_get_within}
-use Rattle.rpmb_book.specs.Guest.{GuestState, took, collected, first_entry, first_due}
+use Rattle.rpmb_book.specs.Guest.{GuestState, took, collected, first_intent, first_due}
 use Rattle.rpmb_book.specs.Turn.{Turn, Take, Collect, State, IsRight}
 use Rattle.rpmb_book.specs.Replay.{replay}
 use Rattle.rpmb_book.specs.History.{HistoryView}
 use Rattle.mmio_transport.specs.Job.{Done}
-use Rattle.rpmb_book.specs.Job.{Entry}
-use Rattle.rpmb_book.specs.Book.{BookView, with_turn, guest_of, due_at, due_of, after_collect, is_share, is_taken, next_entry, waiting_of, take_answer, after_take, intent_of}
+use Rattle.intent_slots.specs.Payload.{Intent}
+use Rattle.rpmb_book.specs.Book.{BookView, with_turn, guest_of, due_at, due_of, after_collect, is_share, is_taken, next_intent, waiting_of, take_answer, after_take}
 use Rattle.rpmb_book.specs.declared.refused.Refused.TheVariants.{Foreign}
 use Rattle.rpmb_book.specs.Kept.{IsKept}
 use Rattle.rpmb_book.proofs.Kept.{known, kept_guest, room_for}
@@ -25,8 +25,8 @@ stands o h gs n m at g kept at_is lt read = record { kept = kept; at = known (re
 some_there : {X : Type 0} {x y : X} → Some x ≡ Some y → x ≡ y
 some_there e = cc
 
-right_take : (s : State) (m : ℕ) (g : GuestState) → slice_get s.guests m ≡ Some g → is_some (first_entry g.waiting) ≡ true → IsRight s (Take m)
-right_take s m g at waits = (λ x is. subst (λ (y : GuestState). IsSome (first_entry y.waiting)) (some_there (sym at ∙ is)) waits, slice_get_within s.guests m g at)
+right_take : (s : State) (m : ℕ) (g : GuestState) → slice_get s.guests m ≡ Some g → is_some (first_intent g.waiting) ≡ true → IsRight s (Take m)
+right_take s m g at waits = (λ x is. subst (λ (y : GuestState). IsSome (first_intent y.waiting)) (some_there (sym at ∙ is)) waits, slice_get_within s.guests m g at)
 
 right_collect : (s : State) (m : ℕ) (g : GuestState) → slice_get s.guests m ≡ Some g → is_some (first_due g.settled g.held) ≡ true → IsRight s (Collect m)
 right_collect s m g at due = (λ x is. subst (λ (y : GuestState). IsSome (first_due y.settled y.held)) (some_there (sym at ∙ is)) due, slice_get_within s.guests m g at)
@@ -36,7 +36,7 @@ pub record TurnsGuest (o : State) (h : HistoryView) (gs : List GuestState) (n at
   pub room : length h.turns < 65537
   pub kept : (h' : HistoryView) → h' ≡ record h { turns = h.turns ++ t ∷ [] } → IsKept o h' (set gs at v) n
 
-pub takes : (o : State) (h : HistoryView) (gs : List GuestState) (n m at : ℕ) (g v : GuestState) → Stands o h gs n m g → is_some (first_entry g.waiting) ≡ true → at ≡ m → v ≡ took g → TurnsGuest o h gs n at v (Take m)
+pub takes : (o : State) (h : HistoryView) (gs : List GuestState) (n m at : ℕ) (g v : GuestState) → Stands o h gs n m g → is_some (first_intent g.waiting) ≡ true → at ≡ m → v ≡ took g → TurnsGuest o h gs n at v (Take m)
 takes o h gs n m at g v here waits at_is v_is =
     let right = right_take (replay o h.turns) m g here.at waits in
     record {
@@ -89,15 +89,15 @@ share_inside life o h gs n v shares m kept shows is =
     let at : slice_get (replay o h.turns).guests m ≡ Some g.0 = ap (λ b. guest_of b m) shows ∙ g.1 in
     omega (arith, slice_get_within (replay o h.turns).guests m g.0 at, ap length kept.guests_are)
 
-pub next_here : (life : ℕ) (o : State) (h : HistoryView) (gs : List GuestState) (n m : ℕ) (v : BookView) (shares : List ℕ) (g : GuestState) → Stands o h gs n m g → shown life o h ≡ v → is_share v shares m ≡ true → next_entry v shares m ≡ first_entry g.waiting
+pub next_here : (life : ℕ) (o : State) (h : HistoryView) (gs : List GuestState) (n m : ℕ) (v : BookView) (shares : List ℕ) (g : GuestState) → Stands o h gs n m g → shown life o h ≡ v → is_share v shares m ≡ true → next_intent v shares m ≡ first_intent g.waiting
 next_here life o h gs n m v shares g here is share =
-    chosen (is_share v shares m) (first_entry (waiting_of (guest_of v m))) None share ∙ ap (λ o. first_entry (waiting_of o)) (ap (λ b. guest_of b m) (sym is) ∙ here.at)
+    chosen (is_share v shares m) (first_intent (waiting_of (guest_of v m))) None share ∙ ap (λ o. first_intent (waiting_of o)) (ap (λ b. guest_of b m) (sym is) ∙ here.at)
 
-pub take_answer_is : (v : BookView) (shares : List ℕ) (m : ℕ) (e : Option Entry) → is_share v shares m ≡ true → e ≡ next_entry v shares m → Ok (option_map (intent_of m) e) ≡ take_answer v shares m
-take_answer_is v shares m e share is = ap (λ x. Ok (option_map (intent_of m) x)) is ∙ sym (chosen (is_share v shares m) (Ok (option_map (intent_of m) (next_entry v shares m))) (Err Foreign) share)
+pub take_answer_is : (v : BookView) (shares : List ℕ) (m : ℕ) (e : Option Intent) → is_share v shares m ≡ true → e ≡ next_intent v shares m → Ok e ≡ take_answer v shares m
+take_answer_is v shares m e share is = ap (λ x. Ok x) is ∙ sym (chosen (is_share v shares m) (Ok (next_intent v shares m)) (Err Foreign) share)
 
-pub took_nothing : (v : BookView) (shares : List ℕ) (m : ℕ) → None ≡ next_entry v shares m → v ≡ after_take v shares m
-took_nothing v shares m is = sym (not_chosen (is_some (next_entry v shares m)) (with_turn v (Take m)) v (ap is_some (sym is)))
+pub took_nothing : (v : BookView) (shares : List ℕ) (m : ℕ) → None ≡ next_intent v shares m → v ≡ after_take v shares m
+took_nothing v shares m is = sym (not_chosen (is_some (next_intent v shares m)) (with_turn v (Take m)) v (ap is_some (sym is)))
 
-pub took_one : (v : BookView) (shares : List ℕ) (m : ℕ) (e : Entry) → Some e ≡ next_entry v shares m → with_turn v (Take m) ≡ after_take v shares m
-took_one v shares m e is = sym (chosen (is_some (next_entry v shares m)) (with_turn v (Take m)) v (some_is (next_entry v shares m) e is))
+pub took_one : (v : BookView) (shares : List ℕ) (m : ℕ) (e : Intent) → Some e ≡ next_intent v shares m → with_turn v (Take m) ≡ after_take v shares m
+took_one v shares m e is = sym (chosen (is_some (next_intent v shares m)) (with_turn v (Take m)) v (some_is (next_intent v shares m) e is))

@@ -1,9 +1,10 @@
 -- What a book shows, and what each of its calls answers and makes of it.
-use Rattle.std.specs.Prelude.{ℕ, ◌==◌, ◌&&◌, ◌||◌, not, Bool, true, false, if◌then◌else◌, Option, Some, None, is_some, Result, Ok, Err, option_map, List, [], ◌∷◌, ◌++◌, length, map, count_by, slice_get, slice_set}
+use Rattle.std.specs.Prelude.{ℕ, ◌==◌, ◌&&◌, ◌||◌, not, Bool, true, false, if◌then◌else◌, Option, Some, None, is_some, Result, Ok, Err, List, [], ◌∷◌, ◌++◌, length, map, count_by, slice_get, slice_set}
 use Rattle.rpmb_frame.specs.Table.{first_row}
 use Rattle.mmio_transport.specs.Job.{Job, Done}
-use Rattle.rpmb_book.specs.Job.{Entry, Intent, Tally, Submission, entry_sequence}
-use Rattle.rpmb_book.specs.Guest.{GuestState, first_entry, first_due}
+use Rattle.intent_slots.specs.Payload.{Intent}
+use Rattle.rpmb_book.specs.Job.{Tally, Submission}
+use Rattle.rpmb_book.specs.Guest.{GuestState, first_intent, first_due, intent_sequence}
 use Rattle.rpmb_book.specs.Turn.{Turn, Submit, Take, Settle, Collect, State, answer_of, is_submit, move_some}
 use Rattle.rpmb_book.specs.Replay.{replay}
 use Rattle.rpmb_book.specs.declared.refused.Refused.{Refused}
@@ -55,26 +56,23 @@ is_taken (Some g) (Some n) = g.taken == n
 abbrev pub is_share : BookView → List ℕ → ℕ → Bool
 is_share b shares n = is_taken (guest_of b n) (slice_get shares n)
 
-abbrev pub waiting_of : Option GuestState → List Entry
+abbrev pub waiting_of : Option GuestState → List Intent
 waiting_of None = []
 waiting_of (Some g) = g.waiting
 
--- the entry that a Take gives
-abbrev pub next_entry : BookView → List ℕ → ℕ → Option Entry
-next_entry b shares n = if is_share b shares n then first_entry (waiting_of (guest_of b n)) else None
-
-abbrev pub intent_of : ℕ → Entry → Intent
-intent_of n e = record { guest = n; entry = e }
+-- the intent that a Take gives
+abbrev pub next_intent : BookView → List ℕ → ℕ → Option Intent
+next_intent b shares n = if is_share b shares n then first_intent (waiting_of (guest_of b n)) else None
 
 abbrev pub take_answer : BookView → List ℕ → ℕ → Result (Option Intent) Refused
-take_answer b shares n = if is_share b shares n then Ok (option_map (intent_of n) (next_entry b shares n)) else Err Foreign
+take_answer b shares n = if is_share b shares n then Ok (next_intent b shares n) else Err Foreign
 
 abbrev pub after_take : BookView → List ℕ → ℕ → BookView
-after_take b shares n = if is_some (next_entry b shares n) then with_turn b (Take n) else b
+after_take b shares n = if is_some (next_intent b shares n) then with_turn b (Take n) else b
 
-abbrev pub share_moved : List ℕ → ℕ → Option Entry → List ℕ
+abbrev pub share_moved : List ℕ → ℕ → Option Intent → List ℕ
 share_moved shares n None = shares
-share_moved shares n (Some e) = slice_set shares n (entry_sequence e)
+share_moved shares n (Some i) = slice_set shares n (intent_sequence i)
 
 -- each guest's share is its taken sequence; shares of guests that the book lacks aren't looked at
 abbrev pub are_taken : List GuestState → List ℕ → Bool

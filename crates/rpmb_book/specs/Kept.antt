@@ -5,6 +5,7 @@ use Rattle.rpmb_book.specs.Guest.{GuestState, fresh}
 use Rattle.rpmb_book.specs.Turn.{State, is_submit}
 use Rattle.rpmb_book.specs.Replay.{replay, IsLegal}
 use Rattle.rpmb_book.specs.History.{HistoryView}
+use Rattle.rpmb_book.specs.Sound.{AreOfBoard}
 
 -- nothing was asked of any guest yet
 abbrev pub IsFresh : State → Type 0
@@ -15,6 +16,7 @@ pub record IsKept (opening : State) (history : HistoryView) (guests : List Guest
   pub guests_are : guests ≡ (replay opening history.turns).guests
   pub legal : IsLegal opening history.turns
   pub begins : IsFresh opening
+  pub of_board : AreOfBoard opening
   pub counted : submits ≡ count_by is_submit history.turns
   pub few : submits ≤ 16384
   pub wide : history.guests ≡ length guests

@@ -5,9 +5,10 @@ pub mod Replay
 pub mod Planned
 pub mod History
 pub mod Book
+pub mod Sound
+pub mod Given
 pub mod Kept
 pub mod Receipt
 pub mod Opening
-pub mod Sound
 pub mod Isolation
 pub mod Outcome

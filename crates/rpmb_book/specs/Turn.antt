@@ -3,12 +3,12 @@ use Rattle.std.specs.Prelude.{ℕ, zero, suc, ◌≡◌, ◌<◌, ◌&&◌, ◌|
 use Rattle.std.specs.Option.{ForSome}
 use Rattle.mmio_transport.specs.Job.{Job}
 use Rattle.rpmb_book.specs.Job.{Submission}
-use Rattle.rpmb_book.specs.Guest.{GuestState, submitted, took, settled_at, collected, first_due, first_entry, answer}
+use Rattle.rpmb_book.specs.Guest.{GuestState, submitted, took, settled_at, collected, first_due, first_intent, answer}
 
 pub data Turn : Type 0 where
   -- a job was answered
   Submit : (made : Submission) → Turn
-  -- the guest's first waiting entry went to the store
+  -- the guest's first waiting intent went to the store
   Take : (guest : ℕ) → Turn
   -- the store has these sequences, one a guest
   Settle : (marks : List ℕ) → Turn
@@ -58,7 +58,7 @@ move_some (g ∷ gs) (m ∷ ms) = nat_lt g.settled m || move_some gs ms
 -- the turn is one that the book makes in that state, with the answer that it gives there
 abbrev pub IsRight : State → Turn → Type 0
 IsRight s (Submit w) = (w.job.guest < length s.guests) × (w.reply ≡ answer_of s w.job)
-IsRight s (Take n) = ForSome (slice_get s.guests n) (λ g. IsSome (first_entry g.waiting)) × (n < length s.guests)
+IsRight s (Take n) = ForSome (slice_get s.guests n) (λ g. IsSome (first_intent g.waiting)) × (n < length s.guests)
 IsRight s (Settle marks) = (length marks ≡ length s.guests) × (are_within s.guests marks ≡ true) × (move_some s.guests marks ≡ true)
 IsRight s (Collect n) = ForSome (slice_get s.guests n) (λ g. IsSome (first_due g.settled g.held)) × (n < length s.guests)
 

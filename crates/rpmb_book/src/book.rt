@@ -2,19 +2,19 @@ ghost use Rattle.std.specs.Prelude.{◌≡◌, ◌≤◌, ◌+◌, ◌<◌, ℕ,
 ghost use Rattle.rpmb_frame.specs.Partition.{sequence};
 ghost use Rattle.rpmb_book.specs.Opening.{tallies_from};
 ghost use Rattle.rpmb_book.specs.Replay.{opened, IsLegal};
-ghost use Rattle.rpmb_book.specs.Book.{BookView, state, with_turn, submit_of, refusal, is_share, is_taken, take_answer, after_take, next_entry, share_moved, are_taken, settle_answer, after_settle, due_of, after_collect, found_by, taken_marks};
+ghost use Rattle.rpmb_book.specs.Book.{BookView, state, with_turn, submit_of, refusal, is_share, is_taken, take_answer, after_take, next_intent, share_moved, are_taken, settle_answer, after_settle, due_of, after_collect, found_by, taken_marks};
 ghost use Rattle.std.specs.List.{list_any};
 ghost use Rattle.rpmb_book.specs.Turn.{settled_all};
-ghost use Rattle.rpmb_book.specs.Sound.{IsSound};
+ghost use Rattle.rpmb_book.specs.Sound.{AreOfBoard, IsSound};
 ghost use Rattle.rpmb_book.specs.Receipt.{turn_seen, submission_seen};
 
 use crate::guest_state::GuestState;
 use crate::history::{History, TurnRecord};
-use crate::intent::Intent;
 use crate::opening::{copied_guests, guests, sequences, tallies};
 use crate::receipt::{Receipt, TurnView};
 use crate::refused::Refused;
 use crate::tally::{Shares, Tally};
+use intent_slots::Intent;
 use mmio_transport::{Done, Job};
 use rpmb_core::{NoMemory, Partition};
 use rpmb_frame::BoardConfig;
@@ -102,7 +102,7 @@ impl Book {
         None
     }
 
-    /// Answers a job: the partition, the stored outcome and the waiting entries change as its request
+    /// Answers a job: the partition, the stored outcome and the waiting intents change as its request
     /// says, and its reply is held until its need is settled. A refusal gives the job back and changes
     /// nothing. It is the first of these that applies: `Foreign` where the book lacks the job's guest,
     /// or the tally isn't of that guest, or not its count of Submits; `Busy` where the guest has 64
@@ -151,13 +151,13 @@ impl Book {
         }
     }
 
-    /// Gives the guest's oldest accepted request that was not taken, and moves its share there; None
-    /// where none waits. `Foreign` exactly where the book lacks the guest or the share isn't its taken
-    /// sequence. It takes no memory.
+    /// Gives the intent of the guest's oldest accepted request that was not taken, and moves its share
+    /// there; None where none waits. It is moved out, with the blocks that `submit` copied. `Foreign`
+    /// exactly where the book lacks the guest or the share isn't its taken sequence. It takes no memory.
     pub fn take(&mut self, shares: &mut Shares, guest: u16) -> Result<Option<Intent>, Refused>
         ensures answer { result ≡ take_answer self.old shares.old guest }
         ensures book { self.new ≡ after_take self.old shares.old guest }
-        ensures shares { shares.new ≡ share_moved shares.old guest (next_entry self.old shares.old guest) }
+        ensures shares { shares.new ≡ share_moved shares.old guest (next_intent self.old shares.old guest) }
     {
         if !self.is_share(shares, guest) {
             return Err(Refused::Foreign);
@@ -166,10 +166,10 @@ impl Book {
         let known = &mut self.guests[at];
         match known.take() {
             None => Ok(None),
-            Some(entry) => {
-                shares.set(at, entry.sequence());
+            Some(intent) => {
+                shares.set(at, intent.last_sequence());
                 self.history.push(TurnRecord::Take(guest));
-                Ok(Some(Intent::of(guest, entry)))
+                Ok(Some(intent))
             }
         }
     }
@@ -234,6 +234,8 @@ impl Book {
         ensures legal { IsLegal self.now.opening self.now.history }
         // What waits for the store follows what it took, and nothing is settled that it didn't take.
         ensures sound { IsSound (state self.now) }
+        // Each guest has a partition of a board, which a store can hold.
+        ensures of_board { AreOfBoard (state self.now) }
     {
         self.life
     }
@@ -260,7 +262,7 @@ fn is_taken(guest: &GuestState, share: Option<u64>) -> bool
     }
 }
 
-/// Whether some guest has entries that were taken and aren't settled.
+/// Whether some guest has intents that were taken and aren't settled.
 fn any_moves(guests: &[GuestState]) -> bool
     ensures { result ≡ list_any (λ g. nat_lt g.settled g.taken) guests.now }
 {

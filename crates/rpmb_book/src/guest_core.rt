@@ -1,12 +1,14 @@
-ghost use Rattle.std.specs.Prelude.{◌≡◌, ◌≤◌, IfOk, None, true, length};
+ghost use Rattle.std.specs.Prelude.{◌≡◌, ◌≤◌, ◌^◌, if◌then◌else◌, IfOk, None, Some, true, length};
 ghost use Rattle.mmio_transport.specs.Job.{room_of};
-ghost use Rattle.rpmb_frame.specs.Partition.{Partition, sequence};
+ghost use Rattle.rpmb_frame.specs.Partition.{Partition};
 ghost use Rattle.rpmb_core.specs.Verdict.{verdict};
 ghost use Rattle.rpmb_core.specs.Accept.{data_of, is_accepted, partition_after};
-ghost use Rattle.rpmb_book.specs.Guest.{stored, core_after, outcome_in, answer, need, entry, entry_of, blocks_in, address_in};
+ghost use Rattle.rpmb_book.specs.Guest.{stored, core_after, outcome_in, answer, need, intent, intent_of, entry_of, blocks_in};
+ghost use Rattle.rpmb_book.specs.Sound.{IsCoreOfBoard};
+ghost use Rattle.intent_slots.specs.Payload.{EntryFits};
 ghost use Rattle.rpmb_book.specs.Planned.{IsPlanned};
 
-use crate::intent::Entry;
+use intent_slots::{Entry, Intent};
 use mmio_transport::Job;
 use rpmb_core::{NoMemory, OK, Outcome, Partition, is_change};
 use rpmb_frame::{Command, Frame, Limits, Request};
@@ -47,13 +49,13 @@ pub struct Plan {
 }
 
 /// The answer to a job: its reply twice, what has to be settled before the reply may leave, and the
-/// entry of an accepted request.
+/// intent of an accepted request.
 #[derive(Drop)]
 pub struct Answer {
     pub reply: Vec<u8>,
     pub copy: Vec<u8>,
     pub need: u64,
-    pub entry: Option<Entry>,
+    pub intent: Option<Intent>,
 }
 
 impl GuestCore {
@@ -65,12 +67,6 @@ impl GuestCore {
             partition,
             last: None,
         }
-    }
-
-    pub fn sequence(&self) -> u64
-        ensures { result ≡ sequence self.now.partition }
-    {
-        self.partition.sequence()
     }
 
     /// Finds the verdict on a job, and makes all the memory that its answer takes.
@@ -103,13 +99,14 @@ impl GuestCore {
 
     /// Answers a job as planned, and builds its reply in `out`. It takes no memory.
     pub fn carry_out(&mut self, job: &Job, plan: Plan, out: &mut [u8; 8192]) -> Answer
-        requires { IsPlanned self.old job.now plan }
+        requires plan { IsPlanned self.old job.now plan }
+        requires board { IsCoreOfBoard self.old }
         ensures core { self.new ≡ core_after self.old job.now }
         ensures reply { result.reply.items ≡ answer self.old job.now }
         ensures fits { length result.reply.items ≤ room_of job.now }
         ensures copy { result.copy.items ≡ answer self.old job.now }
         ensures need { result.need ≡ need self.old job.now }
-        ensures entry { result.entry ≡ entry self.old job.now }
+        ensures intent { result.intent ≡ intent self.old job.now }
     {
         let request = Request::classify(job.request(), job.writable(), self.limits);
         let Plan {
@@ -119,7 +116,8 @@ impl GuestCore {
             mut copy,
             blocks,
         } = plan;
-        change(&mut self.partition, &request, is_accepted);
+        let guest = job.guest();
+        let intent = change(&mut self.partition, guest, &request, is_accepted, blocks);
         let outcome = Outcome::of(&request, code, self.partition.counter());
         self.last = keep(self.last, job.session(), outcome);
         let len = self
@@ -131,24 +129,32 @@ impl GuestCore {
             reply,
             copy,
             need: self.partition.sequence(),
-            entry: if is_accepted {
-                Some(entry_of(&self.partition, &request, blocks))
-            } else {
-                None
-            },
+            intent,
         }
     }
 }
 
-/// Makes the change of a request that is accepted, and none of another.
+/// Makes the change of a request that is accepted and gives its intent, with these blocks; for another
+/// one it does neither.
 #[tactic(auto, unfolding(rpmb_core::specs::Accept::partition_after))]
-fn change(partition: &mut Partition, request: &Request<'_>, accepts: bool)
-    requires { accepts ≡ is_accepted partition.old request.now }
-    ensures { partition.new ≡ partition_after partition.old request.now }
+fn change(
+    partition: &mut Partition,
+    guest: u16,
+    request: &Request<'_>,
+    accepts: bool,
+    blocks: Vec<u8>,
+) -> Option<Intent>
+    requires accepts { accepts ≡ is_accepted partition.old request.now }
+    requires blocks { accepts ≡ true → blocks.items ≡ blocks_in request.now.command }
+    requires fits { accepts ≡ true → EntryFits (2 ^ 24) (partition_after partition.old request.now).counter (entry_of request.now.command) }
+    ensures partition { partition.new ≡ partition_after partition.old request.now }
+    ensures intent { result ≡ (if accepts then Some (intent_of guest (partition_after partition.old request.now) request.now.command) else None) }
 {
-    if accepts {
-        partition.accept(request);
+    if !accepts {
+        return None;
     }
+    partition.accept(request);
+    Some(intent_of(guest, partition, request, blocks))
 }
 
 fn outcome_in(last: Option<StoredOutcome>) -> Option<Outcome>
@@ -210,23 +216,29 @@ fn data_of(alloc: Global, frames: &[[u8; 512]]) -> Result<Vec<u8>, NoMemory>
     Ok(blocks)
 }
 
-/// The entry of an accepted request, by the partition after it.
-fn entry_of(partition: &Partition, request: &Request<'_>, blocks: Vec<u8>) -> Entry
-    requires { blocks.items ≡ blocks_in request.now.command }
-    ensures { result ≡ entry_of partition.now request.now.command }
+/// The intent of an accepted request, by the partition after it.
+fn intent_of(guest: u16, partition: &Partition, request: &Request<'_>, blocks: Vec<u8>) -> Intent
+    requires blocks { blocks.items ≡ blocks_in request.now.command }
+    requires fits { EntryFits (2 ^ 24) partition.now.counter (entry_of request.now.command) }
+    ensures { result ≡ intent_of guest partition.now request.now.command }
 {
     let key = match partition.key() {
         Some(key) => key,
         None => [0; 32],
     };
-    Entry::of(key, partition.counter(), address_in(request), blocks)
+    Intent::new(guest, key, partition.counter(), entry_of(request, blocks))
 }
 
-fn address_in(request: &Request<'_>) -> u16
-    ensures { result ≡ address_in request.now.command }
+/// What a request that has these blocks writes; nothing, where it programs the key.
+fn entry_of(request: &Request<'_>, blocks: Vec<u8>) -> Entry
+    requires blocks { blocks.items ≡ blocks_in request.now.command }
+    requires few { length blocks.items ≤ 4096 }
+    ensures { result ≡ entry_of request.now.command }
 {
     match request.command {
-        Command::DataWrite { frames, .. } => Frame::from_bytes(&frames[0]).address(),
-        _ => 0,
+        Command::DataWrite { frames, .. } => {
+            Entry::write(Frame::from_bytes(&frames[0]).address(), blocks)
+        }
+        _ => Entry::program_key(),
     }
 }

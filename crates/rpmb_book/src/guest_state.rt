@@ -1,10 +1,11 @@
 ghost use Rattle.std.specs.Prelude.{◌≡◌, ◌+◌, ◌-◌, ◌<◌, ◌^◌, IfOk, IfErr, if◌then◌else◌, is_some, length};
-ghost use Rattle.rpmb_book.specs.Guest.{submitted, answer, took, settled_at, collected, first_due, first_entry, fresh};
+ghost use Rattle.rpmb_book.specs.Sound.{IsCoreOfBoard};
+ghost use Rattle.rpmb_book.specs.Guest.{submitted, answer, took, settled_at, collected, first_due, first_intent, fresh};
 
 use crate::guest_core::{Answer, GuestCore};
 use crate::held::Held;
 use crate::history::Submission;
-use crate::intent::Entry;
+use intent_slots::Intent;
 use mmio_transport::{Done, Job};
 use rpmb_core::Partition;
 use rpmb_frame::Limits;
@@ -16,7 +17,7 @@ use std::marker::Model;
 pub struct GuestState {
     core: GuestCore,
     held: Vec<Held>,
-    waiting: Vec<Entry>,
+    waiting: Vec<Intent>,
     taken: u64,
     settled: u64,
     submits: u64,
@@ -78,7 +79,8 @@ impl GuestState {
         job: Job,
         out: &mut [u8; 8192],
     ) -> Result<Submission, Job>
-        requires { self.old.submits < 2 ^ 64 - 1 }
+        requires few { self.old.submits < 2 ^ 64 - 1 }
+        requires board { IsCoreOfBoard self.old.core }
         ensures ok { IfOk result (λ w. w ≡ record { job = job; reply = answer self.old.core job }) }
         ensures state { IfOk result (λ w. self.new ≡ submitted job self.old) }
         ensures err { IfErr result (λ j. (j ≡ job) × (self.new ≡ self.old)) }
@@ -99,28 +101,28 @@ impl GuestState {
             reply,
             copy,
             need,
-            entry,
+            intent,
         } = self.core.carry_out(&job, plan, out);
         self.held.push_reserved(Held::of(held_job, reply, need));
-        match entry {
+        match intent {
             None => {}
-            Some(entry) => self.waiting.push_reserved(entry),
+            Some(intent) => self.waiting.push_reserved(intent),
         }
         self.submits += 1;
         Ok(Submission::of(job, copy))
     }
 
-    /// Gives the first entry that waits.
-    pub fn take(&mut self) -> Option<Entry>
-        ensures entry { result ≡ first_entry self.old.waiting }
+    /// Gives the first intent that waits.
+    pub fn take(&mut self) -> Option<Intent>
+        ensures intent { result ≡ first_intent self.old.waiting }
         ensures state { self.new ≡ took self.old }
     {
         if self.waiting.is_empty() {
             return None;
         }
-        let entry = self.waiting.remove(0);
-        self.taken = entry.sequence();
-        Some(entry)
+        let intent = self.waiting.remove(0);
+        self.taken = intent.last_sequence();
+        Some(intent)
     }
 
     /// Raises what is settled to a mark.

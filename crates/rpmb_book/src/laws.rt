@@ -1,10 +1,11 @@
 //! Laws of the book, above its definitions: what follows for every history.
 ghost use Rattle.std.specs.Prelude.{◌≡◌, ℕ, Some, slice_get};
 ghost use Rattle.rpmb_book.specs.Book.{state};
+ghost use Rattle.rpmb_book.specs.Given.{IsLedOn};
 ghost use Rattle.rpmb_book.specs.Guest.{GuestState};
 ghost use Rattle.rpmb_book.specs.Isolation.{IsIsolated, IsToldAsAlone, jobs_of, told, told_alone};
 ghost use Rattle.rpmb_book.specs.Outcome.{IsOutcomeOfTheList};
-ghost use Rattle.rpmb_book.specs.Sound.{IsEntryOfTheRequest, IsSound};
+ghost use Rattle.rpmb_book.specs.Sound.{AreOfBoard, IsAskedByBytes, IsIntentOfTheRequest, IsSound, StaysOfBoard};
 
 use crate::book::Book;
 
@@ -28,16 +29,36 @@ pub fn outcome_is_of_the_list()
     ensures { IsOutcomeOfTheList }
 {}
 
-/// The entries that wait for the store follow what it took, one by one, up to the partition's
+/// The intents that wait for the store follow what it took, one by one, up to the partition's
 /// sequence; and nothing is settled that it did not take.
-pub fn entries_follow(book: &Book)
+pub fn intents_follow(book: &Book)
     ensures { IsSound (state book.now) }
 {
     let _life = book.life();
 }
 
-/// Done over the partition before an accepted request, the request's entry gives the partition after
-/// it, and has the next sequence.
-pub fn entries_lead_on()
-    ensures { IsEntryOfTheRequest }
+/// The intent of an accepted request has one entry and fits the partition's place; done over the
+/// partition before the request, it gives the partition after it; and it has that one's sequence, which
+/// is the next. That another request changes nothing is `rpmb_core::laws::sequence_after_request`.
+pub fn intents_lead_on()
+    ensures { IsIntentOfTheRequest }
 {}
+
+/// After every history, the intents that wait lead, one after another, from the guest's partition after
+/// all that was taken to the partition that the guest has.
+pub fn what_waits_leads_on()
+    ensures { IsLedOn }
+{}
+
+/// A partition of a board stays one, whatever requests are read from bytes.
+pub fn partitions_stay_of_a_board()
+    ensures asked { IsAskedByBytes }
+    ensures stays { StaysOfBoard }
+{}
+
+/// Each guest of this book has a partition of a board, and may write at most 16 blocks at once.
+pub fn partitions_are_of_a_board(book: &Book)
+    ensures { AreOfBoard (state book.now) }
+{
+    let _life = book.life();
+}

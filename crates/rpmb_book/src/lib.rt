@@ -7,7 +7,6 @@ mod guest_core;
 mod guest_state;
 mod held;
 mod history;
-mod intent;
 pub mod laws;
 mod opening;
 mod receipt;
@@ -15,7 +14,6 @@ mod refused;
 mod tally;
 
 pub use book::Book;
-pub use intent::{Entry, Intent};
 pub use receipt::{Receipt, TurnView};
 pub use refused::Refused;
 pub use tally::{Shares, Tally};

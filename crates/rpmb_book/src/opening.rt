@@ -1,8 +1,10 @@
 //! The parts of a book that is opened.
-ghost use Rattle.std.specs.Prelude.{◌≡◌, ◌≤◌, IfOk, map, length, vec_len};
+ghost use Rattle.std.specs.Prelude.{◌≡◌, ◌≤◌, IfOk, OnOk, map, length, vec_len};
+ghost use Rattle.std.specs.List.{AllByRecursion};
 ghost use Rattle.rpmb_frame.specs.Partition.{sequence};
 ghost use Rattle.rpmb_book.specs.Opening.{tallies_from};
 ghost use Rattle.rpmb_book.specs.Replay.{fresh_guests};
+ghost use Rattle.rpmb_book.specs.Sound.{IsHeld};
 
 use crate::guest_state::GuestState;
 use crate::tally::Tally;
@@ -24,13 +26,25 @@ pub fn tallies(alloc: Global, count: usize) -> Result<Vec<Tally>, NoMemory>
 
 /// The sequence of each partition.
 pub fn sequences(alloc: Global, partitions: &[Partition]) -> Result<Vec<u64>, NoMemory>
-    ensures { IfOk result (λ v. v.items ≡ map sequence partitions.now) }
+    ensures value { IfOk result (λ v. v.items ≡ map sequence partitions.now) }
+    ensures held { OnOk result (AllByRecursion IsHeld partitions.now) }
 {
     let mut sequences = Vec::with_capacity(alloc, partitions.len())?;
     for partition in partitions {
-        sequences.push(partition.sequence())?;
+        sequences.push(sequence_of(partition))?;
     }
     Ok(sequences)
+}
+
+/// The sequence of a partition, with what its type says of its blocks, its key and its counter.
+fn sequence_of(partition: &Partition) -> u64
+    ensures value { result ≡ sequence partition.now }
+    ensures held { IsHeld partition.now }
+{
+    let _capacity = partition.capacity();
+    let _counter = partition.counter();
+    let _key = partition.key();
+    partition.sequence()
 }
 
 /// Guests of whom nothing was asked yet, on copies of these partitions.

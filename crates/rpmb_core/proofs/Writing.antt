@@ -14,7 +14,7 @@ use Rattle.rpmb_core.proofs.Overwriting.{length-block_data_of}
 use Rattle.rpmb_core.proofs.Passing.{accepted_write}
 use Rattle.rpmb_core.proofs.Sequence.{after_accepted}
 
-length-data_of : (frames : List (List ℕ)) → AreFrames frames → length (data_of frames) ≡ 256 * length frames
+pub length-data_of : (frames : List (List ℕ)) → AreFrames frames → length (data_of frames) ≡ 256 * length frames
 unfolding data_of
 length-data_of [] full = refl
 length-data_of (f ∷ fs) full = length-append (block_data_of f) (data_of fs) ∙ omega (arith, length-block_data_of f full.0, length-data_of fs full.1)

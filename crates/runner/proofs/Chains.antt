@@ -1,24 +1,28 @@
 -- A chain of a guest that is ready, taken to its end.
-use Rattle.std.proofs.Common.{◌≡◌, ℕ, ◌+◌, ◌<◌, ◌≤◌, ◌==◌, if◌then◌else◌, Bool, true, false, List, [], ◌∷◌, length, Option, Some, None, Result, Ok, Err, refl, sym, ap, ◌∙◌, arith, subst}
+use Rattle.std.proofs.Common.{◌≡◌, ℕ, ◌+◌, ◌<◌, ◌≤◌, ◌⊎◌, inl, inr, ◌==◌, not, nat_lt, if◌then◌else◌, Bool, true, false, List, [], ◌∷◌, length, Option, Some, None, Result, Ok, Err, refl, sym, ap, ◌∙◌, arith, subst}
 use Rattle.std.proofs.lemmas.Bool.{eqb-true}
 use Rattle.rpmb_frame.specs.declared.config.RingKind.TheVariants.{Split}
 use Rattle.rpmb_frame.specs.declared.config.GuestConfig.{GuestConfig}
 use Rattle.rpmb_frame.specs.Config.{IsGuest}
 use Rattle.chains.specs.declared.range.Range.{Range}
 use Rattle.mmio_transport.specs.Device.{DeviceState, last_count}
-use Rattle.mmio_transport.specs.Job.{room_in}
+use Rattle.mmio_transport.specs.Job.{Job, room_in}
 use Rattle.guest_driver.specs.declared.reaping.Reaped.{Reaped}
-use Rattle.guest_driver.specs.declared.fault.DriverFault.TheVariants.{BadUsed}
+use Rattle.guest_driver.specs.declared.fault.DriverFault.TheVariants.{BadUsed, OutOfRange}
 use Rattle.guest_driver.specs.Access.{ButForMemory}
 use Rattle.guest_driver.specs.Used.{Reply}
 use Rattle.guest_driver.specs.Driver.{DriverState, Offering, offer_of}
 use Rattle.guest_driver.specs.Reap.{Reaps}
 use Rattle.guest_driver.specs.OnDevice.{IsBackFrom}
 use Rattle.guest_driver.proofs.DeviceCalls.{device_offer_joins, device_reap_gives}
+use Rattle.rpmb_frame.specs.Table.{first_row}
+use Rattle.rpmb_book.specs.declared.refused.Refused.{Refused}
+use Rattle.rpmb_book.specs.declared.refused.Refused.TheVariants as refused
 use Rattle.runner.specs.Guest.{GuestView}
-use Rattle.runner.specs.Runner.{RunnerView, after_job, cores_after, reply_of}
-use Rattle.runner.specs.Ready.{IsReady, job_of, reply_ranges, ComesBack}
-use Rattle.runner.specs.Serving.{IsCounting, IsAnswered, Serves, ServedBy, job_of as popped_job}
+use Rattle.runner.specs.Fault.{told_of}
+use Rattle.runner.specs.Runner.{RunnerView, after_job, cores_after, refusal_of, reply_of}
+use Rattle.runner.specs.Ready.{IsReady, FailsBy, job_of, reply_ranges, ComesBack}
+use Rattle.runner.specs.Serving.{IsCounting, IsAnswered, IsLeft, Serves, ServedBy, job_of as popped_job}
 use Rattle.runner.specs.declared.fault.HostFault.{HostFault}
 use Rattle.runner.specs.declared.guest.Answer.TheVariants.{Used}
 use Rattle.runner.specs.declared.guest.Stuck.{Stuck}
@@ -120,3 +124,58 @@ pub bad_back : (d1 d2 : DeviceState) (driver1 driver2 : DriverState) (r r2 : Run
 bad_back d1 d2 driver1 driver2 r r2 readable writable head last answered reaps =
     let reply : Reply = record { offer = offer_of readable writable head last; bytes = reply_of r.cores (popped_job d1 driver1.size (offer_of readable writable head last)) } in
     device_reap_gives d2 driver1 driver2 [] [] (reply ∷ []) (Err BadUsed) answered.served reaps
+
+-- a refusal has one of three causes
+refusal_is : (r : RunnerView) (job : Job) → (refusal_of r job ≡ None) ⊎ (refusal_of r job ≡ Some refused.Foreign) ⊎ (refusal_of r job ≡ Some refused.HistoryFull)
+unfolding refusal_of
+refusal_is r job =
+    let rows = λ (a b : Bool). first_row ((a, Some refused.Foreign) ∷ (b, Some refused.HistoryFull) ∷ []) None in
+    let both : (a b : Bool) → (rows a b ≡ None) ⊎ (rows a b ≡ Some refused.Foreign) ⊎ (rows a b ≡ Some refused.HistoryFull) =
+    λ a b. elim a as (λ (x : Bool). (rows x b ≡ None) ⊎ (rows x b ≡ Some refused.Foreign) ⊎ (rows x b ≡ Some refused.HistoryFull)) [
+      | true ↦ inr (inl refl)
+      | false ↦ elim b as (λ (y : Bool). (rows false y ≡ None) ⊎ (rows false y ≡ Some refused.Foreign) ⊎ (rows false y ≡ Some refused.HistoryFull)) [
+        | true ↦ inr (inr refl)
+        | false ↦ inl refl
+      ]
+    ] in
+    both (not (nat_lt job.guest (length r.cores))) (r.answered == 16384)
+
+same_refusal : (r : RunnerView) (a b : Job) → a.guest ≡ b.guest → refusal_of r a ≡ refusal_of r b
+unfolding refusal_of
+same_refusal r a b is =
+    ap (λ n. first_row ((not (nat_lt n (length r.cores)), Some refused.Foreign) ∷ (r.answered == 16384, Some refused.HistoryFull) ∷ []) None) is
+
+-- why a popped job was not answered
+pub fails : (fault : HostFault) (g : GuestView) (r r' : RunnerView) (readable : List ℕ) (writable : ℕ) (popped job : Job) → popped.guest ≡ job.guest
+    → IsLeft r popped fault r' → FailsBy fault g r readable writable job r'
+fails fault g r r' readable writable popped job named left =
+    let by : HostFault → Type 0 = λ f. FailsBy f g r readable writable job r' in
+    let same = same_refusal r popped job named in
+    let told = λ (why : Option Refused) (is : refusal_of r popped ≡ why) (cause : fault ≡ told_of (refusal_of r popped)). cause ∙ ap told_of is in
+    elim left.cause [
+      | inl is ↦ subst by (sym is) (inl left.runner)
+      | inr cause ↦ elim (refusal_is r popped) [
+        | inl none ↦ subst by (sym (told None none cause)) (inl left.runner)
+        | inr some ↦ elim some [
+          | inl foreign ↦ subst by (sym (told (Some refused.Foreign) foreign cause)) (sym same ∙ foreign, left.runner)
+          | inr full ↦ subst by (sym (told (Some refused.HistoryFull) full cause)) (sym same ∙ full, left.runner)
+        ]
+      ]
+    ]
+
+-- a reap without memory leaves the job answered
+pub unfetched : (d1 d2 : DeviceState) (driver1 : DriverState) (r r2 : RunnerView) (readable : List ℕ) (writable head last number session : ℕ)
+    → d1.guest ≡ number → d1.session ≡ session → IsAnswered d1 r driver1 (offer_of readable writable head last) d2 r2
+    → r2.cores ≡ cores_after r.cores (job_of number session readable writable)
+unfolding after_job cores_after
+unfetched d1 d2 driver1 r r2 readable writable head last number session named current answered =
+    ap (λ (x : RunnerView). x.cores) answered.runner
+    ∙ same_cores r.cores (popped_job d1 driver1.size (offer_of readable writable head last)) (job_of number session readable writable)
+    (alike d1 driver1.size number session readable writable head last named current)
+
+-- and its memory has room for the driver's areas
+pub no_room_back : (d1 d2 : DeviceState) (driver1 driver2 : DriverState) (r r2 : RunnerView) (readable : List ℕ) (writable head last : ℕ)
+    → IsAnswered d1 r driver1 (offer_of readable writable head last) d2 r2 → Reaps d2.memory driver1 (Err OutOfRange) driver2 → ⊥
+no_room_back d1 d2 driver1 driver2 r r2 readable writable head last answered reaps =
+    let reply : Reply = record { offer = offer_of readable writable head last; bytes = reply_of r.cores (popped_job d1 driver1.size (offer_of readable writable head last)) } in
+    device_reap_gives d2 driver1 driver2 [] [] (reply ∷ []) (Err OutOfRange) answered.served reaps

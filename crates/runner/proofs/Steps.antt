@@ -1,13 +1,13 @@
 -- One look at a queue, and all looks, where a chain was offered and nothing else.
-use Rattle.std.proofs.Common.{◌≡◌, ℕ, ◌+◌, ◌≤◌, inl, inr, ◌==◌, if◌then◌else◌, Bool, true, false, List, [], ◌∷◌, length, None, Some, Ok, Err, refl, sym, ap, ◌∙◌, arith, subst}
-use Rattle.mmio_transport.specs.Device.{DeviceState}
+use Rattle.std.proofs.Common.{◌≡◌, ℕ, ◌+◌, ◌≤◌, inl, inr, ◌<◌, ◌==◌, if◌then◌else◌, Bool, true, false, List, [], ◌∷◌, length, Option, None, Some, unwrap_or, Ok, Err, refl, sym, ap, ◌∙◌, arith, subst}
+use Rattle.mmio_transport.specs.Device.{DeviceState, last_count}
 use Rattle.mmio_transport.specs.Job.{Job, Done, done_of, room_in}
 use Rattle.std.proofs.lemmas.Bool.{eqb-true}
 use Rattle.mmio_transport.specs.Popping.{GivesJob, found_of as found_by}
 use Rattle.mmio_transport.specs.Publishing.{Publishes}
 use Rattle.mmio_transport.specs.declared.done.Published.{Published}
 use Rattle.mmio_transport.specs.declared.done.Published.TheVariants.{Wrote, Dropped}
-use Rattle.mmio_transport.specs.declared.fault.DeviceFault.TheVariants.{Refused, NeedsReset}
+use Rattle.mmio_transport.specs.declared.fault.DeviceFault.TheVariants.{NoMemory as Starved, Refused as Spoiled, NeedsReset}
 use Rattle.chains.specs.declared.fault.ChainFault.{ChainFault}
 use Rattle.chains.specs.declared.range.Range.{Range}
 use Rattle.chains.specs.Walk.{Found}
@@ -17,14 +17,22 @@ use Rattle.guest_driver.specs.Driver.{DriverState}
 use Rattle.guest_driver.specs.OnDevice.{IsServed, IsSameSession, IsJobOf, IsPopped, IsAtItsEnd, IsPublished, IsReplyTo, PublishedBy}
 use Rattle.guest_driver.proofs.DevicePop.{device_pop_gives}
 use Rattle.guest_driver.proofs.DevicePublish.{device_publish_joins}
-use Rattle.runner.specs.Runner.{RunnerView, after_job, reply_of}
+use Rattle.rpmb_book.specs.declared.refused.Refused.{Refused}
+use Rattle.rpmb_book.specs.declared.refused.Refused.TheVariants as refused
+use Rattle.runner.specs.Fault.{fault_of, told_of}
+use Rattle.runner.specs.Runner.{RunnerView, after_job, refusal_of, reply_of}
 use Rattle.runner.specs.Serving.{IsCounting, job_of, ServesOne, Drains, Serves}
 use Rattle.runner.specs.declared.fault.HostFault.{HostFault}
+use Rattle.runner.specs.declared.fault.HostFault.TheVariants.{NoMemory}
 use Rattle.runner.specs.declared.serving.Step.TheVariants as step
 use Rattle.runner.specs.declared.serving.Served.TheVariants as served
 
-pub fault_steps : (d d' : DeviceState) (r r' : RunnerView) (fault : HostFault) → ServesOne d r (Err fault) d' r'
-fault_steps d d' r r' fault = record { one = λ driver c room counting served. tt; none = λ driver published counting served. tt }
+-- memory was refused to the pop
+pub starved_steps : (d d' : DeviceState) (r : RunnerView) → GivesJob d (Err Starved) d' → ServesOne d r (Err NoMemory) d' r
+starved_steps d d' r gives = record {
+  one = λ driver c room counting served. record { cause = inl refl; runner = refl };
+  none = λ driver published counting served. device_pop_gives d d' driver [] [] published (Err Starved) served gives;
+}
 
 pub nothing_steps : (d d' : DeviceState) (r : RunnerView) → GivesJob d (Ok None) d' → ServesOne d r (Ok step.Nothing) d' r
 nothing_steps d d' r gives = record {
@@ -35,10 +43,10 @@ nothing_steps d d' r gives = record {
       record { served = p.served; same = p.same; pops = omega (arith, pops); runner = refl };
 }
 
-pub refused_steps : (d d' : DeviceState) (r : RunnerView) (fault : ChainFault) → GivesJob d (Err (Refused fault)) d' → ServesOne d r (Ok step.Stopped) d' r
+pub refused_steps : (d d' : DeviceState) (r : RunnerView) (fault : ChainFault) → GivesJob d (Err (Spoiled fault)) d' → ServesOne d r (Ok step.Stopped) d' r
 refused_steps d d' r fault gives = record {
-  one = λ driver c room counting served. device_pop_gives d d' driver (c ∷ []) [] [] (Err (Refused fault)) served gives;
-  none = λ driver published counting served. device_pop_gives d d' driver [] [] published (Err (Refused fault)) served gives;
+  one = λ driver c room counting served. device_pop_gives d d' driver (c ∷ []) [] [] (Err (Spoiled fault)) served gives;
+  none = λ driver published counting served. device_pop_gives d d' driver [] [] published (Err (Spoiled fault)) served gives;
 }
 
 not_at_its_end : (d d' : DeviceState) → IsCounting d → IsAtItsEnd d d' → ⊥
@@ -133,6 +141,23 @@ answered_steps d d1 d' r r' job done need answer gives answers fits publishes af
   none = λ driver published counting served. device_pop_gives d d1 driver [] [] published (Ok (Some job)) served gives;
 }
 
+told_so : (why : Option Refused) → fault_of (unwrap_or why refused.NoMemory) ≡ told_of why
+told_so None = refl
+told_so (Some e) = refl
+
+-- the book refused the job
+pub left_steps : (d d' : DeviceState) (r r' : RunnerView) (job : Job) (e : Refused) → GivesJob d (Ok (Some job)) d'
+    → e ≡ unwrap_or (refusal_of r job) refused.NoMemory → r' ≡ r → ServesOne d r (Err (fault_of e)) d' r'
+left_steps d d' r r' job e gives why same = record {
+  one = λ driver c room counting served.
+      let p = device_pop_gives d d' driver (c ∷ []) [] [] (Ok (Some job)) served gives in
+      record {
+        cause = inr (ap fault_of why ∙ told_so (refusal_of r job) ∙ ap (λ j. told_of (refusal_of r j)) (same_job d driver.size c job p.0));
+        runner = same;
+      };
+  none = λ driver published counting served. device_pop_gives d d' driver [] [] published (Ok (Some job)) served gives;
+}
+
 -- Looks at a queue where nothing is offered.
 pub quiet_start : (d : DeviceState) (r : RunnerView) → Drains d r (Ok false) d r
 quiet_start d r driver published counting served =
@@ -172,15 +197,30 @@ no_more_stopped a d d' p r r' stopped before serves driver published counting se
     let q = (before driver published counting served).1 in
     absurd (serves.none driver published (still_counting a d q.same q.pops counting) q.served)
 
+-- a device that answered once goes on counting
+counting_on : (d d1 : DeviceState) → IsSameSession d d1 → d1.pops ≡ d.pops + 1 → IsCounting d → d.pops + 1 < last_count → IsCounting d1
+counting_on d d1 same k counting more =
+    let s = same.session in
+    let n = same.readiness in
+    let session = counting.session in
+    let readiness = counting.readiness in
+    record { session = omega (arith, s, session); readiness = omega (arith, n, readiness); pops = omega (arith, k, more) }
+
+pub no_more_failed : (a d d' : DeviceState) (p r r' : RunnerView) (fault : HostFault) → Drains a p (Ok false) d r → ServesOne d r (Err fault) d' r' → Drains a p (Err fault) d' r'
+no_more_failed a d d' p r r' fault before serves driver published counting served =
+    let q = (before driver published counting served).1 in
+    serves.none driver published (still_counting a d q.same q.pops counting) q.served
+
+-- after one look that answers no other fails
+pub answered_then_failed : (d d1 d' : DeviceState) (r r1 r' : RunnerView) (fault : HostFault) → ServesOne d r (Ok step.Answered) d1 r1 → Drains d1 r1 (Err fault) d' r' → Serves d r (Err fault) d' r'
+answered_then_failed d d1 d' r r1 r' fault serves drains driver c room counting more there =
+    let a = serves.one driver c room counting there in
+    absurd (drains driver (record { offer = c; bytes = reply_of r.cores (job_of d driver.size c) } ∷ []) (counting_on d d1 a.same a.pops counting more) a.served)
+
 -- one look that answers, and then looks that find nothing
 pub answered_then_quiet : (d d1 d' : DeviceState) (r r1 r' : RunnerView) → ServesOne d r (Ok step.Answered) d1 r1 → Drains d1 r1 (Ok false) d' r' → Serves d r (Ok served.Answered) d' r'
 answered_then_quiet d d1 d' r r1 r' serves drains driver c room counting more there =
     let a = serves.one driver c room counting there in
-    let s = a.same.session in
-    let n = a.same.readiness in
-    let k = a.pops in
-    let session = counting.session in
-    let readiness = counting.readiness in
-    let going : IsCounting d1 = record { session = omega (arith, s, session); readiness = omega (arith, n, readiness); pops = omega (arith, k, more) } in
+    let going = counting_on d d1 a.same a.pops counting more in
     let q = (drains driver (record { offer = c; bytes = reply_of r.cores (job_of d driver.size c) } ∷ []) going a.served).1 in
     record { served = q.served; same = same_twice d d1 d' a.same q.same; pops = q.pops ∙ a.pops; runner = q.runner ∙ a.runner }

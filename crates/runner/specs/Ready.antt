@@ -1,14 +1,18 @@
 -- Guests whose devices are in service, and what a chain of theirs comes to.
-use Rattle.std.specs.Prelude.{◌≡◌, ℕ, ◌+◌, ◌<◌, ◌≤◌, ◌==◌, if◌then◌else◌, List, [], ◌∷◌, None, Result, Ok, Err}
+use Rattle.std.specs.Prelude.{◌≡◌, ℕ, ◌+◌, ◌<◌, ◌≤◌, ◌⊎◌, ◌==◌, if◌then◌else◌, List, [], ◌∷◌, length, Some, None, Result, Ok, Err}
 use Rattle.chains.specs.declared.range.Range.{Range}
 use Rattle.rpmb_frame.specs.declared.config.RingKind.TheVariants.{Split}
 use Rattle.rpmb_frame.specs.Config.{IsGuest}
 use Rattle.mmio_transport.specs.Device.{last_count}
 use Rattle.mmio_transport.specs.Job.{Job}
+use Rattle.guest_driver.specs.Layout.{needed}
+use Rattle.guest_driver.specs.Driver.{HasTooFew, has_two}
 use Rattle.guest_driver.specs.OnDevice.{IsServed}
+use Rattle.rpmb_book.specs.declared.refused.Refused.TheVariants as refused
 use Rattle.runner.specs.Guest.{GuestView}
-use Rattle.runner.specs.Runner.{RunnerView, cores_after, reply_of}
+use Rattle.runner.specs.Runner.{RunnerView, cores_after, refusal_of, reply_of}
 use Rattle.runner.specs.declared.fault.HostFault.{HostFault}
+use Rattle.runner.specs.declared.fault.HostFault.TheVariants as fault
 use Rattle.runner.specs.declared.guest.Answer.{Answer}
 use Rattle.runner.specs.declared.guest.Answer.TheVariants.{Used, Stuck}
 
@@ -57,11 +61,22 @@ pub record ComesBack (number session steps : ℕ) (r : RunnerView) (readable : L
   pub ready : IsReady number session (steps + 1) g'
   pub cores : r'.cores ≡ cores_after r.cores (job_of number session readable writable)
 
-abbrev pub AnswersTo : ℕ → ℕ → ℕ → RunnerView → List ℕ → ℕ → Result Answer HostFault → GuestView → RunnerView → Type 0
-AnswersTo number session steps r readable writable (Ok answer) g' r' = ComesBack number session steps r readable writable answer g' r'
-AnswersTo number session steps r readable writable (Err fault) g' r' = Unit {0}
+-- When each fault may come, and what it leaves of the book: too few descriptors are free for the chain,
+-- the memory has no room for the driver's areas, the book refuses the job, or memory was refused; then
+-- the job may have been answered, its reply published and not fetched.
+abbrev pub FailsBy : HostFault → GuestView → RunnerView → List ℕ → ℕ → Job → RunnerView → Type 0
+FailsBy fault.NoRoom g r readable writable job r' = HasTooFew g.driver.owners (has_two readable writable) × (r' ≡ r)
+FailsBy fault.OutOfRange g r readable writable job r' = (length g.device.memory < needed g.driver.size) × (r' ≡ r)
+FailsBy fault.Busy g r readable writable job r' = ⊥
+FailsBy fault.HistoryFull g r readable writable job r' = (refusal_of r job ≡ Some refused.HistoryFull) × (r' ≡ r)
+FailsBy fault.Foreign g r readable writable job r' = (refusal_of r job ≡ Some refused.Foreign) × (r' ≡ r)
+FailsBy fault.NoMemory g r readable writable job r' = (r' ≡ r) ⊎ (r'.cores ≡ cores_after r.cores job)
+
+abbrev pub AnswersTo : ℕ → ℕ → ℕ → GuestView → RunnerView → List ℕ → ℕ → Result Answer HostFault → GuestView → RunnerView → Type 0
+AnswersTo number session steps g r readable writable (Ok answer) g' r' = ComesBack number session steps r readable writable answer g' r'
+AnswersTo number session steps g r readable writable (Err fault) g' r' = FailsBy fault g r readable writable (job_of number session readable writable) r'
 
 -- what a chain of a guest comes to, where the guest is ready
 abbrev pub Answers : GuestView → RunnerView → List ℕ → ℕ → Result Answer HostFault → GuestView → RunnerView → Type 0
 Answers g r readable writable answer g' r' = (number session steps : ℕ) → steps + 2 < last_count → IsReady number session steps g
-    → AnswersTo number session steps r readable writable answer g' r'
+    → AnswersTo number session steps g r readable writable answer g' r'

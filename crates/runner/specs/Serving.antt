@@ -1,13 +1,15 @@
 -- What becomes of a chain that is offered to a device in service, where nothing else was offered.
-use Rattle.std.specs.Prelude.{◌≡◌, ℕ, ◌+◌, ◌<◌, ◌≤◌, Bool, false, List, [], ◌∷◌, Result, Ok, Err}
+use Rattle.std.specs.Prelude.{◌≡◌, ℕ, ◌+◌, ◌<◌, ◌≤◌, ◌⊎◌, Bool, false, List, [], ◌∷◌, Result, Ok, Err}
 use Rattle.mmio_transport.specs.Device.{DeviceState, last_count}
 use Rattle.mmio_transport.specs.Job.{Job}
 use Rattle.guest_driver.specs.Offered.{Offer, found_of}
 use Rattle.guest_driver.specs.Used.{Reply}
 use Rattle.guest_driver.specs.Driver.{DriverState}
 use Rattle.guest_driver.specs.OnDevice.{IsServed, IsSameSession}
-use Rattle.runner.specs.Runner.{RunnerView, after_job, reply_of}
+use Rattle.runner.specs.Fault.{told_of}
+use Rattle.runner.specs.Runner.{RunnerView, after_job, refusal_of, reply_of}
 use Rattle.runner.specs.declared.fault.HostFault.{HostFault}
+use Rattle.runner.specs.declared.fault.HostFault.TheVariants.{NoMemory}
 use Rattle.runner.specs.declared.serving.Step.{Step}
 use Rattle.runner.specs.declared.serving.Step.TheVariants as step
 use Rattle.runner.specs.declared.serving.Served.{Served}
@@ -47,18 +49,23 @@ pub record IsQuiet (d : DeviceState) (r : RunnerView) (driver : DriverState) (pu
   pub pops : d'.pops ≡ d.pops
   pub runner : r' ≡ r
 
+-- a job was not answered, and nothing was made of it: the book refuses it, or memory was refused
+pub record IsLeft (r : RunnerView) (job : Job) (fault : HostFault) (r' : RunnerView) : Type 0 where
+  pub cause : (fault ≡ NoMemory) ⊎ (fault ≡ told_of (refusal_of r job))
+  pub runner : r' ≡ r
+
 -- what one look at the queue comes to, with one chain that is offered, and with none
 abbrev pub StepsTo : DeviceState → RunnerView → DriverState → Offer → Result Step HostFault → DeviceState → RunnerView → Type 0
 StepsTo d r driver c (Ok step.Answered) d' r' = IsAnswered d r driver c d' r'
 StepsTo d r driver c (Ok step.Nothing) d' r' = ⊥
 StepsTo d r driver c (Ok step.Stopped) d' r' = ⊥
-StepsTo d r driver c (Err fault) d' r' = Unit {0}
+StepsTo d r driver c (Err fault) d' r' = IsLeft r (job_of d driver.size c) fault r'
 
 abbrev pub Rests : DeviceState → RunnerView → DriverState → List Reply → Result Step HostFault → DeviceState → RunnerView → Type 0
 Rests d r driver published (Ok step.Nothing) d' r' = IsQuiet d r driver published d' r'
 Rests d r driver published (Ok step.Answered) d' r' = ⊥
 Rests d r driver published (Ok step.Stopped) d' r' = ⊥
-Rests d r driver published (Err fault) d' r' = Unit {0}
+Rests d r driver published (Err fault) d' r' = ⊥
 
 pub record ServesOne (d : DeviceState) (r : RunnerView) (answer : Result Step HostFault) (d' : DeviceState) (r' : RunnerView) : Type 0 where
   pub one : (driver : DriverState) (c : Offer) → c.writable ≤ 8192 → IsCounting d → IsServed d driver (c ∷ []) [] [] → StepsTo d r driver c answer d' r'
@@ -67,7 +74,7 @@ pub record ServesOne (d : DeviceState) (r : RunnerView) (answer : Result Step Ho
 -- and what all looks at it come to
 abbrev pub DrainsTo : DeviceState → RunnerView → DriverState → List Reply → Result Bool HostFault → DeviceState → RunnerView → Type 0
 DrainsTo d r driver published (Ok stopped) d' r' = (stopped ≡ false) × IsQuiet d r driver published d' r'
-DrainsTo d r driver published (Err fault) d' r' = Unit {0}
+DrainsTo d r driver published (Err fault) d' r' = ⊥
 
 abbrev pub Drains : DeviceState → RunnerView → Result Bool HostFault → DeviceState → RunnerView → Type 0
 Drains d r answer d' r' = (driver : DriverState) (published : List Reply) → IsCounting d → IsServed d driver [] [] published → DrainsTo d r driver published answer d' r'
@@ -76,7 +83,7 @@ abbrev pub ServedBy : DeviceState → RunnerView → DriverState → Offer → R
 ServedBy d r driver c (Ok served.Answered) d' r' = IsAnswered d r driver c d' r'
 ServedBy d r driver c (Ok served.Nothing) d' r' = ⊥
 ServedBy d r driver c (Ok served.Stopped) d' r' = ⊥
-ServedBy d r driver c (Err fault) d' r' = Unit {0}
+ServedBy d r driver c (Err fault) d' r' = IsLeft r (job_of d driver.size c) fault r'
 
 -- IsCounting leaves room for one more pop
 abbrev pub Serves : DeviceState → RunnerView → Result Served HostFault → DeviceState → RunnerView → Type 0

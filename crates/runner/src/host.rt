@@ -56,11 +56,16 @@ impl Host {
     /// bytes, at most 8,192; one byte of either at least. It is offered, all that the device pops is
     /// taken to its end, and the driver reaps once.
     ///
-    /// Where all guests are ready, and no count of their devices comes near 2^64 - 1, an answer is the
-    /// reply to its request, and all are ready again. A guest whose device stopped, or gave nothing or nonsense back, is stuck until its reset. The
-    /// device and the driver of every other guest stay as they are. `Foreign` where there is no such
-    /// guest, and then nothing changes; else a fault is that of the book, of the driver, or want of
-    /// memory, and nothing is said of that guest and of the book after it.
+    /// Where the guest is ready, whatever the others are, and no count of its device comes near
+    /// 2^64 - 1, an answer is the reply to its request, and the guest is ready again. A guest whose
+    /// device stopped, or gave nothing or nonsense back, is stuck until its reset. The device and the
+    /// driver of every other guest stay as they are.
+    ///
+    /// # Errors
+    ///
+    /// `Foreign` where there is no such guest; then nothing changes. Of a ready guest `HistoryFull`
+    /// where 16,384 jobs were answered, `NoRoom` where too few descriptors are free, else `NoMemory`;
+    /// the book stays as it was, but that after `NoMemory` the request may have been answered.
     pub fn chain(
         &mut self,
         alloc: Global,
@@ -72,7 +77,7 @@ impl Host {
         requires writable { writable ≤ 8192 }
         requires some { 0 < length readable.now + writable }
         ensures answer { HostAnswers self.old guest readable.now writable result self.new }
-        ensures others { HostChains self.old guest result self.new }
+        ensures guest { HostChains self.old guest readable.now writable result self.new }
     {
         let at = usize::from(guest);
         if at >= self.guests.len() {

@@ -1,6 +1,11 @@
 mod devices;
 mod entries;
+mod image;
+mod intents;
+mod kept;
+mod last_counter;
 mod limits;
 mod memory;
 mod receipts;
 mod scene;
+mod stops;

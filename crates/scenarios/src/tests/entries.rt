@@ -1,21 +1,28 @@
 //! What the store is given, and when replies leave.
 
 use crate::tests::scene::{
-    KEY, LIFE, Scene, check, get_write_counter, has_tail, program_key, scene_of, write_of,
+    KEY, LIFE, Scene, check, get_write_counter, has_tail, program_key, result_read, scene_of,
+    write_of,
 };
+use hmac256::mac_of;
+use intent_slots::Intent;
 use mmio_transport::Done;
-use rpmb_book::{Entry, Intent};
-use std::alloc::Global;
+use rpmb_frame::Frame;
+use std::alloc::{AllocError, Global};
 use std::test::Fail;
 
-/// An entry's sequence, counter and address, and the length and the first and last byte of its blocks.
-type Told = (u64, u32, u16, usize, Option<u8>, Option<u8>);
+/// How many requests an intent has, the sequence and the counter that it leaves, its address, and the
+/// length and the first and last byte of its blocks.
+type Told = (usize, u64, u32, u16, usize, Option<u8>, Option<u8>);
 
-fn told(entry: &Entry) -> Told {
+fn told(intent: &Intent) -> Told {
+    let count = intent.entries();
+    let entry = intent.entry(0);
     let blocks = entry.blocks();
     (
-        entry.sequence(),
-        entry.counter(),
+        count,
+        intent.last_sequence(),
+        intent.first_counter(),
         entry.address(),
         blocks.len(),
         blocks.first().copied(),
@@ -23,15 +30,15 @@ fn told(entry: &Entry) -> Told {
     )
 }
 
-/// Whether it is this guest's intent, with this entry under the key.
-fn is_intent(intent: &Intent, guest: u16, entry: Told) -> bool {
-    intent.guest() == guest && intent.entry().key() == KEY && told(intent.entry()) == entry
+/// Whether it is this guest's intent, with this request under the key.
+fn is_intent(intent: &Intent, guest: u16, request: Told) -> bool {
+    intent.guest() == guest && intent.key() == &KEY && told(intent) == request
 }
 
-/// Whether the guest's next entry is this one.
-fn takes(scene: &mut Scene, guest: u16, entry: Told) -> bool {
+/// Whether the guest's next intent is this one.
+fn takes(scene: &mut Scene, guest: u16, request: Told) -> bool {
     match scene.book.take(&mut scene.shares, guest) {
-        Ok(Some(intent)) => is_intent(&intent, guest, entry),
+        Ok(Some(intent)) => is_intent(&intent, guest, request),
         _ => false,
     }
 }
@@ -74,7 +81,7 @@ fn ask_of_guest_1(alloc: Global, scene: &mut Scene) -> Result<(), Fail> {
 fn key_is_settled(scene: &mut Scene) -> bool {
     collects(scene, 0, [0, 0, 0, 0, 0, 0, 0, 1, 0, 7, 2, 0])
         && collects_none(scene)
-        && takes(scene, 1, (1, 0, 0, 0, None, None))
+        && takes(scene, 1, (1, 1, 0, 0, 0, None, None))
         && collects_none(scene)
         && settles(scene)
         && collects(scene, 1, [0, 0, 0, 0, 0, 0, 0, 1, 0, 0, 1, 0])
@@ -84,7 +91,7 @@ fn key_is_settled(scene: &mut Scene) -> bool {
 fn write_is_settled(scene: &mut Scene) -> bool {
     collects_none(scene)
         && takes_none(scene, 0)
-        && takes(scene, 1, (2, 1, 0, 256, Some(0xa5), Some(0xa5)))
+        && takes(scene, 1, (1, 2, 1, 0, 256, Some(0xa5), Some(0xa5)))
         && takes_none(scene, 1)
         && collects_none(scene)
         && settles(scene)
@@ -100,4 +107,65 @@ fn replies_wait_for_what_they_show(rt: HostRuntime) -> Result<(), Fail> {
     ask_of_guest_1(rt.alloc(), &mut scene)?;
     check(key_is_settled(&mut scene), "the key")?;
     check(write_is_settled(&mut scene), "the write")
+}
+
+/// The frames that write so many blocks from an address on, the first of bytes 1, the next of bytes 2,
+/// and so on, and ask for the result.
+fn writes_of(alloc: Global, address: u16, count: u8) -> Result<Vec<[u8; 512]>, AllocError> {
+    let mut frames = Vec::with_capacity(alloc, 17)?;
+    for i in 0..count {
+        let frame = Frame::zeros()
+            .with_block_data(&[i + 1; 256])
+            .with_address(address)
+            .with_block_count(u16::from(count))
+            .with_req_resp(0x0003);
+        frames.push(frame.to_bytes())?;
+    }
+    let mac = mac_of(&KEY, &frames);
+    if let Some(last) = frames.last_mut() {
+        *last = Frame::from_bytes(last).with_key_mac(&mac).to_bytes();
+    }
+    frames.push(result_read())?;
+    Ok(frames)
+}
+
+/// A key, whose intent is taken, and then a write of so many blocks.
+fn write_under_a_key(
+    alloc: Global,
+    scene: &mut Scene,
+    address: u16,
+    count: u8,
+) -> Result<(), Fail> {
+    scene.submit(alloc, 0, &program_key(&KEY))?;
+    let frames = writes_of(alloc, address, count)?;
+    scene.submit(alloc, 0, &frames)?;
+    check(
+        takes(scene, 0, (1, 1, 0, 0, 0, None, None)),
+        "the key's intent",
+    )
+}
+
+#[test]
+fn a_write_of_16_blocks_is_taken_whole(rt: HostRuntime) -> Result<(), Fail> {
+    let mut scene = scene_of(rt.alloc(), 1)?;
+    write_under_a_key(rt.alloc(), &mut scene, 496, 16)?;
+    let write = (1, 2, 1, 496, 4_096, Some(1), Some(16));
+    check(takes(&mut scene, 0, write), "the write")?;
+    check(takes_none(&mut scene, 0), "no more")
+}
+
+#[test]
+fn the_last_block_is_written(rt: HostRuntime) -> Result<(), Fail> {
+    let mut scene = scene_of(rt.alloc(), 1)?;
+    write_under_a_key(rt.alloc(), &mut scene, 511, 1)?;
+    let write = (1, 2, 1, 511, 256, Some(1), Some(1));
+    check(takes(&mut scene, 0, write), "the write")?;
+    check(takes_none(&mut scene, 0), "no more")
+}
+
+#[test]
+fn a_refused_write_leaves_no_intent(rt: HostRuntime) -> Result<(), Fail> {
+    let mut scene = scene_of(rt.alloc(), 1)?;
+    write_under_a_key(rt.alloc(), &mut scene, 511, 2)?;
+    check(takes_none(&mut scene, 0), "no write")
 }

@@ -3,11 +3,17 @@ use Rattle.rpmb_book.proofs.Kept.{room_for_submit}
 use Rattle.rpmb_book.proofs.Submitting.{answers_here, kept_submit, shows_submit}
 use Rattle.rpmb_book.proofs.book.Book.submit.Goals as goal
 
-pub submit-requires : goal.submit-requires
-submit-requires c =
+pub submit-requires-clause-few : goal.submit-requires-clause-few
+submit-requires-clause-few c =
     let i = c.self.inside in
     let here = answers_here i.life (record { guests = i.opening.items }) i.history i.guests.items i.submits c.args.self.now c.args.tally.now c.args.job c.from.result c.index_mut-guest.result.now c.self.invariant c.self.view_is c.in_default.ensures (c.from.ensures ∙ c.guest-2.ensures) c.index_mut-guest.ensures.value in
     omega (arith, here.few)
+
+pub submit-requires-clause-board : goal.submit-requires-clause-board
+submit-requires-clause-board c =
+    let i = c.self.inside in
+    let here = answers_here i.life (record { guests = i.opening.items }) i.history i.guests.items i.submits c.args.self.now c.args.tally.now c.args.job c.from.result c.index_mut-guest.result.now c.self.invariant c.self.view_is c.in_default.ensures (c.from.ensures ∙ c.guest-2.ensures) c.index_mut-guest.ensures.value in
+    here.of_board
 
 pub push-requires-clause-room : goal.push-requires-clause-room
 push-requires-clause-room c =

@@ -1,5 +1,4 @@
 use Rattle.std.proofs.Common.{◌<◌, ◌∙◌, None, Some, ap, ap₂, sym, length, slice_set, arith}
-use Rattle.std.specs.Prelude.{Ok}
 use Rattle.rpmb_book.specs.Turn.{State, Take}
 use Rattle.rpmb_book.specs.Book.{share_moved}
 use Rattle.rpmb_book.proofs.Taking.{stands, takes, some_is, share_inside, next_here, take_answer_is, took_nothing, took_one, shows_turn}
@@ -14,7 +13,7 @@ push-requires-clause-room c =
     let inside : c.from-at.result < length gs = omega (arith, share_inside i.life o i.history gs i.submits c.args.self.now c.args.shares.now c.args.guest c.self.invariant c.self.view_is share, c.from-at.ensures) in
     let g = c.index_mut-known.result.now in
     let here = stands o i.history gs i.submits c.args.guest c.from-at.result g c.self.invariant c.from-at.ensures inside c.index_mut-known.ensures.value in
-    (takes o i.history gs i.submits c.args.guest c.from-at.result g c.take.new.self here (some_is _ c.in-Some.entry c.in-Some.ensures.entry) c.from-at.ensures c.in-Some.ensures.state).room
+    (takes o i.history gs i.submits c.args.guest c.from-at.result g c.take.new.self here (some_is _ c.in-Some.intent c.in-Some.ensures.intent) c.from-at.ensures c.in-Some.ensures.state).room
 
 pub invariant_of-self-in-Some : goal.invariant_of-self-in-Some
 invariant_of-self-in-Some c =
@@ -25,7 +24,7 @@ invariant_of-self-in-Some c =
     let inside : c.from-at.result < length gs = omega (arith, share_inside i.life o i.history gs i.submits c.args.self.now c.args.shares.now c.args.guest c.self.invariant c.self.view_is share, c.from-at.ensures) in
     let g = c.index_mut-known.result.now in
     let here = stands o i.history gs i.submits c.args.guest c.from-at.result g c.self.invariant c.from-at.ensures inside c.index_mut-known.ensures.value in
-    (takes o i.history gs i.submits c.args.guest c.from-at.result g c.take.new.self here (some_is _ c.in-Some.entry c.in-Some.ensures.entry) c.from-at.ensures c.in-Some.ensures.state).kept c.push.new.self c.push.ensures
+    (takes o i.history gs i.submits c.args.guest c.from-at.result g c.take.new.self here (some_is _ c.in-Some.intent c.in-Some.ensures.intent) c.from-at.ensures c.in-Some.ensures.state).kept c.push.new.self c.push.ensures
 
 pub returns-in-None-clause-answer : goal.returns-in-None-clause-answer
 returns-in-None-clause-answer c =
@@ -37,7 +36,7 @@ returns-in-None-clause-answer c =
     let g = c.index_mut-known.result.now in
     let here = stands o i.history gs i.submits c.args.guest c.from-at.result g c.self.invariant c.from-at.ensures inside c.index_mut-known.ensures.value in
     let next = next_here i.life o i.history gs i.submits c.args.guest c.args.self.now c.args.shares.now g here c.self.view_is share in
-    take_answer_is c.args.self.now c.args.shares.now c.args.guest None share (c.in-None.ensures.entry ∙ sym next)
+    take_answer_is c.args.self.now c.args.shares.now c.args.guest None share (c.in-None.ensures.intent ∙ sym next)
 
 pub returns-in-None-clause-book : goal.returns-in-None-clause-book
 returns-in-None-clause-book c =
@@ -49,7 +48,7 @@ returns-in-None-clause-book c =
     let g = c.index_mut-known.result.now in
     let here = stands o i.history gs i.submits c.args.guest c.from-at.result g c.self.invariant c.from-at.ensures inside c.index_mut-known.ensures.value in
     let next = next_here i.life o i.history gs i.submits c.args.guest c.args.self.now c.args.shares.now g here c.self.view_is share in
-    c.self.view_is ∙ took_nothing c.args.self.now c.args.shares.now c.args.guest (c.in-None.ensures.entry ∙ sym next)
+    c.self.view_is ∙ took_nothing c.args.self.now c.args.shares.now c.args.guest (c.in-None.ensures.intent ∙ sym next)
 
 pub returns-in-None-clause-shares : goal.returns-in-None-clause-shares
 returns-in-None-clause-shares c =
@@ -61,7 +60,7 @@ returns-in-None-clause-shares c =
     let g = c.index_mut-known.result.now in
     let here = stands o i.history gs i.submits c.args.guest c.from-at.result g c.self.invariant c.from-at.ensures inside c.index_mut-known.ensures.value in
     let next = next_here i.life o i.history gs i.submits c.args.guest c.args.self.now c.args.shares.now g here c.self.view_is share in
-    ap (share_moved c.args.shares.now c.args.guest) (c.in-None.ensures.entry ∙ sym next)
+    ap (share_moved c.args.shares.now c.args.guest) (c.in-None.ensures.intent ∙ sym next)
 
 pub returns-in-Some-clause-answer : goal.returns-in-Some-clause-answer
 returns-in-Some-clause-answer c =
@@ -73,7 +72,7 @@ returns-in-Some-clause-answer c =
     let g = c.index_mut-known.result.now in
     let here = stands o i.history gs i.submits c.args.guest c.from-at.result g c.self.invariant c.from-at.ensures inside c.index_mut-known.ensures.value in
     let next = next_here i.life o i.history gs i.submits c.args.guest c.args.self.now c.args.shares.now g here c.self.view_is share in
-    ap (λ x. Ok (Some x)) c.of.ensures ∙ take_answer_is c.args.self.now c.args.shares.now c.args.guest (Some c.in-Some.entry) share (c.in-Some.ensures.entry ∙ sym next)
+    take_answer_is c.args.self.now c.args.shares.now c.args.guest (Some c.in-Some.intent) share (c.in-Some.ensures.intent ∙ sym next)
 
 pub returns-in-Some-clause-book : goal.returns-in-Some-clause-book
 returns-in-Some-clause-book c =
@@ -86,7 +85,7 @@ returns-in-Some-clause-book c =
     let here = stands o i.history gs i.submits c.args.guest c.from-at.result g c.self.invariant c.from-at.ensures inside c.index_mut-known.ensures.value in
     let next = next_here i.life o i.history gs i.submits c.args.guest c.args.self.now c.args.shares.now g here c.self.view_is share in
     shows_turn i.life o i.history c.args.self.now (Take c.args.guest) c.self.view_is c.push.new.self c.push.ensures
-    ∙ took_one c.args.self.now c.args.shares.now c.args.guest c.in-Some.entry (c.in-Some.ensures.entry ∙ sym next)
+    ∙ took_one c.args.self.now c.args.shares.now c.args.guest c.in-Some.intent (c.in-Some.ensures.intent ∙ sym next)
 
 pub returns-in-Some-clause-shares : goal.returns-in-Some-clause-shares
 returns-in-Some-clause-shares c =
@@ -98,4 +97,4 @@ returns-in-Some-clause-shares c =
     let g = c.index_mut-known.result.now in
     let here = stands o i.history gs i.submits c.args.guest c.from-at.result g c.self.invariant c.from-at.ensures inside c.index_mut-known.ensures.value in
     let next = next_here i.life o i.history gs i.submits c.args.guest c.args.self.now c.args.shares.now g here c.self.view_is share in
-    c.set.ensures ∙ ap₂ (slice_set c.args.shares.now) c.from-at.ensures c.sequence.ensures ∙ ap (share_moved c.args.shares.now c.args.guest) (c.in-Some.ensures.entry ∙ sym next)
+    c.set.ensures ∙ ap₂ (slice_set c.args.shares.now) c.from-at.ensures c.last_sequence.ensures ∙ ap (share_moved c.args.shares.now c.args.guest) (c.in-Some.ensures.intent ∙ sym next)

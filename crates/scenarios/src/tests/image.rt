@@ -1,0 +1,55 @@
+//! Images of a board, what opens from them, and what a store is given.
+
+use disk::{CutDisk, Disk};
+use flusher::{Progress, Store};
+use intent_slots::{Intent, Layout};
+use recovery::{format, open};
+use rpmb_core::Partition;
+use rpmb_frame::BoardConfig;
+use std::alloc::Global;
+use std::test::Fail;
+
+/// A fresh image, on a disk that held something else.
+pub fn formatted(alloc: Global, board: &BoardConfig) -> Result<CutDisk, Fail> {
+    let layout = Layout::of(board);
+    let mut disk = CutDisk::new(alloc, vec![in alloc; 0xee; layout.length() as usize]?)?;
+    if disk.len() != layout.length() {
+        return Err(Fail::from("another length"));
+    }
+    format(&mut disk, board)?;
+    Ok(disk)
+}
+
+/// What a disk opens to: the store, and the guests' partitions.
+pub fn opened<D: Disk>(
+    alloc: Global,
+    disk: D,
+    board: &BoardConfig,
+) -> Result<(Store<D>, Vec<Partition>), Fail> {
+    match open(alloc, disk, board) {
+        Ok(opened) => Ok(opened),
+        Err((_, fault)) => Err(Fail::from(fault)),
+    }
+}
+
+/// Gives an intent to the store, which has to be one that it may be given.
+pub fn give(store: &mut Store<CutDisk>, intent: Intent) -> Result<(), Fail> {
+    if !store.is_free(intent.guest())
+        || !store.fits(&intent)
+        || store.next(intent.guest()) != intent.first_sequence()
+    {
+        return Err(Fail::from("an intent that can't be given"));
+    }
+    store.give(intent);
+    Ok(())
+}
+
+/// Has the store make its calls, until it is idle.
+pub fn settle(store: &mut Store<CutDisk>) -> Result<(), Fail> {
+    for _ in 0..100_u8 {
+        if matches!(store.advance()?, Progress::Idle) {
+            return Ok(());
+        }
+    }
+    Err(Fail::from("no end"))
+}

@@ -1,0 +1,54 @@
+//! The book and the store together: what a guest was answered is on the disk when the store is idle.
+
+use crate::tests::image::{formatted, give, opened, settle};
+use crate::tests::scene::{KEY, Scene, board_of, check, program_key, scene_of, write_of};
+use disk::{CutDisk, Filler};
+use flusher::Store;
+use rpmb_core::Partition;
+use std::alloc::Global;
+use std::test::Fail;
+
+/// Takes all that waits for the store, one after another.
+fn keep(scene: &mut Scene, store: &mut Store<CutDisk>, guest: u16) -> Result<u32, Fail> {
+    for taken in 0..100_u32 {
+        match scene.book.take(&mut scene.shares, guest) {
+            Ok(Some(intent)) => give(store, intent)?,
+            Ok(None) => return Ok(taken),
+            Err(refused) => return Err(Fail::from(refused)),
+        }
+        settle(store)?;
+    }
+    Err(Fail::from("no end"))
+}
+
+/// Whether a partition has this key, counter and first block.
+fn is(partition: Option<&Partition>, key: Option<[u8; 32]>, counter: u32, byte: u8) -> bool {
+    match partition {
+        Some(partition) => {
+            partition.key() == key
+                && partition.counter() == counter
+                && partition.block(0) == [byte; 256]
+        }
+        None => false,
+    }
+}
+
+#[test]
+fn the_store_keeps_what_the_book_gives(rt: HostRuntime) -> Result<(), Fail> {
+    let alloc = rt.alloc();
+    let board = board_of(alloc, 2)?;
+    let (mut store, _) = opened(alloc, formatted(alloc, &board)?, &board)?;
+    let mut scene = scene_of(alloc, 2)?;
+    scene.submit(alloc, 1, &program_key(&KEY))?;
+    scene.submit(alloc, 1, &write_of(0xa5, 0))?;
+    scene.submit(alloc, 1, &write_of(0x5a, 1))?;
+    scene.submit(alloc, 1, &write_of(0x66, 1))?;
+    check(keep(&mut scene, &mut store, 0)? == 0, "nothing of guest 0")?;
+    check(keep(&mut scene, &mut store, 1)? == 3, "three of guest 1")?;
+    check(store.marks().get(1) == 3, "the mark")?;
+    let mut disk = store.into_disk();
+    disk.cut(&Filler::Old);
+    let (_, partitions) = opened(alloc, disk, &board)?;
+    check(is(partitions.first(), None, 0, 0), "guest 0")?;
+    check(is(partitions.get(1), Some(KEY), 2, 0x5a), "guest 1")
+}

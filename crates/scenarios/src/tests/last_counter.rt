@@ -1,0 +1,126 @@
+//! The write that leaves a partition its last counter, and the one after it.
+
+use crate::tests::image::{formatted, give, opened, settle};
+use crate::tests::scene::{KEY, board_of, check, has_tail, write_of};
+use disk::{CutDisk, Disk};
+use flusher::Store;
+use intent_slots::{Home, Intent, Layout};
+use rpmb_core::{OK, Outcome, Partition, WRITE_COUNTER_EXPIRED, is_change};
+use rpmb_frame::{BoardConfig, Limits, Request};
+use std::alloc::Global;
+use std::test::Fail;
+
+/// The last counter but one.
+const COUNTER: u32 = 0xffff_fffe;
+
+/// A fresh image but for the home, which says that one more write may come.
+fn image(alloc: Global, board: &BoardConfig) -> Result<CutDisk, Fail> {
+    let layout = Layout::of(board);
+    if layout.guests() == 0 {
+        return Err(Fail::from("no guest"));
+    }
+    let home = layout.home(0);
+    let bytes = Home::with_key(KEY, COUNTER).encode();
+    let mut disk = formatted(alloc, board)?;
+    if home > disk.len() || bytes.len() as u64 > disk.len() - home {
+        return Err(Fail::from("off the disk"));
+    }
+    disk.write_at(home, &bytes)?;
+    Ok(disk)
+}
+
+type Opened = (Store<CutDisk>, Partition);
+
+fn opened_one(alloc: Global, disk: CutDisk, board: &BoardConfig) -> Result<Opened, Fail> {
+    let (store, mut partitions) = opened(alloc, disk, board)?;
+    match partitions.pop() {
+        Some(partition) => Ok((store, partition)),
+        None => Err(Fail::from("no partition")),
+    }
+}
+
+/// The result of a request, and the length of its reply.
+#[tactic(auto, unfolding(rpmb_core::specs::Accept::is_accepted))]
+fn answer(partition: &mut Partition, request: &Request<'_>, out: &mut [u8; 8192]) -> (u16, usize) {
+    let code = partition.verdict(request);
+    if is_change(request) && code == OK {
+        partition.accept(request);
+    }
+    let outcome = Outcome::of(request, code, partition.counter());
+    (code, partition.reply(request, code, outcome, out))
+}
+
+/// Whether the write of a block of this byte under this counter has this result, and a reply with this
+/// tail.
+fn answers(
+    partition: &mut Partition,
+    limits: Limits,
+    write: (u8, u32),
+    wanted: (u16, [u8; 12]),
+) -> bool {
+    let frames = write_of(write.0, write.1);
+    let request = Request::classify(frames.as_flattened(), 512, limits);
+    let mut out = [0; 8192];
+    let (code, len) = answer(partition, &request, &mut out);
+    match out.get(..len) {
+        Some(reply) => code == wanted.0 && len == 512 && has_tail(reply, &wanted.1),
+        None => false,
+    }
+}
+
+const WRITTEN: [u8; 12] = *b"\xff\xff\xff\xff\0\0\0\x01\0\0\x03\0";
+
+const EXPIRED: [u8; 12] = *b"\xff\xff\xff\xff\0\0\0\x01\0\x80\x03\0";
+
+fn limits_of(board: &BoardConfig) -> Result<Limits, Fail> {
+    match board.guests().first() {
+        Some(guest) => Ok(Limits::of(guest)),
+        None => Err(Fail::from("no guest")),
+    }
+}
+
+/// Whether the partition has the last counter, and block 0 repeats this byte.
+fn is_at_the_end(partition: &Partition, byte: u8) -> bool {
+    partition.key() == Some(KEY)
+        && partition.counter() == 0xffff_ffff
+        && partition.sequence() == 0x1_0000_0000
+        && partition.block(0) == [byte; 256]
+}
+
+#[test]
+fn the_last_write_and_the_one_after(rt: HostRuntime) -> Result<(), Fail> {
+    let board = board_of(rt.alloc(), 1)?;
+    let limits = limits_of(&board)?;
+    let (_, mut partition) = opened_one(rt.alloc(), image(rt.alloc(), &board)?, &board)?;
+    check(partition.sequence() == 0xffff_ffff, "the sequence")?;
+    let last = answers(&mut partition, limits, (0x77, COUNTER), (OK, WRITTEN));
+    check(last, "the last write")?;
+    check(is_at_the_end(&partition, 0x77), "is made")?;
+    let none = (WRITE_COUNTER_EXPIRED, EXPIRED);
+    let after = answers(&mut partition, limits, (0x78, 0xffff_ffff), none);
+    check(after, "the one after")?;
+    check(is_at_the_end(&partition, 0x77), "isn't made")
+}
+
+/// The intent of the last write, of a block of this byte at address 0.
+fn last_write(alloc: Global, byte: u8) -> Result<Intent, Fail> {
+    Ok(Intent::write(0, KEY, 0xffff_ffff, 0, vec![in alloc; byte; 256]?))
+}
+
+#[test]
+fn the_last_write_on_the_disk(rt: HostRuntime) -> Result<(), Fail> {
+    let board = board_of(rt.alloc(), 1)?;
+    let (mut store, _) = opened_one(rt.alloc(), image(rt.alloc(), &board)?, &board)?;
+    give(&mut store, last_write(rt.alloc(), 0x77)?)?;
+    settle(&mut store)?;
+    check(store.marks().get(0) == 0x1_0000_0000, "the mark")?;
+    let (_, mut partition) = opened_one(rt.alloc(), store.into_disk(), &board)?;
+    check(is_at_the_end(&partition, 0x77), "the partition")?;
+    let none = (WRITE_COUNTER_EXPIRED, EXPIRED);
+    let limits = limits_of(&board)?;
+    let after = answers(&mut partition, limits, (0x78, 0xffff_ffff), none);
+    check(
+        after && is_at_the_end(&partition, 0x77),
+        "no write after it",
+    )
+}

@@ -1,0 +1,354 @@
+//! Three guests whose requests go to the disk side by side, stopped at and within each call of the
+//! disk, and once more at and within the first call after the opening.
+
+use crate::tests::image::{formatted, give, opened};
+use crate::tests::intents::{Histories, REQUESTS, intent_of};
+use crate::tests::scene::{board_of, check};
+use disk::{CutDisk, Filler};
+use flusher::{Call, Progress, Store, StoreFault};
+use rpmb_core::Partition;
+use rpmb_frame::BoardConfig;
+use std::alloc::Global;
+use std::test::Fail;
+
+/// The calls of all requests: 4 writes for each of 3 keys, 5 for each of 9 writes of blocks, and 18
+/// syncs, since each request takes four, and guests 1 and 2 begin one and two syncs after guest 0.
+const CALLS: u32 = 75;
+
+/// How many calls were made when each guest begins.
+const BEGINNINGS: [u32; 3] = [0, 2, 5];
+
+/// What a run begins from, and what its partitions are compared with.
+#[derive(Drop)]
+struct Scene {
+    board: BoardConfig,
+    /// A formatted image.
+    image: Vec<u8>,
+    histories: Histories,
+}
+
+fn new_scene(alloc: Global) -> Result<Scene, Fail> {
+    let board = board_of(alloc, 3)?;
+    Ok(Scene {
+        image: formatted(alloc, &board)?.content().to_vec(alloc)?,
+        board,
+        histories: Histories::new(alloc)?,
+    })
+}
+
+/// A store under way, and how many requests each guest has given it.
+#[derive(Drop)]
+struct Run {
+    store: Store<CutDisk>,
+    given: [u64; 3],
+}
+
+/// What a stop has left, and of each guest the least and the most requests that it may have kept.
+#[derive(Drop)]
+struct Stopped {
+    disk: CutDisk,
+    least: [u64; 3],
+    most: [u64; 3],
+}
+
+/// What was compared.
+#[derive(Drop)]
+struct Tally {
+    /// How many partitions.
+    partitions: u32,
+    /// How many calls were made after an opening.
+    calls: u32,
+    /// By guest and request, how many openings found the partition before a request that had been
+    /// given and wasn't settled.
+    before: [[u32; 4]; 3],
+    /// How many found the partition after it.
+    after: [[u32; 4]; 3],
+}
+
+fn no_tally() -> Tally {
+    Tally {
+        partitions: 0,
+        calls: 0,
+        before: [[0; 4]; 3],
+        after: [[0; 4]; 3],
+    }
+}
+
+/// What an opening gives. Each guest goes on behind the requests that its partition has.
+fn run_from(alloc: Global, scene: &Scene, disk: CutDisk) -> Result<(Run, Vec<Partition>), Fail> {
+    let (store, partitions) = opened(alloc, disk, &scene.board)?;
+    let mut given = [0; 3];
+    for (guest, partition) in partitions.iter().take(3).enumerate() {
+        given[guest] = partition.sequence();
+    }
+    Ok((Run { store, given }, partitions))
+}
+
+fn begun(alloc: Global, scene: &Scene) -> Result<Run, Fail> {
+    let disk = CutDisk::new(alloc, scene.image.to_vec(alloc)?)?;
+    let (run, _) = run_from(alloc, scene, disk)?;
+    Ok(run)
+}
+
+impl Run {
+    /// Gives a guest's next request, if there is one and the guest's slot is free.
+    fn give(&mut self, alloc: Global, guest: u16) -> Result<(), Fail> {
+        let Some(given) = self.given.get_mut(usize::from(guest)) else {
+            return Err(Fail::from("no guest"));
+        };
+        if *given >= REQUESTS || !self.store.is_free(guest) {
+            return Ok(());
+        }
+        let intent = intent_of(alloc, guest, *given)?;
+        *given += 1;
+        give(&mut self.store, intent)
+    }
+
+    /// Gives the next requests of all guests that have begun.
+    fn give_all(&mut self, alloc: Global, calls: u32) -> Result<(), Fail> {
+        for (guest, beginning) in BEGINNINGS.iter().enumerate() {
+            if *beginning <= calls {
+                self.give(alloc, guest as u16)?;
+            }
+        }
+        Ok(())
+    }
+
+    /// Makes so many calls.
+    fn go(&mut self, alloc: Global, calls: u32) -> Result<(), Fail> {
+        for call in 0..calls {
+            self.give_all(alloc, call)?;
+            if matches!(self.store.advance()?, Progress::Idle) {
+                return Err(Fail::from("idle"));
+            }
+        }
+        Ok(())
+    }
+
+    /// Makes the next call fail.
+    fn fail(&mut self) -> Result<(), Fail> {
+        self.store.fail(1);
+        match self.store.advance() {
+            Err(StoreFault::DiskFault) => Ok(()),
+            _ => Err(Fail::from("no call failed")),
+        }
+    }
+}
+
+impl Run {
+    /// What stands on the disk when no more calls are made, without a stop.
+    fn left(self) -> Stopped {
+        let marks = self.store.marks();
+        Stopped {
+            disk: self.store.into_disk(),
+            least: [marks.get(0), marks.get(1), marks.get(2)],
+            most: self.given,
+        }
+    }
+
+    /// What a stop leaves.
+    fn stopped(self, filler: &Filler) -> Stopped {
+        let mut stopped = self.left();
+        stopped.disk.cut(filler);
+        stopped
+    }
+}
+
+impl Tally {
+    /// Counts a partition that was found after so many requests.
+    fn count(&mut self, guest: usize, least: u64, found: u64, most: u64) -> Result<(), Fail> {
+        check(
+            least <= found && found <= most,
+            "as many requests as may be",
+        )?;
+        self.partitions = self.partitions.wrapping_add(1);
+        if least == most {
+            return Ok(());
+        }
+        let all = if found == least {
+            &mut self.before
+        } else {
+            &mut self.after
+        };
+        match all
+            .as_flattened_mut()
+            .get_mut(4 * guest.min(2) + least as usize % 4)
+        {
+            Some(count) => *count = count.wrapping_add(1),
+            None => return Err(Fail::from("no request")),
+        }
+        Ok(())
+    }
+
+    /// Whether each request was found undone and done while it wasn't settled.
+    fn has_both(&self) -> bool {
+        self.before.as_flattened().iter().all(|count| *count > 0)
+            && self.after.as_flattened().iter().all(|count| *count > 0)
+    }
+}
+
+impl Stopped {
+    /// Opens the disk and compares each partition.
+    fn open(self, alloc: Global, scene: &Scene, tally: &mut Tally) -> Result<Run, Fail> {
+        let (run, partitions) = run_from(alloc, scene, self.disk)?;
+        check(partitions.len() == 3, "three partitions")?;
+        let marks = run.store.marks();
+        for (guest, partition) in partitions.iter().take(3).enumerate() {
+            let found = run.given[guest];
+            tally.count(guest, self.least[guest], found, self.most[guest])?;
+            check(marks.get(guest as u16) == found, "the mark")?;
+            check(
+                scene.histories.is_after(partition, guest as u16, found),
+                "the partition",
+            )?;
+        }
+        Ok(run)
+    }
+}
+
+/// A stop after the first call that follows the opening of an image, or within it.
+fn stop_again(
+    alloc: Global,
+    scene: &Scene,
+    image: &[u8],
+    within: bool,
+    filler: &Filler,
+    tally: &mut Tally,
+) -> Result<(), Fail> {
+    let disk = CutDisk::new(alloc, image.to_vec(alloc)?)?;
+    let (mut run, _) = run_from(alloc, scene, disk)?;
+    run.give_all(alloc, CALLS)?;
+    if run.store.next_call() != Call::None {
+        tally.calls = tally.calls.wrapping_add(1);
+        if within {
+            run.fail()?;
+        } else {
+            run.store.advance()?;
+        }
+    }
+    run.stopped(filler).open(alloc, scene, tally)?;
+    Ok(())
+}
+
+fn stop_twice(
+    alloc: Global,
+    scene: &Scene,
+    run: Run,
+    filler: &Filler,
+    tally: &mut Tally,
+) -> Result<(), Fail> {
+    let stopped = run.stopped(filler);
+    let image = stopped.disk.content().to_vec(alloc)?;
+    stopped.open(alloc, scene, tally)?;
+    stop_again(alloc, scene, &image, false, filler, tally)?;
+    stop_again(alloc, scene, &image, true, filler, tally)
+}
+
+/// The run after so many calls, or with the next one failed.
+fn run_to(alloc: Global, scene: &Scene, calls: u32, within: bool) -> Result<Run, Fail> {
+    let mut run = begun(alloc, scene)?;
+    run.go(alloc, calls)?;
+    if within {
+        run.give_all(alloc, calls)?;
+        run.fail()?;
+    }
+    Ok(run)
+}
+
+fn filler(alloc: Global, number: u8) -> Result<Filler, Fail> {
+    Ok(match number {
+        0 => Filler::Old,
+        1 => Filler::New,
+        2 => Filler::Fill([0x5a, 0xa5].to_vec(alloc)?),
+        _ => Filler::Fill(Vec::new(alloc)),
+    })
+}
+
+/// Stops of every kind after so many calls, or within the next one.
+fn stop_at(
+    alloc: Global,
+    scene: &Scene,
+    calls: u32,
+    within: bool,
+    tally: &mut Tally,
+) -> Result<(), Fail> {
+    for number in 0..4 {
+        let run = run_to(alloc, scene, calls, within)?;
+        stop_twice(alloc, scene, run, &filler(alloc, number)?, tally)?;
+    }
+    Ok(())
+}
+
+/// Runs to the end, and says how many calls it took.
+fn calls_of(alloc: Global, run: &mut Run) -> Result<u32, Fail> {
+    for calls in 0..1000 {
+        run.give_all(alloc, calls)?;
+        if matches!(run.store.advance()?, Progress::Idle) {
+            return Ok(calls);
+        }
+    }
+    Err(Fail::from("no end"))
+}
+
+#[test]
+fn undisturbed(rt: HostRuntime) -> Result<(), Fail> {
+    let alloc = rt.alloc();
+    let scene = new_scene(alloc)?;
+    let mut run = begun(alloc, &scene)?;
+    check(calls_of(alloc, &mut run)? == CALLS, "the calls")?;
+    let mut tally = no_tally();
+    let end = run.stopped(&Filler::Old);
+    check(end.least == [4, 4, 4], "all is settled")?;
+    end.open(alloc, &scene, &mut tally)?;
+    Ok(())
+}
+
+/// Three partitions are compared at each of 76 places with each of 4 fillers, and then at two second
+/// stops. No call follows an opening after the last call, nor before the last sync where 3 of the 4
+/// fillers leave the last gate shut.
+#[test]
+fn stopped_between_calls(rt: HostRuntime) -> Result<(), Fail> {
+    let alloc = rt.alloc();
+    let scene = new_scene(alloc)?;
+    let mut tally = no_tally();
+    for calls in 0..CALLS + 1 {
+        stop_at(alloc, &scene, calls, false, &mut tally)?;
+    }
+    check(tally.partitions == 76 * 4 * 9, "all were compared")?;
+    check(tally.calls == 76 * 4 * 2 - 14, "calls after openings")?;
+    check(tally.has_both(), "before and after")
+}
+
+/// The same at 75 places. No call follows an opening where 3 of the 4 fillers leave the last gate shut
+/// in the last sync, and 2 in the last write, which what reads give then lacks.
+#[test]
+fn stopped_within_calls(rt: HostRuntime) -> Result<(), Fail> {
+    let alloc = rt.alloc();
+    let scene = new_scene(alloc)?;
+    let mut tally = no_tally();
+    for calls in 0..CALLS {
+        stop_at(alloc, &scene, calls, true, &mut tally)?;
+    }
+    check(tally.partitions == 75 * 4 * 9, "all were compared")?;
+    check(tally.calls == 75 * 4 * 2 - 10, "calls after openings")?;
+    check(tally.has_both(), "before and after")
+}
+
+/// A disk with a failed call is opened as it is, and stopped then.
+fn open_again(alloc: Global, scene: &Scene, calls: u32, tally: &mut Tally) -> Result<(), Fail> {
+    let run = run_to(alloc, scene, calls, true)?;
+    let opened = run.left().open(alloc, scene, tally)?;
+    opened.stopped(&Filler::Old).open(alloc, scene, tally)?;
+    Ok(())
+}
+
+#[test]
+fn opened_again_without_a_stop(rt: HostRuntime) -> Result<(), Fail> {
+    let alloc = rt.alloc();
+    let scene = new_scene(alloc)?;
+    let mut tally = no_tally();
+    for calls in 0..CALLS {
+        open_again(alloc, &scene, calls, &mut tally)?;
+    }
+    check(tally.partitions == 75 * 6, "all were compared")
+}
