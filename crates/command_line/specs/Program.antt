@@ -13,10 +13,13 @@ use Rattle.command_line.specs.declared.command.Command.TheVariants as command
 abbrev pub required : Text → Rule
 required id = record (new_rule id) { required = true }
 
+-- a command that takes a board file
+abbrev pub on_board : Text → App
+on_board name = with_rule (new_app name) (required (codes "BOARD"))
+
 -- a command that takes a board file and a script
 abbrev pub on_script : Text → App
-on_script name =
-    with_rule (with_rule (new_app name) (required (codes "BOARD"))) (required (codes "SCRIPT"))
+on_script name = with_rule (on_board name) (required (codes "SCRIPT"))
 
 -- the program's name alone, which wants a command
 abbrev pub bare : App
@@ -26,10 +29,14 @@ bare =
 
 -- the program with its commands; `clap` adds `help`, and the flags `-h` and `--help` on each level
 unfoldable pub program : App
-program = with_subcommand bare (on_script (codes "run")).top
+program =
+    with_subcommand (with_subcommand (with_subcommand bare (on_board (codes "format")).top)
+    (on_board (codes "show")).top) (on_script (codes "run")).top
 
 -- a command's name and the values of its arguments ask for the command, on its files
 abbrev pub AsksFor : Text → Option Text → Option Text → Command → Type 0
+AsksFor name board script (command.Format b) = (name ≡ codes "format") × (board ≡ Some b.now)
+AsksFor name board script (command.Show b) = (name ≡ codes "show") × (board ≡ Some b.now)
 AsksFor name board script (command.Run b s) =
     (name ≡ codes "run") × (board ≡ Some b.now) × (script ≡ Some s.now)
 

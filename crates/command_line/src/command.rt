@@ -3,6 +3,16 @@
 /// What the program is to do, with the paths of the files that the words name.
 #[derive(Clone, Copy, Debug, PartialEq, Eq)]
 pub enum Command<'a> {
+    /// Makes a fresh image of a board.
+    Format {
+        /// The path of the board file.
+        board: &'a str,
+    },
+    /// Prints what the image of a board holds.
+    Show {
+        /// The path of the board file.
+        board: &'a str,
+    },
     /// Performs a script on the guests of a board.
     Run {
         /// The path of the board file.

@@ -12,6 +12,31 @@ fn reads_run(rt: HostRuntime) -> Result<(), Fail> {
 }
 
 #[test]
+fn reads_commands_on_a_board(rt: HostRuntime) -> Result<(), Fail> {
+    for (name, wanted) in [
+        (
+            "format",
+            Command::Format {
+                board: "board.toml",
+            },
+        ),
+        (
+            "show",
+            Command::Show {
+                board: "board.toml",
+            },
+        ),
+    ] {
+        let words = ["rpmbd", name, "board.toml"];
+        let Ok(command) = read_words(rt.alloc(), words.as_slice()) else {
+            return Err("refused").map_err(Fail::from);
+        };
+        assert_eq!(rt; command, wanted, "at {name}");
+    }
+    Ok(())
+}
+
+#[test]
 fn refuses_with_status_and_text(rt: HostRuntime) -> Result<(), Fail> {
     let alloc = rt.alloc();
     for (line, status, part) in [
@@ -20,14 +45,23 @@ fn refuses_with_status_and_text(rt: HostRuntime) -> Result<(), Fail> {
         ("rpmbd run board.toml", 2, "<SCRIPT>"),
         ("rpmbd run board.toml script.txt more", 2, "more"),
         ("rpmbd run board.toml script.txt --fast", 2, "--fast"),
-        ("rpmbd format board.toml", 2, "format"),
-        ("rpmbd show board.toml", 2, "show"),
+        ("rpmbd format", 2, "<BOARD>"),
+        ("rpmbd format board.toml script.txt", 2, "script.txt"),
+        ("rpmbd show", 2, "<BOARD>"),
+        ("rpmbd show board.toml script.txt", 2, "script.txt"),
+        ("rpmbd show --help=board.toml", 2, "--help"),
         ("rpmbd serve board.toml script.txt", 2, "serve"),
+        ("rpmbd upgrade board.toml", 2, "upgrade"),
         ("rpmbd --version", 2, "--version"),
         ("rpmbd help walk", 2, "walk"),
         ("rpmbd help", 0, "Usage: rpmbd <COMMAND>"),
         ("rpmbd -h", 0, "Usage: rpmbd <COMMAND>"),
         ("rpmbd --help", 0, "Usage: rpmbd <COMMAND>"),
+        ("rpmbd help", 0, "Prints what the image of the board holds"),
+        ("rpmbd help format", 0, "Usage: rpmbd format <BOARD>"),
+        ("rpmbd format --help", 0, "Makes a fresh image of the board"),
+        ("rpmbd help show", 0, "Usage: rpmbd show <BOARD>"),
+        ("rpmbd show -h", 0, "Usage: rpmbd show <BOARD>"),
         ("rpmbd help run", 0, "Usage: rpmbd run <BOARD> <SCRIPT>"),
         ("rpmbd run -h", 0, "Usage: rpmbd run <BOARD> <SCRIPT>"),
         ("rpmbd run --help", 0, "Usage: rpmbd run <BOARD> <SCRIPT>"),

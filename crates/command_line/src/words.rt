@@ -37,6 +37,8 @@ fn command_of<'a>(
         → ¬ AsksFor name.now (option_copied board.entry) (option_copied script.entry) c) }
 {
     match (name, board, script) {
+        ("format", Some(board), _) => Some(Command::Format { board }),
+        ("show", Some(board), _) => Some(Command::Show { board }),
         ("run", Some(board), Some(script)) => Some(Command::Run { board, script }),
         _ => None,
     }

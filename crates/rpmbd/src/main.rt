@@ -1,69 +1,63 @@
-//! `rpmbd`: reads the command line, the board file and the script, and performs the command.
+//! `rpmbd`: reads the command line and the files that it names, and performs the command.
 #![tactic(auto)]
 
-mod fault;
-mod perform;
+ghost use Rattle.std.specs.Prelude.{◌≡◌};
+ghost use Rattle.disk.specs.Disk.{DiskState};
+ghost use Rattle.intent_slots.specs.Layout.{capacities_of, image_length};
+ghost use Rattle.commands.specs.Ending.{IsFormat};
 
-use board_file::{BoardError, read_board};
+mod files;
+
 use command_line::{Command, WordsError, read_words};
-use fault::Fault;
-use perform::{perform, report};
+use commands::{Fault, perform, report};
+use disk::{Disk, MemDisk};
+use files::{create_image, open_image, read_board_file, read_image_board, read_text};
+use intent_slots::Layout;
 use rpmb_frame::BoardConfig;
-use std::alloc::Global;
 use std::io::BufWriter;
 use std::process::ExitCode;
-use std::rt::Files;
-use std::{env, fs, io};
+use std::{env, io};
 
 /// The status of a command line that is refused.
 const REFUSED: u8 = 2;
 
-fn board_of(alloc: Global, text: &str) -> Result<BoardConfig, Fault> {
-    match read_board(alloc, text) {
-        Ok((board, _)) => Ok(board),
-        Err(BoardError::BadBoard) => Err(Fault::BadBoard),
-        Err(BoardError::NoMemory) => Err(Fault::NoMemory),
-    }
-}
-
-fn text_of<R: Files + AllocGlobal>(rt: &R, path: &str) -> Result<String, Fault> {
-    match fs::read_to_string(rt, path) {
-        Ok(text) => Ok(text),
-        Err(error) => match error.kind() {
-            io::ErrorKind::OutOfMemory => Err(Fault::NoMemory),
-            _ => Err(Fault::FileFault),
-        },
-    }
-}
-
-/// What stands in the files that the command names.
-fn inputs<R: Files + AllocGlobal>(
-    rt: &R,
+/// Performs a command on what its files hold.
+fn perform_on<D: Disk>(
+    rt: &HostRuntime,
     command: Command<'_>,
-) -> Result<(BoardConfig, String), Fault> {
-    let Command::Run { board, script } = command;
-    let board = board_of(rt.alloc(), text_of(rt, board)?.as_str())?;
-    let script = text_of(rt, script)?;
-    Ok((board, script))
+    board: &BoardConfig,
+    script: &str,
+    disk: D,
+) -> Result<u8, Fault>
+    requires { IsFormat command → (D.state disk).len ≡ image_length (capacities_of board.now) }
+{
+    let Ok(mut out) = BufWriter::new(rt.alloc(), rt.stdout()) else {
+        return Err(Fault::NoMemory);
+    };
+    let mut err = rt.stderr();
+    let (status, _) = perform(rt.alloc(), command, board, script, disk, &mut out, &mut err);
+    Ok(status)
 }
 
-/// Performs a command on its files.
-fn perform_on_files(rt: &HostRuntime, command: Command<'_>) -> u8 {
-    let mut err = rt.stderr();
-    let (board, script) = match inputs(rt, command) {
-        Ok(inputs) => inputs,
-        Err(fault) => return report(fault, &mut err),
-    };
-    match BufWriter::new(rt.alloc(), rt.stdout()) {
-        Ok(mut out) => perform(
-            rt.alloc(),
-            command,
-            &board,
-            script.as_str(),
-            &mut out,
-            &mut err,
-        ),
-        Err(_) => report(Fault::NoMemory, &mut err),
+/// Reads the files that the command names, and performs it on them.
+fn perform_on_files(rt: &HostRuntime, command: Command<'_>) -> Result<u8, Fault> {
+    match command {
+        Command::Format { board } => {
+            let (board, image) = read_image_board(rt, board)?;
+            let disk = create_image(rt, image.as_str(), Layout::of(&board).length())?;
+            perform_on(rt, command, &board, "", disk)
+        }
+        Command::Show { board } => {
+            let (board, image) = read_image_board(rt, board)?;
+            let disk = open_image(rt, image.as_str())?;
+            perform_on(rt, command, &board, "", disk)
+        }
+        Command::Run { board, script } => {
+            let (board, _) = read_board_file(rt, board)?;
+            let script = read_text(rt, script)?;
+            let disk = MemDisk::new(Vec::new(rt.alloc()));
+            perform_on(rt, command, &board, script.as_str(), disk)
+        }
     }
 }
 
@@ -98,7 +92,10 @@ fn main(rt: HostRuntime) -> ExitCode {
         return ExitCode::from(report(Fault::NoMemory, &mut rt.stderr()));
     };
     let status = match read_words(rt.alloc(), words.as_slice()) {
-        Ok(command) => perform_on_files(&rt, command),
+        Ok(command) => match perform_on_files(&rt, command) {
+            Ok(status) => status,
+            Err(fault) => report(fault, &mut rt.stderr()),
+        },
         Err(error) => refuse(&rt, error),
     };
     ExitCode::from(status)

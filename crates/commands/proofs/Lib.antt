@@ -1,0 +1,5 @@
+pub mod Lines
+pub mod Printing
+pub mod Telling
+pub mod Listed
+pub mod Ended

@@ -1,0 +1,36 @@
+use Rattle.std.proofs.Common.{◌≡◌, ◌+◌, ◌<◌, List, ap, length, map, subst, arith}
+use Rattle.std.specs.Prelude.{All}
+use Rattle.std.proofs.lemmas.List.{length-map}
+use Rattle.mmio_transport.specs.Device.{last_count}
+use Rattle.script.specs.Line.{said}
+use Rattle.script.specs.declared.line.Line.{Line}
+use Rattle.commands.specs.Running.{IsSized}
+use Rattle.commands.proofs.Printing.{Going, finish, none_left, step, rest_sized}
+use Rattle.commands.proofs.running.run_lines.Goals as goal
+
+pub loop-line-preserved : goal.loop-line-preserved
+loop-line-preserved g c =
+    let now = c.loop-line in
+    let all = map said c.args.lines.items in
+    let start = g.W.Write.contents c.args.out.now in
+    let here = g.W.Write.contents now.out in
+    let few : length all + 2 < last_count = omega (arith, length-map c.args.lines.items said, c.args.lines.ok, c.args.lines.small) in
+    let rest = c.in-Some.ensures.steps.0 in
+    let sized : List Line → Type 0 = λ ls. All (λ l. IsSized (said l)) ls in (
+      rest_sized c.in-Some.line c.next.new.self.rest.items (subst sized rest now.invariant.0),
+      (λ t at clean.
+          let going = subst (Going start here t now.host all) (ap (map said) rest) (now.invariant.1 t at clean) in
+          step start here (g.W.Write.contents c.run_line.new.out) t now.host c.run_line.new.host all (map said c.next.new.self.rest.items) (said c.in-Some.line) few going c.in_ok-run_line.ensures.runs),
+    )
+
+pub returns-clause-printed : goal.returns-clause-printed
+returns-clause-printed g c =
+    λ t at clean.
+    let now = c.loop-line in
+    let all = map said c.args.lines.items in
+    let start = g.W.Write.contents c.args.out.now in
+    let here = g.W.Write.contents now.out in
+    let left = now.line-iterator.rest in
+    let long : left.len ≡ length left.items = omega (arith, left.ok) in
+    let rest = ap (map said) (none_left left.items left.len c.in-None.ensures.steps.0 long) in
+    finish start here t now.host all (subst (Going start here t now.host all) rest (now.invariant.1 t at clean))

@@ -1,0 +1,6 @@
+use Rattle.std.specs.Io.KnownBytes.{Appends}
+use Rattle.commands.specs.Listing.{blocks_below}
+use Rattle.commands.proofs.showing.write_blocks.Given as goal
+
+abbrev pub invariant-loop-address : goal.invariant-loop-address
+invariant-loop-address g l = Appends (g.W.Write.contents l.fn.out) (g.W.Write.contents l.out) (blocks_below l.address l.guest l.partition)

@@ -1,0 +1,49 @@
+//! What `format` does: a fresh image, and a line with its length.
+ghost use Rattle.std.specs.Prelude.{◌≡◌, true, Err, IfErr, OnOk};
+ghost use Rattle.std.specs.Io.KnownBytes.{Appends};
+ghost use Rattle.disk.specs.Disk.{DiskState};
+ghost use Rattle.intent_slots.specs.Layout.{capacities_of, image_length};
+ghost use Rattle.recovery.specs.Format.{IsFormatted};
+ghost use Rattle.commands.specs.Ending.{FormatEnds, KeepsUnless};
+ghost use Rattle.commands.specs.Listing.{formatted_line};
+
+use crate::fault::Fault;
+use disk::Disk;
+use intent_slots::Layout;
+use recovery::format;
+use rpmb_frame::BoardConfig;
+use std::io::Write;
+
+/// Writes the line of an image of this length, and all that is still held back.
+#[tactic(auto, unfolding(crate::specs::Listing::formatted_line))]
+fn write_length<W: Write>(length: u64, out: &mut W) -> Result<(), Fault>
+    ensures printed { OnOk result (Appends (W.contents out.old) (W.contents out.new) (formatted_line length)) }
+    ensures only { (fault : Fault) → result ≡ Err fault → fault ≡ Fault.FileFault }
+{
+    if writeln!(out, "formatted {length}").is_err() {
+        return Err(Fault::FileFault);
+    }
+    match out.flush() {
+        Ok(()) => Ok(()),
+        Err(_) => Err(Fault::FileFault),
+    }
+}
+
+/// Makes a fresh image of the board over all that the disk holds, and prints its length. The disk has
+/// that length.
+pub fn make_image<D: Disk, W: Write>(
+    disk: &mut D,
+    board: &BoardConfig,
+    out: &mut W,
+) -> Result<(), Fault>
+    requires { (D.state disk.old).len ≡ image_length (capacities_of board.now) }
+    ensures formatted { OnOk result ((D.state disk.old).faithful ≡ true → IsFormatted (capacities_of board.now) (D.state disk.new)) }
+    ensures printed { OnOk result (Appends (W.contents out.old) (W.contents out.new) (formatted_line (image_length (capacities_of board.now)))) }
+    ensures ends { IfErr result (FormatEnds (capacities_of board.now) (D.state disk.old) (D.state disk.new)) }
+    ensures silent { IfErr result (λ fault. KeepsUnless fault (W.contents out.old) (W.contents out.new)) }
+{
+    match format(disk, board) {
+        Ok(()) => write_length(Layout::of(board).length(), out),
+        Err(fault) => Err(Fault::of_image(fault)),
+    }
+}

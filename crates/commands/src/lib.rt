@@ -1,0 +1,17 @@
+//! What each command of `rpmbd` does, once its files are read: over any disk, and any two writers for
+//! standard output and standard error. The program's faults, and how it tells them, stand here too.
+#![tactic(auto)]
+
+mod fault;
+mod formatting;
+mod performing;
+mod reporting;
+mod running;
+mod showing;
+
+pub use fault::Fault;
+pub use performing::perform;
+pub use reporting::report;
+
+#[cfg(test)]
+mod tests;

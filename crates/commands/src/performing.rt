@@ -1,0 +1,81 @@
+//! What a command does, once its files are read.
+ghost use Rattle.std.specs.Prelude.{◌≡◌, ◌⊎◌, ℕ, true, List, IfSome, IsSome, OnOk, Some};
+ghost use Rattle.std.specs.Io.KnownBytes.{Appends, Keeps};
+ghost use Rattle.disk.specs.Disk.{DiskState, Within};
+ghost use Rattle.intent_slots.specs.Layout.{capacities_of, image_length};
+ghost use Rattle.recovery.specs.Format.{IsFormatted};
+ghost use Rattle.recovery.specs.Opening.{IsImage, Untouched};
+ghost use Rattle.script.specs.Line.{Said};
+ghost use Rattle.commands.specs.Ending.{Ends, Fails, IsFormat, IsReadAlone, IsRun, IsShow, Prints};
+ghost use Rattle.commands.specs.Listing.{Lists, formatted_line};
+ghost use Rattle.commands.specs.Transcript.{AreSplit, IsBadAt, Says, StoresNothing, output_of};
+
+use crate::fault::Fault;
+use crate::formatting::make_image;
+use crate::reporting::report;
+use crate::running::run;
+use crate::showing::show_image;
+use command_line::Command;
+use disk::Disk;
+use rpmb_frame::BoardConfig;
+use std::alloc::Global;
+use std::io::Write;
+
+/// Performs the command, and gives the status that the program ends with, and the disk: 0, or 1 after the
+/// line of a fault on standard error. `format` and `show` work on the disk's content; `run` keeps its
+/// partitions in memory and makes no call of the disk. Only `run` looks at the script. What was printed is
+/// flushed before the status is decided.
+pub fn perform<D: Disk, W: Write, E: Write>(
+    alloc: Global,
+    command: Command<'_>,
+    board: &BoardConfig,
+    script: &str,
+    disk: D,
+    out: &mut W,
+    err: &mut E,
+) -> (u8, Option<D>)
+    // An image is made on a disk of its length.
+    requires { IsFormat command → (D.state disk).len ≡ image_length (capacities_of board.now) }
+    ensures status { (result.0 ≡ 0) ⊎ (result.0 ≡ 1) }
+    ensures back { IsSome result.1 }
+    // A run that reached its end has printed the reply to each chain, and nothing else, where no line
+    // stored into guest memory.
+    ensures printed { IsRun command.entry → result.0 ≡ 0 → (lines : List Said) → Says board.now script.now lines → AreSplit board.now → StoresNothing lines
+        → Appends (W.contents out.old) (W.contents out.new) (output_of board.now lines) }
+    // Nothing is printed of a script with a bad line.
+    ensures bad { IsRun command.entry → (n : ℕ) → IsBadAt board.now script.now n
+        → (result.0 ≡ 1) × Keeps (W.contents out.old) (W.contents out.new) }
+    // A run makes no call of the disk.
+    ensures unused { IsRun command.entry → result.1 ≡ Some disk }
+    // The disk holds a fresh image, and its length was printed.
+    ensures formatted { IsFormat command.entry → result.0 ≡ 0 → (D.state disk).faithful ≡ true
+        → IfSome result.1 (λ d. IsFormatted (capacities_of board.now) (D.state d)) }
+    ensures length { IsFormat command.entry → result.0 ≡ 0
+        → Appends (W.contents out.old) (W.contents out.new) (formatted_line (image_length (capacities_of board.now))) }
+    // The disk holds an image of the board, and its partitions were printed.
+    ensures image { IsShow command.entry → result.0 ≡ 0 → (D.state disk).faithful ≡ true
+        → IsImage (capacities_of board.now) (D.state disk).len (D.state disk).seen }
+    ensures listed { IsShow command.entry → result.0 ≡ 0
+        → Lists (capacities_of board.now) (D.state disk) (W.contents out.old) (W.contents out.new) }
+    // To be shown an image is only synced and read, and at each moment a stop leaves only what it could
+    // leave before.
+    ensures read { IsShow command.entry → IfSome result.1 (IsReadAlone D.makes disk) }
+    ensures any_moment { IsShow command.entry → IfSome result.1 (Within D.state D.makes (Untouched (D.state disk)) disk) }
+    // Nothing is written on standard error unless the status says so.
+    ensures quiet { result.0 ≡ 0 → Keeps (E.contents err.old) (E.contents err.new) }
+    // Then it is the line of a fault that has its reason. Nothing was printed before it but by a run.
+    ensures fault { result.0 ≡ 1 → IfSome result.1 (λ d. Fails
+        (λ f. Ends command.entry board.now script.now (D.state disk) (D.state d) f × Prints command.entry f (W.contents out.old) (W.contents out.new))
+        (E.contents err.old) (E.contents err.new)) }
+{
+    let mut disk = disk;
+    let (done, disk) = match command {
+        Command::Format { .. } => (make_image(&mut disk, board, out), disk),
+        Command::Show { .. } => show_image(alloc, disk, board, out),
+        Command::Run { .. } => (run(alloc, board, script, out), disk),
+    };
+    match done {
+        Ok(()) => (0, Some(disk)),
+        Err(fault) => (report(fault, err), Some(disk)),
+    }
+}

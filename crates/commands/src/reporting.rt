@@ -1,0 +1,46 @@
+//! What the program says of the fault that ends it.
+ghost use Rattle.std.specs.Prelude.{◌≡◌};
+ghost use Rattle.commands.specs.Ending.{Takes};
+ghost use Rattle.commands.specs.Fault.{fault_line};
+
+use crate::fault::Fault;
+use arrayvec::ArrayString;
+use std::fmt::Write as _;
+use std::io;
+use std::io::Write;
+
+/// Room for the longest line of a fault, which has 46 bytes.
+const LINE_LENGTH: usize = 64;
+
+/// Writes the text as far as the writer takes it.
+fn write_front<E: Write>(text: &[u8], err: &mut E)
+    ensures { Takes (E.contents err.old) (E.contents err.new) text.now }
+{
+    let mut taken = 0;
+    for _ in 0..u64::MAX {
+        match err.write(&text[taken..]) {
+            Ok(0) => return,
+            Ok(count) => taken += count,
+            Err(error) => {
+                if error.kind() != io::ErrorKind::Interrupted {
+                    return;
+                }
+            }
+        }
+    }
+}
+
+/// Writes the fault's line, as far as standard error takes it, and gives the status that the program
+/// ends with.
+pub fn report<E: Write>(fault: Fault, err: &mut E) -> u8
+    ensures status { result ≡ 1 }
+    ensures told { Takes (E.contents err.old) (E.contents err.new) (fault_line fault) }
+{
+    let mut line = ArrayString::<LINE_LENGTH>::new();
+    match writeln!(line, "rpmbd: {fault}") {
+        Ok(()) => write_front(line.as_bytes(), err),
+        // It never comes to this, since the room is larger than the line.
+        Err(_) => {}
+    }
+    1
+}

@@ -1,0 +1,186 @@
+//! What `run` does: a script on partitions in memory.
+ghost use Rattle.std.specs.Prelude.{◌≡◌, ℕ, All, List, Err, IfErr, IfOk, IsErr, OnOk, Some, length, map};
+ghost use Rattle.std.specs.Prelude.{string_bytes};
+ghost use Rattle.std.specs.Io.KnownBytes.{Appends, Keeps};
+ghost use Rattle.script.specs.Line.{Said, chain, line_of, said};
+ghost use Rattle.script.specs.Script.{lines_of};
+ghost use Rattle.commands.specs.Ending.{IsOfRunning, RunEnds};
+ghost use Rattle.commands.specs.Running.{IsAt, IsSized, Runs};
+ghost use Rattle.commands.specs.Transcript.{AreSplit, IsBadAt, Says, StoresNothing, Told, output_of, shown};
+ghost use Rattle.commands.specs.Transcript.{stuck_line, transcript, used_line};
+
+use crate::fault::Fault;
+use rpmb_frame::BoardConfig;
+use runner::{Answer, Host, Stuck};
+use script::{Line, ScriptError, read_script};
+use std::alloc::Global;
+use std::io::Write;
+
+/// The bytes in hex digits of lower case, or a dash where there are none.
+fn shown(alloc: Global, bytes: &[u8]) -> Result<String, Fault>
+    ensures memory { IfErr result (λ fault. fault ≡ Fault.NoMemory) }
+    ensures text { IfOk result (λ text. string_bytes text ≡ shown bytes.now) }
+{
+    let text = if bytes.is_empty() {
+        String::from_str(alloc, "-")
+    } else {
+        hex::encode(alloc, bytes)
+    };
+    match text {
+        Ok(text) => Ok(text),
+        Err(_) => Err(Fault::NoMemory),
+    }
+}
+
+/// Writes the line of a reply: `used G LEN HEX`.
+#[tactic(auto, unfolding(crate::specs::Transcript::used_line))]
+fn write_reply<W: Write>(alloc: Global, guest: u16, reply: &[u8], out: &mut W) -> Result<(), Fault>
+    ensures printed { OnOk result (Appends (W.contents out.old) (W.contents out.new) (used_line guest reply.now)) }
+    ensures ends { IfErr result IsOfRunning }
+{
+    let text = match shown(alloc, reply) {
+        Ok(text) => text,
+        Err(fault) => return Err(fault),
+    };
+    match writeln!(out, "used {guest} {} {text}", reply.len()) {
+        Ok(()) => Ok(()),
+        Err(_) => Err(Fault::FileFault),
+    }
+}
+
+/// Writes the line of a guest that is stuck: the text and the guest's number.
+#[tactic(auto, unfolding(crate::specs::Transcript::stuck_line))]
+fn write_stuck<W: Write>(guest: u16, stuck: Stuck, out: &mut W) -> Result<(), Fault>
+    ensures printed { OnOk result (Appends (W.contents out.old) (W.contents out.new) (stuck_line guest stuck)) }
+    ensures ends { IfErr result IsOfRunning }
+{
+    let text = match stuck {
+        Stuck::NeedsReset => "needs-reset",
+        Stuck::NoAnswer => "no-answer",
+        Stuck::BadUsed => "bad-used",
+    };
+    match writeln!(out, "{text} {guest}") {
+        Ok(()) => Ok(()),
+        Err(_) => Err(Fault::FileFault),
+    }
+}
+
+fn read_lines(alloc: Global, script: &str, board: &BoardConfig) -> Result<Vec<Line>, Fault>
+    ensures ok { IfOk result (λ lines. map (λ line. Some (said line)) lines.items
+        ≡ map (line_of (length board.now)) (lines_of script.now)) }
+    ensures sized { IfOk result (λ lines. All (λ line. IsSized (said line)) lines.items) }
+    ensures bad { (n : ℕ) → result ≡ Err (Fault.BadScript n) → IsBadAt board.now script.now n }
+    ensures ends { IfErr result (RunEnds board.now script.now) }
+{
+    match read_script(alloc, script, board.guests().len() as u16) {
+        Ok(lines) => Ok(lines),
+        Err(ScriptError::BadScript { line }) => Err(Fault::BadScript { line }),
+        Err(ScriptError::NoMemory) => Err(Fault::NoMemory),
+    }
+}
+
+/// Takes a chain of a guest to its end, and writes what it came to.
+fn run_chain<W: Write>(
+    alloc: Global,
+    host: &mut Host,
+    guest: u16,
+    readable: &[u8],
+    writable: u32,
+    out: &mut W,
+) -> Result<(), Fault>
+    requires { IsSized (chain guest readable.now writable) }
+    ensures runs { OnOk result (Runs host.old (chain guest readable.now writable) (W.contents out.old) (W.contents out.new) host.new) }
+    ensures ends { IfErr result IsOfRunning }
+{
+    match host.chain(alloc, guest, readable, writable) {
+        Ok(Answer::Used(reply)) => write_reply(alloc, guest, reply.as_slice(), out),
+        Ok(Answer::Stuck(stuck)) => write_stuck(guest, stuck, out),
+        Err(fault) => Err(Fault::of(fault)),
+    }
+}
+
+/// Takes what a line asks for to its end.
+fn run_line<W: Write>(alloc: Global, host: &mut Host, line: Line, out: &mut W) -> Result<(), Fault>
+    requires { IsSized (said line) }
+    ensures runs { OnOk result (Runs host.old (said line) (W.contents out.old) (W.contents out.new) host.new) }
+    ensures ends { IfErr result IsOfRunning }
+{
+    match line {
+        Line::Nothing => Ok(()),
+        Line::Chain {
+            guest,
+            readable,
+            writable,
+        } => run_chain(alloc, host, guest, readable.as_slice(), writable, out),
+        Line::Store { guest, at, bytes } => match host.store(guest, at, bytes.as_slice()) {
+            Ok(()) => Ok(()),
+            Err(fault) => Err(Fault::of(fault)),
+        },
+        Line::Reset { guest } => match host.reset(guest) {
+            Ok(()) => Ok(()),
+            Err(fault) => Err(Fault::of(fault)),
+        },
+    }
+}
+
+fn run_lines<W: Write>(
+    alloc: Global,
+    host: &mut Host,
+    lines: Vec<Line>,
+    out: &mut W,
+) -> Result<(), Fault>
+    requires { All (λ line. IsSized (said line)) lines.items }
+    ensures printed { OnOk result ((t : Told) → IsAt 0 t host.old → StoresNothing (map said lines.items)
+        → Appends (W.contents out.old) (W.contents out.new) (transcript t (map said lines.items))) }
+    ensures ends { IfErr result IsOfRunning }
+{
+    for line in lines {
+        run_line(alloc, host, line, out)?;
+    }
+    Ok(())
+}
+
+/// Takes all lines to their end, one after another, on fresh partitions in memory.
+fn run_fresh<W: Write>(
+    alloc: Global,
+    board: &BoardConfig,
+    lines: Vec<Line>,
+    out: &mut W,
+) -> Result<(), Fault>
+    requires { All (λ line. IsSized (said line)) lines.items }
+    ensures printed { OnOk result (AreSplit board.now → StoresNothing (map said lines.items)
+        → Appends (W.contents out.old) (W.contents out.new) (output_of board.now (map said lines.items))) }
+    ensures ends { IfErr result IsOfRunning }
+{
+    let Ok(mut host) = Host::new(alloc, board) else {
+        return Err(Fault::NoMemory);
+    };
+    let ran = run_lines(alloc, &mut host, lines, out);
+    // The lines so far are printed also where the next one ended the run.
+    let flushed = out.flush();
+    match (ran, flushed) {
+        (Ok(()), Ok(())) => Ok(()),
+        (Ok(()), Err(_)) => Err(Fault::FileFault),
+        (Err(fault), _) => Err(fault),
+    }
+}
+
+/// Performs a script. All its lines are read before one is performed.
+pub fn run<W: Write>(
+    alloc: Global,
+    board: &BoardConfig,
+    script: &str,
+    out: &mut W,
+) -> Result<(), Fault>
+    ensures printed { OnOk result ((lines : List Said) → Says board.now script.now lines → AreSplit board.now → StoresNothing lines
+        → Appends (W.contents out.old) (W.contents out.new) (output_of board.now lines)) }
+    ensures bad { (n : ℕ) → IsBadAt board.now script.now n
+        → IsErr result × Keeps (W.contents out.old) (W.contents out.new) }
+    ensures ends { IfErr result (RunEnds board.now script.now) }
+    ensures silent { (n : ℕ) → result ≡ Err (Fault.BadScript n) → Keeps (W.contents out.old) (W.contents out.new) }
+{
+    match read_lines(alloc, script, board) {
+        Ok(lines) => run_fresh(alloc, board, lines, out),
+        Err(fault) => Err(fault),
+    }
+}

@@ -1,0 +1,175 @@
+//! What `show` does: an image is opened, and its partitions are listed.
+ghost use Rattle.std.specs.Prelude.{◌≡◌, ◌≤◌, ◌*◌, true, All, Err, IfErr, OnOk, length, replicate, string_bytes};
+ghost use Rattle.std.specs.Io.KnownBytes.{Appends};
+ghost use Rattle.std.specs.Str.{bytes_eq};
+ghost use Rattle.disk.specs.Disk.{DiskState, Within};
+ghost use Rattle.intent_slots.specs.Layout.{capacities_of};
+ghost use Rattle.recovery.specs.Opening.{IsImage, Untouched};
+ghost use Rattle.rpmb_frame.specs.Partition.{IsWhole, block_count, block_of};
+ghost use Rattle.commands.specs.Ending.{IsReadAlone, KeepsUnless, ShowEnds};
+ghost use Rattle.commands.specs.Listing.{Lists, block_line, block_shown, blocks_below, guest_line, guest_listing, listing};
+
+use crate::fault::Fault;
+use disk::Disk;
+use recovery::open;
+use rpmb_core::Partition;
+use rpmb_frame::BoardConfig;
+use std::alloc::Global;
+use std::io::Write;
+
+/// Writes the line of a guest: its capacity, whether it has a key, and its write counter.
+#[tactic(auto, unfolding(crate::specs::Listing::guest_line))]
+fn write_guest_line<W: Write>(guest: u16, partition: &Partition, out: &mut W) -> Result<(), Fault>
+    ensures printed { OnOk result (Appends (W.contents out.old) (W.contents out.new) (guest_line guest partition.now)) }
+    ensures whole { IsWhole partition.now }
+    ensures only { (fault : Fault) → result ≡ Err fault → fault ≡ Fault.FileFault }
+{
+    let key = match partition.key() {
+        Some(_) => "yes",
+        None => "no",
+    };
+    let capacity = partition.capacity();
+    let counter = partition.counter();
+    match writeln!(
+        out,
+        "guest {guest} capacity {capacity} key {key} counter {counter}"
+    ) {
+        Ok(()) => Ok(()),
+        Err(_) => Err(Fault::FileFault),
+    }
+}
+
+/// Writes the line of a block.
+#[tactic(auto, unfolding(crate::specs::Listing::block_line))]
+fn write_block_line<W: Write>(
+    guest: u16,
+    address: u16,
+    block: &[u8; 256],
+    out: &mut W,
+) -> Result<(), Fault>
+    ensures printed { OnOk result (Appends (W.contents out.old) (W.contents out.new) (block_line guest address block.now)) }
+    ensures only { (fault : Fault) → result ≡ Err fault → fault ≡ Fault.FileFault }
+{
+    let mut digits = [0; 512];
+    match hex::encode_to_slice(block.as_slice(), &mut digits) {
+        Ok(()) => {}
+        Err(_) => unreachable!(),
+    }
+    if write!(out, "block {guest} {address} ").is_err() {
+        return Err(Fault::FileFault);
+    }
+    if out.write_all(&digits).is_err() {
+        return Err(Fault::FileFault);
+    }
+    match out.write_all(b"\n") {
+        Ok(()) => Ok(()),
+        Err(_) => Err(Fault::FileFault),
+    }
+}
+
+/// Writes the line of a block, unless it is all zeros.
+fn write_block<W: Write>(
+    guest: u16,
+    address: u16,
+    block: &[u8; 256],
+    out: &mut W,
+) -> Result<(), Fault>
+    ensures printed { OnOk result (Appends (W.contents out.old) (W.contents out.new) (block_shown guest address block.now)) }
+    ensures only { (fault : Fault) → result ≡ Err fault → fault ≡ Fault.FileFault }
+{
+    if *block == [0; 256] {
+        return Ok(());
+    }
+    write_block_line(guest, address, block, out)
+}
+
+/// Writes the blocks of a partition that aren't all zeros, by address.
+fn write_blocks<W: Write>(guest: u16, partition: &Partition, out: &mut W) -> Result<(), Fault>
+    requires { partition.now.capacity ≤ 128 }
+    ensures printed { OnOk result (Appends (W.contents out.old) (W.contents out.new) (blocks_below (block_count partition.now) guest partition.now)) }
+    ensures only { (fault : Fault) → result ≡ Err fault → fault ≡ Fault.FileFault }
+{
+    let count = 512 * u32::from(partition.capacity());
+    for address in 0..count {
+        let address = address as u16;
+        match write_block(guest, address, &partition.block(address), out) {
+            Ok(()) => {}
+            Err(fault) => return Err(fault),
+        }
+    }
+    Ok(())
+}
+
+/// Writes the line of a guest, and then its blocks.
+fn write_guest<W: Write>(guest: u16, partition: &Partition, out: &mut W) -> Result<(), Fault>
+    requires { partition.now.capacity ≤ 128 }
+    ensures printed { OnOk result (Appends (W.contents out.old) (W.contents out.new) (guest_listing guest partition.now)) }
+    ensures whole { IsWhole partition.now }
+    ensures only { (fault : Fault) → result ≡ Err fault → fault ≡ Fault.FileFault }
+{
+    match write_guest_line(guest, partition, out) {
+        Ok(()) => write_blocks(guest, partition, out),
+        Err(fault) => Err(fault),
+    }
+}
+
+/// Writes all guests, one after another.
+fn write_guests<W: Write>(partitions: &[Partition], out: &mut W) -> Result<(), Fault>
+    requires few { length partitions.now ≤ 64 }
+    requires small { All (λ p. p.capacity ≤ 128) partitions.now }
+    ensures printed { OnOk result (Appends (W.contents out.old) (W.contents out.new) (listing partitions.now)) }
+    ensures whole { OnOk result (All IsWhole partitions.now) }
+    ensures only { (fault : Fault) → result ≡ Err fault → fault ≡ Fault.FileFault }
+{
+    for guest in 0..partitions.len() {
+        match write_guest(guest as u16, &partitions[guest], out) {
+            Ok(()) => {}
+            Err(fault) => return Err(fault),
+        }
+    }
+    Ok(())
+}
+
+/// Writes all guests, and all that is still held back.
+fn write_listing<W: Write>(partitions: &[Partition], out: &mut W) -> Result<(), Fault>
+    requires few { length partitions.now ≤ 64 }
+    requires small { All (λ p. p.capacity ≤ 128) partitions.now }
+    ensures printed { OnOk result (Appends (W.contents out.old) (W.contents out.new) (listing partitions.now)) }
+    ensures whole { OnOk result (All IsWhole partitions.now) }
+    ensures only { (fault : Fault) → result ≡ Err fault → fault ≡ Fault.FileFault }
+{
+    match write_guests(partitions, out) {
+        Ok(()) => {}
+        Err(fault) => return Err(fault),
+    }
+    match out.flush() {
+        Ok(()) => Ok(()),
+        Err(_) => Err(Fault::FileFault),
+    }
+}
+
+/// Opens the image of the board, and lists its partitions. It gives the disk back, which it has only
+/// synced and read.
+pub fn show_image<D: Disk, W: Write>(
+    alloc: Global,
+    disk: D,
+    board: &BoardConfig,
+    out: &mut W,
+) -> (Result<(), Fault>, D)
+    ensures shown { OnOk result.0 (Lists (capacities_of board.now) (D.state disk) (W.contents out.old) (W.contents out.new)) }
+    ensures image { OnOk result.0 ((D.state disk).faithful ≡ true → IsImage (capacities_of board.now) (D.state disk).len (D.state disk).seen) }
+    ensures ends { IfErr result.0 (ShowEnds (capacities_of board.now) (D.state disk) (D.state result.1)) }
+    ensures silent { IfErr result.0 (λ fault. KeepsUnless fault (W.contents out.old) (W.contents out.new)) }
+    ensures any_moment { Within D.state D.makes (Untouched (D.state disk)) disk result.1 }
+    ensures calls { IsReadAlone D.makes disk result.1 }
+{
+    match open(alloc, disk, board) {
+        Ok((store, partitions)) => {
+            // A board's ranges: at most 64 guests, each of a capacity of at most 128.
+            let _guests = board.guests();
+            let written = write_listing(partitions.as_slice(), out);
+            (written, store.into_disk())
+        }
+        Err((disk, fault)) => (Err(Fault::of_image(fault)), disk),
+    }
+}

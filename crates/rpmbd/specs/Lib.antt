@@ -1,3 +1,0 @@
-pub mod Fault
-pub mod Transcript
-pub mod Running

@@ -1,0 +1,87 @@
+//! The files that the words name: the board, the script, and the image.
+ghost use Rattle.std.specs.Prelude.{◌≡◌, IfOk};
+
+use board_file::{BoardError, read_board};
+use commands::Fault;
+use disk::FileDisk;
+use rpmb_frame::BoardConfig;
+use std::alloc::Global;
+use std::fs::File;
+use std::rt::Files;
+use std::{fs, io};
+
+fn fault_of(error: &io::Error) -> Fault {
+    match error.kind() {
+        io::ErrorKind::OutOfMemory => Fault::NoMemory,
+        _ => Fault::FileFault,
+    }
+}
+
+fn board_of(alloc: Global, text: &str) -> Result<(BoardConfig, Option<String>), Fault> {
+    match read_board(alloc, text) {
+        Ok(board) => Ok(board),
+        Err(BoardError::BadBoard) => Err(Fault::BadBoard),
+        Err(BoardError::NoMemory) => Err(Fault::NoMemory),
+    }
+}
+
+/// The text of a file.
+pub fn read_text<R: Files + AllocGlobal>(rt: &R, path: &str) -> Result<String, Fault> {
+    match fs::read_to_string(rt, path) {
+        Ok(text) => Ok(text),
+        Err(error) => Err(fault_of(&error)),
+    }
+}
+
+/// The board of a file, and the path of its image, where it names one.
+pub fn read_board_file<R: Files + AllocGlobal>(
+    rt: &R,
+    path: &str,
+) -> Result<(BoardConfig, Option<String>), Fault> {
+    let text = read_text(rt, path)?;
+    board_of(rt.alloc(), text.as_str())
+}
+
+/// The board of a file, and the path of the image that it has to name.
+pub fn read_image_board<R: Files + AllocGlobal>(
+    rt: &R,
+    path: &str,
+) -> Result<(BoardConfig, String), Fault> {
+    match read_board_file(rt, path)? {
+        (board, Some(image)) => Ok((board, image)),
+        (_, None) => Err(Fault::BadBoard),
+    }
+}
+
+/// The file of an image that is to be made, cut or made longer to `len` bytes. It is made where it isn't
+/// there, and its bytes stay where it can't be opened for writing.
+pub fn create_image(rt: &HostRuntime, path: &str, len: u64) -> Result<FileDisk, Fault>
+    ensures { IfOk result (λ disk. disk.len ≡ len) }
+{
+    let opened = File::options()
+        .read(true)
+        .write(true)
+        .create(true)
+        .open(rt, path);
+    let file = match opened {
+        Ok(file) => file,
+        Err(error) => return Err(fault_of(&error)),
+    };
+    match file.set_len(len) {
+        Ok(()) => Ok(FileDisk::new(file, len)),
+        Err(error) => Err(fault_of(&error)),
+    }
+}
+
+/// The file of an image that is there.
+pub fn open_image(rt: &HostRuntime, path: &str) -> Result<FileDisk, Fault> {
+    let opened = File::options().read(true).write(true).open(rt, path);
+    let file = match opened {
+        Ok(file) => file,
+        Err(error) => return Err(fault_of(&error)),
+    };
+    match FileDisk::of(file) {
+        Ok(disk) => Ok(disk),
+        Err(error) => Err(fault_of(&error)),
+    }
+}

@@ -1,0 +1,198 @@
+//! Boards and images in files, as the program opens them.
+
+use crate::files::{create_image, open_image, read_board_file, read_image_board, read_text};
+use board_file::read_board;
+use command_line::Command;
+use commands::{Fault, perform};
+use disk::Disk;
+use intent_slots::Layout;
+use rpmb_frame::BoardConfig;
+use std::alloc::Global;
+use std::fs;
+use std::fs::File;
+use std::test::Fail;
+
+const FORMAT: Command<'static> = Command::Format { board: "" };
+
+const SHOW: Command<'static> = Command::Show { board: "" };
+
+/// One guest of capacity 1: its home stands at 1,024, its gate at 1,536, its blocks at 36,352.
+const ONE: &str = "[[guest]]\ncapacity = 1\n";
+
+/// The same and a guest of capacity 2.
+const TWO: &str = "[[guest]]\ncapacity = 1\n[[guest]]\ncapacity = 2\n";
+
+const FRESH: &str = "guest 0 capacity 1 key no counter 0\n";
+
+fn board_of(alloc: Global, text: &str) -> Result<BoardConfig, Fail> {
+    let (board, _) = read_board(alloc, text)?;
+    Ok(board)
+}
+
+/// Performs a command on a file, and gives the status, and what it writes on standard output and on
+/// standard error. An image is made only in a file of its length.
+fn perform_on<D: Disk>(
+    alloc: Global,
+    command: Command<'_>,
+    board: &BoardConfig,
+    disk: D,
+) -> Result<(u8, Vec<u8>, Vec<u8>), Fail> {
+    if disk.len() != Layout::of(board).length() {
+        if let Command::Format { .. } = command {
+            return Err("another length").map_err(Fail::from);
+        }
+    }
+    let mut out = Vec::new(alloc);
+    let mut err = Vec::new(alloc);
+    let (status, _) = perform(alloc, command, board, "", disk, &mut out, &mut err);
+    Ok((status, out, err))
+}
+
+fn shown(rt: &HostRuntime, path: &str, text: &str) -> Result<(u8, Vec<u8>, Vec<u8>), Fail> {
+    let board = board_of(rt.alloc(), text)?;
+    let disk = open_image(rt, path)?;
+    perform_on(rt.alloc(), SHOW, &board, disk)
+}
+
+/// Makes a fresh image of one guest in a file, over what the file holds.
+fn formatted(rt: &HostRuntime, path: &str) -> Result<(u8, Vec<u8>, Vec<u8>), Fail> {
+    let board = board_of(rt.alloc(), ONE)?;
+    let disk = create_image(rt, path, Layout::of(&board).length())?;
+    perform_on(rt.alloc(), FORMAT, &board, disk)
+}
+
+/// Puts a byte in the place of another.
+fn put(content: &mut Vec<u8>, at: usize, byte: u8) {
+    if let Some(place) = content.get_mut(at) {
+        *place = byte;
+    }
+}
+
+/// The bytes of a fresh image of one guest, written out by hand: the header with its magic, one guest of
+/// capacity 1, and the version byte (docs/FORMATS.md, "The image").
+fn fresh(alloc: Global) -> Result<Vec<u8>, Fail> {
+    let mut content = vec![in alloc; 0; 167_424]?;
+    for (at, byte) in b"VRPMBIMG\x00\x01\x01".iter().enumerate() {
+        put(&mut content, at, *byte);
+    }
+    put(&mut content, 512, 1);
+    Ok(content)
+}
+
+/// Whether `show` of a file with this content ends with the fault, prints nothing, and leaves the file.
+fn refuses(
+    rt: &HostRuntime,
+    path: &str,
+    content: &[u8],
+    text: &str,
+    fault: &str,
+) -> Result<bool, Fail> {
+    fs::write(rt, path, content)?;
+    let (status, out, err) = shown(rt, path, text)?;
+    let is_told = status == 1 && out.is_empty() && err.as_slice() == fault.as_bytes();
+    Ok(is_told && fs::read(rt, path)?.as_slice() == content)
+}
+
+/// Which faults a byte in a fresh image of one guest leads to: magic, number of guests, capacity, key flag,
+/// gate.
+const FLIPPED: [(usize, u8, &str); 5] = [
+    (0, b'v', "rpmbd: 12 NotFormatted\n"),
+    (9, 2, "rpmbd: 13 OtherConfig\n"),
+    (10, 2, "rpmbd: 13 OtherConfig\n"),
+    (1024, 1, "rpmbd: 12 NotFormatted\n"),
+    (1536, 0xa5, "rpmbd: 12 NotFormatted\n"),
+];
+
+#[test]
+fn formats_a_file_and_shows_it(rt: HostRuntime) -> Result<(), Fail> {
+    let path = "formatted.img";
+    // A file that isn't there, one that is longer, and one that is shorter.
+    for length in [0, 200_000, 5] {
+        if length > 0 {
+            fs::write(&rt, path, vec![in rt.alloc(); 0xee; length]?.as_slice())?;
+        }
+        let (status, out, err) = formatted(&rt, path)?;
+        assert_eq!(rt; (status, err.len()), (0, 0), "at {length}");
+        assert_eq!(rt;
+            out.as_slice(),
+            b"formatted 167424\n".as_slice(),
+            "at {length}"
+        );
+        let wanted = fresh(rt.alloc())?;
+        assert!(rt;
+            fs::read(&rt, path)?.as_slice() == wanted.as_slice(),
+            "at {length}"
+        );
+        let (status, out, err) = shown(&rt, path, ONE)?;
+        assert_eq!(rt; (status, err.len()), (0, 0), "at {length}");
+        assert_eq!(rt; out.as_slice(), FRESH.as_bytes(), "at {length}");
+    }
+    fs::remove_file(&rt, path)?;
+    Ok(())
+}
+
+#[test]
+fn refuses_images(rt: HostRuntime) -> Result<(), Fail> {
+    let path = "refused.img";
+    let image = fresh(rt.alloc())?;
+    for (at, byte, fault) in FLIPPED {
+        let mut content = image.as_slice().to_vec(rt.alloc())?;
+        put(&mut content, at, byte);
+        assert!(rt;
+            refuses(&rt, path, content.as_slice(), ONE, fault)?,
+            "at {at}"
+        );
+    }
+    // Cut short by one byte, and by all.
+    let fault = "rpmbd: 12 NotFormatted\n";
+    for length in [image.len().saturating_sub(1), 0] {
+        let content = &image.as_slice()[..length];
+        assert!(rt; refuses(&rt, path, content, ONE, fault)?, "at {length}");
+    }
+    // The board has another guest beside.
+    let fault = "rpmbd: 13 OtherConfig\n";
+    assert!(rt; refuses(&rt, path, image.as_slice(), TWO, fault)?);
+    fs::remove_file(&rt, path)?;
+    Ok(())
+}
+
+#[test]
+fn refuses_files(rt: HostRuntime) -> Result<(), Fail> {
+    fs::create_dir(&rt, "folder")?;
+    for path in ["missing/image", "folder", ""] {
+        assert!(rt;
+            create_image(&rt, path, 1024).err() == Some(Fault::FileFault),
+            "at {path}"
+        );
+        assert!(rt;
+            open_image(&rt, path).err() == Some(Fault::FileFault),
+            "at {path}"
+        );
+    }
+    fs::remove_dir(&rt, "folder")?;
+    // No file is made to be shown.
+    assert!(rt; open_image(&rt, "missing").err() == Some(Fault::FileFault));
+    assert!(rt; !fs::exists(&rt, "missing")?);
+    Ok(())
+}
+
+#[test]
+fn reads_boards_from_files(rt: HostRuntime) -> Result<(), Fail> {
+    let path = "read_board.toml";
+    fs::write(&rt, path, ONE.as_bytes())?;
+    let (board, image) = read_board_file(&rt, path)?;
+    assert_eq!(rt; (board.guests().len(), image.is_none()), (1, true));
+    assert!(rt; read_image_board(&rt, path).err() == Some(Fault::BadBoard));
+    fs::write(
+        &rt,
+        path,
+        b"image = \"a b.img\"\n[[guest]]\ncapacity = 1\n".as_slice(),
+    )?;
+    let (_, image) = read_image_board(&rt, path)?;
+    assert_eq!(rt; image.as_str(), "a b.img");
+    fs::write(&rt, path, b"\xff".as_slice())?;
+    assert!(rt; read_text(&rt, path).err() == Some(Fault::FileFault));
+    fs::remove_file(&rt, path)?;
+    assert!(rt; read_image_board(&rt, path).err() == Some(Fault::FileFault));
+    Ok(())
+}
