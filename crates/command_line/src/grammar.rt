@@ -21,23 +21,19 @@ fn on_script<'a>(alloc: Global, name: &'a str, about: &'a str) -> Result<Command
     ensures shape { IfOk result (λ c. app_of c ≡ on_script name.entry.now) }
     ensures local { IfOk result (λ c. (fields_of c).has_globals ≡ false) }
 {
-    let board = Arg::new(alloc, "BOARD")
-        .required(true)
-        .help("The board file (TOML): what the guests are");
     let script = Arg::new(alloc, "SCRIPT")
         .required(true)
-        .help("The script: what the guests do, one request a line");
-    Command::new(alloc, name)
-        .about(about)
-        .arg(board)?
-        .arg(script)
+        .help("The script: what the guests do, one step a line");
+    on_board(alloc, name, about)?.arg(script)
 }
 
 fn bare<'a>(alloc: Global) -> Command<'a>
     ensures { app_of result ≡ bare }
 {
     Command::new(alloc, "rpmbd")
-        .about("Serves virtio RPMB devices to the guests of a board")
+        .about(
+            "Performs scripts on virtio RPMB devices, and makes and shows images of their partitions",
+        )
         .subcommand_required(true)
 }
 

@@ -1,19 +1,42 @@
 -- What lines print, one after another.
-use Rattle.std.proofs.Common.{◌≡◌, ℕ, suc, ◌+◌, ◌<◌, List, [], ◌∷◌, ◌++◌, Option, Some, None, length, map, refl, ap, ap₂, subst, sym, ◌∙◌, arith}
-use Rattle.std.proofs.KnownBytes.{Appends-nil, Appends-trans}
+use Rattle.std.proofs.Common.{◌≡◌, ℕ, suc, ◌+◌, ◌<◌, List, [], ◌∷◌, ◌++◌, Option, Some, None, Result, Ok, Err, length, map, replicate, refl, ap, ap₂, subst, sym, ◌∙◌, arith}
+use Rattle.std.proofs.KnownBytes.{Appends-kept, Appends-nil, Appends-trans}
 use Rattle.std.proofs.lemmas.List.{append_assoc, append-nil}
-use Rattle.std.specs.Io.KnownBytes.{Appends}
+use Rattle.std.specs.Io.KnownBytes.{Appends, Keeps}
 use Rattle.script.specs.Line.{Said, line_of, said}
 use Rattle.script.specs.Script.{first_bad}
 use Rattle.script.specs.declared.line.Line.{Line}
-use Rattle.std.specs.Prelude.{All}
+use Rattle.std.specs.Prelude.{All, IfErr}
 use Rattle.mmio_transport.specs.Device.{last_count}
 use Rattle.script.specs.Line.{nothing, chain, store, reset}
-use Rattle.runner.specs.Host.{HostView}
-use Rattle.commands.specs.Transcript.{StoresNothing, Told, printed_by, told_by, transcript}
+use Rattle.runner.specs.Host.{HostView, IsFresh}
+use Rattle.runner.specs.Runner.{fresh_view}
+use Rattle.commands.specs.Transcript.{AreSplit, StoresNothing, Told, output_of, printed_by, told_by, transcript}
+use Rattle.rpmb_frame.specs.declared.config.GuestConfig.{GuestConfig}
 use Rattle.commands.specs.Running.{HasRun, IsAt, IsSized, Runs}
+use Rattle.commands.specs.Ending.{KeepsUnless, PrintsFirst, PrintsFirstUnless}
+use Rattle.commands.specs.declared.fault.Fault.{Fault}
+use Rattle.commands.specs.declared.fault.Fault.TheVariants as fault
 
--- what was printed so far, and what the rest prints, are what all lines print
+-- what lines make of the guests, one after another
+unfoldable pub told_after : Told → List Said → Told
+told_after t [] = t
+told_after t (line ∷ lines) = told_after (told_by t line) lines
+
+-- a line more at the end
+told_after-append : (t : Told) (lines : List Said) (line : Said) → told_after t (lines ++ line ∷ []) ≡ told_by (told_after t lines) line
+unfolding told_after
+told_after-append t [] line = refl
+told_after-append t (first ∷ lines) line = told_after-append (told_by t first) lines line
+
+transcript-append : (t : Told) (lines : List Said) (line : Said) → transcript t (lines ++ line ∷ []) ≡ transcript t lines ++ printed_by (told_after t lines) line
+unfolding transcript told_after
+transcript-append t [] line = append-nil (printed_by t line)
+transcript-append t (first ∷ lines) line = ap (λ bytes. printed_by t first ++ bytes) (transcript-append (told_by t first) lines line)
+    ∙ sym (append_assoc (printed_by t first) (transcript (told_by t first) lines) (printed_by (told_after (told_by t first) lines) line))
+
+-- what was printed so far, and what the rest prints, are what all lines print; so far it is what those
+-- lines print that are done
 pub record Going (start now : Option (List ℕ)) (first : Told) (h : HostView) (all rest : List Said) : Type 0 where
   pub steps : ℕ
   pub told : Told
@@ -23,9 +46,21 @@ pub record Going (start now : Option (List ℕ)) (first : Told) (h : HostView) (
   pub at : IsAt steps told h
   pub clean : StoresNothing rest
   pub counted : steps + length rest ≡ length all
+  pub done : List Said
+  pub parts : all ≡ done ++ rest
+  pub those : bytes ≡ transcript first done
+  pub after : told ≡ told_after first done
+
+nothing_yet : (t : Told) → [] ≡ transcript t []
+unfolding transcript
+nothing_yet t = refl
+
+nothing_told : (t : Told) → t ≡ told_after t []
+unfolding told_after
+nothing_told t = refl
 
 pub begin : (start : Option (List ℕ)) (h : HostView) (all : List Said) (t : Told) → IsAt 0 t h → StoresNothing all → Going start start t h all all
-begin start h all t at clean = record { steps = 0; told = t; bytes = []; so_far = Appends-nil start; whole = refl; at = at; clean = clean; counted = omega arith }
+begin start h all t at clean = record { steps = 0; told = t; bytes = []; so_far = Appends-nil start; whole = refl; at = at; clean = clean; counted = omega arith; done = []; parts = refl; those = nothing_yet t; after = nothing_told t }
 
 -- a line was run
 went_on : (start now next : Option (List ℕ)) (first : Told) (h h' : HostView) (all rest : List Said) (line : Said) → (going : Going start now first h all (line ∷ rest))
@@ -42,6 +77,10 @@ went_on start now next first h h' all rest line going run clean =
       at = run.after;
       clean = clean;
       counted = omega (arith, counted);
+      done = going.done ++ line ∷ [];
+      parts = going.parts ∙ sym (append_assoc going.done (line ∷ []) rest);
+      those = ap₂ (λ b t. b ++ printed_by t line) going.those going.after ∙ sym (transcript-append first going.done line);
+      after = ap (λ t. told_by t line) going.after ∙ sym (told_after-append first going.done line);
     }
 
 pub step : (start now next : Option (List ℕ)) (first : Told) (h h' : HostView) (all rest : List Said) (line : Said) → length all + 2 < last_count
@@ -60,6 +99,61 @@ step start now next first h h' all rest (reset guest) few going runs =
 pub finish : (start now : Option (List ℕ)) (first : Told) (h : HostView) (all : List Said) → Going start now first h all [] → Appends start now (transcript first all)
 unfolding transcript
 finish start now first h all going = subst (Appends start now) (sym (append-nil going.bytes) ∙ going.whole) going.so_far
+
+-- what was printed stays as it is
+stopped : (start now next : Option (List ℕ)) (first : Told) (h : HostView) (all rest : List Said) → Going start now first h all rest → Keeps now next
+    → PrintsFirst (transcript first) all start next
+stopped start now next first h all rest going kept =
+    let printed = Appends-kept start now next going.bytes going.so_far kept in
+    record { first = going.done; rest = rest; parts = going.parts; printed = subst (Appends start next) going.those printed }
+
+-- a line that ended the run printed nothing, unless standard output took no more
+pub stop : (start now next : Option (List ℕ)) (first : Told) (h : HostView) (all rest : List Said) (f : Fault) → Going start now first h all rest
+    → KeepsUnless f now next → PrintsFirstUnless f (transcript first) all start next
+stop start now next first h all rest fault.FileFault going kept = tt
+stop start now next first h all rest fault.OutOfRange going kept = stopped start now next first h all rest going kept
+stop start now next first h all rest fault.NoMemory going kept = stopped start now next first h all rest going kept
+stop start now next first h all rest fault.DiskFault going kept = stopped start now next first h all rest going kept
+stop start now next first h all rest fault.NotFormatted going kept = stopped start now next first h all rest going kept
+stop start now next first h all rest fault.OtherConfig going kept = stopped start now next first h all rest going kept
+stop start now next first h all rest fault.Busy going kept = stopped start now next first h all rest going kept
+stop start now next first h all rest fault.HistoryFull going kept = stopped start now next first h all rest going kept
+stop start now next first h all rest fault.NoRoom going kept = stopped start now next first h all rest going kept
+stop start now next first h all rest fault.Foreign going kept = stopped start now next first h all rest going kept
+stop start now next first h all rest fault.BadBoard going kept = stopped start now next first h all rest going kept
+stop start now next first h all rest (fault.BadScript line) going kept = stopped start now next first h all rest going kept
+
+-- nothing is what none of the lines print
+pub none_printed : (board : List GuestConfig) (lines : List Said) (start : Option (List ℕ)) → PrintsFirst (output_of board) lines start start
+unfolding transcript
+none_printed board lines start = record { first = []; rest = lines; parts = refl; printed = Appends-nil start }
+
+-- and what the first lines printed stays through a flush
+first_still : (text : List Said → List ℕ) (lines : List Said) (start now next : Option (List ℕ)) → PrintsFirst text lines start now → Keeps now next → PrintsFirst text lines start next
+first_still text lines start now next printed kept = record { first = printed.first; rest = printed.rest; parts = printed.parts; printed = Appends-kept start now next _ printed.printed kept }
+
+still : (text : List Said → List ℕ) (lines : List Said) (start now next : Option (List ℕ)) (f : Fault) → PrintsFirstUnless f text lines start now → Keeps now next
+    → PrintsFirstUnless f text lines start next
+still text lines start now next fault.FileFault printed kept = tt
+still text lines start now next fault.OutOfRange printed kept = first_still text lines start now next printed kept
+still text lines start now next fault.NoMemory printed kept = first_still text lines start now next printed kept
+still text lines start now next fault.DiskFault printed kept = first_still text lines start now next printed kept
+still text lines start now next fault.NotFormatted printed kept = first_still text lines start now next printed kept
+still text lines start now next fault.OtherConfig printed kept = first_still text lines start now next printed kept
+still text lines start now next fault.Busy printed kept = first_still text lines start now next printed kept
+still text lines start now next fault.HistoryFull printed kept = first_still text lines start now next printed kept
+still text lines start now next fault.NoRoom printed kept = first_still text lines start now next printed kept
+still text lines start now next fault.Foreign printed kept = first_still text lines start now next printed kept
+still text lines start now next fault.BadBoard printed kept = first_still text lines start now next printed kept
+still text lines start now next (fault.BadScript line) printed kept = first_still text lines start now next printed kept
+
+pub fresh_stops : {X : Type 0} (board : List GuestConfig) (h : HostView) (lines : List Said) (r : Result X Fault) (start now next : Option (List ℕ)) → IsFresh board h → Keeps now next
+    → IfErr r (λ f. (t : Told) → IsAt 0 t h → StoresNothing lines → PrintsFirstUnless f (transcript t) lines start now)
+    → IfErr r (λ f. AreSplit board → StoresNothing lines → PrintsFirstUnless f (output_of board) lines start next)
+fresh_stops board h lines (Ok x) start now next fresh kept stops = stops
+fresh_stops board h lines (Err f) start now next fresh kept stops = λ split clean.
+    let told : Told = record { cores = (fresh_view board).cores; sessions = replicate (length board) 1 } in
+    still (transcript told) lines start now next f (stops told (record { cores = ap (λ r. r.cores) fresh.runner; ready = fresh.guests split }) clean) kept
 
 -- the lines that are left have the sizes of lines
 pub head_sized : (line : Line) (rest : List Line) → All (λ l. IsSized (said l)) (line ∷ rest) → IsSized (said line)

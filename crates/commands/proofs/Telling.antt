@@ -1,5 +1,5 @@
 -- A text that a writer takes front by front.
-use Rattle.std.proofs.Common.{◌≡◌, ℕ, ◌+◌, ◌≤◌, List, [], ◌++◌, Option, length, refl, subst, sym, ◌∙◌, ap, ap₂, take, drop, arith}
+use Rattle.std.proofs.Common.{◌≡◌, ℕ, ◌+◌, ◌≤◌, List, ◌++◌, Option, length, subst, sym, ◌∙◌, ap, ap₂, take, drop, arith}
 use Rattle.std.proofs.KnownBytes.{Appends-kept, Appends-nil, Appends-trans}
 use Rattle.std.proofs.lemmas.List.{drop-take, length-drop, take-append-drop, take-take}
 use Rattle.std.specs.Io.KnownBytes.{Appends, Keeps}

@@ -1,5 +1,5 @@
 -- Why a command ends with a fault, and what it has printed then.
-use Rattle.std.specs.Prelude.{◌≡◌, ℕ, ◌++◌, List, Option, None, Some, length, true}
+use Rattle.std.specs.Prelude.{◌≡◌, ℕ, ◌++◌, List, Option, None, length, true}
 use Rattle.std.specs.Io.KnownBytes.{Appends, Keeps}
 use Rattle.command_line.specs.declared.command.Command.{Command}
 use Rattle.command_line.specs.declared.command.Command.TheVariants as command
@@ -12,7 +12,8 @@ use Rattle.recovery.specs.Opening.{IsImage, IsOther, IsUnformatted, SyncsFirst}
 use Rattle.commands.specs.declared.fault.Fault.{Fault}
 use Rattle.commands.specs.declared.fault.Fault.TheVariants as fault
 use Rattle.commands.specs.Fault.{fault_line}
-use Rattle.commands.specs.Transcript.{IsBadAt}
+use Rattle.script.specs.Line.{Said}
+use Rattle.commands.specs.Transcript.{AreSplit, IsBadAt, Says, StoresNothing, output_of}
 
 abbrev pub IsRun : Command → Type 0
 IsRun (command.Run board script) = Unit {0}
@@ -102,12 +103,30 @@ abbrev pub KeepsUnless : Fault → Option (List ℕ) → Option (List ℕ) → T
 KeepsUnless fault.FileFault start now = Unit {0}
 KeepsUnless f start now = Keeps start now
 
+-- What the first of these lines print was printed, and no more.
+pub record PrintsFirst (text : List Said → List ℕ) (lines : List Said) (start now : Option (List ℕ)) : Type 0 where
+  pub first : List Said
+  pub rest : List Said
+  pub parts : lines ≡ first ++ rest
+  pub printed : Appends start now (text first)
+
+-- the same, unless standard output took no more
+abbrev pub PrintsFirstUnless : Fault → (List Said → List ℕ) → List Said → Option (List ℕ) → Option (List ℕ) → Type 0
+PrintsFirstUnless fault.FileFault text lines start now = Unit {0}
+PrintsFirstUnless f text lines start now = PrintsFirst text lines start now
+
+-- What a run that ends with a fault has printed: nothing, where a line is bad; else what its lines before
+-- the fault print, where no line stored into guest memory.
+abbrev pub RunPrints : List GuestConfig → List ℕ → Fault → Option (List ℕ) → Option (List ℕ) → Type 0
+RunPrints board script (fault.BadScript line) start now = Keeps start now
+RunPrints board script f start now = (lines : List Said) → Says board script lines → AreSplit board → StoresNothing lines
+    → PrintsFirstUnless f (output_of board) lines start now
+
 -- What a command that ends with a fault has printed.
-abbrev pub Prints : Command → Fault → Option (List ℕ) → Option (List ℕ) → Type 0
-Prints (command.Run b s) (fault.BadScript line) start now = Keeps start now
-Prints (command.Run b s) f start now = Unit {0}
-Prints (command.Format b) f start now = KeepsUnless f start now
-Prints (command.Show b) f start now = KeepsUnless f start now
+abbrev pub Prints : Command → List GuestConfig → List ℕ → Fault → Option (List ℕ) → Option (List ℕ) → Type 0
+Prints (command.Run b s) board script f start now = RunPrints board script f start now
+Prints (command.Format b) board script f start now = KeepsUnless f start now
+Prints (command.Show b) board script f start now = KeepsUnless f start now
 
 -- A writer took the text, or a front of it and then no more.
 pub record Takes (start now : Option (List ℕ)) (text : List ℕ) : Type 0 where

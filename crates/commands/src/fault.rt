@@ -1,4 +1,4 @@
-//! The faults that end the program, and what it prints of them. The numbers stand here alone.
+//! The faults that end the program, and what it prints of them.
 ghost use Rattle.std.specs.Prelude.{◌≡◌, Some};
 ghost use Rattle.commands.specs.Fault.{fault_of, fault_of_image, fault_text};
 
@@ -21,13 +21,13 @@ pub enum Fault {
     OtherConfig,
     /// A guest has 64 replies that have not left.
     Busy,
-    /// The history holds 16,384 requests.
+    /// 16,384 requests were answered, by all guests together.
     HistoryFull,
     /// A guest's driver has too few free descriptors.
     NoRoom,
-    /// The book lacks the guest, or counts otherwise than its caller.
+    /// The board lacks the guest.
     Foreign,
-    /// The board file says nothing of a board, or names no image where one is needed.
+    /// The board file is no board, or names no image where one is needed.
     BadBoard,
     /// This line of the script, counted from 1, is the first that says nothing a script may say.
     BadScript { line: usize },

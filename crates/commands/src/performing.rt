@@ -38,8 +38,8 @@ pub fn perform<D: Disk, W: Write, E: Write>(
     requires { IsFormat command → (D.state disk).len ≡ image_length (capacities_of board.now) }
     ensures status { (result.0 ≡ 0) ⊎ (result.0 ≡ 1) }
     ensures back { IsSome result.1 }
-    // A run that reached its end has printed the reply to each chain, and nothing else, where no line
-    // stored into guest memory.
+    // A run that reached its end has printed the reply to each chain, and nothing else, where each guest has
+    // a split ring and no line stored into guest memory.
     ensures printed { IsRun command.entry → result.0 ≡ 0 → (lines : List Said) → Says board.now script.now lines → AreSplit board.now → StoresNothing lines
         → Appends (W.contents out.old) (W.contents out.new) (output_of board.now lines) }
     // Nothing is printed of a script with a bad line.
@@ -63,9 +63,10 @@ pub fn perform<D: Disk, W: Write, E: Write>(
     ensures any_moment { IsShow command.entry → IfSome result.1 (Within D.state D.makes (Untouched (D.state disk)) disk) }
     // Nothing is written on standard error unless the status says so.
     ensures quiet { result.0 ≡ 0 → Keeps (E.contents err.old) (E.contents err.new) }
-    // Then it is the line of a fault that has its reason. Nothing was printed before it but by a run.
+    // Then it is the line of a fault that has its reason. Only a run has printed something before it: what
+    // its lines before the fault print, unless standard output took no more.
     ensures fault { result.0 ≡ 1 → IfSome result.1 (λ d. Fails
-        (λ f. Ends command.entry board.now script.now (D.state disk) (D.state d) f × Prints command.entry f (W.contents out.old) (W.contents out.new))
+        (λ f. Ends command.entry board.now script.now (D.state disk) (D.state d) f × Prints command.entry board.now script.now f (W.contents out.old) (W.contents out.new))
         (E.contents err.old) (E.contents err.new)) }
 {
     let mut disk = disk;

@@ -12,12 +12,16 @@ use std::io::Write;
 /// Room for the longest line of a fault, which has 46 bytes.
 const LINE_LENGTH: usize = 64;
 
-/// Writes the text as far as the writer takes it.
+/// Writes the text as far as the writer takes it. Only a writer that is interrupted again and again makes
+/// many turns.
 fn write_front<E: Write>(text: &[u8], err: &mut E)
     ensures { Takes (E.contents err.old) (E.contents err.new) text.now }
 {
     let mut taken = 0;
     for _ in 0..u64::MAX {
+        if taken == text.len() {
+            return;
+        }
         match err.write(&text[taken..]) {
             Ok(0) => return,
             Ok(count) => taken += count,

@@ -4,7 +4,7 @@ ghost use Rattle.std.specs.Prelude.{string_bytes};
 ghost use Rattle.std.specs.Io.KnownBytes.{Appends, Keeps};
 ghost use Rattle.script.specs.Line.{Said, chain, line_of, said};
 ghost use Rattle.script.specs.Script.{lines_of};
-ghost use Rattle.commands.specs.Ending.{IsOfRunning, RunEnds};
+ghost use Rattle.commands.specs.Ending.{IsOfRunning, KeepsUnless, PrintsFirstUnless, RunEnds, RunPrints};
 ghost use Rattle.commands.specs.Running.{IsAt, IsSized, Runs};
 ghost use Rattle.commands.specs.Transcript.{AreSplit, IsBadAt, Says, StoresNothing, Told, output_of, shown};
 ghost use Rattle.commands.specs.Transcript.{stuck_line, transcript, used_line};
@@ -37,6 +37,7 @@ fn shown(alloc: Global, bytes: &[u8]) -> Result<String, Fault>
 fn write_reply<W: Write>(alloc: Global, guest: u16, reply: &[u8], out: &mut W) -> Result<(), Fault>
     ensures printed { OnOk result (Appends (W.contents out.old) (W.contents out.new) (used_line guest reply.now)) }
     ensures ends { IfErr result IsOfRunning }
+    ensures silent { IfErr result (λ fault. KeepsUnless fault (W.contents out.old) (W.contents out.new)) }
 {
     let text = match shown(alloc, reply) {
         Ok(text) => text,
@@ -53,6 +54,7 @@ fn write_reply<W: Write>(alloc: Global, guest: u16, reply: &[u8], out: &mut W) -
 fn write_stuck<W: Write>(guest: u16, stuck: Stuck, out: &mut W) -> Result<(), Fault>
     ensures printed { OnOk result (Appends (W.contents out.old) (W.contents out.new) (stuck_line guest stuck)) }
     ensures ends { IfErr result IsOfRunning }
+    ensures silent { IfErr result (λ fault. KeepsUnless fault (W.contents out.old) (W.contents out.new)) }
 {
     let text = match stuck {
         Stuck::NeedsReset => "needs-reset",
@@ -91,6 +93,7 @@ fn run_chain<W: Write>(
     requires { IsSized (chain guest readable.now writable) }
     ensures runs { OnOk result (Runs host.old (chain guest readable.now writable) (W.contents out.old) (W.contents out.new) host.new) }
     ensures ends { IfErr result IsOfRunning }
+    ensures silent { IfErr result (λ fault. KeepsUnless fault (W.contents out.old) (W.contents out.new)) }
 {
     match host.chain(alloc, guest, readable, writable) {
         Ok(Answer::Used(reply)) => write_reply(alloc, guest, reply.as_slice(), out),
@@ -104,6 +107,7 @@ fn run_line<W: Write>(alloc: Global, host: &mut Host, line: Line, out: &mut W) -
     requires { IsSized (said line) }
     ensures runs { OnOk result (Runs host.old (said line) (W.contents out.old) (W.contents out.new) host.new) }
     ensures ends { IfErr result IsOfRunning }
+    ensures silent { IfErr result (λ fault. KeepsUnless fault (W.contents out.old) (W.contents out.new)) }
 {
     match line {
         Line::Nothing => Ok(()),
@@ -123,6 +127,7 @@ fn run_line<W: Write>(alloc: Global, host: &mut Host, line: Line, out: &mut W) -
     }
 }
 
+#[tactic(auto, using(crate::proofs::Printing::begin))]
 fn run_lines<W: Write>(
     alloc: Global,
     host: &mut Host,
@@ -133,6 +138,8 @@ fn run_lines<W: Write>(
     ensures printed { OnOk result ((t : Told) → IsAt 0 t host.old → StoresNothing (map said lines.items)
         → Appends (W.contents out.old) (W.contents out.new) (transcript t (map said lines.items))) }
     ensures ends { IfErr result IsOfRunning }
+    ensures stopped { IfErr result (λ fault. (t : Told) → IsAt 0 t host.old → StoresNothing (map said lines.items)
+        → PrintsFirstUnless fault (transcript t) (map said lines.items) (W.contents out.old) (W.contents out.new)) }
 {
     for line in lines {
         run_line(alloc, host, line, out)?;
@@ -151,18 +158,18 @@ fn run_fresh<W: Write>(
     ensures printed { OnOk result (AreSplit board.now → StoresNothing (map said lines.items)
         → Appends (W.contents out.old) (W.contents out.new) (output_of board.now (map said lines.items))) }
     ensures ends { IfErr result IsOfRunning }
+    ensures stopped { IfErr result (λ fault. AreSplit board.now → StoresNothing (map said lines.items)
+        → PrintsFirstUnless fault (output_of board.now) (map said lines.items) (W.contents out.old) (W.contents out.new)) }
 {
     let Ok(mut host) = Host::new(alloc, board) else {
         return Err(Fault::NoMemory);
     };
     let ran = run_lines(alloc, &mut host, lines, out);
-    // The lines so far are printed also where the next one ended the run.
-    let flushed = out.flush();
-    match (ran, flushed) {
-        (Ok(()), Ok(())) => Ok(()),
-        (Ok(()), Err(_)) => Err(Fault::FileFault),
-        (Err(fault), _) => Err(fault),
+    // The lines so far are printed also where the next one ended the run; that they aren't is told first.
+    if out.flush().is_err() {
+        return Err(Fault::FileFault);
     }
+    ran
 }
 
 /// Performs a script. All its lines are read before one is performed.
@@ -177,7 +184,7 @@ pub fn run<W: Write>(
     ensures bad { (n : ℕ) → IsBadAt board.now script.now n
         → IsErr result × Keeps (W.contents out.old) (W.contents out.new) }
     ensures ends { IfErr result (RunEnds board.now script.now) }
-    ensures silent { (n : ℕ) → result ≡ Err (Fault.BadScript n) → Keeps (W.contents out.old) (W.contents out.new) }
+    ensures stopped { IfErr result (λ fault. RunPrints board.now script.now fault (W.contents out.old) (W.contents out.new)) }
 {
     match read_lines(alloc, script, board) {
         Ok(lines) => run_fresh(alloc, board, lines, out),

@@ -145,6 +145,22 @@ fn ends_where_output_fails(rt: HostRuntime) -> Result<(), Fail> {
 }
 
 #[test]
+fn tells_lost_lines_before_another_fault(rt: HostRuntime) -> Result<(), Fail> {
+    let alloc = rt.alloc();
+    let board = board_of(alloc, &[1])?;
+    // The second line is refused. With room for the first one's 11 bytes alone the flush fails.
+    for (room, fault) in [(11, "rpmbd: 21 FileFault\n"), (12, "rpmbd: 1 OutOfRange\n")] {
+        let mut out = Narrow { room };
+        let mut err = Vec::new(alloc);
+        let script = "chain 0 - 16\nstore 0 1048576 00\n";
+        let status = run_on(alloc, &board, script, &mut out, &mut err);
+        assert_eq!(rt; status, 1, "at {room}");
+        assert_eq!(rt; err.as_slice(), fault.as_bytes(), "at {room}");
+    }
+    Ok(())
+}
+
+#[test]
 fn refuses_scripts_before_a_line_is_run(rt: HostRuntime) -> Result<(), Fail> {
     let alloc = rt.alloc();
     let board = board_of(alloc, &[1; 2])?;

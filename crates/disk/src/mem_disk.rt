@@ -79,6 +79,7 @@ impl Disk for MemDisk {
         ensures succeeds { IsOk result }
         ensures unchanged { self.new ≡ self.old }
     {
+        // Nothing waits for a sync here.
         Ok(())
     }
 

@@ -33,6 +33,7 @@ pub enum Slot {
 pub fn skipped(intent: &Intent) -> usize
     ensures { result ≡ skipped intent.now.group.entries }
 {
+    // Its invariant is known from here on: there is an entry.
     let _some = intent.entries();
     if intent.entry(0).blocks().is_empty() {
         1
@@ -63,7 +64,7 @@ impl Slot {
         }
     }
 
-    /// Whether an intent has the key of the one that is given or in it.
+    /// Whether an intent has the key of the one that is given or in it; so has each where there is none.
     pub(crate) fn has_key_of(&self, intent: &Intent) -> bool
         ensures { IsTrue result ↔ HasSameKey (intent_of self.now) intent.now }
     {

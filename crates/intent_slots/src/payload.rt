@@ -39,7 +39,7 @@ impl Model for Room {
 }
 
 impl Room {
-    /// Room for four times 4,096 bytes.
+    /// Room for four times 4,096 bytes. `NoMemory` where memory was refused.
     pub fn new(alloc: Global) -> Result<Room, NoMemory> {
         let mut blocks = ArrayVec::new_in(alloc);
         for _ in 0..4_usize {

@@ -104,7 +104,8 @@ fn sync<D: Disk>(disk: &mut D) -> Result<(), DiskFault>
 /// Makes a fresh image: the header, the version byte 1 at place 512, and zeros, so that each partition
 /// is empty. It writes zeros over the whole disk, and for each guest a home record without a key and
 /// both gates shut, makes a sync, writes the header and the version byte, and makes a sync. So no stop
-/// leaves the new header over what stood there before. It takes no memory.
+/// leaves the new header over what stood there before. It takes no memory. The disk has just the length
+/// of the board's image.
 ///
 /// Answers `DiskFault` where a call failed. Other faults never come.
 pub fn format<D: Disk>(disk: &mut D, board: &BoardConfig) -> Result<(), OpenFault>

@@ -115,7 +115,8 @@ fn read_image<D: Disk>(
 
 /// Opens an image that a stop may have left: the store over it, and the partition of each guest of the
 /// board. It takes all its memory first, then makes a sync, and only after its success it reads.
-/// Nothing is written. The payload behind an open gate goes on from its first write.
+/// Nothing is written. Where a gate is open, the slot is `Open` with none of its blocks written, so that
+/// the store's `advance` writes them again.
 ///
 /// Answers `NoMemory` before any call, and `DiskFault` where a call failed. Else it answers, in this
 /// order, `NotFormatted` where the disk is shorter than 1,024 bytes or has another magic;

@@ -7,6 +7,7 @@ use disk::FileDisk;
 use rpmb_frame::BoardConfig;
 use std::alloc::Global;
 use std::fs::File;
+use std::os::unix::fs::OpenOptionsExt;
 use std::rt::Files;
 use std::{fs, io};
 
@@ -25,7 +26,7 @@ fn board_of(alloc: Global, text: &str) -> Result<(BoardConfig, Option<String>), 
     }
 }
 
-/// The text of a file.
+/// The text of a file. `FileFault` where it can't be read or isn't UTF-8; `NoMemory`.
 pub fn read_text<R: Files + AllocGlobal>(rt: &R, path: &str) -> Result<String, Fault> {
     match fs::read_to_string(rt, path) {
         Ok(text) => Ok(text),
@@ -33,7 +34,8 @@ pub fn read_text<R: Files + AllocGlobal>(rt: &R, path: &str) -> Result<String, F
     }
 }
 
-/// The board of a file, and the path of its image, where it names one.
+/// The board of a file, and the path of its image, where it names one. Refused as by `read_text`, and with
+/// `BadBoard` where the text is no board.
 pub fn read_board_file<R: Files + AllocGlobal>(
     rt: &R,
     path: &str,
@@ -42,7 +44,8 @@ pub fn read_board_file<R: Files + AllocGlobal>(
     board_of(rt.alloc(), text.as_str())
 }
 
-/// The board of a file, and the path of the image that it has to name.
+/// The board of a file, and the path of the image that it has to name. Refused as by `read_board_file`, and
+/// with `BadBoard` where it names none.
 pub fn read_image_board<R: Files + AllocGlobal>(
     rt: &R,
     path: &str,
@@ -54,7 +57,9 @@ pub fn read_image_board<R: Files + AllocGlobal>(
 }
 
 /// The file of an image that is to be made, cut or made longer to `len` bytes. It is made where it isn't
-/// there, and its bytes stay where it can't be opened for writing.
+/// there, for its owner alone, since keys will stand in it; a file that is there keeps its mode. `FileFault`
+/// where it can't be opened for reading and writing, and then its bytes stay; or where its length can't be
+/// set.
 pub fn create_image(rt: &HostRuntime, path: &str, len: u64) -> Result<FileDisk, Fault>
     ensures { IfOk result (λ disk. disk.len ≡ len) }
 {
@@ -62,6 +67,7 @@ pub fn create_image(rt: &HostRuntime, path: &str, len: u64) -> Result<FileDisk, 
         .read(true)
         .write(true)
         .create(true)
+        .mode(0o600)
         .open(rt, path);
     let file = match opened {
         Ok(file) => file,
@@ -73,7 +79,8 @@ pub fn create_image(rt: &HostRuntime, path: &str, len: u64) -> Result<FileDisk, 
     }
 }
 
-/// The file of an image that is there.
+/// The file of an image that is there. `FileFault` where it can't be opened for reading and writing, or its
+/// length isn't told.
 pub fn open_image(rt: &HostRuntime, path: &str) -> Result<FileDisk, Fault> {
     let opened = File::options().read(true).write(true).open(rt, path);
     let file = match opened {

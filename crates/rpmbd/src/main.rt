@@ -14,7 +14,7 @@ use disk::{Disk, MemDisk};
 use files::{create_image, open_image, read_board_file, read_image_board, read_text};
 use intent_slots::Layout;
 use rpmb_frame::BoardConfig;
-use std::io::BufWriter;
+use std::io::{BufWriter, Write};
 use std::process::ExitCode;
 use std::{env, io};
 
@@ -22,41 +22,43 @@ use std::{env, io};
 const REFUSED: u8 = 2;
 
 /// Performs a command on what its files hold.
-fn perform_on<D: Disk>(
+fn perform_on<D: Disk, W: Write>(
     rt: &HostRuntime,
     command: Command<'_>,
     board: &BoardConfig,
     script: &str,
     disk: D,
-) -> Result<u8, Fault>
+    out: &mut W,
+) -> u8
     requires { IsFormat command → (D.state disk).len ≡ image_length (capacities_of board.now) }
 {
-    let Ok(mut out) = BufWriter::new(rt.alloc(), rt.stdout()) else {
-        return Err(Fault::NoMemory);
-    };
     let mut err = rt.stderr();
-    let (status, _) = perform(rt.alloc(), command, board, script, disk, &mut out, &mut err);
-    Ok(status)
+    let (status, _) = perform(rt.alloc(), command, board, script, disk, out, &mut err);
+    status
 }
 
 /// Reads the files that the command names, and performs it on them.
 fn perform_on_files(rt: &HostRuntime, command: Command<'_>) -> Result<u8, Fault> {
+    // Nothing is asked for after a file was cut to its length, but what the command itself needs.
+    let Ok(mut out) = BufWriter::new(rt.alloc(), rt.stdout()) else {
+        return Err(Fault::NoMemory);
+    };
     match command {
         Command::Format { board } => {
             let (board, image) = read_image_board(rt, board)?;
             let disk = create_image(rt, image.as_str(), Layout::of(&board).length())?;
-            perform_on(rt, command, &board, "", disk)
+            Ok(perform_on(rt, command, &board, "", disk, &mut out))
         }
         Command::Show { board } => {
             let (board, image) = read_image_board(rt, board)?;
             let disk = open_image(rt, image.as_str())?;
-            perform_on(rt, command, &board, "", disk)
+            Ok(perform_on(rt, command, &board, "", disk, &mut out))
         }
         Command::Run { board, script } => {
             let (board, _) = read_board_file(rt, board)?;
             let script = read_text(rt, script)?;
             let disk = MemDisk::new(Vec::new(rt.alloc()));
-            perform_on(rt, command, &board, script.as_str(), disk)
+            Ok(perform_on(rt, command, &board, script.as_str(), disk, &mut out))
         }
     }
 }
@@ -87,16 +89,31 @@ fn words<R: AllocGlobal + std::rt::Env>(rt: &R) -> io::Result<Vec<String>> {
     Ok(words)
 }
 
-fn main(rt: HostRuntime) -> ExitCode {
-    let Ok(words) = words(&rt) else {
-        return ExitCode::from(report(Fault::NoMemory, &mut rt.stderr()));
-    };
-    let status = match read_words(rt.alloc(), words.as_slice()) {
-        Ok(command) => match perform_on_files(&rt, command) {
+/// Prints why there are no words: memory was refused, or one of them isn't UTF-8.
+fn refuse_words(rt: &HostRuntime, error: &io::Error) -> u8 {
+    match error.kind() {
+        io::ErrorKind::OutOfMemory => report(Fault::NoMemory, &mut rt.stderr()),
+        _ => {
+            let _ = eprintln!(rt; "error: a word of the command line isn't UTF-8");
+            REFUSED
+        }
+    }
+}
+
+fn status_of(rt: &HostRuntime, words: &[String]) -> u8 {
+    match read_words(rt.alloc(), words) {
+        Ok(command) => match perform_on_files(rt, command) {
             Ok(status) => status,
             Err(fault) => report(fault, &mut rt.stderr()),
         },
-        Err(error) => refuse(&rt, error),
+        Err(error) => refuse(rt, error),
+    }
+}
+
+fn main(rt: HostRuntime) -> ExitCode {
+    let status = match words(&rt) {
+        Ok(words) => status_of(&rt, words.as_slice()),
+        Err(error) => refuse_words(&rt, &error),
     };
     ExitCode::from(status)
 }

@@ -9,7 +9,7 @@ use intent_slots::Layout;
 use rpmb_frame::BoardConfig;
 use std::alloc::Global;
 use std::fs;
-use std::fs::File;
+use std::os::unix::fs::PermissionsExt;
 use std::test::Fail;
 
 const FORMAT: Command<'static> = Command::Format { board: "" };
@@ -152,6 +152,27 @@ fn refuses_images(rt: HostRuntime) -> Result<(), Fail> {
     // The board has another guest beside.
     let fault = "rpmbd: 13 OtherConfig\n";
     assert!(rt; refuses(&rt, path, image.as_slice(), TWO, fault)?);
+    fs::remove_file(&rt, path)?;
+    Ok(())
+}
+
+#[test]
+fn makes_images_for_their_owner_alone(rt: HostRuntime) -> Result<(), Fail> {
+    let path = "mode.img";
+    let made = create_image(&rt, path, 1024)?;
+    assert_eq!(rt; made.len(), 1024);
+    assert_eq!(rt;
+        fs::metadata(&rt, path)?.permissions().mode() & 0o7777,
+        0o600
+    );
+    // A file that is there keeps its mode.
+    fs::set_permissions(&rt, path, fs::Permissions::from_mode(0o640))?;
+    let made = create_image(&rt, path, 1024)?;
+    assert_eq!(rt; made.len(), 1024);
+    assert_eq!(rt;
+        fs::metadata(&rt, path)?.permissions().mode() & 0o7777,
+        0o640
+    );
     fs::remove_file(&rt, path)?;
     Ok(())
 }

@@ -1,4 +1,4 @@
-use Rattle.std.proofs.Common.{◌≡◌, ap, subst, sym}
+use Rattle.std.proofs.Common.{subst, sym}
 use Rattle.commands.specs.Ending.{IsReadAlone, IsShow}
 use Rattle.commands.proofs.performing.perform.Goals.{in-Format, in-Run, in-Show}
 use Rattle.commands.proofs.performing.perform.Goals as goal

@@ -1,4 +1,4 @@
-use Rattle.std.proofs.Common.{◌≡◌, ◌+◌, subst, sym, rules, arith}
+use Rattle.std.proofs.Common.{◌+◌, subst, sym}
 use Rattle.std.proofs.lemmas.List.{take_rest}
 use Rattle.commands.proofs.Telling.{Took, takes, takes_kept, took_more, took_kept}
 use Rattle.commands.proofs.reporting.write_front.Goals.{in-Ok, in-Err+else-ne}
@@ -28,6 +28,9 @@ pub returns-then-ne : goal.returns-then-ne
 returns-then-ne g c =
     takes_kept (g.E.Write.contents c.args.err.now) (g.E.Write.contents c.loop.err) (g.E.Write.contents c.write.new.self) c.args.text.now c.loop.taken c.loop.invariant
     c.in-Err.ensures.bytes
+
+pub returns-then-taken-text : goal.returns-then-taken-text
+returns-then-taken-text g c = takes (g.E.Write.contents c.args.err.now) (g.E.Write.contents c.loop.err) c.args.text.now c.loop.taken c.loop.invariant
 
 pub returns : goal.returns
 returns g c = takes (g.E.Write.contents c.args.err.now) (g.E.Write.contents c.loop.err) c.args.text.now c.loop.taken c.loop.invariant

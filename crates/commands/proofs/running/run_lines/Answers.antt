@@ -1,11 +1,12 @@
 use Rattle.std.proofs.Common.{◌≡◌, ◌+◌, ◌<◌, List, ap, length, map, subst, arith}
+use Rattle.std.proofs.lemmas.Result.{err_from_is_err_and}
 use Rattle.std.specs.Prelude.{All}
 use Rattle.std.proofs.lemmas.List.{length-map}
 use Rattle.mmio_transport.specs.Device.{last_count}
 use Rattle.script.specs.Line.{said}
 use Rattle.script.specs.declared.line.Line.{Line}
 use Rattle.commands.specs.Running.{IsSized}
-use Rattle.commands.proofs.Printing.{Going, finish, none_left, step, rest_sized}
+use Rattle.commands.proofs.Printing.{Going, finish, none_left, step, stop, rest_sized}
 use Rattle.commands.proofs.running.run_lines.Goals as goal
 
 pub loop-line-preserved : goal.loop-line-preserved
@@ -34,3 +35,16 @@ returns-clause-printed g c =
     let long : left.len ≡ length left.items = omega (arith, left.ok) in
     let rest = ap (map said) (none_left left.items left.len c.in-None.ensures.steps.0 long) in
     finish start here t now.host all (subst (Going start here t now.host all) rest (now.invariant.1 t at clean))
+
+pub returns-in_err-run_line-clause-stopped : goal.returns-in_err-run_line-clause-stopped
+returns-in_err-run_line-clause-stopped g c =
+    let now = c.loop-line in
+    let all = map said c.args.lines.items in
+    let start = g.W.Write.contents c.args.out.now in
+    let here = g.W.Write.contents now.out in
+    let next = g.W.Write.contents c.run_line.new.out in
+    let rest = c.in-Some.ensures.steps.0 in
+    let p = err_from_is_err_and c.from_residual.result c.from_residual.ensures.1 in
+    rw (p.1, p.2) (λ t at clean.
+    let going = subst (Going start here t now.host all) (ap (map said) rest) (now.invariant.1 t at clean) in
+    stop start here next t now.host all _ c.in_err-run_line.field-0.0 going c.in_err-run_line.ensures.silent)

@@ -1,8 +1,3 @@
-use Rattle.std.specs.Io.KnownBytes.{Appends}
-use Rattle.std.proofs.Common.{ℕ, ◌<◌, ◌≡◌, Some}
-use Rattle.std.specs.Prelude.{slice_get}
-use Rattle.rpmb_frame.specs.Partition.{Partition, IsWhole}
-use Rattle.commands.specs.Listing.{listing_below}
 use Rattle.commands.proofs.Listed.{Listed}
 use Rattle.commands.proofs.showing.write_guests.Given as goal
 
