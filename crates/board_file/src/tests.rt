@@ -153,3 +153,17 @@ fn refuses_boards(rt: HostRuntime) -> Result<(), Fail> {
     assert!(rt; is_refused(rt.alloc(), many.as_str()));
     Ok(())
 }
+
+// A guest that names its capacity alone is the one that other tests take.
+#[test]
+fn reads_capacities_alone(rt: HostRuntime) -> Result<(), Fail> {
+    for capacity in [1, 2, 128] {
+        let text = format!(in rt.alloc(); "[[guest]]\ncapacity = {capacity}\n")?;
+        let guest = GuestConfig::of_capacity(capacity);
+        assert!(rt;
+            is_read(rt.alloc(), text.as_str(), 1, guest, None)?,
+            "at {capacity}"
+        );
+    }
+    Ok(())
+}

@@ -5,7 +5,7 @@ mod sessions;
 mod step;
 
 use crate::{Device, Done, Job};
-use rpmb_frame::{GuestConfig, RingKind};
+use rpmb_frame::GuestConfig;
 use std::alloc::Global;
 use std::test::Fail;
 
@@ -51,14 +51,11 @@ const QUEUE_DEVICE: u32 = 0x0a0;
 
 fn config() -> GuestConfig {
     GuestConfig {
-        capacity: 1,
         max_wr_cnt: 2,
         max_rd_cnt: 3,
         memory: SIZE,
         queue: 4,
-        ring: RingKind::Split,
-        indirect: false,
-        event_idx: true,
+        ..GuestConfig::of_capacity(1)
     }
 }
 

@@ -4,7 +4,7 @@ use disk::{CutDisk, Disk, Filler};
 use flusher::{Call, Store};
 use intent_slots::{Home, Intent, Layout};
 use rpmb_core::Partition;
-use rpmb_frame::{BoardConfig, GuestConfig, RingKind};
+use rpmb_frame::{BoardConfig, GuestConfig};
 use std::alloc::Global;
 use std::test::Fail;
 
@@ -13,16 +13,7 @@ const KEY: [u8; 32] = [0x4b; 32];
 fn board(alloc: Global, capacities: &[u8]) -> Result<BoardConfig, Fail> {
     let mut guests = Vec::new(alloc);
     for capacity in capacities {
-        guests.push(GuestConfig {
-            capacity: *capacity,
-            max_wr_cnt: 16,
-            max_rd_cnt: 16,
-            memory: 1_048_576,
-            queue: 16,
-            ring: RingKind::Split,
-            indirect: false,
-            event_idx: true,
-        })?;
+        guests.push(GuestConfig::of_capacity(*capacity))?;
     }
     Ok(BoardConfig::new(guests)?)
 }

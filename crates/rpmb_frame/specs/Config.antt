@@ -1,5 +1,5 @@
 -- Which configurations a board may have (own).
-use Rattle.std.specs.Prelude.{ℕ, ◌≤◌, IsTrue, List, length, All}
+use Rattle.std.specs.Prelude.{ℕ, ◌≤◌, IsTrue, List, length, All, true, false}
 use Rattle.std.specs.Int.{is_power_of_two}
 use Rattle.rpmb_frame.specs.declared.config.GuestConfig.{GuestConfig}
 use Rattle.rpmb_frame.specs.declared.config.RingKind.{RingKind}
@@ -10,6 +10,19 @@ use Rattle.rpmb_frame.specs.Layout.{layout}
 abbrev pub IsQueueSize : RingKind → ℕ → Type 0
 IsQueueSize Split queue = IsTrue (is_power_of_two queue)
 IsQueueSize Packed queue = Unit {0}
+
+-- the guest of a board file that names this capacity alone
+abbrev pub guest_of_capacity : ℕ → GuestConfig
+guest_of_capacity capacity = record {
+  capacity = capacity;
+  max_wr_cnt = 16;
+  max_rd_cnt = 16;
+  memory = 1048576;
+  queue = 16;
+  ring = Split;
+  indirect = false;
+  event_idx = true;
+}
 
 pub record IsGuest (g : GuestConfig) : Type 0 where
   pub capacity : (1 ≤ g.capacity) × (g.capacity ≤ 128)

@@ -1,5 +1,5 @@
 ghost use Rattle.std.specs.Prelude.{◌≡◌, ◌↔◌, IsTrue, IsOk, IfOk};
-ghost use Rattle.rpmb_frame.specs.Config.{IsBoard, IsGuest, IsQueueSize};
+ghost use Rattle.rpmb_frame.specs.Config.{IsBoard, IsGuest, IsQueueSize, guest_of_capacity};
 
 use crate::layout::DriverLayout;
 use std::marker::Model;
@@ -57,6 +57,24 @@ impl Model for BoardConfig {
 }
 
 impl GuestConfig {
+    /// A guest of this capacity, in units of 128 KiB; all else as where a board file names the capacity
+    /// alone: 16 blocks a write and a read, 1,048,576 bytes of memory, a split ring of 16 entries, without
+    /// VIRTIO_F_INDIRECT_DESC and with VIRTIO_F_EVENT_IDX. The capacity isn't tested here.
+    pub const fn of_capacity(capacity: u8) -> GuestConfig
+        ensures { result ≡ guest_of_capacity capacity }
+    {
+        GuestConfig {
+            capacity,
+            max_wr_cnt: 16,
+            max_rd_cnt: 16,
+            memory: 1_048_576,
+            queue: 16,
+            ring: RingKind::Split,
+            indirect: false,
+            event_idx: true,
+        }
+    }
+
     fn is_in_range(&self) -> bool
         ensures { IsTrue result ↔ IsGuest self.now }
     {

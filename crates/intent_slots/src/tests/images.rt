@@ -1,7 +1,7 @@
 ghost use Rattle.std.specs.Prelude.{◌<◌, length};
 
 use crate::{HeaderFault, Home, Layout, Side};
-use rpmb_frame::{BoardConfig, GuestConfig, RingKind};
+use rpmb_frame::{BoardConfig, GuestConfig};
 use std::alloc::Global;
 use std::test::Fail;
 
@@ -31,16 +31,7 @@ const HEADERS: [(usize, u8, Option<HeaderFault>); 6] = [
 fn layout_of(alloc: Global, capacities: &[u8]) -> Result<Layout, Fail> {
     let mut guests = Vec::new(alloc);
     for capacity in capacities {
-        guests.push(GuestConfig {
-            capacity: *capacity,
-            max_wr_cnt: 16,
-            max_rd_cnt: 16,
-            memory: 1_048_576,
-            queue: 16,
-            ring: RingKind::Split,
-            indirect: false,
-            event_idx: true,
-        })?;
+        guests.push(GuestConfig::of_capacity(*capacity))?;
     }
     Ok(Layout::of(&BoardConfig::new(guests)?))
 }

@@ -1,7 +1,7 @@
 //! Requests to a partition one after another, with their results and all bytes of their replies.
 
 use crate::{OK, Outcome, Partition, is_change};
-use rpmb_frame::{BoardConfig, GuestConfig, Limits, Request, RingKind};
+use rpmb_frame::{BoardConfig, GuestConfig, Limits, Request};
 use std::alloc::Global;
 use std::test::Fail;
 
@@ -91,14 +91,9 @@ fn frame(part: &Part, mac: Mac) -> [u8; 512] {
 /// The limits of a guest of a board: how many blocks it may write, and how many it may read.
 pub fn limits_of(alloc: Global, counts: (u8, u8)) -> Result<Limits, Fail> {
     let guest = GuestConfig {
-        capacity: 1,
         max_wr_cnt: counts.0,
         max_rd_cnt: counts.1,
-        memory: 1_048_576,
-        queue: 16,
-        ring: RingKind::Split,
-        indirect: false,
-        event_idx: true,
+        ..GuestConfig::of_capacity(1)
     };
     let board = BoardConfig::new(Vec::from_array(alloc, [guest])?)?;
     Ok(Limits::of(&board.guests()[0]))

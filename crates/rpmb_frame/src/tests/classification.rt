@@ -1,5 +1,5 @@
 use crate::laws::first_row_decides;
-use crate::{BoardConfig, Command, GuestConfig, Limits, Request, RingKind};
+use crate::{BoardConfig, Command, GuestConfig, Limits, Request};
 use std::alloc::Global;
 use std::test::Fail;
 
@@ -106,14 +106,8 @@ fn are_first(frames: &[[u8; 512]]) -> bool {
 /// The limits of a guest of a board, with this `max_wr_cnt`.
 fn limits_of(alloc: Global, max_wr_cnt: u8) -> Result<Limits, Fail> {
     let guest = GuestConfig {
-        capacity: 1,
         max_wr_cnt,
-        max_rd_cnt: 16,
-        memory: 1_048_576,
-        queue: 16,
-        ring: RingKind::Split,
-        indirect: false,
-        event_idx: true,
+        ..GuestConfig::of_capacity(1)
     };
     let board = BoardConfig::new(Vec::from_array(alloc, [guest])?)?;
     Ok(Limits::of(&board.guests()[0]))

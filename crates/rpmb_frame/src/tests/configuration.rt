@@ -125,3 +125,17 @@ fn numbers_of_guests(rt: HostRuntime) -> Result<(), Fail> {
     }
     Ok(())
 }
+
+/// Capacities, and whether a board may have a guest that names its capacity alone.
+static CAPACITIES: [(u8, bool); 4] = [(0, false), (1, true), (128, true), (129, false)];
+
+#[test]
+fn guests_that_name_their_capacity(rt: HostRuntime) -> Result<(), Fail> {
+    for (capacity, accepted) in CAPACITIES {
+        let guests = [GuestConfig::of_capacity(capacity)];
+        let board = board_of(rt.alloc(), &guests)?;
+        let told = is_told(rt.alloc(), &board, &guests)?;
+        assert!(rt; told && board.is_ok() == accepted, "at {capacity}");
+    }
+    Ok(())
+}

@@ -4,7 +4,7 @@ use chains::Range;
 use hmac256::mac_of;
 use mmio_transport::Job;
 use rpmb_book::{Book, Receipt, Refused, Shares, Tally};
-use rpmb_frame::{BoardConfig, Frame, GuestConfig, RingKind};
+use rpmb_frame::{BoardConfig, Frame, GuestConfig};
 use runner::fresh_partitions;
 use std::alloc::Global;
 use std::test::Fail;
@@ -26,16 +26,7 @@ pub struct Scene {
 pub fn board_of(alloc: Global, guests: usize) -> Result<BoardConfig, Fail> {
     let mut configs = Vec::with_capacity(alloc, guests)?;
     for _ in 0..guests {
-        configs.push(GuestConfig {
-            capacity: 1,
-            max_wr_cnt: 16,
-            max_rd_cnt: 16,
-            memory: 1_048_576,
-            queue: 16,
-            ring: RingKind::Split,
-            indirect: false,
-            event_idx: true,
-        })?;
+        configs.push(GuestConfig::of_capacity(1))?;
     }
     Ok(BoardConfig::new(configs)?)
 }
