@@ -5,7 +5,7 @@ mod steps;
 use crate::perform;
 use command_line::Command;
 use disk::MemDisk;
-use rpmb_frame::{BoardConfig, GuestConfig, RingKind};
+use rpmb_frame::{BoardConfig, GuestConfig};
 use std::alloc::Global;
 use std::io;
 use std::io::Write;
@@ -50,20 +50,11 @@ fn digits(alloc: Global, words: &str) -> Result<String, Fail> {
     Ok(digits)
 }
 
-/// The board of guests of these capacities, which are alike in all else.
+/// The board of guests of these capacities, with the defaults of a board file in all else.
 fn board_of(alloc: Global, capacities: &[u8]) -> Result<BoardConfig, Fail> {
     let mut guests = Vec::new(alloc);
     for capacity in capacities {
-        guests.push(GuestConfig {
-            capacity: *capacity,
-            max_wr_cnt: 16,
-            max_rd_cnt: 16,
-            memory: 1_048_576,
-            queue: 16,
-            ring: RingKind::Split,
-            indirect: false,
-            event_idx: true,
-        })?;
+        guests.push(GuestConfig::of_capacity(*capacity))?;
     }
     Ok(BoardConfig::new(guests)?)
 }

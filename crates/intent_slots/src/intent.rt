@@ -3,6 +3,7 @@ ghost use Rattle.intent_slots.specs.Payload.{GroupFits, EntryFits, IsWrite, last
 
 use crate::entry::Entry;
 use crate::home::Home;
+use crate::layout::UNIT_SIZE;
 use arrayvec::ArrayVec;
 use std::marker::Model;
 
@@ -142,7 +143,7 @@ impl Intent {
     pub fn lies_inside(&self, capacity: u8) -> bool
         ensures { IsTrue result ↔ GroupFits (131_072 * capacity) self.now.group }
     {
-        let size = 131_072 * usize::from(capacity);
+        let size = UNIT_SIZE * usize::from(capacity);
         self.entries.iter().all(|entry| entry.lies_inside(size))
     }
 }

@@ -32,7 +32,16 @@ pub const BLOCK_LENGTH: u64 = 256;
 /// The length in bytes of the blocks of one unit of capacity.
 pub const UNIT_LENGTH: u64 = 131_072;
 
-/// One of a partition's two slots. Slot B has its place, and nothing reads or writes it yet.
+/// The same as a length in memory.
+pub(crate) const UNIT_SIZE: usize = UNIT_LENGTH as usize;
+
+/// The place of slot B's gate in a partition, in bytes from its first.
+const GATE_B_PLACE: u64 = 17_920;
+
+/// The place of slot B's payload in a partition, in bytes from its first.
+const PAYLOAD_B_PLACE: u64 = 18_432;
+
+/// One of a partition's two slots. Slot B has its place, and nothing reads it yet.
 #[derive(Clone, Copy, Debug, PartialEq, Eq)]
 pub enum Side {
     /// The slot that intents go through.
@@ -123,7 +132,7 @@ impl Layout {
         let base = self.home(guest);
         match side {
             Side::A => base + GATE_PLACE,
-            Side::B => base + 17_920,
+            Side::B => base + GATE_B_PLACE,
         }
     }
 
@@ -136,7 +145,7 @@ impl Layout {
         let base = self.home(guest);
         match side {
             Side::A => base + PAYLOAD_PLACE,
-            Side::B => base + 18_432,
+            Side::B => base + PAYLOAD_B_PLACE,
         }
     }
 

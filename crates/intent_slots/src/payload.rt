@@ -5,6 +5,7 @@ ghost use Rattle.intent_slots.specs.Payload.{Group, IsPayload, payload_bytes, pa
 use crate::entry::Entry;
 use crate::fields::{bytes_32_at, put, u32_at};
 use crate::intent::Intent;
+use crate::layout::UNIT_SIZE;
 use arrayvec::ArrayVec;
 use std::alloc::{AllocError, Global};
 use std::marker::Model;
@@ -110,7 +111,7 @@ impl Intent {
         if !is_count(count, first) {
             return None;
         }
-        let size = 131_072 * usize::from(capacity);
+        let size = UNIT_SIZE * usize::from(capacity);
         let key = bytes_32_at(payload, 17);
         let mut entries = ArrayVec::new();
         let mut rooms = room.blocks;
