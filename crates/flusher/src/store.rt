@@ -195,7 +195,8 @@ impl<D: Disk> Store<D> {
 }
 
 impl Store<CutDisk> {
-    /// Chooses the disk's call that is to fail, as `CutDisk::fail` does. It changes nothing else.
+    /// Chooses the disk's call that is to fail, as `CutDisk::fail` does. It changes nothing else. It is
+    /// there for tests that let the calls of a store fail.
     pub fn fail(&mut self, k: u64)
         ensures { self.new ≡ record self.old { disk = record self.old.disk { chosen = k } } }
     {

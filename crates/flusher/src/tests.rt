@@ -2,7 +2,7 @@
 ghost use Rattle.std.specs.Prelude.{◌≡◌, ◌≤◌, ◌+◌, ◌*◌, ◌<◌, ◌^◌, [], ◌∷◌, length, false, true};
 ghost use Rattle.flusher.specs.Store.{AllFit};
 
-use crate::{Guest, Marks, Progress, Slot, Store};
+use crate::{Guest, Marks, Progress, Slot, Store, StoreFault};
 use arrayvec::ArrayVec;
 use disk::{Disk, DiskFault, MemDisk};
 use intent_slots::{Intent, Side};
@@ -126,6 +126,17 @@ static KEY_CALLS: [Logged; 8] = [
     Logged::Write(1536, 1, 0),
     Logged::Sync,
 ];
+
+#[test]
+fn faults_print_their_names(rt: HostRuntime) -> Result<(), Fail> {
+    for (fault, name) in [
+        (StoreFault::DiskFault, "DiskFault"),
+        (StoreFault::Broken, "Broken"),
+    ] {
+        assert_eq!(rt; format!(in rt.alloc(); "{fault}")?.as_str(), name);
+    }
+    Ok(())
+}
 
 #[test]
 fn a_key_takes_eight_calls(rt: HostRuntime) -> Result<(), Fail> {

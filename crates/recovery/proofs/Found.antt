@@ -89,6 +89,7 @@ begun_shut cs g key told_key counter told_counter blocks base capacity settled p
   mark = mark ∙ ap (λ k. sequence_of k counter) (sym same_key) ∙ ap (λ m. sequence_of told_key m) (sym same_counter) ∙ sym (ap (λ v. sequence_of v.key v.counter) q);
   small = subst (λ m. m ≤ 2 ^ 32) (sym mark) (bound key);
   slot = tt;
+  number = tt;
   fits = tt;
 }
   where
@@ -142,17 +143,18 @@ found_open cs g c at blocks_from bytes blocks redone_blocks key i told_counter d
     }
 
 pub begun_open : (cs : List ℕ) (g : ℕ) (c : Content) (redone_blocks key : List ℕ) (i : Intent) (told_counter done : ℕ) (base capacity settled : ℕ) (p : Partition)
-    → IsPayload (131072 * capacity) c 0 i.group → done ≡ skipped i.group.entries → settled ≡ last_of i.group + 1
+    → i.guest ≡ g → IsPayload (131072 * capacity) c 0 i.group → done ≡ skipped i.group.entries → settled ≡ last_of i.group + 1
     → key ≡ i.group.key → told_counter ≡ last_of i.group → base ≡ (place_at cs g).base → capacity ≡ slice_index cs g
     → p ≡ record { capacity = capacity; key = Some key; counter = told_counter; blocks = redone_blocks }
     → IsBegun cs g (record { base = base; capacity = capacity; settled = settled; slot = Open i done }) p
-begun_open cs g c redone_blocks key i told_counter done base capacity settled p payload first mark same_key same_counter b n q = record {
+begun_open cs g c redone_blocks key i told_counter done base capacity settled p own payload first mark same_key same_counter b n q = record {
   place = place_is cs g base capacity b n;
   capacity = n;
   same_capacity = ap (λ v. v.capacity) q;
   mark = mark ∙ ap (λ m. m + 1) (sym same_counter) ∙ sym (ap (λ v. sequence_of v.key v.counter) q);
   small = (let one = payload.fits.one in let counters = payload.fits.counters in omega (arith, one, counters, mark));
   slot = first;
+  number = own;
   fits = payload.fits;
 }
 

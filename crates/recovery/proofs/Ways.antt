@@ -9,6 +9,10 @@ use Rattle.recovery.specs.declared.fault.OpenFault.{OpenFault}
 use Rattle.recovery.specs.declared.fault.OpenFault.TheVariants as fault
 use Rattle.recovery.specs.Reading.{Gives, Passes, Opens}
 
+pub not_false : (b : Bool) → not b ≡ false → b ≡ true
+not_false true e = refl
+not_false false e = absurd (let f : true ≡ false = e in cc)
+
 pub not_true : (b : Bool) → not b ≡ true → b ≡ false
 not_true true e = absurd (let f : false ≡ true = e in cc)
 not_true false e = refl
@@ -49,21 +53,23 @@ module _ {D : Type 0} (state : D → DiskState) (makes : D → DiskCall → D �
   pass_end a b failed pass = within_end state makes (Untouched (state a)) a b pass.moments
 
   pub pass_still : (a : D) → Passes state makes a a false
-  pass_still a = record { moments = Still a (untouched_here (state a)); cause = λ e. absurd (let f : false ≡ true = e in cc); reads = NoRead a }
+  pass_still a = record { moments = Still a (untouched_here (state a)); cause = λ e. absurd (let f : false ≡ true = e in cc); unfailed = λ e. refl; reads = NoRead a }
 
-  pub pass_on : (a b c : D) (failed first : Bool) → Passes state makes a b first → Passes state makes b c failed → Passes state makes a c failed
-  pass_on a b c failed first one two = (let u = pass_end a b first one in record {
+  pub pass_on : (a b c : D) (failed : Bool) → Passes state makes a b false → Passes state makes b c failed → Passes state makes a c failed
+  pass_on a b c failed one two = (let u = pass_end a b false one in record {
     moments = within_both state makes (Untouched (state a)) (Untouched (state b)) (Untouched (state a)) a b c (λ s p. p) (λ s q. untouched_on (state a) (state b) s u q) one.moments two.moments;
     cause = λ e. risen_then (state a) (state b) (state c) u (pass_end b c failed two) (two.cause e);
+    unfailed = λ e. two.unfailed e ∙ one.unfailed refl;
     reads = reads_on a b c one.reads two.reads;
   })
 
   module _ (effect : (old new : D) (call : DiskCall) → makes old call new → Effect (state old) call (state new)) where
-    pub pass_read : (a b : D) (ok failed : Bool) → makes a (Read ok) b → (failed ≡ true → ok ≡ false) → Passes state makes a b failed
-    pass_read a b ok failed made why = (let e = effect a b (Read ok) made in record {
+    pub pass_read : (a b : D) (ok failed : Bool) → makes a (Read ok) b → (failed ≡ true → ok ≡ false) → (failed ≡ false → ok ≡ true) → Passes state makes a b failed
+    pass_read a b ok failed made why fine = (let e = effect a b (Read ok) made in record {
       moments = within_call state makes (Untouched (state a)) a b (Read ok) (untouched_here (state a)) made (untouched_here (state a))
           (record { len = e.counts.len; faithful = e.counts.faithful; later = e.counts.later; seen = e.seen; unsynced = e.unsynced });
       cause = λ f. e.counts.cause (why f);
+      unfailed = λ f. e.counts.unfailed (fine f);
       reads = OneRead a a b ok (NoRead a) made;
     })
 
@@ -77,7 +83,7 @@ module _ {D : Type 0} (state : D → DiskState) (makes : D → DiskCall → D �
 
     -- the sync failed
     pub opens_failed : (a b : D) → makes a (Sync false) b → Opens state makes a b true
-    opens_failed a b made = record { moments = synced a b false made; cause = λ f. (effect a b (Sync false) made).counts.cause refl; order = SyncFailed made }
+    opens_failed a b made = record { moments = synced a b false made; cause = λ f. (effect a b (Sync false) made).counts.cause refl; unfailed = λ e. absurd (let f : true ≡ false = e in cc); order = SyncFailed made }
 
     -- reads after the sync
     pub opens_went : (a b c : D) (failed : Bool) → makes a (Sync true) b → Passes state makes b c failed → Opens state makes a c failed
@@ -85,6 +91,7 @@ module _ {D : Type 0} (state : D → DiskState) (makes : D → DiskCall → D �
       moments = within_both state makes (Untouched (state a)) (Untouched (state b)) (Untouched (state a)) a b c (λ s p. p)
           (λ s q. untouched_on (state a) (state b) s u q) (synced a b true made) pass.moments;
       cause = λ e. risen_then (state a) (state b) (state c) u (pass_end b c failed pass) (pass.cause e);
+      unfailed = λ e. pass.unfailed e ∙ (effect a b (Sync true) made).counts.unfailed refl;
       order = SyncWent b made pass.reads;
     })
 

@@ -7,6 +7,7 @@ use Rattle.intent_slots.specs.Header.{HasMagic, HasCapacities}
 use Rattle.intent_slots.specs.Layout.{place_at, slot_place, image_length}
 use Rattle.intent_slots.specs.declared.layout.Side.TheVariants.{A}
 use Rattle.intent_slots.specs.Recovered.{Part, part_of, StandsFor}
+use Rattle.intent_slots.specs.Payload.{Intent}
 use Rattle.flusher.specs.declared.slot.Slot.{Slot}
 use Rattle.flusher.specs.declared.slot.Slot.TheVariants.{Empty, Given, Written, Ready, Opening, Open, Applying, Applied, Closing}
 use Rattle.flusher.specs.declared.guest.Guest.{Guest}
@@ -95,6 +96,11 @@ IsFirst (Applying i) = ⊥
 IsFirst (Applied i) = ⊥
 IsFirst (Closing i) = ⊥
 
+-- an intent in a slot is of the slot's guest
+abbrev pub IsOf : ℕ → Option Intent → Type 0
+IsOf g None = Unit {0}
+IsOf g (Some intent) = intent.guest ≡ g
+
 -- A guest as an opening leaves it, with its partition: all of it is settled.
 pub record IsBegun (capacities : List ℕ) (g : ℕ) (x : Guest) (p : Partition) : Type 0 where
   pub place : place_of x ≡ place_at capacities g
@@ -103,6 +109,7 @@ pub record IsBegun (capacities : List ℕ) (g : ℕ) (x : Guest) (p : Partition)
   pub mark : x.settled ≡ sequence_of p.key p.counter
   pub small : x.settled ≤ 2 ^ 32
   pub slot : IsFirst x.slot
+  pub number : IsOf g (intent_of x.slot)
   pub fits : IntentFits (131072 * x.capacity) (intent_of x.slot)
 
 abbrev pub EachBegun : List ℕ → List Guest → List Partition → Type 0

@@ -28,16 +28,18 @@ abbrev pub is_disk_fault : {X : Type 0} → Result X OpenFault → Bool
 is_disk_fault (Ok x) = false
 is_disk_fault (Err f) = is_disk f
 
--- Reads that leave the disk as it was; where they end with a fault of the disk, one of them failed.
+-- Reads that leave the disk as it was; they end with a fault of the disk exactly where one of them failed.
 pub record Passes {D : Type 0} (state : D → DiskState) (makes : D → DiskCall → D → Type 0) (old new : D) (failed : Bool) : Type 0 where
   pub moments : Within state makes (Untouched (state old)) old new
   pub cause : failed ≡ true → HasRisen (state old).failures (state new).failures
+  pub unfailed : failed ≡ false → (state new).failures ≡ (state old).failures
   pub reads : OnlyReads makes old new
 
 -- The same, with a sync before the reads.
 pub record Opens {D : Type 0} (state : D → DiskState) (makes : D → DiskCall → D → Type 0) (old new : D) (failed : Bool) : Type 0 where
   pub moments : Within state makes (Untouched (state old)) old new
   pub cause : failed ≡ true → HasRisen (state old).failures (state new).failures
+  pub unfailed : failed ≡ false → (state new).failures ≡ (state old).failures
   pub order : SyncsFirst makes old new
 
 -- what a content holds for one guest

@@ -15,7 +15,7 @@ pub record AreSpaces (capacities : List ℕ) (spaces : List Space) : Type 0 wher
 pub record AreSupplies (capacities : List ℕ) (s : Supplies) : Type 0 where
   pub no_guests : s.guests.items ≡ []
   pub no_partitions : s.partitions.items ≡ []
-  pub guest_room : length capacities ≤ vec_capacity s.guests
-  pub partition_room : length capacities ≤ vec_capacity s.partitions
+  pub guest_room : vec_capacity s.guests ≡ length capacities
+  pub partition_room : vec_capacity s.partitions ≡ length capacities
   pub all_spaces : AreSpaces capacities s.spaces.items
   pub payload : length s.buffer.items ≡ 16648

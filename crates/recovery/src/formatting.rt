@@ -113,6 +113,7 @@ pub fn format<D: Disk>(disk: &mut D, board: &BoardConfig) -> Result<(), OpenFaul
     ensures formatted { OnOk result ((D.state disk.old).faithful ≡ true → IsFormatted (capacities_of board.now) (D.state disk.new)) }
     ensures only { (fault : OpenFault) → result ≡ Err fault → fault ≡ OpenFault.DiskFault }
     ensures cause { OnErr result (HasRisen (D.state disk.old).failures (D.state disk.new).failures) }
+    ensures unfailed { OnOk result ((D.state disk.new).failures ≡ (D.state disk.old).failures) }
 
     // However it ends: until a sync succeeds it writes zeros alone, and from then on every stop leaves
     // empty partitions.

@@ -134,6 +134,7 @@ pub fn open<D: Disk>(
     ensures answers { (D.state disk).faithful ≡ true → Answers (capacities_of board.now) (D.state disk).len (D.state disk).seen (outcome_of result) }
     ensures no_memory { IfErr result (λ e. e.1 ≡ OpenFault.NoMemory → e.0 ≡ disk) }
     ensures cause { IfErr result (λ e. e.1 ≡ OpenFault.DiskFault → HasRisen (D.state disk).failures (D.state e.0).failures) }
+    ensures unfailed { is_disk_fault (outcome_of result) ≡ false → (D.state (disk_after result)).failures ≡ (D.state disk).failures }
 
     // The first call is a sync, and only where it succeeded there are others, all of them reads.
     ensures calls { Calls D.makes disk result }

@@ -1,6 +1,6 @@
 //! Images that stops left, and what an opening finds.
 use crate::{OpenFault, format, open};
-use disk::{CutDisk, Disk, Filler};
+use disk::{CutDisk, Disk, Filler, MemDisk};
 use flusher::{Call, Store};
 use intent_slots::{Home, Intent, Layout};
 use rpmb_core::Partition;
@@ -268,6 +268,44 @@ fn other_lengths(rt: HostRuntime) -> Result<(), Fail> {
             Some(fault),
             "{length}"
         );
+    }
+    Ok(())
+}
+
+#[test]
+fn the_largest_partition(rt: HostRuntime) -> Result<(), Fail> {
+    let alloc = rt.alloc();
+    let board = board(alloc, &[1, 128])?;
+    let layout = Layout::of(&board);
+    let content = vec![in alloc; 0xee; layout.length() as usize]?;
+    let mut disk = MemDisk::new(content);
+    if disk.len() == layout.length() {
+        format(&mut disk, &board)?;
+    }
+    match open(alloc, disk, &board) {
+        Ok((_, partitions)) => {
+            let partition = partitions.get(1).ok_or("no partition")?;
+            assert_eq!(rt;
+                (partition.capacity(), partition.key().is_none()),
+                (128, true)
+            );
+            // The last one of 65,536 blocks.
+            assert!(rt; partition.block(65_535) == [0; 256]);
+        }
+        Err((_, fault)) => return Err(fault.into()),
+    }
+    Ok(())
+}
+
+#[test]
+fn faults_print_their_names(rt: HostRuntime) -> Result<(), Fail> {
+    for (fault, name) in [
+        (OpenFault::DiskFault, "DiskFault"),
+        (OpenFault::NoMemory, "NoMemory"),
+        (OpenFault::NotFormatted, "NotFormatted"),
+        (OpenFault::OtherConfig, "OtherConfig"),
+    ] {
+        assert_eq!(rt; format!(in rt.alloc(); "{fault}")?.as_str(), name);
     }
     Ok(())
 }

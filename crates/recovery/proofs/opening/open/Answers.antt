@@ -1,4 +1,4 @@
-use Rattle.std.proofs.Common.{sym, ap, subst, refl, ℕ, List, arith}
+use Rattle.std.proofs.Common.{◌≡◌, sym, ap, subst, refl, ℕ, List, arith}
 use Rattle.std.specs.Prelude.{Err}
 use Rattle.disk.specs.Disk.{Still}
 use Rattle.flusher.specs.declared.guest.Guest.{Guest}
@@ -48,3 +48,8 @@ returns-in-Ok-read_image-clause-calls g c = subst (SyncsFirst g.D.Disk.makes c.a
 
 pub returns-in-Err-clause-calls : goal.returns-in-Err-clause-calls
 returns-in-Err-clause-calls g c = calls_fault g.D.Disk.makes _ _ c.in-Err.fault (λ e. c.in-Err.ensures.memory (ap Err e)) c.in-Err.ensures.opens.order
+
+pub returns-in-Ok-read_image-clause-unfailed : goal.returns-in-Ok-read_image-clause-unfailed
+returns-in-Ok-read_image-clause-unfailed g c none =
+    subst (λ (s : StoreState _). (g.D.Disk.state s.disk).failures ≡ (g.D.Disk.state c.args.disk).failures) (sym c.opened.ensures)
+    (c.in-Ok-read_image.ensures.opens.unfailed refl)

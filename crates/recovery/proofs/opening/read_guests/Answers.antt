@@ -28,7 +28,7 @@ read_guest-requires-clause-size g c =
     fit_first c.args.layout.now c.loop-number.number c.loop-number.spaces.items c.remove-space.result c.loop-number.invariant.fits some c.remove-space.ensures.value
 
 pub returns-in-Err-clause-passes : goal.returns-in-Err-clause-passes
-returns-in-Err-clause-passes g c = pass_on g.D.Disk.state g.D.Disk.makes _ _ _ _ _ c.loop-number.invariant.passes c.in-Err.ensures.passes
+returns-in-Err-clause-passes g c = pass_on g.D.Disk.state g.D.Disk.makes _ _ _ _ c.loop-number.invariant.passes c.in-Err.ensures.passes
 
 pub returns-in-Err-clause-finds : goal.returns-in-Err-clause-finds
 returns-in-Err-clause-finds g c content gives =
@@ -45,7 +45,7 @@ loop-number-preserved g c =
     let more = length-push xs _ c.in-Ok.guest c.push_reserved.ensures.items in
     let same_more = length-push ps _ c.in-Ok.partition c.push_reserved-in-Ok.ensures.items in
     record {
-      passes = pass_on g.D.Disk.state g.D.Disk.makes _ _ _ _ _ v.passes c.in-Ok.ensures.passes;
+      passes = pass_on g.D.Disk.state g.D.Disk.makes _ _ _ _ v.passes c.in-Ok.ensures.passes;
       payload = c.read_guest.auto.buffer ∙ v.payload;
       left = omega (arith, v.left, shorter);
       fits = fit_rest c.args.layout.now c.loop-number.number c.loop-number.spaces.items _ c.remove-space.ensures.items some v.fits;

@@ -16,7 +16,7 @@ returns-then-len-length-clause-opens g c = opens_went g.D.Disk.state g.D.Disk.ma
 
 pub returns-clause-opens : goal.returns-clause-opens
 returns-clause-opens g c = opens_went g.D.Disk.state g.D.Disk.makes g.met.D.Disk.effect _ _ _ _ c.in-Ok.ensures.call
-    (pass_on g.D.Disk.state g.D.Disk.makes _ _ _ _ _ c.in-Ok-read_header.ensures.passes c.read_guests.ensures.passes)
+    (pass_on g.D.Disk.state g.D.Disk.makes _ _ _ _ c.in-Ok-read_header.ensures.passes c.read_guests.ensures.passes)
 
 pub returns-in-Err-read_header-clause-answers : goal.returns-in-Err-read_header-clause-answers
 returns-in-Err-read_header-clause-answers g c content gives =

@@ -7,10 +7,10 @@ pub read-requires : goal.read-requires
 read-requires g c = part_inside c.args.layout.now c.args.number c.gate.result 1 _ 512 c.requires.guest c.requires.room c.gate.ensures.value (omega arith)
 
 pub returns-then-gate-clause-passes : goal.returns-then-gate-clause-passes
-returns-then-gate-clause-passes g c = pass_on g.D.Disk.state g.D.Disk.makes _ _ _ _ _ c.read.ensures.passes c.read_open.ensures.passes
+returns-then-gate-clause-passes g c = pass_on g.D.Disk.state g.D.Disk.makes _ _ _ _ c.in-Ok.ensures.passes c.read_open.ensures.passes
 
 pub returns-else-gate-clause-passes : goal.returns-else-gate-clause-passes
-returns-else-gate-clause-passes g c = pass_on g.D.Disk.state g.D.Disk.makes _ _ _ _ _ c.read.ensures.passes c.read_shut.ensures.passes
+returns-else-gate-clause-passes g c = pass_on g.D.Disk.state g.D.Disk.makes _ _ _ _ c.in-Ok.ensures.passes c.read_shut.ensures.passes
 
 pub returns-then-gate-clause-finds : goal.returns-then-gate-clause-finds
 returns-then-gate-clause-finds g c content gives =

@@ -19,14 +19,14 @@ returns-in_default-clause-finds g c content gives wide =
     c.capacity-capacity.ensures.value (c.in_default.ensures.refused refl) wide
 
 pub returns-in-Err-read_blocks-clause-passes : goal.returns-in-Err-read_blocks-clause-passes
-returns-in-Err-read_blocks-clause-passes g c = pass_on g.D.Disk.state g.D.Disk.makes _ _ _ _ _ c.read.ensures.passes c.in-Err-read_blocks.ensures.passes
+returns-in-Err-read_blocks-clause-passes g c = pass_on g.D.Disk.state g.D.Disk.makes _ _ _ _ c.in-Ok.ensures.passes c.in-Err-read_blocks.ensures.passes
 
 pub returns-clause-passes : goal.returns-clause-passes
-returns-clause-passes g c = pass_on g.D.Disk.state g.D.Disk.makes _ _ _ _ _ c.read.ensures.passes c.in-Ok-read_blocks.ensures.passes
+returns-clause-passes g c = pass_on g.D.Disk.state g.D.Disk.makes _ _ _ _ c.in-Ok.ensures.passes c.in-Ok-read_blocks.ensures.passes
 
 pub returns-clause-begun : goal.returns-clause-begun
 returns-clause-begun g c =
-    begun_open c.args.layout.now c.args.number _ _ _ c.in-Some.intent _ _ _ _ _ _ c.in-Some.ensures.ok.1 c.skipped-done.ensures c.last_sequence-settled.ensures c.key.ensures c.last_counter.ensures
+    begun_open c.args.layout.now c.args.number _ _ _ c.in-Some.intent _ _ _ _ _ _ c.in-Some.ensures.ok.0 c.in-Some.ensures.ok.1 c.skipped-done.ensures c.last_sequence-settled.ensures c.key.ensures c.last_counter.ensures
     c.home-base.ensures.value c.capacity-capacity.ensures.value c.of-partition.ensures
 
 pub returns-clause-finds : goal.returns-clause-finds

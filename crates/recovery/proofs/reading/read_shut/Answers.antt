@@ -18,10 +18,10 @@ returns-in_default-clause-finds g c content gives shut =
     no_home c.args.layout.now c.args.number content _ _ c.home.ensures.value (c.in-Ok.ensures.bytes content gives) (c.in_default.ensures.refused refl) shut
 
 pub returns-in-Err-read_blocks-clause-passes : goal.returns-in-Err-read_blocks-clause-passes
-returns-in-Err-read_blocks-clause-passes g c = pass_on g.D.Disk.state g.D.Disk.makes _ _ _ _ _ c.read.ensures.passes c.in-Err-read_blocks.ensures.passes
+returns-in-Err-read_blocks-clause-passes g c = pass_on g.D.Disk.state g.D.Disk.makes _ _ _ _ c.in-Ok.ensures.passes c.in-Err-read_blocks.ensures.passes
 
 pub returns-clause-passes : goal.returns-clause-passes
-returns-clause-passes g c = pass_on g.D.Disk.state g.D.Disk.makes _ _ _ _ _ c.read.ensures.passes c.in-Ok-read_blocks.ensures.passes
+returns-clause-passes g c = pass_on g.D.Disk.state g.D.Disk.makes _ _ _ _ c.in-Ok.ensures.passes c.in-Ok-read_blocks.ensures.passes
 
 pub returns-clause-begun : goal.returns-clause-begun
 returns-clause-begun g c =
