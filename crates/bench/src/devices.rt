@@ -83,8 +83,8 @@ pub struct Guest {
     runner: Runner,
 }
 
-/// A guest whose device is in service, with its key.
-pub fn new_guest(alloc: Global) -> Result<Guest> {
+/// A guest whose device is in service.
+fn guest_in_service(alloc: Global) -> Result<Guest> {
     let config = GuestConfig::of_capacity(1);
     let board = BoardConfig::new(vec![in alloc; config; 1]?)?;
     let (Ok(mut device), Ok(mut driver)) = (
@@ -97,26 +97,37 @@ pub fn new_guest(alloc: Global) -> Result<Guest> {
         bail!("no queue");
     }
     let runner = Runner::new(alloc, &board)?;
-    let mut guest = Guest {
+    Ok(Guest {
         device,
         driver,
         runner,
-    };
-    let key = Frame::zeros()
-        .with_key_mac(&KEY)
-        .with_block_count(1)
-        .with_req_resp(PROGRAM_KEY);
-    let mut request = Vec::from_slice(alloc, key.to_bytes().as_slice())?;
-    let closing = Frame::zeros().with_req_resp(RESULT_READ);
-    request.extend_from_slice(closing.to_bytes().as_slice())?;
-    let reply = guest.reply(alloc, request.as_slice(), 512)?;
-    if !reply.ends_with(&[0, 0, 1, 0]) {
-        bail!("no key");
-    }
+    })
+}
+
+/// A guest whose device is in service, with its key.
+pub fn new_guest(alloc: Global) -> Result<Guest> {
+    let mut guest = guest_in_service(alloc)?;
+    guest.program_key(alloc)?;
     Ok(guest)
 }
 
 impl Guest {
+    /// Programs the key.
+    fn program_key(&mut self, alloc: Global) -> Result<()> {
+        let frame = Frame::zeros()
+            .with_key_mac(&KEY)
+            .with_block_count(1)
+            .with_req_resp(PROGRAM_KEY);
+        let mut request = Vec::from_slice(alloc, frame.to_bytes().as_slice())?;
+        let closing = Frame::zeros().with_req_resp(RESULT_READ);
+        request.extend_from_slice(closing.to_bytes().as_slice())?;
+        let reply = self.reply(alloc, request.as_slice(), 512)?;
+        if !reply.ends_with(&[0, 0, 1, 0]) {
+            bail!("no key");
+        }
+        Ok(())
+    }
+
     /// Offers the device a request.
     fn offer(&mut self, request: &[u8], writable: u32) -> Result<()>
         requires some { 0 < writable }

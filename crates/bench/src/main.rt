@@ -58,7 +58,7 @@ fn time_macs(rt: &HostRuntime, count: u32) -> Result<()> {
 
 /// Times so many requests for the counter from each guest of a board, and so many writes from each of
 /// another.
-fn time_part(
+fn time_loads(
     rt: &HostRuntime,
     counted: &mut Runner,
     written: &mut Runner,
@@ -70,24 +70,26 @@ fn time_part(
     let start = Instant::now(rt)?;
     let write = writes(rt.alloc(), written, GUESTS, part)?;
     let writes_took = start.elapsed(rt)?;
-    let each_counter = each(counters_took, part.saturating_mul(64));
-    let each_write = each(writes_took, part.saturating_mul(64));
+    let each_counter = each(counters_took, part) / u128::from(GUESTS);
+    let each_write = each(writes_took, part) / u128::from(GUESTS);
     println!(rt;
         "{part} a guest: counter {each_counter} ns, write {each_write} ns; {counter} {write}"
     )?;
     Ok(())
 }
 
+fn time_part(rt: &HostRuntime, board: &BoardConfig, part: u32) -> Result<()> {
+    let mut counted = keyed(rt.alloc(), board)?;
+    let mut written = keyed(rt.alloc(), board)?;
+    time_loads(rt, &mut counted, &mut written, part)
+}
+
 /// A history holds 16,384 requests, and so COUNT is at most 255.
 fn time_requests(rt: &HostRuntime, count: u32) -> Result<()> {
     let board = board(rt.alloc())?;
     // Half the load first: where time grows with the requests alone, each takes as long in both.
-    for part in [count / 2, count] {
-        let mut counted = keyed(rt.alloc(), &board)?;
-        let mut written = keyed(rt.alloc(), &board)?;
-        time_part(rt, &mut counted, &mut written, part)?;
-    }
-    Ok(())
+    time_part(rt, &board, count / 2)?;
+    time_part(rt, &board, count)
 }
 
 /// Times chains of 8,704 bytes that are popped and published, and copies of as many bytes.
@@ -114,7 +116,7 @@ fn time_rings(rt: &HostRuntime, count: u32) -> Result<()> {
 
 /// As many MACs as so many requests of a kind need, each of as many frames.
 fn needed_macs(kind: Kind, count: u32) -> u8 {
-    let calls = count.saturating_mul(kind.macs());
+    let calls = count.wrapping_mul(kind.macs());
     match kind {
         Kind::Counter | Kind::Write => keyed_macs(calls, 1),
         Kind::Read => keyed_macs(calls, 16),
@@ -122,7 +124,7 @@ fn needed_macs(kind: Kind, count: u32) -> u8 {
 }
 
 /// Times so many requests of a kind from their offer to their reap, and the MACs that they need.
-fn time_kind(
+fn time_whole(
     rt: &HostRuntime,
     guest: &mut Guest,
     kind: Kind,
@@ -145,12 +147,16 @@ fn time_kind(
     Ok(())
 }
 
+fn time_kind(rt: &HostRuntime, kind: Kind, count: u32) -> Result<()> {
+    let mut guest = new_guest(rt.alloc())?;
+    let requests = requests_of(rt.alloc(), kind, count)?;
+    time_whole(rt, &mut guest, kind, requests.as_slice(), count)
+}
+
 /// A history holds 16,384 requests, one of which programs the key, and so COUNT is at most 16,383.
 fn time_device(rt: &HostRuntime, count: u32) -> Result<()> {
     for kind in KINDS {
-        let mut guest = new_guest(rt.alloc())?;
-        let requests = requests_of(rt.alloc(), kind, count)?;
-        time_kind(rt, &mut guest, kind, requests.as_slice(), count)?;
+        time_kind(rt, kind, count)?;
     }
     Ok(())
 }
@@ -266,13 +272,18 @@ fn few_chains(alloc: Global) -> Result<u32> {
     Ok(popped ^ copies(alloc, 3)?)
 }
 
+/// Two whole requests of a kind.
+fn few_of_kind(alloc: Global, kind: Kind) -> Result<u32> {
+    let requests = requests_of(alloc, kind, 2)?;
+    let mut guest = new_guest(alloc)?;
+    whole(alloc, &mut guest, kind, requests.as_slice())
+}
+
 /// Two whole requests of each kind.
 fn few_requests(alloc: Global) -> Result<u32> {
     let mut answered = 0u32;
     for kind in KINDS {
-        let requests = requests_of(alloc, kind, 2)?;
-        let mut guest = new_guest(alloc)?;
-        answered ^= whole(alloc, &mut guest, kind, requests.as_slice())?;
+        answered ^= few_of_kind(alloc, kind)?;
     }
     Ok(answered)
 }
