@@ -188,17 +188,20 @@ fn settle_writes(rt: &HostRuntime, count: u32) -> Result<(Duration, Calls)> {
     Ok((took, calls))
 }
 
-/// Times the settling of writes of 64 guests, and the same calls made to the disk itself.
-fn time_store(rt: &HostRuntime, count: u32) -> Result<()> {
-    let alloc = rt.alloc();
-    let (took, calls) = settle_writes(rt, count)?;
-    let board = board(alloc)?;
-    let mut disk = new_disk(alloc, &board)?;
+/// Makes the calls of so many writes of each guest to a disk itself; answers the time.
+fn puts(rt: &HostRuntime, board: &BoardConfig, count: u32) -> Result<Duration> {
+    let mut disk = new_disk(rt.alloc(), board)?;
     let start = Instant::now(rt)?;
     for _ in 0..count {
-        put_writes(&mut disk, &board)?;
+        put_writes(&mut disk, board)?;
     }
-    let own_took = start.elapsed(rt)?;
+    Ok(start.elapsed(rt)?)
+}
+
+/// Times the settling of writes of 64 guests, and the same calls made to the disk itself.
+fn time_store(rt: &HostRuntime, count: u32) -> Result<()> {
+    let (took, calls) = settle_writes(rt, count)?;
+    let own_took = puts(rt, &board(rt.alloc())?, count)?;
     let percent = took.as_nanos() * 100 / own_took.as_nanos().max(1);
     println!(rt;
         "64 writes: {} calls, {} syncs, {} ns, {} ns on the disk itself, {percent} percent",
@@ -226,18 +229,22 @@ fn openings(rt: &HostRuntime, board: &BoardConfig, count: u32) -> Result<Duratio
     Ok(took)
 }
 
-/// Times openings of an image of 64 guests, and reads of all its bytes.
-fn time_open(rt: &HostRuntime, count: u32) -> Result<()> {
-    let alloc = rt.alloc();
-    let board = board(alloc)?;
-    let took = openings(rt, &board, count)?;
-    let mut disk = new_disk(alloc, &board)?;
-    let mut bytes = vec![in alloc; 0u8; disk.content().len()]?;
+/// Reads all bytes of the image of a board so many times; answers the time.
+fn reads(rt: &HostRuntime, board: &BoardConfig, count: u32) -> Result<Duration> {
+    let mut disk = new_disk(rt.alloc(), board)?;
+    let mut bytes = vec![in rt.alloc(); 0u8; disk.content().len()]?;
     let start = Instant::now(rt)?;
     for _ in 0..count {
         read_all(&mut disk, &mut bytes)?;
     }
-    let read_took = start.elapsed(rt)?;
+    Ok(start.elapsed(rt)?)
+}
+
+/// Times openings of an image of 64 guests, and reads of all its bytes.
+fn time_open(rt: &HostRuntime, count: u32) -> Result<()> {
+    let board = board(rt.alloc())?;
+    let took = openings(rt, &board, count)?;
+    let read_took = reads(rt, &board, count)?;
     let percent = took.as_nanos() * 100 / read_took.as_nanos().max(1);
     println!(rt;
         "open {} ns, one read of its bytes {} ns, {percent} percent",
