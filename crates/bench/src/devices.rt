@@ -83,12 +83,13 @@ pub struct Guest {
     runner: Runner,
 }
 
-/// A guest whose device is in service, with its key.
-pub fn new_guest(alloc: Global, config: &GuestConfig) -> Result<Guest> {
-    let board = BoardConfig::new(vec![in alloc; *config; 1]?)?;
+/// A guest whose device is in service.
+fn guest_in_service(alloc: Global) -> Result<Guest> {
+    let config = GuestConfig::of_capacity(1);
+    let board = BoardConfig::new(vec![in alloc; config; 1]?)?;
     let (Ok(mut device), Ok(mut driver)) = (
-        Device::new(alloc, 0, config),
-        Driver::new(alloc, config),
+        Device::new(alloc, 0, &config),
+        Driver::new(alloc, &config),
     ) else {
         bail!("no device");
     };
@@ -96,49 +97,70 @@ pub fn new_guest(alloc: Global, config: &GuestConfig) -> Result<Guest> {
         bail!("no queue");
     }
     let runner = Runner::new(alloc, &board)?;
-    let mut guest = Guest {
+    Ok(Guest {
         device,
         driver,
         runner,
-    };
-    let key = Frame::zeros()
-        .with_key_mac(&KEY)
-        .with_block_count(1)
-        .with_req_resp(PROGRAM_KEY);
-    let mut request = Vec::from_slice(alloc, key.to_bytes().as_slice())?;
-    let closing = Frame::zeros().with_req_resp(RESULT_READ);
-    request.extend_from_slice(closing.to_bytes().as_slice())?;
-    let reply = guest.reply(alloc, request.as_slice(), 512)?;
-    if !reply.ends_with(&[0, 0, 1, 0]) {
-        bail!("no key");
-    }
+    })
+}
+
+/// A guest whose device is in service, with its key.
+pub fn new_guest(alloc: Global) -> Result<Guest> {
+    let mut guest = guest_in_service(alloc)?;
+    guest.program_key(alloc)?;
     Ok(guest)
 }
 
 impl Guest {
-    /// Takes a request from its offer to its reap.
-    fn reply(&mut self, alloc: Global, request: &[u8], writable: u32) -> Result<Vec<u8>>
+    /// Programs the key.
+    fn program_key(&mut self, alloc: Global) -> Result<()> {
+        let frame = Frame::zeros()
+            .with_key_mac(&KEY)
+            .with_block_count(1)
+            .with_req_resp(PROGRAM_KEY);
+        let mut request = Vec::from_slice(alloc, frame.to_bytes().as_slice())?;
+        let closing = Frame::zeros().with_req_resp(RESULT_READ);
+        request.extend_from_slice(closing.to_bytes().as_slice())?;
+        let reply = self.reply(alloc, request.as_slice(), 512)?;
+        if !reply.ends_with(&[0, 0, 1, 0]) {
+            bail!("no key");
+        }
+        Ok(())
+    }
+
+    /// Offers the device a request.
+    fn offer(&mut self, request: &[u8], writable: u32) -> Result<()>
         requires some { 0 < writable }
         requires most { writable ≤ 8192 }
     {
         if request.len() > LONGEST {
             bail!("too long a request");
         }
-        if self
-            .driver
-            .offer(&mut self.device, request, writable)
-            .is_err()
-        {
-            bail!("no room for the chain");
+        match self.driver.offer(&mut self.device, request, writable) {
+            Ok(_) => Ok(()),
+            Err(_) => bail!("no room for the chain"),
         }
+    }
+
+    /// Publishes the answer to the chain that the device gives next.
+    fn serve(&mut self, alloc: Global) -> Result<()> {
         let Ok(Some(job)) = self.device.pop() else {
             bail!("no chain");
         };
         let done = self.runner.answer(alloc, job)?;
         match self.device.publish(done) {
-            Published::Wrote { .. } => {}
+            Published::Wrote { .. } => Ok(()),
             Published::Dropped => bail!("no outstanding chain"),
         }
+    }
+
+    /// Takes a request from its offer to its reap.
+    fn reply(&mut self, alloc: Global, request: &[u8], writable: u32) -> Result<Vec<u8>>
+        requires some { 0 < writable }
+        requires most { writable ≤ 8192 }
+    {
+        self.offer(request, writable)?;
+        self.serve(alloc)?;
         match self.driver.reap(&self.device) {
             Ok(Some(reaped)) => Ok(reaped.bytes),
             _ => bail!("nothing came back"),

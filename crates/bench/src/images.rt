@@ -6,7 +6,7 @@ use anyhow::{Result, bail};
 use disk::{Disk, MemDisk};
 use flusher::{Progress, Store};
 use intent_slots::{Intent, Layout, Side};
-use recovery::open;
+use recovery::{format, open};
 use rpmb_frame::BoardConfig;
 use std::alloc::Global;
 
@@ -17,22 +17,15 @@ pub struct Calls {
     pub syncs: u32,
 }
 
-/// The image of a board, in which no partition has a key.
-fn image(alloc: Global, board: &BoardConfig) -> Result<Vec<u8>> {
-    let layout = Layout::of(board);
-    let mut bytes = vec![in alloc; 0u8; layout.length() as usize]?;
-    let header = layout.header();
-    let front = header.as_slice();
-    if front.len() > bytes.len() {
-        bail!("an image without room for its header");
-    }
-    bytes[..front.len()].copy_from_slice(front);
-    Ok(bytes)
-}
-
-/// A disk with the image of a board.
+/// A disk with the fresh image of a board.
 pub fn new_disk(alloc: Global, board: &BoardConfig) -> Result<MemDisk> {
-    Ok(MemDisk::new(image(alloc, board)?))
+    let length = Layout::of(board).length();
+    let mut disk = MemDisk::new(vec![in alloc; 0u8; length as usize]?);
+    if disk.len() != length {
+        bail!("a disk of another length than its image");
+    }
+    format(&mut disk, board)?;
+    Ok(disk)
 }
 
 /// The store over the image of a board.
@@ -108,10 +101,11 @@ fn put(disk: &mut MemDisk, at: u64, bytes: &[u8]) -> Result<()> {
 fn put_write(disk: &mut MemDisk, layout: &Layout, guest: u16) -> Result<()>
     requires { guest < length layout.now }
 {
-    put(disk, layout.payload(Side::A, guest), &[0x5a; 328])?;
+    let bytes = [0x5au8; 328];
+    put(disk, layout.payload(Side::A, guest), &bytes)?;
     put(disk, layout.gate(Side::A, guest), &[0xA5])?;
-    put(disk, layout.blocks(guest), &[0x5a; 256])?;
-    put(disk, layout.home(guest), &[0x5a; 64])?;
+    put(disk, layout.blocks(guest), &bytes[..256])?;
+    put(disk, layout.home(guest), &bytes[..64])?;
     put(disk, layout.gate(Side::A, guest), &[0])
 }
 
@@ -121,6 +115,10 @@ pub fn put_writes(disk: &mut MemDisk, board: &BoardConfig) -> Result<()> {
     for guest in 0..layout.guests() {
         put_write(disk, &layout, guest as u16)?;
     }
+    sync_four_times(disk)
+}
+
+fn sync_four_times(disk: &mut MemDisk) -> Result<()> {
     for _ in 0..4 {
         if disk.sync().is_err() {
             bail!("a failed sync");

@@ -1,3 +1,5 @@
+ghost use Rattle.std.specs.Prelude.{◌≤◌};
+
 use hmac256::{MacKey, mac_of};
 
 const KEY: [u8; 32] = [0x11; 32];
@@ -13,15 +15,16 @@ pub fn plain_macs(count: u32) -> u8 {
     all
 }
 
-/// So many MACs of these frames, with the pads hashed once.
-pub fn keyed_macs(count: u32, frames: &mut [[u8; 512]]) -> u8 {
+/// So many MACs of this many frames, with the pads hashed once; the answer is their first bytes, mixed.
+pub fn keyed_macs(count: u32, frames: usize) -> u8
+    requires { frames ≤ 16 }
+{
     let key = MacKey::new(&KEY);
+    let mut sealed = [[0x5au8; 512]; 16];
     let mut all = 0u8;
     for _ in 0..count {
-        if let Some(frame) = frames.first_mut() {
-            frame[228] = all;
-        }
-        all ^= key.mac(frames)[0];
+        sealed[0][228] = all;
+        all ^= key.mac(&sealed[..frames])[0];
     }
     all
 }

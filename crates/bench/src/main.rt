@@ -12,37 +12,27 @@ mod requests;
 mod rings;
 
 use anyhow::{Context, Result, bail};
-use devices::{Kind, new_guest, requests_of, whole};
+use devices::{Guest, Kind, new_guest, requests_of, whole};
+use disk::MemDisk;
+use flusher::Store;
 use images::{Calls, give_keys, give_writes, new_disk, new_store, put_writes, read_all, settle};
 use macs::{keyed_macs, plain_macs};
 use recovery::open;
 use requests::{counters, keyed, writes};
-use rings::{chains, copies, new_queue};
-use rpmb_frame::{BoardConfig, GuestConfig, RingKind};
+use rings::{Queue, chains, copies, new_queue};
+use rpmb_frame::{BoardConfig, GuestConfig};
+use runner::Runner;
 use std::alloc::Global;
 use std::env;
 use std::time::{Duration, Instant};
-
-const GUEST: GuestConfig = GuestConfig {
-    capacity: 1,
-    max_wr_cnt: 16,
-    max_rd_cnt: 16,
-    memory: 1_048_576,
-    queue: 16,
-    ring: RingKind::Split,
-    indirect: false,
-    event_idx: true,
-};
 
 const GUESTS: u16 = 64;
 
 const KINDS: [Kind; 3] = [Kind::Counter, Kind::Write, Kind::Read];
 
-/// A frame to be sealed.
-const FRAME: [u8; 512] = [0x5a; 512];
-
 fn board(alloc: Global) -> Result<BoardConfig> {
-    Ok(BoardConfig::new(vec![in alloc; GUEST; usize::from(GUESTS)]?)?)
+    let guest = GuestConfig::of_capacity(1);
+    Ok(BoardConfig::new(vec![in alloc; guest; usize::from(GUESTS)]?)?)
 }
 
 /// Nanoseconds for each of so many.
@@ -55,7 +45,7 @@ fn time_macs(rt: &HostRuntime, count: u32) -> Result<()> {
     let plain = plain_macs(count);
     let plain_took = start.elapsed(rt)?;
     let start = Instant::now(rt)?;
-    let keyed = keyed_macs(count, &mut [FRAME]);
+    let keyed = keyed_macs(count, 1);
     let keyed_took = start.elapsed(rt)?;
     let percent = keyed_took.as_nanos() * 100 / plain_took.as_nanos().max(1);
     println!(rt;
@@ -66,39 +56,49 @@ fn time_macs(rt: &HostRuntime, count: u32) -> Result<()> {
     Ok(())
 }
 
-/// A history holds 16,384 requests, and so COUNT is at most 255.
-fn time_requests(rt: &HostRuntime, count: u32) -> Result<()> {
-    let alloc = rt.alloc();
-    // Half the load first: where time grows with the requests alone, each takes as long in both.
-    for part in [count / 2, count] {
-        let (mut counted, mut written) = (
-            keyed(alloc, &board(alloc)?)?,
-            keyed(alloc, &board(alloc)?)?,
-        );
-        let start = Instant::now(rt)?;
-        let counter = counters(alloc, &mut counted, GUESTS, part)?;
-        let counters_took = start.elapsed(rt)?;
-        let start = Instant::now(rt)?;
-        let write = writes(alloc, &mut written, GUESTS, part)?;
-        let writes_took = start.elapsed(rt)?;
-        let each_counter = each(counters_took, part.saturating_mul(64));
-        let each_write = each(writes_took, part.saturating_mul(64));
-        println!(rt;
-            "{part} a guest: counter {each_counter} ns, write {each_write} ns; {counter} {write}"
-        )?;
-    }
+/// Times so many requests for the counter from each guest of a board, and so many writes from each of
+/// another.
+fn time_loads(
+    rt: &HostRuntime,
+    counted: &mut Runner,
+    written: &mut Runner,
+    part: u32,
+) -> Result<()> {
+    let start = Instant::now(rt)?;
+    let counter = counters(rt.alloc(), counted, GUESTS, part)?;
+    let counters_took = start.elapsed(rt)?;
+    let start = Instant::now(rt)?;
+    let write = writes(rt.alloc(), written, GUESTS, part)?;
+    let writes_took = start.elapsed(rt)?;
+    let each_counter = each(counters_took, part) / u128::from(GUESTS);
+    let each_write = each(writes_took, part) / u128::from(GUESTS);
+    println!(rt;
+        "{part} a guest: counter {each_counter} ns, write {each_write} ns; {counter} {write}"
+    )?;
     Ok(())
 }
 
+fn time_part(rt: &HostRuntime, board: &BoardConfig, part: u32) -> Result<()> {
+    let mut counted = keyed(rt.alloc(), board)?;
+    let mut written = keyed(rt.alloc(), board)?;
+    time_loads(rt, &mut counted, &mut written, part)
+}
+
+/// A history holds 16,384 requests, and so COUNT is at most 255.
+fn time_requests(rt: &HostRuntime, count: u32) -> Result<()> {
+    let board = board(rt.alloc())?;
+    // Half the load first: where time grows with the requests alone, each takes as long in both.
+    time_part(rt, &board, count / 2)?;
+    time_part(rt, &board, count)
+}
+
 /// Times chains of 8,704 bytes that are popped and published, and copies of as many bytes.
-fn time_rings(rt: &HostRuntime, count: u32) -> Result<()> {
-    let alloc = rt.alloc();
-    let mut queue = new_queue(alloc)?;
+fn time_chains(rt: &HostRuntime, queue: &mut Queue, count: u32) -> Result<()> {
     let start = Instant::now(rt)?;
-    let copied = copies(alloc, count)?;
+    let copied = copies(rt.alloc(), count)?;
     let copied_took = start.elapsed(rt)?;
     let start = Instant::now(rt)?;
-    let popped = chains(alloc, &mut queue, count)?;
+    let popped = chains(rt.alloc(), queue, count)?;
     let popped_took = start.elapsed(rt)?;
     let percent = popped_took.as_nanos() * 100 / copied_took.as_nanos().max(1);
     println!(rt;
@@ -109,37 +109,68 @@ fn time_rings(rt: &HostRuntime, count: u32) -> Result<()> {
     Ok(())
 }
 
+fn time_rings(rt: &HostRuntime, count: u32) -> Result<()> {
+    let mut queue = new_queue(rt.alloc())?;
+    time_chains(rt, &mut queue, count)
+}
+
 /// As many MACs as so many requests of a kind need, each of as many frames.
 fn needed_macs(kind: Kind, count: u32) -> u8 {
-    let calls = count.saturating_mul(kind.macs());
+    let calls = count.wrapping_mul(kind.macs());
     match kind {
-        Kind::Counter | Kind::Write => keyed_macs(calls, &mut [FRAME]),
-        Kind::Read => keyed_macs(calls, &mut [FRAME; 16]),
+        Kind::Counter | Kind::Write => keyed_macs(calls, 1),
+        Kind::Read => keyed_macs(calls, 16),
     }
 }
 
-/// Times requests from their offer to their reap, and the MACs that they need. A history holds 16,384
-/// requests, one of which programs the key, and so COUNT is at most 16,383.
+/// Times so many requests of a kind from their offer to their reap, and the MACs that they need.
+fn time_whole(
+    rt: &HostRuntime,
+    guest: &mut Guest,
+    kind: Kind,
+    requests: &[Vec<u8>],
+    count: u32,
+) -> Result<()> {
+    let start = Instant::now(rt)?;
+    let answered = whole(rt.alloc(), guest, kind, requests)?;
+    let took = start.elapsed(rt)?;
+    let start = Instant::now(rt)?;
+    let macs = needed_macs(kind, count);
+    let macs_took = start.elapsed(rt)?;
+    let percent = took.as_nanos() * 100 / macs_took.as_nanos().max(1);
+    println!(rt;
+        "{}: {} ns, its MACs {} ns, {percent} percent; {answered} {macs}",
+        kind.name(),
+        each(took, count),
+        each(macs_took, count)
+    )?;
+    Ok(())
+}
+
+fn time_kind(rt: &HostRuntime, kind: Kind, count: u32) -> Result<()> {
+    let mut guest = new_guest(rt.alloc())?;
+    let requests = requests_of(rt.alloc(), kind, count)?;
+    time_whole(rt, &mut guest, kind, requests.as_slice(), count)
+}
+
+/// A history holds 16,384 requests, one of which programs the key, and so COUNT is at most 16,383.
 fn time_device(rt: &HostRuntime, count: u32) -> Result<()> {
-    let alloc = rt.alloc();
     for kind in KINDS {
-        let mut guest = new_guest(alloc, &GUEST)?;
-        let requests = requests_of(alloc, kind, count)?;
-        let start = Instant::now(rt)?;
-        let answered = whole(alloc, &mut guest, kind, requests.as_slice())?;
-        let took = start.elapsed(rt)?;
-        let start = Instant::now(rt)?;
-        let macs = needed_macs(kind, count);
-        let macs_took = start.elapsed(rt)?;
-        let percent = took.as_nanos() * 100 / macs_took.as_nanos().max(1);
-        println!(rt;
-            "{}: {} ns, its MACs {} ns, {percent} percent; {answered} {macs}",
-            kind.name(),
-            each(took, count),
-            each(macs_took, count)
-        )?;
+        time_kind(rt, kind, count)?;
     }
     Ok(())
+}
+
+/// Settles a write of each guest, which leaves this write counter; answers the time, and the calls.
+fn settle_write(
+    rt: &HostRuntime,
+    store: &mut Store<MemDisk>,
+    counter: u32,
+) -> Result<(Duration, Calls)> {
+    give_writes(rt.alloc(), store, GUESTS, counter)?;
+    let start = Instant::now(rt)?;
+    let calls = settle(store)?;
+    Ok((start.elapsed(rt)?, calls))
 }
 
 /// Settles so many writes of each guest; answers the time, and the calls of the last ones.
@@ -150,25 +181,27 @@ fn settle_writes(rt: &HostRuntime, count: u32) -> Result<(Duration, Calls)> {
     let mut calls = settle(&mut store)?;
     let mut took = Duration::from_nanos(0);
     for counter in 0..count {
-        give_writes(alloc, &mut store, GUESTS, counter.wrapping_add(1))?;
-        let start = Instant::now(rt)?;
-        calls = settle(&mut store)?;
-        took = took.saturating_add(start.elapsed(rt)?);
+        let (more, made) = settle_write(rt, &mut store, counter.wrapping_add(1))?;
+        took = took.saturating_add(more);
+        calls = made;
     }
     Ok((took, calls))
 }
 
-/// Times the settling of writes of 64 guests, and the same calls made to the disk itself.
-fn time_store(rt: &HostRuntime, count: u32) -> Result<()> {
-    let alloc = rt.alloc();
-    let (took, calls) = settle_writes(rt, count)?;
-    let board = board(alloc)?;
-    let mut disk = new_disk(alloc, &board)?;
+/// Makes the calls of so many writes of each guest to a disk itself; answers the time.
+fn puts(rt: &HostRuntime, board: &BoardConfig, count: u32) -> Result<Duration> {
+    let mut disk = new_disk(rt.alloc(), board)?;
     let start = Instant::now(rt)?;
     for _ in 0..count {
-        put_writes(&mut disk, &board)?;
+        put_writes(&mut disk, board)?;
     }
-    let own_took = start.elapsed(rt)?;
+    Ok(start.elapsed(rt)?)
+}
+
+/// Times the settling of writes of 64 guests, and the same calls made to the disk itself.
+fn time_store(rt: &HostRuntime, count: u32) -> Result<()> {
+    let (took, calls) = settle_writes(rt, count)?;
+    let own_took = puts(rt, &board(rt.alloc())?, count)?;
     let percent = took.as_nanos() * 100 / own_took.as_nanos().max(1);
     println!(rt;
         "64 writes: {} calls, {} syncs, {} ns, {} ns on the disk itself, {percent} percent",
@@ -196,18 +229,22 @@ fn openings(rt: &HostRuntime, board: &BoardConfig, count: u32) -> Result<Duratio
     Ok(took)
 }
 
-/// Times openings of an image of 64 guests, and reads of all its bytes.
-fn time_open(rt: &HostRuntime, count: u32) -> Result<()> {
-    let alloc = rt.alloc();
-    let board = board(alloc)?;
-    let took = openings(rt, &board, count)?;
-    let mut disk = new_disk(alloc, &board)?;
-    let mut bytes = vec![in alloc; 0u8; disk.content().len()]?;
+/// Reads all bytes of the image of a board so many times; answers the time.
+fn reads(rt: &HostRuntime, board: &BoardConfig, count: u32) -> Result<Duration> {
+    let mut disk = new_disk(rt.alloc(), board)?;
+    let mut bytes = vec![in rt.alloc(); 0u8; disk.content().len()]?;
     let start = Instant::now(rt)?;
     for _ in 0..count {
         read_all(&mut disk, &mut bytes)?;
     }
-    let read_took = start.elapsed(rt)?;
+    Ok(start.elapsed(rt)?)
+}
+
+/// Times openings of an image of 64 guests, and reads of all its bytes.
+fn time_open(rt: &HostRuntime, count: u32) -> Result<()> {
+    let board = board(rt.alloc())?;
+    let took = openings(rt, &board, count)?;
+    let read_took = reads(rt, &board, count)?;
     let percent = took.as_nanos() * 100 / read_took.as_nanos().max(1);
     println!(rt;
         "open {} ns, one read of its bytes {} ns, {percent} percent",
@@ -242,13 +279,18 @@ fn few_chains(alloc: Global) -> Result<u32> {
     Ok(popped ^ copies(alloc, 3)?)
 }
 
+/// Two whole requests of a kind.
+fn few_of_kind(alloc: Global, kind: Kind) -> Result<u32> {
+    let requests = requests_of(alloc, kind, 2)?;
+    let mut guest = new_guest(alloc)?;
+    whole(alloc, &mut guest, kind, requests.as_slice())
+}
+
 /// Two whole requests of each kind.
 fn few_requests(alloc: Global) -> Result<u32> {
     let mut answered = 0u32;
     for kind in KINDS {
-        let requests = requests_of(alloc, kind, 2)?;
-        let mut guest = new_guest(alloc, &GUEST)?;
-        answered ^= whole(alloc, &mut guest, kind, requests.as_slice())?;
+        answered ^= few_of_kind(alloc, kind)?;
     }
     Ok(answered)
 }
@@ -256,7 +298,7 @@ fn few_requests(alloc: Global) -> Result<u32> {
 /// What the gate runs: a few of each, with no times.
 fn checksums(rt: &HostRuntime) -> Result<()> {
     let alloc = rt.alloc();
-    let macs = plain_macs(3) ^ keyed_macs(4, &mut [FRAME]);
+    let macs = plain_macs(3) ^ keyed_macs(4, 1);
     let (counter, write) = few_answers(alloc)?;
     let ring = few_chains(alloc)?;
     let device = few_requests(alloc)?;

@@ -22,6 +22,21 @@ fn asked(alloc: Global, runner: &mut Runner, guest: u16, request: &[u8]) -> Resu
     Ok(done.reply().iter().fold(0, |all, byte| all ^ *byte))
 }
 
+/// Asks each guest for the same; the answer is what was mixed before, and the bytes of the replies.
+fn asked_each(
+    alloc: Global,
+    runner: &mut Runner,
+    guests: u16,
+    request: &[u8],
+    before: u32,
+) -> Result<u32> {
+    let mut all = before;
+    for guest in 0..guests {
+        all = mixed(all, asked(alloc, runner, guest, request)?);
+    }
+    Ok(all)
+}
+
 /// The guests of a board, each with its key.
 pub fn keyed(alloc: Global, board: &BoardConfig) -> Result<Runner> {
     let mut runner = Runner::new(alloc, board)?;
@@ -43,9 +58,7 @@ pub fn counters(alloc: Global, runner: &mut Runner, guests: u16, count: u32) -> 
     let request = frame.to_bytes();
     let mut all = 0u32;
     for _ in 0..count {
-        for guest in 0..guests {
-            all = mixed(all, asked(alloc, runner, guest, &request)?);
-        }
+        all = asked_each(alloc, runner, guests, &request, all)?;
     }
     Ok(all)
 }
@@ -69,9 +82,7 @@ pub fn writes(alloc: Global, runner: &mut Runner, guests: u16, count: u32) -> Re
     let mut all = 0u32;
     for counter in 0..count {
         let request = write(alloc, counter)?;
-        for guest in 0..guests {
-            all = mixed(all, asked(alloc, runner, guest, &request)?);
-        }
+        all = asked_each(alloc, runner, guests, request.as_slice(), all)?;
     }
     Ok(all)
 }

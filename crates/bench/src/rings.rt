@@ -2,23 +2,19 @@
 use anyhow::{Result, bail};
 use guest_driver::Driver;
 use mmio_transport::{Device, Done, Published};
-use rpmb_frame::{DriverLayout, GuestConfig, RingKind};
+use rpmb_frame::{DriverLayout, GuestConfig};
 use std::alloc::Global;
 
 /// The bytes of the largest request.
 const LENGTH: usize = 8704;
 
 /// A guest with the largest memory.
-const GUEST: GuestConfig = GuestConfig {
-    capacity: 1,
-    max_wr_cnt: 16,
-    max_rd_cnt: 16,
-    memory: 67_108_864,
-    queue: 16,
-    ring: RingKind::Split,
-    indirect: false,
-    event_idx: true,
-};
+fn guest() -> GuestConfig {
+    GuestConfig {
+        memory: 67_108_864,
+        ..GuestConfig::of_capacity(1)
+    }
+}
 
 /// A device, and a chain of two descriptors that stands at each place of its available ring.
 #[derive(Drop)]
@@ -30,9 +26,10 @@ pub struct Queue {
 
 /// A queue of which nothing was popped.
 pub fn new_queue(alloc: Global) -> Result<Queue> {
+    let guest = guest();
     let (Ok(mut device), Ok(mut driver)) = (
-        Device::new(alloc, 0, &GUEST),
-        Driver::new(alloc, &GUEST),
+        Device::new(alloc, 0, &guest),
+        Driver::new(alloc, &guest),
     ) else {
         bail!("no device");
     };
@@ -40,10 +37,11 @@ pub fn new_queue(alloc: Global) -> Result<Queue> {
         bail!("no queue");
     }
     // The head is 0, and so are the entries of the available ring that were never written.
-    if driver.offer(&mut device, &[0x5a; LENGTH], 512).is_err() {
+    let request = [0x5au8; LENGTH];
+    if driver.offer(&mut device, &request, 512).is_err() {
         bail!("no room for the chain");
     }
-    let layout = DriverLayout::of(RingKind::Split, GUEST.queue);
+    let layout = DriverLayout::of(guest.ring, guest.queue);
     Ok(Queue {
         device,
         index_at: layout.driver_area.wrapping_add(2),
