@@ -115,8 +115,8 @@ abbrev pub PrintsFirstUnless : Fault → (List Said → List ℕ) → List Said 
 PrintsFirstUnless fault.FileFault text lines start now = Unit {0}
 PrintsFirstUnless f text lines start now = PrintsFirst text lines start now
 
--- What a run that ends with a fault has printed: nothing, where a line is bad; else what its lines before
--- the fault print, where no line stored into guest memory.
+-- What a run that ends with a fault has printed: nothing, where a line is bad; else what a front of its
+-- lines prints, where no line stored into guest memory.
 abbrev pub RunPrints : List GuestConfig → List ℕ → Fault → Option (List ℕ) → Option (List ℕ) → Type 0
 RunPrints board script (fault.BadScript line) start now = Keeps start now
 RunPrints board script f start now = (lines : List Said) → Says board script lines → AreSplit board → StoresNothing lines

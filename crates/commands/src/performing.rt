@@ -63,8 +63,8 @@ pub fn perform<D: Disk, W: Write, E: Write>(
     ensures any_moment { IsShow command.entry → IfSome result.1 (Within D.state D.makes (Untouched (D.state disk)) disk) }
     // Nothing is written on standard error unless the status says so.
     ensures quiet { result.0 ≡ 0 → Keeps (E.contents err.old) (E.contents err.new) }
-    // Then it is the line of a fault that has its reason. Only a run has printed something before it: what
-    // its lines before the fault print, unless standard output took no more.
+    // Then it is the line of a fault that may end the command. Only a run has printed something before it:
+    // what a front of its lines prints, unless standard output took no more.
     ensures fault { result.0 ≡ 1 → IfSome result.1 (λ d. Fails
         (λ f. Ends command.entry board.now script.now (D.state disk) (D.state d) f × Prints command.entry board.now script.now f (W.contents out.old) (W.contents out.new))
         (E.contents err.old) (E.contents err.new)) }
