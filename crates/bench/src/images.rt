@@ -102,11 +102,12 @@ fn put_write(disk: &mut MemDisk, layout: &Layout, guest: u16) -> Result<()>
     requires { guest < length layout.now }
 {
     let bytes = [0x5au8; 328];
-    put(disk, layout.payload(Side::A, guest), &bytes)?;
-    put(disk, layout.gate(Side::A, guest), &[0xA5])?;
-    put(disk, layout.blocks(guest), &bytes[..256])?;
-    put(disk, layout.home(guest), &bytes[..64])?;
-    put(disk, layout.gate(Side::A, guest), &[0])
+    let extent = layout.extent(guest);
+    put(disk, extent.payload(Side::A), &bytes)?;
+    put(disk, extent.gate(Side::A), &[0xA5])?;
+    put(disk, extent.blocks(), &bytes[..256])?;
+    put(disk, extent.home(), &bytes[..64])?;
+    put(disk, extent.gate(Side::A), &[0])
 }
 
 /// The same calls for each guest of a board.

@@ -131,10 +131,10 @@ impl Area {
         requires inside { IsInside memory.now self.now.base (16 * self.now.limit) }
         requires exists { HasPlace self.now place }
         requires place { place < 2 ^ 64 - 1 }
-        requires count { reads.old < 2 ^ 64 - 1 }
+        requires count { reads.old.count < 2 ^ 64 - 1 }
         ensures value { result ≡ descriptor_at memory.now self.now place }
         ensures next { result.next < place + 2 ^ 16 }
-        ensures counted { reads.new ≡ reads.old + 1 }
+        ensures counted { reads.new ≡ record reads.old { count = reads.old.count + 1 } }
     {
         let _size = memory.size();
         let at = self.base + 16 * self.index_of(place);

@@ -15,12 +15,13 @@ pub struct Places {
     pub event_idx: bool,
 }
 
-/// A chain that was popped and not yet used.
+/// A chain that was popped and not yet used. The number is its name: a driver may give one id to
+/// several chains.
 #[derive(Clone, Copy)]
 pub struct Outstanding {
-    /// The number of its pop on this ring, counted from 1. No other chain of the ring has it.
+    /// The number that its pop was given. No other chain of the ring has it.
     pub number: u64,
-    /// The id that its used entry will carry. A driver may give one id to several chains.
+    /// The id that its used entry will carry.
     pub id: u16,
     /// How many places of the ring it takes.
     pub places: u16,

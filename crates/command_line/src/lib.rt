@@ -7,6 +7,3 @@ mod words;
 
 pub use command::Command;
 pub use words::{WordsError, read_words};
-
-#[cfg(test)]
-mod tests;

@@ -64,7 +64,7 @@ lists capacities s guests partitions start now (Ok done) begun stand printed is_
   count = begun.all_partitions;
   have = λ g p at.
       let x = guest_of g p at in (
-        (begun.each g x.0 p x.1 at).same_capacity ∙ (begun.each g x.0 p x.1 at).capacity,
+        (begun.each g x.0 p x.1 at).capacity,
         subst IsWhole (get_or_from_slice_get partitions g p p at) (is_whole g p (slice_get_within partitions g p at)),
       );
   held = λ known g p at.
@@ -96,7 +96,7 @@ all_small board guests partitions is begun k d below =
     let small = caps_small board is.each k (omega (arith, below, caps, same)) in
     ⊎_elim
     (λ found. let each = begun.each k found.0 (get_or partitions k d) found.2 at in
-    let a = each.same_capacity in let b = each.capacity in omega (arith, small, a, b))
+    let a = each.capacity in omega (arith, small, a))
     (λ past. absurd (let a = begun.all_guests in let c = past.0 in omega (arith, below, a, caps, c)))
     (slice_get_cases guests k).1
 

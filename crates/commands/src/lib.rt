@@ -12,6 +12,3 @@ mod showing;
 pub use fault::Fault;
 pub use performing::perform;
 pub use reporting::report;
-
-#[cfg(test)]
-mod tests;

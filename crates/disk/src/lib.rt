@@ -9,12 +9,11 @@ mod filler;
 mod filling;
 pub mod laws;
 mod mem_disk;
+mod positioned_file;
 
 pub use cut_disk::CutDisk;
 pub use disk::{Disk, DiskFault, NoMemory};
 pub use file_disk::FileDisk;
 pub use filler::Filler;
 pub use mem_disk::MemDisk;
-
-#[cfg(test)]
-mod tests;
+pub use positioned_file::PositionedFile;

@@ -6,9 +6,10 @@ use Rattle.std.proofs.lemmas.Bool.Decides.{nat_tests}
 use Rattle.disk.specs.Content.{Content, IsOutside}
 use Rattle.disk.specs.Content.{over}
 use Rattle.intent_slots.specs.Layout.{Place, blocks_at}
-use Rattle.intent_slots.specs.Payload.{Entry, EntryFits, Programs, Stores, EntriesFit}
+use Rattle.intent_slots.specs.Payload.{Entry}
 use Rattle.intent_slots.specs.Recovered.{redo, blocks_of}
 use Rattle.intent_slots.proofs.Bytes.{SameOn}
+pub use Rattle.intent_slots.proofs.Redoing.{drop_at, fits_at}
 use Rattle.intent_slots.proofs.Over.{over_inside, over_outside}
 
 -- contents that agree at each place are one
@@ -44,31 +45,11 @@ outside_at [] (suc k) e j is out = absurd (cc)
 outside_at (x ∷ xs) zero e j is out = (let same : x ≡ e = cc in subst (λ (v : Entry). IsOutside (256 * v.address) (length v.blocks) j) same out.0)
 outside_at (x ∷ xs) (suc k) e j is out = outside_at xs k e j is out.1
 
-pub drop_at : (es : List Entry) (k : ℕ) (e : Entry) → slice_get es k ≡ Some e → drop k es ≡ e ∷ drop (k + 1) es
-drop_at es k e is = rest es k is ∙ (let s : suc k ≡ k + 1 = omega arith in ap (λ n. e ∷ drop n es) s)
-  where
-    rest : (es : List Entry) (k : ℕ) → slice_get es k ≡ Some e → drop k es ≡ e ∷ drop (suc k) es
-    rest [] zero is = absurd (cc)
-    rest [] (suc k) is = absurd (cc)
-    rest (x ∷ xs) zero is = (let same : x ≡ e = cc in ap (λ (v : Entry). v ∷ xs) same)
-    rest (x ∷ xs) (suc k) is = rest xs k is
-
 pub drop_past : (es : List Entry) (k : ℕ) → slice_get es k ≡ None → drop k es ≡ []
 drop_past [] zero is = refl
 drop_past [] (suc k) is = refl
 drop_past (x ∷ xs) zero is = absurd (cc)
 drop_past (x ∷ xs) (suc k) is = drop_past xs k is
-
--- no entry writes beyond the blocks
-entry_within : (size counter : ℕ) (e : Entry) → EntryFits size counter e → 256 * e.address + length e.blocks ≤ size
-entry_within size counter e (Programs a b is) = (let none = ap length is in omega (arith, b, none))
-entry_within size counter e (Stores w) = w.inside
-
-pub fits_at : (size counter : ℕ) (es : List Entry) (k : ℕ) (e : Entry) → EntriesFit size counter es → slice_get es k ≡ Some e → 256 * e.address + length e.blocks ≤ size
-fits_at size counter [] zero e fits is = absurd (cc)
-fits_at size counter [] (suc k) e fits is = absurd (cc)
-fits_at size counter (x ∷ xs) zero e fits is = (let same : x ≡ e = cc in subst (λ (v : Entry). 256 * v.address + length v.blocks ≤ size) same (entry_within size counter x fits.0))
-fits_at size counter (x ∷ xs) (suc k) e fits is = fits_at size (counter + 1) xs k e fits.1 is
 
 pub blocks_below : (place : Place) (c : Content) (k : ℕ) → k < place.size → blocks_of place c k ≡ c (blocks_at place + k)
 unfolding blocks_of

@@ -12,7 +12,7 @@ use Rattle.flusher.specs.SlotInvariant.{IsHeldBy, settled_by}
 use Rattle.flusher.proofs.Blocks.{Inside, Outside, where_is}
 use Rattle.flusher.proofs.Rows.{IsWritten}
 use Rattle.flusher.proofs.Writes.{SameOutside}
-use Rattle.flusher.proofs.Guests.{set_cases, map_cases, get_set_same, get_set_other}
+use Rattle.flusher.proofs.Guests.{set_cases, map_cases}
 
 -- what a content was before a write, if the rest of it was as it is
 abbrev before_write : ℕ → ℕ → Content → Content → Content
@@ -39,7 +39,7 @@ pub record Touches (at : ℕ) (bytes : List ℕ) (s t : DiskState) : Type 0 wher
 pub touches_written : (at : ℕ) (bytes : List ℕ) (ok : Bool) (s t : DiskState) → s.faithful ≡ true → Writes at bytes ok s t → Touches at bytes s t
 touches_written at bytes ok s t known w = record { outside = w.outside known; unsynced = w.unsynced known }
 
-not_in : (at n k : ℕ) (b : Bool) → IsOutside at n k → b ≡ false → (in_range at n k || b) ≡ false
+pub not_in : (at n k : ℕ) (b : Bool) → IsOutside at n k → b ≡ false → (in_range at n k || b) ≡ false
 not_in at n k b (inl lt) is = grind (arith, nat_tests)
 not_in at n k b (inr le) is = grind (arith, nat_tests)
 
@@ -77,11 +77,8 @@ module _ {X : Type 0} (place : X → Place) (row seen : Part → X → Content �
     (synced_row : (p : Part) (x : X) (c : Content) → row p x c → seen p x c → row (settle x p) (synced x) c)
     (synced_seen : (p : Part) (x : X) (c : Content) → row p x c → seen p x c → seen (settle x p) (synced x) c)
     (row_stands : (p : Part) (x : X) (c : Content) → row p x c → stands p x c)
-    (moved_stands : (p : Part) (x : X) (c : Content) → row p x c → (d : Content) → row p (moved x) d → stands p x d)
+    (moved_stands : (p : Part) (x : X) (c : Content) → row p x c → stands p (moved x) c)
     (parts : ℕ → Part) (xs : List X) (s t : DiskState) where
-  EachStopBy : DiskState → Type 0
-  EachStopBy u = (g : ℕ) (x : X) → slice_get xs g ≡ Some x → (c : Content) → MayLeave u c → stands (parts g) x c
-
   pub stops : (broken : Bool) → IsHeldBy place row seen parts xs broken s → (g : ℕ) (x : X) → slice_get xs g ≡ Some x → (c : Content) → MayLeave s c → stands (parts g) x c
   stops broken held g x is c left = row_stands (parts g) x c (held.rows g x is c left)
 
@@ -130,15 +127,16 @@ module _ {X : Type 0} (place : X → Place) (row seen : Part → X → Content �
         went_so true un = refl
         went_so false un = absurd (cc)
 
-    pub stops_written : (h : ℕ) (y : X) → slice_get xs h ≡ Some y → (c : Content) → MayLeave t c → stands (parts h) y c
-    stops_written h y at_h c left = ⊎_elim
-        (λ e. (
-        let same : x ≡ y = (let f : slice_get xs g ≡ Some y = ap (slice_get xs) (sym e) ∙ at_h in cc) in
-        subst (λ (v : ℕ). stands (parts v) y c) (sym e)
-        (subst (λ (v : X). stands (parts g) v c) same
-        (moved_stands (parts g) x s.seen (held.rows g x is s.seen (seen_left s)) c (row_written g (moved x) (get_set_same xs g x (moved x) is) c left)))))
-        (λ other. row_stands (parts h) y c (row_written h y (get_set_other xs g h y (moved x) other at_h) c left))
-        (cases_eq h g)
+    -- every stop before the write
+    pub stops_before : (h : ℕ) (y : X) → slice_get (slice_set xs g (moved x)) h ≡ Some y → (c : Content) → MayLeave s c → stands (parts h) y c
+    stops_before h y here c left = ⊎_elim
+        (λ e. subst (λ (v : X). stands (parts h) v c) (sym e.1) (subst (λ (v : ℕ). stands (parts v) (moved x) c) (sym e.0) (moved_stands (parts g) x c (held.rows g x is c left))))
+        (λ e. row_stands (parts h) y c (held.rows h y e.1 c left))
+        (set_cases xs g h (moved x) y here)
+
+    -- and every stop in it or after it
+    pub stops_written : (h : ℕ) (y : X) → slice_get (slice_set xs g (moved x)) h ≡ Some y → (c : Content) → MayLeave t c → stands (parts h) y c
+    stops_written h y here c left = row_stands (parts h) y c (row_written h y here c left)
 
   module _ (ok : Bool) (sy : Syncs ok s t) (known : s.faithful ≡ true) where
     -- a sync adds nothing to what a stop may leave

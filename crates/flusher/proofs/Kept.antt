@@ -1,6 +1,7 @@
 -- What a whole round keeps, over any disk.
-use Rattle.std.proofs.Common.{◌≡◌, Bool, true, false, not, Some, Result, Ok, ℕ, List, map, refl, sym, subst}
+use Rattle.std.proofs.Common.{◌≡◌, Bool, true, false, not, Option, Some, None, Result, Ok, ℕ, List, map, refl, ap, sym, ◌∙◌, ⊎_elim, subst}
 use Rattle.std.specs.Prelude.{slice_get, slice_set, if◌then◌else◌}
+use Rattle.disk.specs.Content.{Content}
 use Rattle.disk.specs.Disk.{DiskState, DiskCall, Write, Sync, Effect, during, Within, Still, Then, Writes, Syncs}
 use Rattle.flusher.specs.declared.guest.Guest.{Guest}
 use Rattle.flusher.specs.declared.progress.Progress.{Progress}
@@ -10,10 +11,16 @@ use Rattle.flusher.specs.Marks.{marks_of}
 use Rattle.intent_slots.specs.Recovered.{Part}
 use Rattle.flusher.specs.Slot.{place_of, guest_write, guest_after_write, guest_after_sync}
 use Rattle.flusher.specs.SlotInvariant.{IsKept, guest_row, guest_seen, guest_settled, settled_by, IsHeld, EachStop}
-use Rattle.flusher.specs.Round.{Plan, WriteOf, SyncAll, Nothing, planned, Ends, Round, parts_after}
-use Rattle.flusher.proofs.Table.{t_range, t_write, t_seen, t_stands, t_moved, t_frame, t_seen_frame, t_synced, t_synced_seen}
+use Rattle.flusher.specs.declared.plan.Plan.{Plan}
+use Rattle.flusher.specs.declared.plan.Plan.TheVariants.{WriteOf, SyncAll, Nothing}
+use Rattle.flusher.specs.Round.{planned, Ends, Round, written_at, under_way_by, under_way, parts_after}
+use Rattle.flusher.proofs.Guests.{set_cases}
+use Rattle.flusher.proofs.Table.{t_range, t_write, t_seen, t_stands, kept_written, t_frame, t_seen_frame, t_synced, t_synced_seen}
 use Rattle.flusher.proofs.Held.{Touches, touches_written, touches_during}
 use Rattle.flusher.proofs.Held as held_of
+
+t_moved : (p : Part) (x : Guest) (c : Content) → guest_row p x c → IsKept p (guest_after_write x) c
+t_moved p x c r = kept_written p x c (t_stands p x c r)
 
 module _ (parts : ℕ → Part) (xs : List Guest) (s t : DiskState) where
   pub stops : (broken : Bool) → IsHeld parts xs broken s → EachStop parts xs s
@@ -22,7 +29,10 @@ module _ (parts : ℕ → Part) (xs : List Guest) (s t : DiskState) where
   pub held_write : (g : ℕ) (x : Guest) (at : ℕ) (bytes : List ℕ) → IsHeld parts xs false s → slice_get xs g ≡ Some x → guest_write x ≡ Some (at, bytes) → Touches at bytes s t → (ok : Bool) → Writes at bytes ok s t → IsHeld parts (slice_set xs g (guest_after_write x)) (not ok) t
   held_write = held_of.held_write place_of guest_row guest_seen guest_write guest_after_write guest_after_sync guest_settled IsKept (λ x. refl) (λ x. refl) t_frame t_seen_frame t_range t_write t_seen t_synced t_synced_seen t_stands t_moved parts xs s t
 
-  pub stops_written : (g : ℕ) (x : Guest) (at : ℕ) (bytes : List ℕ) → IsHeld parts xs false s → slice_get xs g ≡ Some x → guest_write x ≡ Some (at, bytes) → Touches at bytes s t → EachStop parts xs t
+  pub stops_before : (g : ℕ) (x : Guest) (at : ℕ) (bytes : List ℕ) → IsHeld parts xs false s → slice_get xs g ≡ Some x → guest_write x ≡ Some (at, bytes) → Touches at bytes s t → EachStop parts (slice_set xs g (guest_after_write x)) s
+  stops_before = held_of.stops_before place_of guest_row guest_seen guest_write guest_after_write guest_after_sync guest_settled IsKept (λ x. refl) (λ x. refl) t_frame t_seen_frame t_range t_write t_seen t_synced t_synced_seen t_stands t_moved parts xs s t
+
+  pub stops_written : (g : ℕ) (x : Guest) (at : ℕ) (bytes : List ℕ) → IsHeld parts xs false s → slice_get xs g ≡ Some x → guest_write x ≡ Some (at, bytes) → Touches at bytes s t → EachStop parts (slice_set xs g (guest_after_write x)) t
   stops_written = held_of.stops_written place_of guest_row guest_seen guest_write guest_after_write guest_after_sync guest_settled IsKept (λ x. refl) (λ x. refl) t_frame t_seen_frame t_range t_write t_seen t_synced t_synced_seen t_stands t_moved parts xs s t
 
   pub stops_synced : (ok : Bool) → Syncs ok s t → s.faithful ≡ true → (broken : Bool) → IsHeld parts xs broken s → EachStop parts xs t
@@ -58,9 +68,17 @@ module _ {D : Type 0} (state : D → DiskState) (makes : D → DiskCall → D �
       subst (λ (v : Result Progress StoreFault). IsHeld (parts_after v old parts) new broken (state nd)) (sym r.0) (subst (λ (b : Bool). IsHeld parts new b (state nd)) (sym r.3)
       (subst (λ (l : List Guest). IsHeld parts l false (state nd)) (sym r.2) (subst (λ (d : D). IsHeld parts old false (state d)) (sym r.1) held)))
 
-  stops_by_plan : (p : Plan) → Round makes p od old result nd new broken → IsHeld parts old false (state od) → Within state makes (EachStop parts old) od nd
-  stops_by_plan (WriteOf g) r held = (let w = r.wrote in Then od od nd (Write w.at w.bytes r.ok) (Still od (stops parts old (state od) (state od) false held)) w.call
-      (stops_written parts old (state od) (during (state od) (Write w.at w.bytes r.ok)) g w.guest w.at w.bytes held w.is w.next (touches_during w.at w.bytes r.ok (state od)))
+  -- the guests while a write of one of them is under way
+  way_of : (g : ℕ) (x : Guest) → slice_get old g ≡ Some x → written_at old g (slice_get old g) ≡ slice_set old g (guest_after_write x)
+  way_of g x is = ap (written_at old g) is
+
+  stops_by_plan : (p : Plan) → Round makes p od old result nd new broken → IsHeld parts old false (state od) → Within state makes (EachStop parts (under_way_by p old)) od nd
+  stops_by_plan (WriteOf g) r held =
+      let w = r.wrote in
+      let mid = touches_during w.at w.bytes r.ok (state od) in
+      subst (λ (l : List Guest). Within state makes (EachStop parts l) od nd) (sym (way_of g w.guest w.is))
+      (Then od od nd (Write w.at w.bytes r.ok) (Still od (stops_before parts old (state od) (during (state od) (Write w.at w.bytes r.ok)) g w.guest w.at w.bytes held w.is w.next mid)) w.call
+      (stops_written parts old (state od) (during (state od) (Write w.at w.bytes r.ok)) g w.guest w.at w.bytes held w.is w.next mid)
       (stops_written parts old (state od) (state nd) g w.guest w.at w.bytes held w.is w.next (touches_written w.at w.bytes r.ok (state od) (state nd) held.known (effect od nd (Write w.at w.bytes r.ok) w.call))))
   stops_by_plan SyncAll r held = Then od od nd (Sync r.ok) (Still od (stops parts old (state od) (state od) false held)) r.synced.call (stops parts old (state od) (state od) false held)
       (stops_synced parts old (state od) (state nd) r.ok (effect od nd (Sync r.ok) r.synced.call) held.known false held)
@@ -69,5 +87,24 @@ module _ {D : Type 0} (state : D → DiskState) (makes : D → DiskCall → D �
   pub round_held : Round makes (planned old) od old result nd new broken → IsHeld parts old false (state od) → IsHeld (parts_after result old parts) new broken (state nd)
   round_held = by_plan (planned old)
 
-  pub round_stops : Round makes (planned old) od old result nd new broken → IsHeld parts old false (state od) → Within state makes (EachStop parts old) od nd
+  pub round_stops : Round makes (planned old) od old result nd new broken → IsHeld parts old false (state od) → Within state makes (EachStop parts (under_way old)) od nd
+  unfolding under_way
   round_stops = stops_by_plan (planned old)
+
+module _ (parts : ℕ → Part) where
+  -- A store that is broken makes no call; what stands is told of the guests as if it made it.
+  way_stands : (p : Plan) (xs : List Guest) (s : DiskState) → EachStop parts xs s → EachStop parts (under_way_by p xs) s
+  way_stands (WriteOf g) xs s each = of (slice_get xs g) refl
+    where
+      of : (o : Option Guest) → slice_get xs g ≡ o → EachStop parts (written_at xs g o) s
+      of None at = each
+      of (Some x) at = λ h y here c left. ⊎_elim
+          (λ e. subst (λ (v : Guest). IsKept (parts h) v c) (sym e.1) (kept_written (parts h) x c (each h x (ap (slice_get xs) e.0 ∙ at) c left)))
+          (λ e. each h y e.1 c left)
+          (set_cases xs g h (guest_after_write x) y here)
+  way_stands SyncAll xs s each = each
+  way_stands Nothing xs s each = each
+
+  pub broken_stops : (xs : List Guest) (s : DiskState) → EachStop parts xs s → EachStop parts (under_way xs) s
+  unfolding under_way
+  broken_stops xs s = way_stands (planned xs) xs s

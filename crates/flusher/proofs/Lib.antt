@@ -7,3 +7,4 @@ pub mod Writer
 pub mod Table
 pub mod Kept
 pub mod Lookups
+pub mod Plans

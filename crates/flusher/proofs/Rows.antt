@@ -1,6 +1,6 @@
 -- How the rows go on: by a write elsewhere, by the slot's own write, by a sync.
 use Rattle.std.proofs.Common.{◌≡◌, ◌≢◌, inl, inr, ⊎_elim, Option, Some, None, ℕ, ◌+◌, ◌*◌, ◌<◌, List, [], ◌∷◌, length, drop, get_or, refl, ap, sym, ◌∙◌, subst, arith}
-use Rattle.std.specs.Prelude.{slice_get}
+use Rattle.std.specs.Prelude.{slice_get, if◌then◌else◌}
 use Rattle.std.proofs.lemmas.Bool.{cases_eq}
 use Rattle.std.proofs.lemmas.Bool.Decides.{nat_tests}
 use Rattle.disk.specs.Content.{Content, IsOutside}
@@ -9,12 +9,14 @@ use Rattle.intent_slots.specs.Payload.{Entry, Group, Intent}
 use Rattle.intent_slots.specs.Home.{IsHome}
 use Rattle.intent_slots.proofs.Bytes.{SameOn}
 use Rattle.intent_slots.proofs.Same.{same_payload, same_home, payload_short}
+use Rattle.flusher.specs.declared.phase.Phase.{Phase}
+use Rattle.flusher.specs.declared.phase.Phase.TheVariants.{Given, Written, Ready, Opening, Open, Applying, Applied, Closing}
 use Rattle.flusher.specs.declared.slot.Slot.{Slot}
-use Rattle.flusher.specs.declared.slot.Slot.TheVariants.{Empty, Given, Written, Ready, Opening, Open, Applying, Applied, Closing}
 use Rattle.intent_slots.specs.Recovered.{Part, HoldsHome, HasPayload, redone, redo, blocks_of, after, StandsFor, ByHome, ByPayload}
 use Rattle.intent_slots.specs.Payload.{last_of}
-use Rattle.flusher.specs.Slot.{skipped, next_write, NextWrite, NoWrite, PayloadWrite, GateWrite, BlocksWrite, HomeWrite, after_write, open_write, open_after, after_sync}
-use Rattle.flusher.specs.SlotInvariant.{settled, IsShut, Row, Seen, MayStand}
+use Rattle.flusher.specs.Phase.{NextWrite, NoWrite, PayloadWrite, GateWrite, BlocksWrite, HomeWrite, next_write, open_write, open_after, written, skipped, synced, is_opening}
+use Rattle.flusher.specs.Slot.{slot_write, after_write, in_phase, after_sync}
+use Rattle.flusher.specs.SlotInvariant.{settled, IsShut, PhaseRow, Row, PhaseSeen, Seen, BeforeOrAfter, MayStand}
 use Rattle.flusher.proofs.Blocks.{same_blocks_of, redo_written, blocks_written, over_nothing, drop_at, drop_past, fits_at}
 
 pub same_pl : (place : Place) (side : SlotPlace) (c d : Content) (i : Group) → SameOn side.payload 16648 c d → HasPayload place side i c → HasPayload place side i d
@@ -47,33 +49,39 @@ module _ (place : Place) (side : SlotPlace) (ok : IsSlotPlace place side) (c d :
     redo_kept : (p : Part) (i : Group) → redone place c i ≡ p → redone place d i ≡ p
     redo_kept p i = keep_redone p i same_all
 
-    pub row_beside : (p : Part) (slot : Slot) → Row place side p slot c → Row place side p slot d
-    row_beside p Empty r = (keep_shut gate r.0, home p r.1)
-    row_beside p (Given i) r = (keep_shut gate r.0, home p r.1, r.2)
-    row_beside p (Written i) r = (keep_shut gate r.0, home p r.1, r.2)
-    row_beside p (Ready i) r = (keep_shut gate r.0, home p r.1, payload i.group r.2)
-    row_beside p (Opening i) r = (home p r.0, payload i.group r.1)
-    row_beside p (Open i k) r = (sym gate ∙ r.0, redo_kept p i.group r.1, payload i.group r.2)
-    row_beside p (Applying i) r = (sym gate ∙ r.0, redo_kept p i.group r.1, payload i.group r.2)
-    row_beside p (Applied i) r = (sym gate ∙ r.0, redo_kept p i.group r.1, payload i.group r.2, home p r.3)
-    row_beside p (Closing i) r = (redo_kept p i.group r.0, payload i.group r.1, home p r.2)
+    phase_beside : (p : Part) (phase : Phase) (i : Group) → PhaseRow place side p phase i c → PhaseRow place side p phase i d
+    phase_beside p Given i r = (keep_shut gate r.0, home p r.1, r.2)
+    phase_beside p Written i r = (keep_shut gate r.0, home p r.1, r.2)
+    phase_beside p Ready i r = (keep_shut gate r.0, home p r.1, payload i r.2)
+    phase_beside p Opening i r = (home p r.0, payload i r.1)
+    phase_beside p (Open k) i r = (sym gate ∙ r.0, redo_kept p i r.1, payload i r.2)
+    phase_beside p Applying i r = (sym gate ∙ r.0, redo_kept p i r.1, payload i r.2)
+    phase_beside p Applied i r = (sym gate ∙ r.0, redo_kept p i r.1, payload i r.2, home p r.3)
+    phase_beside p Closing i r = (redo_kept p i r.0, payload i r.1, home p r.2)
 
-    pub seen_beside : (p : Part) (slot : Slot) → Seen place side p slot c → Seen place side p slot d
-    seen_beside p Empty s = tt
-    seen_beside p (Given i) s = tt
-    seen_beside p (Written i) s = payload i.group s
-    seen_beside p (Ready i) s = tt
-    seen_beside p (Opening i) s = sym gate ∙ s
-    seen_beside p (Open i k) s = ap (redo (drop k i.group.entries)) (sym same_all) ∙ s
-    seen_beside p (Applying i) s = home p s
-    seen_beside p (Applied i) s = tt
-    seen_beside p (Closing i) s = keep_shut gate s
+    pub row_beside : (p : Part) (slot : Option Slot) → Row place side p slot c → Row place side p slot d
+    row_beside p None r = (keep_shut gate r.0, home p r.1)
+    row_beside p (Some s) r = phase_beside p s.phase s.intent.group r
+
+    phase_seen_beside : (p : Part) (phase : Phase) (i : Group) → PhaseSeen place side p phase i c → PhaseSeen place side p phase i d
+    phase_seen_beside p Given i s = tt
+    phase_seen_beside p Written i s = payload i s
+    phase_seen_beside p Ready i s = tt
+    phase_seen_beside p Opening i s = sym gate ∙ s
+    phase_seen_beside p (Open k) i s = ap (redo (drop k i.entries)) (sym same_all) ∙ s
+    phase_seen_beside p Applying i s = home p s
+    phase_seen_beside p Applied i s = tt
+    phase_seen_beside p Closing i s = keep_shut gate s
+
+    pub seen_beside : (p : Part) (slot : Option Slot) → Seen place side p slot c → Seen place side p slot d
+    seen_beside p None s = tt
+    seen_beside p (Some x) s = phase_seen_beside p x.phase x.intent.group s
 
   module _ (same : SameOn place.base (35328 + place.size) c d) where
-    pub row_frame : (p : Part) (slot : Slot) → Row place side p slot c → Row place side p slot d
+    pub row_frame : (p : Part) (slot : Option Slot) → Row place side p slot c → Row place side p slot d
     row_frame = row_beside (same side.gate (omega arith) (omega arith)) (λ k le lt. same k (omega arith) (omega arith)) (λ k le lt. same k (omega arith) (omega arith)) (λ k le lt. same k (omega arith) (omega arith))
 
-    pub seen_frame : (p : Part) (slot : Slot) → Seen place side p slot c → Seen place side p slot d
+    pub seen_frame : (p : Part) (slot : Option Slot) → Seen place side p slot c → Seen place side p slot d
     seen_frame = seen_beside (same side.gate (omega arith) (omega arith)) (λ k le lt. same k (omega arith) (omega arith)) (λ k le lt. same k (omega arith) (omega arith)) (λ k le lt. same k (omega arith) (omega arith))
 
 -- where a write of a partition goes, and how long it is
@@ -105,73 +113,79 @@ Puts place side (BlocksWrite e) d = IsWritten d (blocks_at place + 256 * e.addre
 Puts place side (HomeWrite i) d = IsHome d place.base (Some i.key) (last_of i)
 
 module _ (place : Place) (side : SlotPlace) (ok : IsSlotPlace place side) (p : Part) (c d : Content) where
-  row_blocks : (i : Intent) (k : ℕ) (e : Entry) → slice_get i.group.entries k ≡ Some e → SameBut (blocks_at place + 256 * e.address) (length e.blocks) c d → Row place side p (Open i k) c → Row place side p (Open i (k + 1)) d
+  row_blocks : (i : Group) (k : ℕ) (e : Entry) → slice_get i.entries k ≡ Some e → SameBut (blocks_at place + 256 * e.address) (length e.blocks) c d → PhaseRow place side p (Open k) i c → PhaseRow place side p (Open (k + 1)) i d
   row_blocks i k e is out r = (
     out side.gate (inl (omega arith)) ∙ r.0,
-    ap (λ (b : Content). record { key = Some i.group.key; counter = last_of i.group; blocks = b }) (redo_written place i.group.entries k e c d is out) ∙ r.1,
-    same_pl place side c d i.group (λ j le lt. sym (out j (inl (omega arith)))) r.2,
+    ap (λ (b : Content). record { key = Some i.key; counter = last_of i; blocks = b }) (redo_written place i.entries k e c d is out) ∙ r.1,
+    same_pl place side c d i (λ j le lt. sym (out j (inl (omega arith)))) r.2,
   )
 
-  row_home : (i : Intent) (k : ℕ) → SameBut place.base 64 c d → Row place side p (Open i k) c → Row place side p (Applying i) d
+  row_home : (i : Group) (k : ℕ) → SameBut place.base 64 c d → PhaseRow place side p (Open k) i c → PhaseRow place side p Applying i d
   row_home i k out r = (
     out side.gate (inr (omega arith)) ∙ r.0,
-    keep_redone place side ok c d p i.group (same_blocks_of place c d (λ j le lt. sym (out j (inr (omega arith))))) r.1,
-    same_pl place side c d i.group (λ j le lt. sym (out j (inr (omega arith)))) r.2,
+    keep_redone place side ok c d p i (same_blocks_of place c d (λ j le lt. sym (out j (inr (omega arith))))) r.1,
+    same_pl place side c d i (λ j le lt. sym (out j (inr (omega arith)))) r.2,
   )
 
-  open_row : (i : Intent) (k : ℕ) (o : Option Entry) → slice_get i.group.entries k ≡ o → Keeps place side (open_write i.group o) c d → Row place side p (Open i k) c → Row place side p (open_after i k o) d
+  open_row : (i : Group) (k : ℕ) (o : Option Entry) → slice_get i.entries k ≡ o → Keeps place side (open_write i o) c d → PhaseRow place side p (Open k) i c → PhaseRow place side p (open_after k o) i d
   open_row i k None is out r = row_home i k out r
   open_row i k (Some e) is out r = row_blocks i k e is out r
 
   -- The slot's own write: whatever stands in its range, the next row holds.
-  pub own_write : (slot : Slot) → Keeps place side (next_write slot) c d → Row place side p slot c → Row place side p (after_write slot) d
-  own_write Empty out r = absurd out
-  own_write (Given i) out r = (
+  phase_write : (phase : Phase) (i : Group) → Keeps place side (next_write phase i) c d → PhaseRow place side p phase i c → PhaseRow place side p (written phase i) i d
+  phase_write Given i out r = (
     keep_shut place side ok c d (sym (out side.gate (inl (omega arith)))) r.0,
     keep_home place side ok c d p (λ k le lt. sym (out k (inl (omega arith)))) (λ k le lt. sym (out k (inr (omega arith)))) r.1,
     r.2,
   )
-  own_write (Written i) out r = absurd out
-  own_write (Ready i) out r = (
+  phase_write Written i out r = absurd out
+  phase_write Ready i out r = (
     keep_home place side ok c d p (λ k le lt. sym (out k (inl (omega arith)))) (λ k le lt. sym (out k (inr (omega arith)))) r.1,
-    same_pl place side c d i.group (λ k le lt. sym (out k (inr (omega arith)))) r.2,
+    same_pl place side c d i (λ k le lt. sym (out k (inr (omega arith)))) r.2,
   )
-  own_write (Opening i) out r = absurd out
-  own_write (Open i k) out r = open_row i k (slice_get i.group.entries k) refl out r
-  own_write (Applying i) out r = absurd out
-  own_write (Applied i) out r = (
-    keep_redone place side ok c d p i.group (same_blocks_of place c d (λ k le lt. sym (out k (inr (omega arith))))) r.1,
-    same_pl place side c d i.group (λ k le lt. sym (out k (inr (omega arith)))) r.2,
+  phase_write Opening i out r = absurd out
+  phase_write (Open k) i out r = open_row i k (slice_get i.entries k) refl out r
+  phase_write Applying i out r = absurd out
+  phase_write Applied i out r = (
+    keep_redone place side ok c d p i (same_blocks_of place c d (λ k le lt. sym (out k (inr (omega arith))))) r.1,
+    same_pl place side c d i (λ k le lt. sym (out k (inr (omega arith)))) r.2,
     keep_home place side ok c d p (λ k le lt. sym (out k (inl (omega arith)))) (λ k le lt. sym (out k (inr (omega arith)))) r.3,
   )
-  own_write (Closing i) out r = absurd out
+  phase_write Closing i out r = absurd out
 
-  seen_blocks : (i : Intent) (k : ℕ) (e : Entry) → slice_get i.group.entries k ≡ Some e → SameBut (blocks_at place + 256 * e.address) (length e.blocks) c d → IsWritten d (blocks_at place + 256 * e.address) e.blocks → Row place side p (Open i k) c → Seen place side p (Open i k) c → Seen place side p (Open i (k + 1)) d
+  pub own_write : (slot : Option Slot) → Keeps place side (slot_write slot) c d → Row place side p slot c → Row place side p (after_write slot) d
+  own_write None out r = absurd out
+  own_write (Some x) out r = phase_write x.phase x.intent.group out r
+
+  seen_blocks : (i : Group) (k : ℕ) (e : Entry) → slice_get i.entries k ≡ Some e → SameBut (blocks_at place + 256 * e.address) (length e.blocks) c d → IsWritten d (blocks_at place + 256 * e.address) e.blocks → PhaseRow place side p (Open k) i c → PhaseSeen place side p (Open k) i c → PhaseSeen place side p (Open (k + 1)) i d
   seen_blocks i k e is out put r s =
-      let over_it = blocks_written place e c d (fits_at place.size i.group.first i.group.entries k e r.2.fits.entries is) out put in
-      ap (redo (drop (k + 1) i.group.entries)) (sym over_it) ∙ ap (λ (es : List Entry). redo es (blocks_of place c)) (sym (drop_at i.group.entries k e is)) ∙ s
+      let over_it = blocks_written place e c d (fits_at place.size i.first i.entries k e r.2.fits.entries is) out put in
+      ap (redo (drop (k + 1) i.entries)) (sym over_it) ∙ ap (λ (es : List Entry). redo es (blocks_of place c)) (sym (drop_at i.entries k e is)) ∙ s
 
-  seen_home : (i : Intent) (k : ℕ) → slice_get i.group.entries k ≡ None → SameBut place.base 64 c d → IsHome d place.base (Some i.group.key) (last_of i.group) → Row place side p (Open i k) c → Seen place side p (Open i k) c → Seen place side p (Applying i) d
+  seen_home : (i : Group) (k : ℕ) → slice_get i.entries k ≡ None → SameBut place.base 64 c d → IsHome d place.base (Some i.key) (last_of i) → PhaseRow place side p (Open k) i c → PhaseSeen place side p (Open k) i c → PhaseSeen place side p Applying i d
   seen_home i k is out put r s = record {
     home = subst (λ (q : Part). IsHome d place.base q.key q.counter) r.1 put;
-    same_blocks = sym (same_blocks_of place c d (λ j le lt. sym (out j (inr (omega arith))))) ∙ sym (ap (λ (es : List Entry). redo es (blocks_of place c)) (drop_past i.group.entries k is)) ∙ s;
+    same_blocks = sym (same_blocks_of place c d (λ j le lt. sym (out j (inr (omega arith))))) ∙ sym (ap (λ (es : List Entry). redo es (blocks_of place c)) (drop_past i.entries k is)) ∙ s;
   }
 
-  open_seen : (i : Intent) (k : ℕ) (o : Option Entry) → slice_get i.group.entries k ≡ o → Keeps place side (open_write i.group o) c d → Puts place side (open_write i.group o) d → Row place side p (Open i k) c → Seen place side p (Open i k) c → Seen place side p (open_after i k o) d
+  open_seen : (i : Group) (k : ℕ) (o : Option Entry) → slice_get i.entries k ≡ o → Keeps place side (open_write i o) c d → Puts place side (open_write i o) d → PhaseRow place side p (Open k) i c → PhaseSeen place side p (Open k) i c → PhaseSeen place side p (open_after k o) i d
   open_seen i k None is out put r s = seen_home i k is out put r s
   open_seen i k (Some e) is out put r s = seen_blocks i k e is out put r s
 
   -- what reads give after it, where it succeeded
-  pub own_seen : (slot : Slot) → Keeps place side (next_write slot) c d → Puts place side (next_write slot) d → Row place side p slot c → Seen place side p slot c → Seen place side p (after_write slot) d
-  own_seen Empty out put r s = absurd out
-  own_seen (Given i) out put r s = put
-  own_seen (Written i) out put r s = absurd out
-  own_seen (Ready i) out put r s = put
-  own_seen (Opening i) out put r s = absurd out
-  own_seen (Open i k) out put r s = open_seen i k (slice_get i.group.entries k) refl out put r s
-  own_seen (Applying i) out put r s = absurd out
-  own_seen (Applied i) out put r s = λ e. absurd (omega (arith, put, e))
-  own_seen (Closing i) out put r s = absurd out
+  phase_seen : (phase : Phase) (i : Group) → Keeps place side (next_write phase i) c d → Puts place side (next_write phase i) d → PhaseRow place side p phase i c → PhaseSeen place side p phase i c → PhaseSeen place side p (written phase i) i d
+  phase_seen Given i out put r s = put
+  phase_seen Written i out put r s = absurd out
+  phase_seen Ready i out put r s = put
+  phase_seen Opening i out put r s = absurd out
+  phase_seen (Open k) i out put r s = open_seen i k (slice_get i.entries k) refl out put r s
+  phase_seen Applying i out put r s = absurd out
+  phase_seen Applied i out put r s = λ e. absurd (omega (arith, put, e))
+  phase_seen Closing i out put r s = absurd out
+
+  pub own_seen : (slot : Option Slot) → Keeps place side (slot_write slot) c d → Puts place side (slot_write slot) d → Row place side p slot c → Seen place side p slot c → Seen place side p (after_write slot) d
+  own_seen None out put r s = absurd out
+  own_seen (Some x) out put r s = phase_seen x.phase x.intent.group out put r s
 
 -- the intent over the blocks of a partition at rest
 pub redone_after : (place : Place) (i : Group) (c : Content) (p : Part) → HoldsHome place c p → redone place c i ≡ after p i
@@ -192,46 +206,62 @@ skip (e ∷ es) c = ⊎_elim
     zeros some = grind (arith, nat_tests)
 
 -- One sync moves each slot by the table.
-pub synced_row : (place : Place) (side : SlotPlace) (p : Part) (slot : Slot) (c : Content) → Row place side p slot c → Seen place side p slot c → Row place side (settled slot p) (after_sync slot) c
-synced_row place side p Empty c r s = r
-synced_row place side p (Given i) c r s = r
-synced_row place side p (Written i) c r s = (r.0, r.1, s)
-synced_row place side p (Ready i) c r s = r
-synced_row place side p (Opening i) c r s = (s, redone_after place i.group c p r.0, r.1)
-synced_row place side p (Open i k) c r s = r
-synced_row place side p (Applying i) c r s = (r.0, r.1, r.2, s)
-synced_row place side p (Applied i) c r s = r
-synced_row place side p (Closing i) c r s = (s, r.2)
+phase_synced_row : (place : Place) (side : SlotPlace) (p : Part) (phase : Phase) (i : Intent) (c : Content) → PhaseRow place side p phase i.group c → PhaseSeen place side p phase i.group c
+    → Row place side (if is_opening phase then after p i.group else p) (in_phase i (synced phase i.group)) c
+phase_synced_row place side p Given i c r s = r
+phase_synced_row place side p Written i c r s = (r.0, r.1, s)
+phase_synced_row place side p Ready i c r s = r
+phase_synced_row place side p Opening i c r s = (s, redone_after place i.group c p r.0, r.1)
+phase_synced_row place side p (Open k) i c r s = r
+phase_synced_row place side p Applying i c r s = (r.0, r.1, r.2, s)
+phase_synced_row place side p Applied i c r s = r
+phase_synced_row place side p Closing i c r s = (s, r.2)
 
-pub synced_seen : (place : Place) (side : SlotPlace) (p : Part) (slot : Slot) (c : Content) → Row place side p slot c → Seen place side p slot c → Seen place side (settled slot p) (after_sync slot) c
-synced_seen place side p Empty c r s = s
-synced_seen place side p (Given i) c r s = s
-synced_seen place side p (Written i) c r s = tt
-synced_seen place side p (Ready i) c r s = s
-synced_seen place side p (Opening i) c r s = sym (skip i.group.entries (blocks_of place c)) ∙ ap (redo i.group.entries) r.0.same_blocks
-synced_seen place side p (Open i k) c r s = s
-synced_seen place side p (Applying i) c r s = tt
-synced_seen place side p (Applied i) c r s = s
-synced_seen place side p (Closing i) c r s = tt
+pub synced_row : (place : Place) (side : SlotPlace) (p : Part) (slot : Option Slot) (c : Content) → Row place side p slot c → Seen place side p slot c → Row place side (settled slot p) (after_sync slot) c
+synced_row place side p None c r s = r
+synced_row place side p (Some x) c r s = phase_synced_row place side p x.phase x.intent c r s
 
-pub record Stands (place : Place) (side : SlotPlace) (p : Part) (slot : Slot) (c : Content) : Type 0 where
+phase_synced_seen : (place : Place) (side : SlotPlace) (p : Part) (phase : Phase) (i : Intent) (c : Content) → PhaseRow place side p phase i.group c → PhaseSeen place side p phase i.group c
+    → Seen place side (if is_opening phase then after p i.group else p) (in_phase i (synced phase i.group)) c
+phase_synced_seen place side p Given i c r s = s
+phase_synced_seen place side p Written i c r s = tt
+phase_synced_seen place side p Ready i c r s = s
+phase_synced_seen place side p Opening i c r s = sym (skip i.group.entries (blocks_of place c)) ∙ ap (redo i.group.entries) r.0.same_blocks
+phase_synced_seen place side p (Open k) i c r s = s
+phase_synced_seen place side p Applying i c r s = tt
+phase_synced_seen place side p Applied i c r s = s
+phase_synced_seen place side p Closing i c r s = tt
+
+pub synced_seen : (place : Place) (side : SlotPlace) (p : Part) (slot : Option Slot) (c : Content) → Row place side p slot c → Seen place side p slot c → Seen place side (settled slot p) (after_sync slot) c
+synced_seen place side p None c r s = s
+synced_seen place side p (Some x) c r s = phase_synced_seen place side p x.phase x.intent c r s
+
+pub record Stands (place : Place) (side : SlotPlace) (p : Part) (slot : Option Slot) (c : Content) : Type 0 where
   pub part : Part
   pub is : StandsFor place side c part
   pub may : MayStand p slot part
 
-pub row_stands : (place : Place) (side : SlotPlace) (p : Part) (slot : Slot) (c : Content) → Row place side p slot c → Stands place side p slot c
-row_stands place side p Empty c r = record { part = p; is = ByHome r.0 r.1; may = refl }
-row_stands place side p (Given i) c r = record { part = p; is = ByHome r.0 r.1; may = refl }
-row_stands place side p (Written i) c r = record { part = p; is = ByHome r.0 r.1; may = refl }
-row_stands place side p (Ready i) c r = record { part = p; is = ByHome r.0 r.1; may = refl }
-row_stands place side p (Opening i) c r = elim (cases_eq (c side.gate) 165) [
-  | inl is ↦ record { part = after p i.group; is = ByPayload i.group is r.1 (redone_after place i.group c p r.0); may = inr refl }
+record PhaseStands (place : Place) (side : SlotPlace) (p : Part) (phase : Phase) (i : Group) (c : Content) : Type 0 where
+  part : Part
+  is : StandsFor place side c part
+  may : BeforeOrAfter (is_opening phase) p i part
+
+phase_stands : (place : Place) (side : SlotPlace) (p : Part) (phase : Phase) (i : Group) (c : Content) → PhaseRow place side p phase i c → PhaseStands place side p phase i c
+phase_stands place side p Given i c r = record { part = p; is = ByHome r.0 r.1; may = refl }
+phase_stands place side p Written i c r = record { part = p; is = ByHome r.0 r.1; may = refl }
+phase_stands place side p Ready i c r = record { part = p; is = ByHome r.0 r.1; may = refl }
+phase_stands place side p Opening i c r = elim (cases_eq (c side.gate) 165) [
+  | inl is ↦ record { part = after p i; is = ByPayload i is r.1 (redone_after place i c p r.0); may = inr refl }
   | inr shut ↦ record { part = p; is = ByHome shut r.0; may = inl refl }
 ]
-row_stands place side p (Open i k) c r = record { part = p; is = ByPayload i.group r.0 r.2 r.1; may = refl }
-row_stands place side p (Applying i) c r = record { part = p; is = ByPayload i.group r.0 r.2 r.1; may = refl }
-row_stands place side p (Applied i) c r = record { part = p; is = ByPayload i.group r.0 r.2 r.1; may = refl }
-row_stands place side p (Closing i) c r = elim (cases_eq (c side.gate) 165) [
-  | inl is ↦ record { part = p; is = ByPayload i.group is r.1 r.0; may = refl }
+phase_stands place side p (Open k) i c r = record { part = p; is = ByPayload i r.0 r.2 r.1; may = refl }
+phase_stands place side p Applying i c r = record { part = p; is = ByPayload i r.0 r.2 r.1; may = refl }
+phase_stands place side p Applied i c r = record { part = p; is = ByPayload i r.0 r.2 r.1; may = refl }
+phase_stands place side p Closing i c r = elim (cases_eq (c side.gate) 165) [
+  | inl is ↦ record { part = p; is = ByPayload i is r.1 r.0; may = refl }
   | inr shut ↦ record { part = p; is = ByHome shut r.2; may = refl }
 ]
+
+pub row_stands : (place : Place) (side : SlotPlace) (p : Part) (slot : Option Slot) (c : Content) → Row place side p slot c → Stands place side p slot c
+row_stands place side p None c r = record { part = p; is = ByHome r.0 r.1; may = refl }
+row_stands place side p (Some x) c r = (let st = phase_stands place side p x.phase x.intent.group c r in record { part = st.part; is = st.is; may = st.may })

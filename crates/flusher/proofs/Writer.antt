@@ -1,80 +1,73 @@
 -- The guest whose turn it is.
-use Rattle.std.proofs.Common.{◌≡◌, Bool, IsTrue, Option, Some, None, ℕ, arith, ◌*◌, ◌^◌, ◌≤◌, List, get_or, refl, ap, sym, ◌∙◌, subst, ⊎_elim, [], ◌∷◌, ◌+◌, zero, suc, length}
-use Rattle.std.specs.Prelude.{slice_get, slice_set, position, MatchOption}
+use Rattle.std.proofs.Common.{◌≡◌, Bool, true, false, IsTrue, Option, Some, None, ℕ, arith, ◌*◌, ◌^◌, ◌≤◌, List, get_or, refl, ap, sym, ◌∙◌, subst, ⊎_elim, [], ◌∷◌, ◌+◌, zero, suc, length}
+use Rattle.std.specs.Prelude.{slice_get, slice_set, position, MatchOption, if◌then◌else◌}
 use Rattle.std.proofs.lemmas.List.Quantifiers.{position-Some}
 use Rattle.std.proofs.lemmas.Option.{slice_get-get_or}
 use Rattle.disk.specs.Disk.{DiskCall, Write}
 use Rattle.intent_slots.specs.Layout.{Place, SlotPlace}
 use Rattle.intent_slots.specs.Payload.{Entry, Group, Intent, GroupFits}
 use Rattle.intent_slots.specs.Home.{home_bytes}
+use Rattle.flusher.specs.declared.phase.Phase.{Phase}
+use Rattle.flusher.specs.declared.phase.Phase.TheVariants.{Given, Written, Ready, Opening, Open, Applying, Applied, Closing}
 use Rattle.flusher.specs.declared.slot.Slot.{Slot}
-use Rattle.flusher.specs.declared.slot.Slot.TheVariants.{Empty, Given, Written, Ready, Opening, Open, Applying, Applied, Closing}
 use Rattle.flusher.specs.declared.guest.Guest.{Guest}
 use Rattle.intent_slots.specs.Payload.{last_of}
-use Rattle.flusher.specs.Slot.{spelled, intent_of, settled_after, open_write, open_after, after_write, after_sync, guest_write, guest_after_write, guest_after_sync}
-use Rattle.flusher.specs.Slot.{guest_has_write}
-use Rattle.flusher.specs.Store.{AllFit, GuestFits, IntentFits}
+use Rattle.flusher.specs.Phase.{open_write, synced, is_opening}
+use Rattle.flusher.specs.Slot.{spelled, intent_of, in_phase, settled_after, after_write, after_sync, guest_write, guest_after_write, guest_after_sync, guest_has_write, place_of}
+use Rattle.flusher.specs.Store.{AllFit, GuestFits, IntentFits, IsOf}
 use Rattle.flusher.specs.Round.{WroteSlot}
 use Rattle.flusher.proofs.Guests.{set_cases, map_cases}
 use Rattle.std.specs.Prelude.{map}
 
-pub of_home : {D : Type 0} (makes : D → DiskCall → D → Type 0) (od nd : D) (ok : Bool) (place : Place) (side : SlotPlace) (i : Group) (o : Option Entry) (bytes : List ℕ) → o ≡ None → bytes ≡ home_bytes i.key (last_of i) → makes od (Write place.base bytes ok) nd → MatchOption (spelled place side (open_write i o)) ⊥ (λ w. makes od (Write w.0 w.1 ok) nd)
-of_home makes od nd ok place side i None bytes none is call = subst (λ (b : List ℕ). makes od (Write place.base b ok) nd) is call
-of_home makes od nd ok place side i (Some e) bytes none is call = absurd (cc)
+pub of_home : {D : Type 0} (makes : D → DiskCall → D → Type 0) (od nd : D) (ok : Bool) (place : Place) (side : SlotPlace) (i : Group) (o : Option Entry) (at : ℕ) (bytes : List ℕ) → o ≡ None → at ≡ place.base → bytes ≡ home_bytes i.key (last_of i) → makes od (Write at bytes ok) nd → MatchOption (spelled place side (open_write i o)) ⊥ (λ w. makes od (Write w.0 w.1 ok) nd)
+of_home makes od nd ok place side i None at bytes none there is call = subst (λ (n : ℕ). makes od (Write n (home_bytes i.key (last_of i)) ok) nd) there (subst (λ (b : List ℕ). makes od (Write at b ok) nd) is call)
+of_home makes od nd ok place side i (Some e) at bytes none there is call = absurd (cc)
 
-open_after_fits : (size : ℕ) (i : Intent) (k : ℕ) (o : Option Entry) → GroupFits size i.group → IntentFits size (intent_of (open_after i k o))
-open_after_fits size i k None f = f
-open_after_fits size i k (Some e) f = f
+-- a write keeps the intent, and a sync keeps it or lets it go
+written_intent : (P : Option Intent → Type 0) (slot : Option Slot) → P (intent_of slot) → P (intent_of (after_write slot))
+written_intent P None p = p
+written_intent P (Some s) p = p
 
-write_fits : (size : ℕ) (slot : Slot) → IntentFits size (intent_of slot) → IntentFits size (intent_of (after_write slot))
-write_fits size Empty f = f
-write_fits size (Given i) f = f
-write_fits size (Written i) f = f
-write_fits size (Ready i) f = f
-write_fits size (Opening i) f = f
-write_fits size (Open i k) f = open_after_fits size i k (slice_get i.group.entries k) f
-write_fits size (Applying i) f = f
-write_fits size (Applied i) f = f
-write_fits size (Closing i) f = f
+in_phase_intent : (P : Option Intent → Type 0) (i : Intent) (o : Option Phase) → P None → P (Some i) → P (intent_of (in_phase i o))
+in_phase_intent P i None none p = none
+in_phase_intent P i (Some phase) none p = p
 
-sync_fits : (size : ℕ) (slot : Slot) → IntentFits size (intent_of slot) → IntentFits size (intent_of (after_sync slot))
-sync_fits size Empty f = f
-sync_fits size (Given i) f = f
-sync_fits size (Written i) f = f
-sync_fits size (Ready i) f = f
-sync_fits size (Opening i) f = f
-sync_fits size (Open i k) f = f
-sync_fits size (Applying i) f = f
-sync_fits size (Applied i) f = f
-sync_fits size (Closing i) f = tt
+synced_intent : (P : Option Intent → Type 0) (slot : Option Slot) → P None → P (intent_of slot) → P (intent_of (after_sync slot))
+synced_intent P None none p = p
+synced_intent P (Some s) none p = in_phase_intent P s.intent (synced s.phase s.intent.group) none p
 
-settled_fits : (size n : ℕ) (slot : Slot) → n ≤ 2 ^ 32 → IntentFits size (intent_of slot) → settled_after slot n ≤ 2 ^ 32
-settled_fits size n Empty le f = le
-settled_fits size n (Given i) le f = le
-settled_fits size n (Written i) le f = le
-settled_fits size n (Ready i) le f = le
-settled_fits size n (Opening i) le f = (let small = f.counters in let some = f.one in omega (arith, small, some))
-settled_fits size n (Open i k) le f = le
-settled_fits size n (Applying i) le f = le
-settled_fits size n (Applied i) le f = le
-settled_fits size n (Closing i) le f = le
+settled_small : (opening : Bool) (size n : ℕ) (i : Group) → n ≤ 2 ^ 32 → GroupFits size i → (if opening then last_of i + 1 else n) ≤ 2 ^ 32
+settled_small true size n i le f = (let small = f.counters in let some = f.one in omega (arith, small, some))
+settled_small false size n i le f = le
 
-synced_fits : (len : ℕ) (x : Guest) → GuestFits len x → GuestFits len (guest_after_sync x)
-synced_fits len x f = record {
+settled_fits : (size n : ℕ) (slot : Option Slot) → n ≤ 2 ^ 32 → IntentFits size (intent_of slot) → settled_after slot n ≤ 2 ^ 32
+settled_fits size n None le f = le
+settled_fits size n (Some s) le f = settled_small (is_opening s.phase) size n s.intent.group le f
+
+synced_fits : (len g : ℕ) (x : Guest) → GuestFits len g x → GuestFits len g (guest_after_sync x)
+synced_fits len g x f = record {
+  behind = f.behind;
   room = f.room;
-  slot_fits = sync_fits (131072 * x.capacity) x.slot f.slot_fits;
-  mark = settled_fits (131072 * x.capacity) x.settled x.slot f.mark f.slot_fits;
+  slot_fits = synced_intent (IntentFits (place_of x).size) x.slot tt f.slot_fits;
+  own = synced_intent (IsOf g) x.slot tt f.own;
+  mark = settled_fits (place_of x).size x.mark x.slot f.mark f.slot_fits;
 }
 
-written_fits : (len : ℕ) (x : Guest) → GuestFits len x → GuestFits len (guest_after_write x)
-written_fits len x f = record { room = f.room; slot_fits = write_fits (131072 * x.capacity) x.slot f.slot_fits; mark = f.mark }
+written_fits : (len g : ℕ) (x : Guest) → GuestFits len g x → GuestFits len g (guest_after_write x)
+written_fits len g x f = record {
+  behind = f.behind;
+  room = f.room;
+  slot_fits = written_intent (IntentFits (place_of x).size) x.slot f.slot_fits;
+  own = written_intent (IsOf g) x.slot f.own;
+  mark = f.mark;
+}
 
 pub map_fits : (len : ℕ) (xs : List Guest) → AllFit len xs → AllFit len (map guest_after_sync xs)
 map_fits len xs fits = record {
   each = λ g y at. (
       let from = map_cases guest_after_sync xs g y at in
       let old = fits.each g from.0 from.1 in
-      subst (λ (v : Guest). GuestFits len v) (sym from.2) (synced_fits len from.0 old));
+      subst (λ (v : Guest). GuestFits len g v) (sym from.2) (synced_fits len g from.0 old));
 }
 
 pub default_is : (xs : List Guest) (g : ℕ) (a b : Guest) → position guest_has_write xs ≡ Some g → get_or xs g a ≡ get_or xs g b
@@ -91,12 +84,12 @@ module _ (xs : List Guest) (g : ℕ) (none : Guest) (next : position guest_has_w
   still_fits len moved fits is = record {
     each = λ h x at. ⊎_elim
         (λ e. (let old = fits.each g (get_or xs g none) in_place in let x' = get_or xs g none in
-        subst (λ (v : Guest). GuestFits len v) (sym (e.1 ∙ is)) (written_fits len x' old)))
+        subst (λ (v : Guest). GuestFits len h v) (sym (e.1 ∙ is)) (subst (λ (n : ℕ). GuestFits len n (guest_after_write x')) (sym e.0) (written_fits len g x' old))))
         (λ e. fits.each h x e.1)
         (set_cases xs g h moved x at);
   }
 
-  pub its_fit : (len : ℕ) → AllFit len xs → GuestFits len (get_or xs g none)
+  pub its_fit : (len : ℕ) → AllFit len xs → GuestFits len g (get_or xs g none)
   its_fit len fits = fits.each g (get_or xs g none) in_place
 
   module _ {D : Type 0} (makes : D → DiskCall → D → Type 0) (od nd : D) (ok : Bool) (moved : Guest) (is : moved ≡ guest_after_write (get_or xs g none)) where
@@ -114,22 +107,3 @@ module _ (xs : List Guest) (g : ℕ) (none : Guest) (next : position guest_has_w
       call = w.2;
       slots = ap (λ (v : Guest). slice_set xs g v) is;
     })
-
--- a list of guests that fit, one after another
-pub none_fit : (len : ℕ) → AllFit len []
-none_fit len = record { each = λ g x at. absurd (none g x at) }
-  where
-    none : (g : ℕ) (x : Guest) → slice_get [] g ≡ Some x → ⊥
-    none zero x at = cc
-    none (suc g) x at = cc
-
-pub more_fit : (len : ℕ) (y : Guest) (ys : List Guest) → GuestFits len y → AllFit len ys → AllFit len (y ∷ ys)
-more_fit len y ys one rest = record { each = at }
-  where
-    at : (g : ℕ) (x : Guest) → slice_get (y ∷ ys) g ≡ Some x → GuestFits len x
-    at zero x is = (let same : y ≡ x = cc in subst (GuestFits len) same one)
-    at (suc g) x is = rest.each g x is
-
--- a guest with nothing in its slot and nothing settled
-pub empty_fits : (len base capacity : ℕ) → base + 35328 + 131072 * capacity ≤ len → GuestFits len (record { base = base; capacity = capacity; settled = 0; slot = Empty })
-empty_fits len base capacity room = record { room = room; slot_fits = tt; mark = omega arith }

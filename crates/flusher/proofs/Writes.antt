@@ -3,16 +3,19 @@ use Rattle.std.proofs.Common.{◌≡◌, inl, inr, Option, Some, None, ℕ, ◌+
 use Rattle.std.specs.Prelude.{slice_get}
 use Rattle.disk.specs.Content.{Content, IsOutside}
 use Rattle.intent_slots.specs.Layout.{Place, SlotPlace, IsSlotPlace, end_of, blocks_at}
-use Rattle.intent_slots.specs.Payload.{Entry, Intent, GroupFits, payload_bytes}
+use Rattle.intent_slots.specs.Payload.{Entry, Group, GroupFits, payload_bytes}
 use Rattle.intent_slots.specs.Home.{home_bytes}
 use Rattle.intent_slots.proofs.Same.{payload_short}
 use Rattle.intent_slots.proofs.Again.{payload_written, home_written, length-payload_bytes, length-home_bytes}
+use Rattle.flusher.specs.declared.phase.Phase.{Phase}
+use Rattle.flusher.specs.declared.phase.Phase.TheVariants.{Given, Written, Ready, Opening, Open, Applying, Applied, Closing}
 use Rattle.flusher.specs.declared.slot.Slot.{Slot}
-use Rattle.flusher.specs.declared.slot.Slot.TheVariants.{Empty, Given, Written, Ready, Opening, Open, Applying, Applied, Closing}
 use Rattle.intent_slots.specs.Recovered.{Part}
 use Rattle.intent_slots.specs.Payload.{last_of}
-use Rattle.flusher.specs.Slot.{NextWrite, NoWrite, PayloadWrite, GateWrite, BlocksWrite, HomeWrite, next_write, open_write, spelled}
-use Rattle.flusher.specs.SlotInvariant.{Row}
+use Rattle.flusher.specs.Phase.{NextWrite, NoWrite, PayloadWrite, GateWrite, BlocksWrite, HomeWrite, next_write, open_write}
+use Rattle.flusher.specs.Slot.{intent_of, slot_write, spelled}
+use Rattle.flusher.specs.SlotInvariant.{PhaseRow, Row}
+use Rattle.flusher.specs.Store.{IntentFits}
 use Rattle.flusher.proofs.Blocks.{fits_at}
 use Rattle.flusher.proofs.Rows.{IsWritten, Keeps, Puts}
 
@@ -27,20 +30,39 @@ WriteFits place (GateWrite byte) = Unit {0}
 WriteFits place (BlocksWrite e) = 256 * e.address + length e.blocks ≤ place.size
 WriteFits place (HomeWrite i) = GroupFits place.size i
 
-open_fits : (place : Place) (side : SlotPlace) (p : Part) (i : Intent) (k : ℕ) (c : Content) (o : Option Entry) → slice_get i.group.entries k ≡ o → Row place side p (Open i k) c → WriteFits place (open_write i.group o)
-open_fits place side p i k c None is r = r.2.fits
-open_fits place side p i k c (Some e) is r = fits_at place.size i.group.first i.group.entries k e r.2.fits.entries is
+open_fits : (place : Place) (i : Group) (k : ℕ) (o : Option Entry) → slice_get i.entries k ≡ o → GroupFits place.size i → WriteFits place (open_write i o)
+open_fits place i k None is f = f
+open_fits place i k (Some e) is f = fits_at place.size i.first i.entries k e f.entries is
 
-pub write_fits : (place : Place) (side : SlotPlace) (p : Part) (slot : Slot) (c : Content) (w : ℕ × List ℕ) → Row place side p slot c → spelled place side (next_write slot) ≡ Some w → WriteFits place (next_write slot)
-write_fits place side p Empty c w r is = absurd (cc)
-write_fits place side p (Given i) c w r is = r.2
-write_fits place side p (Written i) c w r is = absurd (cc)
-write_fits place side p (Ready i) c w r is = tt
-write_fits place side p (Opening i) c w r is = absurd (cc)
-write_fits place side p (Open i k) c w r is = open_fits place side p i k c (slice_get i.group.entries k) refl r
-write_fits place side p (Applying i) c w r is = absurd (cc)
-write_fits place side p (Applied i) c w r is = tt
-write_fits place side p (Closing i) c w r is = absurd (cc)
+phase_fits : (place : Place) (side : SlotPlace) (phase : Phase) (i : Group) (w : ℕ × List ℕ) → GroupFits place.size i → spelled place side (next_write phase i) ≡ Some w → WriteFits place (next_write phase i)
+phase_fits place side Given i w f is = f
+phase_fits place side Written i w f is = absurd (cc)
+phase_fits place side Ready i w f is = tt
+phase_fits place side Opening i w f is = absurd (cc)
+phase_fits place side (Open k) i w f is = open_fits place i k (slice_get i.entries k) refl f
+phase_fits place side Applying i w f is = absurd (cc)
+phase_fits place side Applied i w f is = tt
+phase_fits place side Closing i w f is = absurd (cc)
+
+-- the next write of an intent that lies in the partition
+pub write_fits : (place : Place) (side : SlotPlace) (slot : Option Slot) (w : ℕ × List ℕ) → IntentFits place.size (intent_of slot) → spelled place side (slot_write slot) ≡ Some w → WriteFits place (slot_write slot)
+write_fits place side None w f is = absurd (cc)
+write_fits place side (Some x) w f is = phase_fits place side x.phase x.intent.group w f is
+
+phase_row_fits : (place : Place) (side : SlotPlace) (p : Part) (phase : Phase) (i : Group) (c : Content) → PhaseRow place side p phase i c → GroupFits place.size i
+phase_row_fits place side p Given i c r = r.2
+phase_row_fits place side p Written i c r = r.2
+phase_row_fits place side p Ready i c r = r.2.fits
+phase_row_fits place side p Opening i c r = r.1.fits
+phase_row_fits place side p (Open k) i c r = r.2.fits
+phase_row_fits place side p Applying i c r = r.2.fits
+phase_row_fits place side p Applied i c r = r.2.fits
+phase_row_fits place side p Closing i c r = r.1.fits
+
+-- an intent in a slot lies in the partition
+pub row_fits : (place : Place) (side : SlotPlace) (p : Part) (slot : Option Slot) (c : Content) → Row place side p slot c → IntentFits place.size (intent_of slot)
+row_fits place side p None c r = tt
+row_fits place side p (Some x) c r = phase_row_fits place side p x.phase x.intent.group c r
 
 -- a longer range leaves out fewer places
 wider : (at m n k : ℕ) → m ≤ n → IsOutside at n k → IsOutside at m k

@@ -1,3 +1,4 @@
+pub mod Phase
 pub mod Slot
 pub mod SlotInvariant
 pub mod Marks

@@ -1,14 +1,16 @@
 -- What every stop leaves of each guest (own).
-use Rattle.std.specs.Prelude.{◌≡◌, ◌≢◌, ◌⊎◌, ℕ, ◌≤◌, Bool, true, false, List, drop, slice_get, Option, Some, None}
+use Rattle.std.specs.Prelude.{◌≡◌, ◌≢◌, ◌⊎◌, ℕ, ◌≤◌, Bool, true, false, List, drop, slice_get, Option, Some, None, if◌then◌else◌}
 use Rattle.rpmb_frame.specs.Partition.{sequence_of}
 use Rattle.disk.specs.Content.{Content}
 use Rattle.disk.specs.Disk.{DiskState, MayLeave}
 use Rattle.intent_slots.specs.Layout.{Place, SlotPlace, AreApart, end_of}
-use Rattle.intent_slots.specs.Payload.{GroupFits, Intent}
+use Rattle.intent_slots.specs.Payload.{Group, GroupFits, Intent}
 use Rattle.intent_slots.specs.Recovered.{Part, HoldsHome, HasPayload, redone, redo, blocks_of, after, StandsFor}
+use Rattle.flusher.specs.declared.phase.Phase.{Phase}
+use Rattle.flusher.specs.declared.phase.Phase.TheVariants.{Given, Written, Ready, Opening, Open, Applying, Applied, Closing}
 use Rattle.flusher.specs.declared.slot.Slot.{Slot}
-use Rattle.flusher.specs.declared.slot.Slot.TheVariants.{Empty, Given, Written, Ready, Opening, Open, Applying, Applied, Closing}
 use Rattle.flusher.specs.declared.guest.Guest.{Guest}
+use Rattle.flusher.specs.Phase.{is_opening}
 use Rattle.flusher.specs.Slot.{pending_of, place_of, side_of}
 
 abbrev pub IsShut : SlotPlace → Content → Type 0
@@ -20,58 +22,50 @@ IsWideOpen side c = c side.gate ≡ 165
 -- What every stop leaves in a partition's place, where p is the settled partition. In Opening and
 -- Closing the gate may be any byte; in Open and Applying the blocks that the intent writes, and the
 -- home record, may be any bytes.
-abbrev pub Row : Place → SlotPlace → Part → Slot → Content → Type 0
-Row place side p Empty c = IsShut side c × HoldsHome place c p
-Row place side p (Given i) c = IsShut side c × HoldsHome place c p × GroupFits place.size i.group
-Row place side p (Written i) c = IsShut side c × HoldsHome place c p × GroupFits place.size i.group
-Row place side p (Ready i) c = IsShut side c × HoldsHome place c p × HasPayload place side i.group c
-Row place side p (Opening i) c = HoldsHome place c p × HasPayload place side i.group c
-Row place side p (Open i k) c = IsWideOpen side c × (redone place c i.group ≡ p) × HasPayload place side i.group c
-Row place side p (Applying i) c = IsWideOpen side c × (redone place c i.group ≡ p) × HasPayload place side i.group c
-Row place side p (Applied i) c = IsWideOpen side c × (redone place c i.group ≡ p) × HasPayload place side i.group c × HoldsHome place c p
-Row place side p (Closing i) c = (redone place c i.group ≡ p) × HasPayload place side i.group c × HoldsHome place c p
+abbrev pub PhaseRow : Place → SlotPlace → Part → Phase → Group → Content → Type 0
+PhaseRow place side p Given i c = IsShut side c × HoldsHome place c p × GroupFits place.size i
+PhaseRow place side p Written i c = IsShut side c × HoldsHome place c p × GroupFits place.size i
+PhaseRow place side p Ready i c = IsShut side c × HoldsHome place c p × HasPayload place side i c
+PhaseRow place side p Opening i c = HoldsHome place c p × HasPayload place side i c
+PhaseRow place side p (Open k) i c = IsWideOpen side c × (redone place c i ≡ p) × HasPayload place side i c
+PhaseRow place side p Applying i c = IsWideOpen side c × (redone place c i ≡ p) × HasPayload place side i c
+PhaseRow place side p Applied i c = IsWideOpen side c × (redone place c i ≡ p) × HasPayload place side i c × HoldsHome place c p
+PhaseRow place side p Closing i c = (redone place c i ≡ p) × HasPayload place side i c × HoldsHome place c p
+
+abbrev pub Row : Place → SlotPlace → Part → Option Slot → Content → Type 0
+Row place side p None c = IsShut side c × HoldsHome place c p
+Row place side p (Some s) c = PhaseRow place side p s.phase s.intent.group c
 
 -- What reads give besides, as long as no call has failed. In Open the entries that remain lead to the
 -- partition's blocks.
-abbrev pub Seen : Place → SlotPlace → Part → Slot → Content → Type 0
-Seen place side p Empty c = Unit {0}
-Seen place side p (Given i) c = Unit {0}
-Seen place side p (Written i) c = HasPayload place side i.group c
-Seen place side p (Ready i) c = Unit {0}
-Seen place side p (Opening i) c = IsWideOpen side c
-Seen place side p (Open i k) c = redo (drop k i.group.entries) (blocks_of place c) ≡ p.blocks
-Seen place side p (Applying i) c = HoldsHome place c p
-Seen place side p (Applied i) c = Unit {0}
-Seen place side p (Closing i) c = IsShut side c
+abbrev pub PhaseSeen : Place → SlotPlace → Part → Phase → Group → Content → Type 0
+PhaseSeen place side p Given i c = Unit {0}
+PhaseSeen place side p Written i c = HasPayload place side i c
+PhaseSeen place side p Ready i c = Unit {0}
+PhaseSeen place side p Opening i c = IsWideOpen side c
+PhaseSeen place side p (Open k) i c = redo (drop k i.entries) (blocks_of place c) ≡ p.blocks
+PhaseSeen place side p Applying i c = HoldsHome place c p
+PhaseSeen place side p Applied i c = Unit {0}
+PhaseSeen place side p Closing i c = IsShut side c
+
+abbrev pub Seen : Place → SlotPlace → Part → Option Slot → Content → Type 0
+Seen place side p None c = Unit {0}
+Seen place side p (Some s) c = PhaseSeen place side p s.phase s.intent.group c
 
 -- the settled partition after a sync that succeeded
-abbrev pub settled : Slot → Part → Part
-settled Empty p = p
-settled (Given i) p = p
-settled (Written i) p = p
-settled (Ready i) p = p
-settled (Opening i) p = after p i.group
-settled (Open i k) p = p
-settled (Applying i) p = p
-settled (Applied i) p = p
-settled (Closing i) p = p
+abbrev pub settled : Option Slot → Part → Part
+settled None p = p
+settled (Some s) p = if is_opening s.phase then after p s.intent.group else p
+
+-- the partition before a group, or the one after it where its gate may be either
+abbrev pub BeforeOrAfter : Bool → Part → Group → Part → Type 0
+BeforeOrAfter true p i q = (q ≡ p) ⊎ (q ≡ after p i)
+BeforeOrAfter false p i q = q ≡ p
 
 -- the partition that a stop leaves: in Opening the one before or after the intent, else the settled one
-abbrev pub MayStand : Part → Slot → Part → Type 0
-MayStand p Empty q = q ≡ p
-MayStand p (Given i) q = q ≡ p
-MayStand p (Written i) q = q ≡ p
-MayStand p (Ready i) q = q ≡ p
-MayStand p (Opening i) q = (q ≡ p) ⊎ (q ≡ after p i.group)
-MayStand p (Open i k) q = q ≡ p
-MayStand p (Applying i) q = q ≡ p
-MayStand p (Applied i) q = q ≡ p
-MayStand p (Closing i) q = q ≡ p
-
--- the partition before or after an intent that isn't settled, where there is one
-abbrev pub BeforeOrAfter : Part → Option Intent → Part → Type 0
-BeforeOrAfter p None q = q ≡ p
-BeforeOrAfter p (Some i) q = (q ≡ p) ⊎ (q ≡ after p i.group)
+abbrev pub MayStand : Part → Option Slot → Part → Type 0
+MayStand p None q = q ≡ p
+MayStand p (Some s) q = BeforeOrAfter (is_opening s.phase) p s.intent.group q
 
 abbrev pub sequence_of_part : Part → ℕ
 sequence_of_part p = sequence_of p.key p.counter
@@ -81,10 +75,10 @@ abbrev pub Follows : ℕ → Option Intent → Type 0
 Follows n None = Unit {0}
 Follows n (Some i) = i.group.first ≡ n
 
--- the settled sequence is the settled partition's, and an intent that isn't settled follows it
+-- the mark is the settled partition's sequence, and an intent that isn't settled follows it
 pub record IsMarked (p : Part) (x : Guest) : Type 0 where
-  pub mark : x.settled ≡ sequence_of_part p
-  pub follows : Follows x.settled (pending_of x.slot)
+  pub mark : x.mark ≡ sequence_of_part p
+  pub follows : Follows x.mark (pending_of x.slot)
 
 -- Each guest's settled partition is held by every stop. X is what the store holds for one guest.
 pub record IsHeldBy {X : Type 0} (place : X → Place) (row seen : Part → X → Content → Type 0) (parts : ℕ → Part) (guests : List X) (broken : Bool) (s : DiskState) : Type 0 where
@@ -103,12 +97,13 @@ guest_seen p x c = Seen (place_of x) (side_of x) p x.slot c
 abbrev pub IsHeld : (ℕ → Part) → List Guest → Bool → DiskState → Type 0
 IsHeld = IsHeldBy place_of guest_row guest_seen
 
--- A content stands for the guest's partition before or after its intent, never below the mark.
+-- A content stands for the guest's settled partition, or in Opening for that with its intent, and never
+-- for one below the mark.
 pub record IsKept (p : Part) (x : Guest) (c : Content) : Type 0 where
   pub part : Part
   pub stands : StandsFor (place_of x) (side_of x) c part
-  pub either : BeforeOrAfter p (pending_of x.slot) part
-  pub marked : x.settled ≤ sequence_of_part part
+  pub may : MayStand p x.slot part
+  pub marked : x.mark ≤ sequence_of_part part
 
 -- every stop leaves, for each guest, such a content
 abbrev pub EachStop : (ℕ → Part) → List Guest → DiskState → Type 0

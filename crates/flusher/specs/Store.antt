@@ -1,14 +1,16 @@
 -- The store of all guests (own).
-use Rattle.std.specs.Prelude.{◌≡◌, ℕ, ◌+◌, ◌*◌, ◌^◌, ◌≤◌, Bool, true, false, List, length, slice_get, slice_set, Option, Some, None}
+use Rattle.std.specs.Prelude.{◌≡◌, ◌≢◌, ℕ, ◌+◌, ◌^◌, ◌≤◌, Bool, true, false, List, length, slice_get, slice_set, Option, Some, None}
+use Rattle.disk.specs.Disk.{DiskState, DiskCall, Read, Sync}
 use Rattle.intent_slots.specs.Layout.{end_of}
 use Rattle.intent_slots.specs.Payload.{Intent, GroupFits}
-use Rattle.flusher.specs.declared.slot.Slot.{Slot}
-use Rattle.flusher.specs.declared.slot.Slot.TheVariants.{Empty, Given, Written, Ready, Opening, Open, Applying, Applied, Closing}
+use Rattle.intent_slots.specs.Recovered.{Part}
 use Rattle.flusher.specs.declared.progress.Call.{Call}
 use Rattle.flusher.specs.declared.progress.Call.TheVariants as call
 use Rattle.flusher.specs.Round.{planned, call_of}
 use Rattle.flusher.specs.declared.guest.Guest.{Guest}
-use Rattle.flusher.specs.Slot.{intent_of, pending_of, place_of, with_slot}
+use Rattle.flusher.specs.Slot.{is_empty, intent_of, pending_of, place_of, with_intent}
+use Rattle.flusher.specs.SlotInvariant.{IsHeld}
+use Rattle.flusher.specs.Marks.{marks_of}
 
 -- what contracts see of a store
 pub record StoreState (D : Type 0) : Type 0 where
@@ -17,31 +19,55 @@ pub record StoreState (D : Type 0) : Type 0 where
   -- a call has failed
   pub broken : Bool
 
+-- 1. What holds of every store
+
 -- each block of the intent that is given or in the slot lies in the partition
 abbrev pub IntentFits : ℕ → Option Intent → Type 0
 IntentFits size None = Unit {0}
 IntentFits size (Some i) = GroupFits size i.group
 
--- a guest whose partition lies on a disk of so many bytes; its mark is a sequence of a 32-bit counter
-pub record GuestFits (len : ℕ) (x : Guest) : Type 0 where
+-- an intent is of the slot's guest
+abbrev pub IsOf : ℕ → Option Intent → Type 0
+IsOf g None = Unit {0}
+IsOf g (Some i) = i.guest ≡ g
+
+-- Guest g: its partition lies behind the header on a disk of so many bytes, and its mark is a sequence
+-- of a 32-bit counter.
+pub record GuestFits (len g : ℕ) (x : Guest) : Type 0 where
+  pub behind : 1024 ≤ (place_of x).base
   pub room : end_of (place_of x) ≤ len
-  pub slot_fits : IntentFits (131072 * x.capacity) (intent_of x.slot)
-  pub mark : x.settled ≤ 2 ^ 32
+  pub slot_fits : IntentFits (place_of x).size (intent_of x.slot)
+  pub own : IsOf g (intent_of x.slot)
+  pub mark : x.mark ≤ 2 ^ 32
 
 pub record AllFit (len : ℕ) (guests : List Guest) : Type 0 where
-  pub each : (g : ℕ) (x : Guest) → slice_get guests g ≡ Some x → GuestFits len x
+  pub each : (g : ℕ) (x : Guest) → slice_get guests g ≡ Some x → GuestFits len g x
 
--- nothing is given, and nothing in the slot
-abbrev pub is_empty : Slot → Bool
-is_empty Empty = true
-is_empty (Given i) = false
-is_empty (Written i) = false
-is_empty (Ready i) = false
-is_empty (Opening i) = false
-is_empty (Open i k) = false
-is_empty (Applying i) = false
-is_empty (Applied i) = false
-is_empty (Closing i) = false
+-- 2. How a store begins
+
+-- Reads alone led from one value of the disk to the other.
+pub data OnlyReads {D : Type 0} (makes : D → DiskCall → D → Type 0) : D → D → Type 0 where
+  NoRead : (d : D) → OnlyReads makes d d
+  OneRead : (a b c : D) (ok : Bool) → OnlyReads makes a b → makes b (Read ok) c → OnlyReads makes a c
+
+-- A sync has succeeded, and since then the disk was only read.
+pub record IsSynced {D : Type 0} (makes : D → DiskCall → D → Type 0) (disk : D) : Type 0 where
+  pub before : D
+  pub after : D
+  pub sync : makes before (Sync true) after
+  pub reads : OnlyReads makes after disk
+
+-- every stop leaves some settled partitions, and the marks are their sequences
+pub record HoldsSome (guests : List Guest) (s : DiskState) : Type 0 where
+  pub parts : ℕ → Part
+  pub held : IsHeld parts guests false s
+
+-- What an opening has shown of the guests of a disk: their marks were made by a sync.
+pub record IsOpened {D : Type 0} (state : D → DiskState) (makes : D → DiskCall → D → Type 0) (guests : List Guest) (disk : D) : Type 0 where
+  pub synced : IsSynced makes disk
+  pub holds : (state disk).faithful ≡ true → HoldsSome guests (state disk)
+
+-- 3. What the calls answer
 
 abbrev pub is_free_of : Option Guest → Bool
 is_free_of None = false
@@ -58,7 +84,7 @@ pending (Some i) = length i.group.entries
 
 abbrev pub next_of : Option Guest → ℕ
 next_of None = 0
-next_of (Some x) = x.settled + pending (pending_of x.slot) + 1
+next_of (Some x) = x.mark + pending (pending_of x.slot) + 1
 
 -- the sequence that comes next: one more than the last that was given, or else settled
 unfoldable pub next_sequence : List Guest → ℕ → ℕ
@@ -71,7 +97,7 @@ HasSameKey (Some j) i = i.group.key ≡ j.group.key
 
 -- an intent that the guest's partition may become
 pub record FitsGuest (x : Guest) (i : Intent) : Type 0 where
-  pub inside : GroupFits (131072 * x.capacity) i.group
+  pub inside : GroupFits (place_of x).size i.group
   pub key : HasSameKey (intent_of x.slot) i
 
 abbrev pub FitsOf : Option Guest → Intent → Type 0
@@ -84,11 +110,18 @@ Fits guests i = FitsOf (slice_get guests i.guest) i
 
 abbrev pub given_of : List Guest → Intent → Option Guest → List Guest
 given_of guests i None = guests
-given_of guests i (Some x) = slice_set guests i.guest (with_slot x (Given i))
+given_of guests i (Some x) = slice_set guests i.guest (with_intent x i)
 
 -- the guests with an intent given
 unfoldable pub given : List Guest → Intent → List Guest
 given guests i = given_of guests i (slice_get guests i.guest)
+
+-- What giving an intent makes of the guests: it is in its guest's slot, and nothing else has changed.
+pub record Gives (i : Intent) (old new : List Guest) : Type 0 where
+  pub count : length new ≡ length old
+  pub its_own : (x : Guest) → slice_get old i.guest ≡ Some x → slice_get new i.guest ≡ Some (with_intent x i)
+  pub others : (g : ℕ) → g ≢ i.guest → slice_get new g ≡ slice_get old g
+  pub marks : marks_of new ≡ marks_of old
 
 -- the call that an advance of the store would make
 abbrev pub next_call : Bool → List Guest → Call

@@ -1,8 +1,13 @@
 //! Laws of the store's definitions. Each is a function that does nothing; its contract is the law.
-ghost use Rattle.flusher.specs.Laws.{HeldIsLeft};
+ghost use Rattle.flusher.specs.Laws.{HeldIsLeft, NothingIsEmpty};
 
-/// Where the settled partitions are held, every stop leaves, of each guest, its settled partition, or
-/// that with the intent which isn't settled yet; and never one below its mark.
+/// Where the settled partitions are held, every stop leaves, of each guest, its settled partition, or,
+/// while its gate opens, that with its intent; and never one below its mark.
 pub fn held_is_left()
     ensures { HeldIsLeft }
+{}
+
+/// No call comes next exactly where all slots are empty and nothing is given.
+pub fn nothing_is_empty()
+    ensures { NothingIsEmpty }
 {}

@@ -5,17 +5,15 @@
 mod guest;
 mod laws;
 mod marks;
-mod moving;
+mod phase;
+mod plan;
 mod progress;
 mod slot;
 mod store;
-#[cfg(test)]
-mod tests;
 mod writing;
 
 pub use guest::Guest;
-pub use laws::held_is_left;
+pub use laws::{held_is_left, nothing_is_empty};
 pub use marks::Marks;
 pub use progress::{Call, Progress, StoreFault};
-pub use slot::{Slot, skipped};
 pub use store::Store;

@@ -30,7 +30,7 @@ impl Marks {
     {
         let mut sequences = ArrayVec::new();
         for guest in guests {
-            sequences.push(guest.settled);
+            sequences.push(guest.mark);
         }
         Marks { sequences }
     }

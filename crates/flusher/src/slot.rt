@@ -1,36 +1,20 @@
-ghost use Rattle.std.specs.Prelude.{◌≡◌, ◌≤◌, ◌↔◌, IsTrue};
-ghost use Rattle.flusher.specs.Slot.{has_write, awaits_sync, after_write, after_sync, settled_after, pending_of, skipped, intent_of};
-ghost use Rattle.flusher.specs.Store.{is_empty, pending, HasSameKey};
+ghost use Rattle.std.specs.Prelude.{◌≡◌};
+ghost use Rattle.flusher.specs.Phase.{written, skipped, synced};
+ghost use Rattle.flusher.specs.Slot.{in_phase};
 
+use crate::phase::Phase;
 use intent_slots::Intent;
 
-/// The phase of a guest's slot, with the intent that is in it.
+/// What is in a guest's slot: an intent, and how far it is on its way to the disk.
 #[derive(Drop)]
-pub enum Slot {
-    /// Nothing is given, and the gate is shut.
-    Empty,
-    /// An intent is given, of which nothing is written.
-    Given(Intent),
-    /// Its payload is written.
-    Written(Intent),
-    /// Its payload is synced.
-    Ready(Intent),
-    /// The gate is written open.
-    Opening(Intent),
-    /// The gate is synced open, and the blocks of so many entries are written, one that has none
-    /// counted with them: the intent is settled.
-    Open(Intent, usize),
-    /// The entries' blocks and the home record are written.
-    Applying(Intent),
-    /// They are synced.
-    Applied(Intent),
-    /// The gate is written shut.
-    Closing(Intent),
+pub(crate) struct Slot {
+    pub(crate) phase: Phase,
+    pub(crate) intent: Intent,
 }
 
 /// How many entries of an intent have no blocks to write: 1 where its first programs the key, else 0.
-/// So many of its writes are done when its slot becomes `Open`.
-pub fn skipped(intent: &Intent) -> usize
+/// So many of its writes are done when its gate is known to be open.
+pub(crate) fn skipped(intent: &Intent) -> usize
     ensures { result ≡ skipped intent.now.group.entries }
 {
     // Its invariant is known from here on: there is an entry.
@@ -43,106 +27,58 @@ pub fn skipped(intent: &Intent) -> usize
 }
 
 impl Slot {
-    /// Whether nothing is given, and nothing in it.
-    pub(crate) fn is_empty(&self) -> bool
-        ensures { result ≡ is_empty self.now }
-    {
-        matches!(self, Slot::Empty)
-    }
-
-    /// How many requests were given that aren't settled yet: at most 4.
-    pub(crate) fn pending(&self) -> u64
-        ensures value { result ≡ pending (pending_of self.now) }
-        ensures few { result ≤ 4 }
-    {
-        match self {
-            Slot::Given(intent)
-            | Slot::Written(intent)
-            | Slot::Ready(intent)
-            | Slot::Opening(intent) => intent.entries() as u64,
-            _ => 0,
-        }
-    }
-
-    /// Whether an intent has the key of the one that is given or in it; so has each where there is none.
-    pub(crate) fn has_key_of(&self, intent: &Intent) -> bool
-        ensures { IsTrue result ↔ HasSameKey (intent_of self.now) intent.now }
-    {
-        match self {
-            Slot::Empty => true,
-            Slot::Given(held)
-            | Slot::Written(held)
-            | Slot::Ready(held)
-            | Slot::Opening(held)
-            | Slot::Open(held, _)
-            | Slot::Applying(held)
-            | Slot::Applied(held)
-            | Slot::Closing(held) => intent.key() == held.key(),
-        }
-    }
-
-    /// Whether a write comes next.
-    pub(crate) fn has_write(&self) -> bool
-        ensures { result ≡ has_write self.now }
-    {
-        matches!(
-            self,
-            Slot::Given(_) | Slot::Ready(_) | Slot::Open(_, _) | Slot::Applied(_)
-        )
-    }
-
-    /// Whether a sync would move the slot.
-    pub(crate) fn awaits_sync(&self) -> bool
-        ensures { result ≡ awaits_sync self.now }
-    {
-        matches!(
-            self,
-            Slot::Written(_) | Slot::Opening(_) | Slot::Applying(_) | Slot::Closing(_)
-        )
-    }
-
     /// The phase after the next write.
-    pub(crate) fn after_write(self) -> Slot
-        ensures { result ≡ after_write self }
+    fn written(&self) -> Phase
+        ensures { result ≡ written self.now.phase self.now.intent.group }
     {
-        match self {
-            Slot::Given(intent) => Slot::Written(intent),
-            Slot::Ready(intent) => Slot::Opening(intent),
-            Slot::Open(intent, done) => {
-                if done < intent.entries() {
-                    Slot::Open(intent, done + 1)
+        match self.phase {
+            Phase::Given => Phase::Written,
+            Phase::Ready => Phase::Opening,
+            Phase::Open(done) => {
+                if done < self.intent.entries() {
+                    Phase::Open(done + 1)
                 } else {
-                    Slot::Applying(intent)
+                    Phase::Applying
                 }
             }
-            Slot::Applied(intent) => Slot::Closing(intent),
+            Phase::Applied => Phase::Closing,
             other => other,
         }
     }
 
-    /// The phase after a sync that succeeded.
-    pub(crate) fn after_sync(self) -> Slot
-        ensures { result ≡ after_sync self }
+    /// The phase after a sync that succeeded; none once the gate is shut.
+    fn synced(&self) -> Option<Phase>
+        ensures { result ≡ synced self.now.phase self.now.intent.group }
     {
-        match self {
-            Slot::Written(intent) => Slot::Ready(intent),
-            Slot::Opening(intent) => {
-                let first = skipped(&intent);
-                Slot::Open(intent, first)
-            }
-            Slot::Applying(intent) => Slot::Applied(intent),
-            Slot::Closing(_) => Slot::Empty,
-            other => other,
+        match self.phase {
+            Phase::Written => Some(Phase::Ready),
+            Phase::Opening => Some(Phase::Open(skipped(&self.intent))),
+            Phase::Applying => Some(Phase::Applied),
+            Phase::Closing => None,
+            other => Some(other),
         }
     }
 
-    /// The sequence that is settled after a sync that succeeded, where this one was before.
-    pub(crate) fn settled_after(&self, settled: u64) -> u64
-        ensures { result ≡ settled_after self.now settled }
+    /// The slot after its next write.
+    pub(crate) fn after_write(self) -> Slot
+        ensures { result ≡ record { phase = written self.phase self.intent.group; intent = self.intent } }
     {
-        match self {
-            Slot::Opening(intent) => intent.last_sequence(),
-            _ => settled,
+        Slot {
+            phase: self.written(),
+            intent: self.intent,
+        }
+    }
+
+    /// The slot after a sync that succeeded.
+    pub(crate) fn after_sync(self) -> Option<Slot>
+        ensures { result ≡ in_phase self.intent (synced self.phase self.intent.group) }
+    {
+        match self.synced() {
+            Some(phase) => Some(Slot {
+                phase,
+                intent: self.intent,
+            }),
+            None => None,
         }
     }
 }

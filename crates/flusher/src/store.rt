@@ -1,16 +1,15 @@
-ghost use Rattle.std.specs.Prelude.{◌≡◌, ◌+◌, ◌*◌, ◌≤◌, ◌<◌, ◌^◌, ◌↔◌, ℕ, List, false, true, not, length, map, is_ok, IsTrue, Ok, Err, slice_get, slice_set, Some, None, MatchOption, OnErr, if◌then◌else◌};
+ghost use Rattle.std.specs.Prelude.{◌≡◌, ◌+◌, ◌≤◌, ◌↔◌, ℕ, false, true, not, length, is_ok, is_err, IsTrue, Ok, Err};
 ghost use Rattle.disk.specs.Disk.{Within, HasRisen};
 ghost use Rattle.intent_slots.specs.Recovered.{Part};
 ghost use Rattle.flusher.specs.SlotInvariant.{IsHeld, EachStop};
-ghost use Rattle.flusher.specs.Round.{planned, Ends, Round, parts_after, call_of};
-ghost use Rattle.flusher.specs.Store.{StoreState, AllFit, Fits, is_free, next_sequence, given, next_call};
+ghost use Rattle.flusher.specs.Round.{planned, Ends, Round, Moves, AllEmpty, FrontStays, under_way, parts_after};
+ghost use Rattle.flusher.specs.Store.{StoreState, AllFit, Fits, Gives, IsOpened, is_free, next_sequence, given, next_call};
 ghost use Rattle.flusher.specs.Marks.{marks_of};
 
 use crate::guest::Guest;
 use crate::marks::Marks;
-use crate::moving::{any_awaits_sync, next_writer};
+use crate::plan::{Plan, planned};
 use crate::progress::{Call, Progress, StoreFault};
-use crate::slot::Slot;
 use crate::writing::{sync_round, write_round};
 use disk::{CutDisk, Disk, DiskFault};
 use intent_slots::Intent;
@@ -38,29 +37,29 @@ pub struct Store<D: Disk> {
 }
 
 impl<D: Disk> Model for Store<D> {
-    ghost use Rattle.std.specs.Prelude.{◌≡◌, ◌≤◌, ◌<◌, ◌^◌, length};
+    ghost use Rattle.std.specs.Prelude.{◌≡◌, ◌≤◌, length};
     ghost use Rattle.flusher.specs.Store.{StoreState, AllFit};
 
     ghost Value = { StoreState D };
 
     ghost view = { λ s. record { disk = s.disk; guests = s.guests.items; broken = s.broken } };
 
-    ghost invariant = { λ s. (length s.buffer.items ≡ 16648) × (length s.guests.items ≤ 64) × ((D.state s.disk).len < 2 ^ 64) × AllFit (D.state s.disk).len s.guests.items };
+    ghost invariant = { λ s. (length s.buffer.items ≡ 16648) × (length s.guests.items ≤ 64) × AllFit (D.state s.disk).len s.guests.items };
 }
 
 impl<D: Disk> Store<D> {
     /// The store over a disk that an opening has read, with what it found for each guest, and a buffer
     /// of 16,648 bytes in which payloads are put together. It takes no memory.
     ///
-    /// There are at most 64 guests. Each one's partition lies on the disk, the blocks of an intent
-    /// in its slot lie in that partition, and its settled sequence is at most 2^32. That every stop
-    /// leaves what is settled isn't asked here: `advance` keeps it where the opening has found it
-    /// so.
+    /// There are at most 64 guests. Each one's partition lies behind the header and on the disk, the
+    /// intent in its slot is its own and lies in that partition, and its mark is at most 2^32. A sync
+    /// has succeeded, and since then the disk was only read; and where it is known to be faithful,
+    /// every stop leaves what the marks say. So there are no marks that no sync has made.
     pub fn opened(disk: D, guests: Vec<Guest>, buffer: Vec<u8>) -> Store<D>
         requires few { length guests.items ≤ 64 }
         requires buffer { length buffer.items ≡ 16648 }
-        requires near { (D.state disk).len < 2 ^ 64 }
         requires fits { AllFit (D.state disk).len guests.items }
+        requires opened { IsOpened D.state D.makes guests.items disk }
         ensures { result ≡ record { disk = disk; guests = guests.items; broken = false } }
     {
         Store {
@@ -78,7 +77,7 @@ impl<D: Disk> Store<D> {
         ensures { result ≡ is_free self.now.guests guest }
     {
         match self.guests.get(usize::from(guest)) {
-            Some(held) => held.slot.is_empty(),
+            Some(held) => held.is_empty(),
             None => false,
         }
     }
@@ -90,7 +89,7 @@ impl<D: Disk> Store<D> {
         ensures { result ≡ next_sequence self.now.guests guest }
     {
         match self.guests.get(usize::from(guest)) {
-            Some(held) => held.settled + held.slot.pending() + 1,
+            Some(held) => held.mark + held.pending() + 1,
             None => 0,
         }
     }
@@ -102,7 +101,7 @@ impl<D: Disk> Store<D> {
         ensures { IsTrue result ↔ Fits self.now.guests intent.now }
     {
         match self.guests.get(usize::from(intent.guest())) {
-            Some(held) => intent.lies_inside(held.capacity) && held.slot.has_key_of(intent),
+            Some(held) => held.fits(intent),
             None => false,
         }
     }
@@ -116,10 +115,11 @@ impl<D: Disk> Store<D> {
         requires fits { Fits self.old.guests intent }
         requires next { intent.group.first + 1 ≡ next_sequence self.old.guests intent.guest }
         ensures store { self.new ≡ record self.old { guests = given self.old.guests intent } }
+        ensures gives { Gives intent self.old.guests self.new.guests }
         ensures held { (parts : ℕ → Part) → IsHeld parts self.old.guests self.old.broken (D.state self.old.disk) → IsHeld parts self.new.guests self.new.broken (D.state self.new.disk) }
     {
         let guest = usize::from(intent.guest());
-        self.guests[guest].slot = Slot::Given(intent);
+        self.guests[guest].take_in(intent);
     }
 
     /// The marks of the last sync that succeeded, or of the opening.
@@ -136,13 +136,10 @@ impl<D: Disk> Store<D> {
         if self.broken {
             return Call::None;
         }
-        if next_writer(&self.guests).is_some() {
-            return Call::Write;
-        }
-        if any_awaits_sync(&self.guests) {
-            Call::Sync
-        } else {
-            Call::None
+        match planned(&self.guests) {
+            Plan::WriteOf(_) => Call::Write,
+            Plan::SyncAll => Call::Sync,
+            Plan::Nothing => Call::None,
         }
     }
 
@@ -156,19 +153,23 @@ impl<D: Disk> Store<D> {
     /// The call of the phase table.
     fn round(&mut self) -> Result<Progress, StoreFault>
         requires { self.old.broken ≡ false }
-        ensures { Round D.makes (planned self.old.guests) self.old.disk self.old.guests result self.new.disk self.new.guests self.new.broken }
+        ensures round { Round D.makes (planned self.old.guests) self.old.disk self.old.guests result self.new.disk self.new.guests self.new.broken }
+        ensures breaks { self.new.broken ≡ is_err result }
+        ensures fits { AllFit (D.state self.new.disk).len self.new.guests }
     {
-        if let Some(guest) = next_writer(&self.guests) {
-            let wrote = write_round(&mut self.disk, &mut self.buffer, &mut self.guests, guest);
-            self.broken = wrote.is_err();
-            return ended(wrote, Progress::Wrote);
+        match planned(&self.guests) {
+            Plan::WriteOf(guest) => {
+                let wrote = write_round(&mut self.disk, &mut self.buffer, &mut self.guests, guest);
+                self.broken = wrote.is_err();
+                ended(wrote, Progress::Wrote)
+            }
+            Plan::SyncAll => {
+                let synced = sync_round(&mut self.disk, &mut self.guests);
+                self.broken = synced.is_err();
+                ended(synced, Progress::Synced(Marks::of(&self.guests)))
+            }
+            Plan::Nothing => Ok(Progress::Idle),
         }
-        if !any_awaits_sync(&self.guests) {
-            return Ok(Progress::Idle);
-        }
-        let synced = sync_round(&mut self.disk, &mut self.guests);
-        self.broken = synced.is_err();
-        ended(synced, Progress::Synced(Marks::of(&self.guests)))
     }
 
     /// Makes the next call to the disk: the write of the lowest-numbered guest that has one, else a
@@ -179,12 +180,19 @@ impl<D: Disk> Store<D> {
     /// of its range; a sync that failed moves none.
     pub fn advance(&mut self) -> Result<Progress, StoreFault>
         ensures round { self.old.broken ≡ false → Round D.makes (planned self.old.guests) self.old.disk self.old.guests result self.new.disk self.new.guests self.new.broken }
-        ensures broken { self.old.broken ≡ true → (result ≡ Err StoreFault.Broken) × (self.new ≡ self.old) }
+        ensures refused { self.old.broken ≡ true → (result ≡ Err StoreFault.Broken) × (self.new ≡ self.old) }
+        ensures idle { result ≡ Ok Progress.Idle ↔ (self.old.broken ≡ false) × AllEmpty self.old.guests }
         ensures cause { result ≡ Err StoreFault.DiskFault → HasRisen (D.state self.old.disk).failures (D.state self.new.disk).failures }
+        ensures breaks { self.new.broken ≡ is_err result }
+        ensures moves { Moves result self.old.guests self.new.guests }
+        ensures fits { AllFit (D.state self.new.disk).len self.new.guests }
 
-        // At each moment since the call's start a stop leaves, for each guest, the partition before its
-        // intent or after it, and never one below its mark.
-        ensures any_moment { (parts : ℕ → Part) → IsHeld parts self.old.guests self.old.broken (D.state self.old.disk) → Within D.state D.makes (EachStop parts self.old.guests) self.old.disk self.new.disk }
+        // At each moment since the call's start the header is as it was.
+        ensures front { (D.state self.old.disk).faithful ≡ true → Within D.state D.makes (FrontStays (D.state self.old.disk)) self.old.disk self.new.disk }
+
+        // At each moment since the call's start a stop leaves, for each guest, its settled partition, or,
+        // while its gate opens, that with its intent; and never one below its mark.
+        ensures any_moment { (parts : ℕ → Part) → IsHeld parts self.old.guests self.old.broken (D.state self.old.disk) → Within D.state D.makes (EachStop parts (under_way self.old.guests)) self.old.disk self.new.disk }
         ensures held { (parts : ℕ → Part) → IsHeld parts self.old.guests self.old.broken (D.state self.old.disk) → IsHeld (parts_after result self.old.guests parts) self.new.guests self.new.broken (D.state self.new.disk) }
     {
         if self.broken {

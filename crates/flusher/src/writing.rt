@@ -1,63 +1,79 @@
 //! The calls that a store makes to its disk.
-ghost use Rattle.std.specs.Prelude.{◌≡◌, ◌+◌, ◌*◌, ◌≤◌, ◌<◌, ◌^◌, ℕ, length, is_ok, not, position, IsTrue, slice_get, Some, MatchOption};
+ghost use Rattle.std.specs.Prelude.{◌≡◌, ◌+◌, ◌≤◌, length, is_ok, position, IsTrue, slice_get, Some, MatchOption};
 ghost use Rattle.disk.specs.Disk.{Write};
 ghost use Rattle.intent_slots.specs.Payload.{GroupFits};
-ghost use Rattle.intent_slots.specs.declared.layout.Side.TheVariants.{A};
-ghost use Rattle.intent_slots.specs.Layout.{slot_place};
-ghost use Rattle.flusher.specs.Slot.{spelled, open_write, guest_write, guest_has_write};
+ghost use Rattle.intent_slots.specs.Layout.{end_of, slot_place};
+ghost use Rattle.flusher.specs.Phase.{open_write, next_write, has_write};
+ghost use Rattle.flusher.specs.Slot.{spelled, guest_write, guest_has_write, place_of, intent_of};
 ghost use Rattle.flusher.specs.Round.{WroteSlot, SyncedAll};
-ghost use Rattle.flusher.specs.Store.{GuestFits, AllFit};
+ghost use Rattle.flusher.specs.Store.{AllFit, IntentFits};
 
 use crate::guest::Guest;
-use crate::moving::{move_written, sync_all};
+use crate::phase::Phase;
+use crate::plan::sync_all;
 use crate::slot::Slot;
 use disk::{Disk, DiskFault};
-use intent_slots::{
-    BLOCK_LENGTH, GATE_PLACE, Intent, OPEN_GATE, PARTS_LENGTH, PAYLOAD_PLACE, SHUT_GATE,
-};
+use intent_slots::{Extent, Intent, OPEN_GATE, SHUT_GATE, Side};
 
 /// Writes the blocks of the entry that comes next, or the home record once all are written.
 fn write_open<D: Disk>(
     disk: &mut D,
-    base: u64,
-    capacity: u8,
+    extent: &Extent,
+    side: Side,
     intent: &Intent,
     done: usize,
 ) -> Result<(), DiskFault>
-    requires fits { GroupFits (131072 * capacity) intent.now.group }
-    requires room { base + 35328 + 131072 * capacity ≤ (D.state disk.old).len }
-    requires near { (D.state disk.old).len < 2 ^ 64 }
-    ensures { MatchOption (spelled (record { base = base; size = 131072 * capacity }) (slot_place (record { base = base; size = 131072 * capacity }) A) (open_write intent.now.group (slice_get intent.now.group.entries done))) ⊥ (λ w. D.makes disk.old (Write w.0 w.1 (is_ok result)) disk.new) }
+    requires fits { GroupFits extent.now.size intent.now.group }
+    requires room { end_of extent.now ≤ (D.state disk.old).len }
+    ensures { MatchOption (spelled extent.now (slot_place extent.now side) (open_write intent.now.group (slice_get intent.now.group.entries done))) ⊥ (λ w. D.makes disk.old (Write w.0 w.1 (is_ok result)) disk.new) }
 {
     if done < intent.entries() {
         let entry = intent.entry(done);
-        disk.write_at(
-            base + PARTS_LENGTH + BLOCK_LENGTH * u64::from(entry.address()),
-            entry.blocks(),
-        )
+        disk.write_at(extent.block(entry.address()), entry.blocks())
     } else {
-        disk.write_at(base, &intent.home().encode())
+        disk.write_at(extent.home(), &intent.home().encode())
+    }
+}
+
+/// Makes the next write of what is in a slot.
+fn write_slot<D: Disk>(
+    disk: &mut D,
+    buffer: &mut [u8],
+    extent: &Extent,
+    side: Side,
+    slot: &Slot,
+) -> Result<(), DiskFault>
+    requires fits { GroupFits extent.now.size slot.now.intent.group }
+    requires room { end_of extent.now ≤ (D.state disk.old).len }
+    requires buffer { length buffer.old ≡ 16648 }
+    requires has { IsTrue (has_write slot.now.phase) }
+    ensures wrote { MatchOption (spelled extent.now (slot_place extent.now side) (next_write slot.now.phase slot.now.intent.group)) ⊥ (λ w. D.makes disk.old (Write w.0 w.1 (is_ok result)) disk.new) }
+    ensures buffer { length buffer.new ≡ 16648 }
+{
+    match slot.phase {
+        Phase::Given => {
+            slot.intent.encode(buffer);
+            disk.write_at(extent.payload(side), &buffer[..slot.intent.payload_len()])
+        }
+        Phase::Ready => disk.write_at(extent.gate(side), &[OPEN_GATE]),
+        Phase::Open(done) => write_open(disk, extent, side, &slot.intent, done),
+        Phase::Applied => disk.write_at(extent.gate(side), &[SHUT_GATE]),
+        _ => Ok(()),
     }
 }
 
 /// Makes the guest's next write.
 fn write_next<D: Disk>(disk: &mut D, buffer: &mut [u8], guest: &Guest) -> Result<(), DiskFault>
-    requires fits { GuestFits (D.state disk.old).len guest.now }
+    requires fits { IntentFits (place_of guest.now).size (intent_of guest.now.slot) }
+    requires room { end_of (place_of guest.now) ≤ (D.state disk.old).len }
     requires buffer { length buffer.old ≡ 16648 }
     requires has { IsTrue (guest_has_write guest.now) }
-    requires near { (D.state disk.old).len < 2 ^ 64 }
     ensures wrote { MatchOption (guest_write guest.now) ⊥ (λ w. D.makes disk.old (Write w.0 w.1 (is_ok result)) disk.new) }
     ensures buffer { length buffer.new ≡ 16648 }
 {
     match &guest.slot {
-        Slot::Given(intent) => {
-            intent.encode(buffer);
-            disk.write_at(guest.base + PAYLOAD_PLACE, &buffer[..intent.payload_len()])
-        }
-        Slot::Ready(_) => disk.write_at(guest.base + GATE_PLACE, &[OPEN_GATE]),
-        Slot::Open(intent, done) => write_open(disk, guest.base, guest.capacity, intent, *done),
-        Slot::Applied(_) => disk.write_at(guest.base + GATE_PLACE, &[SHUT_GATE]),
-        _ => Ok(()),
+        Some(slot) => write_slot(disk, buffer, &guest.extent, Side::A, slot),
+        None => Ok(()),
     }
 }
 
@@ -70,7 +86,6 @@ pub(crate) fn write_round<D: Disk>(
 ) -> Result<(), DiskFault>
     requires fits { AllFit (D.state disk.old).len guests.old }
     requires buffer { length buffer.old ≡ 16648 }
-    requires near { (D.state disk.old).len < 2 ^ 64 }
     requires next { position guest_has_write guests.old ≡ Some guest }
     ensures fits { AllFit (D.state disk.old).len guests.new }
     ensures same { length guests.new ≡ length guests.old }
@@ -79,7 +94,7 @@ pub(crate) fn write_round<D: Disk>(
     ensures wrote { WroteSlot D.makes guest disk.old guests.old (is_ok result) disk.new guests.new }
 {
     let wrote = write_next(disk, buffer, &guests[guest]);
-    move_written(&mut guests[guest]);
+    guests[guest].move_written();
     wrote
 }
 

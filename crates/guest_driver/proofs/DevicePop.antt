@@ -5,21 +5,22 @@ use Rattle.std.proofs.lemmas.Bool.{eqb-true}
 use Rattle.chains.specs.Range.{bytes_of, most_gathered}
 use Rattle.chains.specs.Walk.{Found}
 use Rattle.chains.specs.Ring.{after_pop}
-use Rattle.split_ring.specs.Available as split_available
 use Rattle.mmio_transport.specs.declared.fault.DeviceFault.{DeviceFault}
 use Rattle.mmio_transport.specs.declared.fault.DeviceFault.TheVariants.{NoMemory, Refused, NeedsReset}
 use Rattle.mmio_transport.specs.Queue.{QueueState, next, event}
 use Rattle.mmio_transport.specs.Job.{Job}
 use Rattle.mmio_transport.specs.Device.{DeviceState, last_count}
 use Rattle.mmio_transport.specs.Popping.{GivesFrom, GivesNext, IsNext, live_queue, is_stopped, after_job, found_of as found_by}
-use Rattle.guest_driver.specs.Offered.{Offer, found_of}
+use Rattle.guest_driver.specs.Kinds.{places_of, found_of}
+use Rattle.guest_driver.specs.Offered.{Offer}
 use Rattle.guest_driver.specs.Used.{Reply}
 use Rattle.guest_driver.specs.Driver.{DriverState}
 use Rattle.guest_driver.specs.Law.{IsOffered}
-use Rattle.guest_driver.specs.OnDevice.{IsServed, IsJobOf, IsPopped, IsAtItsEnd, PoppedBy, ADevicePopGivesTheFirst}
-use Rattle.guest_driver.proofs.Keeping.{event_keeps}
-use Rattle.guest_driver.proofs.Popping.{next_offered, none_offered, request_offered}
+use Rattle.guest_driver.specs.OnDevice.{IsServed, HasNumberIn, IsJobOf, IsPopped, IsAtItsEnd, PoppedBy, ADevicePopGivesTheFirst}
+use Rattle.mmio_transport.proofs.Next.{none_grows}
+use Rattle.guest_driver.proofs.ByKind.{event_keeps, next_offered, none_offered, request_offered}
 use Rattle.guest_driver.proofs.Leaves.{on_memory, popped_more, the_found}
+use Rattle.guest_driver.proofs.Tables.{number-append}
 
 -- where the driver's queue is popped from
 live : (d : DeviceState) (queue : QueueState) → d.queue ≡ Some queue → d.registers.status.driver_ok ≡ true → live_queue d ≡ Some queue
@@ -29,12 +30,12 @@ live d queue ready ok = rw ok ready
 next_none : (d : DeviceState) (driver : DriverState) (popped : List Offer) (published : List Reply) → (h : IsServed d driver [] popped published)
     → next h.queue.kind d.memory h.queue.ring ≡ Ok None
 next_none d driver popped published h =
-    ap (λ k. next k d.memory h.queue.ring) h.split ∙ none_offered d.memory h.queue.ring driver.size h.offered.setup h.offered.offers
+    ap (λ k. next k d.memory h.queue.ring) h.kind ∙ none_offered driver.kind d.memory h.queue.ring driver.size h.offered.reaped published h.offered.setup h.offered.held
 
 next_first : (d : DeviceState) (driver : DriverState) (c : Offer) (cs popped : List Offer) (published : List Reply) → (h : IsServed d driver (c ∷ cs) popped published)
-    → next h.queue.kind d.memory h.queue.ring ≡ Ok (Some (found_of driver.size c))
+    → next h.queue.kind d.memory h.queue.ring ≡ Ok (Some (found_of driver.kind driver.size c))
 next_first d driver c cs popped published h =
-    ap (λ k. next k d.memory h.queue.ring) h.split ∙ next_offered d.memory h.queue.ring driver.size c cs h.offered.setup h.offered.offers
+    ap (λ k. next k d.memory h.queue.ring) h.kind ∙ next_offered driver.kind d.memory h.queue.ring driver.size h.offered.reaped c cs published h.offered.setup h.offered.held
 
 -- an empty pop writes avail_event alone
 popped_none : (d d' : DeviceState) (driver : DriverState) (popped : List Offer) (published : List Reply) → (h : IsServed d driver [] popped published)
@@ -42,17 +43,17 @@ popped_none : (d d' : DeviceState) (driver : DriverState) (popped : List Offer) 
 popped_none d d' driver popped published h after =
     let ring = h.queue.ring in
     let o = h.offered in
-    let both = event_keeps d.memory ring driver.size ring.popped o.reaped [] published o.setup o.offers o.replies in
+    let held = event_keeps driver.kind d.memory ring driver.size o.reaped ring.used ring.popped [] published o.setup o.held in
     let M : List ℕ → Type 0 = λ v. IsOffered v driver ring [] popped published in
     let P : DeviceState → Type 0 = λ s. IsPopped d driver [] popped published 0 s in
     subst P (sym after) (record {
       served = record {
         queue = h.queue;
         ready = h.ready;
-        split = h.split;
+        kind = h.kind;
         driver_ok = h.driver_ok;
         going = h.going;
-        offered = subst M (sym (ap (λ k. event k d.memory ring) h.split)) (on_memory d.memory (split_available.event d.memory ring) driver ring [] popped published o both.0 both.1);
+        offered = subst M (sym (ap (λ k. event k d.memory ring) h.kind)) (on_memory d.memory (event driver.kind d.memory ring) driver ring [] popped published o held);
       };
       same = record { guest = refl; config = refl; session = refl; readiness = refl };
       registers = refl;
@@ -61,19 +62,20 @@ popped_none d d' driver popped published h after =
 
 -- a pop that finds a chain
 popped_first : (d d' : DeviceState) (driver : DriverState) (c : Offer) (cs popped : List Offer) (published : List Reply) (job : Job) → (h : IsServed d driver (c ∷ cs) popped published)
-    → IsNext d h.queue job d' → IsJobOf d driver.size c job × IsPopped d driver cs (popped ++ c ∷ []) published 1 d'
+    → IsNext d h.queue job d' → IsJobOf d driver.kind driver.size c job × IsPopped d driver cs (popped ++ c ∷ []) published 1 d' × HasNumberIn d'.queue popped job.number
 popped_first d d' driver c cs popped published job h g =
     let ring = h.queue.ring in
     let o = h.offered in
-    let found : found_by job ≡ found_of driver.size c = ap (the_found (found_of driver.size c)) (sym g.chain ∙ next_first d driver c cs popped published h) in
-    let r = after_pop ring c.head 1 in
-    let after : d' ≡ after_job d h.queue r = g.after ∙ ap (λ (f : Found). after_job d h.queue (after_pop ring f.id f.places)) found in
+    let found : found_by job ≡ found_of driver.kind driver.size c = ap (the_found (found_of driver.kind driver.size c)) (sym g.chain ∙ next_first d driver c cs popped published h) in
+    let r = after_pop ring job.number c.head (places_of driver.kind c) in
+    let after : d' ≡ after_job d h.queue r = g.after ∙ ap (λ (f : Found). after_job d h.queue (after_pop ring job.number f.id f.places)) found in
     let M : List ℕ → Type 0 = λ v. IsOffered v driver r cs (popped ++ c ∷ []) published in
+    let N : DeviceState → Type 0 = λ s. HasNumberIn s.queue popped job.number in
     let P : DeviceState → Type 0 = λ s. IsPopped d driver cs (popped ++ c ∷ []) published 1 s in (
       record {
         found = found;
         request = g.request ∙ ap (λ (f : Found). take most_gathered (flat_map (bytes_of d.memory) f.buffers.readable)) found
-            ∙ request_offered d.memory driver.size ring.popped c o.offers.each.0 o.offers.each.1;
+            ∙ request_offered driver.kind d.memory driver.size o.reaped ring.used ring.popped c cs published o.held;
         guest = g.guest;
         session = g.session;
         readiness = g.readiness;
@@ -83,15 +85,16 @@ popped_first d d' driver c cs popped published job h g =
         served = record {
           queue = record { kind = h.queue.kind; ring = r };
           ready = refl;
-          split = h.split;
+          kind = h.kind;
           driver_ok = h.driver_ok;
           going = h.going;
-          offered = subst M (sym (ap (λ k. event k d.memory r) h.split)) (popped_more d.memory driver ring c cs popped published o);
+          offered = subst M (sym (ap (λ k. event k d.memory r) h.kind)) (popped_more d.memory driver ring c cs popped published job.number o);
         };
         same = record { guest = refl; config = refl; session = refl; readiness = refl };
         registers = refl;
         pops = refl;
       }),
+      subst N (sym after) (number-append driver.kind ring.outstanding (record { number = job.number; id = c.head; places = places_of driver.kind c }) popped o.outstanding),
     )
 
 -- a pop from the queue of a device that isn't stopped
@@ -99,7 +102,7 @@ gives_next : (d d' : DeviceState) (driver : DriverState) (pending popped : List 
     → (h : IsServed d driver pending popped published) → GivesNext d h.queue answer d' → PoppedBy pending answer d driver popped published d'
 gives_next d d' driver [] popped published (Ok None) h g = popped_none d d' driver popped published h g.after
 gives_next d d' driver [] popped published (Ok (Some job)) h g = let e = sym (next_none d driver popped published h) ∙ g.chain in absurd (cc)
-gives_next d d' driver [] popped published (Err NoMemory) h g = g.cause (next_none d driver popped published h)
+gives_next d d' driver [] popped published (Err NoMemory) h g = none_grows h.queue.kind d.memory h.queue.ring (next_none d driver popped published h) g.cause
 gives_next d d' driver [] popped published (Err (Refused fault)) h g = let e = sym (next_none d driver popped published h) ∙ g.0 in absurd (cc)
 gives_next d d' driver [] popped published (Err NeedsReset) h g = absurd g
 gives_next d d' driver (c ∷ cs) popped published (Ok None) h g = let e = sym (next_first d driver c cs popped published h) ∙ g.nothing in absurd (cc)

@@ -7,6 +7,8 @@ pub mod Keeping
 pub mod Using
 pub mod Rounds
 pub mod Back
+pub mod Joining
+pub mod ByKind
 pub mod Joins
 pub mod Leaves
 pub mod DevicePublish
@@ -15,3 +17,4 @@ pub mod DeviceCalls
 pub mod FreshAreas
 pub mod Negotiating
 pub mod DeviceBegins
+pub mod Elsewhere

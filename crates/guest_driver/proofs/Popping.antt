@@ -18,8 +18,10 @@ use Rattle.chains.specs.Walk.{Found, walk}
 use Rattle.chains.specs.Ring.{RingState}
 use Rattle.chains.proofs.ListLemmas.{list_law}
 use Rattle.split_ring.specs.Layout.{word_at, descriptor_table}
-use Rattle.split_ring.specs.Available.{next, avail_idx, head, some_found}
-use Rattle.guest_driver.specs.Layout.{driver_area, readable_at, writable_at, needed, avail_entry_at, IsSetUp}
+use Rattle.split_ring.specs.Available.{next, avail_idx, head, found_from, some_found}
+use Rattle.mmio_transport.specs.declared.queue.QueueKind.TheVariants.{Split}
+use Rattle.guest_driver.specs.Kinds.{IsSetUp}
+use Rattle.guest_driver.specs.Layout.{driver_area, readable_at, writable_at, needed, avail_entry_at}
 use Rattle.guest_driver.specs.Offered.{Offer, descriptor, readable_descriptor, writable_descriptor, IsOffer, HoldsOffer, Offers, found_of}
 use Rattle.guest_driver.proofs.Kept.{in_order}
 
@@ -33,27 +35,27 @@ counted_ahead p n h = omega (arith, h)
 counted_same : (p n : ℕ) → n < 65536 → (p + n) % 65536 ≡ p % 65536 → n ≡ 0
 counted_same p n h e = omega (arith, h, e)
 
-index_offered : (m : List ℕ) (ring : RingState) (size : ℕ) (chains : List Offer) → IsSetUp ring size → Offers m size ring.popped chains
+index_offered : (m : List ℕ) (ring : RingState) (size : ℕ) (chains : List Offer) → IsSetUp Split ring size → Offers m size ring.popped chains
     → avail_idx m ring.places ≡ (ring.popped + length chains) % 65536
 index_offered m ring size chains at h =
     ap (λ v. word_at m (v + 2)) at.driver ∙ word_read m (driver_area size + 2) ((ring.popped + length chains) % 65536) (mod_below _ _ (omega arith)) h.index
 
--- what next answers, in terms of the index
-abbrev answer : ℕ → ℕ → ℕ → Result (Option Found) ChainFault → Result (Option Found) ChainFault
+-- which head is next, in terms of the index
+abbrev answer : ℕ → ℕ → ℕ → ℕ → Result (Option ℕ) ChainFault
 answer index place size x =
     if not (not (index == place % 65536)) then Ok None
-    else (if nat_lt size ((index + 65536 - place % 65536) % 65536) then Err BadRange else x)
+    else (if nat_lt size ((index + 65536 - place % 65536) % 65536) then Err BadRange else Ok (Some x))
 
-none_there : (index place size : ℕ) (x : Result (Option Found) ChainFault) → index ≡ place % 65536 → answer index place size x ≡ Ok None
+none_there : (index place size x : ℕ) → index ≡ place % 65536 → answer index place size x ≡ Ok None
 none_there index place size x e = rw (eq-eqb index (place % 65536) e) refl
 
-one_there : (index place size : ℕ) (x : Result (Option Found) ChainFault) → index ≢ place % 65536 → (index + 65536 - place % 65536) % 65536 ≤ size → answer index place size x ≡ x
+one_there : (index place size x : ℕ) → index ≢ place % 65536 → (index + 65536 - place % 65536) % 65536 ≤ size → answer index place size x ≡ Ok (Some x)
 one_there index place size x e few = rw (ne_eqb index (place % 65536) e, le-ltb size ((index + 65536 - place % 65536) % 65536) few) refl
 
-pub none_offered : (m : List ℕ) (ring : RingState) (size : ℕ) → IsSetUp ring size → Offers m size ring.popped [] → next m ring ≡ Ok None
+pub none_offered : (m : List ℕ) (ring : RingState) (size : ℕ) → IsSetUp Split ring size → Offers m size ring.popped [] → next m ring ≡ Ok None
 none_offered m ring size at h =
-    none_there (avail_idx m ring.places) ring.popped ring.size (some_found (walk m (descriptor_table ring) (head m ring.places ring.size ring.popped)))
-    (index_offered m ring size [] at h ∙ ap (λ v. v % 65536) (omega arith))
+    ap (found_from m ring) (none_there (avail_idx m ring.places) ring.popped ring.size (head m ring.places ring.size ring.popped)
+    (index_offered m ring size [] at h ∙ ap (λ v. v % 65536) (omega arith)))
 
 abbrev ring_area : ℕ → ℕ → Bool → Area
 ring_area base size tables = record { shape = SplitRing; base = base; limit = size; tables = tables }
@@ -188,7 +190,7 @@ walk_offered m size place tables c small room is h =
       ]
     ]
 
-pub next_offered : (m : List ℕ) (ring : RingState) (size : ℕ) (c : Offer) (cs : List Offer) → IsSetUp ring size → Offers m size ring.popped (c ∷ cs) → next m ring ≡ Ok (Some (found_of size c))
+pub next_offered : (m : List ℕ) (ring : RingState) (size : ℕ) (c : Offer) (cs : List Offer) → IsSetUp Split ring size → Offers m size ring.popped (c ∷ cs) → next m ring ≡ Ok (Some (found_of size c))
 next_offered m ring size c cs at h =
     let small = at.sizes.small in
     let is = h.each.0 in
@@ -202,8 +204,8 @@ next_offered m ring size c cs at h =
     ∙ word_read m (avail_entry_at size ring.popped) c.head (omega (arith, small, same, below)) holds.named in
     let far : (avail_idx m ring.places + 65536 - ring.popped % 65536) % 65536 ≡ length (c ∷ cs) =
     ap (λ v. (v + 65536 - ring.popped % 65536) % 65536) index ∙ counted_ahead ring.popped (length (c ∷ cs)) (omega (arith, small, same, few)) in
-    one_there (avail_idx m ring.places) ring.popped ring.size (some_found (walk m (descriptor_table ring) (head m ring.places ring.size ring.popped)))
-    (λ e. let none = counted_same ring.popped (length (c ∷ cs)) (omega (arith, small, same, few)) (sym index ∙ e) in omega (arith, none)) (omega (arith, far, few, same))
+    ap (found_from m ring) (one_there (avail_idx m ring.places) ring.popped ring.size (head m ring.places ring.size ring.popped)
+    (λ e. let none = counted_same ring.popped (length (c ∷ cs)) (omega (arith, small, same, few)) (sym index ∙ e) in omega (arith, none)) (omega (arith, far, few, same)))
     ∙ ap (λ v. some_found (walk m (descriptor_table ring) v)) named
     ∙ ap (λ b. some_found (walk m (ring_area b ring.size ring.places.indirect) c.head)) at.descriptors
     ∙ ap (λ v. some_found (walk m (ring_area 0 v ring.places.indirect) c.head)) at.same

@@ -4,10 +4,12 @@ use Rattle.std.specs.List.{position_or_len, remove}
 use Rattle.std.proofs.lemmas.Bool.{cases_eq, ne_eqb, eq-eqb}
 use Rattle.chains.specs.declared.places.Outstanding.{Outstanding}
 use Rattle.chains.specs.Ring.{is_chain}
+use Rattle.mmio_transport.specs.declared.queue.QueueKind.{QueueKind}
+use Rattle.guest_driver.specs.Kinds.{places_of}
 use Rattle.guest_driver.specs.Offered.{Offer, IsApart}
 use Rattle.guest_driver.specs.Used.{Reply, IsNone}
 use Rattle.guest_driver.specs.Driver.{DriverState, owner}
-use Rattle.guest_driver.specs.Law.{count, is_own, in_flight, IsKept, AreKept, AreOutstanding, offers_of}
+use Rattle.guest_driver.specs.Law.{count, is_own, in_flight, IsKept, AreKept, AreOutstanding, HasNumber, offers_of}
 
 abbrev pub one_if : ℕ → ℕ → ℕ
 one_if h k = if h == k then 1 else 0
@@ -136,34 +138,43 @@ none_of c [] e = tt
 none_of c (r ∷ rs) e = let z = count_zero c.head r.offer (offers_of rs) e in (z.0, none_of c rs z.1)
 
 -- what a pop adds to the outstanding chains
-pub out-append : (os : List Outstanding) (o : Outstanding) (cs : List Offer) (c : Offer) → o.id ≡ c.head → o.places ≡ 1
-    → AreOutstanding os cs → AreOutstanding (os ++ o ∷ []) (cs ++ c ∷ [])
-out-append [] o [] c i p h = (i, p, tt)
-out-append [] o (x ∷ xs) c i p h = absurd h
-out-append (y ∷ ys) o [] c i p h = absurd h
-out-append (y ∷ ys) o (x ∷ xs) c i p h = (h.0, h.1, out-append ys o xs c i p h.2)
+pub out-append : (kind : QueueKind) (os : List Outstanding) (o : Outstanding) (cs : List Offer) (c : Offer) → o.id ≡ c.head → o.places ≡ places_of kind c
+    → AreOutstanding kind os cs → AreOutstanding kind (os ++ o ∷ []) (cs ++ c ∷ [])
+out-append kind [] o [] c i p h = (i, p, tt)
+out-append kind [] o (x ∷ xs) c i p h = absurd h
+out-append kind (y ∷ ys) o [] c i p h = absurd h
+out-append kind (y ∷ ys) o (x ∷ xs) c i p h = (h.0, h.1, out-append kind ys o xs c i p h.2)
 
 -- a chain is outstanding, and the others are after it was used
-pub record IsAmong (os : List Outstanding) (head : ℕ) (others : List Offer) : Type 0 where
-  pub there : position_or_len (is_chain head 1) os < length os
-  pub rest : AreOutstanding (remove os (position_or_len (is_chain head 1) os)) others
+pub record IsAmong (kind : QueueKind) (os : List Outstanding) (number head places : ℕ) (others : List Offer) : Type 0 where
+  pub there : position_or_len (is_chain number head places) os < length os
+  pub rest : AreOutstanding kind (remove os (position_or_len (is_chain number head places) os)) others
 
-pub out_removed : (os : List Outstanding) (before : List Offer) (c : Offer) (after : List Offer) → count c.head before ≡ 0
-    → AreOutstanding os (before ++ c ∷ after) → IsAmong os c.head (before ++ after)
-out_removed [] [] c after none h = absurd h
-out_removed [] (b ∷ bs) c after none h = absurd h
-out_removed (o ∷ os) [] c after none h =
-    let is : is_chain c.head 1 o ≡ true = rw (eq-eqb o.id c.head h.0, eq-eqb o.places 1 h.1) refl in
-    let at : position_or_len (is_chain c.head 1) (o ∷ os) ≡ 0 = rw is refl in
-    let P : ℕ → Type 0 = λ n. AreOutstanding (remove (o ∷ os) n) after in
+pub out_removed : (kind : QueueKind) (os : List Outstanding) (before : List Offer) (c : Offer) (after : List Offer) (number : ℕ) → count c.head before ≡ 0
+    → HasNumber os before number → AreOutstanding kind os (before ++ c ∷ after) → IsAmong kind os number c.head (places_of kind c) (before ++ after)
+out_removed kind [] [] c after number none named h = absurd h
+out_removed kind [] (b ∷ bs) c after number none named h = absurd h
+out_removed kind (o ∷ os) [] c after number none named h =
+    let n = places_of kind c in
+    let is : is_chain number c.head n o ≡ true = rw (eq-eqb o.id c.head h.0, eq-eqb o.places n h.1, eq-eqb o.number number named) refl in
+    let at : position_or_len (is_chain number c.head n) (o ∷ os) ≡ 0 = rw is refl in
+    let P : ℕ → Type 0 = λ n. AreOutstanding kind (remove (o ∷ os) n) after in
     record { there = omega (arith, at); rest = subst P (sym at) h.2 }
-out_removed (o ∷ os) (b ∷ bs) c after none h =
+out_removed kind (o ∷ os) (b ∷ bs) c after number none named h =
+    let n = places_of kind c in
     let z = count_zero c.head b bs none in
-    let r = out_removed os bs c after z.1 h.2 in
-    let is : is_chain c.head 1 o ≡ false = rw (ne_eqb o.id c.head (λ e. z.0 (sym h.0 ∙ e))) refl in
-    let place = position_or_len (is_chain c.head 1) os in
-    let next : position_or_len (is_chain c.head 1) (o ∷ os) ≡ 1 + place = rw is refl in
-    let at : position_or_len (is_chain c.head 1) (o ∷ os) ≡ suc place = next ∙ omega arith in
-    let P : ℕ → Type 0 = λ n. AreOutstanding (remove (o ∷ os) n) ((b ∷ bs) ++ after) in
+    let r = out_removed kind os bs c after number z.1 named h.2 in
+    let is : is_chain number c.head n o ≡ false = rw (ne_eqb o.id c.head (λ e. z.0 (sym h.0 ∙ e))) refl in
+    let place = position_or_len (is_chain number c.head n) os in
+    let next : position_or_len (is_chain number c.head n) (o ∷ os) ≡ 1 + place = rw is refl in
+    let at : position_or_len (is_chain number c.head n) (o ∷ os) ≡ suc place = next ∙ omega arith in
+    let P : ℕ → Type 0 = λ n. AreOutstanding kind (remove (o ∷ os) n) ((b ∷ bs) ++ after) in
     let there = r.there in
     record { there = omega (arith, at, there); rest = subst P (sym at) (h.0, h.1, r.rest) }
+
+-- the chain that a pop adds has the number of the pop
+pub number-append : (kind : QueueKind) (os : List Outstanding) (o : Outstanding) (cs : List Offer) → AreOutstanding kind os cs → HasNumber (os ++ o ∷ []) cs o.number
+number-append kind [] o [] h = refl
+number-append kind [] o (x ∷ xs) h = absurd h
+number-append kind (y ∷ ys) o [] h = absurd h
+number-append kind (y ∷ ys) o (x ∷ xs) h = number-append kind ys o xs h.2

@@ -1,22 +1,23 @@
 -- What a driver and a device's ring agree on, and what each call does to it.
-use Rattle.std.specs.Prelude.{◌≡◌, ℕ, ◌+◌, ◌%◌, ◌<◌, ◌≤◌, ◌==◌, if◌then◌else◌, Bool, List, [], ◌∷◌, ◌++◌, length, map, get_or, Option, Some, None, Result, Ok, Err}
+use Rattle.std.specs.Prelude.{◌≡◌, ℕ, ◌+◌, ◌<◌, ◌≤◌, ◌==◌, if◌then◌else◌, Bool, List, [], ◌∷◌, ◌++◌, length, map, get_or, Option, Some, None, Result, Ok, Err}
 use Rattle.guest_memory.specs.Memory.{bytes_at}
 use Rattle.chains.specs.declared.places.Places.{Places}
 use Rattle.chains.specs.declared.places.Outstanding.{Outstanding}
 use Rattle.chains.specs.declared.places.Popped.{Popped}
 use Rattle.chains.specs.declared.fault.RingFault.{RingFault}
-use Rattle.chains.specs.declared.fault.RingFault.TheVariants.{NoMemory as RingNoMemory, Refused}
+use Rattle.chains.specs.declared.fault.RingFault.TheVariants.{NoMemory as RingNoMemory, Refused, OldNumber}
 use Rattle.chains.specs.Range.{scattered}
 use Rattle.chains.specs.Ring.{RingState, first_state, Pops, Publishes, found_of as found_by}
-use Rattle.split_ring.specs.Available.{next, event}
-use Rattle.split_ring.specs.Used.{used_written}
-use Rattle.split_ring.specs.Notification.{Tells}
+use Rattle.mmio_transport.specs.declared.queue.QueueKind.{QueueKind}
+use Rattle.mmio_transport.specs.declared.queue.QueueKind.TheVariants.{Split}
+use Rattle.mmio_transport.specs.Queue.{next, members, event, used_written, Tells}
 use Rattle.guest_driver.specs.declared.reaping.Reaped.{Reaped}
 use Rattle.guest_driver.specs.declared.fault.DriverFault.{DriverFault}
 use Rattle.guest_driver.specs.declared.fault.DriverFault.TheVariants.{NoRoom, OutOfRange, NoMemory, BadUsed}
-use Rattle.guest_driver.specs.Layout.{tables, needed, readable_at, writable_at, avail_idx_at, used_idx_at, IsSetUp}
-use Rattle.guest_driver.specs.Offered.{Offer, Offers, found_of}
-use Rattle.guest_driver.specs.Used.{Reply, Used}
+use Rattle.guest_driver.specs.Layout.{avail_idx_at, used_idx_at}
+use Rattle.guest_driver.specs.Offered.{Offer}
+use Rattle.guest_driver.specs.Used.{Reply}
+use Rattle.guest_driver.specs.Kinds.{IsSetUp, Holds, places_of, places_in, found_of, mark_of, tables, needed, readable_at, writable_at}
 use Rattle.guest_driver.specs.Driver.{DriverState, first_driver, Offering, owner, no_flight, offer_of}
 use Rattle.guest_driver.specs.Reap.{Reaps}
 
@@ -49,26 +50,35 @@ AreKept driver (c ∷ cs) = IsKept driver c × AreKept driver cs
 abbrev pub offers_of : List Reply → List Offer
 offers_of replies = map (λ r. r.offer) replies
 
--- the ring's outstanding chains are these, in this order, of one place each
-abbrev pub AreOutstanding : List Outstanding → List Offer → Type 0
-AreOutstanding [] [] = Unit {0}
-AreOutstanding [] (c ∷ cs) = ⊥
-AreOutstanding (o ∷ os) [] = ⊥
-AreOutstanding (o ∷ os) (c ∷ cs) = (o.id ≡ c.head) × (o.places ≡ 1) × AreOutstanding os cs
+-- the ring's outstanding chains are these, in this order
+abbrev pub AreOutstanding : QueueKind → List Outstanding → List Offer → Type 0
+AreOutstanding kind [] [] = Unit {0}
+AreOutstanding kind [] (c ∷ cs) = ⊥
+AreOutstanding kind (o ∷ os) [] = ⊥
+AreOutstanding kind (o ∷ os) (c ∷ cs) = (o.id ≡ c.head) × (o.places ≡ places_of kind c) × AreOutstanding kind os cs
+
+-- the outstanding chain behind these others has this number
+abbrev pub HasNumber : List Outstanding → List Offer → ℕ → Type 0
+HasNumber [] before number = ⊥
+HasNumber (o ∷ os) [] number = o.number ≡ number
+HasNumber (o ∷ os) (b ∷ bs) number = HasNumber os bs number
 
 -- The chains in flight are those offered and not yet popped, those popped and not yet published, and
 -- those published and not yet reaped: each is one of these, once.
 pub record IsOffered (memory : List ℕ) (driver : DriverState) (ring : RingState) (pending popped : List Offer) (published : List Reply) : Type 0 where
-  pub setup : IsSetUp ring driver.size
+  pub setup : IsSetUp driver.kind ring driver.size
   pub owned : length driver.owners ≡ driver.size
   pub flown : length driver.flights ≡ driver.size
-  pub offers : Offers memory driver.size ring.popped pending
-  pub outstanding : AreOutstanding ring.outstanding popped
-  -- how many chains were reaped
+  pub outstanding : AreOutstanding driver.kind ring.outstanding popped
+  -- how many places were reaped
   pub reaped : ℕ
-  pub counted : ring.used ≡ reaped + length published
-  pub used : driver.used ≡ reaped % 65536
-  pub replies : Used memory driver.size reaped published
+  -- the places popped and not yet used are those of the chains popped and not yet published
+  pub between : ring.popped ≡ ring.used + places_in driver.kind popped
+  pub counted : ring.used ≡ reaped + places_in driver.kind (offers_of published)
+  pub used : driver.used ≡ mark_of driver.kind driver.size reaped
+  pub held : Holds driver.kind memory driver.size reaped ring.used ring.popped pending published
+  -- the chains in flight have no more places than the ring
+  pub room : places_in driver.kind pending + (places_in driver.kind popped + places_in driver.kind (offers_of published)) ≤ driver.size
   pub kept : AreKept driver pending × AreKept driver popped × AreKept driver (offers_of published)
   pub once : (head : ℕ) → head < driver.size
       → count head pending + (count head popped + count head (offers_of published)) ≡ in_flight driver head
@@ -87,34 +97,40 @@ AnOfferJoins = (memory memory' : List ℕ) (driver driver' : DriverState) (ring 
     → IsOffered memory driver ring pending popped published → Offering memory driver readable writable answer memory' driver'
     → JoinsBy answer readable writable memory' driver' ring pending popped published
 
--- a pop's answer is the first chain that was offered, which is popped from then on
-pub record IsFirst (driver : DriverState) (c : Offer) (cs popped : List Offer) (published : List Reply) (answer : Popped) (memory' : List ℕ) (ring' : RingState) : Type 0 where
-  pub found : found_by answer ≡ found_of driver.size c
+-- a pop's answer is the first chain that was offered, which is popped from then on, with the number
+-- that the pop was given
+pub record IsFirst (driver : DriverState) (c : Offer) (cs popped : List Offer) (published : List Reply) (number : ℕ) (answer : Popped) (memory' : List ℕ) (ring' : RingState) : Type 0 where
+  pub found : found_by answer ≡ found_of driver.kind driver.size c
   pub request : answer.request.items ≡ c.bytes
+  pub numbered : HasNumber ring'.outstanding popped number
   pub rest : IsOffered memory' driver ring' cs (popped ++ c ∷ []) published
 
--- what a pop may answer: the first chain, or that none is there, or that memory is wanted
+-- what a pop may answer: the first chain, or that none is there, or that memory is wanted, or that
+-- its number is an old one
 abbrev pub PopsFirst :
-    List Offer → List ℕ → DriverState → RingState → List Offer → List Reply
+    List Offer → List ℕ → DriverState → RingState → List Offer → List Reply → ℕ
     → Result (Option Popped) RingFault → List ℕ → RingState → Type 0
-PopsFirst [] memory driver ring popped published (Ok None) memory' ring' = (ring' ≡ ring) × IsOffered memory' driver ring [] popped published
-PopsFirst [] memory driver ring popped published (Ok (Some answer)) memory' ring' = ⊥
-PopsFirst [] memory driver ring popped published (Err fault) memory' ring' = ⊥
-PopsFirst (c ∷ cs) memory driver ring popped published (Ok None) memory' ring' = ⊥
-PopsFirst (c ∷ cs) memory driver ring popped published (Ok (Some answer)) memory' ring' = IsFirst driver c cs popped published answer memory' ring'
-PopsFirst (c ∷ cs) memory driver ring popped published (Err RingNoMemory) memory' ring' = (ring' ≡ ring) × (memory' ≡ memory)
-PopsFirst (c ∷ cs) memory driver ring popped published (Err (Refused fault)) memory' ring' = ⊥
+PopsFirst [] memory driver ring popped published number (Ok None) memory' ring' = (ring' ≡ ring) × IsOffered memory' driver ring [] popped published
+PopsFirst [] memory driver ring popped published number (Ok (Some answer)) memory' ring' = ⊥
+PopsFirst [] memory driver ring popped published number (Err RingNoMemory) memory' ring' = ⊥
+PopsFirst [] memory driver ring popped published number (Err (Refused fault)) memory' ring' = ⊥
+PopsFirst [] memory driver ring popped published number (Err OldNumber) memory' ring' = number ≤ ring.last
+PopsFirst (c ∷ cs) memory driver ring popped published number (Ok None) memory' ring' = ⊥
+PopsFirst (c ∷ cs) memory driver ring popped published number (Ok (Some answer)) memory' ring' = IsFirst driver c cs popped published number answer memory' ring'
+PopsFirst (c ∷ cs) memory driver ring popped published number (Err RingNoMemory) memory' ring' = (ring' ≡ ring) × (memory' ≡ memory)
+PopsFirst (c ∷ cs) memory driver ring popped published number (Err (Refused fault)) memory' ring' = ⊥
+PopsFirst (c ∷ cs) memory driver ring popped published number (Err OldNumber) memory' ring' = number ≤ ring.last
 
 abbrev pub APopGivesTheFirst : Type 0
-APopGivesTheFirst = (memory memory' : List ℕ) (driver : DriverState) (ring ring' : RingState) (pending popped : List Offer) (published : List Reply) (answer : Result (Option Popped) RingFault)
-    → IsOffered memory driver ring pending popped published → Pops next event memory ring answer memory' ring'
-    → PopsFirst pending memory driver ring popped published answer memory' ring'
+APopGivesTheFirst = (memory memory' : List ℕ) (driver : DriverState) (ring ring' : RingState) (pending popped : List Offer) (published : List Reply) (number : ℕ) (answer : Result (Option Popped) RingFault)
+    → IsOffered memory driver ring pending popped published → Pops (next driver.kind) (members driver.kind) (event driver.kind) memory ring number answer memory' ring'
+    → PopsFirst pending memory driver ring popped published number answer memory' ring'
 
 -- a chain that was popped is scattered into and published
 abbrev pub APublishJoins : Type 0
-APublishJoins = (memory memory' : List ℕ) (driver : DriverState) (ring ring' : RingState) (pending before : List Offer) (c : Offer) (after : List Offer) (published : List Reply) (reply : List ℕ) (told : Bool)
-    → length reply ≤ c.writable → IsOffered memory driver ring pending (before ++ c ∷ after) published
-    → Publishes used_written Tells (scattered memory (found_of driver.size c).buffers.writable reply) ring c.head 1 (length reply) told memory' ring'
+APublishJoins = (memory memory' : List ℕ) (driver : DriverState) (ring ring' : RingState) (pending before : List Offer) (c : Offer) (after : List Offer) (published : List Reply) (number : ℕ) (reply : List ℕ) (told : Bool)
+    → length reply ≤ c.writable → IsOffered memory driver ring pending (before ++ c ∷ after) published → HasNumber ring.outstanding before number
+    → Publishes (used_written driver.kind) (Tells driver.kind) (scattered memory (found_of driver.kind driver.size c).buffers.writable reply) ring number c.head (places_of driver.kind c) (length reply) told memory' ring'
     → IsOffered memory' driver ring' pending (before ++ after) (published ++ record { offer = c; bytes = reply } ∷ [])
 
 -- a reap's answer is the first reply that was published
@@ -147,30 +163,30 @@ AReapGivesTheFirst = (memory : List ℕ) (driver driver' : DriverState) (ring : 
 abbrev pub Same : List ℕ → List ℕ → ℕ → ℕ → Type 0
 Same m n at len = bytes_at n at len ≡ bytes_at m at len
 
-abbrev pub SameBytes : List ℕ → List ℕ → ℕ → List Offer → Type 0
-SameBytes m n size [] = Unit {0}
-SameBytes m n size (c ∷ cs) = Same m n (readable_at size c.head) (length c.bytes) × SameBytes m n size cs
+abbrev pub SameBytes : QueueKind → List ℕ → List ℕ → ℕ → List Offer → Type 0
+SameBytes kind m n size [] = Unit {0}
+SameBytes kind m n size (c ∷ cs) = Same m n (readable_at kind size c.head) (length c.bytes) × SameBytes kind m n size cs
 
-abbrev pub SameReplies : List ℕ → List ℕ → ℕ → List Reply → Type 0
-SameReplies m n size [] = Unit {0}
-SameReplies m n size (r ∷ rs) = Same m n (writable_at size r.offer.head) (length r.bytes) × SameReplies m n size rs
+abbrev pub SameReplies : QueueKind → List ℕ → List ℕ → ℕ → List Reply → Type 0
+SameReplies kind m n size [] = Unit {0}
+SameReplies kind m n size (r ∷ rs) = Same m n (writable_at kind size r.offer.head) (length r.bytes) × SameReplies kind m n size rs
 
 -- Nobody stored into the three areas, the bytes to be read of the chains not yet popped, or the
 -- replies not yet reaped.
-pub record Untouched (m n : List ℕ) (size : ℕ) (pending : List Offer) (published : List Reply) : Type 0 where
+pub record Untouched (kind : QueueKind) (m n : List ℕ) (size : ℕ) (pending : List Offer) (published : List Reply) : Type 0 where
   pub whole : length n ≡ length m
-  pub areas : (at len : ℕ) → at + len ≤ tables size → Same m n at len
-  pub bytes : SameBytes m n size pending
-  pub replies : SameReplies m n size published
+  pub areas : (at len : ℕ) → at + len ≤ tables kind size → Same m n at len
+  pub bytes : SameBytes kind m n size pending
+  pub replies : SameReplies kind m n size published
 
 abbrev pub ItStays : Type 0
 ItStays = (m n : List ℕ) (driver : DriverState) (ring : RingState) (pending popped : List Offer) (published : List Reply)
-    → Untouched m n driver.size pending published → IsOffered m driver ring pending popped published
+    → Untouched driver.kind m n driver.size pending published → IsOffered m driver ring pending popped published
     → IsOffered n driver ring pending popped published
 
 -- a driver and a ring of which nothing was offered, over indexes that are 0
 abbrev pub ItBegins : Type 0
 ItBegins = (m : List ℕ) (places : Places) (size : ℕ) (event_idx : Bool)
-    → needed size ≤ length m → IsSetUp (first_state places size) size
+    → needed Split size ≤ length m → IsSetUp Split (first_state places size) size
     → bytes_at m (avail_idx_at size) 2 ≡ 0 ∷ 0 ∷ [] → bytes_at m (used_idx_at size) 2 ≡ 0 ∷ 0 ∷ []
     → IsOffered m (first_driver size event_idx) (first_state places size) [] [] []

@@ -3,7 +3,9 @@ pub mod Offered
 pub mod Driver
 pub mod Reap
 pub mod Used
+pub mod Kinds
 pub mod Law
 pub mod Access
 pub mod Negotiation
 pub mod OnDevice
+pub mod Beside

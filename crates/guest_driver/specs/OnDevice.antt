@@ -3,6 +3,7 @@ use Rattle.std.specs.Prelude.{◌≡◌, ℕ, ◌+◌, ◌<◌, ◌≤◌, ◌�
 use Rattle.rpmb_frame.specs.declared.config.GuestConfig.{GuestConfig}
 use Rattle.rpmb_frame.specs.declared.config.RingKind.TheVariants.{Split as SplitRing}
 use Rattle.rpmb_frame.specs.Config.{IsGuest}
+use Rattle.mmio_transport.specs.declared.queue.QueueKind.{QueueKind}
 use Rattle.mmio_transport.specs.declared.queue.QueueKind.TheVariants.{Split}
 use Rattle.mmio_transport.specs.declared.done.Published.{Published}
 use Rattle.mmio_transport.specs.declared.done.Published.TheVariants.{Wrote, Dropped}
@@ -17,13 +18,13 @@ use Rattle.mmio_transport.specs.Publishing.{Publishes}
 use Rattle.guest_driver.specs.declared.reaping.Reaped.{Reaped}
 use Rattle.guest_driver.specs.declared.fault.DriverFault.{DriverFault}
 use Rattle.guest_driver.specs.declared.fault.DriverFault.TheVariants.{NoRoom, OutOfRange, NoMemory as NoHostMemory, BadUsed}
-use Rattle.guest_driver.specs.Layout.{needed}
-use Rattle.guest_driver.specs.Offered.{Offer, found_of}
+use Rattle.guest_driver.specs.Kinds.{needed, places_of, found_of}
+use Rattle.guest_driver.specs.Offered.{Offer}
 use Rattle.guest_driver.specs.Used.{Reply}
 use Rattle.guest_driver.specs.Driver.{DriverState, first_driver, Offering, offer_of}
 use Rattle.guest_driver.specs.Reap.{Reaps}
 use Rattle.guest_driver.specs.Access.{ButForMemory}
-use Rattle.guest_driver.specs.Law.{IsOffered}
+use Rattle.guest_driver.specs.Law.{IsOffered, HasNumber}
 use Rattle.guest_driver.specs.Negotiation.{negotiated, is_in_service}
 
 -- The device is in service, on the driver's queue, and the chains in flight are those offered and not
@@ -31,7 +32,7 @@ use Rattle.guest_driver.specs.Negotiation.{negotiated, is_in_service}
 pub record IsServed (d : DeviceState) (driver : DriverState) (pending popped : List Offer) (published : List Reply) : Type 0 where
   pub queue : QueueState
   pub ready : d.queue ≡ Some queue
-  pub split : queue.kind ≡ Split
+  pub kind : queue.kind ≡ driver.kind
   pub driver_ok : d.registers.status.driver_ok ≡ true
   -- it waits for no reset
   pub going : d.registers.status.needs_reset ≡ false
@@ -44,14 +45,19 @@ pub record IsSameSession (d d' : DeviceState) : Type 0 where
   pub session : d'.session ≡ d.session
   pub readiness : d'.readiness ≡ d.readiness
 
+-- the chain behind these others, popped and not yet published, has this number
+abbrev pub HasNumberIn : Option QueueState → List Offer → ℕ → Type 0
+HasNumberIn None before number = ⊥
+HasNumberIn (Some queue) before number = HasNumber queue.ring.outstanding before number
+
 -- a reply to this chain, which the device popped in this session from this queue
-pub record IsReplyTo (d : DeviceState) (size : ℕ) (c : Offer) (done : Done) : Type 0 where
+pub record IsReplyTo (d : DeviceState) (kind : QueueKind) (size : ℕ) (c : Offer) (done : Done) : Type 0 where
   pub guest : done.guest ≡ d.guest
   pub session : done.session ≡ d.session
   pub readiness : done.readiness ≡ d.readiness
   pub id : done.id ≡ c.head
-  pub places : done.places ≡ 1
-  pub writable : done.writable ≡ (found_of size c).buffers.writable
+  pub places : done.places ≡ places_of kind c
+  pub writable : done.writable ≡ (found_of kind size c).buffers.writable
   pub fits : length done.reply ≤ c.writable
 
 -- the reply is the last of those published
@@ -71,12 +77,12 @@ PublishedBy Dropped d driver pending others published c done d' = ⊥
 -- a reply to a popped chain, whichever it is, comes behind those published
 abbrev pub ADevicePublishJoins : Type 0
 ADevicePublishJoins = (d d' : DeviceState) (driver : DriverState) (pending before : List Offer) (c : Offer) (after : List Offer) (published : List Reply) (done : Done) (answer : Published)
-    → IsServed d driver pending (before ++ c ∷ after) published → IsReplyTo d driver.size c done
-    → Publishes d done answer d' → PublishedBy answer d driver pending (before ++ after) published c done d'
+    → IsServed d driver pending (before ++ c ∷ after) published → IsReplyTo d driver.kind driver.size c done
+    → HasNumberIn d.queue before done.number → Publishes d done answer d' → PublishedBy answer d driver pending (before ++ after) published c done d'
 
 -- a job is this chain, with its id, its ranges and its bytes, of this session and queue
-pub record IsJobOf (d : DeviceState) (size : ℕ) (c : Offer) (job : Job) : Type 0 where
-  pub found : found_by job ≡ found_of size c
+pub record IsJobOf (d : DeviceState) (kind : QueueKind) (size : ℕ) (c : Offer) (job : Job) : Type 0 where
+  pub found : found_by job ≡ found_of kind size c
   pub request : job.request ≡ c.bytes
   pub guest : job.guest ≡ d.guest
   pub session : job.session ≡ d.session
@@ -107,7 +113,7 @@ PoppedBy [] (Err (Refused fault)) d driver popped published d' = ⊥
 PoppedBy [] (Err NeedsReset) d driver popped published d' = IsAtItsEnd d d'
 PoppedBy (c ∷ cs) (Ok None) d driver popped published d' = ⊥
 PoppedBy (c ∷ cs) (Ok (Some job)) d driver popped published d' =
-    IsJobOf d driver.size c job × IsPopped d driver cs (popped ++ c ∷ []) published 1 d'
+    IsJobOf d driver.kind driver.size c job × IsPopped d driver cs (popped ++ c ∷ []) published 1 d' × HasNumberIn d'.queue popped job.number
 PoppedBy (c ∷ cs) (Err NoMemory) d driver popped published d' = d' ≡ d
 PoppedBy (c ∷ cs) (Err (Refused fault)) d driver popped published d' = ⊥
 PoppedBy (c ∷ cs) (Err NeedsReset) d driver popped published d' = IsAtItsEnd d d'
@@ -163,7 +169,7 @@ AReapFromADeviceGivesTheFirst = (d : DeviceState) (driver driver' : DriverState)
 pub record IsFound (g : GuestConfig) (d : DeviceState) : Type 0 where
   pub guest : IsGuest g
   pub split : g.ring ≡ SplitRing
-  pub memory : needed g.queue ≤ length d.memory
+  pub memory : needed Split g.queue ≤ length d.memory
   pub registers : d.registers ≡ fresh
   pub none : d.queue ≡ None
 

@@ -9,6 +9,3 @@ mod memory;
 
 pub use fault::MemFault;
 pub use memory::Memory;
-
-#[cfg(test)]
-mod tests;

@@ -6,6 +6,3 @@ mod mac;
 
 pub use hmac_sha256::hmac;
 pub use mac::{MacKey, mac_of};
-
-#[cfg(test)]
-mod tests;

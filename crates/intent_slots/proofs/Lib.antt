@@ -14,3 +14,4 @@ pub mod Rooms
 pub mod ReadsBack
 pub mod Parting
 pub mod Boards
+pub mod Redoing

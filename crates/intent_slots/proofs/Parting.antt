@@ -1,13 +1,13 @@
 -- Which partition a content holds.
-use Rattle.std.proofs.Common.{◌≡◌, ◌⊎◌, inl, inr, Bool, true, false, Some, List, [], ◌∷◌, ◌++◌, length-append, ℕ, ◌+◌, ◌*◌, ◌-◌, ◌≤◌, ◌<◌, length, refl, ap, sym, ◌∙◌, arith}
-use Rattle.std.specs.Prelude.{nat_lt, if◌then◌else◌}
+use Rattle.std.proofs.Common.{◌≡◌, ◌⊎◌, inl, inr, Bool, true, false, Option, Some, suc, List, [], ◌∷◌, ◌++◌, length-append, ℕ, ◌+◌, ◌*◌, ◌-◌, ◌≤◌, ◌<◌, length, refl, ap, sym, ◌∙◌, arith}
+use Rattle.std.specs.Prelude.{nat_lt, slice_index, if◌then◌else◌}
 use Rattle.std.proofs.lemmas.Bool.{cases_lt}
 use Rattle.std.proofs.lemmas.Bool.Decides.{nat_tests}
 use Rattle.disk.specs.Content.{Content, over}
 use Rattle.rpmb_frame.specs.Partition.{overwritten}
 use Rattle.intent_slots.specs.Layout.{Place, blocks_at, end_of}
 use Rattle.intent_slots.specs.Payload.{Entry, last_of}
-use Rattle.intent_slots.specs.Recovered.{redo, blocks_of, redone, ByHome, ByPayload, OnePart, PartIsItsBytes, RedoOverwrites, AfterOverwrites, AfterInTurn}
+use Rattle.intent_slots.specs.Recovered.{Part, SamePartition, redo, blocks_of, redone, ByHome, ByPayload, OnePart, PartIsItsBytes, RedoOverwrites, AfterOverwrites, AfterInTurn}
 use Rattle.intent_slots.proofs.Same.{same_home, same_payload, payload_short}
 use Rattle.intent_slots.proofs.Homes.{one_home}
 use Rattle.intent_slots.proofs.Decoding.{one_group}
@@ -92,3 +92,19 @@ after_turn p i e some =
     omega (arith, long, some) in
     let blocks = redo_turn i.entries (e ∷ []) p.blocks in
     λ k. record { key = Some i.key; counter = last k; blocks = blocks k }
+
+-- Bytes of one length that give the same content are the same.
+same_bytes : (xs ys : List ℕ) → length xs ≡ length ys → ((k : ℕ) → slice_index xs k ≡ slice_index ys k) → xs ≡ ys
+same_bytes [] [] long same = refl
+same_bytes [] (y ∷ ys) long same = absurd (omega (arith, long))
+same_bytes (x ∷ xs) [] long same = absurd (omega (arith, long))
+same_bytes (x ∷ xs) (y ∷ ys) long same =
+    ap (λ (n : ℕ). n ∷ xs) (same 0) ∙ ap (λ (l : List ℕ). y ∷ l) (same_bytes xs ys (omega (arith, long)) (λ k. same (suc k)))
+
+pub same_partition : SamePartition
+same_partition p q units long also same =
+    let blocks = same_bytes p.blocks q.blocks (omega (arith, units, long, also)) (λ k. ap (λ (r : Part). r.blocks k) same) in
+    ap (λ (n : ℕ). record { capacity = n; key = p.key; counter = p.counter; blocks = p.blocks }) units
+    ∙ ap (λ (k : Option (List ℕ)). record { capacity = q.capacity; key = k; counter = p.counter; blocks = p.blocks }) (ap (λ (r : Part). r.key) same)
+    ∙ ap (λ (n : ℕ). record { capacity = q.capacity; key = q.key; counter = n; blocks = p.blocks }) (ap (λ (r : Part). r.counter) same)
+    ∙ ap (λ (l : List ℕ). record { capacity = q.capacity; key = q.key; counter = q.counter; blocks = l }) blocks

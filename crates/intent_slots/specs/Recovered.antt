@@ -59,6 +59,11 @@ PartIsItsBytes = (place : Place) (slot : SlotPlace) (c d : Content) (p : Part) �
     → ((k : ℕ) → place.base ≤ k → k < end_of place → c k ≡ d k)
     → StandsFor place slot c p → StandsFor place slot d p
 
+-- two partitions of one capacity, each with all its blocks, of which one content may tell the same, are one
+abbrev pub SamePartition : Type 0
+SamePartition = (p q : Partition) → p.capacity ≡ q.capacity → length p.blocks ≡ 131072 * p.capacity → length q.blocks ≡ 131072 * q.capacity
+    → part_of p ≡ part_of q → p ≡ q
+
 -- to redo an entry is to overwrite the partition's blocks
 abbrev pub RedoOverwrites : Type 0
 RedoOverwrites = (e : Entry) (blocks : List ℕ) → 256 * e.address + length e.blocks ≤ length blocks

@@ -1,9 +1,12 @@
 ghost use Rattle.std.specs.Prelude.{◌≡◌, ◌+◌, ◌-◌, ◌<◌, ◌≤◌, ◌*◌, ◌^◌, ◌++◌, ◌∷◌, [], ◌↔◌, IsTrue, length, slice_get, Some};
+ghost use Rattle.disk.specs.Content.{content_of};
+ghost use Rattle.intent_slots.specs.Recovered.{redo};
 ghost use Rattle.intent_slots.specs.Payload.{GroupFits, EntryFits, IsWrite, last_of};
 
 use crate::entry::Entry;
+use crate::extent::Extent;
+use crate::fields::put;
 use crate::home::Home;
-use crate::layout::UNIT_SIZE;
 use arrayvec::ArrayVec;
 use std::marker::Model;
 
@@ -138,12 +141,24 @@ impl Intent {
         Home::with_key(self.key, self.last_counter())
     }
 
-    /// Whether each block lies in a partition of this capacity, in units of 512 blocks of 256 bytes.
+    /// Whether each block lies in a partition.
     #[tactic(auto, using(crate::proofs::Groups::all_inside))]
-    pub fn lies_inside(&self, capacity: u8) -> bool
-        ensures { IsTrue result ↔ GroupFits (131_072 * capacity) self.now.group }
+    pub fn lies_inside(&self, extent: &Extent) -> bool
+        ensures { IsTrue result ↔ GroupFits extent.now.size self.now.group }
     {
-        let size = UNIT_SIZE * usize::from(capacity);
+        let size = extent.size();
         self.entries.iter().all(|entry| entry.lies_inside(size))
+    }
+
+    /// Puts the blocks of the requests over the blocks of their partition, in their order.
+    pub fn redo(&self, blocks: &mut [u8])
+        requires { GroupFits (length blocks.old) self.now.group }
+        ensures content { content_of blocks.new ≡ redo self.now.group.entries (content_of blocks.old) }
+        ensures len { length blocks.new ≡ length blocks.old }
+    {
+        for k in 0..self.entries() {
+            let entry = self.entry(k);
+            put(blocks, 256 * usize::from(entry.address()), entry.blocks());
+        }
     }
 }

@@ -1,10 +1,14 @@
 //! Laws of the definitions.
+ghost use Rattle.std.specs.Prelude.{◌≡◌};
+ghost use Rattle.intent_slots.specs.declared.home.TheConstants.{HOME_LENGTH};
+ghost use Rattle.intent_slots.specs.declared.layout.TheConstants.{OPEN_GATE, SHUT_GATE, VERSION_PLACE, HEADER_LENGTH};
+ghost use Rattle.intent_slots.specs.declared.payload.TheConstants.{PAYLOAD_LENGTH};
 ghost use Rattle.intent_slots.specs.Header.{HeaderReadsBack, HeaderIsItsBytes};
 ghost use Rattle.disk.specs.Content.{Content};
 ghost use Rattle.intent_slots.specs.Fields.{Agree};
 ghost use Rattle.intent_slots.specs.Home.{HomeReadsBack, HomeIsItsBytes, OneHome};
 ghost use Rattle.intent_slots.specs.Payload.{PayloadReadsBack, PayloadIsItsBytes, OneGroup};
-ghost use Rattle.intent_slots.specs.Recovered.{OnePart, PartIsItsBytes, RedoOverwrites, AfterOverwrites, AfterInTurn};
+ghost use Rattle.intent_slots.specs.Recovered.{OnePart, PartIsItsBytes, SamePartition, RedoOverwrites, AfterOverwrites, AfterInTurn};
 
 /// A header that was written is that of its board, and of no other; it speaks of the first 74 bytes
 /// alone.
@@ -29,10 +33,21 @@ pub fn payload_reads_back()
     ensures one { OneGroup }
 {}
 
-/// A content holds at most one partition in a place, and which one rests on the bytes of that place.
+/// A content holds at most one partition in a place, and which one rests on the bytes of that place; of
+/// one capacity no two partitions are held alike.
 pub fn one_partition()
     ensures one { OnePart }
     ensures own_bytes { PartIsItsBytes }
+    ensures same { SamePartition }
+{}
+
+/// The constants are the numbers of the format: an open gate is 0xA5 and a shut one is written as 0x00;
+/// the version byte stands at offset 512, partition 0 at 1,024; a home record has 64 bytes, and the
+/// greatest payload 16,648.
+pub fn constants_are_the_formats()
+    ensures gates { (OPEN_GATE ≡ 165) × (SHUT_GATE ≡ 0) }
+    ensures offsets { (VERSION_PLACE ≡ 512) × (HEADER_LENGTH ≡ 1024) }
+    ensures lengths { (HOME_LENGTH ≡ 64) × (PAYLOAD_LENGTH ≡ 16_648) }
 {}
 
 /// What a request makes of a partition: its blocks are overwritten, under the key and the counter that

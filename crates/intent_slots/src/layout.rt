@@ -1,6 +1,7 @@
 ghost use Rattle.std.specs.Prelude.{◌≡◌, ◌≤◌, ◌<◌, ◌+◌, ◌*◌, ◌^◌, length, slice_index};
 ghost use Rattle.intent_slots.specs.Layout.{capacities_of, place_at, start_of, image_length, slot_place, blocks_at, NeverOverlap, AllInside, PartsNeverOverlap, PartsInside, SlotsBetween};
 
+use crate::extent::Extent;
 use arrayvec::ArrayVec;
 use rpmb_frame::BoardConfig;
 use std::marker::Model;
@@ -18,28 +19,28 @@ pub const VERSION_PLACE: u64 = 512;
 pub const HEADER_LENGTH: u64 = 1024;
 
 /// The place of slot A's gate in a partition, in bytes from its first.
-pub const GATE_PLACE: u64 = 512;
+pub(crate) const GATE_PLACE: u64 = 512;
 
 /// The place of slot A's payload in a partition, in bytes from its first.
-pub const PAYLOAD_PLACE: u64 = 1024;
+pub(crate) const PAYLOAD_PLACE: u64 = 1024;
 
 /// The length in bytes of a partition's parts before its blocks: the place of block 0 in it.
-pub const PARTS_LENGTH: u64 = 35_328;
+pub(crate) const PARTS_LENGTH: u64 = 35_328;
 
 /// The length in bytes of a block.
-pub const BLOCK_LENGTH: u64 = 256;
+pub(crate) const BLOCK_LENGTH: u64 = 256;
 
 /// The length in bytes of the blocks of one unit of capacity.
-pub const UNIT_LENGTH: u64 = 131_072;
+const UNIT_LENGTH: u64 = 131_072;
 
 /// The same as a length in memory.
 pub(crate) const UNIT_SIZE: usize = UNIT_LENGTH as usize;
 
 /// The place of slot B's gate in a partition, in bytes from its first.
-const GATE_B_PLACE: u64 = 17_920;
+pub(crate) const GATE_B_PLACE: u64 = 17_920;
 
 /// The place of slot B's payload in a partition, in bytes from its first.
-const PAYLOAD_B_PLACE: u64 = 18_432;
+pub(crate) const PAYLOAD_B_PLACE: u64 = 18_432;
 
 /// One of a partition's two slots. Slot B has its place, and nothing reads it yet.
 #[derive(Clone, Copy, Debug, PartialEq, Eq)]
@@ -114,48 +115,13 @@ impl Layout {
         self.capacities.as_slice()[usize::from(guest)]
     }
 
-    /// The place of a guest's home record, of 64 bytes.
-    pub fn home(&self, guest: u16) -> u64
+    /// Where a guest's partition stands.
+    pub fn extent(&self, guest: u16) -> Extent
         requires { guest < length self.now }
-        ensures value { result ≡ (place_at self.now guest).base }
-        ensures small { result < 2 ^ 31 }
+        ensures { result ≡ place_at self.now guest }
     {
-        start(self.capacities.as_slice(), usize::from(guest))
-    }
-
-    /// The place of the gate of one of a guest's slots, of one byte.
-    pub fn gate(&self, side: Side, guest: u16) -> u64
-        requires { guest < length self.now }
-        ensures value { result ≡ (slot_place (place_at self.now guest) side).gate }
-        ensures small { result < 2 ^ 32 }
-    {
-        let base = self.home(guest);
-        match side {
-            Side::A => base + GATE_PLACE,
-            Side::B => base + GATE_B_PLACE,
-        }
-    }
-
-    /// The place of the payload of one of a guest's slots, of at most 16,648 bytes.
-    pub fn payload(&self, side: Side, guest: u16) -> u64
-        requires { guest < length self.now }
-        ensures value { result ≡ (slot_place (place_at self.now guest) side).payload }
-        ensures small { result < 2 ^ 32 }
-    {
-        let base = self.home(guest);
-        match side {
-            Side::A => base + PAYLOAD_PLACE,
-            Side::B => base + PAYLOAD_B_PLACE,
-        }
-    }
-
-    /// The place of a guest's blocks, of 256 bytes each, by address.
-    pub fn blocks(&self, guest: u16) -> u64
-        requires { guest < length self.now }
-        ensures value { result ≡ blocks_at (place_at self.now guest) }
-        ensures small { result < 2 ^ 32 }
-    {
-        self.home(guest) + PARTS_LENGTH
+        let base = start(self.capacities.as_slice(), usize::from(guest));
+        Extent::new(base, self.capacity(guest))
     }
 }
 

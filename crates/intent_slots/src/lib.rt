@@ -5,6 +5,7 @@
 #![tactic(auto)]
 
 mod entry;
+mod extent;
 mod fields;
 mod header;
 mod home;
@@ -14,18 +15,16 @@ mod layout;
 mod payload;
 
 pub use entry::Entry;
+pub use extent::Extent;
 pub use header::HeaderFault;
 pub use home::{HOME_LENGTH, Home};
 pub use intent::Intent;
 pub use laws::{
-    header_reads_back, home_reads_back, one_partition, payload_reads_back, requests_in_turn,
+    constants_are_the_formats, header_reads_back, home_reads_back, one_partition,
+    payload_reads_back, requests_in_turn,
 };
 pub use layout::{
-    BLOCK_LENGTH, GATE_PLACE, HEADER_LENGTH, Layout, OPEN_GATE, PARTS_LENGTH, PAYLOAD_PLACE,
-    SHUT_GATE, Side, UNIT_LENGTH, VERSION_PLACE, partitions_lie_inside, partitions_never_overlap,
-    parts_never_overlap,
+    HEADER_LENGTH, Layout, OPEN_GATE, SHUT_GATE, Side, VERSION_PLACE, partitions_lie_inside,
+    partitions_never_overlap, parts_never_overlap,
 };
 pub use payload::{NoMemory, PAYLOAD_LENGTH, Room};
-
-#[cfg(test)]
-mod tests;

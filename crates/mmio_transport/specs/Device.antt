@@ -5,11 +5,13 @@ use Rattle.std.specs.Int.{is_power_of_two}
 use Rattle.rpmb_frame.specs.Table.{first_row}
 use Rattle.rpmb_frame.specs.declared.config.GuestConfig.{GuestConfig}
 use Rattle.chains.specs.declared.places.Places.{Places}
-use Rattle.chains.specs.Ring.{first_state as first_ring}
+use Rattle.chains.specs.Ring.{Ascend, first_state as first_ring}
 use Rattle.mmio_transport.specs.declared.registers.Registers.{Registers}
 use Rattle.mmio_transport.specs.declared.registers.Kick.{Kick}
 use Rattle.mmio_transport.specs.declared.registers.Kick.TheVariants.{None as NoKick, Notify, Reset}
 use Rattle.mmio_transport.specs.declared.queue.QueueKind.TheVariants.{Split}
+use Rattle.mmio_transport.specs.Register as register
+use Rattle.mmio_transport.specs.Feature as feature
 use Rattle.mmio_transport.specs.Registers.{fresh, register_value, after_register, has}
 use Rattle.mmio_transport.specs.Queue.{QueueState, AreasInside}
 
@@ -27,15 +29,17 @@ pub record DeviceState : Type 0 where
   pub readiness : ℕ
   pub pops : ℕ
 
--- what a device keeps of its queue in a memory of this size: its areas lie there, and its pops are
--- among the device's
-pub record IsQueue (size pops : ℕ) (queue : QueueState) : Type 0 where
+-- What a device that was made ready so often, and popped so many chains, keeps of its queue in a
+-- memory of this size: its areas lie there, and its chains have numbers of pops, each one its own.
+pub record IsQueue (size readiness pops : ℕ) (queue : QueueState) : Type 0 where
   pub areas : AreasInside queue.kind size queue.ring
-  pub counted_too : queue.ring.pops ≤ pops
+  pub readied : 1 ≤ readiness
+  pub numbered : Ascend 0 queue.ring.outstanding queue.ring.last
+  pub counted_too : queue.ring.last ≤ pops
 
-abbrev pub IsDevice : ℕ → ℕ → Option QueueState → Type 0
-IsDevice size pops None = Unit {0}
-IsDevice size pops (Some queue) = IsQueue size pops queue
+abbrev pub IsDevice : ℕ → ℕ → ℕ → Option QueueState → Type 0
+IsDevice size readiness pops None = Unit {0}
+IsDevice size readiness pops (Some queue) = IsQueue size readiness pops queue
 
 abbrev pub is_ready : Option QueueState → Bool
 is_ready None = false
@@ -81,22 +85,21 @@ config_number config at width = first_row (
 -- what a read gives
 unfoldable pub read_value : DeviceState → ℕ → ℕ → ℕ
 read_value d offset width = first_row (
-    (nat_le 0x100 offset, config_number d.config (offset - 0x100) width)
+    (nat_le register.config offset, config_number d.config (offset - register.config) width)
     ∷ (width == 4, register_value d.registers (is_ready d.queue) offset)
     ∷ []) 0
 
 abbrev pub address : ℕ → ℕ → ℕ
 address low high = low + 4294967296 * high
 
--- where the registers say that the queue stands, and the features that were accepted for it:
--- INDIRECT_DESC is 28, EVENT_IDX is 29
+-- where the registers say that the queue stands, and the features that were accepted for it
 unfoldable pub places_of : Registers → Places
 places_of r = record {
   descriptors = address r.desc_low r.desc_high;
   driver = address r.driver_low r.driver_high;
   device = address r.device_low r.device_high;
-  indirect = has r.driver_features_low 0x10000000;
-  event_idx = has r.driver_features_low 0x20000000;
+  indirect = has r.driver_features_low feature.indirect_desc;
+  event_idx = has r.driver_features_low feature.event_idx;
 }
 
 -- a split queue of this size may stand at these places, in a memory of so many bytes (2.7)
@@ -137,13 +140,13 @@ after_reset d = record d { registers = fresh; queue = None; session = counted d.
 unfoldable pub after_write : DeviceState → ℕ → ℕ → ℕ → DeviceState
 after_write d offset width value = first_row (
     (not (width == 4), d)
-    ∷ (offset == 0x044, after_ready d value)
-    ∷ (offset == 0x070 && value == 0, after_reset d)
+    ∷ (offset == register.queue_ready, after_ready d value)
+    ∷ (offset == register.status && value == 0, after_reset d)
     ∷ []) (record d { registers = after_register d.registers (is_ready d.queue) offset value })
 
 -- what a write asks of the device's host: QueueNotify of queue 0, or a reset by Status
 unfoldable pub kick_of : ℕ → ℕ → ℕ → Kick
 kick_of offset width value = first_row (
-    (width == 4 && offset == 0x050 && value == 0, Notify)
-    ∷ (width == 4 && offset == 0x070 && value == 0, Reset)
+    (width == 4 && offset == register.queue_notify && value == 0, Notify)
+    ∷ (width == 4 && offset == register.status && value == 0, Reset)
     ∷ []) NoKick

@@ -9,15 +9,16 @@ use Rattle.mmio_transport.specs.Queue.{QueueState, used_written, Tells}
 use Rattle.mmio_transport.specs.Job.{Done, used_length}
 use Rattle.mmio_transport.specs.Device.{DeviceState}
 
--- the reply to a chain of this device's guest, session and ready queue that is outstanding there,
--- while the device isn't stopped, with ranges in its memory
+-- The reply to a chain of this device's guest, session and ready queue that is outstanding there,
+-- while the device isn't stopped, with ranges in its memory. The number of its pop says which chain
+-- it is: a driver may give one id to several.
 pub record IsDue (d : DeviceState) (queue : QueueState) (done : Done) : Type 0 where
   pub guest : done.guest ≡ d.guest
   pub session : done.session ≡ d.session
   pub readiness : done.readiness ≡ d.readiness
   pub going : d.registers.status.needs_reset ≡ false
   pub inside : AreInside (length d.memory) done.writable
-  pub outstanding : IsOutstanding queue.ring done.id done.places
+  pub outstanding : IsOutstanding queue.ring done.number done.id done.places
 
 abbrev pub IsDueIn : Option QueueState → DeviceState → Done → Type 0
 IsDueIn None d done = ⊥
@@ -38,7 +39,7 @@ pub record WritesReply (d : DeviceState) (queue : QueueState) (done : Done) (not
   pub told : Tells queue.kind d'.memory queue.ring done.places notify
   pub after : d' ≡ record d {
     registers = with_notification d.registers notify;
-    queue = Some (record { kind = queue.kind; ring = after_publish queue.ring done.id done.places });
+    queue = Some (record { kind = queue.kind; ring = after_publish queue.ring done.number done.id done.places });
     memory = memory_after d queue done;
   }
 

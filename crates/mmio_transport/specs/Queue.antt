@@ -2,7 +2,7 @@
 use Rattle.std.specs.Prelude.{ℕ, Bool, List, Option, Result}
 use Rattle.chains.specs.declared.places.Places.{Places}
 use Rattle.chains.specs.declared.fault.ChainFault.{ChainFault}
-use Rattle.chains.specs.Walk.{Found}
+use Rattle.chains.specs.Walk.{Found, Link}
 use Rattle.chains.specs.Ring.{RingState}
 use Rattle.split_ring.specs.Layout as split_layout
 use Rattle.split_ring.specs.Available as split_available
@@ -18,6 +18,10 @@ pub record QueueState : Type 0 where
 -- what stands at the place after those popped
 abbrev pub next : QueueKind → List ℕ → RingState → Result (Option Found) ChainFault
 next Split = split_available.next
+
+-- the members of the chain there
+abbrev pub members : QueueKind → List ℕ → RingState → List Link
+members Split = split_available.members
 
 -- what a pop writes for the driver
 abbrev pub event : QueueKind → List ℕ → RingState → List ℕ

@@ -12,15 +12,13 @@ use crate::done::{Done, Published};
 use crate::fault::DeviceFault;
 use crate::job::{Job, Ticket};
 use crate::queue::Queue;
+use crate::register;
 use crate::registers::{Kick, Registers};
 use chains::{NoMemory, Reads, RingFault};
 use guest_memory::{MemFault, Memory};
 use rpmb_frame::GuestConfig;
 use std::alloc::{AllocError, Global};
 use std::marker::Model;
-
-/// Where the configuration begins.
-const CONFIGURATION: u32 = 0x100;
 
 /// The device of one guest, with the guest's memory.
 ///
@@ -47,7 +45,7 @@ impl Model for Device {
 
     ghost view = { λ d. record { guest = d.guest; config = d.config; registers = d.registers; queue = d.queue; memory = d.memory; session = d.session; readiness = d.readiness; pops = d.pops } };
 
-    ghost invariant = { λ d. IsDevice (length d.memory) d.pops d.queue };
+    ghost invariant = { λ d. IsDevice (length d.memory) d.readiness d.pops d.queue };
 }
 
 /// One more, but for a count that stands at its end.
@@ -87,8 +85,8 @@ impl Device {
     pub fn read(&self, offset: u32, width: u8) -> u32
         ensures { result ≡ read_value self.now offset width }
     {
-        if offset >= CONFIGURATION {
-            return config_number(&self.config, (offset - CONFIGURATION) as u64, width);
+        if offset >= register::CONFIG {
+            return config_number(&self.config, (offset - register::CONFIG) as u64, width);
         }
         if width != 4 {
             return 0;
@@ -108,12 +106,12 @@ impl Device {
             return Kick::None;
         }
         match offset {
-            0x044 => {
+            register::QUEUE_READY => {
                 self.write_queue_ready(value);
                 Kick::None
             }
-            0x050 => { if value == 0 { Kick::Notify } else { Kick::None } }
-            0x070 if value == 0 => {
+            register::QUEUE_NOTIFY => { if value == 0 { Kick::Notify } else { Kick::None } }
+            register::STATUS if value == 0 => {
                 self.reset();
                 Kick::Reset
             }
@@ -197,7 +195,7 @@ impl Device {
         self.registers.interrupts.number()
     }
 
-    /// Whether it gives no more jobs until a reset.
+    /// Whether it gives no more jobs: until a reset where it waits for one, else for good.
     fn is_stopped(&self) -> bool
         ensures { result ≡ is_stopped self.now }
     {
@@ -212,9 +210,11 @@ impl Device {
     /// none in a ready queue after DRIVER_OK, writes avail_event (VIRTIO 1.2, 2.7.10); it writes nothing
     /// else into guest memory.
     ///
-    /// A fault of the chain sets DEVICE_NEEDS_RESET; from then on, and where a count stands at its
-    /// end, each pop answers `NeedsReset` and changes nothing, until a reset. `NoMemory` changes
-    /// nothing. By the ring's contract one pop reads at most the queue size and 1,024 descriptors.
+    /// A fault of the chain sets DEVICE_NEEDS_RESET; from then on each pop answers `NeedsReset` and
+    /// changes nothing, until a reset. Where the count of sessions, readiness or pops stands at its end
+    /// it does so for good. `NoMemory` comes only where a buffer is reached before any fault, and changes
+    /// nothing. By the ring's contract one pop reads each descriptor once, up to the first that fails a
+    /// test: at most the queue size and 1,024.
     pub fn pop(&mut self) -> Result<Option<Job>, DeviceFault>
         ensures { GivesJob self.old result self.new }
     {
@@ -236,13 +236,14 @@ impl Device {
             return Ok(None);
         };
         let mut reads = Reads::new();
-        match queue.pop(self.alloc, &mut self.memory, &mut reads) {
+        match queue.pop(self.alloc, &mut self.memory, &mut reads, ticket.number) {
             Ok(None) => Ok(None),
             Ok(Some(popped)) => {
                 self.pops += 1;
                 Ok(Some(Job::of_popped(ticket, popped)))
             }
             Err(RingFault::NoMemory) => Err(DeviceFault::NoMemory),
+            Err(RingFault::OldNumber) => unreachable!(),
             Err(RingFault::Refused(fault)) => {
                 self.registers.status.needs_reset = true;
                 self.registers.interrupts.configuration = true;
@@ -263,7 +264,7 @@ impl Device {
                     && ticket.readiness == self.readiness
                     && !self.registers.status.needs_reset
                     && done.lies_in(&self.memory)
-                    && queue.is_outstanding(ticket.id, ticket.places)
+                    && queue.is_outstanding(ticket.number, ticket.id, ticket.places)
             }
             None => false,
         }
@@ -274,9 +275,12 @@ impl Device {
     ///
     /// `Dropped`, with nothing changed, where the queue isn't ready, the guest, session or readiness of
     /// the reply isn't the device's, the device waits for a reset, a range doesn't lie in its memory,
-    /// or no chain of its id and number of places is outstanding.
+    /// or the chain of its number isn't outstanding. So of two replies to one job the second is
+    /// dropped, whatever ids the guest gave to its chains.
     pub fn publish(&mut self, done: Done) -> Published
         ensures publishes { Publishes self.old done result self.new }
+        ensures once { ¬ IsDueIn self.new.queue self.new done }
+        ensures of_no_device { done.readiness ≡ 0 → result ≡ Published.Dropped }
         // No reply is longer than its ranges: a fact of the type.
         ensures fits { length done.reply ≤ room_in done.writable }
     {
@@ -290,6 +294,7 @@ impl Device {
         done.scatter(&mut self.memory);
         let notify = queue.publish(
             &mut self.memory,
+            ticket.number,
             ticket.id,
             ticket.places,
             done.used_length(),

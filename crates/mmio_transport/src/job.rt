@@ -36,9 +36,8 @@ impl Model for Job {
 
 impl Job {
     /// A job that no device gave: one of a guest's session, for a chain with this id that took so
-    /// many places of a ring, with these ranges for the reply. Its readiness and number are 0. A device
-    /// drops the reply to it, since the readiness of a queue that is ready is 1 or more; no contract
-    /// says so.
+    /// many places of a ring, with these ranges for the reply. Its readiness and number are 0, so every
+    /// device drops the reply to it.
     pub fn of(
         alloc: Global,
         guest: u16,
@@ -81,7 +80,7 @@ impl Job {
     }
 
     /// A second job of the same chain that has what a reply needs alone: no request, and no ranges
-    /// to read.
+    /// to read. Of the replies to both, a device writes the first that it is given and drops the other.
     pub fn for_reply(&self, alloc: Global) -> Result<Job, NoMemory>
         ensures { IfOk result (λ job. job ≡ record self.now { readable = []; request = [] }) }
     {
@@ -107,7 +106,22 @@ impl Job {
         self.ticket.session
     }
 
-    /// The id of the chain.
+    /// How often the queue had been made ready when the chain was popped; 0 where no device gave the job.
+    pub fn readiness(&self) -> u64
+        ensures { result ≡ self.now.readiness }
+    {
+        self.ticket.readiness
+    }
+
+    /// The number of the pop on its device, counted from 1 and never given twice; 0 where no device gave
+    /// the job.
+    pub fn number(&self) -> u64
+        ensures { result ≡ self.now.number }
+    {
+        self.ticket.number
+    }
+
+    /// The id of the chain, which a driver may give to several.
     pub fn id(&self) -> u16
         ensures { result ≡ self.now.id }
     {

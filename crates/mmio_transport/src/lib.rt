@@ -10,8 +10,11 @@ mod configuration;
 mod device;
 mod done;
 mod fault;
+pub mod feature;
 mod job;
+mod laws;
 mod queue;
+pub mod register;
 mod registers;
 mod setup;
 mod status;
@@ -20,9 +23,7 @@ pub use device::Device;
 pub use done::{Done, Published};
 pub use fault::DeviceFault;
 pub use job::Job;
+pub use laws::{features_are_the_standards, offsets_are_the_standards};
 pub use queue::QueueKind;
 pub use registers::{Kick, Registers};
 pub use status::{Interrupts, Status};
-
-#[cfg(test)]
-mod tests;

@@ -1,8 +1,9 @@
 //! The queue of a device, whatever kind of ring it stands on.
-ghost use Rattle.std.specs.Prelude.{◌≡◌, ◌≤◌, ◌<◌, ◌+◌, ◌-◌, ◌^◌, ◌↔◌, IsTrue, IsOk, IfOk, OnErr, Err, IfSome, length};
+ghost use Rattle.std.specs.Prelude.{◌≡◌, ◌≤◌, ◌<◌, ◌+◌, ◌-◌, ◌^◌, ◌↔◌, IsTrue, false, IsOk, IfOk, OnErr, Err, IfSome, length};
 ghost use Rattle.chains.specs.Range.{AreInside};
-ghost use Rattle.chains.specs.Ring.{first_state, Pops, Publishes, IsOutstanding};
-ghost use Rattle.mmio_transport.specs.Queue.{AreasInside, IsRing, next, event, used_written, Tells};
+ghost use Rattle.chains.specs.Walk.{reads_of};
+ghost use Rattle.chains.specs.Ring.{first_state, Pops, CountsReads, Publishes, IsOutstanding, IsFree, Ascend};
+ghost use Rattle.mmio_transport.specs.Queue.{AreasInside, IsRing, next, members, event, used_written, Tells};
 
 use chains::{ChainFault, Places, Popped, Reads, RingFault};
 use guest_memory::Memory;
@@ -45,41 +46,53 @@ impl Queue {
         }
     }
 
-    /// Whether a chain of this id and so many places was popped and not yet used.
-    pub fn is_outstanding(&self, id: u16, places: u16) -> bool
-        ensures { IsTrue result ↔ IsOutstanding self.now.ring id places }
+    /// Whether the chain of this number, of this id and so many places, was popped and not yet used.
+    pub fn is_outstanding(&self, number: u64, id: u16, places: u16) -> bool
+        ensures { IsTrue result ↔ IsOutstanding self.now.ring number id places }
     {
-        self.ring.is_outstanding(id, places)
+        self.ring.is_outstanding(number, id, places)
     }
 
-    /// Pops the chain at the place after those popped. A refusal changes nothing.
+    /// Pops the chain at the place after those popped, which is known by `number` from then on. A
+    /// refusal changes nothing.
     pub fn pop(
         &mut self,
         alloc: Global,
         memory: &mut Memory,
         reads: &mut Reads,
+        number: u64,
     ) -> Result<Option<Popped>, RingFault>
         requires areas { AreasInside self.old.kind (length memory.old) self.old.ring }
-        requires room { self.old.ring.pops < 2 ^ 64 - 1 }
         ensures kind { self.new.kind ≡ self.old.kind }
-        ensures pops { Pops (next self.old.kind) (event self.old.kind) memory.old self.old.ring result memory.new self.new.ring }
+        ensures pops { Pops (next self.old.kind) (members self.old.kind) (event self.old.kind) memory.old self.old.ring number result memory.new self.new.ring }
+        ensures numbered { Ascend 0 self.new.ring.outstanding self.new.ring.last }
         ensures areas { AreasInside self.new.kind (length memory.new) self.new.ring }
         ensures size { length memory.new ≡ length memory.old }
         ensures inside { IfOk result (λ popped. IfSome popped (λ popped. AreInside (length memory.old) popped.chain.writable)) }
-        ensures reads { reads.new ≤ self.old.ring.size + 1024 }
+        ensures reads { CountsReads result reads.old reads.new (reads_of (length memory.old) false (members self.old.kind memory.old self.old.ring)) }
+        ensures few { reads.new.count ≤ self.old.ring.size + 1024 }
     {
-        self.ring.pop(alloc, memory, reads)
+        self.ring.pop(alloc, memory, reads, number)
     }
 
     /// Publishes a chain as used, and answers whether the driver is to be notified.
-    pub fn publish(&mut self, memory: &mut Memory, id: u16, places: u16, len: u32) -> bool
+    pub fn publish(
+        &mut self,
+        memory: &mut Memory,
+        number: u64,
+        id: u16,
+        places: u16,
+        len: u32,
+    ) -> bool
         requires areas { AreasInside self.old.kind (length memory.old) self.old.ring }
-        requires outstanding { IsOutstanding self.old.ring id places }
+        requires outstanding { IsOutstanding self.old.ring number id places }
         ensures kind { self.new.kind ≡ self.old.kind }
-        ensures publishes { Publishes (used_written self.old.kind) (Tells self.old.kind) memory.old self.old.ring id places len result memory.new self.new.ring }
+        ensures publishes { Publishes (used_written self.old.kind) (Tells self.old.kind) memory.old self.old.ring number id places len result memory.new self.new.ring }
+        ensures once { IsFree number self.new.ring.outstanding }
+        ensures numbered { Ascend 0 self.new.ring.outstanding self.new.ring.last }
         ensures areas { AreasInside self.new.kind (length memory.new) self.new.ring }
         ensures size { length memory.new ≡ length memory.old }
     {
-        self.ring.publish(memory, id, places, len)
+        self.ring.publish(memory, number, id, places, len)
     }
 }

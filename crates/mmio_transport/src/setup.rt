@@ -4,6 +4,7 @@ ghost use Rattle.chains.specs.Ring.{first_state};
 ghost use Rattle.mmio_transport.specs.Device.{places_of, may_be_ready, is_split_queue, first_queue};
 ghost use Rattle.mmio_transport.specs.Queue.{AreasInside};
 
+use crate::feature;
 use crate::queue::{Queue, QueueKind};
 use crate::registers::Registers;
 use crate::status::has;
@@ -62,8 +63,8 @@ impl Registers {
             descriptors: address(self.desc_low, self.desc_high),
             driver: address(self.driver_low, self.driver_high),
             device: address(self.device_low, self.device_high),
-            indirect: has(self.driver_features_low, 0x1000_0000),
-            event_idx: has(self.driver_features_low, 0x2000_0000),
+            indirect: has(self.driver_features_low, feature::INDIRECT_DESC),
+            event_idx: has(self.driver_features_low, feature::EVENT_IDX),
         }
     }
 

@@ -1,8 +1,8 @@
 -- All guests of an opening.
-use Rattle.std.proofs.Common.{◌≡◌, ◌≢◌, ⊎_elim, ℕ, ◌<◌, ◌≤◌, true, false, Option, Some, List, [], ◌∷◌, ◌++◌, length, sym, subst, ◌∙◌, arith}
-use Rattle.std.specs.Prelude.{Result, Ok, Err, OnOk, slice_get}
+use Rattle.std.proofs.Common.{◌≡◌, ◌≢◌, ⊎_elim, ℕ, suc, ◌<◌, ◌≤◌, true, false, Option, Some, None, List, [], ◌∷◌, ◌++◌, length, map, refl, ap, sym, subst, ◌∙◌, arith}
+use Rattle.std.specs.Prelude.{Result, Ok, Err, OnOk, slice_get, if◌then◌else◌}
 use Rattle.std.proofs.lemmas.Option.{slice_get_within, slice_get_cases}
-use Rattle.rpmb_frame.specs.Partition.{Partition}
+use Rattle.rpmb_frame.specs.Partition.{Partition, sequence_of}
 use Rattle.disk.specs.Content.{Content}
 use Rattle.disk.specs.Disk.{DiskState, MayLeave}
 use Rattle.intent_slots.specs.Header.{HasCapacities}
@@ -12,14 +12,18 @@ use Rattle.intent_slots.specs.Recovered.{Part, part_of, StandsFor, ByHome, ByPay
 use Rattle.intent_slots.proofs.Starts.{lies_inside, overlaps_never}
 use Rattle.flusher.specs.declared.guest.Guest.{Guest}
 use Rattle.flusher.specs.declared.slot.Slot.{Slot}
-use Rattle.flusher.specs.declared.slot.Slot.TheVariants.{Empty, Given, Written, Ready, Opening, Open, Applying, Applied, Closing}
-use Rattle.flusher.specs.Slot.{place_of, side_of, pending_of}
-use Rattle.flusher.specs.SlotInvariant.{Row, Seen, IsHeld, guest_row, guest_seen, Follows}
+use Rattle.flusher.specs.declared.phase.Phase.{Phase}
+use Rattle.flusher.specs.declared.phase.Phase.TheVariants.{Open}
+use Rattle.flusher.specs.Phase.{skipped, is_settled}
+use Rattle.flusher.specs.Slot.{place_of, side_of, mark_of, pending_of}
+use Rattle.flusher.specs.Marks.{marks_of}
+use Rattle.intent_slots.specs.Payload.{Group}
+use Rattle.flusher.specs.SlotInvariant.{PhaseRow, Row, Seen, IsHeld, guest_row, guest_seen, Follows}
 use Rattle.flusher.specs.Store.{AllFit, GuestFits}
 use Rattle.flusher.proofs.Blocks.{same_content}
 use Rattle.recovery.specs.declared.fault.OpenFault.{OpenFault}
 use Rattle.recovery.specs.declared.fault.OpenFault.TheVariants as fault
-use Rattle.recovery.specs.Opening.{Untouched, IsBegun, EachBegun, AllBegun, AllStand, IsFirst, HasFront, HasPart, HasParts, IsImage, IsUnformatted, NoFront, NoParts, Answers, AnswersFault, parts_of, part_or}
+use Rattle.recovery.specs.Opening.{Untouched, IsBegun, EachBegun, AllBegun, AllStand, IsAtRest, sequences_of, IsFirst, HasFront, HasPart, HasParts, IsImage, IsUnformatted, NoFront, NoParts, Answers, AnswersFault, parts_of, part_or}
 use Rattle.recovery.specs.Reading.{Gives, IsFound, AllFound, FindsFault, FindsAll, FindsAllFault, TellsHeaderFault}
 use Rattle.recovery.proofs.Lists.{Each, none_each, each_more}
 use Rattle.recovery.proofs.Ways.{gives_on}
@@ -52,27 +56,16 @@ found_more c xs new ps next x p n count same_count pushed also all last = record
 
 -- 2. What was found stands there
 
-stands_row : (place : Place) (side : SlotPlace) (p : Part) (slot : Slot) (c : Content) → IsFirst slot → Row place side p slot c → StandsFor place side c p
-stands_row place side p Empty c first r = ByHome r.0 r.1
-stands_row place side p (Given i) c first r = absurd first
-stands_row place side p (Written i) c first r = absurd first
-stands_row place side p (Ready i) c first r = absurd first
-stands_row place side p (Opening i) c first r = absurd first
-stands_row place side p (Open i k) c first r = ByPayload i.group r.0 r.2 r.1
-stands_row place side p (Applying i) c first r = absurd first
-stands_row place side p (Applied i) c first r = absurd first
-stands_row place side p (Closing i) c first r = absurd first
+open_stands : (place : Place) (side : SlotPlace) (p : Part) (k : ℕ) (i : Group) (c : Content) → PhaseRow place side p (Open k) i c → StandsFor place side c p
+open_stands place side p k i c r = ByPayload i r.0 r.2 r.1
 
-follows : (slot : Slot) (n : ℕ) → IsFirst slot → Follows n (pending_of slot)
-follows Empty n first = tt
-follows (Given i) n first = absurd first
-follows (Written i) n first = absurd first
-follows (Ready i) n first = absurd first
-follows (Opening i) n first = absurd first
-follows (Open i k) n first = tt
-follows (Applying i) n first = absurd first
-follows (Applied i) n first = absurd first
-follows (Closing i) n first = absurd first
+stands_row : (place : Place) (side : SlotPlace) (p : Part) (slot : Option Slot) (c : Content) → IsFirst slot → Row place side p slot c → StandsFor place side c p
+stands_row place side p None c first r = ByHome r.0 r.1
+stands_row place side p (Some s) c first r = open_stands place side p (skipped s.intent.group.entries) s.intent.group c (subst (λ (f : Phase). PhaseRow place side p f s.intent.group c) first r)
+
+follows : (slot : Option Slot) (n : ℕ) → IsFirst slot → Follows n (pending_of slot)
+follows None n first = tt
+follows (Some s) n first = subst (λ (f : Phase). Follows n (if is_settled f then None else Some s.intent)) (sym first) tt
 
 -- the element at a place of a list that is as long
 there : {X Y : Type 0} (xs : List X) (ys : List Y) (g : ℕ) (x : X) → length xs ≡ length ys → slice_get xs g ≡ Some x → (y : Y) × (slice_get ys g ≡ Some y)
@@ -103,8 +96,11 @@ module _ (cs : List ℕ) (xs : List Guest) (ps : List Partition) (all : AllBegun
   pub all_fit : (len : ℕ) → image_length cs ≤ len → AllFit len xs
   all_fit len room = record { each = λ g x at. fits g x at (begun_there g x at) }
     where
-      fits : (g : ℕ) (x : Guest) → slice_get xs g ≡ Some x → (p : Partition) × (slice_get ps g ≡ Some p) × IsBegun cs g x p → GuestFits len x
+      fits : (g : ℕ) (x : Guest) → slice_get xs g ≡ Some x → (p : Partition) × (slice_get ps g ≡ Some p) × IsBegun cs g x p → GuestFits len g x
       fits g x at (p, here, b) = record {
+        behind = (let lt = slice_get_within xs g x at in let inside = (lies_inside cs g (omega (arith, lt, all.all_guests))).0 in
+            subst (λ (v : Place). 1024 ≤ v.base) (sym b.place) inside);
+        own = b.number;
         room = (let lt = slice_get_within xs g x at in let inside = (lies_inside cs g (omega (arith, lt, all.all_guests))).1 in
             subst (λ (v : Place). end_of v ≤ len) (sym b.place) (omega (arith, inside, room)));
         slot_fits = b.fits;
@@ -135,12 +131,32 @@ module _ (cs : List ℕ) (xs : List Guest) (ps : List Partition) (all : AllBegun
           let b = all.each g x p at here in
           subst (λ (o : Option Partition). guest_row (part_or o) x c) (sym here) (
             subst (λ (d : Content). Row (place_of x) (side_of x) (part_of p) x.slot d) (same_content s.seen c (λ k. sym (left k (synced k) ∙ u.seen known k))) (found.each g x p at here).row,
-            record { mark = b.mark; follows = follows x.slot x.settled b.slot },
+            record { mark = b.mark; follows = follows x.slot x.mark b.slot },
           )
 
       seen : (g : ℕ) (x : Guest) → slice_get xs g ≡ Some x → (p : Partition) × (slice_get ps g ≡ Some p) → guest_seen (parts_of ps g) x t.seen
       seen g x at (p, here) = subst (λ (o : Option Partition). guest_seen (part_or o) x t.seen) (sym here)
           (subst (λ (d : Content). Seen (place_of x) (side_of x) (part_of p) x.slot d) (same_content s.seen t.seen (λ k. sym (u.seen known k))) (found.each g x p at here).seen)
+
+-- what two lists of the same length have in common at each place
+same_maps : {X Y : Type 0} (f : X → ℕ) (h : Y → ℕ) (xs : List X) (ys : List Y) → length xs ≡ length ys
+    → ((g : ℕ) (x : X) (y : Y) → slice_get xs g ≡ Some x → slice_get ys g ≡ Some y → f x ≡ h y) → map f xs ≡ map h ys
+same_maps f h [] [] same each = refl
+same_maps f h [] (y ∷ ys) same each = absurd (omega (arith, same))
+same_maps f h (x ∷ xs) [] same each = absurd (omega (arith, same))
+same_maps f h (x ∷ xs) (y ∷ ys) same each =
+    ap (λ (n : ℕ). n ∷ map f xs) (each 0 x y refl refl) ∙ ap (λ (l : List ℕ). h y ∷ l) (same_maps f h xs ys (omega (arith, same)) (λ g v w at there. each (suc g) v w at there))
+
+pub all_marked : (cs : List ℕ) (xs : List Guest) (ps : List Partition) → AllBegun cs xs ps → marks_of xs ≡ sequences_of ps
+unfolding marks_of
+all_marked cs xs ps all = same_maps mark_of (λ p. sequence_of p.key p.counter) xs ps (all.all_guests ∙ sym all.all_partitions) (λ g x p at here. (all.each g x p at here).mark)
+
+-- Once nothing is unsynced, what reads gave before the sync is all that a stop leaves.
+pub all_rest : (cs : List ℕ) (s t : DiskState) → s.faithful ≡ true → Untouched s t → ((k : ℕ) → t.unsynced k ≡ false) → IsImage cs s.len s.seen → IsAtRest cs t
+all_rest cs s t known u synced image = record {
+  synced = synced;
+  image = λ c left. subst (λ (n : ℕ). IsImage cs n c) (sym u.len) (subst (IsImage cs s.len) (same_content s.seen c (λ k. sym (left k (synced k) ∙ u.seen known k))) image);
+}
 
 -- 3. The outcomes
 

@@ -1,7 +1,8 @@
 -- Lists that grow by one.
 use Rattle.std.proofs.Common.{◌≡◌, ◌⊎◌, inl, inr, ⊎_elim, ℕ, zero, suc, ◌+◌, ◌*◌, ◌<◌, List, [], ◌∷◌, ◌++◌, length, Some, refl, ap, sym, ◌∙◌, subst, arith, length-append}
-use Rattle.std.specs.Prelude.{slice_get, slice_index, slice_index_or}
+use Rattle.std.specs.Prelude.{slice_get, slice_index_or}
 use Rattle.std.specs.List.{remove}
+use Rattle.intent_slots.specs.Layout.{Place, place_at}
 use Rattle.std.proofs.lemmas.Option.{slice_get_within}
 use Rattle.recovery.specs.declared.space.Space.{Space}
 use Rattle.recovery.specs.Space.{EachFits}
@@ -34,28 +35,28 @@ each_more P xs ys x y same all last g v w at there = ⊎_elim
 pub no_space : (cs : List ℕ) (spaces : List Space) → spaces ≡ [] → EachFits cs spaces
 no_space cs spaces is g s at = absurd (let short = slice_get_within spaces g s at in let zero_long = ap length is in omega (arith, short, zero_long))
 
-pub space_more : (cs : List ℕ) (spaces : List Space) (space : Space) (capacity : ℕ) → EachFits cs spaces → length space.blocks.items ≡ 131072 * capacity
-    → capacity ≡ slice_index cs (length spaces) → EachFits cs (spaces ++ space ∷ [])
-space_more cs spaces space capacity all long is g s at = ⊎_elim
+pub space_more : (cs : List ℕ) (spaces : List Space) (space : Space) (place : Place) → EachFits cs spaces → length space.blocks.items ≡ place.size
+    → place ≡ place_at cs (length spaces) → EachFits cs (spaces ++ space ∷ [])
+space_more cs spaces space place all long is g s at = ⊎_elim
     (λ old. all g s old)
-    (λ new. sym (ap (λ (v : Space). length v.blocks.items) new.1) ∙ long ∙ ap (λ n. 131072 * n) (is ∙ ap (slice_index cs) (sym new.0)))
+    (λ new. sym (ap (λ (v : Space). length v.blocks.items) new.1) ∙ long ∙ ap (λ (v : Place). v.size) (is ∙ ap (place_at cs) (sym new.0)))
     (push_cases spaces space s g at)
 
 -- the spaces that are left fit the guests from number g on
 abbrev pub FitFrom : List ℕ → ℕ → List Space → Type 0
-FitFrom cs g spaces = (k : ℕ) (s : Space) → slice_get spaces k ≡ Some s → length s.blocks.items ≡ 131072 * slice_index cs (g + k)
+FitFrom cs g spaces = (k : ℕ) (s : Space) → slice_get spaces k ≡ Some s → length s.blocks.items ≡ (place_at cs (g + k)).size
 
 pub fit_start : (cs : List ℕ) (spaces : List Space) → EachFits cs spaces → FitFrom cs 0 spaces
-fit_start cs spaces all k s at = (let z : k ≡ 0 + k = omega arith in all k s at ∙ ap (λ n. 131072 * slice_index cs n) z)
+fit_start cs spaces all k s at = (let z : k ≡ 0 + k = omega arith in all k s at ∙ ap (λ n. (place_at cs n).size) z)
 
-pub fit_first : (cs : List ℕ) (g : ℕ) (spaces : List Space) (space : Space) → FitFrom cs g spaces → 0 < length spaces → space ≡ slice_index_or spaces 0 space → length space.blocks.items ≡ 131072 * slice_index cs g
+pub fit_first : (cs : List ℕ) (g : ℕ) (spaces : List Space) (space : Space) → FitFrom cs g spaces → 0 < length spaces → space ≡ slice_index_or spaces 0 space → length space.blocks.items ≡ (place_at cs g).size
 fit_first cs g [] space all some is = absurd (omega arith)
-fit_first cs g (s ∷ spaces) space all some is = (let z : g + 0 ≡ g = omega arith in ap (λ (v : Space). length v.blocks.items) is ∙ all 0 s refl ∙ ap (λ n. 131072 * slice_index cs n) z)
+fit_first cs g (s ∷ spaces) space all some is = (let z : g + 0 ≡ g = omega arith in ap (λ (v : Space). length v.blocks.items) is ∙ all 0 s refl ∙ ap (λ n. (place_at cs n).size) z)
 
 pub fit_rest : (cs : List ℕ) (g : ℕ) (spaces rest : List Space) → rest ≡ remove spaces 0 → 0 < length spaces → FitFrom cs g spaces → FitFrom cs (g + 1) rest
 fit_rest cs g [] rest is some all k s at = absurd (omega arith)
 fit_rest cs g (x ∷ spaces) rest is some all k s at = (let z : g + suc k ≡ g + 1 + k = omega arith in
-    all (suc k) s (sym (ap (λ l. slice_get l k) is) ∙ at) ∙ ap (λ n. 131072 * slice_index cs n) z)
+    all (suc k) s (sym (ap (λ l. slice_get l k) is) ∙ at) ∙ ap (λ n. (place_at cs n).size) z)
 
 pub length-remove_first : (spaces rest : List Space) → rest ≡ remove spaces 0 → 0 < length spaces → length rest + 1 ≡ length spaces
 length-remove_first [] rest is some = absurd (omega arith)

@@ -1,18 +1,18 @@
 -- What an opening answers, and what it leaves as it was (own).
-use Rattle.std.specs.Prelude.{◌≡◌, ℕ, ◌*◌, ◌≤◌, ◌<◌, ◌^◌, Bool, true, false, List, length, slice_get, slice_index, Option, Some, None, Result, Ok, Err}
+use Rattle.std.specs.Prelude.{◌≡◌, ℕ, ◌≤◌, ◌<◌, ◌^◌, Bool, true, false, List, length, map, slice_get, slice_index, Option, Some, None, Result, Ok, Err}
 use Rattle.rpmb_frame.specs.Partition.{Partition, sequence_of}
 use Rattle.disk.specs.Content.{Content, zeros}
-use Rattle.disk.specs.Disk.{DiskState, DiskCall, Read, Sync}
+use Rattle.disk.specs.Disk.{DiskState, DiskCall, Sync, MayLeave}
 use Rattle.intent_slots.specs.Header.{HasMagic, HasCapacities}
 use Rattle.intent_slots.specs.Layout.{place_at, slot_place, image_length}
 use Rattle.intent_slots.specs.declared.layout.Side.TheVariants.{A}
 use Rattle.intent_slots.specs.Recovered.{Part, part_of, StandsFor}
-use Rattle.intent_slots.specs.Payload.{Intent}
+use Rattle.flusher.specs.declared.phase.Phase.TheVariants.{Open}
 use Rattle.flusher.specs.declared.slot.Slot.{Slot}
-use Rattle.flusher.specs.declared.slot.Slot.TheVariants.{Empty, Given, Written, Ready, Opening, Open, Applying, Applied, Closing}
 use Rattle.flusher.specs.declared.guest.Guest.{Guest}
-use Rattle.flusher.specs.Slot.{skipped, intent_of, place_of, side_of}
-use Rattle.flusher.specs.Store.{IntentFits, StoreState}
+use Rattle.flusher.specs.Phase.{skipped}
+use Rattle.flusher.specs.Slot.{intent_of, place_of, side_of, mark_of}
+use Rattle.flusher.specs.Store.{IntentFits, IsOf, OnlyReads, StoreState}
 use Rattle.recovery.specs.declared.fault.OpenFault.{OpenFault}
 use Rattle.recovery.specs.declared.fault.OpenFault.TheVariants as fault
 
@@ -23,11 +23,6 @@ pub record Untouched (old new : DiskState) : Type 0 where
   pub later : old.failures ≤ new.failures
   pub seen : old.faithful ≡ true → (k : ℕ) → new.seen k ≡ old.seen k
   pub unsynced : old.faithful ≡ true → (k : ℕ) → old.unsynced k ≡ false → new.unsynced k ≡ false
-
--- Reads alone led from one value of the disk to the other.
-pub data OnlyReads {D : Type 0} (makes : D → DiskCall → D → Type 0) : D → D → Type 0 where
-  NoRead : (d : D) → OnlyReads makes d d
-  OneRead : (a b c : D) (ok : Bool) → OnlyReads makes a b → makes b (Read ok) c → OnlyReads makes a c
 
 -- The first call was a sync. Only where it succeeded further calls were made, all of them reads.
 pub data SyncsFirst {D : Type 0} (makes : D → DiskCall → D → Type 0) (old new : D) : Type 0 where
@@ -84,33 +79,20 @@ Answers capacities len c (Err f) = AnswersFault capacities len c f
 
 -- 2. What is opened
 
--- A slot as an opening leaves it: Empty, or Open with no write done.
-abbrev pub IsFirst : Slot → Type 0
-IsFirst Empty = Unit {0}
-IsFirst (Given i) = ⊥
-IsFirst (Written i) = ⊥
-IsFirst (Ready i) = ⊥
-IsFirst (Opening i) = ⊥
-IsFirst (Open i done) = done ≡ skipped i.group.entries
-IsFirst (Applying i) = ⊥
-IsFirst (Applied i) = ⊥
-IsFirst (Closing i) = ⊥
-
--- an intent in a slot is of the slot's guest
-abbrev pub IsOf : ℕ → Option Intent → Type 0
-IsOf g None = Unit {0}
-IsOf g (Some intent) = intent.guest ≡ g
+-- A slot as an opening leaves it: empty, or Open with no write done.
+abbrev pub IsFirst : Option Slot → Type 0
+IsFirst None = Unit {0}
+IsFirst (Some s) = s.phase ≡ Open (skipped s.intent.group.entries)
 
 -- A guest as an opening leaves it, with its partition: all of it is settled.
 pub record IsBegun (capacities : List ℕ) (g : ℕ) (x : Guest) (p : Partition) : Type 0 where
   pub place : place_of x ≡ place_at capacities g
-  pub capacity : x.capacity ≡ slice_index capacities g
-  pub same_capacity : p.capacity ≡ x.capacity
-  pub mark : x.settled ≡ sequence_of p.key p.counter
-  pub small : x.settled ≤ 2 ^ 32
+  pub capacity : p.capacity ≡ slice_index capacities g
+  pub mark : mark_of x ≡ sequence_of p.key p.counter
+  pub small : mark_of x ≤ 2 ^ 32
   pub slot : IsFirst x.slot
   pub number : IsOf g (intent_of x.slot)
-  pub fits : IntentFits (131072 * x.capacity) (intent_of x.slot)
+  pub fits : IntentFits (place_of x).size (intent_of x.slot)
 
 abbrev pub EachBegun : List ℕ → List Guest → List Partition → Type 0
 EachBegun capacities guests partitions = (g : ℕ) (x : Guest) (p : Partition) → slice_get guests g ≡ Some x → slice_get partitions g ≡ Some p → IsBegun capacities g x p
@@ -125,6 +107,15 @@ pub record AllBegun (capacities : List ℕ) (guests : List Guest) (partitions : 
 abbrev pub AllStand : Content → List Guest → List Partition → Type 0
 AllStand c guests partitions = (g : ℕ) (x : Guest) (p : Partition) → slice_get guests g ≡ Some x → slice_get partitions g ≡ Some p
     → StandsFor (place_of x) (side_of x) c (part_of p)
+
+-- the partitions' sequences
+abbrev pub sequences_of : List Partition → List ℕ
+sequences_of partitions = map (λ p. sequence_of p.key p.counter) partitions
+
+-- nothing is unsynced, and every stop leaves an image of the board
+pub record IsAtRest (capacities : List ℕ) (s : DiskState) : Type 0 where
+  pub synced : (k : ℕ) → s.unsynced k ≡ false
+  pub image : (c : Content) → MayLeave s c → IsImage capacities s.len c
 
 abbrev pub no_part : Part
 no_part = record { key = None; counter = 0; blocks = zeros }

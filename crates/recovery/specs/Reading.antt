@@ -7,10 +7,11 @@ use Rattle.intent_slots.specs.Recovered.{part_of}
 use Rattle.flusher.specs.declared.guest.Guest.{Guest}
 use Rattle.flusher.specs.Slot.{place_of, side_of}
 use Rattle.flusher.specs.SlotInvariant.{Row, Seen}
+use Rattle.flusher.specs.Store.{OnlyReads}
 use Rattle.recovery.specs.declared.fault.OpenFault.{OpenFault}
 use Rattle.recovery.specs.declared.fault.OpenFault.TheVariants as fault
 use Rattle.intent_slots.specs.Header.{HasCapacities}
-use Rattle.recovery.specs.Opening.{Untouched, OnlyReads, SyncsFirst, HasPart, HoldsEach, HasFront, IsOther}
+use Rattle.recovery.specs.Opening.{Untouched, SyncsFirst, HasPart, HoldsEach, HasFront, IsOther}
 
 -- reads of the disk give this content
 pub record Gives (s : DiskState) (c : Content) : Type 0 where

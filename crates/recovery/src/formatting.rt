@@ -50,15 +50,16 @@ fn write_guest<D: Disk>(disk: &mut D, layout: &Layout, guest: u16) -> Result<(),
     ensures zeros { OnOk result ((D.state disk.old).faithful ≡ true → Holds zeros (D.state disk.old).len (D.state disk.old).seen → Holds zeros (D.state disk.old).len (D.state disk.new).seen) }
     ensures calls { WritesZeros D.makes disk.old disk.new }
 {
-    match write_zeros(disk, layout.home(guest), HOME_LENGTH) {
+    let extent = layout.extent(guest);
+    match write_zeros(disk, extent.home(), HOME_LENGTH) {
         Ok(()) => {}
         Err(fault) => return Err(fault),
     }
-    match write_zeros(disk, layout.gate(Side::A, guest), 1) {
+    match write_zeros(disk, extent.gate(Side::A), 1) {
         Ok(()) => {}
         Err(fault) => return Err(fault),
     }
-    write_zeros(disk, layout.gate(Side::B, guest), 1)
+    write_zeros(disk, extent.gate(Side::B), 1)
 }
 
 /// Writes each guest's home record without a key, and its gates shut.

@@ -10,6 +10,3 @@ mod space;
 pub use fault::OpenFault;
 pub use formatting::{format, fresh_is_empty};
 pub use opening::open;
-
-#[cfg(test)]
-mod tests;

@@ -4,7 +4,9 @@ ghost use Rattle.disk.specs.Content.{Content};
 ghost use Rattle.disk.specs.Disk.{Within, HasRisen};
 ghost use Rattle.intent_slots.specs.Layout.{capacities_of, image_length};
 ghost use Rattle.flusher.specs.SlotInvariant.{IsHeld};
-ghost use Rattle.recovery.specs.Opening.{Untouched, Calls, AllBegun, AllStand, Answers, parts_of, disk_after, outcome_of};
+ghost use Rattle.flusher.specs.Marks.{marks_of};
+ghost use Rattle.flusher.specs.Store.{AllFit, IsSynced};
+ghost use Rattle.recovery.specs.Opening.{Untouched, Calls, AllBegun, AllStand, Answers, IsAtRest, parts_of, sequences_of, disk_after, outcome_of};
 ghost use Rattle.recovery.specs.Reading.{Gives, Passes, Opens, AllFound, FindsAll, TellsHeader, is_disk_fault};
 ghost use Rattle.recovery.specs.Space.{AreSpaces};
 
@@ -94,7 +96,7 @@ fn read_image<D: Disk>(
     ensures memory { ¬ result ≡ Err OpenFault.NoMemory }
     ensures begun { OnOk result (AllBegun layout.now guests.new.items partitions.new.items) }
     ensures long { OnOk result ((D.state disk.old).len ≡ image_length layout.now) }
-    ensures near { OnOk result ((D.state disk.old).len < 2 ^ 64) }
+    ensures went { OnOk result (IsSynced D.makes disk.new) }
     ensures synced { OnOk result ((D.state disk.old).faithful ≡ true → (k : ℕ) → (D.state disk.new).unsynced k ≡ false) }
     ensures found { OnOk result ((c : Content) → Gives (D.state disk.old) c → AllFound c guests.new.items partitions.new.items) }
     ensures answers { (c : Content) → Gives (D.state disk.old) c → Answers layout.now (D.state disk.old).len c result }
@@ -130,6 +132,8 @@ pub fn open<D: Disk>(
 ) -> Result<(Store<D>, Vec<Partition>), (D, OpenFault)>
     ensures begun { IfOk result (λ r. AllBegun (capacities_of board.now) r.0.guests r.1.items) }
     ensures unbroken { IfOk result (λ r. r.0.broken ≡ false) }
+    ensures marks { IfOk result (λ r. marks_of r.0.guests ≡ sequences_of r.1.items) }
+    ensures fits { IfOk result (λ r. AllFit (D.state r.0.disk).len r.0.guests) }
     ensures stand { IfOk result (λ r. (D.state disk).faithful ≡ true → AllStand (D.state disk).seen r.0.guests r.1.items) }
     ensures answers { (D.state disk).faithful ≡ true → Answers (capacities_of board.now) (D.state disk).len (D.state disk).seen (outcome_of result) }
     ensures no_memory { IfErr result (λ e. e.1 ≡ OpenFault.NoMemory → e.0 ≡ disk) }
@@ -142,7 +146,9 @@ pub fn open<D: Disk>(
     // At each moment a stop leaves only what it could leave before the call.
     ensures any_moment { Within D.state D.makes (Untouched (D.state disk)) disk (disk_after result) }
 
-    // Every stop after it leaves what reads give, which stands for these partitions.
+    // Nothing is unsynced then, and every stop leaves an image of the board, which stands for these
+    // partitions.
+    ensures rest { IfOk result (λ r. (D.state disk).faithful ≡ true → IsAtRest (capacities_of board.now) (D.state r.0.disk)) }
     ensures held { IfOk result (λ r. (D.state disk).faithful ≡ true → IsHeld (parts_of r.1.items) r.0.guests r.0.broken (D.state r.0.disk)) }
 {
     let mut disk = disk;

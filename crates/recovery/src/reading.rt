@@ -1,6 +1,6 @@
 //! What stands in the image for one guest.
-ghost use Rattle.std.specs.Prelude.{◌≡◌, ◌≤◌, ◌<◌, ◌+◌, ◌*◌, ◌^◌, ℕ, length, slice_index, is_ok, not, IfOk, OnOk};
-ghost use Rattle.disk.specs.Content.{Content, bytes_at, content_of, over};
+ghost use Rattle.std.specs.Prelude.{◌≡◌, ◌≤◌, ◌<◌, ◌+◌, ◌*◌, ◌^◌, ℕ, length, is_ok, not, IfOk, OnOk};
+ghost use Rattle.disk.specs.Content.{Content, bytes_at, content_of};
 ghost use Rattle.intent_slots.specs.Layout.{place_at, slot_place, image_length};
 ghost use Rattle.intent_slots.specs.declared.layout.Side.TheVariants.{A};
 ghost use Rattle.flusher.specs.SlotInvariant.{IsShut, IsWideOpen};
@@ -12,8 +12,8 @@ ghost use Rattle.recovery.specs.Reading.{Gives, Passes, Finds, is_disk_fault};
 use crate::fault::OpenFault;
 use crate::space::Space;
 use disk::{Disk, DiskFault};
-use flusher::{Guest, Slot, skipped};
-use intent_slots::{BLOCK_LENGTH, HOME_LENGTH, Home, Intent, Layout, OPEN_GATE, Side};
+use flusher::Guest;
+use intent_slots::{HOME_LENGTH, Home, Intent, Layout, OPEN_GATE, Side};
 use rpmb_core::Partition;
 
 /// Reads a range.
@@ -35,35 +35,13 @@ fn read_blocks<D: Disk>(disk: &mut D, at: u64, blocks: &mut Vec<u8>) -> Result<(
     read(disk, at, blocks.as_mut_slice())
 }
 
-/// Puts bytes over the blocks.
-fn put(blocks: &mut [u8], at: usize, bytes: &[u8])
-    requires { at + length bytes.now ≤ length blocks.old }
-    ensures { content_of blocks.new ≡ over at bytes.now (content_of blocks.old) }
-{
-    blocks[at..at + bytes.len()].copy_from_slice(bytes);
-}
-
-/// Puts the blocks of an intent's entries over the blocks of its partition, in their order.
+/// Puts the blocks of an intent's requests over the blocks of its partition, in their order.
 fn redo(blocks: &mut Vec<u8>, intent: &Intent)
     requires { GroupFits (length blocks.old.items) intent.now.group }
     ensures content { content_of blocks.new.items ≡ redo intent.now.group.entries (content_of blocks.old.items) }
     ensures len { length blocks.new.items ≡ length blocks.old.items }
 {
-    redo_all(blocks.as_mut_slice(), intent);
-}
-
-fn redo_all(blocks: &mut [u8], intent: &Intent)
-    requires { GroupFits (length blocks.old) intent.now.group }
-    ensures { content_of blocks.new ≡ redo intent.now.group.entries (content_of blocks.old) }
-{
-    for k in 0..intent.entries() {
-        let entry = intent.entry(k);
-        put(
-            blocks,
-            BLOCK_LENGTH as usize * usize::from(entry.address()),
-            entry.blocks(),
-        );
-    }
+    intent.redo(blocks.as_mut_slice());
 }
 
 /// The guest whose gate is shut: its home and its blocks as they stand.
@@ -75,14 +53,15 @@ fn read_shut<D: Disk>(
 ) -> Result<(Guest, Partition), OpenFault>
     requires guest { number < length layout.now }
     requires room { image_length layout.now ≤ (D.state disk.old).len }
-    requires size { length blocks.items ≡ 131072 * slice_index layout.now number }
+    requires size { length blocks.items ≡ (place_at layout.now number).size }
     ensures passes { Passes D.state D.makes disk.old disk.new (is_disk_fault result) }
     ensures begun { IfOk result (λ r. IsBegun layout.now number r.0 r.1) }
     ensures memory { ¬ result ≡ Err OpenFault.NoMemory }
     ensures finds { (c : Content) → Gives (D.state disk.old) c → IsShut (slot_place (place_at layout.now number) A) c → Finds layout.now number c result }
 {
+    let extent = layout.extent(number);
     let mut record = [0; HOME_LENGTH];
-    match read(disk, layout.home(number), &mut record) {
+    match read(disk, extent.home(), &mut record) {
         Ok(()) => {}
         Err(_) => return Err(OpenFault::DiskFault),
     }
@@ -90,19 +69,13 @@ fn read_shut<D: Disk>(
         return Err(OpenFault::NotFormatted);
     };
     let mut blocks = blocks;
-    match read_blocks(disk, layout.blocks(number), &mut blocks) {
+    match read_blocks(disk, extent.blocks(), &mut blocks) {
         Ok(()) => {}
         Err(_) => return Err(OpenFault::DiskFault),
     }
     let capacity = layout.capacity(number);
-    let guest = Guest {
-        base: layout.home(number),
-        capacity,
-        settled: home.sequence(),
-        slot: Slot::Empty,
-    };
     let partition = Partition::of(capacity, home.key(), home.counter(), blocks);
-    Ok((guest, partition))
+    Ok((Guest::settled(extent, home.sequence()), partition))
 }
 
 /// The guest whose gate is open: its blocks with those of the payload over them. Its home isn't
@@ -116,38 +89,30 @@ fn read_open<D: Disk>(
 ) -> Result<(Guest, Partition), OpenFault>
     requires guest { number < length layout.now }
     requires room { image_length layout.now ≤ (D.state disk.old).len }
-    requires size { length space.blocks.items ≡ 131072 * slice_index layout.now number }
+    requires size { length space.blocks.items ≡ (place_at layout.now number).size }
     requires buffer { length buffer.old ≡ 16648 }
     ensures passes { Passes D.state D.makes disk.old disk.new (is_disk_fault result) }
     ensures begun { IfOk result (λ r. IsBegun layout.now number r.0 r.1) }
     ensures memory { ¬ result ≡ Err OpenFault.NoMemory }
     ensures finds { (c : Content) → Gives (D.state disk.old) c → IsWideOpen (slot_place (place_at layout.now number) A) c → Finds layout.now number c result }
 {
-    match read(disk, layout.payload(Side::A, number), buffer) {
+    let extent = layout.extent(number);
+    match read(disk, extent.payload(Side::A), buffer) {
         Ok(()) => {}
         Err(_) => return Err(OpenFault::DiskFault),
     }
-    let capacity = layout.capacity(number);
-    let Some(intent) = Intent::decode(number, capacity, buffer, space.room) else {
+    let Some(intent) = Intent::decode(number, &extent, buffer, space.room) else {
         return Err(OpenFault::NotFormatted);
     };
     let mut blocks = space.blocks;
-    match read_blocks(disk, layout.blocks(number), &mut blocks) {
+    match read_blocks(disk, extent.blocks(), &mut blocks) {
         Ok(()) => {}
         Err(_) => return Err(OpenFault::DiskFault),
     }
     redo(&mut blocks, &intent);
+    let capacity = layout.capacity(number);
     let partition = Partition::of(capacity, Some(*intent.key()), intent.last_counter(), blocks);
-    let base = layout.home(number);
-    let settled = intent.last_sequence();
-    let done = skipped(&intent);
-    let guest = Guest {
-        base,
-        capacity,
-        settled,
-        slot: Slot::Open(intent, done),
-    };
-    Ok((guest, partition))
+    Ok((Guest::open(extent, intent), partition))
 }
 
 /// What stands in the image for one guest.
@@ -160,7 +125,7 @@ pub(crate) fn read_guest<D: Disk>(
 ) -> Result<(Guest, Partition), OpenFault>
     requires guest { number < length layout.now }
     requires room { image_length layout.now ≤ (D.state disk.old).len }
-    requires size { length space.blocks.items ≡ 131072 * slice_index layout.now number }
+    requires size { length space.blocks.items ≡ (place_at layout.now number).size }
     requires buffer { length buffer.old ≡ 16648 }
     ensures passes { Passes D.state D.makes disk.old disk.new (is_disk_fault result) }
     ensures begun { IfOk result (λ r. IsBegun layout.now number r.0 r.1) }
@@ -168,7 +133,7 @@ pub(crate) fn read_guest<D: Disk>(
     ensures finds { (c : Content) → Gives (D.state disk.old) c → Finds layout.now number c result }
 {
     let mut gate = [0; 1];
-    match read(disk, layout.gate(Side::A, number), &mut gate) {
+    match read(disk, layout.extent(number).gate(Side::A), &mut gate) {
         Ok(()) => {}
         Err(_) => return Err(OpenFault::DiskFault),
     }

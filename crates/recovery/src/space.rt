@@ -3,7 +3,7 @@ ghost use Rattle.std.specs.Prelude.{◌≡◌, ◌≤◌, ◌*◌, [], length, I
 ghost use Rattle.recovery.specs.Space.{AreSpaces, AreSupplies};
 
 use flusher::Guest;
-use intent_slots::{Layout, NoMemory, PAYLOAD_LENGTH, Room, UNIT_LENGTH};
+use intent_slots::{Extent, Layout, NoMemory, PAYLOAD_LENGTH, Room};
 use rpmb_core::Partition;
 use std::alloc::Global;
 
@@ -17,11 +17,11 @@ pub(crate) struct Space {
 }
 
 impl Space {
-    fn new(alloc: Global, capacity: u8) -> Result<Space, NoMemory>
-        ensures { IfOk result (λ space. length space.blocks.items ≡ 131072 * capacity) }
+    fn new(alloc: Global, extent: &Extent) -> Result<Space, NoMemory>
+        ensures { IfOk result (λ space. length space.blocks.items ≡ extent.now.size) }
     {
         let room = Room::new(alloc)?;
-        let blocks = vec![in alloc; 0; UNIT_LENGTH as usize * usize::from(capacity)]?;
+        let blocks = vec![in alloc; 0; extent.size()]?;
         Ok(Space { room, blocks })
     }
 }
@@ -32,7 +32,7 @@ pub(crate) fn spaces(alloc: Global, layout: &Layout) -> Result<Vec<Space>, NoMem
 {
     let mut spaces = Vec::with_capacity(alloc, layout.guests())?;
     for guest in 0..layout.guests() {
-        let space = Space::new(alloc, layout.capacity(guest as u16))?;
+        let space = Space::new(alloc, &layout.extent(guest as u16))?;
         spaces.push(space)?;
     }
     Ok(spaces)

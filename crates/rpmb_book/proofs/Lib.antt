@@ -14,3 +14,4 @@ pub mod LeadingOn
 pub mod Asking
 pub mod OnBoard
 pub mod Giving
+pub mod AskedLemmas

@@ -12,3 +12,4 @@ pub mod Receipt
 pub mod Opening
 pub mod Isolation
 pub mod Outcome
+pub mod Asked

@@ -30,10 +30,10 @@ settled_all (g ∷ gs) [] = g ∷ gs
 settled_all (g ∷ gs) (m ∷ ms) = settled_at m g ∷ settled_all gs ms
 
 abbrev pub after_turn : State → Turn → State
-after_turn s (Submit w) = record { guests = update s.guests w.job.guest (submitted w.job) }
-after_turn s (Take n) = record { guests = update s.guests n took }
-after_turn s (Settle marks) = record { guests = settled_all s.guests marks }
-after_turn s (Collect n) = record { guests = update s.guests n collected }
+after_turn s (Submit w) = record s { guests = update s.guests w.job.guest (submitted w.job) }
+after_turn s (Take n) = record s { guests = update s.guests n took }
+after_turn s (Settle marks) = record s { guests = settled_all s.guests marks }
+after_turn s (Collect n) = record s { guests = update s.guests n collected }
 
 abbrev pub answer_from : Job → Option GuestState → List ℕ
 answer_from job None = []

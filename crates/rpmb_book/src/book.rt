@@ -2,8 +2,11 @@ ghost use Rattle.std.specs.Prelude.{◌≡◌, ◌≤◌, ◌+◌, ◌<◌, ℕ,
 ghost use Rattle.rpmb_frame.specs.Partition.{sequence};
 ghost use Rattle.rpmb_book.specs.Opening.{tallies_from};
 ghost use Rattle.rpmb_book.specs.Replay.{opened, IsLegal};
-ghost use Rattle.rpmb_book.specs.Book.{BookView, state, with_turn, submit_of, refusal, is_share, is_taken, take_answer, after_take, next_intent, share_moved, are_taken, settle_answer, after_settle, due_of, after_collect, found_by, taken_marks};
+ghost use Rattle.rpmb_book.specs.Book.{BookView, state, guest_of, submits_in, with_turn, submit_of, refusal, is_share, is_taken, take_answer, after_take, next_intent, share_moved, are_taken, settle_answer, after_settle, due_of, after_collect, found_by, taken_marks};
 ghost use Rattle.std.specs.List.{list_any};
+ghost use Rattle.std.specs.Option.{option_copied};
+ghost use Rattle.rpmb_book.specs.Asked.{answered_in};
+ghost use Rattle.rpmb_book.specs.Kept.{IsFresh};
 ghost use Rattle.rpmb_book.specs.Turn.{settled_all};
 ghost use Rattle.rpmb_book.specs.Sound.{AreOfBoard, IsSound};
 ghost use Rattle.rpmb_book.specs.Receipt.{turn_seen, submission_seen};
@@ -229,15 +232,65 @@ impl Book {
 
     /// The life that the book was opened with.
     pub fn life(&self) -> u64
-        ensures life { result ≡ self.now.life }
+        ensures { result ≡ self.now.life }
+    {
+        self.life
+    }
+
+    /// How many jobs were answered in this life: the Submit turns of the history.
+    pub fn submit_turns(&self) -> u64
+        ensures { result ≡ submits_in self.now }
+    {
+        self.submits
+    }
+
+    /// A guest's partition, after all its requests; None for a guest that the book lacks.
+    pub fn partition(&self, guest: u16) -> Option<&Partition>
+        ensures { option_copied result ≡ option_map (λ g. g.core.partition) (guest_of self.now guest) }
+    {
+        match self.guests.get(usize::from(guest)) {
+            Some(known) => Some(known.partition()),
+            None => None,
+        }
+    }
+
+    /// The sequence of a guest's last request that was taken; None for a guest that the book lacks.
+    pub fn taken(&self, guest: u16) -> Option<u64>
+        ensures { result ≡ option_map (λ g. g.taken) (guest_of self.now guest) }
+    {
+        match self.guests.get(usize::from(guest)) {
+            Some(known) => Some(known.taken()),
+            None => None,
+        }
+    }
+
+    /// The sequence of a guest that is settled: no stop can lose what it and those before it did. None
+    /// for a guest that the book lacks.
+    pub fn settled(&self, guest: u16) -> Option<u64>
+        ensures { result ≡ option_map (λ g. g.settled) (guest_of self.now guest) }
+    {
+        match self.guests.get(usize::from(guest)) {
+            Some(known) => Some(known.settled()),
+            None => None,
+        }
+    }
+
+    /// What holds of every book, for proofs: it does nothing.
+    pub fn what_always_holds(&self)
         // Each turn of the history is one that the book makes in the state where it stands.
         ensures legal { IsLegal self.now.opening self.now.history }
         // What waits for the store follows what it took, and nothing is settled that it didn't take.
         ensures sound { IsSound (state self.now) }
         // Each guest has a partition of a board, which a store can hold.
         ensures of_board { AreOfBoard (state self.now) }
+        // It began with guests of whom nothing was asked, on partitions of a board.
+        ensures fresh { IsFresh self.now.opening }
+        ensures began_of_board { AreOfBoard self.now.opening }
+        // The guests' jobs are counted as the Submits of the history are.
+        ensures counted { answered_in (state self.now).guests ≡ submits_in self.now }
     {
-        self.life
+        // A field is read, since only then is it known that the book is as its type says.
+        let _life = &self.life;
     }
 }
 

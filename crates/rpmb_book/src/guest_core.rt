@@ -69,6 +69,12 @@ impl GuestCore {
         }
     }
 
+    pub fn partition(&self) -> &Partition
+        ensures { result.now ≡ self.now.partition }
+    {
+        &self.partition
+    }
+
     /// Finds the verdict on a job, and makes all the memory that its answer takes.
     pub fn plan(&self, alloc: Global, job: &Job) -> Result<Plan, NoMemory>
         ensures { IfOk result (IsPlanned self.now job.now) }

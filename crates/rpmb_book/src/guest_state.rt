@@ -47,6 +47,12 @@ impl GuestState {
         }
     }
 
+    pub fn partition(&self) -> &Partition
+        ensures { result.now ≡ self.now.core.partition }
+    {
+        self.core.partition()
+    }
+
     pub fn taken(&self) -> u64
         ensures { result ≡ self.now.taken }
     {

@@ -1,6 +1,8 @@
 //! Laws of the book, above its definitions: what follows for every history.
 ghost use Rattle.std.specs.Prelude.{◌≡◌, ℕ, Some, slice_get};
-ghost use Rattle.rpmb_book.specs.Book.{state};
+ghost use Rattle.rpmb_book.specs.Book.{state, submits_in};
+ghost use Rattle.rpmb_book.specs.Asked.{IsAfterItsJobs, IsCountedOnItsJobs, answered_in, IsOneOfItsCapacity};
+ghost use Rattle.rpmb_book.specs.Kept.{IsFresh};
 ghost use Rattle.rpmb_book.specs.Given.{IsLedOn};
 ghost use Rattle.rpmb_book.specs.Guest.{GuestState};
 ghost use Rattle.rpmb_book.specs.Isolation.{IsIsolated, IsToldAsAlone, jobs_of, told, told_alone};
@@ -20,7 +22,7 @@ pub fn told_as_alone(book: &Book)
     ensures { (g : ℕ) (x : GuestState) → slice_get book.now.opening.guests g ≡ Some x
         → told g book.now.opening book.now.history ≡ told_alone x.core (jobs_of g book.now.history) }
 {
-    let _life = book.life();
+    book.what_always_holds();
 }
 
 /// The stored outcome is that of the list of a guest's answers: among those at the end that have the
@@ -29,12 +31,39 @@ pub fn outcome_is_of_the_list()
     ensures { IsOutcomeOfTheList }
 {}
 
+/// Each guest has the partition that its own requests leave, one after another, whatever turns of
+/// others stand between; its sequence grows by those that are accepted, and each job is counted.
+pub fn guests_are_after_their_jobs()
+    ensures after { IsAfterItsJobs }
+    ensures counted { IsCountedOnItsJobs }
+{}
+
+/// The jobs of this book's guests are counted as its Submits are.
+pub fn submits_add_up(book: &Book)
+    ensures { answered_in (state book.now).guests ≡ submits_in book.now }
+{
+    book.what_always_holds();
+}
+
+/// This book began with guests of whom nothing was asked, on partitions of a board.
+pub fn opening_is_fresh(book: &Book)
+    ensures fresh { IsFresh book.now.opening }
+    ensures of_board { AreOfBoard book.now.opening }
+{
+    book.what_always_holds();
+}
+
+/// Two partitions of one capacity that a store can't tell apart are one.
+pub fn partitions_are_their_models()
+    ensures { IsOneOfItsCapacity }
+{}
+
 /// The intents that wait for the store follow what it took, one by one, up to the partition's
 /// sequence; and nothing is settled that it did not take.
 pub fn intents_follow(book: &Book)
     ensures { IsSound (state book.now) }
 {
-    let _life = book.life();
+    book.what_always_holds();
 }
 
 /// The intent of an accepted request has one entry and fits the partition's place; done over the
@@ -60,5 +89,5 @@ pub fn partitions_stay_of_a_board()
 pub fn partitions_are_of_a_board(book: &Book)
     ensures { AreOfBoard (state book.now) }
 {
-    let _life = book.life();
+    book.what_always_holds();
 }

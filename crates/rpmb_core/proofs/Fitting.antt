@@ -2,6 +2,7 @@
 use Rattle.std.proofs.Common.{◌≡◌, ◌≤◌, ◌*◌, ℕ, Bool, true, false, ◌&&◌, List, [], ◌∷◌, length, refl, sym, subst, arith, eqb, leb}
 use Rattle.std.specs.Prelude.{if◌then◌else◌}
 use Rattle.std.proofs.lemmas.Bool.Decides.{nat_tests}
+use Rattle.rpmb_frame.specs.Codes.{req_program_key, req_data_write, req_result_read}
 use Rattle.rpmb_frame.specs.Table.{first_row}
 use Rattle.rpmb_frame.specs.Frame.{block_count_of, req_resp_of, first_of, last_of}
 use Rattle.rpmb_frame.specs.Limits.{Limits}
@@ -48,9 +49,9 @@ has_room bytes writable limits =
     let frames = frames_of bytes in
     let n = length frames in
     let type = req_resp_of (first_of frames) in
-    let asks = eqb (req_resp_of (last_of frames)) 5 in
-    of_table writable _ _ (eqb type 1 && eqb n 2 && asks && leb 512 writable) (eqb type 3 && leb 2 n && asks && leb 512 writable) _ _ _ _ _ _ _
-    (room_of (eqb type 1) (eqb n 2) asks writable) (room_of (eqb type 3) (leb 2 n) asks writable)
+    let asks = eqb (req_resp_of (last_of frames)) req_result_read in
+    of_table writable _ _ (eqb type req_program_key && eqb n 2 && asks && leb 512 writable) (eqb type req_data_write && leb 2 n && asks && leb 512 writable) _ _ _ _ _ _ _
+    (room_of (eqb type req_program_key) (eqb n 2) asks writable) (room_of (eqb type req_data_write) (leb 2 n) asks writable)
 
 one_or_none : (b : Bool) (writable : ℕ) → (b ≡ true → 512 ≤ writable) → IsReplyLength (if b then 512 else 0) writable
 one_or_none true writable room = (let fits : 512 ≤ writable = room refl in record { whole = refl; fits = fits; most = omega arith })

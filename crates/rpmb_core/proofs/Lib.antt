@@ -6,3 +6,7 @@ pub mod Sequence
 pub mod Writing
 pub mod Rightness
 pub mod Fitting
+pub mod Following
+pub mod Sent
+pub mod Failing
+pub mod Comparing

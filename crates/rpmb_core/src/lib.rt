@@ -3,6 +3,7 @@
 #![tactic(auto)]
 
 mod codes;
+mod failure;
 pub mod laws;
 mod outcome;
 mod partition;
@@ -14,8 +15,6 @@ pub use codes::{
     ADDR_FAILURE, AUTH_FAILURE, COUNT_FAILURE, GENERAL_FAILURE, NO_AUTH_KEY, OK,
     WRITE_COUNTER_EXPIRED, WRITE_FAILURE,
 };
+pub use failure::{fail, failure_kind};
 pub use outcome::{Outcome, is_change};
 pub use partition::{NoMemory, Partition};
-
-#[cfg(test)]
-mod tests;

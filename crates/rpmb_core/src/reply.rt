@@ -2,12 +2,12 @@ ghost use Rattle.std.specs.Prelude.{◌≡◌, ◌≤◌, if◌then◌else◌, �
 ghost use Rattle.std.specs.List.{AllByRecursion};
 ghost use Rattle.rpmb_frame.specs.Frame.{block_count_of};
 ghost use Rattle.rpmb_core.specs.Verdict.{verdict};
-ghost use Rattle.rpmb_core.specs.Reply.{reply, failure, sealed, joined, blocks_from, read_frames, one_frame, GivesBlocks, block_frames, is_answered, reply_length};
+ghost use Rattle.rpmb_core.specs.Reply.{reply, sealed, joined, blocks_from, read_frames, one_frame, GivesBlocks, block_frames, is_answered, reply_length};
 
 use crate::codes::OK;
 use crate::outcome::Outcome;
 use crate::partition::Partition;
-use crate::response::{Response, failure_kind, is_answered};
+use crate::response::{Response, is_answered};
 use rpmb_frame::{Command, FRAME_SIZE, Frame, Limits, Request};
 
 /// Where the MAC stands in a frame.
@@ -56,8 +56,8 @@ impl Partition {
         out: &mut [u8; 8192],
     ) -> usize
         ensures size { result ≡ (if is_answered request.now.command request.now.writable then 512 else 0) }
-        ensures len { result ≡ length (joined (sealed self.now.key (one_frame self.now request.now code last))) }
-        ensures bytes { out.new ≡ joined (sealed self.now.key (one_frame self.now request.now code last)) ++ drop result out.old }
+        ensures len { result ≡ length (joined (sealed self.now.key (one_frame self.now request.now.command request.now.writable code last))) }
+        ensures bytes { out.new ≡ joined (sealed self.now.key (one_frame self.now request.now.command request.now.writable code last)) ++ drop result out.old }
     {
         if !is_answered(request) {
             return 0;
@@ -78,23 +78,6 @@ impl Partition {
             }
             _ => { if is_answered(request) { FRAME_SIZE } else { 0 } }
         }
-    }
-
-    /// Writes the failure reply, of zeros but for its type and this result, to the front of `out`, and
-    /// says its length in bytes: 512, or 0 where no frame was due.
-    #[tactic(auto, unfolding(crate::specs::Reply::failure))]
-    pub fn failure(request: &Request<'_>, code: u16, out: &mut [u8; 8192]) -> usize
-        ensures len { result ≡ length (failure request.now code) }
-        ensures bytes { out.new ≡ failure request.now code ++ drop result out.old }
-    {
-        if !is_answered(request) {
-            return 0;
-        }
-        let frame = Frame::zeros()
-            .with_result(code)
-            .with_req_resp(failure_kind(request));
-        out[..FRAME_SIZE].copy_from_slice(&frame.to_bytes());
-        FRAME_SIZE
     }
 
     /// Writes the frames of a DATA_READ that succeeds.

@@ -1,6 +1,6 @@
 ghost use Rattle.std.specs.Prelude.{◌≡◌, Some};
 ghost use Rattle.rpmb_frame.specs.Partition.{Partition};
-ghost use Rattle.rpmb_core.specs.Reply.{frame_of, response_to, stored_response, is_answered, failure_kind, read_response};
+ghost use Rattle.rpmb_core.specs.Reply.{frame_of, response_to, stored_response, is_answered, read_response};
 
 use crate::codes::{
     DATA_READ_RESPONSE, DATA_WRITE_RESPONSE, GENERAL_FAILURE, PROGRAM_KEY_RESPONSE,
@@ -117,18 +117,5 @@ pub fn is_answered(request: &Request<'_>) -> bool
     match request.command {
         Command::ProgramKey { combined, .. } | Command::DataWrite { combined, .. } => combined,
         _ => request.writable >= 512,
-    }
-}
-
-/// The type of a failure reply: the request's, and 0 for a lone RESULT_READ and a malformed request.
-pub fn failure_kind(request: &Request<'_>) -> u16
-    ensures { result ≡ failure_kind request.now.command }
-{
-    match request.command {
-        Command::ProgramKey { .. } => PROGRAM_KEY_RESPONSE,
-        Command::GetWriteCounter { .. } => WRITE_COUNTER_RESPONSE,
-        Command::DataWrite { .. } => DATA_WRITE_RESPONSE,
-        Command::DataRead { .. } => DATA_READ_RESPONSE,
-        Command::ResultRead | Command::Malformed => 0,
     }
 }

@@ -11,10 +11,11 @@ use Rattle.mmio_transport.specs.declared.fault.DeviceFault.TheVariants.{NoMemory
 use Rattle.chains.specs.declared.fault.ChainFault.{ChainFault}
 use Rattle.chains.specs.declared.range.Range.{Range}
 use Rattle.chains.specs.Walk.{Found}
-use Rattle.guest_driver.specs.Layout.{writable_at}
-use Rattle.guest_driver.specs.Offered.{Offer, found_of}
+use Rattle.mmio_transport.specs.declared.queue.QueueKind.{QueueKind}
+use Rattle.guest_driver.specs.Kinds.{writable_at, found_of}
+use Rattle.guest_driver.specs.Offered.{Offer}
 use Rattle.guest_driver.specs.Driver.{DriverState}
-use Rattle.guest_driver.specs.OnDevice.{IsServed, IsSameSession, IsJobOf, IsPopped, IsAtItsEnd, IsPublished, IsReplyTo, PublishedBy}
+use Rattle.guest_driver.specs.OnDevice.{IsServed, HasNumberIn, IsSameSession, IsJobOf, IsPopped, IsAtItsEnd, IsPublished, IsReplyTo, PublishedBy}
 use Rattle.guest_driver.proofs.DevicePop.{device_pop_gives}
 use Rattle.guest_driver.proofs.DevicePublish.{device_publish_joins}
 use Rattle.rpmb_book.specs.declared.refused.Refused.{Refused}
@@ -66,9 +67,9 @@ reset_steps d d' r gives = record {
 }
 
 -- a chain's ranges hold what the driver asked for
-pub room_of_chain : (size : ℕ) (c : Offer) → room_in (found_of size c).buffers.writable ≡ c.writable
-room_of_chain size c =
-    let r : Range = record { at = writable_at size c.head; len = c.writable } in
+pub room_of_chain : (kind : QueueKind) (size : ℕ) (c : Offer) → room_in (found_of kind size c).buffers.writable ≡ c.writable
+room_of_chain kind size c =
+    let r : Range = record { at = writable_at kind size c.head; len = c.writable } in
     let both : (b : Bool) → (c.writable == 0) ≡ b → room_in (if b then [] else r ∷ []) ≡ c.writable =
     λ b. elim b as (λ (x : Bool). (c.writable == 0) ≡ x → room_in (if x then [] else r ∷ []) ≡ c.writable) [
       | true ↦ λ is. sym (eqb-true c.writable 0 is)
@@ -77,11 +78,11 @@ room_of_chain size c =
     both (c.writable == 0) refl
 
 -- the reply to a popped chain's job
-reply_to : (d d1 : DeviceState) (size : ℕ) (c : Offer) (job : Job) (done : Done) (reply : List ℕ) (need : ℕ) → IsJobOf d size c job → IsSameSession d d1
-    → done ≡ done_of job reply need → length done.reply ≤ room_in done.writable → IsReplyTo d1 size c done
-reply_to d d1 size c job done reply need is same answers fits =
-    let writable : done.writable ≡ (found_of size c).buffers.writable = ap (λ x. x.writable) answers ∙ ap (λ f. f.buffers.writable) is.found in
-    let room : room_in done.writable ≡ c.writable = ap room_in writable ∙ room_of_chain size c in
+reply_to : (d d1 : DeviceState) (kind : QueueKind) (size : ℕ) (c : Offer) (job : Job) (done : Done) (reply : List ℕ) (need : ℕ) → IsJobOf d kind size c job → IsSameSession d d1
+    → done ≡ done_of job reply need → length done.reply ≤ room_in done.writable → IsReplyTo d1 kind size c done
+reply_to d d1 kind size c job done reply need is same answers fits =
+    let writable : done.writable ≡ (found_of kind size c).buffers.writable = ap (λ x. x.writable) answers ∙ ap (λ f. f.buffers.writable) is.found in
+    let room : room_in done.writable ≡ c.writable = ap room_in writable ∙ room_of_chain kind size c in
     record {
       guest = ap (λ x. x.guest) answers ∙ is.guest ∙ sym same.guest;
       session = ap (λ x. x.session) answers ∙ is.session ∙ sym same.session;
@@ -92,8 +93,8 @@ reply_to d d1 size c job done reply need is same answers fits =
       fits = omega (arith, fits, room);
     }
 
-same_job : (d : DeviceState) (size : ℕ) (c : Offer) (job : Job) → IsJobOf d size c job → job ≡ job_of d size c
-same_job d size c job is =
+same_job : (d : DeviceState) (kind : QueueKind) (size : ℕ) (c : Offer) (job : Job) → IsJobOf d kind size c job → job ≡ job_of d kind size c
+same_job d kind size c job is =
     let m = λ (g s rd n : ℕ) (f : Found) (q : List ℕ). (let j : Job = record {
       guest = g;
       session = s;
@@ -110,7 +111,7 @@ same_job d size c job is =
     ∙ ap (λ x. m d.guest d.session x job.number (found_by job) job.request) is.readiness
     ∙ ap (λ x. m d.guest d.session d.readiness x (found_by job) job.request) is.number
     ∙ ap (λ x. m d.guest d.session d.readiness (d.pops + 1) x job.request) is.found
-    ∙ ap (λ x. m d.guest d.session d.readiness (d.pops + 1) (found_of size c) x) is.request
+    ∙ ap (λ x. m d.guest d.session d.readiness (d.pops + 1) (found_of kind size c) x) is.request
 
 published_so : (d1 d' : DeviceState) (driver : DriverState) (c : Offer) (done : Done) (answer : Published) → PublishedBy answer d1 driver [] [] [] c done d'
     → IsPublished d1 driver [] [] [] c done d'
@@ -123,10 +124,12 @@ pub answered_steps : (d d1 d' : DeviceState) (r r' : RunnerView) (job : Job) (do
 answered_steps d d1 d' r r' job done need answer gives answers fits publishes after = record {
   one = λ driver c room counting served.
       let p = device_pop_gives d d1 driver (c ∷ []) [] [] (Ok (Some job)) served gives in
-      let to = reply_to d d1 driver.size c job done (reply_of r.cores job) need p.0 p.1.same answers fits in
-      let q = published_so d1 d' driver c done answer (device_publish_joins d1 d' driver [] [] c [] [] done answer p.1.served to publishes) in
-      let same = same_job d driver.size c job p.0 in
-      let bytes : done.reply ≡ reply_of r.cores (job_of d driver.size c) = ap (λ x. x.reply) answers ∙ ap (reply_of r.cores) same in
+      let to = reply_to d d1 driver.kind driver.size c job done (reply_of r.cores job) need p.0 p.1.same answers fits in
+      let N : ℕ → Type 0 = λ n. HasNumberIn d1.queue [] n in
+      let named = subst N (sym (ap (λ (x : Done). x.number) answers)) p.2 in
+      let q = published_so d1 d' driver c done answer (device_publish_joins d1 d' driver [] [] c [] [] done answer p.1.served to named publishes) in
+      let same = same_job d driver.kind driver.size c job p.0 in
+      let bytes : done.reply ≡ reply_of r.cores (job_of d driver.kind driver.size c) = ap (λ x. x.reply) answers ∙ ap (reply_of r.cores) same in
       record {
         served = subst (λ b. IsServed d' driver [] [] (record { offer = c; bytes = b } ∷ [])) bytes q.served;
         same = record {
@@ -152,7 +155,7 @@ left_steps d d' r r' job e gives why same = record {
   one = λ driver c room counting served.
       let p = device_pop_gives d d' driver (c ∷ []) [] [] (Ok (Some job)) served gives in
       record {
-        cause = inr (ap fault_of why ∙ told_so (refusal_of r job) ∙ ap (λ j. told_of (refusal_of r j)) (same_job d driver.size c job p.0));
+        cause = inr (ap fault_of why ∙ told_so (refusal_of r job) ∙ ap (λ j. told_of (refusal_of r j)) (same_job d driver.kind driver.size c job p.0));
         runner = same;
       };
   none = λ driver published counting served. device_pop_gives d d' driver [] [] published (Ok (Some job)) served gives;
@@ -215,12 +218,18 @@ no_more_failed a d d' p r r' fault before serves driver published counting serve
 pub answered_then_failed : (d d1 d' : DeviceState) (r r1 r' : RunnerView) (fault : HostFault) → ServesOne d r (Ok step.Answered) d1 r1 → Drains d1 r1 (Err fault) d' r' → Serves d r (Err fault) d' r'
 answered_then_failed d d1 d' r r1 r' fault serves drains driver c room counting more there =
     let a = serves.one driver c room counting there in
-    absurd (drains driver (record { offer = c; bytes = reply_of r.cores (job_of d driver.size c) } ∷ []) (counting_on d d1 a.same a.pops counting more) a.served)
+    absurd (drains driver (record { offer = c; bytes = reply_of r.cores (job_of d driver.kind driver.size c) } ∷ []) (counting_on d d1 a.same a.pops counting more) a.served)
 
 -- one look that answers, and then looks that find nothing
 pub answered_then_quiet : (d d1 d' : DeviceState) (r r1 r' : RunnerView) → ServesOne d r (Ok step.Answered) d1 r1 → Drains d1 r1 (Ok false) d' r' → Serves d r (Ok served.Answered) d' r'
 answered_then_quiet d d1 d' r r1 r' serves drains driver c room counting more there =
     let a = serves.one driver c room counting there in
     let going = counting_on d d1 a.same a.pops counting more in
-    let q = (drains driver (record { offer = c; bytes = reply_of r.cores (job_of d driver.size c) } ∷ []) going a.served).1 in
+    let q = (drains driver (record { offer = c; bytes = reply_of r.cores (job_of d driver.kind driver.size c) } ∷ []) going a.served).1 in
     record { served = q.served; same = same_twice d d1 d' a.same q.same; pops = q.pops ∙ a.pops; runner = q.runner ∙ a.runner }
+
+-- after one look that answers no other asks for a reset
+pub answered_then_stopped : (d d1 d' : DeviceState) (r r1 r' : RunnerView) → ServesOne d r (Ok step.Answered) d1 r1 → Drains d1 r1 (Ok true) d' r' → Serves d r (Ok served.Stopped) d' r'
+answered_then_stopped d d1 d' r r1 r' serves drains driver c room counting more there =
+    let a = serves.one driver c room counting there in
+    let e = (drains driver (record { offer = c; bytes = reply_of r.cores (job_of d driver.kind driver.size c) } ∷ []) (counting_on d d1 a.same a.pops counting more) a.served).0 in absurd (cc)

@@ -17,6 +17,3 @@ mod word;
 pub use fault::{LineError, ScriptError};
 pub use line::{Line, read_line};
 pub use reader::read_script;
-
-#[cfg(test)]
-mod tests;

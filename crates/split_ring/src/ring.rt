@@ -1,9 +1,10 @@
-ghost use Rattle.std.specs.Prelude.{◌≡◌, ◌≤◌, ◌<◌, ◌+◌, ◌-◌, ◌*◌, ◌^◌, ◌↔◌, IsTrue, IsOk, IfOk, IfSome, OnErr, length, Err};
+ghost use Rattle.std.specs.Prelude.{◌≡◌, ◌≤◌, ◌<◌, ◌+◌, ◌-◌, ◌*◌, ◌^◌, ◌↔◌, IsTrue, false, IsOk, IfOk, IfSome, OnErr, length, Err};
 ghost use Rattle.std.specs.List.{position};
 ghost use Rattle.chains.specs.Range.{AreInside};
-ghost use Rattle.chains.specs.Ring.{first_state, is_chain, IsOutstanding, Pops, Publishes};
+ghost use Rattle.chains.specs.Walk.{reads_of};
+ghost use Rattle.chains.specs.Ring.{first_state, is_chain, IsOutstanding, IsFree, Ascend, Pops, CountsReads, Publishes};
 ghost use Rattle.split_ring.specs.Layout.{descriptor_table, AreasInside, IsRing};
-ghost use Rattle.split_ring.specs.Available.{next, event};
+ghost use Rattle.split_ring.specs.Available.{next, members, event};
 ghost use Rattle.split_ring.specs.Used.{used_written};
 ghost use Rattle.split_ring.specs.Notification.{Tells};
 
@@ -21,7 +22,7 @@ use std::marker::Model;
 pub struct Ring {
     places: Places,
     size: u16,
-    pops: u64,
+    last: u64,
     popped: u128,
     used: u128,
     outstanding: Vec<Outstanding>,
@@ -33,9 +34,9 @@ impl Model for Ring {
 
     ghost Value = { RingState };
 
-    ghost view = { λ r. record { places = r.places; size = r.size; pops = r.pops; popped = r.popped; used = r.used; outstanding = r.outstanding.items } };
+    ghost view = { λ r. record { places = r.places; size = r.size; last = r.last; popped = r.popped; used = r.used; outstanding = r.outstanding.items } };
 
-    ghost invariant = { λ r. Keeps r.places r.size r.pops r.popped r.used r.outstanding.items };
+    ghost invariant = { λ r. Keeps r.places r.size r.last r.popped r.used r.outstanding.items };
 }
 
 impl Ring {
@@ -60,7 +61,7 @@ impl Ring {
         Ok(Ring {
             places,
             size,
-            pops: 0,
+            last: 0,
             popped: 0,
             used: 0,
             outstanding: Vec::new(alloc),
@@ -77,18 +78,18 @@ impl Ring {
             && memory.contains(self.places.device, 6 + 8 * size)
     }
 
-    /// How many chains were popped.
-    pub fn pops(&self) -> u64
-        ensures { result ≡ self.now.pops }
+    /// The number of the chain that was popped last; 0 before the first.
+    pub fn last(&self) -> u64
+        ensures { result ≡ self.now.last }
     {
-        self.pops
+        self.last
     }
 
-    /// Whether a chain of this id and so many places was popped and not yet used.
-    pub fn is_outstanding(&self, id: u16, places: u16) -> bool
-        ensures { IsTrue result ↔ IsOutstanding self.now id places }
+    /// Whether the chain of this number, of this id and so many places, was popped and not yet used.
+    pub fn is_outstanding(&self, number: u64, id: u16, places: u16) -> bool
+        ensures { IsTrue result ↔ IsOutstanding self.now number id places }
     {
-        position_of(&self.outstanding, id, places).is_some()
+        position_of(&self.outstanding, number, id, places).is_some()
     }
 
     /// The descriptor table.
@@ -105,26 +106,35 @@ impl Ring {
 
     /// Pops the chain at the place after those popped, or answers `None` where that place isn't
     /// available. Both write avail_event, where `VIRTIO_F_EVENT_IDX` was accepted, and nothing else.
+    /// The chain is known by `number` from then on.
     ///
-    /// It counts `reads` anew, and reads at most the queue size and 1,024 descriptors.
+    /// It counts `reads` anew, and reads each descriptor once, up to the first that fails a test: at
+    /// most the queue size and 1,024.
     ///
-    /// Answers a fault for an index that jumps or a chain that fails a test, and `NoMemory`; then
-    /// the ring and the memory stay as they were.
+    /// Answers a fault for an index that jumps or a chain that fails a test, `NoMemory`, and
+    /// `OldNumber` exactly where the number isn't above those of the chains popped before; then the
+    /// ring and the memory stay as they were.
     pub fn pop(
         &mut self,
         alloc: Global,
         memory: &mut Memory,
         reads: &mut Reads,
+        number: u64,
     ) -> Result<Option<Popped>, RingFault>
         requires areas { AreasInside (length memory.old) self.old }
-        requires room { self.old.pops < 2 ^ 64 - 1 }
-        ensures pops { Pops next event memory.old self.old result memory.new self.new }
+        ensures pops { Pops next members event memory.old self.old number result memory.new self.new }
+        ensures numbered { Ascend 0 self.new.outstanding self.new.last }
+        ensures old_number { number ≤ self.old.last → result ≡ Err RingFault.OldNumber }
         ensures areas { AreasInside (length memory.new) self.new }
         ensures size { length memory.new ≡ length memory.old }
         ensures inside { IfOk result (λ popped. IfSome popped (λ popped. AreInside (length memory.old) popped.chain.writable)) }
-        ensures reads { reads.new ≤ self.old.size + 1024 }
+        ensures reads { CountsReads result reads.old reads.new (reads_of (length memory.old) false (members memory.old self.old)) }
+        ensures few { reads.new.count ≤ self.old.size + 1024 }
     {
         reads.clear();
+        if number <= self.last {
+            return Err(RingFault::OldNumber);
+        }
         let head = match next_head(memory, &self.places, self.size, self.popped) {
             Ok(Some(head)) => head,
             Ok(None) => {
@@ -137,12 +147,12 @@ impl Ring {
         let walked = walk(alloc, memory, reads, &table, head as u64)?;
         let request = walked.chain.gather(alloc, memory)?;
         let chain = Outstanding {
-            number: self.pops + 1,
+            number,
             id: walked.id,
             places: walked.places,
         };
         self.outstanding.push(chain)?;
-        self.pops += 1;
+        self.last = number;
         self.popped += walked.places as u128;
         write_avail_event(memory, &self.places, self.size, self.popped);
         Ok(Some(Popped {
@@ -157,15 +167,25 @@ impl Ring {
     /// else. `len` is the length in bytes of the reply, which was scattered before. Answers whether
     /// the driver is to be notified, which the memory after these writes decides.
     ///
-    /// Where several outstanding chains have this id, the oldest one is used. It takes no memory.
-    pub fn publish(&mut self, memory: &mut Memory, id: u16, places: u16, len: u32) -> bool
+    /// The chain of this number is outstanding no more, whatever other chains have its id. It takes
+    /// no memory.
+    pub fn publish(
+        &mut self,
+        memory: &mut Memory,
+        number: u64,
+        id: u16,
+        places: u16,
+        len: u32,
+    ) -> bool
         requires areas { AreasInside (length memory.old) self.old }
-        requires outstanding { IsOutstanding self.old id places }
-        ensures publishes { Publishes used_written Tells memory.old self.old id places len result memory.new self.new }
+        requires outstanding { IsOutstanding self.old number id places }
+        ensures publishes { Publishes used_written Tells memory.old self.old number id places len result memory.new self.new }
+        ensures once { IsFree number self.new.outstanding }
+        ensures numbered { Ascend 0 self.new.outstanding self.new.last }
         ensures areas { AreasInside (length memory.new) self.new }
         ensures size { length memory.new ≡ length memory.old }
     {
-        match position_of(&self.outstanding, id, places) {
+        match position_of(&self.outstanding, number, id, places) {
             Some(i) => {
                 self.outstanding.remove(i);
             }
@@ -181,11 +201,11 @@ impl Ring {
     }
 }
 
-/// Where the oldest chain of this id and so many places stands.
-fn position_of(chains: &[Outstanding], id: u16, places: u16) -> Option<usize>
-    ensures { result ≡ position (is_chain id places) chains.now }
+/// Where the chain of this number, of this id and so many places, stands.
+fn position_of(chains: &[Outstanding], number: u64, id: u16, places: u16) -> Option<usize>
+    ensures { result ≡ position (is_chain number id places) chains.now }
 {
-    chains
-        .iter()
-        .position(|chain| chain.id == id && chain.places == places)
+    chains.iter().position(|chain| chain.id == id
+        && chain.places == places
+        && chain.number == number)
 }

@@ -5,13 +5,11 @@ use super::scene::{
     board_of, check, get_write_counter, has_tail, program_key, result_read, write_of,
 };
 use guest_driver::Driver;
-use mmio_transport::{Device, Done, Published};
+use mmio_transport::register::STATUS;
+use mmio_transport::{Device, Done, Job, Published};
 use runner::Runner;
 use std::alloc::Global;
 use std::test::Fail;
-
-/// The register Status (VIRTIO 1.2, 4.2.2).
-const STATUS: u32 = 0x070;
 
 /// Where the used ring of a queue of 16 stands in the driver's layout, and how long it is.
 const USED_RING: u64 = 304;
@@ -46,17 +44,23 @@ impl Guest {
         }
     }
 
-    /// Offers a request of these frames with room for one frame, and answers it.
-    fn answered(&mut self, alloc: Global, frames: &[[u8; 512]]) -> Result<Done, Fail> {
+    /// Offers a request of these frames with room for one frame, and pops it.
+    fn popped(&mut self, frames: &[[u8; 512]]) -> Result<Job, Fail> {
         let request = frames.as_flattened();
         if request.is_empty() || request.len() > 8704 {
             return Err(Fail::from("no request"));
         }
         self.driver.offer(&mut self.device, request, 512)?;
         match self.device.pop()? {
-            Some(job) => Ok(self.runner.answer(alloc, job)?),
+            Some(job) => Ok(job),
             None => Err(Fail::from("nothing popped")),
         }
+    }
+
+    /// Offers a request of these frames with room for one frame, and answers it.
+    fn answered(&mut self, alloc: Global, frames: &[[u8; 512]]) -> Result<Done, Fail> {
+        let job = self.popped(frames)?;
+        Ok(self.runner.answer(alloc, job)?)
     }
 
     /// The reply to a request of these frames.
@@ -115,4 +119,50 @@ fn a_reset_drops_the_reply_and_keeps_the_write(rt: HostRuntime) -> Result<(), Fa
     drop_a_reply(alloc, &mut guest)?;
     guest.negotiate()?;
     ask_after_the_reset(alloc, &mut guest)
+}
+
+/// The chain's frame, its two descriptors, and the available ring: where each stands in the driver's layout,
+/// and its length in bytes.
+static POPPED: [(u64, usize); 3] = [(FRAME, 512), (0, 32), (256, 38)];
+
+/// Where the first pair of buffers stands: the part to be read, and behind its 8,704 bytes the other one.
+const FRAME: u64 = 960;
+
+const REPLY: u64 = FRAME + 8704;
+
+fn loaded<const N: usize>(guest: &Guest, at: u64) -> Result<[u8; N], Fail> {
+    let mut bytes = [0; N];
+    guest.device.load(at, &mut bytes)?;
+    Ok(bytes)
+}
+
+/// The reply is of the frame that was popped, stands at the range that was popped, and goes back under the
+/// id that was popped: it is the ring's second.
+fn look_at_the_reply(guest: &Guest, request: &[u8; 512]) -> Result<(), Fail> {
+    let reply: [u8; 512] = loaded(guest, REPLY)?;
+    check(&reply[484..500] == &request[484..500], "the nonce")?;
+    let counter = [0, 0, 0, 0, 0, 0, 0, 1, 0, 0, 2, 0];
+    check(has_tail(&reply, &counter), "the reply")?;
+    let used: [u8; 14] = loaded(guest, USED_RING + 2)?;
+    check(&used[..2] == &[2, 0][..], "two chains came back")?;
+    check(&used[10..] == &[0, 0, 0, 0][..], "the id")
+}
+
+#[test]
+fn a_job_is_what_was_popped(rt: HostRuntime) -> Result<(), Fail> {
+    let alloc = rt.alloc();
+    let mut guest = guest_in_service(alloc)?;
+    let programmed = [0, 0, 0, 0, 0, 0, 0, 1, 0, 0, 1, 0];
+    ask_for(alloc, &mut guest, &program_key(&[0x11; 32]), programmed)?;
+    let request = get_write_counter(0x0001_0203_0405_0607_0809_0a0b_0c0d_0e0f);
+    let job = guest.popped(&request)?;
+    for (at, len) in &POPPED {
+        guest.device.store(*at, &[0xff; 512][..*len])?;
+    }
+    let done = guest.runner.answer(alloc, job)?;
+    check(
+        guest.device.publish(done) != Published::Dropped,
+        "published",
+    )?;
+    look_at_the_reply(&guest, &request[0])
 }

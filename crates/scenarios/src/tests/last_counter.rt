@@ -19,7 +19,7 @@ fn image(alloc: Global, board: &BoardConfig) -> Result<CutDisk, Fail> {
     if layout.guests() == 0 {
         return Err(Fail::from("no guest"));
     }
-    let home = layout.home(0);
+    let home = layout.extent(0).home();
     let bytes = Home::with_key(KEY, COUNTER).encode();
     let mut disk = formatted(alloc, board)?;
     if home > disk.len() || bytes.len() as u64 > disk.len() - home {

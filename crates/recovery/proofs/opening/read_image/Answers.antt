@@ -1,6 +1,6 @@
 use Rattle.std.proofs.Common.{◌∙◌, subst, refl, ℕ, arith}
 use Rattle.recovery.specs.Opening.{AnswersFault}
-use Rattle.recovery.proofs.Ways.{opens_failed, opens_went, sync_end, pass_on, pass_end, gives_on, untouched_on}
+use Rattle.recovery.proofs.Ways.{opens_failed, opens_went, sync_end, pass_on, pass_end, gives_on, untouched_on, reads_on}
 use Rattle.recovery.proofs.Guests.{header_answers, on_found, all_answers}
 use Rattle.recovery.proofs.Zeros.{on_ok}
 use Rattle.recovery.proofs.opening.read_image.Goals as goal
@@ -46,3 +46,11 @@ returns-clause-synced g c = on_ok c.read_guests.result _ (λ ok known k.
     let w = pass_end g.D.Disk.state g.D.Disk.makes _ _ _ c.read_guests.ensures.passes in
     let here = e.counts.faithful ∙ known in
     w.unsynced (v.faithful ∙ here) k (v.unsynced here k (e.durable known refl k)))
+
+pub returns-clause-went : goal.returns-clause-went
+returns-clause-went g c = on_ok c.read_guests.result _ (λ ok. record {
+  before = c.args.disk.now;
+  after = c.sync.new.self;
+  sync = c.in-Ok.ensures.call;
+  reads = reads_on g.D.Disk.state g.D.Disk.makes _ _ _ c.in-Ok-read_header.ensures.passes.reads c.read_guests.ensures.passes.reads;
+})

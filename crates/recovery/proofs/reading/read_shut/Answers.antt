@@ -1,21 +1,26 @@
-use Rattle.std.proofs.Common.{◌∙◌, ap, sym, length, refl, arith}
+use Rattle.std.proofs.Common.{◌∙◌, ap, sym, subst, length, refl, arith}
 use Rattle.disk.specs.Content.{bytes_at}
+use Rattle.intent_slots.specs.Layout.{Place}
+use Rattle.flusher.specs.declared.guest.Guest.{Guest}
+use Rattle.recovery.specs.Opening.{IsBegun}
+use Rattle.recovery.specs.Reading.{IsFound}
 use Rattle.recovery.proofs.Ways.{pass_on, pass_end, gives_on}
-use Rattle.recovery.proofs.Found.{no_home, found_shut, begun_shut, part_inside, size_is}
+use Rattle.recovery.proofs.Found.{no_home, found_shut, begun_shut, size_is, part_inside}
 use Rattle.recovery.proofs.reading.read_shut.Goals as goal
 
 pub read-requires : goal.read-requires
-read-requires g c = part_inside c.args.layout.now c.args.number c.home.result 64 _ 0 c.requires.guest c.requires.room (omega (arith, c.home.ensures.value)) (omega arith)
+read-requires g c = part_inside c.args.layout.now c.args.number c.home.result 64 _ 0 _ c.requires.guest c.requires.room c.extent-extent.ensures (omega (arith, c.home.ensures.value)) (omega arith)
 
 pub read_blocks-requires : goal.read_blocks-requires
 read_blocks-requires g c =
     let len = (pass_end g.D.Disk.state g.D.Disk.makes _ _ _ c.read.ensures.passes).len in
-    let fits = part_inside c.args.layout.now c.args.number c.blocks-2.result (length c.args.blocks.items) _ 35328 c.requires.guest c.requires.room c.blocks-2.ensures.value (omega (arith, c.requires.size)) in
+    let same = ap (λ (v : Place). v.size) c.extent-extent.ensures in
+    let fits = part_inside c.args.layout.now c.args.number c.blocks-2.result (length c.args.blocks.items) _ 35328 _ c.requires.guest c.requires.room c.extent-extent.ensures c.blocks-2.ensures.value (omega (arith, c.requires.size, same)) in
     omega (arith, fits, len)
 
 pub returns-in_default-clause-finds : goal.returns-in_default-clause-finds
 returns-in_default-clause-finds g c content gives shut =
-    no_home c.args.layout.now c.args.number content _ _ c.home.ensures.value (c.in-Ok.ensures.bytes content gives) (c.in_default.ensures.refused refl) shut
+    no_home c.args.layout.now c.args.number content _ _ _ c.home.ensures.value c.extent-extent.ensures (c.in-Ok.ensures.bytes content gives) (c.in_default.ensures.refused refl) shut
 
 pub returns-in-Err-read_blocks-clause-passes : goal.returns-in-Err-read_blocks-clause-passes
 returns-in-Err-read_blocks-clause-passes g c = pass_on g.D.Disk.state g.D.Disk.makes _ _ _ _ c.in-Ok.ensures.passes c.in-Err-read_blocks.ensures.passes
@@ -23,13 +28,16 @@ returns-in-Err-read_blocks-clause-passes g c = pass_on g.D.Disk.state g.D.Disk.m
 pub returns-clause-passes : goal.returns-clause-passes
 returns-clause-passes g c = pass_on g.D.Disk.state g.D.Disk.makes _ _ _ _ c.in-Ok.ensures.passes c.in-Ok-read_blocks.ensures.passes
 
+pub of-partition-requires-clause-blocks : goal.of-partition-requires-clause-blocks
+of-partition-requires-clause-blocks g c = c.in-Ok-read_blocks.ensures.len ∙ c.requires.size ∙ size_is c.args.layout.now c.args.number c.capacity-capacity.result c.capacity-capacity.ensures.value
+
 pub returns-clause-begun : goal.returns-clause-begun
-returns-clause-begun g c =
-    begun_shut c.args.layout.now c.args.number _ _ _ _ _ _ _ _ _ c.key.ensures c.counter.ensures.value c.home-2.ensures.value c.capacity-capacity.ensures.value c.of-partition.ensures c.sequence.ensures c.counter.type_inv
+returns-clause-begun g c = subst (λ (x : Guest). IsBegun c.args.layout.now c.args.number x c.of-partition.result) (sym c.settled.ensures)
+    (begun_shut c.args.layout.now c.args.number _ _ _ _ _ _ _ _ _ c.key.ensures c.counter.ensures.value c.extent-extent.ensures c.capacity-capacity.ensures.value c.of-partition.ensures c.sequence.ensures c.counter.type_inv)
 
 pub returns-clause-finds : goal.returns-clause-finds
 returns-clause-finds g c content gives shut =
     let on = gives_on _ _ content (pass_end g.D.Disk.state g.D.Disk.makes _ _ _ c.read.ensures.passes) gives in
-    let long = c.requires.size ∙ sym (size_is c.args.layout.now c.args.number) in
-    found_shut c.args.layout.now c.args.number content _ _ _ _ _ _ _ _ _ _ _ _ c.home.ensures.value (c.in-Ok.ensures.bytes content gives) c.in-Some.ensures.ok
-    c.blocks-2.ensures.value (c.in-Ok-read_blocks.ensures.bytes content on ∙ ap (bytes_at content c.blocks-2.result) long) c.key.ensures c.counter.ensures.value c.home-2.ensures.value c.capacity-capacity.ensures.value c.of-partition.ensures shut
+    subst (λ (x : Guest). IsFound content x c.of-partition.result) (sym c.settled.ensures)
+    (found_shut c.args.layout.now c.args.number content _ _ _ _ _ _ _ _ _ _ _ _ c.home.ensures.value (c.in-Ok.ensures.bytes content gives) c.in-Some.ensures.ok
+    c.blocks-2.ensures.value (c.in-Ok-read_blocks.ensures.bytes content on ∙ ap (bytes_at content c.blocks-2.result) c.requires.size) c.key.ensures c.counter.ensures.value c.extent-extent.ensures c.of-partition.ensures shut)

@@ -1,5 +1,5 @@
 use Rattle.std.proofs.Common.{◌∙◌, ◌+◌, ap, sym, subst}
-use Rattle.std.specs.Prelude.{slice_index}
+use Rattle.intent_slots.specs.Layout.{place_at}
 use Rattle.recovery.specs.Space.{EachFits}
 use Rattle.recovery.proofs.Lists.{space_more, length-push}
 use Rattle.recovery.proofs.space.spaces.Goals as goal
@@ -11,5 +11,5 @@ loop-guest-preserved c =
     record {
       count = length-push c.loop-guest.spaces.items _ c.in_ok-space.space c.in_ok-push.ensures.items ∙ ap (λ n. n + 1) v.count;
       each = subst (EachFits cs) (sym c.in_ok-push.ensures.items)
-          (space_more cs c.loop-guest.spaces.items c.in_ok-space.space c.capacity.result v.each c.in_ok-space.ensures (c.capacity.ensures.value ∙ ap (slice_index cs) (sym v.count)));
+          (space_more cs c.loop-guest.spaces.items c.in_ok-space.space _ v.each c.in_ok-space.ensures (c.extent.ensures ∙ ap (place_at cs) (sym v.count)));
     }

@@ -1,0 +1,179 @@
+-- Which call comes next, and what it makes of the guests and of the header.
+use Rattle.std.proofs.Common.{◌≡◌, ◌↔◌, ◌<◌, ◌≤◌, inl, inr, ⊎_elim, Bool, true, false, not, Option, Some, None, Result, Ok, Err, ℕ, List, [], ◌∷◌, length, map, length-set, get_or, refl, ap, sym, ◌∙◌, subst, arith, ◌+◌, ◌*◌}
+use Rattle.std.specs.Prelude.{slice_get, slice_set, position, if◌then◌else◌}
+use Rattle.std.specs.List.{list_any, position_or_len}
+use Rattle.std.proofs.lemmas.List.{length-map}
+use Rattle.std.proofs.lemmas.Grind.{common_steps}
+use Rattle.std.proofs.lemmas.List.Sums.{fails_before_first}
+use Rattle.std.proofs.lemmas.List.Quantifiers.{position-Some}
+use Rattle.std.proofs.lemmas.List.Folds.{list_any_at, list_any_none}
+use Rattle.std.proofs.lemmas.Option.{slice_get-get_or, slice_get_within, get_or_from_slice_get}
+use Rattle.disk.specs.Disk.{DiskState, DiskCall, Write, Sync, Effect, during, Within, Still, Then}
+use Rattle.intent_slots.specs.Layout.{IsSlotPlace}
+use Rattle.flusher.specs.declared.guest.Guest.{Guest}
+use Rattle.flusher.specs.declared.slot.Slot.{Slot}
+use Rattle.flusher.specs.declared.plan.Plan.{Plan}
+use Rattle.flusher.specs.declared.plan.Plan.TheVariants.{WriteOf, SyncAll, Nothing}
+use Rattle.flusher.specs.declared.progress.Progress.{Progress}
+use Rattle.flusher.specs.declared.progress.Progress.TheVariants.{Wrote, Synced, Idle}
+use Rattle.flusher.specs.declared.progress.StoreFault.{StoreFault}
+use Rattle.flusher.specs.Slot.{is_empty, slot_write, slot_writes, slot_awaits, place_of, side_of, guest_write, guest_has_write, guest_awaits, guest_after_write, guest_after_sync}
+use Rattle.flusher.specs.Marks.{marks_of}
+use Rattle.flusher.specs.Round.{plan_at, planned, AllEmpty, Ends, Round, settles, MovedBy, Moves, FrontStays}
+use Rattle.flusher.specs.Store.{AllFit}
+use Rattle.flusher.proofs.Guests.{set_cases, map_cases}
+use Rattle.flusher.proofs.Held.{not_in}
+use Rattle.flusher.proofs.Table.{first_side}
+use Rattle.flusher.proofs.Writes.{write_fits, within}
+
+-- 1. No call
+
+empty_of : (slot : Option Slot) → slot_writes slot ≡ false → slot_awaits slot ≡ false → is_empty slot ≡ true
+empty_of None w a = refl
+empty_of (Some s) w a = absurd (let n = ap not w in cc)
+
+quiet : (slot : Option Slot) → is_empty slot ≡ true → (slot_writes slot ≡ false) × (slot_awaits slot ≡ false)
+quiet None is = (refl, refl)
+quiet (Some s) is = absurd (cc)
+
+no_write : (xs : List Guest) → position guest_has_write xs ≡ None → (g : ℕ) (x : Guest) → slice_get xs g ≡ Some x → guest_has_write x ≡ false
+no_write xs none g x at =
+    let past : length xs ≤ position_or_len guest_has_write xs = grind (arith, common_steps) in
+    let below = slice_get_within xs g x at in
+    sym (ap guest_has_write (get_or_from_slice_get xs g x x at)) ∙ fails_before_first guest_has_write xs g x (omega (arith, past, below))
+
+no_wait : (xs : List Guest) → list_any guest_awaits xs ≡ false → (g : ℕ) (x : Guest) → slice_get xs g ≡ Some x → guest_awaits x ≡ false
+no_wait xs none g x at = of (guest_awaits x) refl
+  where
+    of : (b : Bool) → guest_awaits x ≡ b → guest_awaits x ≡ false
+    of false is = is
+    of true is = absurd (let found = list_any_at guest_awaits xs g x (slice_get_within xs g x at) (ap guest_awaits (get_or_from_slice_get xs g x x at) ∙ is) in cc)
+
+plan_nothing : (o : Option ℕ) (b : Bool) → plan_at o b ≡ Nothing → (o ≡ None) × (b ≡ false)
+plan_nothing (Some g) b e = absurd (cc)
+plan_nothing None true e = absurd (cc)
+plan_nothing None false e = (refl, refl)
+
+none_writes : (xs : List Guest) → AllEmpty xs → position guest_has_write xs ≡ None
+none_writes [] all = refl
+none_writes (y ∷ ys) all = of (position guest_has_write (y ∷ ys)) refl
+  where
+    of : (o : Option ℕ) → position guest_has_write (y ∷ ys) ≡ o → position guest_has_write (y ∷ ys) ≡ None
+    of None is = is
+    of (Some g) is = absurd (
+        let first = position-Some guest_has_write (y ∷ ys) g y is in
+        let x = get_or (y ∷ ys) g y in
+        let none = (quiet x.slot (all g x (slice_get-get_or (y ∷ ys) g y first.0))).0 in
+        cc (first.1, none))
+
+pub nothing_where_empty : (xs : List Guest) → planned xs ≡ Nothing ↔ AllEmpty xs
+nothing_where_empty xs = (
+  λ is g x at. (let none = plan_nothing _ _ is in empty_of x.slot (no_write xs none.0 g x at) (no_wait xs none.1 g x at)),
+  λ all. (
+      let waits = list_any_none guest_awaits xs (λ k d lt. (quiet (get_or xs k d).slot (all k (get_or xs k d) (slice_get-get_or xs k d lt))).1) in
+      ap (λ (o : Option ℕ). plan_at o (list_any guest_awaits xs)) (none_writes xs all) ∙ ap (λ (b : Bool). plan_at None b) waits),
+)
+
+-- 2. The guests
+
+module _ {D : Type 0} (makes : D → DiskCall → D → Type 0) (od : D) (old : List Guest) (result : Result Progress StoreFault) (nd : D) (new : List Guest) (broken : Bool) where
+  moves_none : settles result ≡ false → new ≡ old → (g : ℕ) (x y : Guest) → slice_get old g ≡ Some x → slice_get new g ≡ Some y → MovedBy (settles result) x y
+  moves_none none same g x y before after =
+      let e : x ≡ y = (let f : slice_get old g ≡ Some y = subst (λ (l : List Guest). slice_get l g ≡ Some y) same after in cc) in
+      subst (λ (b : Bool). MovedBy b x y) (sym none) (inl (sym e))
+
+  moves_write : (n : ℕ) (z : Guest) → slice_get old n ≡ Some z → new ≡ slice_set old n (guest_after_write z) → settles result ≡ false
+      → (g : ℕ) (x y : Guest) → slice_get old g ≡ Some x → slice_get new g ≡ Some y → MovedBy (settles result) x y
+  moves_write n z is slots none g x y before after = subst (λ (b : Bool). MovedBy b x y) (sym none) (⊎_elim
+      (λ e. (let same : z ≡ x = (let f : slice_get old n ≡ Some x = ap (slice_get old) (sym e.0) ∙ before in cc) in inr (e.1 ∙ ap guest_after_write same)))
+      (λ e. (let same : x ≡ y = (let f = e.1 in cc) in inl (sym same)))
+      (set_cases old n g (guest_after_write z) y (subst (λ (l : List Guest). slice_get l g ≡ Some y) slots after)))
+
+  moves_sync : new ≡ map guest_after_sync old → settles result ≡ true
+      → (g : ℕ) (x y : Guest) → slice_get old g ≡ Some x → slice_get new g ≡ Some y → MovedBy (settles result) x y
+  moves_sync slots all g x y before after = subst (λ (b : Bool). MovedBy b x y) (sym all) (
+      let from = map_cases guest_after_sync old g y (subst (λ (l : List Guest). slice_get l g ≡ Some y) slots after) in
+      let same : from.0 ≡ x = (let f = from.1 in cc) in
+      from.2 ∙ ap guest_after_sync same)
+
+  wrote_ends : (ok : Bool) → Ends ok Wrote result broken → (settles result ≡ false) × (result ≡ Ok Idle → ⊥) × ((told : List ℕ) → result ≡ Ok (Synced told) → ⊥)
+  wrote_ends true e = (ap settles e.0, (λ is. absurd (let f = e.0 in cc)), λ told is. absurd (let f = e.0 in cc))
+  wrote_ends false e = (ap settles e.0, (λ is. absurd (let f = e.0 in cc)), λ told is. absurd (let f = e.0 in cc))
+
+  synced_moves : (ok : Bool) → new ≡ (if ok then map guest_after_sync old else old) → Ends ok (Synced (marks_of new)) result broken → Moves result old new
+  synced_moves true slots e = record {
+    count = ap length slots ∙ length-map old guest_after_sync;
+    each = moves_sync slots (ap settles e.0);
+    idle = λ is. absurd (let f = e.0 in cc);
+    marks = λ told is. (let f = e.0 in cc);
+  }
+  synced_moves false slots e = record {
+    count = ap length slots;
+    each = moves_none (ap settles e.0) slots;
+    idle = λ is. slots;
+    marks = λ told is. absurd (let f = e.0 in cc);
+  }
+
+  moves_by_plan : (p : Plan) → Round makes p od old result nd new broken → Moves result old new
+  moves_by_plan (WriteOf g) r = (let w = r.wrote in let e = wrote_ends r.ok r.ends in record {
+    count = ap length w.slots ∙ length-set old g (guest_after_write w.guest);
+    each = moves_write g w.guest w.is w.slots e.0;
+    idle = λ is. absurd (e.1 is);
+    marks = λ told is. absurd (e.2 told is);
+  })
+  moves_by_plan SyncAll r = synced_moves r.ok r.synced.slots r.ends
+  moves_by_plan Nothing r = record {
+    count = ap length r.2;
+    each = moves_none (ap settles r.0) r.2;
+    idle = λ is. r.2;
+    marks = λ told is. absurd (let f = r.0 in cc);
+  }
+
+  pub round_moves : Round makes (planned old) od old result nd new broken → Moves result old new
+  round_moves = moves_by_plan (planned old)
+
+  sync_not_idle : (ok : Bool) → Ends ok (Synced (marks_of new)) result broken → result ≡ Ok Idle → ⊥
+  sync_not_idle true e is = absurd (let f = e.0 in cc)
+  sync_not_idle false e is = absurd (let f = e.0 in cc)
+
+  idle_plan : (p : Plan) → Round makes p od old result nd new broken → result ≡ Ok Idle ↔ p ≡ Nothing
+  idle_plan (WriteOf g) r = ((λ is. absurd ((wrote_ends r.ok r.ends).1 is)), λ is. absurd (cc))
+  idle_plan SyncAll r = ((λ is. absurd (sync_not_idle r.ok r.ends is)), λ is. absurd (cc))
+  idle_plan Nothing r = ((λ is. refl), λ is. r.0)
+
+  pub round_idle : Round makes (planned old) od old result nd new broken → result ≡ Ok Idle ↔ AllEmpty old
+  round_idle r = (let one = idle_plan (planned old) r in let two = nothing_where_empty old in ((λ is. two.0 (one.0 is)), λ all. one.1 (two.1 all)))
+
+-- 3. The header
+
+pub at_start : (s : DiskState) → FrontStays s s
+at_start s k lt = (refl, λ un. un)
+
+module _ {D : Type 0} (state : D → DiskState) (makes : D → DiskCall → D → Type 0) (effect : (old new : D) (call : DiskCall) → makes old call new → Effect (state old) call (state new))
+    (len : ℕ) (od : D) (old : List Guest) (result : Result Progress StoreFault) (nd : D) (new : List Guest) (broken : Bool) (fits : AllFit len old) (known : (state od).faithful ≡ true) where
+  abbrev AtFront : DiskState → Type 0
+  AtFront = FrontStays (state od)
+
+  -- a guest's write goes behind the header
+  goes_behind : (g : ℕ) (x : Guest) (at : ℕ) (bytes : List ℕ) → slice_get old g ≡ Some x → guest_write x ≡ Some (at, bytes) → 1024 ≤ at
+  goes_behind g x at bytes is next =
+      let f = fits.each g x is in
+      let from = (within (place_of x) (side_of x) (first_side (place_of x)) (slot_write x.slot) (at, bytes) (write_fits (place_of x) (side_of x) x.slot (at, bytes) f.slot_fits next) next).0 in
+      omega (arith, from, f.behind)
+
+  in_write : (at : ℕ) (bytes : List ℕ) (ok : Bool) → 1024 ≤ at → AtFront (during (state od) (Write at bytes ok))
+  in_write at bytes ok le k lt = (refl, λ un. not_in at (length bytes) k ((state od).unsynced k) (inl (omega (arith, le, lt))) un)
+
+  after_call : (at : ℕ) (bytes : List ℕ) (ok : Bool) → 1024 ≤ at → makes od (Write at bytes ok) nd → AtFront (state nd)
+  after_call at bytes ok le made k lt = (let w = effect od nd (Write at bytes ok) made in
+      (w.outside known k (inl (omega (arith, le, lt))), λ un. w.unsynced known k (inl (omega (arith, le, lt))) un))
+
+  front_by_plan : (p : Plan) → Round makes p od old result nd new broken → Within state makes AtFront od nd
+  front_by_plan (WriteOf g) r = (let w = r.wrote in let le = goes_behind g w.guest w.at w.bytes w.is w.next in
+      Then od od nd (Write w.at w.bytes r.ok) (Still od (at_start (state od))) w.call (in_write w.at w.bytes r.ok le) (after_call w.at w.bytes r.ok le w.call))
+  front_by_plan SyncAll r = (let e = effect od nd (Sync r.ok) r.synced.call in
+      Then od od nd (Sync r.ok) (Still od (at_start (state od))) r.synced.call (at_start (state od)) (λ k lt. (e.seen known k, λ un. e.unsynced known k un)))
+  front_by_plan Nothing r = subst (λ (d : D). Within state makes AtFront od d) (sym r.1) (Still od (at_start (state od)))
+
+  pub round_front : Round makes (planned old) od old result nd new broken → Within state makes AtFront od nd
+  round_front = front_by_plan (planned old)

@@ -1,0 +1,3 @@
+mod frames;
+mod macs;
+mod partitions;

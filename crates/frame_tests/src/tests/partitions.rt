@@ -1,0 +1,157 @@
+mod blocks;
+mod ends;
+mod failures;
+mod fields;
+mod refusals;
+mod steps;
+mod without_key;
+
+use blocks::{ALONE, BLOCKS, LIMITED};
+use ends::{CAPACITY_2, CAPACITY_128, LAST_COUNTER};
+use failures::FAILURES;
+use fields::FIELDS;
+use refusals::REFUSALS;
+use rpmb_core::{Partition, fail, failure_kind};
+use rpmb_frame::{Limits, Request};
+use std::alloc::Global;
+use std::test::Fail;
+use steps::{Row, Scenario, expected, frames_of, limits_of, take_steps};
+use without_key::WITHOUT_KEY;
+
+/// The state that steps left: the key, the write counter, the sequence, and the first byte of the
+/// blocks at 0, 7, 22, 511 and past the last one.
+type Left = (Option<[u8; 32]>, u32, u64, [u8; 5]);
+
+const KEYED: Option<[u8; 32]> = Some([0x11; 32]);
+
+fn left(partition: &Partition) -> Left {
+    let mut firsts = [0; 5];
+    for (i, address) in [0, 7, 22, 511, 512].iter().enumerate() {
+        let block = partition.block(*address);
+        firsts[i] = block[0];
+    }
+    (
+        partition.key(),
+        partition.counter(),
+        partition.sequence(),
+        firsts,
+    )
+}
+
+/// Whether a partition of so many units, and its copy, have this state after the steps.
+fn leave(
+    alloc: Global,
+    capacity: u8,
+    counts: (u8, u8),
+    scenario: &Scenario,
+    state: Left,
+) -> Result<bool, Fail> {
+    let mut partition = Partition::new(alloc, capacity)?;
+    take_steps(&mut partition, limits_of(alloc, counts)?, scenario)?;
+    let copy = partition.copy(alloc)?;
+    Ok(left(&partition) == state && left(&copy) == state && copy.capacity() == capacity)
+}
+
+#[test]
+fn replies_and_what_they_leave(rt: HostRuntime) -> Result<(), Fail> {
+    let alloc = rt.alloc();
+    assert!(rt; leave(alloc, 1, (16, 16), &WITHOUT_KEY, (None, 0, 0, [0; 5]))?);
+    assert!(rt; leave(alloc, 1, (16, 16), &REFUSALS, (KEYED, 0, 1, [0; 5]))?);
+    assert!(rt;
+        leave(
+            alloc,
+            1,
+            (16, 16),
+            &BLOCKS,
+            (KEYED, 2, 3, [0, 0x30, 0x3f, 0xa5, 0])
+        )?
+    );
+    assert!(rt;
+        leave(
+            alloc,
+            1,
+            (16, 16),
+            &ALONE,
+            (KEYED, 1, 2, [0xa5, 0, 0, 0, 0])
+        )?
+    );
+    assert!(rt;
+        leave(
+            alloc,
+            1,
+            (2, 1),
+            &LIMITED,
+            (KEYED, 1, 2, [0, 0, 0, 0xa6, 0])
+        )?
+    );
+    assert!(rt; leave(alloc, 1, (16, 16), &FIELDS, (KEYED, 2, 3, [0; 5]))?);
+    assert!(rt; leave(alloc, 2, (16, 16), &CAPACITY_2, (KEYED, 1, 2, [0; 5]))?);
+    assert!(rt; leave(alloc, 128, (16, 16), &CAPACITY_128, (KEYED, 1, 2, [0; 5]))?);
+    Ok(())
+}
+
+#[test]
+fn copy_at_the_last_counter(rt: HostRuntime) -> Result<(), Fail> {
+    let alloc = rt.alloc();
+    let blocks = vec![in alloc; 0; 131_072]?;
+    let near = Partition::of(1, KEYED, 0xFFFF_FFFE, blocks);
+    let mut partition = near.copy(alloc)?;
+    take_steps(&mut partition, limits_of(alloc, (16, 16))?, &LAST_COUNTER)?;
+    let end = partition.copy(alloc)?;
+    assert!(rt; left(&near) == (KEYED, 0xFFFF_FFFE, 0xFFFF_FFFF, [0; 5]));
+    assert!(rt; left(&end) == (KEYED, 0xFFFF_FFFF, 0x1_0000_0000, [0; 5]));
+    assert!(rt; end.block(0x31) == [0x74; 256] && end.block(65_535) == [0; 256]);
+    Ok(())
+}
+
+/// Whether the failure reply to a request is as told, and whether a reply of so many bytes becomes it.
+fn fails_as_told(
+    alloc: Global,
+    request: &Request<'_>,
+    code: u16,
+    told: &[&Row],
+) -> Result<bool, Fail> {
+    let mut out = [0xee; 8192];
+    let len = Partition::failure(request, code, &mut out);
+    let mut reply = vec![in alloc; 0xee; 1024 * told.len().min(8)]?;
+    fail(&mut reply, failure_kind(request), code);
+    Ok(len == 512 * told.len().min(16) && out == expected(told) && reply.as_slice() == &out[..len])
+}
+
+#[test]
+fn failure_replies(rt: HostRuntime) -> Result<(), Fail> {
+    let limits = limits_of(rt.alloc(), (16, 16))?;
+    let (mut requests, mut replies) = (FAILURES.requests, FAILURES.replies);
+    for (place, (asked, writable, code, given)) in FAILURES.steps.iter().enumerate() {
+        let (Some(request), Some(reply)) = (requests.get(..*asked), replies.get(..*given)) else {
+            return Err(Fail::new(format_args!("step {place} lacks frames")));
+        };
+        let frames = frames_of(request);
+        let bytes = frames.as_flattened().get(..512 * request.len().min(18));
+        let request = Request::classify(bytes.unwrap_or_default(), *writable, limits);
+        assert!(rt;
+            fails_as_told(rt.alloc(), &request, *code, reply)?,
+            "step {place}"
+        );
+        requests = &requests[*asked..];
+        replies = &replies[*given..];
+    }
+    Ok(())
+}
+
+/// Bytes that are no frames are answered as malformed.
+#[test]
+fn bytes_that_are_no_frames(rt: HostRuntime) -> Result<(), Fail> {
+    let limits = limits_of(rt.alloc(), (16, 16))?;
+    let partition = Partition::new(rt.alloc(), 1)?;
+    let mut told = [0xee; 8192];
+    told[..512].copy_from_slice(&[0; 512]);
+    told[509] = 1;
+    for bytes in [&[] as &[u8], &[0; 511], &[0; 513]] {
+        let request = Request::classify(bytes, 512, limits);
+        let mut out = [0xee; 8192];
+        assert!(rt; partition.verdict(&request) == 1);
+        assert!(rt; partition.reply(&request, 1, None, &mut out) == 512 && out == told);
+    }
+    Ok(())
+}

@@ -1,0 +1,4 @@
+mod boards;
+mod performing;
+mod scripts;
+mod words;

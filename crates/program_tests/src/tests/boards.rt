@@ -1,0 +1,169 @@
+use board_file::{BoardError, read_board};
+use rpmb_frame::{GuestConfig, RingKind};
+use std::alloc::Global;
+use std::test::Fail;
+
+const DEFAULTS: GuestConfig = GuestConfig {
+    capacity: 1,
+    max_wr_cnt: 16,
+    max_rd_cnt: 16,
+    memory: 1_048_576,
+    queue: 16,
+    ring: RingKind::Split,
+    indirect: false,
+    event_idx: true,
+};
+
+const LEAST: GuestConfig = GuestConfig {
+    capacity: 128,
+    max_wr_cnt: 1,
+    max_rd_cnt: 1,
+    memory: 65_536,
+    queue: 2,
+    event_idx: false,
+    ..DEFAULTS
+};
+
+// A board file, how many guests it has, the last of them, and the path of its image.
+type Row = (&'static str, usize, GuestConfig, Option<&'static str>);
+
+static BOARDS: [Row; 5] = [
+    ("[[guest]]\ncapacity = 1", 1, DEFAULTS, None),
+    (
+        "# one guest\r\n[[guest]]\r\ncapacity = 0x1\r\n",
+        1,
+        DEFAULTS,
+        None,
+    ),
+    (
+        "image = 'a b.img'\nguest = [{ capacity = 1, memory = 1_048_576 }]",
+        1,
+        DEFAULTS,
+        Some("a b.img"),
+    ),
+    (
+        "[[guest]]\ncapacity = 1\nmemory = 271296\n",
+        1,
+        GuestConfig {
+            memory: 271_296,
+            ..DEFAULTS
+        },
+        None,
+    ),
+    (
+        "[[guest]]\ncapacity = 1\n[[guest]]\nevent_idx = false\nindirect = false\nring = 'split'\nqueue = 2
+            memory = 65536\nmax_rd_cnt = 1\nmax_wr_cnt = 1\ncapacity = 128",
+        2,
+        LEAST,
+        None,
+    ),
+];
+
+const ONE_GUEST: &str = "[[guest]]\ncapacity = 1\n";
+
+fn is_read(
+    alloc: Global,
+    text: &str,
+    count: usize,
+    last: GuestConfig,
+    image: Option<&str>,
+) -> Result<bool, Fail> {
+    let (board, path) = read_board(alloc, text)?;
+    Ok(
+        board.guests().len() == count
+            && board.guests().last() == Some(&last)
+            && path.as_ref().map(|path| path.as_str()) == image,
+    )
+}
+
+#[test]
+fn reads_boards(rt: HostRuntime) -> Result<(), Fail> {
+    for (text, count, last, image) in BOARDS {
+        assert!(rt; is_read(rt.alloc(), text, count, last, image)?, "at {text}");
+    }
+    let many = ONE_GUEST.repeat(rt.alloc(), 64)?;
+    assert!(rt; is_read(rt.alloc(), many.as_str(), 64, DEFAULTS, None)?);
+    Ok(())
+}
+
+static NO_BOARDS: [&str; 18] = [
+    "",
+    "guest",
+    "image = 'disk.img'",
+    "guest = []",
+    "guest = 1",
+    "guest = { capacity = 1 }",
+    "guest = [{ capacity = 1 }, 1]",
+    "[guest]\ncapacity = 1",
+    "[[guest]]",
+    "image = 1\n[[guest]]\ncapacity = 1",
+    "size = 1\n[[guest]]\ncapacity = 1",
+    "[[guest]]\ncapacity = 0",
+    "[[guest]]\ncapacity = 129",
+    "[[guest]]\ncapacity = 257",
+    "[[guest]]\ncapacity = -1",
+    "[[guest]]\ncapacity = 1.0",
+    "[[guest]]\ncapacity = '1'",
+    "[[guest]]\ncapacity = 18446744073709551617",
+];
+
+// Lines that no guest may have beside a capacity of 1.
+static NO_LINES: [&str; 21] = [
+    "capacity = 1",
+    "max_wr_cnt = 0",
+    "max_wr_cnt = 17",
+    "max_rd_cnt = 0",
+    "max_rd_cnt = 17",
+    "memory = 65535",
+    "memory = 271295",
+    "memory = 67108865",
+    "memory = -1",
+    "queue = 1",
+    "queue = 3",
+    "queue = 512",
+    "queue = 65552",
+    "ring = 'packed'",
+    "ring = 'Split'",
+    "ring = true",
+    "indirect = true",
+    "indirect = 0",
+    "event_idx = 1",
+    "image = 'disk.img'",
+    "in_order = false",
+];
+
+fn is_refused(alloc: Global, text: &str) -> bool {
+    matches!(read_board(alloc, text), Err(BoardError::BadBoard))
+}
+
+fn is_refused_with(alloc: Global, line: &str) -> Result<bool, Fail> {
+    let text = format!(in alloc; "{ONE_GUEST}{line}\n")?;
+    Ok(is_refused(alloc, text.as_str()))
+}
+
+#[test]
+fn refuses_boards(rt: HostRuntime) -> Result<(), Fail> {
+    for text in NO_BOARDS {
+        assert!(rt; is_refused(rt.alloc(), text), "at {text}");
+    }
+    for line in NO_LINES {
+        assert!(rt; is_refused_with(rt.alloc(), line)?, "at {line}");
+    }
+    let many = ONE_GUEST.repeat(rt.alloc(), 65)?;
+    assert!(rt; is_refused(rt.alloc(), many.as_str()));
+    Ok(())
+}
+
+// A guest that names its capacity alone is the one that other tests take.
+#[test]
+fn reads_capacities_alone(rt: HostRuntime) -> Result<(), Fail> {
+    for capacity in [1, 2, 128] {
+        let text = format!(in rt.alloc(); "[[guest]]\ncapacity = {capacity}\n")?;
+        let guest = GuestConfig::of_capacity(capacity);
+        assert!(rt;
+            is_read(rt.alloc(), text.as_str(), 1, guest, None)?,
+            "at {capacity}"
+        );
+    }
+    Ok(())
+}

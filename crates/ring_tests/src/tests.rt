@@ -1,0 +1,5 @@
+mod devices;
+mod drivers;
+mod memories;
+mod split_rings;
+mod walks;

@@ -1,0 +1,196 @@
+use guest_driver::{Driver, DriverFault};
+use mmio_transport::{Device, Done, Job, Published};
+use rpmb_frame::{DriverLayout, GuestConfig, RingKind};
+use std::alloc::Global;
+use std::test::Fail;
+
+const GUEST: GuestConfig = GuestConfig {
+    capacity: 1,
+    max_wr_cnt: 16,
+    max_rd_cnt: 16,
+    memory: 131072,
+    queue: 4,
+    ring: RingKind::Split,
+    indirect: false,
+    event_idx: false,
+};
+
+const READABLE: [u8; 3] = [5, 6, 7];
+
+const REPLY: [u8; 2] = [8, 9];
+
+fn new_device(alloc: Global, guest: &GuestConfig) -> Result<Device, Fail> {
+    let device = Device::new(alloc, 0, guest).ok().ok_or("no device")?;
+    Ok(device)
+}
+
+fn new_driver(alloc: Global, guest: &GuestConfig) -> Result<Driver, Fail> {
+    let driver = Driver::new(alloc, guest).ok().ok_or("no driver")?;
+    Ok(driver)
+}
+
+// A device in service, and its driver.
+fn in_service(alloc: Global) -> Result<(Device, Driver), Fail> {
+    let mut device = new_device(alloc, &GUEST)?;
+    let mut driver = new_driver(alloc, &GUEST)?;
+    if !driver.negotiate(&mut device) {
+        return Err(Fail::from("no negotiation"));
+    }
+    Ok((device, driver))
+}
+
+fn pop(device: &mut Device) -> Result<Job, Fail> {
+    match device.pop() {
+        Ok(Some(job)) => Ok(job),
+        _ => Err(Fail::from("nothing popped")),
+    }
+}
+
+// Publishes a job, with the reply where it has room for one.
+fn publish(alloc: Global, device: &mut Device, job: Job) -> Result<(), Fail> {
+    let room = job.writable();
+    let reply = if room < 2 { &REPLY[..0] } else { &REPLY[..] };
+    let reply = Vec::from_slice(alloc, reply).ok().ok_or("no room")?;
+    if reply.len() as u64 > room {
+        return Err(Fail::from("no room for the reply"));
+    }
+    match device.publish(Done::of(job, reply, 0)) {
+        Published::Wrote { notify: _ } => Ok(()),
+        Published::Dropped => Err(Fail::from("dropped")),
+    }
+}
+
+fn reap(driver: &mut Driver, device: &Device, id: u16, bytes: &[u8]) -> Result<(), Fail> {
+    let reaped = driver.reap(device).ok().ok_or("reap")?;
+    let reaped = reaped.ok_or("nothing back")?;
+    if reaped.id == id && reaped.len as usize == bytes.len() && reaped.bytes.as_slice() == bytes {
+        Ok(())
+    } else {
+        Err(Fail::from("another chain came back"))
+    }
+}
+
+// The chains are published the last first, and come back so.
+#[test]
+fn chains_come_back_as_they_were_published(rt: HostRuntime) -> Result<(), Fail> {
+    let (mut device, mut driver) = in_service(rt.alloc())?;
+    assert_eq!(rt; driver.offer(&mut device, &READABLE, 0), Ok(0));
+    assert_eq!(rt; driver.offer(&mut device, &READABLE, 2), Ok(1));
+    assert_eq!(rt; driver.offer(&mut device, &[], 2), Ok(3));
+    let first = pop(&mut device)?;
+    let second = pop(&mut device)?;
+    let third = pop(&mut device)?;
+    assert_eq!(rt; first.request(), READABLE.as_slice());
+    assert_eq!(rt; second.request(), READABLE.as_slice());
+    assert_eq!(rt; third.request().len(), 0);
+    publish(rt.alloc(), &mut device, third)?;
+    publish(rt.alloc(), &mut device, second)?;
+    publish(rt.alloc(), &mut device, first)?;
+    reap(&mut driver, &device, 3, &REPLY)?;
+    reap(&mut driver, &device, 1, &REPLY)?;
+    reap(&mut driver, &device, 0, &[])?;
+    assert!(rt; matches!(driver.reap(&device), Ok(None)));
+    Ok(())
+}
+
+#[test]
+fn the_indexes_run_round(rt: HostRuntime) -> Result<(), Fail> {
+    let (mut device, mut driver) = in_service(rt.alloc())?;
+    for _ in 0..65540 {
+        driver.offer(&mut device, &READABLE, 2).ok().ok_or("offer")?;
+        let job = pop(&mut device)?;
+        publish(rt.alloc(), &mut device, job)?;
+        reap(&mut driver, &device, 0, &REPLY)?;
+    }
+    Ok(())
+}
+
+#[test]
+fn offers_until_there_is_no_room(rt: HostRuntime) -> Result<(), Fail> {
+    let (mut device, mut driver) = in_service(rt.alloc())?;
+    assert_eq!(rt; driver.offer(&mut device, &READABLE, 0), Ok(0));
+    assert_eq!(rt; driver.offer(&mut device, &READABLE, 2), Ok(1));
+    assert_eq!(rt;
+        driver.offer(&mut device, &READABLE, 2),
+        Err(DriverFault::NoRoom)
+    );
+    assert_eq!(rt; driver.offer(&mut device, &[], 2), Ok(3));
+    assert_eq!(rt; driver.offer(&mut device, &[], 2), Err(DriverFault::NoRoom));
+    let mut small = new_device(
+        rt.alloc(),
+        &GuestConfig {
+            memory: 65536,
+            ..GUEST
+        },
+    )?;
+    let mut driver = new_driver(rt.alloc(), &GUEST)?;
+    assert_eq!(rt;
+        driver.offer(&mut small, &[], 2),
+        Err(DriverFault::OutOfRange)
+    );
+    assert!(rt; matches!(driver.reap(&small), Err(DriverFault::OutOfRange)));
+    Ok(())
+}
+
+// Whether a device takes a queue of so many places, with this feature, in memory that held other
+// bytes; and whether nothing is offered then.
+fn negotiates(alloc: Global, queue: u16, event_idx: bool) -> Result<bool, Fail> {
+    let guest = GuestConfig {
+        queue,
+        event_idx,
+        memory: 8_388_608,
+        ..GUEST
+    };
+    let mut device = new_device(alloc, &guest)?;
+    let mut driver = new_driver(alloc, &guest)?;
+    for page in 0..64u64 {
+        device
+            .store(4096 * page, &[0xee; 4096])
+            .ok()
+            .ok_or("store")?;
+    }
+    let answer = driver.negotiate(&mut device);
+    if !matches!(device.pop(), Ok(None)) {
+        return Err(Fail::from("something is offered"));
+    }
+    Ok(answer)
+}
+
+// Sizes of split queues are powers of two (VIRTIO 1.2, 2.7), and the device has at most 256 places.
+#[test]
+fn queues_that_a_device_takes(rt: HostRuntime) -> Result<(), Fail> {
+    let cases = [
+        (1, false, true),
+        (2, true, true),
+        (3, false, false),
+        (256, true, true),
+        (512, true, false),
+        (0, false, false),
+    ];
+    for (queue, event_idx, answer) in cases {
+        assert_eq!(rt; negotiates(rt.alloc(), queue, event_idx)?, answer);
+    }
+    Ok(())
+}
+
+// The answer of a reap where the device's first element has this id and this length, while a chain
+// with room for 2 bytes is in flight under the id 0.
+fn reap_of(alloc: Global, id: u32, len: u32) -> Result<bool, Fail> {
+    let (mut device, mut driver) = in_service(alloc)?;
+    driver.offer(&mut device, &READABLE, 2).ok().ok_or("offer")?;
+    let at = DriverLayout::of(RingKind::Split, GUEST.queue).device_area;
+    device.store(at + 4, &id.to_le_bytes()).ok().ok_or("id")?;
+    device.store(at + 8, &len.to_le_bytes()).ok().ok_or("len")?;
+    device.store(at + 2, &[1, 0]).ok().ok_or("idx")?;
+    let refused = matches!(driver.reap(&device), Err(DriverFault::BadUsed));
+    let again = matches!(driver.reap(&device), Err(DriverFault::BadUsed));
+    Ok(refused && again)
+}
+
+#[test]
+fn elements_that_no_chain_has(rt: HostRuntime) -> Result<(), Fail> {
+    for (id, len, refused) in [(0, 2, false), (0, 3, true), (1, 0, true), (65536, 0, true)] {
+        assert_eq!(rt; reap_of(rt.alloc(), id, len)?, refused);
+    }
+    Ok(())
+}

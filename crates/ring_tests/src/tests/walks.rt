@@ -1,0 +1,279 @@
+use chains::{Area, Chain, ChainFault, Range, Reads, RingFault, Shape, walk};
+use guest_memory::Memory;
+use std::alloc::Global;
+use std::test::Fail;
+
+const NEXT: u16 = 1;
+
+const WRITE: u16 = 2;
+
+const INDIRECT: u16 = 4;
+
+const RING: u64 = 0;
+
+const TABLE: u64 = 1024;
+
+// The 16 bytes of a descriptor: a split one ends with its flags and `next`, a packed one with its id
+// and flags.
+fn descriptor(addr: u64, len: u32, third: u16, fourth: u16) -> [u8; 16] {
+    let mut bytes = [0; 16];
+    bytes[..8].copy_from_slice(&addr.to_le_bytes());
+    bytes[8..12].copy_from_slice(&len.to_le_bytes());
+    bytes[12..14].copy_from_slice(&third.to_le_bytes());
+    bytes[14..].copy_from_slice(&fourth.to_le_bytes());
+    bytes
+}
+
+fn put(memory: &mut Memory, at: u64, bytes: &[u8]) -> Result<(), Fail> {
+    match memory.write(at, bytes) {
+        Ok(()) => Ok(()),
+        Err(_) => Err(Fail::from("a write outside")),
+    }
+}
+
+// What the walk from place 0 of a ring of 4 answers on 65,536 bytes that hold these descriptors: 0
+// for a chain, else the refusal's number; and how many descriptors it read.
+fn answer(
+    alloc: Global,
+    shape: Shape,
+    tables: bool,
+    ring: [[u8; 16]; 4],
+    table: [[u8; 16]; 2],
+) -> Result<(u64, u64), Fail> {
+    let mut memory = Memory::new(alloc, 65536).ok().ok_or("no memory")?;
+    put(&mut memory, RING, ring.as_flattened())?;
+    put(&mut memory, TABLE, table.as_flattened())?;
+    let area = Area {
+        shape,
+        base: RING,
+        limit: 4,
+        tables,
+    };
+    let mut reads = Reads::new();
+    if !memory.contains(RING, 64) {
+        return Err(Fail::from("no room for the ring"));
+    }
+    let number = match walk(alloc, &memory, &mut reads, &area, 0) {
+        Ok(_) => 0,
+        Err(RingFault::NoMemory) => 2,
+        Err(RingFault::OldNumber) => 1,
+        Err(RingFault::Refused(ChainFault::TooLong)) => 3,
+        Err(RingFault::Refused(ChainFault::BadRange)) => 4,
+        Err(RingFault::Refused(ChainFault::Order)) => 5,
+        Err(RingFault::Refused(ChainFault::BadTable)) => 6,
+    };
+    Ok((number, reads.count()))
+}
+
+#[test]
+fn split_tables(rt: HostRuntime) -> Result<(), Fail> {
+    let plain = descriptor(2048, 8, 0, 0);
+    let next = |place: u16| descriptor(2048, 8, NEXT, place);
+    let refers = |len: u32| descriptor(TABLE, len, INDIRECT, 0);
+    let in_table = |flags: u16, next: u16| descriptor(2048, 8, flags, next);
+    let cases = [
+        // Two entries that name each other.
+        (refers(32), [in_table(NEXT, 1), in_table(NEXT, 0)], (3, 3)),
+        // An entry that refers to a table.
+        (refers(32), [in_table(INDIRECT, 0), plain], (6, 2)),
+        // An entry whose `next` the table doesn't have.
+        (refers(32), [in_table(NEXT, 2), plain], (4, 2)),
+        // A readable entry behind a writable one.
+        (refers(32), [in_table(WRITE + NEXT, 1), plain], (5, 3)),
+        (refers(32), [in_table(NEXT, 1), in_table(WRITE, 0)], (0, 3)),
+        // Lengths that no table has, and the largest one.
+        (refers(24), [plain, plain], (6, 1)),
+        (refers(0), [plain, plain], (6, 1)),
+        (refers(16400), [plain, plain], (6, 1)),
+        (refers(16384), [plain, plain], (0, 2)),
+        // A table that goes on behind itself in the ring.
+        (
+            descriptor(TABLE, 32, INDIRECT + NEXT, 1),
+            [plain, plain],
+            (6, 1),
+        ),
+        // A table that ends one entry past the memory.
+        (descriptor(65520, 32, INDIRECT, 0), [plain, plain], (4, 1)),
+    ];
+    for (head, table, expected) in cases {
+        let ring = [head, plain, plain, plain];
+        assert_eq!(rt;
+            answer(rt.alloc(), Shape::SplitRing, true, ring, table)?,
+            expected
+        );
+    }
+    // A readable descriptor, then a table of one writable entry.
+    let ring = [next(1), refers(16), plain, plain];
+    let table = [in_table(WRITE, 0), plain];
+    assert_eq!(rt;
+        answer(rt.alloc(), Shape::SplitRing, true, ring, table)?,
+        (0, 3)
+    );
+    // Tables weren't accepted.
+    assert_eq!(rt;
+        answer(rt.alloc(), Shape::SplitRing, false, ring, table)?,
+        (6, 2)
+    );
+    Ok(())
+}
+
+#[test]
+fn packed_chains(rt: HostRuntime) -> Result<(), Fail> {
+    let next = descriptor(2048, 8, 7, NEXT);
+    let plain = descriptor(2048, 8, 7, 0);
+    let refers = descriptor(TABLE, 32, 7, INDIRECT);
+    let cases = [
+        // NEXT in all four.
+        ([next, next, next, next], [plain, plain], (3, 4)),
+        // In a table WRITE is the only flag that counts.
+        (
+            [refers, plain, plain, plain],
+            [descriptor(2048, 8, 7, INDIRECT), plain],
+            (0, 3),
+        ),
+        (
+            [refers, plain, plain, plain],
+            [descriptor(2048, 8, 7, WRITE), plain],
+            (5, 3),
+        ),
+    ];
+    for (ring, table, expected) in cases {
+        assert_eq!(rt;
+            answer(rt.alloc(), Shape::PackedRing, true, ring, table)?,
+            expected
+        );
+    }
+    Ok(())
+}
+
+// Four descriptors: two to be read, the first of 8,704 bytes, and two to be written.
+fn offer(memory: &mut Memory) -> Result<(), Fail> {
+    put(memory, 0, &descriptor(4096, 8704, NEXT, 1))?;
+    put(memory, 16, &descriptor(2048, 3, NEXT, 2))?;
+    put(memory, 32, &descriptor(100, 2, NEXT + WRITE, 3))?;
+    put(memory, 48, &descriptor(200, 4, WRITE, 0))?;
+    put(memory, 2048, &[5, 6, 7])
+}
+
+// The chain of the ring's first place, and its request.
+fn chain_at_0(alloc: Global, memory: &Memory) -> Result<(Chain, Vec<u8>), Fail> {
+    let area = Area {
+        shape: Shape::SplitRing,
+        base: 0,
+        limit: 4,
+        tables: false,
+    };
+    if !memory.contains(0, 64) {
+        return Err(Fail::from("no room for the ring"));
+    }
+    let Ok(walked) = walk(alloc, memory, &mut Reads::new(), &area, 0) else {
+        return Err(Fail::from("no chain"));
+    };
+    let request = walked.chain.gather(alloc, memory)?;
+    Ok((walked.chain, request))
+}
+
+fn scatters(chain: &Chain, memory: &mut Memory) -> bool {
+    if chain.writable_len() != 6 || !chain.lies_in(memory) {
+        return false;
+    }
+    chain.scatter(memory, &[1, 2, 3]);
+    true
+}
+
+fn holds(memory: &Memory, at: u64, bytes: [u8; 3]) -> bool {
+    let mut out = [9; 3];
+    memory.read(at, &mut out).is_ok() && out == bytes
+}
+
+#[test]
+fn gathers_and_scatters(rt: HostRuntime) -> Result<(), Fail> {
+    let mut memory = Memory::new(rt.alloc(), 65536).ok().ok_or("no memory")?;
+    offer(&mut memory)?;
+    let (chain, request) = chain_at_0(rt.alloc(), &memory)?;
+    // A byte past the longest request, so that one that is too long can be told.
+    assert!(rt; request.len() == 8705 && request.last() == Some(&5));
+    assert!(rt; scatters(&chain, &mut memory));
+    assert!(rt; holds(&memory, 100, [1, 2, 0]) && holds(&memory, 200, [3, 0, 0]));
+    Ok(())
+}
+
+#[test]
+fn a_chain_to_be_written(rt: HostRuntime) -> Result<(), Fail> {
+    let ranges = Vec::from_array(rt.alloc(), [Range { at: 7, len: 9 }])?;
+    assert_eq!(rt; Chain::of_writable(rt.alloc(), ranges).writable_len(), 9);
+    Ok(())
+}
+
+// The byte of a guest's memory at an address.
+fn byte(memory: &Memory, at: u64) -> Result<u8, Fail> {
+    let mut out = [0; 1];
+    memory.read(at, &mut out).ok().ok_or("a read outside")?;
+    Ok(out[0])
+}
+
+// A ring of 256 descriptors at 0: 255 of one byte to be read, the last of a table at 4,096 of 1,024
+// entries of 9 bytes to be written each, which is more than any reply has.
+fn put_ring(memory: &mut Memory) -> Result<(), Fail> {
+    for place in 0..255_u16 {
+        let to = descriptor(40000 + place as u64, 1, NEXT, place + 1);
+        put(memory, 16 * place as u64, &to)?;
+        put(memory, 40000 + place as u64, &[(place % 256) as u8])?;
+    }
+    put(memory, 4080, &descriptor(4096, 16384, INDIRECT, 0))
+}
+
+fn put_table(memory: &mut Memory) -> Result<(), Fail> {
+    for entry in 0..1023_u16 {
+        let to = descriptor(50000 + 9 * entry as u64, 9, WRITE + NEXT, entry + 1);
+        put(memory, 4096 + 16 * entry as u64, &to)?;
+    }
+    put(memory, 20464, &descriptor(59207, 9, WRITE, 0))
+}
+
+fn longest(alloc: Global) -> Result<Memory, Fail> {
+    let mut memory = Memory::new(alloc, 65536).ok().ok_or("no memory")?;
+    put_ring(&mut memory)?;
+    put_table(&mut memory)?;
+    Ok(memory)
+}
+
+// How many descriptors are read of the longest chain, and its walk.
+fn walk_longest(alloc: Global, memory: &Memory) -> Result<(u64, Chain), Fail> {
+    let area = Area {
+        shape: Shape::SplitRing,
+        base: 0,
+        limit: 256,
+        tables: true,
+    };
+    let mut reads = Reads::new();
+    if !memory.contains(0, 4096) {
+        return Err(Fail::from("no room for the ring"));
+    }
+    match walk(alloc, memory, &mut reads, &area, 0) {
+        Ok(walked) => Ok((reads.count(), walked.chain)),
+        Err(_) => Err(Fail::from("no chain")),
+    }
+}
+
+fn reply_longest(alloc: Global, memory: &mut Memory, chain: &Chain) -> Result<(), Fail> {
+    let reply = vec![in alloc; 7_u8; 9216]?;
+    if chain.writable_len() != 9216 || !chain.lies_in(memory) {
+        return Err(Fail::from("no room for the reply"));
+    }
+    chain.scatter(memory, &reply);
+    Ok(())
+}
+
+#[test]
+fn the_longest_chain(rt: HostRuntime) -> Result<(), Fail> {
+    let mut memory = longest(rt.alloc())?;
+    let (count, chain) = walk_longest(rt.alloc(), &memory)?;
+    assert_eq!(rt; count, 1280);
+    let kept = chain.for_reply(rt.alloc())?;
+    reply_longest(rt.alloc(), &mut memory, &kept)?;
+    assert!(rt;
+        byte(&memory, 50000)? == 7 && byte(&memory, 59215)? == 7 && byte(&memory, 59216)? == 0
+    );
+    Ok(())
+}

@@ -1,0 +1,4 @@
+mod disks;
+mod layouts;
+mod openings;
+mod stores;

@@ -1,0 +1,135 @@
+mod files;
+
+use disk::{CutDisk, Disk, DiskFault, Filler, MemDisk};
+use std::alloc::Global;
+use std::test::Fail;
+
+const START: [u8; 8] = [10, 11, 12, 13, 14, 15, 16, 17];
+
+// A filler, by its bytes.
+enum Left {
+    Old,
+    New,
+    Fill(&'static [u8]),
+}
+
+// What a stop leaves of START after 21 and 22 were written to the places 1 and 2, and 25 to place 5.
+const STOPS: [(Left, [u8; 8]); 6] = [
+    (Left::Old, [10, 11, 12, 13, 14, 15, 16, 17]),
+    (Left::New, [10, 21, 22, 13, 14, 25, 16, 17]),
+    (Left::Fill(&[1, 2]), [10, 1, 2, 13, 14, 1, 16, 17]),
+    (Left::Fill(&[7, 8, 9, 6]), [10, 7, 8, 13, 14, 9, 16, 17]),
+    (Left::Fill(&[5]), [10, 5, 5, 13, 14, 5, 16, 17]),
+    (Left::Fill(&[]), [10, 0, 0, 13, 14, 0, 16, 17]),
+];
+
+fn filler(alloc: Global, left: &Left) -> Result<Filler, Fail> {
+    Ok(match left {
+        Left::Old => Filler::Old,
+        Left::New => Filler::New,
+        Left::Fill(bytes) => Filler::Fill(bytes.to_vec(alloc)?),
+    })
+}
+
+fn cut_disk(alloc: Global) -> Result<CutDisk, Fail> {
+    Ok(CutDisk::new(alloc, START.to_vec(alloc)?)?)
+}
+
+fn write(disk: &mut impl Disk, at: u64, bytes: &[u8]) -> Result<(), DiskFault> {
+    if at > disk.len() || bytes.len() as u64 > disk.len() - at {
+        return Err(DiskFault);
+    }
+    disk.write_at(at, bytes)
+}
+
+fn read(disk: &mut impl Disk, at: u64, out: &mut [u8]) -> Result<(), DiskFault> {
+    if at > disk.len() || out.len() as u64 > disk.len() - at {
+        return Err(DiskFault);
+    }
+    disk.read_at(at, out)
+}
+
+#[test]
+fn stops(rt: HostRuntime) -> Result<(), Fail> {
+    for (left, wanted) in &STOPS {
+        let mut disk = cut_disk(rt.alloc())?;
+        assert_eq!(rt; write(&mut disk, 1, &[21, 22]), Ok(()));
+        assert_eq!(rt; write(&mut disk, 5, &[25]), Ok(()));
+        disk.cut(&filler(rt.alloc(), left)?);
+        assert_eq!(rt; disk.content(), wanted.as_slice());
+    }
+    Ok(())
+}
+
+// Makes the calls of a script: a digit chooses the call that fails, r reads, e reads nothing, w
+// writes, s syncs, c is a stop. It puts x into `out` in place of each call that failed.
+fn played(disk: &mut CutDisk, script: &[u8], out: &mut [u8]) {
+    for (at, step) in script.iter().enumerate() {
+        let done = match *step {
+            b'r' => read(disk, 6, &mut [0; 2]),
+            b'e' => read(disk, 8, &mut []),
+            b'w' => write(disk, 0, &[1]),
+            b's' => disk.sync(),
+            b'c' => {
+                disk.cut(&Filler::Old);
+                Ok(())
+            }
+            digit => {
+                disk.fail(u64::from(digit.wrapping_sub(b'0')));
+                Ok(())
+            }
+        };
+        if done.is_err() && at < out.len() {
+            out[at] = b'x';
+        }
+    }
+}
+
+// Which calls fail.
+const SCRIPTS: [(&[u8; 6], &[u8; 6]); 7] = [
+    (b"rwsrws", b"rwsrws"),
+    (b"2rwsrw", b"2rxsrw"),
+    (b"3rwsrw", b"3rwxrw"),
+    (b"1ewsrr", b"1xwsrr"),
+    (b"3r1wws", b"3r1xws"),
+    (b"2r0wwr", b"2r0wwr"),
+    (b"3rwcsr", b"3rwcxr"),
+];
+
+#[test]
+fn chosen_calls(rt: HostRuntime) -> Result<(), Fail> {
+    for (script, wanted) in &SCRIPTS {
+        let mut disk = cut_disk(rt.alloc())?;
+        let mut out = **script;
+        played(&mut disk, *script, &mut out);
+        assert_eq!(rt; out, **wanted);
+    }
+    Ok(())
+}
+
+#[test]
+fn a_write_that_failed(rt: HostRuntime) -> Result<(), Fail> {
+    let mut disk = cut_disk(rt.alloc())?;
+    assert_eq!(rt; write(&mut disk, 3, &[33, 34]), Ok(()));
+    assert_eq!(rt; disk.sync(), Ok(()));
+    disk.fail(1);
+    assert_eq!(rt; write(&mut disk, 4, &[44, 45]), Err(DiskFault));
+    assert_eq!(rt; disk.failures(), 1);
+    assert_eq!(rt; disk.content(), [10, 11, 12, 33, 34, 15, 16, 17].as_slice());
+    disk.cut(&filler(rt.alloc(), &Left::Fill(&[1, 2]))?);
+    assert_eq!(rt; disk.content(), [10, 11, 12, 33, 1, 2, 16, 17].as_slice());
+    Ok(())
+}
+
+#[test]
+fn in_memory(rt: HostRuntime) -> Result<(), Fail> {
+    let mut disk = MemDisk::new(START.to_vec(rt.alloc())?);
+    let mut out = [0; 3];
+    assert_eq!(rt; write(&mut &mut disk, 6, &[66, 67]), Ok(()));
+    assert_eq!(rt; disk.sync(), Ok(()));
+    assert_eq!(rt; read(&mut &mut disk, 5, &mut out), Ok(()));
+    assert_eq!(rt; out, [15, 66, 67]);
+    assert_eq!(rt; disk.content(), [10, 11, 12, 13, 14, 15, 66, 67].as_slice());
+    assert_eq!(rt; disk.failures(), 0);
+    Ok(())
+}

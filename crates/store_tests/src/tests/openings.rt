@@ -1,0 +1,371 @@
+//! Images that stops left, and what an opening finds.
+mod calls;
+mod many;
+
+use disk::{CutDisk, Disk, Filler};
+use flusher::{Call, Store};
+use intent_slots::{Home, Intent, Layout};
+use recovery::{OpenFault, format, open};
+use rpmb_core::Partition;
+use rpmb_frame::{BoardConfig, GuestConfig};
+use std::alloc::Global;
+use std::test::Fail;
+
+const KEY: [u8; 32] = [0x4b; 32];
+
+fn board(alloc: Global, capacities: &[u8]) -> Result<BoardConfig, Fail> {
+    let mut guests = Vec::new(alloc);
+    for capacity in capacities {
+        guests.push(GuestConfig::of_capacity(*capacity))?;
+    }
+    Ok(BoardConfig::new(guests)?)
+}
+
+/// A formatted disk, on which other bytes stood.
+fn fresh(alloc: Global, board: &BoardConfig) -> Result<CutDisk, Fail> {
+    let layout = Layout::of(board);
+    let content = vec![in alloc; 0xee; layout.length() as usize]?;
+    let mut disk = CutDisk::new(alloc, content)?;
+    if disk.len() == layout.length() {
+        format(&mut disk, board)?;
+    }
+    Ok(disk)
+}
+
+/// The store and the partitions, or the disk and the fault.
+type Opened = Result<(Store<CutDisk>, Vec<Partition>), (CutDisk, OpenFault)>;
+
+fn opened(alloc: Global, disk: CutDisk, board: &BoardConfig) -> Result<Store<CutDisk>, Fail> {
+    match open(alloc, disk, board) {
+        Ok((store, _)) => Ok(store),
+        Err((_, fault)) => Err(fault.into()),
+    }
+}
+
+/// Whether there is a key, the counter, and the first byte of the blocks 0, 7 and 8, of each partition.
+fn found(
+    alloc: Global,
+    disk: CutDisk,
+    board: &BoardConfig,
+) -> Result<Vec<(bool, u32, [u8; 3])>, Fail> {
+    let (_, partitions) = match open(alloc, disk, board) {
+        Ok(opened) => opened,
+        Err((_, fault)) => return Err(fault.into()),
+    };
+    let mut told = Vec::new(alloc);
+    for partition in &partitions {
+        let firsts = [
+            partition.block(0)[0],
+            partition.block(7)[0],
+            partition.block(8)[0],
+        ];
+        told.push((partition.key() == Some(KEY), partition.counter(), firsts))?;
+    }
+    Ok(told)
+}
+
+/// Gives an intent where the store takes it.
+fn give(store: &mut Store<CutDisk>, intent: Intent) {
+    if !store.fits(&intent) {
+        return;
+    }
+    if store.next(intent.guest()) != intent.first_sequence() {
+        return;
+    }
+    if store.is_free(intent.guest()) {
+        store.give(intent);
+    }
+}
+
+fn advance(store: &mut Store<CutDisk>, times: usize) {
+    for _ in 0..times {
+        match store.advance() {
+            Ok(_) => {}
+            Err(_) => {}
+        }
+    }
+}
+
+const NOTHING: (bool, u32, [u8; 3]) = (false, 0, [0; 3]);
+
+const KEYED: (bool, u32, [u8; 3]) = (true, 0, [0; 3]);
+
+#[test]
+fn formatted(rt: HostRuntime) -> Result<(), Fail> {
+    let alloc = rt.alloc();
+    let board = board(alloc, &[1, 2])?;
+    let store = opened(alloc, fresh(alloc, &board)?, &board)?;
+    assert_eq!(rt; (store.next(0), store.next(1), store.next(2)), (1, 1, 0));
+    assert!(rt; store.next_call() == Call::None);
+    assert!(rt;
+        found(alloc, store.into_disk(), &board)?.as_slice() == [NOTHING, NOTHING].as_slice()
+    );
+    Ok(())
+}
+
+/// The disk of three guests, whose key requests stand before a sync, in Applying, Opening and Written.
+fn three_guests(alloc: Global, board: &BoardConfig, more: usize) -> Result<CutDisk, Fail> {
+    let mut store = opened(alloc, fresh(alloc, board)?, board)?;
+    for (guest, calls) in [2, 3, 0].iter().enumerate() {
+        give(&mut store, Intent::program_key(guest as u16, KEY));
+        advance(&mut store, *calls);
+    }
+    for _ in 0..8_usize {
+        if store.next_call() == Call::Write {
+            advance(&mut store, 1);
+        }
+    }
+    advance(&mut store, more);
+    Ok(store.into_disk())
+}
+
+#[test]
+fn stopped_at_a_sync(rt: HostRuntime) -> Result<(), Fail> {
+    let alloc = rt.alloc();
+    let board = board(alloc, &[1, 1, 1])?;
+    for (more, wanted) in [[KEYED, NOTHING, NOTHING], [KEYED, KEYED, NOTHING]]
+        .iter()
+        .enumerate()
+    {
+        let mut disk = three_guests(alloc, &board, more)?;
+        disk.cut(&Filler::Old);
+        assert!(rt;
+            found(alloc, disk, &board)?.as_slice() == wanted.as_slice(),
+            "{more}"
+        );
+    }
+    Ok(())
+}
+
+/// A disk that was stopped in the write of eight blocks behind an open gate.
+fn eight_blocks(alloc: Global, board: &BoardConfig) -> Result<CutDisk, Fail> {
+    let mut store = opened(alloc, fresh(alloc, board)?, board)?;
+    give(&mut store, Intent::program_key(0, KEY));
+    advance(&mut store, 8);
+    let blocks = vec![in alloc; 0x77; 2048]?;
+    if blocks.len() == 2048 {
+        give(&mut store, Intent::write(0, KEY, 1, 0, blocks));
+    }
+    advance(&mut store, 5);
+    Ok(store.into_disk())
+}
+
+#[test]
+fn stopped_in_a_write(rt: HostRuntime) -> Result<(), Fail> {
+    let alloc = rt.alloc();
+    let board = board(alloc, &[1])?;
+    let mut disk = eight_blocks(alloc, &board)?;
+    disk.cut(&Filler::Fill([0xff].to_vec(alloc)?));
+    assert!(rt; found(alloc, disk, &board)?.as_slice() == [(true, 1, [0x77, 0x77, 0])].as_slice());
+    Ok(())
+}
+
+/// A disk of which a call of the key request failed.
+fn failed(alloc: Global, board: &BoardConfig, k: u64) -> Result<CutDisk, Fail> {
+    let mut store = opened(alloc, fresh(alloc, board)?, board)?;
+    give(&mut store, Intent::program_key(0, KEY));
+    store.fail(k);
+    advance(&mut store, 8);
+    Ok(store.into_disk())
+}
+
+#[test]
+fn failed_calls(rt: HostRuntime) -> Result<(), Fail> {
+    let alloc = rt.alloc();
+    let board = board(alloc, &[1])?;
+    for k in 1..9 {
+        let wanted = if k < 4 { NOTHING } else { KEYED };
+        let disk = failed(alloc, &board, k)?;
+        assert!(rt;
+            found(alloc, disk, &board)?.as_slice() == [wanted].as_slice(),
+            "{k}"
+        );
+    }
+    let mut disk = failed(alloc, &board, 3)?;
+    disk.cut(&Filler::Fill([0xa5].to_vec(alloc)?));
+    assert!(rt; found(alloc, disk, &board)?.as_slice() == [KEYED].as_slice());
+    Ok(())
+}
+
+/// A disk on which the sync of a write's open gate failed: 0xA5 is read there, and a stop may take it.
+fn gate_unsynced(alloc: Global, board: &BoardConfig) -> Result<CutDisk, Fail> {
+    let mut store = opened(alloc, fresh(alloc, board)?, board)?;
+    give(&mut store, Intent::program_key(0, KEY));
+    advance(&mut store, 8);
+    let blocks = vec![in alloc; 0x77; 2048]?;
+    if blocks.len() == 2048 {
+        give(&mut store, Intent::write(0, KEY, 1, 0, blocks));
+    }
+    store.fail(4);
+    advance(&mut store, 4);
+    Ok(store.into_disk())
+}
+
+/// What an opening has found, a stop after it leaves: the opening's sync has stored it. A stop without
+/// an opening takes it.
+#[test]
+fn opened_before_a_stop(rt: HostRuntime) -> Result<(), Fail> {
+    let alloc = rt.alloc();
+    let board = board(alloc, &[1])?;
+    for (opens, wanted) in [(false, KEYED), (true, (true, 1, [0x77, 0x77, 0]))] {
+        let mut disk = gate_unsynced(alloc, &board)?;
+        if opens {
+            let store = opened(alloc, disk, &board)?;
+            assert_eq!(rt; store.marks().get(0), 2);
+            disk = store.into_disk();
+        }
+        disk.cut(&Filler::Old);
+        assert!(rt;
+            found(alloc, disk, &board)?.as_slice() == [wanted].as_slice(),
+            "{opens}"
+        );
+    }
+    Ok(())
+}
+
+fn written(alloc: Global, board: &BoardConfig, at: u64, bytes: &[u8]) -> Result<CutDisk, Fail> {
+    let mut disk = fresh(alloc, board)?;
+    if at <= disk.len() && bytes.len() as u64 <= disk.len() - at {
+        disk.write_at(at, bytes)?;
+    }
+    Ok(disk)
+}
+
+/// Gives a write of one block at address 8 that leaves the last counter, and settles it.
+fn write_last(alloc: Global, store: &mut Store<CutDisk>) -> Result<(), Fail> {
+    let blocks = vec![in alloc; 0x77; 256]?;
+    if blocks.len() == 256 {
+        give(store, Intent::write(0, KEY, 0xffff_ffff, 8, blocks));
+    }
+    advance(store, 4);
+    Ok(())
+}
+
+/// Whether the last write is made, the mark, and what an opening finds.
+const LAST_COUNTERS: [(bool, u64, (bool, u32, [u8; 3])); 2] = [
+    (false, 0xffff_ffff, (true, 0xffff_fffe, [0; 3])),
+    (true, 0x1_0000_0000, (true, 0xffff_ffff, [0, 0, 0x77])),
+];
+
+#[test]
+fn last_counter(rt: HostRuntime) -> Result<(), Fail> {
+    let alloc = rt.alloc();
+    let board = board(alloc, &[1])?;
+    let home = Home::with_key(KEY, 0xffff_fffe).encode();
+    for (writes, mark, wanted) in LAST_COUNTERS {
+        let mut store = opened(alloc, written(alloc, &board, 1024, &home)?, &board)?;
+        if writes {
+            write_last(alloc, &mut store)?;
+        }
+        assert_eq!(rt; store.marks().get(0), mark);
+        assert!(rt; found(alloc, store.into_disk(), &board)?.as_slice() == [wanted].as_slice());
+    }
+    Ok(())
+}
+
+/// Bytes that are written over a fresh image of two guests, of capacities 1 and 1, and the fault.
+const FAULTS: [(u64, u8, OpenFault); 6] = [
+    (7, b'g', OpenFault::NotFormatted),
+    (9, 1, OpenFault::OtherConfig),
+    (10, 2, OpenFault::OtherConfig),
+    (1024, 1, OpenFault::NotFormatted),
+    (1024, 2, OpenFault::NotFormatted),
+    (1536, 0xa5, OpenFault::NotFormatted),
+];
+
+#[test]
+fn refused(rt: HostRuntime) -> Result<(), Fail> {
+    let alloc = rt.alloc();
+    let board = board(alloc, &[1, 1])?;
+    for (at, byte, fault) in FAULTS {
+        let disk = written(alloc, &board, at, &[byte])?;
+        assert_eq!(rt;
+            open(alloc, disk, &board).err().map(|e| e.1),
+            Some(fault),
+            "{at}"
+        );
+    }
+    let short = CutDisk::new(alloc, vec![in alloc; 0; 1000]?)?;
+    assert_eq!(rt;
+        open(alloc, short, &board).err().map(|e| e.1),
+        Some(OpenFault::NotFormatted)
+    );
+    Ok(())
+}
+
+/// A fresh image of one guest but for its length.
+fn resized(alloc: Global, board: &BoardConfig, length: usize) -> Result<CutDisk, Fail> {
+    let mut content = fresh(alloc, board)?.content().to_vec(alloc)?;
+    content.resize(length, 0)?;
+    Ok(CutDisk::new(alloc, content)?)
+}
+
+/// Lengths in bytes of such images, the call that would fail, and the fault. The first call is the
+/// sync, the second reads the header, and the third would read a gate.
+const LENGTHS: [(usize, u64, OpenFault); 7] = [
+    (167_425, 3, OpenFault::NotFormatted),
+    (167_423, 3, OpenFault::NotFormatted),
+    (1_024, 3, OpenFault::NotFormatted),
+    (1_024, 2, OpenFault::DiskFault),
+    (1_023, 2, OpenFault::NotFormatted),
+    (1_023, 1, OpenFault::DiskFault),
+    (0, 2, OpenFault::NotFormatted),
+];
+
+#[test]
+fn other_lengths(rt: HostRuntime) -> Result<(), Fail> {
+    let alloc = rt.alloc();
+    let board = board(alloc, &[1])?;
+    for (length, failing, fault) in LENGTHS {
+        let mut disk = resized(alloc, &board, length)?;
+        disk.fail(failing);
+        assert_eq!(rt;
+            open(alloc, disk, &board).err().map(|e| e.1),
+            Some(fault),
+            "{length}"
+        );
+    }
+    Ok(())
+}
+
+#[test]
+fn faults_print_their_names(rt: HostRuntime) -> Result<(), Fail> {
+    for (fault, name) in [
+        (OpenFault::DiskFault, "DiskFault"),
+        (OpenFault::NoMemory, "NoMemory"),
+        (OpenFault::NotFormatted, "NotFormatted"),
+        (OpenFault::OtherConfig, "OtherConfig"),
+    ] {
+        assert_eq!(rt; format!(in rt.alloc(); "{fault}")?.as_str(), name);
+    }
+    Ok(())
+}
+
+/// Opens once more what an opening refused, each time on the disk that it gave back. Where memory was
+/// refused no call was made: the second call from then on is still the one that fails.
+fn retried(alloc: Global, disk: CutDisk, board: &BoardConfig) -> Result<Store<CutDisk>, Fail> {
+    let mut disk = disk;
+    disk.fail(2);
+    match open(alloc, disk, board) {
+        Ok(_) => Err("a call fails".into()),
+        Err((disk, OpenFault::DiskFault)) => opened(alloc, disk, board),
+        Err((disk, OpenFault::NoMemory)) => {
+            let mut disk = disk;
+            if disk.sync().is_err() || disk.sync().is_ok() {
+                return Err("a call was made".into());
+            }
+            opened(alloc, disk, board)
+        }
+        Err((_, fault)) => Err(fault.into()),
+    }
+}
+
+/// With `rt try --test --fail-alloc` each allocation of an opening fails once.
+#[test]
+fn refused_memory(rt: HostRuntime) -> Result<(), Fail> {
+    let alloc = rt.alloc();
+    let board = board(alloc, &[1, 1])?;
+    let store = retried(alloc, fresh(alloc, &board)?, &board)?;
+    assert_eq!(rt; (store.next(0), store.next(1)), (1, 1));
+    Ok(())
+}

@@ -1,0 +1,188 @@
+//! The calls that an opening and a store make, by a disk that writes them down.
+ghost use Rattle.std.specs.Prelude.{◌≡◌};
+
+use super::board;
+use arrayvec::ArrayVec;
+use disk::{Disk, DiskFault, MemDisk};
+use flusher::{Marks, Progress, Store};
+use intent_slots::{Intent, Layout};
+use recovery::{format, open};
+use std::alloc::Global;
+use std::test::Fail;
+
+/// A call to the disk.
+#[derive(Clone, Copy, PartialEq, Default)]
+enum Logged {
+    /// Where the bytes go, how many they are, and the first of them.
+    Write(u64, usize, u8),
+    #[default]
+    Sync,
+    /// Where the bytes come from, and how many they are.
+    Read(u64, usize),
+}
+
+/// A disk that writes down up to 64 calls.
+#[derive(Drop)]
+struct LogDisk<D: Disk> {
+    inner: D,
+    calls: ArrayVec<Logged, 64>,
+}
+
+impl<D: Disk> LogDisk<D> {
+    fn log(&mut self, call: Logged)
+        ensures { self.new.inner ≡ self.old.inner }
+    {
+        if self.calls.len() < 64 {
+            self.calls.push(call);
+        }
+    }
+}
+
+impl<D: Disk> Disk for LogDisk<D> {
+    ghost state = { λ d. D.state d.inner };
+
+    ghost makes = { λ old call new. D.makes old.inner call new.inner };
+
+    ghost effect = { λ old new call made. D.effect old.inner new.inner call made };
+
+    fn len(&self) -> u64 {
+        self.inner.len()
+    }
+
+    fn read_at(&mut self, at: u64, out: &mut [u8]) -> Result<(), DiskFault> {
+        self.log(Logged::Read(at, out.len()));
+        self.inner.read_at(at, out)
+    }
+
+    fn write_at(&mut self, at: u64, bytes: &[u8]) -> Result<(), DiskFault> {
+        let first = bytes.first().copied().unwrap_or(0);
+        self.log(Logged::Write(at, bytes.len(), first));
+        self.inner.write_at(at, bytes)
+    }
+
+    fn sync(&mut self) -> Result<(), DiskFault> {
+        self.log(Logged::Sync);
+        self.inner.sync()
+    }
+
+    fn failures(&self) -> u64 {
+        self.inner.failures()
+    }
+}
+
+/// The store over a fresh image of guests of these capacities, and the calls of its opening.
+fn fresh(alloc: Global, capacities: &[u8]) -> Result<Store<LogDisk<MemDisk>>, Fail> {
+    let board = board(alloc, capacities)?;
+    let layout = Layout::of(&board);
+    let mut inner = MemDisk::new(vec![in alloc; 0xee; layout.length() as usize]?);
+    if inner.len() == layout.length() {
+        format(&mut inner, &board)?;
+    }
+    let calls = ArrayVec::new();
+    match open(alloc, LogDisk { inner, calls }, &board) {
+        Ok((store, _)) => Ok(store),
+        Err((_, fault)) => Err(fault.into()),
+    }
+}
+
+/// Gives the request that programs a guest's key; answers whether it could be given.
+fn give_key(store: &mut Store<LogDisk<MemDisk>>, number: u16) -> bool {
+    let intent = Intent::program_key(number, [0x11; 32]);
+    if !store.is_free(number) || !store.fits(&intent) || store.next(number) != 1 {
+        return false;
+    }
+    store.give(intent);
+    true
+}
+
+/// Makes so many calls; answers the marks of the last sync, where none was refused or idle.
+fn advance(store: &mut Store<LogDisk<MemDisk>>, times: u32) -> Option<Marks> {
+    for _ in 0..times {
+        match store.advance() {
+            Ok(Progress::Idle) => return None,
+            Ok(_) => {}
+            Err(_) => return None,
+        }
+    }
+    Some(store.marks())
+}
+
+/// The calls of an opening of one guest, a sync and then reads of header, gate, home record and blocks;
+/// and those of a key request: payload, gate, home record, gate, each before a sync.
+static KEY_CALLS: [Logged; 13] = [
+    Logged::Sync,
+    Logged::Read(0, 74),
+    Logged::Read(1536, 1),
+    Logged::Read(1024, 64),
+    Logged::Read(36_352, 131_072),
+    Logged::Write(2048, 72, 1),
+    Logged::Sync,
+    Logged::Write(1536, 1, 0xA5),
+    Logged::Sync,
+    Logged::Write(1024, 64, 1),
+    Logged::Sync,
+    Logged::Write(1536, 1, 0),
+    Logged::Sync,
+];
+
+#[test]
+fn a_key_takes_eight_calls(rt: HostRuntime) -> Result<(), Fail> {
+    let mut store = fresh(rt.alloc(), &[1])?;
+    assert!(rt; matches!(store.advance(), Ok(Progress::Idle)));
+    assert!(rt; give_key(&mut store, 0));
+    for settled in [0, 0, 0, 1, 1, 1, 1, 1] {
+        let marks = advance(&mut store, 1);
+        assert!(rt; marks.is_some_and(|marks| marks.get(0) == settled));
+    }
+    assert!(rt; matches!(store.advance(), Ok(Progress::Idle)));
+    assert!(rt; store.is_free(0) && store.next(0) == 2);
+    let disk = store.into_disk();
+    assert!(rt; disk.calls.as_slice() == KEY_CALLS.as_slice());
+    Ok(())
+}
+
+#[test]
+fn one_sync_serves_every_phase(rt: HostRuntime) -> Result<(), Fail> {
+    let mut store = fresh(rt.alloc(), &[1, 1, 1])?;
+    assert!(rt; give_key(&mut store, 0));
+    assert!(rt; advance(&mut store, 2).is_some());
+    assert!(rt; give_key(&mut store, 1));
+    assert!(rt; advance(&mut store, 3).is_some());
+    assert!(rt; give_key(&mut store, 2));
+    // Guest 0 is at its home record, guest 1 at its gate, guest 2 at its payload.
+    let before = advance(&mut store, 3);
+    assert!(rt;
+        before.is_some_and(|marks| marks.get(0) == 1 && marks.get(1) == 0 && marks.get(2) == 0)
+    );
+    let after = advance(&mut store, 1);
+    assert!(rt;
+        after.is_some_and(|marks| marks.get(0) == 1 && marks.get(1) == 1 && marks.get(2) == 0)
+    );
+    Ok(())
+}
+
+/// The calls of an opening behind an open gate: payload and blocks, but no home record.
+static OPEN_CALLS: [Logged; 5] = [
+    Logged::Sync,
+    Logged::Read(0, 74),
+    Logged::Read(1536, 1),
+    Logged::Read(2048, 16_648),
+    Logged::Read(36_352, 131_072),
+];
+
+#[test]
+fn an_open_gate_is_read_once(rt: HostRuntime) -> Result<(), Fail> {
+    let alloc = rt.alloc();
+    let mut store = fresh(alloc, &[1])?;
+    assert!(rt; give_key(&mut store, 0));
+    assert!(rt; advance(&mut store, 4).is_some());
+    let inner = store.into_disk().inner;
+    let calls = ArrayVec::new();
+    match open(alloc, LogDisk { inner, calls }, &board(alloc, &[1])?) {
+        Ok((store, _)) => {
+            assert!(rt; store.into_disk().calls.as_slice() == OPEN_CALLS.as_slice());
+            Ok(())
+        }
+        Err((_, fault)) => Err(fault.into()),
+    }
+}
