@@ -1,5 +1,5 @@
 -- What waits leads on from what was taken.
-use Rattle.std.proofs.Common.{◌≡◌, ℕ, zero, suc, List, [], ◌∷◌, ◌++◌, Some, drop, refl, ap, sym, ◌∙◌, subst}
+use Rattle.std.proofs.Common.{◌≡◌, ℕ, zero, suc, Bool, true, false, List, [], ◌∷◌, ◌++◌, Some, drop, refl, ap, sym, ◌∙◌, subst}
 use Rattle.std.specs.Prelude.{slice_get, ◌==◌}
 use Rattle.intent_slots.specs.Payload.{Intent}
 use Rattle.intent_slots.specs.Recovered.{Part, part_of}
@@ -7,11 +7,11 @@ use Rattle.intent_slots.specs.Recovered as store
 use Rattle.rpmb_core.proofs.Sequence.{after_refused}
 use Rattle.mmio_transport.specs.Job.{Job}
 use Rattle.rpmb_book.specs.Guest.{GuestState, accepts, after, request_of, intent_of, joined_by, submitted, took, collected, settled_at}
-use Rattle.rpmb_book.specs.Turn.{Turn, Submit, Take, Settle, Collect, State, after_turn, update, settled_all}
+use Rattle.rpmb_book.specs.Turn.{Turn, Submit, Take, Settle, Collect, Break, State, after_turn, update, settled_all}
 use Rattle.rpmb_book.specs.Replay.{replay}
 use Rattle.rpmb_book.specs.Sound.{IsCoreOfBoard}
 use Rattle.rpmb_book.specs.Given.{after_all, after_first, after_taking, given, IsLedOn}
-use Rattle.rpmb_book.proofs.IsolationLemmas.{by_test, chosen, not_chosen, same_number, other_number, submitted_here, update_same, update_other}
+use Rattle.rpmb_book.proofs.IsolationLemmas.{broken_there, broken_when, by_test, chosen, not_chosen, same_number, other_number, submitted_here, update_same, update_other}
 use Rattle.rpmb_book.proofs.Room.{intent_some, intent_none}
 use Rattle.rpmb_book.proofs.OnBoard.{core_stays, request_asked}
 use Rattle.rpmb_book.proofs.LeadingOn.{leads_on}
@@ -29,8 +29,9 @@ record IsLed (p : Part) (x : GuestState) : Type 0 where
   pub board : IsCoreOfBoard x.core
   pub led : after_all p x.waiting ≡ part_of x.core.partition
 
-led_submit : (p : Part) (job : Job) (x : GuestState) → IsLed p x → IsLed p (submitted job x)
-led_submit p job x here =
+led_submit : (p : Part) (broken : Bool) (job : Job) (x : GuestState) → IsLed p x → IsLed p (submitted broken job x)
+led_submit p true job x here = record { board = here.board; led = here.led }
+led_submit p false job x here =
     let c = x.core in
     let r = request_of c job in
     by_test (accepts c job)
@@ -46,6 +47,11 @@ led_submit p job x here =
       board = core_stays c job here.board;
       led = ap (λ o. after_all p (joined_by x.waiting o)) (intent_none c job is) ∙ here.led ∙ ap part_of (sym (after_refused c.partition r is));
     })
+
+-- a Break leaves what waits, and the partition
+led_break : (p : Part) (broken : Bool) (x : GuestState) → IsLed p x → IsLed p (broken_when broken x)
+led_break p true x here = here
+led_break p false x here = record { board = record { partition = here.board.partition; few = here.board.few }; led = here.led }
 
 led_take : (p : Part) (x : GuestState) → IsLed p x → IsLed (after_first p x.waiting) (took x)
 led_take p x here = record { board = here.board; led = after_all-first p x.waiting ∙ here.led }
@@ -68,8 +74,8 @@ led_after : (g : ℕ) (s : State) (x y : GuestState) (ts : List Turn) (p : Part)
 led_after g s x y [] p at here end = subst (IsLed p) (some_same (sym at ∙ end)) here
 led_after g s x y (Submit w ∷ ts) p at here end =
     by_test (w.job.guest == g)
-    (λ is. led_after g (after_turn s (Submit w)) (submitted w.job x) y ts p (submitted_here s w.job g x (same_number w.job.guest g is) at) (led_submit p w.job x here) end)
-    (λ is. led_after g (after_turn s (Submit w)) x y ts p (update_other s.guests w.job.guest g (submitted w.job) (other_number w.job.guest g is) ∙ at) here end)
+    (λ is. led_after g (after_turn s (Submit w)) (submitted s.broken w.job x) y ts p (submitted_here s w.job g x (same_number w.job.guest g is) at) (led_submit p s.broken w.job x here) end)
+    (λ is. led_after g (after_turn s (Submit w)) x y ts p (update_other s.guests w.job.guest g (submitted s.broken w.job) (other_number w.job.guest g is) ∙ at) here end)
 led_after g s x y (Take n ∷ ts) p at here end =
     let next = after_turn s (Take n) in
     let to = λ (q : Part). IsLed (given g next ts q) y in
@@ -90,6 +96,8 @@ led_after g s x y (Collect n ∷ ts) p at here end =
     let there = ap (λ m. slice_get (update s.guests m collected) g) (same_number n g is) ∙ update_same s.guests g collected x at in
     led_after g (after_turn s (Collect n)) (collected x) y ts p there (record { board = here.board; led = here.led }) end)
     (λ is. led_after g (after_turn s (Collect n)) x y ts p (update_other s.guests n g collected (other_number n g is) ∙ at) here end)
+led_after g s x y (Break ∷ ts) p at here end =
+    led_after g (after_turn s Break) (broken_when s.broken x) y ts p (broken_there s.broken s g x at) (led_break p s.broken x here) end
 
 pub led_on : IsLedOn
 led_on g s x y ts at none board end =

@@ -15,3 +15,5 @@ pub mod Asking
 pub mod OnBoard
 pub mod Giving
 pub mod AskedLemmas
+pub mod Marking
+pub mod Breaking

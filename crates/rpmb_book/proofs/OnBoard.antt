@@ -1,5 +1,5 @@
 -- Each guest keeps a partition of a board.
-use Rattle.std.proofs.Common.{◌≡◌, ℕ, suc, List, [], ◌∷◌, Some, map, arith, inl, inr}
+use Rattle.std.proofs.Common.{◌≡◌, ℕ, suc, Bool, true, false, List, [], ◌∷◌, Some, map, arith, inl, inr}
 use Rattle.std.specs.Prelude.{All, slice_get}
 use Rattle.std.specs.List.{AllByRecursion}
 use Rattle.std.proofs.lemmas.Option.{slice_get_cases}
@@ -7,8 +7,8 @@ use Rattle.rpmb_frame.specs.Config.{IsGuest}
 use Rattle.rpmb_frame.specs.Partition.{Partition}
 use Rattle.rpmb_frame.specs.declared.config.GuestConfig.{GuestConfig}
 use Rattle.mmio_transport.specs.Job.{Job, room_of}
-use Rattle.rpmb_book.specs.Guest.{GuestCore, GuestState, core_after, submitted, took, collected, request_of}
-use Rattle.rpmb_book.specs.Turn.{Turn, Submit, Take, Settle, Collect, State, after_turn, IsRight, settled_all}
+use Rattle.rpmb_book.specs.Guest.{GuestCore, GuestState, core_after, core_when, submitted, took, collected, broken_off, request_of}
+use Rattle.rpmb_book.specs.Turn.{Turn, Submit, Take, Settle, Collect, Break, State, after_break, after_turn, IsRight, settled_all}
 use Rattle.rpmb_book.specs.Replay.{replay, IsLegal, fresh_guests}
 use Rattle.rpmb_book.specs.Sound.{IsAsked, IsHeld, IsCoreOfBoard, AreOfBoard}
 use Rattle.rpmb_book.proofs.Places.{all_at, all-update}
@@ -27,6 +27,22 @@ core_stays c job board = record {
   few = board.few;
 }
 
+when_stays : (broken : Bool) (c : GuestCore) (job : Job) → IsCoreOfBoard c → IsCoreOfBoard (core_when broken c job)
+when_stays true c job board = board
+when_stays false c job board = core_stays c job board
+
+-- a Break leaves partitions and limits
+off_stays : (g : GuestState) → IsGuestOfBoard g → IsGuestOfBoard (broken_off g)
+off_stays g board = record { partition = board.partition; few = board.few }
+
+off_stay : (gs : List GuestState) → AllByRecursion IsGuestOfBoard gs → AllByRecursion IsGuestOfBoard (map broken_off gs)
+off_stay [] all = tt
+off_stay (g ∷ gs) all = (off_stays g all.0, off_stay gs all.1)
+
+break_stays : (broken : Bool) (s : State) → AreOfBoard s → AreOfBoard (after_break broken s)
+break_stays true s all = all
+break_stays false s all = off_stay s.guests all
+
 settled_stay : (gs : List GuestState) (ms : List ℕ) → AllByRecursion IsGuestOfBoard gs → AllByRecursion IsGuestOfBoard (settled_all gs ms)
 settled_stay [] ms all = all
 settled_stay (g ∷ gs) [] all = all
@@ -34,7 +50,7 @@ settled_stay (g ∷ gs) (m ∷ ms) all = (all.0, settled_stay gs ms all.1)
 
 turn_stays : (s : State) (t : Turn) → AreOfBoard s → IsRight s t → AreOfBoard (after_turn s t)
 turn_stays s (Submit w) all right = elim (slice_get_cases s.guests w.job.guest).1 [
-  | inl x ↦ all-update IsGuestOfBoard s.guests w.job.guest (submitted w.job) x.0 x.2 (core_stays x.0.core w.job (all_at IsGuestOfBoard s.guests w.job.guest x.0 x.2 all)) all
+  | inl x ↦ all-update IsGuestOfBoard s.guests w.job.guest (submitted s.broken w.job) x.0 x.2 (when_stays s.broken x.0.core w.job (all_at IsGuestOfBoard s.guests w.job.guest x.0 x.2 all)) all
   | inr past ↦ absurd (omega (arith, past.0, right.0))
 ]
 turn_stays s (Take n) all right = elim (slice_get_cases s.guests n).1 [
@@ -46,6 +62,7 @@ turn_stays s (Collect n) all right = elim (slice_get_cases s.guests n).1 [
   | inl x ↦ all-update IsGuestOfBoard s.guests n collected x.0 x.2 (all_at IsGuestOfBoard s.guests n x.0 x.2 all) all
   | inr past ↦ absurd (omega (arith, past.0, right.1))
 ]
+turn_stays s Break all right = break_stays s.broken s all
 
 pub on_board : (s : State) (ts : List Turn) → AreOfBoard s → IsLegal s ts → AreOfBoard (replay s ts)
 on_board s [] all legal = all

@@ -1,5 +1,5 @@
 -- One more guest of an opening.
-use Rattle.std.proofs.Common.{◌≡◌, ◌<◌, ℕ, zero, suc, ◌+◌, List, [], ◌∷◌, ◌++◌, length, map, take, drop, refl, ap, ap₂, sym, ◌∙◌, arith, get_or, add-one, subst}
+use Rattle.std.proofs.Common.{◌≡◌, ◌<◌, ℕ, zero, suc, ◌+◌, List, [], ◌∷◌, ◌++◌, length, map, take, drop, false, refl, ap, ap₂, sym, ◌∙◌, arith, get_or, add-one, subst}
 use Rattle.std.specs.List.{AllByRecursion}
 use Rattle.std.proofs.lemmas.List.{take_more, length-map, get_or-drop, drop-drop}
 use Rattle.rpmb_frame.specs.Limits.{Limits, limits_of}
@@ -86,13 +86,14 @@ length-fresh_guests (g ∷ gs) (p ∷ ps) same = ap suc (length-fresh_guests gs 
 
 -- a book that was opened on these partitions
 pub kept_opening : (config : List GuestConfig) (ps : List Partition) (opening guests : List GuestState) (h : HistoryView) → map (λ p. p.capacity) ps ≡ map (λ g. g.capacity) config
-    → All IsGuest config → AllByRecursion IsHeld ps → opening ≡ fresh_guests config ps → guests ≡ fresh_guests config ps → h ≡ record { guests = length config; turns = [] } → IsKept (record { guests = opening }) h guests 0
+    → All IsGuest config → AllByRecursion IsHeld ps → opening ≡ fresh_guests config ps → guests ≡ fresh_guests config ps → h ≡ record { guests = length config; turns = [] } → IsKept (record { guests = opening; broken = false }) h guests false 0
 kept_opening config ps opening guests h same board held is is' h_is =
     let many : length ps ≡ length config = sym (length-map ps (λ p. p.capacity)) ∙ ap length same ∙ length-map config (λ g. g.capacity) in
     rw (is, is', h_is) (record {
       guests_are = refl;
       legal = tt;
-      begins = all_fresh config ps;
+      begins = record { guests = all_fresh config ps; whole = refl };
+      broken_is = refl;
       of_board = opens_on_board config ps board held same;
       counted = refl;
       few = omega arith;

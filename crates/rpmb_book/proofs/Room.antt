@@ -1,16 +1,17 @@
 -- The history has room for each turn that may still come: four for each Submit.
 use Rattle.std.proofs.Common.{◌≡◌, ◌<◌, ◌≤◌, ℕ, ◌+◌, ◌-◌, ◌*◌, Bool, true, false, List, [], ◌∷◌, ◌++◌, Option, Some, None, length, drop, refl, ap, sym, ◌∙◌, arith, length-append, length-drop, inl, inr}
-use Rattle.std.specs.Prelude.{IsSome, if◌then◌else◌, ◌&&◌, ◌||◌, ◌⊎◌, nat_le, nat_lt, count_by}
+use Rattle.std.specs.Prelude.{IsSome, map, if◌then◌else◌, ◌&&◌, ◌||◌, ◌⊎◌, nat_le, nat_lt, count_by}
 use Rattle.std.specs.List.{AllByRecursion}
+use Rattle.std.proofs.lemmas.List.{length-map}
 use Rattle.std.proofs.lemmas.List.Sums.{sum_by-cons}
 use Rattle.std.proofs.lemmas.Bool.Decides.{nat_tests}
 use Rattle.std.proofs.lemmas.Option.{slice_get_cases}
 use Rattle.rpmb_frame.specs.Partition.{sequence}
 use Rattle.rpmb_core.proofs.Sequence.{sequence_accepted, after_refused, keyed_after}
-use Rattle.mmio_transport.specs.Job.{Job, Done, done_of}
+use Rattle.mmio_transport.specs.Job.{Job}
 use Rattle.intent_slots.specs.Payload.{Intent}
-use Rattle.rpmb_book.specs.Guest.{GuestCore, GuestState, submitted, took, collected, first_due, first_intent, first_sequence, joined_by, intent, intent_of, intent_sequence, accepts, after, request_of, answer, need}
-use Rattle.rpmb_book.specs.Turn.{Turn, Submit, Take, Settle, Collect, State, after_turn, IsRight, is_submit, settled_all, are_within, move_some}
+use Rattle.rpmb_book.specs.Guest.{GuestCore, GuestState, Held, held_when, submitted, took, collected, broken_off, kept_or_failed, first_due, first_intent, first_sequence, joined_by, intent, intent_of, intent_sequence, accepts, after, request_of}
+use Rattle.rpmb_book.specs.Turn.{Turn, Submit, Take, Settle, Collect, Break, State, after_break, after_turn, IsRight, is_break, is_submit, settled_all, are_within, move_some}
 use Rattle.rpmb_book.specs.Sound.{Follows, IsSoundGuest, IsSound}
 use Rattle.rpmb_book.specs.Replay.{replay, IsLegal}
 use Rattle.rpmb_book.specs.History.{is_settle}
@@ -77,8 +78,9 @@ intent_counted c job is = omega (arith, keyed_after c.partition (request_of c jo
 pub intent_none : (c : GuestCore) (job : Job) → accepts c job ≡ false → intent c job ≡ None
 intent_none c job is = rw is refl
 
-submit_joins : (job : Job) (g : GuestState) → (by : ℕ) × (by ≤ 1) × Joins g (submitted job g) by
-submit_joins job g =
+submit_joins : (broken : Bool) (job : Job) (g : GuestState) → (by : ℕ) × (by ≤ 1) × Joins g (submitted broken job g) by
+submit_joins true job g = (0, omega arith, record { long = omega arith; later = omega arith; follows = λ f. f })
+submit_joins false job g =
     by_test (accepts g.core job)
     (λ is.
     let r = request_of g.core job in
@@ -91,16 +93,16 @@ submit_joins job g =
     let none = joined_none g.taken g.waiting (intent g.core job) (sequence g.core.partition) (sequence (after g.core job)) (intent_none g.core job is) same in
     (0, omega arith, record { long = none.0; later = same ∙ omega arith; follows = none.1 }))
 
-submit_cost : (job : Job) (g : GuestState) → due (submitted job g) ≤ due g + 3
-submit_cost job g =
-    let j = submit_joins job g in
-    omega (arith, j.1, j.2.long, j.2.later, length-append g.held (done_of job (answer g.core job) (need g.core job) ∷ []))
+submit_cost : (broken : Bool) (job : Job) (g : GuestState) → due (submitted broken job g) ≤ due g + 3
+submit_cost broken job g =
+    let j = submit_joins broken job g in
+    omega (arith, j.1, j.2.long, j.2.later, length-append g.held (held_when broken g.core job ∷ []))
 
-submit_unsettled : (job : Job) (g : GuestState) → unsettled (submitted job g) ≤ unsettled g + 1
-submit_unsettled job g = let j = submit_joins job g in omega (arith, j.1, j.2.later)
+submit_unsettled : (broken : Bool) (job : Job) (g : GuestState) → unsettled (submitted broken job g) ≤ unsettled g + 1
+submit_unsettled broken job g = let j = submit_joins broken job g in omega (arith, j.1, j.2.later)
 
-submit_sound : (job : Job) (g : GuestState) → IsSoundGuest g → IsSoundGuest (submitted job g)
-submit_sound job g sound = ((submit_joins job g).2.follows sound.0, sound.1)
+submit_sound : (broken : Bool) (job : Job) (g : GuestState) → IsSoundGuest g → IsSoundGuest (submitted broken job g)
+submit_sound broken job g sound = ((submit_joins broken job g).2.follows sound.0, sound.1)
 
 take_cost : (g : GuestState) → IsSome (first_intent g.waiting) → due (took g) + 1 ≤ due g
 take_cost g some = omega (arith, some_waits g.waiting some, length-drop 1 g.waiting)
@@ -112,7 +114,7 @@ take_cost g some = omega (arith, some_waits g.waiting some, length-drop 1 g.wait
 take_sound : (g : GuestState) → IsSoundGuest g → IsSoundGuest (took g)
 take_sound g sound = (follows-first g.taken g.waiting (sequence g.core.partition) sound.0, omega (arith, first_le g.taken g.waiting (sequence g.core.partition) sound.0, sound.1))
 
-due_held : (settled : ℕ) (ds : List Done) → IsSome (first_due settled ds) → length (drop 1 ds) + 1 ≤ length ds
+due_held : (settled : ℕ) (ds : List Held) → IsSome (first_due settled ds) → length (drop 1 ds) + 1 ≤ length ds
 due_held settled [] some = absurd (cc)
 due_held settled (d ∷ ds) some = omega arith
 
@@ -152,9 +154,25 @@ settles_cost (g ∷ gs) (m ∷ ms) sound within some =
       | inr more ↦ (let later = settles_cost gs ms sound.1 parts.1 more in (omega (arith, later.0), omega (arith, later.1)))
     ]
 
+-- a Break leaves what is due, and what waits
+break_due : (g : GuestState) → due (broken_off g) ≡ due g
+break_due g = omega (arith, length-map g.held (kept_or_failed g.settled))
+
+breaks_le : (gs : List GuestState) → (total due (map broken_off gs) ≡ total due gs) × (total unsettled (map broken_off gs) ≡ total unsettled gs) × (total submits_of (map broken_off gs) ≡ total submits_of gs)
+breaks_le [] = (refl, refl, refl)
+breaks_le (g ∷ gs) = let rest = breaks_le gs in (omega (arith, break_due g, rest.0), omega (arith, rest.1), omega (arith, rest.2))
+
+breaks_sound : (gs : List GuestState) → AllByRecursion IsSoundGuest gs → AllByRecursion IsSoundGuest (map broken_off gs)
+breaks_sound [] sound = tt
+breaks_sound (g ∷ gs) sound = (sound.0, breaks_sound gs sound.1)
+
+break_sound : (broken : Bool) (s : State) → IsSound s → IsSound (after_break broken s)
+break_sound true s sound = sound
+break_sound false s sound = breaks_sound s.guests sound
+
 turn_sound : (s : State) (t : Turn) → IsSound s → IsRight s t → IsSound (after_turn s t)
 turn_sound s (Submit w) sound right = elim (slice_get_cases s.guests w.job.guest).1 [
-  | inl x ↦ all-update IsSoundGuest s.guests w.job.guest (submitted w.job) x.0 x.2 (submit_sound w.job x.0 (all_at IsSoundGuest s.guests w.job.guest x.0 x.2 sound)) sound
+  | inl x ↦ all-update IsSoundGuest s.guests w.job.guest (submitted s.broken w.job) x.0 x.2 (submit_sound s.broken w.job x.0 (all_at IsSoundGuest s.guests w.job.guest x.0 x.2 sound)) sound
   | inr past ↦ absurd (omega (arith, past.0, right.0))
 ]
 turn_sound s (Take n) sound right = elim (slice_get_cases s.guests n).1 [
@@ -166,22 +184,35 @@ turn_sound s (Collect n) sound right = elim (slice_get_cases s.guests n).1 [
   | inl x ↦ all-update IsSoundGuest s.guests n collected x.0 x.2 (all_at IsSoundGuest s.guests n x.0 x.2 sound) sound
   | inr past ↦ absurd (omega (arith, past.0, right.1))
 ]
+turn_sound s Break sound right = break_sound s.broken s sound
 
 abbrev pub one_if : Bool → ℕ
 one_if b = if b then 1 else 0
 
+pub one_if_le : (b : Bool) → one_if b ≤ 1
+one_if_le true = omega arith
+one_if_le false = omega arith
+
 -- what a turn costs: of the room for turns, of the room for marks, and of the count of jobs
 pub record Pays (s s' : State) (t : Turn) : Type 0 where
-  pub turn : total due s'.guests + 1 ≤ total due s.guests + 4 * one_if (is_submit t)
+  pub turn : total due s'.guests + 1 ≤ total due s.guests + 4 * one_if (is_submit t) + one_if (is_break t)
   pub marks : total unsettled s'.guests + one_if (is_settle t) ≤ total unsettled s.guests + one_if (is_submit t)
   pub count : total submits_of s'.guests ≡ total submits_of s.guests + one_if (is_submit t)
+  pub breaks : one_if (is_break t) + one_if s.broken ≡ one_if s'.broken
+
+break_pays : (broken : Bool) (s : State) → broken ≡ s.broken → broken ≡ false → Pays s (after_break broken s) Break
+break_pays true s is right = absurd (cc)
+break_pays false s is right =
+    let same = breaks_le s.guests in
+    record { turn = omega (arith, same.0); marks = omega (arith, same.1); count = omega (arith, same.2); breaks = omega (arith, ap one_if is) }
 
 pub turn_pays : (s : State) (t : Turn) → IsSound s → IsRight s t → Pays s (after_turn s t) t
 turn_pays s (Submit w) sound right = elim (slice_get_cases s.guests w.job.guest).1 [
   | inl x ↦ record {
-    turn = omega (arith, total-update due s.guests w.job.guest (submitted w.job) x.0 x.2, submit_cost w.job x.0);
-    marks = omega (arith, total-update unsettled s.guests w.job.guest (submitted w.job) x.0 x.2, submit_unsettled w.job x.0);
-    count = omega (arith, total-update submits_of s.guests w.job.guest (submitted w.job) x.0 x.2);
+    turn = omega (arith, total-update due s.guests w.job.guest (submitted s.broken w.job) x.0 x.2, submit_cost s.broken w.job x.0);
+    marks = omega (arith, total-update unsettled s.guests w.job.guest (submitted s.broken w.job) x.0 x.2, submit_unsettled s.broken w.job x.0);
+    count = omega (arith, total-update submits_of s.guests w.job.guest (submitted s.broken w.job) x.0 x.2);
+    breaks = omega arith;
   }
   | inr past ↦ absurd (omega (arith, past.0, right.0))
 ]
@@ -190,38 +221,44 @@ turn_pays s (Take n) sound right = elim (slice_get_cases s.guests n).1 [
     turn = omega (arith, total-update due s.guests n took x.0 x.2, take_cost x.0 (right.0 x.0 x.2));
     marks = omega (arith, total-update unsettled s.guests n took x.0 x.2);
     count = omega (arith, total-update submits_of s.guests n took x.0 x.2);
+    breaks = omega arith;
   }
   | inr past ↦ absurd (omega (arith, past.0, right.1))
 ]
 turn_pays s (Settle marks) sound right =
     let cost = settles_cost s.guests marks sound right.1 right.2 in
-    record { turn = omega (arith, cost.0); marks = omega (arith, cost.1); count = omega (arith, (settles_le s.guests marks).2) }
+    record { turn = omega (arith, cost.0); marks = omega (arith, cost.1); count = omega (arith, (settles_le s.guests marks).2); breaks = omega arith }
 turn_pays s (Collect n) sound right = elim (slice_get_cases s.guests n).1 [
   | inl x ↦ record {
     turn = omega (arith, total-update due s.guests n collected x.0 x.2, collect_cost x.0 (right.0 x.0 x.2));
     marks = omega (arith, total-update unsettled s.guests n collected x.0 x.2);
     count = omega (arith, total-update submits_of s.guests n collected x.0 x.2);
+    breaks = omega arith;
   }
   | inr past ↦ absurd (omega (arith, past.0, right.1))
 ]
+turn_pays s Break sound right = break_pays s.broken s refl right
 
 -- what a history has used and may still use
 pub record Fits (s : State) (ts : List Turn) : Type 0 where
-  pub turns : length ts + total due (replay s ts).guests ≤ total due s.guests + 4 * count_by is_submit ts
+  pub turns : length ts + total due (replay s ts).guests ≤ total due s.guests + 4 * count_by is_submit ts + count_by is_break ts
   pub marks : count_by is_settle ts + total unsettled (replay s ts).guests ≤ total unsettled s.guests + count_by is_submit ts
   pub count : total submits_of (replay s ts).guests ≡ total submits_of s.guests + count_by is_submit ts
+  pub breaks : count_by is_break ts + one_if s.broken ≡ one_if (replay s ts).broken
 
 pub fits : (s : State) (ts : List Turn) → IsSound s → IsLegal s ts → Fits s ts
-fits s [] sound legal = record { turns = omega arith; marks = omega arith; count = omega arith }
+fits s [] sound legal = record { turns = omega arith; marks = omega arith; count = omega arith; breaks = omega arith }
 fits s (t ∷ ts) sound legal =
     let pays = turn_pays s t sound legal.0 in
     let rest = fits (after_turn s t) ts (turn_sound s t sound legal.0) legal.1 in
     let submits = sum_by-cons (λ u. one_if (is_submit u)) t ts in
     let settles = sum_by-cons (λ u. one_if (is_settle u)) t ts in
+    let breaks = sum_by-cons (λ u. one_if (is_break u)) t ts in
     record {
-      turns = omega (arith, rest.turns, pays.turn, submits);
+      turns = omega (arith, rest.turns, pays.turn, submits, breaks);
       marks = omega (arith, rest.marks, pays.marks, submits, settles);
       count = omega (arith, rest.count, pays.count, submits);
+      breaks = omega (arith, rest.breaks, pays.breaks, breaks);
     }
 
 pub sound : (s : State) (ts : List Turn) → IsSound s → IsLegal s ts → IsSound (replay s ts)

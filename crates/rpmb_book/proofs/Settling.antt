@@ -1,5 +1,5 @@
 -- A Settle to what was taken.
-use Rattle.std.proofs.Common.{◌≡◌, ◌<◌, ◌≤◌, ℕ, zero, suc, ◌+◌, true, false, ◌&&◌, ◌||◌, List, [], ◌∷◌, ◌++◌, Some, length, map, take, drop, refl, ap, ap₂, sym, ◌∙◌, arith, get_or, add-one}
+use Rattle.std.proofs.Common.{◌≡◌, ◌<◌, ◌≤◌, ℕ, zero, suc, ◌+◌, Bool, true, false, ◌&&◌, ◌||◌, List, [], ◌∷◌, ◌++◌, Some, length, map, take, drop, refl, ap, ap₂, sym, ◌∙◌, arith, get_or, add-one}
 use Rattle.std.specs.Prelude.{slice_get, nat_lt, nat_le}
 use Rattle.std.specs.List.{list_any}
 use Rattle.std.proofs.lemmas.List.{append-nil, drop_all, take_all, length-map}
@@ -9,7 +9,7 @@ use Rattle.rpmb_book.specs.Turn.{State, Settle, IsRight, move_some, are_within, 
 use Rattle.rpmb_book.specs.Replay.{replay}
 use Rattle.rpmb_book.specs.History.{HistoryView, settles_in}
 use Rattle.rpmb_book.specs.Kept.{IsKept}
-use Rattle.rpmb_book.specs.Book.{BookView, state, with_turn, after_settle, are_taken, is_taken, taken_marks}
+use Rattle.rpmb_book.specs.Book.{BookView, state, with_turn, after_settle_taken, are_taken, is_taken, taken_marks}
 use Rattle.rpmb_book.proofs.Kept.{kept_turn, room_for}
 use Rattle.rpmb_book.proofs.Submitting.{shown}
 
@@ -54,13 +54,13 @@ written_back n new old n_is same =
     ap (λ (r : List GuestState). take n (new ++ r)) (drop_all (length new) old (omega (arith, same))) ∙ ap (take n) (append-nil new) ∙ take_all n new (omega (arith, n_is, same))
 
 -- a Settle to what was taken, where it moves something
-pub record Settles (o : State) (h : HistoryView) (gs : List GuestState) (n : ℕ) : Type 0 where
+pub record Settles (o : State) (h : HistoryView) (gs : List GuestState) (broken : Bool) (n : ℕ) : Type 0 where
   pub room : length h.turns < 65537
   pub marks : settles_in h.turns < 16384
-  pub kept : (h' : HistoryView) (gs' : List GuestState) → h' ≡ record h { turns = h.turns ++ Settle (taken_marks gs) ∷ [] } → gs' ≡ settled_all gs (taken_marks gs) → IsKept o h' gs' n
+  pub kept : (h' : HistoryView) (gs' : List GuestState) → h' ≡ record h { turns = h.turns ++ Settle (taken_marks gs) ∷ [] } → gs' ≡ settled_all gs (taken_marks gs) → IsKept o h' gs' broken n
 
-pub settles : (o : State) (h : HistoryView) (gs : List GuestState) (n : ℕ) → IsKept o h gs n → list_any (λ g. nat_lt g.settled g.taken) gs ≡ true → Settles o h gs n
-settles o h gs n kept moves =
+pub settles : (o : State) (h : HistoryView) (gs : List GuestState) (broken : Bool) (n : ℕ) → IsKept o h gs broken n → list_any (λ g. nat_lt g.settled g.taken) gs ≡ true → Settles o h gs broken n
+settles o h gs broken n kept moves =
     let s = replay o h.turns in
     let marks = taken_marks gs in
     let right : IsRight s (Settle marks) = (
@@ -68,27 +68,27 @@ settles o h gs n kept moves =
       ap (λ (xs : List GuestState). are_within xs marks) (sym kept.guests_are) ∙ are_within-taken gs,
       ap (λ (xs : List GuestState). move_some xs marks) (sym kept.guests_are) ∙ move_some-taken gs ∙ moves,
     ) in
-    let room = room_for o h gs n kept (Settle marks) right refl in
+    let room = room_for o h gs broken n kept (Settle marks) right refl refl in
     record {
       room = room.0;
       marks = omega (arith, room.1);
-      kept = λ h' gs' h'_is gs'_is. kept_turn o h gs n kept (Settle marks) right gs' (gs'_is ∙ ap (λ (xs : List GuestState). settled_all xs marks) kept.guests_are) (ap length gs'_is ∙ length-settled_all gs marks) n (omega arith) kept.few h' h'_is;
+      kept = λ h' gs' h'_is gs'_is. kept_turn o h gs broken n kept (Settle marks) right gs' (gs'_is ∙ ap (λ (xs : List GuestState). settled_all xs marks) kept.guests_are) (ap length gs'_is ∙ length-settled_all gs marks) broken kept.broken_is n (omega arith) kept.few h' h'_is;
     }
 
-guests_shown : (life : ℕ) (o : State) (h : HistoryView) (gs : List GuestState) (n : ℕ) (v : BookView) → IsKept o h gs n → shown life o h ≡ v → gs ≡ (state v).guests
-guests_shown life o h gs n v kept is = kept.guests_are ∙ ap (λ b. (state b).guests) is
+pub guests_shown : (life : ℕ) (o : State) (h : HistoryView) (gs : List GuestState) (broken : Bool) (n : ℕ) (v : BookView) → IsKept o h gs broken n → shown life o h ≡ v → gs ≡ (state v).guests
+guests_shown life o h gs broken n v kept is = kept.guests_are ∙ ap (λ b. (state b).guests) is
 
-pub settled_some : (life : ℕ) (o : State) (h : HistoryView) (gs : List GuestState) (n : ℕ) (v : BookView) (shares : List ℕ) → IsKept o h gs n → shown life o h ≡ v → are_taken gs shares ≡ true → list_any (λ g. nat_lt g.settled g.taken) gs ≡ true
-    → (h' : HistoryView) → h' ≡ record h { turns = h.turns ++ Settle (taken_marks gs) ∷ [] } → shown life o h' ≡ after_settle v shares
-settled_some life o h gs n v shares kept is taken moves h' h'_is =
-    let same = guests_shown life o h gs n v kept is in
+pub settled_some : (life : ℕ) (o : State) (h : HistoryView) (gs : List GuestState) (broken : Bool) (n : ℕ) (v : BookView) (shares : List ℕ) → IsKept o h gs broken n → shown life o h ≡ v → are_taken gs shares ≡ true → list_any (λ g. nat_lt g.settled g.taken) gs ≡ true
+    → (h' : HistoryView) → h' ≡ record h { turns = h.turns ++ Settle (taken_marks gs) ∷ [] } → shown life o h' ≡ after_settle_taken v shares
+settled_some life o h gs broken n v shares kept is taken moves h' h'_is =
+    let same = guests_shown life o h gs broken n v kept is in
     let test : (are_taken (state v).guests shares && move_some (state v).guests (taken_marks (state v).guests)) ≡ true =
     ap (λ (xs : List GuestState). are_taken xs shares && move_some xs (taken_marks xs)) (sym same) ∙ ap₂ (λ a b. a && b) taken (move_some-taken gs ∙ moves) in
     ap (shown life o) h'_is ∙ ap (λ b. with_turn b (Settle (taken_marks gs))) is ∙ ap (λ (xs : List GuestState). with_turn v (Settle (taken_marks xs))) same ∙ sym (rw test refl)
 
-pub settled_none : (life : ℕ) (o : State) (h : HistoryView) (gs : List GuestState) (n : ℕ) (v : BookView) (shares : List ℕ) → IsKept o h gs n → shown life o h ≡ v → are_taken gs shares ≡ true → list_any (λ g. nat_lt g.settled g.taken) gs ≡ false → v ≡ after_settle v shares
-settled_none life o h gs n v shares kept is taken stays =
-    let same = guests_shown life o h gs n v kept is in
+pub settled_none : (life : ℕ) (o : State) (h : HistoryView) (gs : List GuestState) (broken : Bool) (n : ℕ) (v : BookView) (shares : List ℕ) → IsKept o h gs broken n → shown life o h ≡ v → are_taken gs shares ≡ true → list_any (λ g. nat_lt g.settled g.taken) gs ≡ false → v ≡ after_settle_taken v shares
+settled_none life o h gs broken n v shares kept is taken stays =
+    let same = guests_shown life o h gs broken n v kept is in
     let test : (are_taken (state v).guests shares && move_some (state v).guests (taken_marks (state v).guests)) ≡ false =
     ap (λ (xs : List GuestState). are_taken xs shares && move_some xs (taken_marks xs)) (sym same) ∙ ap₂ (λ a b. a && b) taken (move_some-taken gs ∙ stays) in
     sym (rw test refl)

@@ -1,10 +1,10 @@
 -- A job that isn't refused.
-use Rattle.std.proofs.Common.{◌≡◌, ◌≢◌, ◌<◌, ◌≤◌, ℕ, ◌+◌, List, [], ◌∷◌, ◌++◌, Some, None, length, set, refl, ap, sym, ◌∙◌, arith, get_or}
+use Rattle.std.proofs.Common.{◌≡◌, ◌≢◌, ◌<◌, ◌≤◌, ℕ, ◌+◌, Bool, List, [], ◌∷◌, ◌++◌, Some, None, length, set, refl, ap, sym, ◌∙◌, arith, get_or}
 use Rattle.std.specs.Prelude.{slice_get}
 use Rattle.std.proofs.lemmas.Option.{slice_get_within}
 use Rattle.mmio_transport.specs.Job.{Job}
 use Rattle.rpmb_book.specs.Job.{Tally, Submission}
-use Rattle.rpmb_book.specs.Guest.{GuestState, submitted, answer}
+use Rattle.rpmb_book.specs.Guest.{GuestState, submitted, answer_when}
 use Rattle.rpmb_book.specs.Turn.{Submit, State, IsRight, answer_of}
 use Rattle.rpmb_book.specs.Replay.{replay}
 use Rattle.rpmb_book.specs.History.{HistoryView}
@@ -25,9 +25,9 @@ pub record AnswersHere (o : State) (h : HistoryView) (n : ℕ) (tally : Tally) (
   pub few : g.submits ≤ 16384
   pub of_board : IsCoreOfBoard g.core
 
-pub answers_here : (life : ℕ) (o : State) (h : HistoryView) (gs : List GuestState) (n : ℕ) (v : BookView) (tally : Tally) (job : Job) (at : ℕ) (g : GuestState) → IsKept o h gs n
+pub answers_here : (life : ℕ) (o : State) (h : HistoryView) (gs : List GuestState) (broken : Bool) (n : ℕ) (v : BookView) (tally : Tally) (job : Job) (at : ℕ) (g : GuestState) → IsKept o h gs broken n
     → shown life o h ≡ v → None ≡ refusal v tally job → at ≡ job.guest → g ≡ get_or gs at g → AnswersHere o h n tally job g
-answers_here life o h gs n v tally job at g kept is none at_is read =
+answers_here life o h gs broken n v tally job at g kept is none at_is read =
     let s = replay o h.turns in
     let told = not_refused _ tally job (slice_get s.guests job.guest) (sym (none ∙ ap (λ b. refusal b tally job) (sym is))) in
     let inside : at < length gs = omega (arith, slice_get_within s.guests job.guest told.0 told.1, ap length kept.guests_are, at_is) in
@@ -37,32 +37,32 @@ answers_here life o h gs n v tally job at g kept is none at_is read =
       at = here;
       counts = told.2 ∙ ap (λ x. x.submits) same;
       more = λ e. told.3 (sym kept.counted ∙ e);
-      few = few_submits o h gs n job.guest g kept here;
+      few = few_submits o h gs broken n job.guest g kept here;
       of_board = core_at s job.guest g here (on_board o h.turns kept.of_board kept.legal);
     }
   where
     some_same : {x y : GuestState} → Some x ≡ Some y → x ≡ y
     some_same e = cc
 
-answer_here : (s : State) (job : Job) (g : GuestState) → slice_get s.guests job.guest ≡ Some g → answer g.core job ≡ answer_of s job
+answer_here : (s : State) (job : Job) (g : GuestState) → slice_get s.guests job.guest ≡ Some g → answer_when s.broken g.core job ≡ answer_of s job
 answer_here s job g at = rw at refl
 
-pub kept_submit : (o : State) (h : HistoryView) (gs : List GuestState) (n : ℕ) (tally : Tally) (job : Job) (g : GuestState) → IsKept o h gs n → AnswersHere o h n tally job g
-    → (w : Submission) → w ≡ record { job = job; reply = answer g.core job } → (at : ℕ) → at ≡ job.guest → (v : GuestState) → v ≡ submitted job g
-    → (h' : HistoryView) → h' ≡ record h { turns = h.turns ++ Submit w ∷ [] } → IsKept o h' (set gs at v) (n + 1)
-kept_submit o h gs n tally job g kept here w w_is at at_is v v_is h' h'_is =
+pub kept_submit : (o : State) (h : HistoryView) (gs : List GuestState) (broken : Bool) (n : ℕ) (tally : Tally) (job : Job) (g : GuestState) → IsKept o h gs broken n → AnswersHere o h n tally job g
+    → (w : Submission) → w ≡ record { job = job; reply = answer_when broken g.core job } → (at : ℕ) → at ≡ job.guest → (v : GuestState) → v ≡ submitted broken job g
+    → (h' : HistoryView) → h' ≡ record h { turns = h.turns ++ Submit w ∷ [] } → IsKept o h' (set gs at v) broken (n + 1)
+kept_submit o h gs broken n tally job g kept here w w_is at at_is v v_is h' h'_is =
     let s = replay o h.turns in
-    let u : Submission = record { job = job; reply = answer g.core job } in
+    let u : Submission = record { job = job; reply = answer_when s.broken g.core job } in
     let right : IsRight s (Submit u) = (slice_get_within s.guests job.guest g here.at, answer_here s job g here.at) in
-    kept_guest o h gs n kept (Submit u) right job.guest (submitted job) refl g here.at at at_is v v_is (n + 1) refl (omega (arith, here.more, kept.few)) h'
-    (h'_is ∙ ap (λ x. record h { turns = h.turns ++ Submit x ∷ [] }) w_is)
+    kept_guest o h gs broken n kept (Submit u) right job.guest (submitted s.broken job) refl g here.at at at_is v (v_is ∙ ap (λ b. submitted b job g) kept.broken_is) (n + 1) refl (omega (arith, here.more, kept.few)) h'
+    (h'_is ∙ ap (λ x. record h { turns = h.turns ++ Submit x ∷ [] }) (w_is ∙ ap (λ b. record { job = job; reply = answer_when b g.core job }) kept.broken_is))
 
 -- the book shows one turn more
-pub shows_submit : (life : ℕ) (o : State) (h : HistoryView) (n : ℕ) (v : BookView) (tally : Tally) (job : Job) (g : GuestState) → shown life o h ≡ v → AnswersHere o h n tally job g
-    → (w : Submission) → w ≡ record { job = job; reply = answer g.core job } → (h' : HistoryView) → h' ≡ record h { turns = h.turns ++ Submit w ∷ [] }
+pub shows_submit : (life : ℕ) (o : State) (h : HistoryView) (gs : List GuestState) (broken : Bool) (n : ℕ) (v : BookView) (tally : Tally) (job : Job) (g : GuestState) → IsKept o h gs broken n → shown life o h ≡ v → AnswersHere o h n tally job g
+    → (w : Submission) → w ≡ record { job = job; reply = answer_when broken g.core job } → (h' : HistoryView) → h' ≡ record h { turns = h.turns ++ Submit w ∷ [] }
     → shown life o h' ≡ with_turn v (submit_of v job)
-shows_submit life o h n v tally job g is here w w_is h' h'_is =
+shows_submit life o h gs broken n v tally job g kept is here w w_is h' h'_is =
     let s = replay o h.turns in
-    let u : w ≡ record { job = job; reply = answer_of s job } = w_is ∙ ap (λ (r : List ℕ). record { job = job; reply = r }) (answer_here s job g here.at) in
+    let u : w ≡ record { job = job; reply = answer_of s job } = w_is ∙ ap (λ (b : Bool). record { job = job; reply = answer_when b g.core job }) kept.broken_is ∙ ap (λ (r : List ℕ). record { job = job; reply = r }) (answer_here s job g here.at) in
     ap (shown life o) h'_is ∙ ap (λ (x : Submission). record { life = life; opening = o; history = h.turns ++ Submit x ∷ [] }) u
     ∙ ap (λ b. with_turn b (submit_of b job)) is

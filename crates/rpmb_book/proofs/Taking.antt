@@ -15,12 +15,12 @@ use Rattle.rpmb_book.proofs.Kept.{known, kept_guest, room_for}
 use Rattle.rpmb_book.proofs.Submitting.{shown}
 
 -- the state has this guest in this place
-pub record Stands (o : State) (h : HistoryView) (gs : List GuestState) (n : ℕ) (m : ℕ) (g : GuestState) : Type 0 where
-  pub kept : IsKept o h gs n
+pub record Stands (o : State) (h : HistoryView) (gs : List GuestState) (broken : Bool) (n : ℕ) (m : ℕ) (g : GuestState) : Type 0 where
+  pub kept : IsKept o h gs broken n
   pub at : slice_get (replay o h.turns).guests m ≡ Some g
 
-pub stands : (o : State) (h : HistoryView) (gs : List GuestState) (n m at : ℕ) (g : GuestState) → IsKept o h gs n → at ≡ m → at < length gs → g ≡ get_or gs at g → Stands o h gs n m g
-stands o h gs n m at g kept at_is lt read = record { kept = kept; at = known (replay o h.turns).guests gs at m g kept.guests_are at_is lt read }
+pub stands : (o : State) (h : HistoryView) (gs : List GuestState) (broken : Bool) (n m at : ℕ) (g : GuestState) → IsKept o h gs broken n → at ≡ m → at < length gs → g ≡ get_or gs at g → Stands o h gs broken n m g
+stands o h gs broken n m at g kept at_is lt read = record { kept = kept; at = known (replay o h.turns).guests gs at m g kept.guests_are at_is lt read }
 
 some_there : {X : Type 0} {x y : X} → Some x ≡ Some y → x ≡ y
 some_there e = cc
@@ -32,24 +32,24 @@ right_collect : (s : State) (m : ℕ) (g : GuestState) → slice_get s.guests m 
 right_collect s m g at due = (λ x is. subst (λ (y : GuestState). IsSome (first_due y.settled y.held)) (some_there (sym at ∙ is)) due, slice_get_within s.guests m g at)
 
 -- what a turn of one guest asks and leaves
-pub record TurnsGuest (o : State) (h : HistoryView) (gs : List GuestState) (n at : ℕ) (v : GuestState) (t : Turn) : Type 0 where
+pub record TurnsGuest (o : State) (h : HistoryView) (gs : List GuestState) (broken : Bool) (n at : ℕ) (v : GuestState) (t : Turn) : Type 0 where
   pub room : length h.turns < 65537
-  pub kept : (h' : HistoryView) → h' ≡ record h { turns = h.turns ++ t ∷ [] } → IsKept o h' (set gs at v) n
+  pub kept : (h' : HistoryView) → h' ≡ record h { turns = h.turns ++ t ∷ [] } → IsKept o h' (set gs at v) broken n
 
-pub takes : (o : State) (h : HistoryView) (gs : List GuestState) (n m at : ℕ) (g v : GuestState) → Stands o h gs n m g → is_some (first_intent g.waiting) ≡ true → at ≡ m → v ≡ took g → TurnsGuest o h gs n at v (Take m)
-takes o h gs n m at g v here waits at_is v_is =
+pub takes : (o : State) (h : HistoryView) (gs : List GuestState) (broken : Bool) (n m at : ℕ) (g v : GuestState) → Stands o h gs broken n m g → is_some (first_intent g.waiting) ≡ true → at ≡ m → v ≡ took g → TurnsGuest o h gs broken n at v (Take m)
+takes o h gs broken n m at g v here waits at_is v_is =
     let right = right_take (replay o h.turns) m g here.at waits in
     record {
-      room = (room_for o h gs n here.kept (Take m) right refl).0;
-      kept = λ h' is. kept_guest o h gs n here.kept (Take m) right m took refl g here.at at at_is v v_is n (omega arith) here.kept.few h' is;
+      room = (room_for o h gs broken n here.kept (Take m) right refl refl).0;
+      kept = λ h' is. kept_guest o h gs broken n here.kept (Take m) right m took refl g here.at at at_is v v_is n (omega arith) here.kept.few h' is;
     }
 
-pub collects : (o : State) (h : HistoryView) (gs : List GuestState) (n m at : ℕ) (g v : GuestState) → Stands o h gs n m g → is_some (first_due g.settled g.held) ≡ true → at ≡ m → v ≡ collected g → TurnsGuest o h gs n at v (Collect m)
-collects o h gs n m at g v here due at_is v_is =
+pub collects : (o : State) (h : HistoryView) (gs : List GuestState) (broken : Bool) (n m at : ℕ) (g v : GuestState) → Stands o h gs broken n m g → is_some (first_due g.settled g.held) ≡ true → at ≡ m → v ≡ collected g → TurnsGuest o h gs broken n at v (Collect m)
+collects o h gs broken n m at g v here due at_is v_is =
     let right = right_collect (replay o h.turns) m g here.at due in
     record {
-      room = (room_for o h gs n here.kept (Collect m) right refl).0;
-      kept = λ h' is. kept_guest o h gs n here.kept (Collect m) right m collected refl g here.at at at_is v v_is n (omega arith) here.kept.few h' is;
+      room = (room_for o h gs broken n here.kept (Collect m) right refl refl).0;
+      kept = λ h' is. kept_guest o h gs broken n here.kept (Collect m) right m collected refl g here.at at at_is v v_is n (omega arith) here.kept.few h' is;
     }
 
 -- the book shows one turn more
@@ -69,13 +69,13 @@ pub collected_is : (g v : GuestState) (d : Done) → Some d ≡ first_due g.sett
 collected_is g v d due is = is ∙ chosen (is_some (first_due g.settled g.held)) (collected g) g (some_is _ d due)
 
 -- the reply that leaves, and the book after it
-pub due_here : (life : ℕ) (o : State) (h : HistoryView) (gs : List GuestState) (n m : ℕ) (v : BookView) (g : GuestState) → Stands o h gs n m g → shown life o h ≡ v → first_due g.settled g.held ≡ due_of v m
-due_here life o h gs n m v g here is = sym (ap due_at here.at) ∙ ap (λ b. due_of b m) is
+pub due_here : (life : ℕ) (o : State) (h : HistoryView) (gs : List GuestState) (broken : Bool) (n m : ℕ) (v : BookView) (g : GuestState) → Stands o h gs broken n m g → shown life o h ≡ v → first_due g.settled g.held ≡ due_of v m
+due_here life o h gs broken n m v g here is = sym (ap due_at here.at) ∙ ap (λ b. due_of b m) is
 
-pub shows_collect : (life : ℕ) (o : State) (h : HistoryView) (gs : List GuestState) (n m : ℕ) (v : BookView) (g : GuestState) (d : Done) → Stands o h gs n m g → shown life o h ≡ v → Some d ≡ first_due g.settled g.held
+pub shows_collect : (life : ℕ) (o : State) (h : HistoryView) (gs : List GuestState) (broken : Bool) (n m : ℕ) (v : BookView) (g : GuestState) (d : Done) → Stands o h gs broken n m g → shown life o h ≡ v → Some d ≡ first_due g.settled g.held
     → (h' : HistoryView) → h' ≡ record h { turns = h.turns ++ Collect m ∷ [] } → shown life o h' ≡ after_collect v m
-shows_collect life o h gs n m v g d here is due h' h'_is =
-    shows_turn life o h v (Collect m) is h' h'_is ∙ sym (chosen (is_some (due_of v m)) (with_turn v (Collect m)) v (some_is (due_of v m) d (due ∙ due_here life o h gs n m v g here is)))
+shows_collect life o h gs broken n m v g d here is due h' h'_is =
+    shows_turn life o h v (Collect m) is h' h'_is ∙ sym (chosen (is_some (due_of v m)) (with_turn v (Collect m)) v (some_is (due_of v m) d (due ∙ due_here life o h gs broken n m v g here is)))
 
 -- a share that is the book's
 share_there : (o : Option GuestState) (p : Option ℕ) → is_taken o p ≡ true → (g : GuestState) × (o ≡ Some g)
@@ -83,14 +83,14 @@ share_there None p is = absurd (cc)
 share_there (Some g) None is = absurd (cc)
 share_there (Some g) (Some n) is = (g, refl)
 
-pub share_inside : (life : ℕ) (o : State) (h : HistoryView) (gs : List GuestState) (n : ℕ) (v : BookView) (shares : List ℕ) (m : ℕ) → IsKept o h gs n → shown life o h ≡ v → is_share v shares m ≡ true → m < length gs
-share_inside life o h gs n v shares m kept shows is =
+pub share_inside : (life : ℕ) (o : State) (h : HistoryView) (gs : List GuestState) (broken : Bool) (n : ℕ) (v : BookView) (shares : List ℕ) (m : ℕ) → IsKept o h gs broken n → shown life o h ≡ v → is_share v shares m ≡ true → m < length gs
+share_inside life o h gs broken n v shares m kept shows is =
     let g = share_there (guest_of v m) (slice_get shares m) is in
     let at : slice_get (replay o h.turns).guests m ≡ Some g.0 = ap (λ b. guest_of b m) shows ∙ g.1 in
     omega (arith, slice_get_within (replay o h.turns).guests m g.0 at, ap length kept.guests_are)
 
-pub next_here : (life : ℕ) (o : State) (h : HistoryView) (gs : List GuestState) (n m : ℕ) (v : BookView) (shares : List ℕ) (g : GuestState) → Stands o h gs n m g → shown life o h ≡ v → is_share v shares m ≡ true → next_intent v shares m ≡ first_intent g.waiting
-next_here life o h gs n m v shares g here is share =
+pub next_here : (life : ℕ) (o : State) (h : HistoryView) (gs : List GuestState) (broken : Bool) (n m : ℕ) (v : BookView) (shares : List ℕ) (g : GuestState) → Stands o h gs broken n m g → shown life o h ≡ v → is_share v shares m ≡ true → next_intent v shares m ≡ first_intent g.waiting
+next_here life o h gs broken n m v shares g here is share =
     chosen (is_share v shares m) (first_intent (waiting_of (guest_of v m))) None share ∙ ap (λ o. first_intent (waiting_of o)) (ap (λ b. guest_of b m) (sym is) ∙ here.at)
 
 pub take_answer_is : (v : BookView) (shares : List ℕ) (m : ℕ) (e : Option Intent) → is_share v shares m ≡ true → e ≡ next_intent v shares m → Ok e ≡ take_answer v shares m

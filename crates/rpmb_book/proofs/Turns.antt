@@ -3,7 +3,7 @@ use Rattle.std.proofs.Common.{◌≡◌, ◌≤◌, ◌<◌, ◌+◌, ◌*◌, �
 use Rattle.std.specs.Prelude.{slice_get, if◌then◌else◌}
 use Rattle.std.proofs.lemmas.List.{take-append-le, drop-append-le, take_all, append-nil}
 use Rattle.std.proofs.lemmas.List.Sums.{sum_by-cons}
-use Rattle.rpmb_book.specs.Turn.{Turn, Submit, Take, Settle, Collect}
+use Rattle.rpmb_book.specs.Turn.{Turn, Submit, Take, Settle, Collect, Break}
 use Rattle.rpmb_book.specs.History.{turns_of, marks_in, turn_of, has_marks, settles_in, is_settle}
 use Rattle.rpmb_book.specs.Book.{submission_of}
 use Rattle.rpmb_book.specs.Job.{Submission}
@@ -17,6 +17,7 @@ length-turns_of g (kept.Submit w ∷ rs) ms = ap suc (length-turns_of g rs ms)
 length-turns_of g (kept.Take n ∷ rs) ms = ap suc (length-turns_of g rs ms)
 length-turns_of g (kept.Settle ∷ rs) ms = ap suc (length-turns_of g rs (drop g ms))
 length-turns_of g (kept.Collect n ∷ rs) ms = ap suc (length-turns_of g rs ms)
+length-turns_of g (kept.Break ∷ rs) ms = ap suc (length-turns_of g rs ms)
 
 pub turns_of-append : (g : ℕ) (rs ss : List TurnRecord) (ms ns : List ℕ) → length ms ≡ marks_in g rs → turns_of g (rs ++ ss) (ms ++ ns) ≡ turns_of g rs ms ++ turns_of g ss ns
 turns_of-append g [] ss [] ns long = refl
@@ -28,6 +29,7 @@ turns_of-append g (kept.Settle ∷ rs) ss ms ns long =
     let rest : length (drop g ms) ≡ marks_in g rs = omega (arith, long, length-drop g ms) in
     rw (take-append-le g ms ns enough, drop-append-le g ms ns enough) (ap (λ ts. Settle (take g ms) ∷ ts) (turns_of-append g rs ss (drop g ms) ns rest))
 turns_of-append g (kept.Collect n ∷ rs) ss ms ns long = ap (λ ts. Collect n ∷ ts) (turns_of-append g rs ss ms ns long)
+turns_of-append g (kept.Break ∷ rs) ss ms ns long = ap (λ ts. Break ∷ ts) (turns_of-append g rs ss ms ns long)
 
 pub marks_in-push : (g : ℕ) (rs : List TurnRecord) (r : TurnRecord) → marks_in g (rs ++ r ∷ []) ≡ marks_in g rs + marks_in g (r ∷ [])
 marks_in-push g [] r = omega arith
@@ -35,12 +37,14 @@ marks_in-push g (kept.Submit w ∷ rs) r = marks_in-push g rs r
 marks_in-push g (kept.Take n ∷ rs) r = marks_in-push g rs r
 marks_in-push g (kept.Settle ∷ rs) r = omega (arith, marks_in-push g rs r)
 marks_in-push g (kept.Collect n ∷ rs) r = marks_in-push g rs r
+marks_in-push g (kept.Break ∷ rs) r = marks_in-push g rs r
 
 plain_turn : (g : ℕ) (r : TurnRecord) → has_marks r ≡ false → (turns_of g (r ∷ []) [] ≡ turn_of r ∷ []) × (marks_in g (r ∷ []) ≡ 0)
 plain_turn g (kept.Submit w) is = (refl, refl)
 plain_turn g (kept.Take n) is = (refl, refl)
 plain_turn g kept.Settle is = absurd (cc)
 plain_turn g (kept.Collect n) is = (refl, refl)
+plain_turn g kept.Break is = (refl, refl)
 
 pub push_plain : (g : ℕ) (rs : List TurnRecord) (ms : List ℕ) (r : TurnRecord) → length ms ≡ marks_in g rs → has_marks r ≡ false
     → (turns_of g (rs ++ r ∷ []) ms ≡ turns_of g rs ms ++ turn_of r ∷ []) × (length ms ≡ marks_in g (rs ++ r ∷ []))
@@ -70,6 +74,7 @@ marks_of_settles g (kept.Settle ∷ rs) ms =
     let twice : g * (1 + n) ≡ g * 1 + g * n = mul-add g 1 n in
     rw (more, rest, twice, mul-one g) refl
 marks_of_settles g (kept.Collect n ∷ rs) ms = marks_of_settles g rs ms
+marks_of_settles g (kept.Break ∷ rs) ms = marks_of_settles g rs ms
 
 abbrev pub submission_in : ℕ → Option TurnRecord → Option Submission
 submission_in n None = None
@@ -82,10 +87,12 @@ submission_at n g (kept.Submit w ∷ rs) ms zero = refl
 submission_at n g (kept.Take m ∷ rs) ms zero = refl
 submission_at n g (kept.Settle ∷ rs) ms zero = refl
 submission_at n g (kept.Collect m ∷ rs) ms zero = refl
+submission_at n g (kept.Break ∷ rs) ms zero = refl
 submission_at n g (kept.Submit w ∷ rs) ms (suc k) = submission_at n g rs ms k
 submission_at n g (kept.Take m ∷ rs) ms (suc k) = submission_at n g rs ms k
 submission_at n g (kept.Settle ∷ rs) ms (suc k) = submission_at n g rs (drop g ms) k
 submission_at n g (kept.Collect m ∷ rs) ms (suc k) = submission_at n g rs ms k
+submission_at n g (kept.Break ∷ rs) ms (suc k) = submission_at n g rs ms k
 
 -- a history with one more record that has no marks
 pub record Pushed (g : ℕ) (rs new : List TurnRecord) (ms : List ℕ) (t : Turn) : Type 0 where

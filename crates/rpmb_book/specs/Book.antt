@@ -5,7 +5,8 @@ use Rattle.mmio_transport.specs.Job.{Job, Done}
 use Rattle.intent_slots.specs.Payload.{Intent}
 use Rattle.rpmb_book.specs.Job.{Tally, Submission}
 use Rattle.rpmb_book.specs.Guest.{GuestState, first_intent, first_due, intent_sequence}
-use Rattle.rpmb_book.specs.Turn.{Turn, Submit, Take, Settle, Collect, State, answer_of, is_submit, move_some}
+use Rattle.rpmb_book.specs.Turn.{Turn, Submit, Take, Settle, Collect, Break, State, answer_of, are_within, is_submit, move_some}
+use Rattle.rpmb_book.specs.Marks.{marks_for}
 use Rattle.rpmb_book.specs.Replay.{replay}
 use Rattle.rpmb_book.specs.declared.refused.Refused.{Refused}
 use Rattle.rpmb_book.specs.declared.refused.Refused.TheVariants.{Foreign, Busy, HistoryFull}
@@ -84,13 +85,29 @@ are_taken (g ∷ gs) (n ∷ ns) = (g.taken == n) && are_taken gs ns
 abbrev pub taken_marks : List GuestState → List ℕ
 taken_marks gs = map (λ g. g.taken) gs
 
-abbrev pub settle_answer : BookView → List ℕ → Result (Unit {0}) Refused
-settle_answer b shares = if are_taken (state b).guests shares then Ok tt else Err Foreign
+-- what a settling to all that was taken answers, and makes of the book
+abbrev pub settle_taken_answer : BookView → List ℕ → Result (Unit {0}) Refused
+settle_taken_answer b shares = if are_taken (state b).guests shares then Ok tt else Err Foreign
 
-abbrev pub after_settle : BookView → List ℕ → BookView
-after_settle b shares =
+abbrev pub after_settle_taken : BookView → List ℕ → BookView
+after_settle_taken b shares =
     let marks = taken_marks (state b).guests in
     if are_taken (state b).guests shares && move_some (state b).guests marks then with_turn b (Settle marks) else b
+
+-- a settling to these marks isn't refused
+abbrev pub may_settle : BookView → List ℕ → List ℕ → Bool
+may_settle b shares marks = are_taken (state b).guests shares && are_within (state b).guests marks
+
+abbrev pub settle_answer : BookView → List ℕ → List ℕ → Result (Unit {0}) Refused
+settle_answer b shares marks = if may_settle b shares marks then Ok tt else Err Foreign
+
+abbrev pub after_settle : BookView → List ℕ → List ℕ → BookView
+after_settle b shares marks =
+    if may_settle b shares marks && move_some (state b).guests marks then with_turn b (Settle (marks_for (length (state b).guests) marks)) else b
+
+-- a Break, where none was yet
+abbrev pub after_break_off : BookView → BookView
+after_break_off b = if (state b).broken then b else with_turn b Break
 
 -- the first held reply of the guest, where it may leave
 abbrev pub due_at : Option GuestState → Option Done
@@ -110,6 +127,7 @@ submission_of n (Some (Submit w)) = if w.job.guest == n then Some w else None
 submission_of n (Some (Take g)) = None
 submission_of n (Some (Settle marks)) = None
 submission_of n (Some (Collect g)) = None
+submission_of n (Some Break) = None
 
 -- the Submit that a receipt names
 abbrev pub found_by : BookView → Receipt → Option Submission

@@ -1,6 +1,6 @@
 -- A history as it lies in memory: the marks of all Settle turns stand in one list, so many for each as there are guests.
 use Rattle.std.specs.Prelude.{ℕ, ◌≡◌, ◌≤◌, ◌+◌, ◌*◌, Bool, true, false, List, [], ◌∷◌, length, take, drop, count_by}
-use Rattle.rpmb_book.specs.Turn.{Turn, Submit, Take, Settle, Collect}
+use Rattle.rpmb_book.specs.Turn.{Turn, Submit, Take, Settle, Collect, Break}
 use Rattle.rpmb_book.specs.declared.history.TurnRecord.{TurnRecord}
 use Rattle.rpmb_book.specs.declared.history.TurnRecord.TheVariants as kept
 
@@ -16,12 +16,14 @@ turns_of guests (kept.Submit w ∷ rs) marks = Submit w ∷ turns_of guests rs m
 turns_of guests (kept.Take n ∷ rs) marks = Take n ∷ turns_of guests rs marks
 turns_of guests (kept.Settle ∷ rs) marks = Settle (take guests marks) ∷ turns_of guests rs (drop guests marks)
 turns_of guests (kept.Collect n ∷ rs) marks = Collect n ∷ turns_of guests rs marks
+turns_of guests (kept.Break ∷ rs) marks = Break ∷ turns_of guests rs marks
 
 abbrev pub is_settle : Turn → Bool
 is_settle (Settle marks) = true
 is_settle (Submit w) = false
 is_settle (Take n) = false
 is_settle (Collect n) = false
+is_settle Break = false
 
 -- how many turns have marks
 abbrev pub settles_in : List Turn → ℕ
@@ -34,6 +36,7 @@ marks_in guests (kept.Submit w ∷ rs) = marks_in guests rs
 marks_in guests (kept.Take n ∷ rs) = marks_in guests rs
 marks_in guests (kept.Settle ∷ rs) = guests + marks_in guests rs
 marks_in guests (kept.Collect n ∷ rs) = marks_in guests rs
+marks_in guests (kept.Break ∷ rs) = marks_in guests rs
 
 -- the turn of a record that has no marks
 abbrev pub turn_of : TurnRecord → Turn
@@ -41,12 +44,14 @@ turn_of (kept.Submit w) = Submit w
 turn_of (kept.Take n) = Take n
 turn_of kept.Settle = Settle []
 turn_of (kept.Collect n) = Collect n
+turn_of kept.Break = Break
 
 abbrev pub has_marks : TurnRecord → Bool
 has_marks (kept.Submit w) = false
 has_marks (kept.Take n) = false
 has_marks kept.Settle = true
 has_marks (kept.Collect n) = false
+has_marks kept.Break = false
 
 -- each Settle has its marks, and there is room for 65,537 turns, 16,384 of which may be Settles
 pub record IsKeptHistory (guests : ℕ) (records : List TurnRecord) (marks : List ℕ) (capacity marks_capacity : ℕ) : Type 0 where

@@ -1,6 +1,7 @@
 pub mod Job
 pub mod Guest
 pub mod Turn
+pub mod Marks
 pub mod Replay
 pub mod Planned
 pub mod History

@@ -2,7 +2,8 @@ ghost use Rattle.std.specs.Prelude.{◌≡◌, ◌≤◌, ◌+◌, ◌<◌, ℕ,
 ghost use Rattle.rpmb_frame.specs.Partition.{sequence};
 ghost use Rattle.rpmb_book.specs.Opening.{tallies_from};
 ghost use Rattle.rpmb_book.specs.Replay.{opened, IsLegal};
-ghost use Rattle.rpmb_book.specs.Book.{BookView, state, guest_of, submits_in, with_turn, submit_of, refusal, is_share, is_taken, take_answer, after_take, next_intent, share_moved, are_taken, settle_answer, after_settle, due_of, after_collect, found_by, taken_marks};
+ghost use Rattle.rpmb_book.specs.Book.{BookView, state, guest_of, submits_in, with_turn, submit_of, refusal, is_share, is_taken, take_answer, after_take, next_intent, share_moved, are_taken, settle_answer, after_settle, settle_taken_answer, after_settle_taken, after_break_off, due_of, after_collect, found_by, taken_marks};
+ghost use Rattle.rpmb_book.specs.Guest.{broken_off};
 ghost use Rattle.std.specs.List.{list_any};
 ghost use Rattle.std.specs.Option.{option_copied};
 ghost use Rattle.rpmb_book.specs.Asked.{answered_in};
@@ -13,10 +14,12 @@ ghost use Rattle.rpmb_book.specs.Receipt.{turn_seen, submission_seen};
 
 use crate::guest_state::GuestState;
 use crate::history::{History, TurnRecord};
+use crate::marks::{are_within, move_some, settle_each};
 use crate::opening::{copied_guests, guests, sequences, tallies};
 use crate::receipt::{Receipt, TurnView};
 use crate::refused::Refused;
 use crate::tally::{Shares, Tally};
+use flusher::Marks;
 use intent_slots::Intent;
 use mmio_transport::{Done, Job};
 use rpmb_core::{NoMemory, Partition};
@@ -37,6 +40,7 @@ pub struct Book {
     life: u64,
     opening: Vec<GuestState>,
     guests: Vec<GuestState>,
+    broken: bool,
     submits: u64,
     history: History,
     /// Where a reply is built: no request has to clear or make it.
@@ -44,14 +48,15 @@ pub struct Book {
 }
 
 impl Model for Book {
+    ghost use Rattle.std.specs.Prelude.{false};
     ghost use Rattle.rpmb_book.specs.Book.{BookView};
     ghost use Rattle.rpmb_book.specs.Kept.{IsKept};
 
     ghost Value = { BookView };
 
-    ghost view = { λ b. record { life = b.life; opening = record { guests = b.opening.items }; history = b.history.turns } };
+    ghost view = { λ b. record { life = b.life; opening = record { guests = b.opening.items; broken = false }; history = b.history.turns } };
 
-    ghost invariant = { λ b. IsKept (record { guests = b.opening.items }) b.history b.guests.items b.submits };
+    ghost invariant = { λ b. IsKept (record { guests = b.opening.items; broken = false }) b.history b.guests.items b.broken b.submits };
 }
 
 impl Book {
@@ -79,6 +84,7 @@ impl Book {
             life,
             opening,
             guests,
+            broken: false,
             submits: 0,
             history,
             reply,
@@ -106,7 +112,8 @@ impl Book {
     }
 
     /// Answers a job: the partition, the stored outcome and the waiting intents change as its request
-    /// says, and its reply is held until its need is settled. A refusal gives the job back and changes
+    /// says, and its reply is held until its need is settled. A broken book accepts nothing: the reply
+    /// is a failure, which may leave at once, and nothing else changes. A refusal gives the job back and changes
     /// nothing. It is the first of these that applies: `Foreign` where the book lacks the job's guest,
     /// or the tally isn't of that guest, or not its count of Submits; `Busy` where the guest has 64
     /// held replies; `HistoryFull` where 16,384 Submits stand; `NoMemory`.
@@ -133,7 +140,7 @@ impl Book {
             number: self.history.len() as u64,
         };
         let guest = &mut self.guests[usize::from(job.guest())];
-        let made = match guest.submit(alloc, job, &mut self.reply) {
+        let made = match guest.submit(alloc, job, self.broken, &mut self.reply) {
             Err(job) => return Err((job, Refused::NoMemory)),
             Ok(made) => made,
         };
@@ -180,8 +187,8 @@ impl Book {
     /// Settles all that was taken, as a store does that has written and synced it. `Foreign` exactly
     /// where the share of some guest isn't its taken sequence; then nothing changes. It takes no memory.
     pub fn settle_taken(&mut self, shares: &Shares) -> Result<(), Refused>
-        ensures answer { result ≡ settle_answer self.old shares.now }
-        ensures book { self.new ≡ after_settle self.old shares.now }
+        ensures answer { result ≡ settle_taken_answer self.old shares.now }
+        ensures book { self.new ≡ after_settle_taken self.old shares.now }
     {
         if !are_taken(&self.guests, shares) {
             return Err(Refused::Foreign);
@@ -191,6 +198,46 @@ impl Book {
             settle_all(&mut self.guests);
         }
         Ok(())
+    }
+
+    /// Settles what a store has, by the marks of a sync. `Foreign` exactly where the share of some guest
+    /// isn't its taken sequence, or a mark is above it; then nothing changes. A mark below what is
+    /// settled moves nothing, and marks of guests that the book lacks aren't looked at. It takes no
+    /// memory.
+    pub fn settle(&mut self, shares: &Shares, marks: Marks) -> Result<(), Refused>
+        ensures answer { result ≡ settle_answer self.old shares.now marks }
+        ensures book { self.new ≡ after_settle self.old shares.now marks }
+    {
+        let marks = marks.sequences();
+        if !are_taken(&self.guests, shares) || !are_within(&self.guests, marks) {
+            return Err(Refused::Foreign);
+        }
+        if move_some(&self.guests, marks) {
+            self.history.push_marks(marks);
+            settle_each(&mut self.guests, marks);
+        }
+        Ok(())
+    }
+
+    /// Tells the book that its store broke. From then on held replies that are settled leave as they
+    /// are, the others are failures, and nothing more is accepted. A second one changes nothing. It
+    /// takes no memory.
+    pub fn break_off(&mut self)
+        ensures { self.new ≡ after_break_off self.old }
+    {
+        if self.broken {
+            return;
+        }
+        self.history.push(TurnRecord::Break);
+        break_all(&mut self.guests);
+        self.broken = true;
+    }
+
+    /// Whether its store broke.
+    pub fn is_broken(&self) -> bool
+        ensures { result ≡ (state self.now).broken }
+    {
+        self.broken
     }
 
     /// Gives the guest's oldest held reply, where its need is settled; None where it isn't, where none
@@ -328,5 +375,13 @@ fn settle_all(guests: &mut [GuestState])
     for guest in guests.iter_mut() {
         let mark = guest.taken();
         guest.settle(mark);
+    }
+}
+
+fn break_all(guests: &mut [GuestState])
+    ensures { guests.new ≡ map broken_off guests.old }
+{
+    for guest in guests.iter_mut() {
+        guest.break_off();
     }
 }

@@ -1,16 +1,17 @@
-ghost use Rattle.std.specs.Prelude.{◌≡◌, ◌≤◌, ◌^◌, if◌then◌else◌, IfOk, None, Some, true, length};
+ghost use Rattle.std.specs.Prelude.{◌≡◌, ◌≤◌, ◌<◌, ◌^◌, if◌then◌else◌, IfOk, None, Some, true, length};
 ghost use Rattle.mmio_transport.specs.Job.{room_of};
 ghost use Rattle.rpmb_frame.specs.Partition.{Partition};
 ghost use Rattle.rpmb_core.specs.Verdict.{verdict};
 ghost use Rattle.rpmb_core.specs.Accept.{data_of, is_accepted, partition_after};
-ghost use Rattle.rpmb_book.specs.Guest.{stored, core_after, outcome_in, answer, need, intent, intent_of, entry_of, blocks_in};
+ghost use Rattle.rpmb_core.specs.Reply.{failure_kind};
+ghost use Rattle.rpmb_book.specs.Guest.{stored, core_after, outcome_in, answer, answer_when, need, intent, intent_of, entry_of, blocks_in, request_of};
 ghost use Rattle.rpmb_book.specs.Sound.{IsCoreOfBoard};
 ghost use Rattle.intent_slots.specs.Payload.{EntryFits};
 ghost use Rattle.rpmb_book.specs.Planned.{IsPlanned};
 
 use intent_slots::{Entry, Intent};
 use mmio_transport::Job;
-use rpmb_core::{NoMemory, OK, Outcome, Partition, is_change};
+use rpmb_core::{GENERAL_FAILURE, NoMemory, OK, Outcome, Partition, failure_kind, is_change};
 use rpmb_frame::{Command, Frame, Limits, Request};
 use std::alloc::{AllocError, Global};
 use std::marker::Model;
@@ -48,14 +49,23 @@ pub struct Plan {
     pub blocks: Vec<u8>,
 }
 
-/// The answer to a job: its reply twice, what has to be settled before the reply may leave, and the
-/// intent of an accepted request.
+/// The answer to a job: its reply twice, what has to be settled before the reply may leave, the type
+/// of the failure reply to its request, and the intent of an accepted one.
 #[derive(Drop)]
 pub struct Answer {
     pub reply: Vec<u8>,
     pub copy: Vec<u8>,
     pub need: u64,
+    pub kind: u16,
     pub intent: Option<Intent>,
+}
+
+/// The failure reply to a job, twice, and its type.
+#[derive(Drop)]
+pub struct Failure {
+    pub reply: Vec<u8>,
+    pub copy: Vec<u8>,
+    pub kind: u16,
 }
 
 impl GuestCore {
@@ -110,8 +120,10 @@ impl GuestCore {
         ensures core { self.new ≡ core_after self.old job.now }
         ensures reply { result.reply.items ≡ answer self.old job.now }
         ensures fits { length result.reply.items ≤ room_of job.now }
+        ensures frames { 0 < length result.reply.items → 512 ≤ length result.reply.items }
         ensures copy { result.copy.items ≡ answer self.old job.now }
         ensures need { result.need ≡ need self.old job.now }
+        ensures kind { result.kind ≡ failure_kind (request_of self.old job.now).command }
         ensures intent { result.intent ≡ intent self.old job.now }
     {
         let request = Request::classify(job.request(), job.writable(), self.limits);
@@ -135,8 +147,46 @@ impl GuestCore {
             reply,
             copy,
             need: self.partition.sequence(),
+            kind: failure_kind(&request),
             intent,
         }
+    }
+
+    /// The failure reply to a job of a broken book, built in `out`.
+    pub fn failure(
+        &self,
+        alloc: Global,
+        job: &Job,
+        out: &mut [u8; 8192],
+    ) -> Result<Failure, NoMemory>
+        ensures reply { IfOk result (λ f. f.reply.items ≡ answer_when true self.now job.now) }
+        ensures fits { IfOk result (λ f. length f.reply.items ≤ room_of job.now) }
+        ensures frames { IfOk result (λ f. 0 < length f.reply.items → 512 ≤ length f.reply.items) }
+        ensures copy { IfOk result (λ f. f.copy.items ≡ answer_when true self.now job.now) }
+        ensures kind { IfOk result (λ f. f.kind ≡ failure_kind (request_of self.now job.now).command) }
+    {
+        let request = Request::classify(job.request(), job.writable(), self.limits);
+        let len = Partition::failure(&request, GENERAL_FAILURE, out);
+        let Ok(mut reply) = zeros(alloc, len) else {
+            return Err(AllocError);
+        };
+        let Ok(mut copy) = zeros(alloc, len) else {
+            return Err(AllocError);
+        };
+        reply.copy_from_slice(&out[..len]);
+        copy.copy_from_slice(&out[..len]);
+        Ok(Failure {
+            reply,
+            copy,
+            kind: failure_kind(&request),
+        })
+    }
+
+    /// Forgets the stored outcome.
+    pub fn forget(&mut self)
+        ensures { self.new ≡ record self.old { last = None } }
+    {
+        self.last = None;
     }
 }
 

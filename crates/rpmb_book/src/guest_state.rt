@@ -1,8 +1,9 @@
 ghost use Rattle.std.specs.Prelude.{◌≡◌, ◌+◌, ◌-◌, ◌<◌, ◌^◌, IfOk, IfErr, if◌then◌else◌, is_some, length};
 ghost use Rattle.rpmb_book.specs.Sound.{IsCoreOfBoard};
-ghost use Rattle.rpmb_book.specs.Guest.{submitted, answer, took, settled_at, collected, first_due, first_intent, fresh};
+ghost use Rattle.std.specs.Prelude.{Bool, true, false, map};
+ghost use Rattle.rpmb_book.specs.Guest.{submitted, answer_when, took, settled_at, collected, broken_off, kept_or_failed, first_due, first_intent, fresh};
 
-use crate::guest_core::{Answer, GuestCore};
+use crate::guest_core::{Answer, Failure, GuestCore};
 use crate::held::Held;
 use crate::history::Submission;
 use intent_slots::Intent;
@@ -77,9 +78,57 @@ impl GuestState {
         self.held.len()
     }
 
-    /// Answers a job, whose reply is built in `out`, and hands it back where memory is refused. All
-    /// growths come first.
+    /// Answers a job of a book that is broken, or isn't. The reply is built in `out`; the job comes
+    /// back where memory is refused. All growths come first.
     pub fn submit(
+        &mut self,
+        alloc: Global,
+        job: Job,
+        broken: bool,
+        out: &mut [u8; 8192],
+    ) -> Result<Submission, Job>
+        requires few { self.old.submits < 2 ^ 64 - 1 }
+        requires board { IsCoreOfBoard self.old.core }
+        ensures ok { IfOk result (λ w. w ≡ record { job = job; reply = answer_when broken self.old.core job }) }
+        ensures state { IfOk result (λ w. self.new ≡ submitted broken job self.old) }
+        ensures err { IfErr result (λ j. (j ≡ job) × (self.new ≡ self.old)) }
+    {
+        if broken {
+            self.submit_failure(alloc, job, out)
+        } else {
+            self.submit_answer(alloc, job, out)
+        }
+    }
+
+    /// Answers a job with a failure, since the store broke: nothing is accepted.
+    fn submit_failure(
+        &mut self,
+        alloc: Global,
+        job: Job,
+        out: &mut [u8; 8192],
+    ) -> Result<Submission, Job>
+        requires few { self.old.submits < 2 ^ 64 - 1 }
+        ensures ok { IfOk result (λ w. w ≡ record { job = job; reply = answer_when true self.old.core job }) }
+        ensures state { IfOk result (λ w. self.new ≡ submitted true job self.old) }
+        ensures err { IfErr result (λ j. (j ≡ job) × (self.new ≡ self.old)) }
+    {
+        let Ok(failure) = self.core.failure(alloc, &job, out) else {
+            return Err(job);
+        };
+        let Ok(held_job) = job.for_reply(alloc) else {
+            return Err(job);
+        };
+        if self.held.reserve(1).is_err() {
+            return Err(job);
+        }
+        let Failure { reply, copy, kind } = failure;
+        self.held.push_reserved(Held::of(held_job, reply, 0, kind));
+        self.submits += 1;
+        Ok(Submission::of(job, copy))
+    }
+
+    /// Answers a job by its request.
+    fn submit_answer(
         &mut self,
         alloc: Global,
         job: Job,
@@ -87,8 +136,8 @@ impl GuestState {
     ) -> Result<Submission, Job>
         requires few { self.old.submits < 2 ^ 64 - 1 }
         requires board { IsCoreOfBoard self.old.core }
-        ensures ok { IfOk result (λ w. w ≡ record { job = job; reply = answer self.old.core job }) }
-        ensures state { IfOk result (λ w. self.new ≡ submitted job self.old) }
+        ensures ok { IfOk result (λ w. w ≡ record { job = job; reply = answer_when false self.old.core job }) }
+        ensures state { IfOk result (λ w. self.new ≡ submitted false job self.old) }
         ensures err { IfErr result (λ j. (j ≡ job) × (self.new ≡ self.old)) }
     {
         let Ok(plan) = self.core.plan(alloc, &job) else {
@@ -107,9 +156,11 @@ impl GuestState {
             reply,
             copy,
             need,
+            kind,
             intent,
         } = self.core.carry_out(&job, plan, out);
-        self.held.push_reserved(Held::of(held_job, reply, need));
+        self.held
+            .push_reserved(Held::of(held_job, reply, need, kind));
         match intent {
             None => {}
             Some(intent) => self.waiting.push_reserved(intent),
@@ -138,6 +189,15 @@ impl GuestState {
         self.settled = self.settled.max(mark);
     }
 
+    /// The store broke: the stored outcome goes, and of the held replies those that aren't settled
+    /// become failures. It takes no memory.
+    pub fn break_off(&mut self)
+        ensures { self.new ≡ broken_off self.old }
+    {
+        self.core.forget();
+        break_held(&mut self.held, self.settled);
+    }
+
     /// Gives the first held reply, where its need is settled.
     pub fn collect(&mut self) -> Option<Done>
         ensures done { result ≡ first_due self.old.settled self.old.held }
@@ -147,5 +207,13 @@ impl GuestState {
             return None;
         }
         Some(self.held.remove(0).done())
+    }
+}
+
+fn break_held(held: &mut [Held], settled: u64)
+    ensures { held.new ≡ map (kept_or_failed settled) held.old }
+{
+    for reply in held.iter_mut() {
+        reply.break_off(settled);
     }
 }

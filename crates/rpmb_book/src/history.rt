@@ -3,8 +3,10 @@ ghost use Rattle.std.specs.Option.{option_copied};
 ghost use Rattle.rpmb_book.specs.Turn.{Settle};
 ghost use Rattle.rpmb_book.specs.History.{turn_of, has_marks, settles_in};
 ghost use Rattle.rpmb_book.specs.Book.{submission_of, taken_marks};
+ghost use Rattle.rpmb_book.specs.Marks.{marks_for};
 
 use crate::guest_state::GuestState;
+use crate::marks::mark_at;
 use mmio_transport::Job;
 use std::alloc::{AllocError, Global};
 use std::marker::Model;
@@ -57,6 +59,7 @@ pub enum TurnRecord {
     Take(u16),
     Settle,
     Collect(u16),
+    Break,
 }
 
 impl TurnRecord {
@@ -72,7 +75,8 @@ impl TurnRecord {
                     None
                 }
             }
-            TurnRecord::Take(_) | TurnRecord::Settle | TurnRecord::Collect(_) => None,
+            TurnRecord::Take(_) | TurnRecord::Settle | TurnRecord::Collect(_) | TurnRecord::Break =>
+                None,
         }
     }
 }
@@ -136,6 +140,16 @@ impl History {
         self.records.push_reserved(TurnRecord::Settle);
     }
 
+    /// Appends a Settle to the marks of a store, 0 for a guest that it lacks.
+    pub fn push_marks(&mut self, marks: &[u64])
+        requires room { length self.old.turns < 65_537 }
+        requires room_for_marks { settles_in self.old.turns < 16_384 }
+        ensures { self.new ≡ record self.old { turns = self.old.turns ++ Settle (marks_for self.old.guests marks.now) ∷ [] } }
+    {
+        push_each(&mut self.marks, self.guests, marks);
+        self.records.push_reserved(TurnRecord::Settle);
+    }
+
     /// The Submit of a guest that is the turn with this number.
     pub fn submission(&self, guest: u16, number: usize) -> Option<&Submission>
         ensures { option_copied result ≡ submission_of guest (slice_get self.now.turns number) }
@@ -154,5 +168,15 @@ fn push_taken(marks: &mut Vec<u64>, guests: &[GuestState])
 {
     for guest in guests {
         marks.push_reserved(guest.taken());
+    }
+}
+
+fn push_each(kept: &mut Vec<u64>, guests: usize, marks: &[u64])
+    requires { vec_len kept.old + guests ≤ vec_capacity kept.old }
+    ensures items { kept.new.items ≡ kept.old.items ++ marks_for guests marks.now }
+    ensures capacity { vec_capacity kept.new ≡ vec_capacity kept.old }
+{
+    for i in 0..guests {
+        kept.push_reserved(mark_at(marks, i).unwrap_or(0));
     }
 }

@@ -5,34 +5,35 @@ ghost use Rattle.rpmb_book.specs.Asked.{IsAfterItsJobs, IsCountedOnItsJobs, answ
 ghost use Rattle.rpmb_book.specs.Kept.{IsFresh};
 ghost use Rattle.rpmb_book.specs.Given.{IsLedOn};
 ghost use Rattle.rpmb_book.specs.Guest.{GuestState};
-ghost use Rattle.rpmb_book.specs.Isolation.{IsIsolated, IsToldAsAlone, jobs_of, told, told_alone};
+ghost use Rattle.rpmb_book.specs.Isolation.{HasNoBreak, IsIsolated, IsToldAsAlone, jobs_of, told, told_alone};
 ghost use Rattle.rpmb_book.specs.Outcome.{IsOutcomeOfTheList};
 ghost use Rattle.rpmb_book.specs.Sound.{AreOfBoard, IsAskedByBytes, IsIntentOfTheRequest, IsSound, StaysOfBoard};
 
 use crate::book::Book;
 
-/// The replies to a guest and their needs are a function of that guest's own jobs.
+/// The replies to a guest and their needs are a function of that guest's own jobs, while no store breaks.
 pub fn guests_are_isolated()
     ensures alone { IsToldAsAlone }
     ensures isolated { IsIsolated }
 {}
 
-/// On this book each guest was told what it would be told alone.
+/// On this book, whose store didn't break, each guest was told what it would be told alone.
 pub fn told_as_alone(book: &Book)
-    ensures { (g : ℕ) (x : GuestState) → slice_get book.now.opening.guests g ≡ Some x
+    ensures { (g : ℕ) (x : GuestState) → HasNoBreak book.now.history → slice_get book.now.opening.guests g ≡ Some x
         → told g book.now.opening book.now.history ≡ told_alone x.core (jobs_of g book.now.history) }
 {
     book.what_always_holds();
 }
 
-/// The stored outcome is that of the list of a guest's answers: among those at the end that have the
+/// The stored outcome is that of the list of a guest's answers, which a Break empties: among those at the end that have the
 /// session of the last one, the last PROGRAM_KEY or DATA_WRITE.
 pub fn outcome_is_of_the_list()
     ensures { IsOutcomeOfTheList }
 {}
 
 /// Each guest has the partition that its own requests leave, one after another, whatever turns of
-/// others stand between; its sequence grows by those that are accepted, and each job is counted.
+/// others stand between, and after a Break none more; its sequence grows by those that are accepted,
+/// and each job is counted.
 pub fn guests_are_after_their_jobs()
     ensures after { IsAfterItsJobs }
     ensures counted { IsCountedOnItsJobs }

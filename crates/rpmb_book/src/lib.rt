@@ -8,6 +8,7 @@ mod guest_state;
 mod held;
 mod history;
 pub mod laws;
+mod marks;
 mod opening;
 mod receipt;
 mod refused;

@@ -11,6 +11,7 @@ use Rattle.rpmb_frame.proofs.Lengths.{length-zero_frame, length-with_result, len
 use Rattle.rpmb_core.specs.Verdict.{verdict, verdict_on}
 use Rattle.rpmb_core.specs.Reply.{GivesBlocks, is_answered, reply, reply_length, failure, failure_frame, failure_kind, failed}
 use Rattle.rpmb_core.specs.Sent.{FailuresTakeThePlace}
+use Rattle.rpmb_core.proofs.Fitting.{HasRoom, has_room}
 use Rattle.rpmb_core.proofs.Passing.{by_test}
 use Rattle.rpmb_core.proofs.Rightness.{read_passed}
 use Rattle.rpmb_core.proofs.Sent.{replies_have_their_length}
@@ -69,3 +70,38 @@ failures_take_the_place p bytes writable limits code failing last whole gives =
     let P : ℕ → Type 0 = λ n. IsAsAnswered (is_answered r.command r.writable) n in
     let all = takes (is_answered r.command r.writable) (failure_kind r.command) failing (reply p r code last) (subst P (sym long) is) in
     record { replaced = all.replaced; never_longer = all.never_longer; room = all.room }
+
+-- a failure reply has room, and is one frame or nothing
+pub record IsFrameOrNothing (bytes : List ℕ) (writable : ℕ) : Type 0 where
+  pub fits : length bytes ≤ writable
+  pub frame : 0 < length bytes → 512 ≤ length bytes
+
+answered_room : (command : Command) (writable : ℕ) → HasRoom writable command → is_answered command writable ≡ true → 512 ≤ writable
+answered_room (ProgramKey frame combined) writable room is = room is
+answered_room (DataWrite frames combined) writable room is = room is
+answered_room (GetWriteCounter frame) writable room is = grind (arith, nat_tests)
+answered_room (DataRead frame) writable room is = grind (arith, nat_tests)
+answered_room ResultRead writable room is = grind (arith, nat_tests)
+answered_room Malformed writable room is = grind (arith, nat_tests)
+
+pub frame_or_nothing : (answered : Bool) (kind code writable : ℕ) → (answered ≡ true → 512 ≤ writable) → IsFrameOrNothing (if answered then failure_frame kind code else []) writable
+frame_or_nothing true kind code writable room =
+    let long = length-failure_frame kind code in
+    let enough = room refl in
+    record { fits = omega (arith, long, enough); frame = λ some. omega (arith, long) }
+frame_or_nothing false kind code writable room = record { fits = omega arith; frame = λ some. omega (arith, some) }
+
+pub failure_fits : (bytes : List ℕ) (writable : ℕ) (limits : Limits) (code : ℕ) → IsFrameOrNothing (failure (request bytes writable limits) code) writable
+unfolding failure request
+failure_fits bytes writable limits code =
+    let r = request bytes writable limits in
+    frame_or_nothing (is_answered r.command r.writable) (failure_kind r.command) code writable (answered_room r.command writable (has_room bytes writable limits))
+
+-- and so is one that takes the place of a reply
+pub failed_fits : (kind code : ℕ) (bytes : List ℕ) (writable : ℕ) → IsFrameOrNothing bytes writable → IsFrameOrNothing (failed kind code bytes) writable
+failed_fits kind code [] writable is = is
+failed_fits kind code (b ∷ bs) writable is =
+    let long = length-failure_frame kind code in
+    let framed = is.frame (omega arith) in
+    let room = is.fits in
+    record { fits = omega (arith, long, framed, room); frame = λ some. omega (arith, long) }

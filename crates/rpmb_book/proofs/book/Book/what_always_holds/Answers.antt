@@ -1,4 +1,4 @@
-use Rattle.std.proofs.Common.{◌≡◌, subst, arith}
+use Rattle.std.proofs.Common.{false, ◌≡◌, subst, arith}
 use Rattle.std.specs.Prelude.{count_by}
 use Rattle.rpmb_book.specs.Turn.{State, is_submit}
 use Rattle.rpmb_book.specs.Replay.{replay}
@@ -14,17 +14,17 @@ use Rattle.rpmb_book.proofs.book.Book.what_always_holds.Goals as goal
 pub returns-clause-sound : goal.returns-clause-sound
 returns-clause-sound c =
     let i = c.self.inside in
-    subst (λ (b : BookView). IsSound (state b)) c.self.view_is (sound (record { guests = i.opening.items }) i.history.turns (opens (record { guests = i.opening.items }) c.self.invariant.begins).sound c.self.invariant.legal)
+    subst (λ (b : BookView). IsSound (state b)) c.self.view_is (sound (record { guests = i.opening.items; broken = false }) i.history.turns (opens (record { guests = i.opening.items; broken = false }) c.self.invariant.begins).sound c.self.invariant.legal)
 
 pub returns-clause-of_board : goal.returns-clause-of_board
 returns-clause-of_board c =
     let i = c.self.inside in
-    subst (λ (b : BookView). AreOfBoard (state b)) c.self.view_is (on_board (record { guests = i.opening.items }) i.history.turns c.self.invariant.of_board c.self.invariant.legal)
+    subst (λ (b : BookView). AreOfBoard (state b)) c.self.view_is (on_board (record { guests = i.opening.items; broken = false }) i.history.turns c.self.invariant.of_board c.self.invariant.legal)
 
 pub returns-clause-counted : goal.returns-clause-counted
 returns-clause-counted c =
     let i = c.self.inside in
-    let opening : State = record { guests = i.opening.items } in
+    let opening : State = record { guests = i.opening.items; broken = false } in
     let begins = opens opening c.self.invariant.begins in
     let f = fits opening i.history.turns begins.sound c.self.invariant.legal in
     let all : answered_in (replay opening i.history.turns).guests ≡ count_by is_submit i.history.turns = omega (arith, answered_total (replay opening i.history.turns).guests, f.count, begins.uncounted) in
