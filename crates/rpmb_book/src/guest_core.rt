@@ -170,14 +170,14 @@ impl GuestCore {
         let Ok(mut reply) = zeros(alloc, len) else {
             return Err(AllocError);
         };
-        let Ok(mut copy) = zeros(alloc, len) else {
+        let Ok(mut kept) = zeros(alloc, len) else {
             return Err(AllocError);
         };
         reply.copy_from_slice(&out[..len]);
-        copy.copy_from_slice(&out[..len]);
+        kept.copy_from_slice(&out[..len]);
         Ok(Failure {
             reply,
-            copy,
+            copy: kept,
             kind: failure_kind(&request),
         })
     }

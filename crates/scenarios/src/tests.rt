@@ -1,3 +1,4 @@
+mod breaks;
 mod devices;
 mod entries;
 mod image;

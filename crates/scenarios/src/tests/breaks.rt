@@ -1,0 +1,124 @@
+//! What a book tells after its store broke, and which marks it takes.
+
+use crate::tests::image::{formatted, give, opened, settle};
+use crate::tests::scene::{
+    KEY, Scene, board_of, check, get_write_counter, has_tail, program_key, result_read, scene_of,
+    write_of,
+};
+use disk::CutDisk;
+use flusher::{Marks, Store};
+use rpmb_book::Refused;
+use std::alloc::Global;
+use std::test::Fail;
+
+/// Takes the guest's next intent, and has the store keep it.
+fn keep_one(scene: &mut Scene, store: &mut Store<CutDisk>, guest: u16) -> Result<(), Fail> {
+    match scene.book.take(&mut scene.shares, guest) {
+        Ok(Some(intent)) => give(store, intent)?,
+        _ => return Err(Fail::from("nothing waits")),
+    }
+    settle(store)
+}
+
+/// Settles the book to these marks.
+fn settles(scene: &mut Scene, marks: Marks) -> bool {
+    scene.book.settle(&scene.shares, marks) == Ok(())
+}
+
+/// Whether these are the bytes of a failure reply: zeros but for its last four bytes.
+fn is_failure(reply: &[u8], end: &[u8; 4]) -> bool {
+    reply.len() == 512 && reply[..508] == [0; 508] && reply[508..] == end[..]
+}
+
+/// Whether the next reply to guest 0 is this failure, with need 0.
+fn fails(scene: &mut Scene, end: [u8; 4]) -> bool {
+    match scene.book.collect(0) {
+        Some(done) => done.need() == 0 && is_failure(done.reply(), &end),
+        None => false,
+    }
+}
+
+/// Whether the next reply to guest 0 has this need and this tail.
+fn collects(scene: &mut Scene, need: u64, tail: [u8; 12]) -> bool {
+    match scene.book.collect(0) {
+        Some(done) => done.need() == need && has_tail(done.reply(), &tail),
+        None => false,
+    }
+}
+
+/// A read before the key, the key, a write, a read and a lone request for the result.
+fn ask(alloc: Global, scene: &mut Scene) -> Result<(), Fail> {
+    scene.submit(alloc, 0, &get_write_counter(1))?;
+    scene.submit(alloc, 0, &program_key(&KEY))?;
+    scene.submit(alloc, 0, &write_of(0xa5, 0))?;
+    scene.submit(alloc, 0, &get_write_counter(2))?;
+    scene.submit(alloc, 0, &[result_read()])?;
+    Ok(())
+}
+
+/// What is settled leaves as it was made; of the others each is a failure with the type of its request.
+fn failures_leave(scene: &mut Scene) -> bool {
+    collects(scene, 0, [0, 0, 0, 0, 0, 0, 0, 1, 0, 7, 2, 0])
+        && collects(scene, 1, [0, 0, 0, 0, 0, 0, 0, 1, 0, 0, 1, 0])
+        && fails(scene, [0, 5, 3, 0])
+        && fails(scene, [0, 1, 2, 0])
+        && fails(scene, [0, 1, 0, 0])
+        && scene.book.collect(0).is_none()
+}
+
+/// A broken book accepts nothing, and what waited still waits.
+fn accepts_nothing(alloc: Global, scene: &mut Scene) -> Result<(), Fail> {
+    scene.submit(alloc, 0, &write_of(0x66, 1))?;
+    check(fails(scene, [0, 1, 3, 0]), "a write after the break")?;
+    let counter = scene.book.partition(0).map(|partition| partition.counter());
+    check(counter == Some(1), "the counter")?;
+    match scene.book.take(&mut scene.shares, 0) {
+        Ok(Some(intent)) => check(intent.last_sequence() == 2, "the write's intent"),
+        _ => Err(Fail::from("what waits")),
+    }
+}
+
+#[test]
+fn a_break_fails_what_is_not_settled(rt: HostRuntime) -> Result<(), Fail> {
+    let alloc = rt.alloc();
+    let board = board_of(alloc, 1)?;
+    let (mut store, _) = opened(alloc, formatted(alloc, &board)?, &board)?;
+    let mut scene = scene_of(alloc, 1)?;
+    ask(alloc, &mut scene)?;
+    keep_one(&mut scene, &mut store, 0)?;
+    check(settles(&mut scene, store.marks()), "settled")?;
+    check(!scene.book.is_broken(), "whole")?;
+    scene.book.break_off();
+    scene.book.break_off();
+    check(scene.book.is_broken(), "broken")?;
+    check(failures_leave(&mut scene), "the replies")?;
+    accepts_nothing(alloc, &mut scene)
+}
+
+#[test]
+fn marks_above_what_was_taken_are_foreign(rt: HostRuntime) -> Result<(), Fail> {
+    let alloc = rt.alloc();
+    let board = board_of(alloc, 1)?;
+    let (mut store, _) = opened(alloc, formatted(alloc, &board)?, &board)?;
+    let mut scene = scene_of(alloc, 1)?;
+    let mut other = scene_of(alloc, 1)?;
+    ask(alloc, &mut scene)?;
+    check(
+        settles(&mut scene, store.marks()),
+        "marks that move nothing",
+    )?;
+    keep_one(&mut scene, &mut store, 0)?;
+    let refused = Err(Refused::Foreign);
+    check(
+        other.book.settle(&other.shares, store.marks()) == refused,
+        "a mark above",
+    )?;
+    check(
+        scene.book.settle(&other.shares, store.marks()) == refused,
+        "other shares",
+    )?;
+    check(scene.book.settled(0) == Some(0), "nothing moved")?;
+    check(settles(&mut scene, store.marks()), "its own")?;
+    check(settles(&mut scene, store.marks()), "once more")?;
+    check(scene.book.settled(0) == Some(1), "settled")
+}
