@@ -11,7 +11,8 @@ use Rattle.rpmb_book.specs.Turn.{Turn, Submit, Take, Settle, Collect, Break, Sta
 use Rattle.rpmb_book.specs.Replay.{replay}
 use Rattle.rpmb_book.specs.Sound.{IsCoreOfBoard}
 use Rattle.rpmb_book.specs.Given.{after_all, after_first, after_taking, given, IsLedOn}
-use Rattle.rpmb_book.proofs.IsolationLemmas.{broken_there, broken_when, by_test, chosen, not_chosen, same_number, other_number, submitted_here, update_same, update_other}
+use Rattle.rpmb_book.specs.ByGuest.{broken_when}
+use Rattle.rpmb_book.proofs.IsolationLemmas.{broken_there, by_test, chosen, not_chosen, same_number, other_number, submitted_here, update_same, update_other}
 use Rattle.rpmb_book.proofs.Room.{intent_some, intent_none}
 use Rattle.rpmb_book.proofs.OnBoard.{core_stays, request_asked}
 use Rattle.rpmb_book.proofs.LeadingOn.{leads_on}

@@ -17,3 +17,4 @@ pub mod Giving
 pub mod AskedLemmas
 pub mod Marking
 pub mod Breaking
+pub mod ByGuest

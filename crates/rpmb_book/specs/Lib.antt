@@ -3,6 +3,7 @@ pub mod Guest
 pub mod Turn
 pub mod Marks
 pub mod Replay
+pub mod ByGuest
 pub mod Planned
 pub mod History
 pub mod Book

@@ -2,6 +2,7 @@
 ghost use Rattle.std.specs.Prelude.{◌≡◌, ℕ, Some, slice_get};
 ghost use Rattle.rpmb_book.specs.Book.{state, submits_in};
 ghost use Rattle.rpmb_book.specs.Asked.{IsAfterItsJobs, IsCountedOnItsJobs, answered_in, IsOneOfItsCapacity};
+ghost use Rattle.rpmb_book.specs.ByGuest.{IsByGuest, KeepsTheGuests, NeverFalls};
 ghost use Rattle.rpmb_book.specs.Kept.{IsFresh};
 ghost use Rattle.rpmb_book.specs.Given.{IsLedOn};
 ghost use Rattle.rpmb_book.specs.Guest.{GuestState};
@@ -92,3 +93,11 @@ pub fn partitions_are_of_a_board(book: &Book)
 {
     book.what_always_holds();
 }
+
+/// A turn goes guest by guest: what it makes of one guest depends on that guest alone, and on whether
+/// the book is broken. It leaves as many guests as there were, and what is settled of none falls.
+pub fn turns_go_by_guest()
+    ensures by_guest { IsByGuest }
+    ensures kept { KeepsTheGuests }
+    ensures settled { NeverFalls }
+{}
