@@ -1,12 +1,15 @@
 -- A turn goes guest by guest.
-use Rattle.std.proofs.Common.{◌≡◌, ◌≢◌, ◌≤◌, ℕ, zero, suc, Bool, true, false, List, [], ◌∷◌, Option, Some, None, length, max, refl, ap, sym, ◌∙◌, arith, ◌==◌}
+use Rattle.std.proofs.Common.{◌≡◌, ◌≢◌, ◌≤◌, ℕ, zero, suc, Bool, true, false, List, [], ◌∷◌, Option, Some, None, length, max, refl, ap, sym, subst, ◌∙◌, arith, ◌==◌}
 use Rattle.std.specs.Prelude.{if◌then◌else◌, map, option_map, slice_get}
 use Rattle.std.proofs.lemmas.List.{length-map}
 use Rattle.std.proofs.lemmas.Option.{slice_get-map}
-use Rattle.rpmb_book.specs.Guest.{GuestState, broken_off, collected, submitted, took}
+use Rattle.std.specs.Prelude.{nat_le}
+use Rattle.std.proofs.lemmas.Bool.Decides.{nat_tests}
+use Rattle.mmio_transport.specs.Job.{Done}
+use Rattle.rpmb_book.specs.Guest.{GuestState, Held, first_due, broken_off, collected, submitted, took}
 use Rattle.rpmb_book.specs.Marks.{settled_to}
 use Rattle.rpmb_book.specs.Turn.{Turn, Submit, Take, Settle, Collect, Break, State, after_break, settled_all, update}
-use Rattle.rpmb_book.specs.ByGuest.{IsByGuest, KeepsTheGuests, NeverFalls, broken_when, guest_after}
+use Rattle.rpmb_book.specs.ByGuest.{IsByGuest, IsSettledReply, KeepsTheGuests, NeverFalls, broken_when, guest_after}
 use Rattle.rpmb_book.proofs.IsolationLemmas.{by_test, chosen, not_chosen, other_number, same_number, update_other}
 use Rattle.rpmb_book.proofs.Places.{length-update}
 use Rattle.rpmb_book.proofs.Settling.{length-settled_all}
@@ -74,3 +77,28 @@ never_falls g broken (Take n) x = stays (n == g) x (took x) refl
 never_falls g broken (Settle marks) x = rises (slice_get marks g) x
 never_falls g broken (Collect n) x = stays (n == g) x (collected x) refl
 never_falls g broken Break x = break_stays broken x
+
+due_settled : (settled : ℕ) (hs : List Held) (done : Done) → first_due settled hs ≡ Some done → done.need ≤ settled
+due_settled settled [] done is = absurd (cc)
+due_settled settled (h ∷ hs) done is =
+    by_test (nat_le h.done.need settled)
+    (λ test.
+    let same : h.done ≡ done = there (sym (chosen_done (nat_le h.done.need settled) (Some h.done) None test) ∙ is) in
+    let below : h.done.need ≤ settled = le_of h.done.need settled test in
+    subst (λ d. d.need ≤ settled) same below)
+    (λ test. absurd (let none : None ≡ Some done = sym (other_done (nat_le h.done.need settled) (Some h.done) None test) ∙ is in cc))
+  where
+    there : {a b : Done} → Some a ≡ Some b → a ≡ b
+    there e = cc
+
+    chosen_done : (b : Bool) (x y : Option Done) → b ≡ true → (if b then x else y) ≡ x
+    chosen_done b x y e = rw e refl
+
+    other_done : (b : Bool) (x y : Option Done) → b ≡ false → (if b then x else y) ≡ y
+    other_done b x y e = rw e refl
+
+    le_of : (m n : ℕ) → nat_le m n ≡ true → m ≤ n
+    le_of m n e = grind (arith, nat_tests)
+
+pub settled_reply : IsSettledReply
+settled_reply x done is = due_settled x.settled x.held done is

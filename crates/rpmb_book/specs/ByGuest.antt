@@ -1,6 +1,7 @@
 -- What a turn makes of one guest.
-use Rattle.std.specs.Prelude.{ℕ, ◌≡◌, ◌≤◌, ◌==◌, if◌then◌else◌, Bool, true, false, List, length, option_map, slice_get}
-use Rattle.rpmb_book.specs.Guest.{GuestState, broken_off, collected, submitted, took}
+use Rattle.std.specs.Prelude.{ℕ, ◌≡◌, ◌≤◌, ◌==◌, if◌then◌else◌, Bool, true, false, List, Some, length, option_map, slice_get}
+use Rattle.mmio_transport.specs.Job.{Done}
+use Rattle.rpmb_book.specs.Guest.{GuestState, broken_off, collected, first_due, submitted, took}
 use Rattle.rpmb_book.specs.Marks.{settled_to}
 use Rattle.rpmb_book.specs.Turn.{Turn, Submit, Take, Settle, Collect, Break, State, after_turn}
 
@@ -28,3 +29,7 @@ KeepsTheGuests = (s : State) (t : Turn) → length (after_turn s t).guests ≡ l
 -- what is settled never falls
 abbrev pub NeverFalls : Type 0
 NeverFalls = (g : ℕ) (broken : Bool) (t : Turn) (x : GuestState) → x.settled ≤ (guest_after g broken t x).settled
+
+-- the reply that a Collect gives needs no more than is settled of its guest
+abbrev pub IsSettledReply : Type 0
+IsSettledReply = (x : GuestState) (done : Done) → first_due x.settled x.held ≡ Some done → done.need ≤ x.settled

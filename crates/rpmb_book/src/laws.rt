@@ -2,7 +2,7 @@
 ghost use Rattle.std.specs.Prelude.{◌≡◌, ℕ, Some, slice_get};
 ghost use Rattle.rpmb_book.specs.Book.{state, submits_in};
 ghost use Rattle.rpmb_book.specs.Asked.{IsAfterItsJobs, IsCountedOnItsJobs, answered_in, IsOneOfItsCapacity};
-ghost use Rattle.rpmb_book.specs.ByGuest.{IsByGuest, KeepsTheGuests, NeverFalls};
+ghost use Rattle.rpmb_book.specs.ByGuest.{IsByGuest, IsSettledReply, KeepsTheGuests, NeverFalls};
 ghost use Rattle.rpmb_book.specs.Kept.{IsFresh};
 ghost use Rattle.rpmb_book.specs.Given.{IsLedOn};
 ghost use Rattle.rpmb_book.specs.Guest.{GuestState};
@@ -100,4 +100,9 @@ pub fn turns_go_by_guest()
     ensures by_guest { IsByGuest }
     ensures kept { KeepsTheGuests }
     ensures settled { NeverFalls }
+{}
+
+/// A reply that is collected needs no more than is settled of its guest.
+pub fn replies_that_leave_are_settled()
+    ensures { IsSettledReply }
 {}
