@@ -116,6 +116,12 @@ given_of guests i (Some x) = slice_set guests i.guest (with_intent x i)
 unfoldable pub given : List Guest → Intent → List Guest
 given guests i = given_of guests i (slice_get guests i.guest)
 
+-- an intent may be given: its guest's slot is free, it fits, and its first request comes next
+pub record MayGive (guests : List Guest) (i : Intent) : Type 0 where
+  pub free : is_free guests i.guest ≡ true
+  pub fits : Fits guests i
+  pub next : i.group.first + 1 ≡ next_sequence guests i.guest
+
 -- What giving an intent makes of the guests: it is in its guest's slot, and nothing else has changed.
 pub record Gives (i : Intent) (old new : List Guest) : Type 0 where
   pub count : length new ≡ length old

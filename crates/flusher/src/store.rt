@@ -3,7 +3,7 @@ ghost use Rattle.disk.specs.Disk.{Within, HasRisen};
 ghost use Rattle.intent_slots.specs.Recovered.{Part};
 ghost use Rattle.flusher.specs.SlotInvariant.{IsHeld, EachStop};
 ghost use Rattle.flusher.specs.Round.{planned, Ends, Round, Moves, AllEmpty, FrontStays, under_way, parts_after};
-ghost use Rattle.flusher.specs.Store.{StoreState, AllFit, Fits, Gives, IsOpened, is_free, next_sequence, given, next_call};
+ghost use Rattle.flusher.specs.Store.{MayGive, StoreState, AllFit, Fits, Gives, IsOpened, is_free, next_sequence, given, next_call};
 ghost use Rattle.flusher.specs.Marks.{marks_of};
 
 use crate::guest::Guest;
@@ -104,6 +104,16 @@ impl<D: Disk> Store<D> {
             Some(held) => held.fits(intent),
             None => false,
         }
+    }
+
+    /// Whether the intent may be given: its guest's slot is free, it fits, and its first request comes
+    /// next; false for a guest that the store lacks.
+    pub fn takes(&self, intent: &Intent) -> bool
+        ensures { IsTrue result ↔ MayGive self.now.guests intent.now }
+    {
+        self.is_free(intent.guest())
+            && self.fits(intent)
+            && self.next(intent.guest()) == intent.first_sequence()
     }
 
     /// Gives an intent that fits, whose first request comes next for its guest, to a slot that is

@@ -34,10 +34,7 @@ pub fn opened<D: Disk>(
 
 /// Gives an intent to the store, which has to be one that it may be given.
 pub fn give(store: &mut Store<CutDisk>, intent: Intent) -> Result<(), Fail> {
-    if !store.is_free(intent.guest())
-        || !store.fits(&intent)
-        || store.next(intent.guest()) != intent.first_sequence()
-    {
+    if !store.takes(&intent) {
         return Err(Fail::from("an intent that can't be given"));
     }
     store.give(intent);
