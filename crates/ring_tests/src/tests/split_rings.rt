@@ -77,7 +77,7 @@ fn pop(
     memory: &mut Memory,
     reads: &mut Reads,
 ) -> Result<Answer, Fail> {
-    if !ring.lies_in(memory) || ring.last() > 100000 {
+    if !ring.lies_in(memory) || ring.last() > 1000000 {
         return Err(Fail::from("the ring isn't inside"));
     }
     let number = ring.last() + 1;
@@ -206,14 +206,15 @@ fn serve(alloc: Global, memory: &mut Memory, ring: &mut Ring, index: u16) -> Res
     Ok(ring.publish(memory, number, 0, 1, 8))
 }
 
-// Pops and publishes one chain for each place from 0 to 65,535, and answers whether the last one is
-// to be notified where the driver asked for the index that `event` names.
+// Pops and publishes one chain for each place from 0 to 131,071, so that the indexes run round twice,
+// and answers whether the last one is to be notified where the driver asked for the index that
+// `event` names.
 fn notified_at_the_wrap(alloc: Global, event: u16) -> Result<bool, Fail> {
     let (mut memory, mut ring) = new_ring(alloc)?;
     put(&mut memory, 0, &descriptor((200, 8, WRITE, 0)))?;
     set_word(&mut memory, USED_EVENT, event)?;
     let mut due = false;
-    for place in 0..65536_u64 {
+    for place in 0..131072_u64 {
         let index = ((place + 1) % 65536) as u16;
         due = serve(alloc, &mut memory, &mut ring, index)?;
     }
