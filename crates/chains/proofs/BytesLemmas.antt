@@ -1,7 +1,7 @@
 -- Lists of bytes, piece by piece.
-use Rattle.std.proofs.Common.{◌≡◌, ℕ, ◌+◌, ◌-◌, ◌<◌, ◌≤◌, min, List, [], ◌++◌, inl, inr, length, take, drop, sym, ap, ◌∙◌, arith, append_assoc, length-append, get_or, length-drop}
+use Rattle.std.proofs.Common.{◌≡◌, ℕ, ◌+◌, ◌-◌, ◌<◌, ◌≤◌, min, List, [], ◌++◌, inl, inr, length, take, drop, sym, ap, ◌∙◌, arith, append_assoc, length-append, get_or, length-drop, refl}
 use Rattle.std.specs.List.{flat_map}
-use Rattle.std.proofs.lemmas.List.{length-take-le, append-nil, take-append-drop, take-take, at_drop_more, at_drop_all, take_min}
+use Rattle.std.proofs.lemmas.List.{length-take, length-take-le, append-nil, take-append-drop, take-take, at_drop_more, at_drop_all, take_min}
 use Rattle.std.proofs.lemmas.Bool.{cases_lt}
 use Rattle.std.proofs.Math.Seq.{take-append_seam, take-length}
 use Rattle.chains.specs.declared.range.Range.{Range}
@@ -32,7 +32,7 @@ take_whole n xs h =
     let e : min n (length xs) ≡ length xs = omega arith in
     sym (take_min n xs) ∙ ap (λ k. take k xs) e ∙ take-length xs
 
-length-bytes_at : (m : List ℕ) (at len : ℕ) → IsInside m at len → length (bytes_at m at len) ≡ len
+pub length-bytes_at : (m : List ℕ) (at len : ℕ) → IsInside m at len → length (bytes_at m at len) ≡ len
 length-bytes_at m at len h = length-take-le len (drop at m) (omega (arith, length-drop at m))
 
 -- one range more is gathered
@@ -59,3 +59,22 @@ pub gather_all : (limit : ℕ) (m g : List ℕ) (xs : List Range) (i : ℕ) (all
 gather_all limit m g xs i all done room rest =
     let step : take limit (g ++ flat_map (bytes_of m) (drop i xs)) ≡ take limit (g ++ []) = at_drop_all (λ v. take limit (g ++ flat_map (bytes_of m) v)) xs i done in
     sym (take_whole limit g room) ∙ ap (take limit) (sym (append-nil g)) ∙ sym step ∙ rest
+
+-- where there is nothing to gather, one range more has no bytes
+pub gather_nothing : (limit : ℕ) (m g : List ℕ) (xs : List Range) (i k : ℕ) (d : Range) → i < length xs
+    → IsInside m (get_or xs i d).at (get_or xs i d).len → length g ≤ limit
+    → k ≡ min (get_or xs i d).len (limit - length g) → take limit (g ++ flat_map (bytes_of m) (drop i xs)) ≡ []
+    → length g + k ≡ 0
+gather_nothing limit m g xs i k d below inside room is rest =
+    let piece = bytes_at m (get_or xs i d).at k in
+    let r = flat_map (bytes_of m) (drop (i + 1) xs) in
+    let more = gather_more limit m g (g ++ piece) xs i k d below inside room is refl [] rest in
+    omega (
+      arith,
+      more.0,
+      ap length more.1,
+      length-take limit ((g ++ piece) ++ r),
+      length-append (g ++ piece) r,
+      length-append g piece,
+      length-bytes_at m (get_or xs i d).at k (omega arith),
+    )

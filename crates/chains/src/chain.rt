@@ -53,9 +53,10 @@ impl Chain {
     }
 
     /// What a reply needs of the chain: the buffers that the device may write, and none that it may
-    /// read.
+    /// read. It takes no memory where there are none to write.
     pub fn for_reply(&self, alloc: Global) -> Result<Chain, NoMemory>
-        ensures { IfOk result (λ chain. chain ≡ record { readable = []; writable = self.now.writable }) }
+        ensures ok { IfOk result (λ chain. chain ≡ record { readable = []; writable = self.now.writable }) }
+        ensures none { length self.now.writable ≡ 0 → IsOk result }
     {
         let mut ranges = Vec::with_capacity(alloc, self.writable.len())?;
         ranges.extend_from_slice(&self.writable)?;
@@ -72,10 +73,12 @@ impl Chain {
         }
     }
 
-    /// The first 8,705 bytes that the device may read, or all where there are fewer.
+    /// The first 8,705 bytes that the device may read, or all where there are fewer. It takes no
+    /// memory where there are none.
     pub fn gather(&self, alloc: Global, memory: &Memory) -> Result<Vec<u8>, NoMemory>
         requires { AreInside (length memory.now) self.now.readable }
-        ensures { IfOk result (λ bytes. bytes.items ≡ take most_gathered (flat_map (bytes_of memory.now) self.now.readable)) }
+        ensures ok { IfOk result (λ bytes. bytes.items ≡ take most_gathered (flat_map (bytes_of memory.now) self.now.readable)) }
+        ensures none { flat_map (bytes_of memory.now) self.now.readable ≡ [] → IsOk result }
     {
         let mut gathered = Vec::new(alloc);
         for range in &self.readable {
