@@ -361,3 +361,23 @@ fn a_number_is_taken_once(rt: HostRuntime) -> Result<(), Fail> {
     assert!(rt; pop(rt.alloc(), &mut ring, &mut memory, &mut reads)? == Answer::Chain(8, 0));
     Ok(())
 }
+
+fn is_popped_as(alloc: Global, ring: &mut Ring, memory: &mut Memory, number: u64) -> bool {
+    if !ring.lies_in(memory) {
+        return false;
+    }
+    match ring.pop(alloc, memory, &mut Reads::new(), number) {
+        Ok(Some(_)) => ring.last() == number,
+        _ => false,
+    }
+}
+
+#[test]
+fn the_largest_number_is_taken(rt: HostRuntime) -> Result<(), Fail> {
+    let (mut memory, mut ring) = new_ring(rt.alloc())?;
+    put(&mut memory, 0, &descriptor(PLAIN))?;
+    set_word(&mut memory, AVAIL_IDX, 2)?;
+    assert!(rt; is_popped_as(rt.alloc(), &mut ring, &mut memory, u64::MAX));
+    assert!(rt; is_refused_as_old(rt.alloc(), &mut ring, &mut memory, u64::MAX));
+    Ok(())
+}
