@@ -9,7 +9,8 @@ use Rattle.recovery.specs.declared.fault.OpenFault.{OpenFault}
 use Rattle.recovery.specs.declared.fault.OpenFault.TheVariants as image
 use Rattle.recovery.specs.Opening.{AnswersFault, CallsFault}
 use Rattle.commands.specs.Fault.{fault_of_image}
-use Rattle.commands.specs.Ending.{IsOfRunning, IsReadAlone, IsReadable, PrintsFirstUnless, RunEnds, RunPrints, ShowEnds, Synced, Uncalled}
+use Rattle.commands.specs.Ending.{IsOfReading, IsOfRunning, IsReadAlone, IsReadable, PrintsFirstUnless, RunEnds, RunPrints, ShowEnds, Synced, Uncalled}
+use Rattle.commands.specs.Running.{AreWithin}
 use Rattle.commands.specs.Transcript.{AreSplit, Says, StoresNothing, output_of}
 use Rattle.commands.proofs.Printing.{none_printed, says_same}
 use Rattle.script.specs.Line.{Said, line_of, said}
@@ -38,19 +39,19 @@ all_run_ends board script (Ok x) good of = of
 all_run_ends board script (Err f) good of = run_ends board script f good of
 
 -- a script of which no line was performed has printed nothing
-pub none_run : (board : List GuestConfig) (script : List ℕ) (f : Fault) (start : Option (List ℕ)) → RunPrints board script f start start
-none_run board script (fault.BadScript line) start = Keeps-refl start
-none_run board script fault.FileFault start = λ lines says split clean. tt
-none_run board script fault.OutOfRange start = λ lines says split clean. none_printed board lines start
-none_run board script fault.NoMemory start = λ lines says split clean. none_printed board lines start
-none_run board script fault.DiskFault start = λ lines says split clean. none_printed board lines start
-none_run board script fault.NotFormatted start = λ lines says split clean. none_printed board lines start
-none_run board script fault.OtherConfig start = λ lines says split clean. none_printed board lines start
-none_run board script fault.Busy start = λ lines says split clean. none_printed board lines start
-none_run board script fault.HistoryFull start = λ lines says split clean. none_printed board lines start
-none_run board script fault.NoRoom start = λ lines says split clean. none_printed board lines start
-none_run board script fault.Foreign start = λ lines says split clean. none_printed board lines start
-none_run board script fault.BadBoard start = λ lines says split clean. none_printed board lines start
+pub none_run : (board : List GuestConfig) (script : List ℕ) (f : Fault) (start : Option (List ℕ)) → IsOfReading f → RunPrints board script f start start
+none_run board script (fault.BadScript line) start of = Keeps-refl start
+none_run board script fault.NoMemory start of = λ lines says split clean. none_printed board lines start
+none_run board script fault.FileFault start of = absurd of
+none_run board script fault.OutOfRange start of = absurd of
+none_run board script fault.DiskFault start of = absurd of
+none_run board script fault.NotFormatted start of = absurd of
+none_run board script fault.OtherConfig start of = absurd of
+none_run board script fault.Busy start of = absurd of
+none_run board script fault.HistoryFull start of = absurd of
+none_run board script fault.NoRoom start of = absurd of
+none_run board script fault.Foreign start of = absurd of
+none_run board script fault.BadBoard start of = absurd of
 
 -- what the first lines printed is what the run has
 run_prints : (board : List GuestConfig) (script : List ℕ) (f : Fault) (start now : Option (List ℕ)) → IsOfRunning f
@@ -70,12 +71,12 @@ run_prints board script fault.Foreign start now of prints = prints
 run_prints board script fault.BadBoard start now of prints = prints
 
 pub all_run_prints : {X : Type 0} (board : List GuestConfig) (script : List ℕ) (read : List Line) (r : Result X Fault) (start now : Option (List ℕ))
-    → map (λ line. Some (said line)) read ≡ map (line_of (length board)) (lines_of script) → IfErr r IsOfRunning
-    → IfErr r (λ f. AreSplit board → StoresNothing (map said read) → PrintsFirstUnless f (output_of board) (map said read) start now)
+    → map (λ line. Some (said line)) read ≡ map (line_of (length board)) (lines_of script) → AreWithin (length board) read → IfErr r IsOfRunning
+    → IfErr r (λ f. AreSplit board → AreWithin (length board) read → StoresNothing (map said read) → PrintsFirstUnless f (output_of board) (map said read) start now)
     → IfErr r (λ f. RunPrints board script f start now)
-all_run_prints board script read (Ok x) start now is of prints = of
-all_run_prints board script read (Err f) start now is of prints = run_prints board script f start now of (λ lines says.
-    subst (λ ls. AreSplit board → StoresNothing ls → PrintsFirstUnless f (output_of board) ls start now) (sym (says_same lines read _ says is)) prints)
+all_run_prints board script read (Ok x) start now is within of prints = of
+all_run_prints board script read (Err f) start now is within of prints = run_prints board script f start now of (λ lines says.
+    subst (λ ls. AreSplit board → StoresNothing ls → PrintsFirstUnless f (output_of board) ls start now) (sym (says_same lines read _ says is)) (λ split. prints split within))
 
 -- a fault of an opening ends a listing
 pub show_ends : (capacities : List ℕ) (old new : DiskState) (f : OpenFault) → (f ≡ image.NoMemory → new ≡ old) → (f ≡ image.DiskFault → HasRisen old.failures new.failures)

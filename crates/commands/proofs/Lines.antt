@@ -1,17 +1,21 @@
 -- What each line does to a host whose guests are all ready.
-use Rattle.std.proofs.Common.{◌≡◌, ℕ, List, Option, Ok, ap, get_or, subst, ◌∙◌}
+use Rattle.std.proofs.Common.{◌≡◌, ℕ, List, Option, Ok, Err, ap, arith, get_or, length, subst, ◌∙◌}
 use Rattle.std.proofs.KnownBytes.{Appends-nil}
 use Rattle.std.specs.Io.KnownBytes.{Appends}
 use Rattle.script.specs.Line.{nothing, chain, reset}
 use Rattle.runner.specs.Runner.{cores_after, reply_of}
 use Rattle.runner.specs.Ready.{job_of}
-use Rattle.runner.specs.Host.{HostView, HostAnswers, HostResets}
+use Rattle.runner.specs.Host.{HostView, HostAnswers, HostChains, HostResets}
+use Rattle.runner.specs.declared.fault.HostFault.{HostFault}
+use Rattle.runner.specs.declared.fault.HostFault.TheVariants as host
 use Rattle.runner.specs.declared.guest.Answer.{Answer}
 use Rattle.runner.specs.declared.guest.Answer.TheVariants.{Used, Stuck}
 use Rattle.runner.specs.declared.guest.Stuck.{Stuck as Reason}
+use Rattle.runner.proofs.Failing.{IsOfChain, chain_fails}
 use Rattle.runner.proofs.Hosts.{all_later}
 use Rattle.commands.specs.Transcript.{used_line}
-use Rattle.commands.specs.Running.{Runs}
+use Rattle.commands.specs.Running.{Fails, MayFail, Runs}
+use Rattle.commands.specs.Fault.{fault_of}
 
 -- the bytes of an answer
 abbrev pub bytes_in : Answer → List ℕ → Type 0
@@ -41,3 +45,22 @@ reset_runs h h' guest start resets = λ steps t few at.
 
 pub nothing_runs : (h : HostView) (start : Option (List ℕ)) → Runs h nothing start start h
 nothing_runs h start = λ steps t few at. record { printed = Appends-nil start; after = record { cores = at.cores; ready = all_later steps t.sessions h.guests at.ready } }
+
+-- a host's fault of a chain
+host_fails : (f : HostFault) (guest : ℕ) (readable : List ℕ) (writable : ℕ) → IsOfChain f → MayFail (fault_of f) (chain guest readable writable)
+host_fails host.OutOfRange guest readable writable of = absurd of
+host_fails host.NoMemory guest readable writable of = tt
+host_fails host.Busy guest readable writable of = absurd of
+host_fails host.HistoryFull guest readable writable of = tt
+host_fails host.NoRoom guest readable writable of = tt
+host_fails host.Foreign guest readable writable of = absurd of
+
+pub chain_ends : (h h' : HostView) (guest : ℕ) (readable : List ℕ) (writable : ℕ) (f : HostFault) → HostChains h guest readable writable (Err f) h'
+    → Fails h (chain guest readable writable) (fault_of f)
+chain_ends h h' guest readable writable f chains = λ steps guests t few at are within.
+    let there = within.0 in
+    let cores = are.cores in
+    let sessions = are.sessions in
+    let same : length h.runner.cores ≡ length t.cores = ap length at.cores in
+    host_fails f guest readable writable
+    (chain_fails f h h' guest readable writable steps t.sessions chains few at.ready (omega (arith, there, sessions)) (omega (arith, there, cores, same)))

@@ -1,20 +1,23 @@
 -- What lines print, one after another.
-use Rattle.std.proofs.Common.{◌≡◌, ℕ, suc, ◌+◌, ◌<◌, List, [], ◌∷◌, ◌++◌, Option, Some, None, Result, Ok, Err, length, map, replicate, refl, ap, ap₂, subst, sym, ◌∙◌, arith}
+use Rattle.std.proofs.Common.{◌≡◌, ℕ, zero, suc, ◌+◌, ◌<◌, List, [], ◌∷◌, ◌++◌, Option, Some, None, Result, Ok, Err, get_or, length, map, replicate, refl, ap, ap₂, subst, sym, ◌∙◌, arith}
 use Rattle.std.proofs.KnownBytes.{Appends-kept, Appends-nil, Appends-trans}
-use Rattle.std.proofs.lemmas.List.{append_assoc, append-nil}
+use Rattle.std.proofs.lemmas.List.{append_assoc, append-nil, length-map, length-replicate, length-set}
 use Rattle.std.specs.Io.KnownBytes.{Appends, Keeps}
-use Rattle.script.specs.Line.{Said, line_of, said}
+use Rattle.script.specs.Line.{IsWithin, Said, line_of, said}
 use Rattle.script.specs.Script.{first_bad}
 use Rattle.script.specs.declared.line.Line.{Line}
 use Rattle.std.specs.Prelude.{All, IfErr}
 use Rattle.mmio_transport.specs.Device.{last_count}
 use Rattle.script.specs.Line.{nothing, chain, store, reset}
 use Rattle.runner.specs.Host.{HostView, IsFresh}
-use Rattle.runner.specs.Runner.{fresh_view}
+use Rattle.rpmb_book.specs.Guest.{GuestCore, core_after}
+use Rattle.rpmb_book.specs.Turn.{update}
+use Rattle.runner.specs.Ready.{job_of}
+use Rattle.runner.specs.Runner.{cores_after, fresh_core, fresh_view}
 use Rattle.commands.specs.Transcript.{AreSplit, StoresNothing, Told, output_of, printed_by, told_by, transcript}
 use Rattle.rpmb_frame.specs.declared.config.GuestConfig.{GuestConfig}
-use Rattle.commands.specs.Running.{HasRun, IsAt, IsSized, Runs}
-use Rattle.commands.specs.Ending.{KeepsUnless, PrintsFirst, PrintsFirstUnless}
+use Rattle.commands.specs.Running.{AreGuests, AreWithin, Fails, HasRun, IsAt, IsChain, IsSized, MayFail, Runs}
+use Rattle.commands.specs.Ending.{KeepsUnless, PrintsFirst, PrintsFirstUnless, StopsFor}
 use Rattle.commands.specs.declared.fault.Fault.{Fault}
 use Rattle.commands.specs.declared.fault.Fault.TheVariants as fault
 
@@ -34,6 +37,25 @@ unfolding transcript told_after
 transcript-append t [] line = append-nil (printed_by t line)
 transcript-append t (first ∷ lines) line = ap (λ bytes. printed_by t first ++ bytes) (transcript-append (told_by t first) lines line)
     ∙ sym (append_assoc (printed_by t first) (transcript (told_by t first) lines) (printed_by (told_after (told_by t first) lines) line))
+
+-- a line leaves as many guests as there were
+same_cores : (cores : List GuestCore) (guest : ℕ) (f : GuestCore → GuestCore) → length (update cores guest f) ≡ length cores
+same_cores [] guest f = refl
+same_cores (c ∷ cores) zero f = refl
+same_cores (c ∷ cores) (suc guest) f = ap suc (same_cores cores guest f)
+
+still_guests : (guests : ℕ) (t : Told) (line : Said) → AreGuests guests t → AreGuests guests (told_by t line)
+unfolding cores_after job_of
+still_guests guests t nothing are = are
+still_guests guests t (chain guest readable writable) are =
+    record { cores = same_cores t.cores guest (λ c. core_after c (job_of guest (get_or t.sessions guest 0) readable writable)) ∙ are.cores; sessions = are.sessions }
+still_guests guests t (store guest at bytes) are = are
+still_guests guests t (reset guest) are = record { cores = are.cores; sessions = length-set t.sessions guest (get_or t.sessions guest 0 + 1) ∙ are.sessions }
+
+guests_after : (guests : ℕ) (t : Told) (lines : List Said) → AreGuests guests t → AreGuests guests (told_after t lines)
+unfolding told_after
+guests_after guests t [] are = are
+guests_after guests t (line ∷ lines) are = guests_after guests (told_by t line) lines (still_guests guests t line are)
 
 -- what was printed so far, and what the rest prints, are what all lines print; so far it is what those
 -- lines print that are done
@@ -100,60 +122,89 @@ pub finish : (start now : Option (List ℕ)) (first : Told) (h : HostView) (all 
 unfolding transcript
 finish start now first h all going = subst (Appends start now) (sym (append-nil going.bytes) ∙ going.whole) going.so_far
 
--- what was printed stays as it is
-stopped : (start now next : Option (List ℕ)) (first : Told) (h : HostView) (all rest : List Said) → Going start now first h all rest → Keeps now next
-    → PrintsFirst (transcript first) all start next
-stopped start now next first h all rest going kept =
+-- what was printed stays as it is, and the line that is next is what the run stopped for
+stopped : (start now next : Option (List ℕ)) (first : Told) (h : HostView) (all rest : List Said) (f : Fault) → (going : Going start now first h all rest) → Keeps now next
+    → StopsFor f going.done rest → PrintsFirst f (transcript first) all start next
+stopped start now next first h all rest f going kept reason =
     let printed = Appends-kept start now next going.bytes going.so_far kept in
-    record { first = going.done; rest = rest; parts = going.parts; printed = subst (Appends start next) going.those printed }
+    record { first = going.done; rest = rest; parts = going.parts; printed = subst (Appends start next) going.those printed; reason = reason }
+
+-- a chain that memory was refused for
+refused : (line : Said) (done rest : List Said) → IsChain line → StopsFor fault.NoMemory done (line ∷ rest)
+refused line [] rest is = tt
+refused line (before ∷ done) rest is = is
 
 -- a line that ended the run printed nothing, unless standard output took no more
-pub stop : (start now next : Option (List ℕ)) (first : Told) (h : HostView) (all rest : List Said) (f : Fault) → Going start now first h all rest
-    → KeepsUnless f now next → PrintsFirstUnless f (transcript first) all start next
-stop start now next first h all rest fault.FileFault going kept = tt
-stop start now next first h all rest fault.OutOfRange going kept = stopped start now next first h all rest going kept
-stop start now next first h all rest fault.NoMemory going kept = stopped start now next first h all rest going kept
-stop start now next first h all rest fault.DiskFault going kept = stopped start now next first h all rest going kept
-stop start now next first h all rest fault.NotFormatted going kept = stopped start now next first h all rest going kept
-stop start now next first h all rest fault.OtherConfig going kept = stopped start now next first h all rest going kept
-stop start now next first h all rest fault.Busy going kept = stopped start now next first h all rest going kept
-stop start now next first h all rest fault.HistoryFull going kept = stopped start now next first h all rest going kept
-stop start now next first h all rest fault.NoRoom going kept = stopped start now next first h all rest going kept
-stop start now next first h all rest fault.Foreign going kept = stopped start now next first h all rest going kept
-stop start now next first h all rest fault.BadBoard going kept = stopped start now next first h all rest going kept
-stop start now next first h all rest (fault.BadScript line) going kept = stopped start now next first h all rest going kept
+stops : (start now next : Option (List ℕ)) (first : Told) (h : HostView) (all rest : List Said) (line : Said) (f : Fault) → Going start now first h all (line ∷ rest)
+    → KeepsUnless f now next → MayFail f line → PrintsFirstUnless f (transcript first) all start next
+stops start now next first h all rest line fault.FileFault going kept may = tt
+stops start now next first h all rest line fault.NoMemory going kept may = stopped start now next first h all (line ∷ rest) fault.NoMemory going kept (refused line going.done rest may)
+stops start now next first h all rest line fault.HistoryFull going kept may = stopped start now next first h all (line ∷ rest) fault.HistoryFull going kept may
+stops start now next first h all rest line fault.NoRoom going kept may = stopped start now next first h all (line ∷ rest) fault.NoRoom going kept may
+stops start now next first h all rest line fault.OutOfRange going kept may = absurd may
+stops start now next first h all rest line fault.DiskFault going kept may = absurd may
+stops start now next first h all rest line fault.NotFormatted going kept may = absurd may
+stops start now next first h all rest line fault.OtherConfig going kept may = absurd may
+stops start now next first h all rest line fault.Busy going kept may = absurd may
+stops start now next first h all rest line fault.Foreign going kept may = absurd may
+stops start now next first h all rest line fault.BadBoard going kept may = absurd may
+stops start now next first h all rest line (fault.BadScript n) going kept may = absurd may
+
+-- how the next line fails, where the run stands
+line_fails : (start now : Option (List ℕ)) (first : Told) (h : HostView) (all rest : List Said) (line : Said) (f : Fault) (guests : ℕ) → length all + 2 < last_count
+    → Going start now first h all (line ∷ rest) → AreGuests guests first → IsWithin guests line → Fails h line f → MayFail f line
+line_fails start now first h all rest nothing f guests few going are within fails =
+    let counted = going.counted in
+    fails going.steps guests going.told (omega (arith, counted, few)) going.at (subst (AreGuests guests) (sym going.after) (guests_after guests first going.done are)) within
+line_fails start now first h all rest (chain guest readable writable) f guests few going are within fails =
+    let counted = going.counted in
+    fails going.steps guests going.told (omega (arith, counted, few)) going.at (subst (AreGuests guests) (sym going.after) (guests_after guests first going.done are)) within
+line_fails start now first h all rest (store guest at bytes) f guests few going are within fails = absurd going.clean
+line_fails start now first h all rest (reset guest) f guests few going are within fails =
+    let counted = going.counted in
+    fails going.steps guests going.told (omega (arith, counted, few)) going.at (subst (AreGuests guests) (sym going.after) (guests_after guests first going.done are)) within
+
+pub stop : (start now next : Option (List ℕ)) (first : Told) (h : HostView) (all rest : List Said) (line : Said) (f : Fault) (guests : ℕ) → length all + 2 < last_count
+    → Going start now first h all (line ∷ rest) → KeepsUnless f now next → AreGuests guests first → IsWithin guests line → Fails h line f
+    → PrintsFirstUnless f (transcript first) all start next
+stop start now next first h all rest line f guests few going kept are within fails =
+    stops start now next first h all rest line f going kept (line_fails start now first h all rest line f guests few going are within fails)
 
 -- nothing is what none of the lines print
-pub none_printed : (board : List GuestConfig) (lines : List Said) (start : Option (List ℕ)) → PrintsFirst (output_of board) lines start start
+pub none_printed : (board : List GuestConfig) (lines : List Said) (start : Option (List ℕ)) → PrintsFirst fault.NoMemory (output_of board) lines start start
 unfolding transcript
-none_printed board lines start = record { first = []; rest = lines; parts = refl; printed = Appends-nil start }
+none_printed board lines start = record { first = []; rest = lines; parts = refl; printed = Appends-nil start; reason = tt }
 
 -- and what the first lines printed stays through a flush
-first_still : (text : List Said → List ℕ) (lines : List Said) (start now next : Option (List ℕ)) → PrintsFirst text lines start now → Keeps now next → PrintsFirst text lines start next
-first_still text lines start now next printed kept = record { first = printed.first; rest = printed.rest; parts = printed.parts; printed = Appends-kept start now next _ printed.printed kept }
+first_still : (f : Fault) (text : List Said → List ℕ) (lines : List Said) (start now next : Option (List ℕ)) → PrintsFirst f text lines start now → Keeps now next → PrintsFirst f text lines start next
+first_still f text lines start now next printed kept =
+    record { first = printed.first; rest = printed.rest; parts = printed.parts; printed = Appends-kept start now next _ printed.printed kept; reason = printed.reason }
 
 still : (text : List Said → List ℕ) (lines : List Said) (start now next : Option (List ℕ)) (f : Fault) → PrintsFirstUnless f text lines start now → Keeps now next
     → PrintsFirstUnless f text lines start next
 still text lines start now next fault.FileFault printed kept = tt
-still text lines start now next fault.OutOfRange printed kept = first_still text lines start now next printed kept
-still text lines start now next fault.NoMemory printed kept = first_still text lines start now next printed kept
-still text lines start now next fault.DiskFault printed kept = first_still text lines start now next printed kept
-still text lines start now next fault.NotFormatted printed kept = first_still text lines start now next printed kept
-still text lines start now next fault.OtherConfig printed kept = first_still text lines start now next printed kept
-still text lines start now next fault.Busy printed kept = first_still text lines start now next printed kept
-still text lines start now next fault.HistoryFull printed kept = first_still text lines start now next printed kept
-still text lines start now next fault.NoRoom printed kept = first_still text lines start now next printed kept
-still text lines start now next fault.Foreign printed kept = first_still text lines start now next printed kept
-still text lines start now next fault.BadBoard printed kept = first_still text lines start now next printed kept
-still text lines start now next (fault.BadScript line) printed kept = first_still text lines start now next printed kept
+still text lines start now next fault.OutOfRange printed kept = first_still fault.OutOfRange text lines start now next printed kept
+still text lines start now next fault.NoMemory printed kept = first_still fault.NoMemory text lines start now next printed kept
+still text lines start now next fault.DiskFault printed kept = first_still fault.DiskFault text lines start now next printed kept
+still text lines start now next fault.NotFormatted printed kept = first_still fault.NotFormatted text lines start now next printed kept
+still text lines start now next fault.OtherConfig printed kept = first_still fault.OtherConfig text lines start now next printed kept
+still text lines start now next fault.Busy printed kept = first_still fault.Busy text lines start now next printed kept
+still text lines start now next fault.HistoryFull printed kept = first_still fault.HistoryFull text lines start now next printed kept
+still text lines start now next fault.NoRoom printed kept = first_still fault.NoRoom text lines start now next printed kept
+still text lines start now next fault.Foreign printed kept = first_still fault.Foreign text lines start now next printed kept
+still text lines start now next fault.BadBoard printed kept = first_still fault.BadBoard text lines start now next printed kept
+still text lines start now next (fault.BadScript line) printed kept = first_still (fault.BadScript line) text lines start now next printed kept
 
-pub fresh_stops : {X : Type 0} (board : List GuestConfig) (h : HostView) (lines : List Said) (r : Result X Fault) (start now next : Option (List ℕ)) → IsFresh board h → Keeps now next
-    → IfErr r (λ f. (t : Told) → IsAt 0 t h → StoresNothing lines → PrintsFirstUnless f (transcript t) lines start now)
-    → IfErr r (λ f. AreSplit board → StoresNothing lines → PrintsFirstUnless f (output_of board) lines start next)
+pub fresh_stops : {X : Type 0} (board : List GuestConfig) (h : HostView) (lines : List Line) (r : Result X Fault) (start now next : Option (List ℕ)) → IsFresh board h → Keeps now next
+    → IfErr r (λ f. (guests : ℕ) → (t : Told) → IsAt 0 t h → AreGuests guests t → AreWithin guests lines → StoresNothing (map said lines) → PrintsFirstUnless f (transcript t) (map said lines) start now)
+    → IfErr r (λ f. AreSplit board → AreWithin (length board) lines → StoresNothing (map said lines) → PrintsFirstUnless f (output_of board) (map said lines) start next)
+unfolding fresh_view
 fresh_stops board h lines (Ok x) start now next fresh kept stops = stops
-fresh_stops board h lines (Err f) start now next fresh kept stops = λ split clean.
+fresh_stops board h lines (Err f) start now next fresh kept stops = λ split within clean.
     let told : Told = record { cores = (fresh_view board).cores; sessions = replicate (length board) 1 } in
-    still (transcript told) lines start now next f (stops told (record { cores = ap (λ r. r.cores) fresh.runner; ready = fresh.guests split }) clean) kept
+    let are : AreGuests (length board) told = record { cores = length-map board fresh_core; sessions = length-replicate (length board) 1 } in
+    still (transcript told) (map said lines) start now next f
+    (stops (length board) told (record { cores = ap (λ r. r.cores) fresh.runner; ready = fresh.guests split }) are within clean) kept
 
 -- the lines that are left have the sizes of lines
 pub head_sized : (line : Line) (rest : List Line) → All (λ l. IsSized (said l)) (line ∷ rest) → IsSized (said line)
@@ -161,6 +212,12 @@ head_sized line rest are = are 0 line (omega arith)
 
 pub rest_sized : (line : Line) (rest : List Line) → All (λ l. IsSized (said l)) (line ∷ rest) → All (λ l. IsSized (said l)) rest
 rest_sized line rest are = λ k d below. are (suc k) d (omega (arith, below))
+
+pub head_within : (guests : ℕ) (line : Line) (rest : List Line) → AreWithin guests (line ∷ rest) → IsWithin guests (said line)
+head_within guests line rest are = are 0 line (omega arith)
+
+pub rest_within : (guests : ℕ) (line : Line) (rest : List Line) → AreWithin guests (line ∷ rest) → AreWithin guests rest
+rest_within guests line rest are = λ k d below. are (suc k) d (omega (arith, below))
 
 pub none_left : (lines : List Line) (n : ℕ) → n ≡ 0 → n ≡ length lines → lines ≡ []
 none_left [] n zero_is long = refl

@@ -1,5 +1,5 @@
 -- Why a command ends with a fault, and what it has printed then.
-use Rattle.std.specs.Prelude.{◌≡◌, ℕ, ◌++◌, List, Option, None, length, true}
+use Rattle.std.specs.Prelude.{◌≡◌, ℕ, ◌++◌, ◌∷◌, [], List, Option, None, length, true}
 use Rattle.std.specs.Io.KnownBytes.{Appends, Keeps}
 use Rattle.command_line.specs.declared.command.Command.{Command}
 use Rattle.command_line.specs.declared.command.Command.TheVariants as command
@@ -13,6 +13,7 @@ use Rattle.commands.specs.declared.fault.Fault.{Fault}
 use Rattle.commands.specs.declared.fault.Fault.TheVariants as fault
 use Rattle.commands.specs.Fault.{fault_line}
 use Rattle.script.specs.Line.{Said}
+use Rattle.commands.specs.Running.{IsChain}
 use Rattle.commands.specs.Transcript.{AreSplit, IsBadAt, Says, StoresNothing, output_of}
 
 abbrev pub IsRun : Command → Type 0
@@ -48,6 +49,17 @@ IsOfRunning fault.DiskFault = ⊥
 IsOfRunning fault.NotFormatted = ⊥
 IsOfRunning fault.OtherConfig = ⊥
 IsOfRunning fault.BadBoard = ⊥
+
+-- what the writing of one line, or the reading of all, may come to
+abbrev pub IsOfWriting : Fault → Type 0
+IsOfWriting fault.NoMemory = Unit {0}
+IsOfWriting fault.FileFault = Unit {0}
+IsOfWriting f = ⊥
+
+abbrev pub IsOfReading : Fault → Type 0
+IsOfReading (fault.BadScript line) = Unit {0}
+IsOfReading fault.NoMemory = Unit {0}
+IsOfReading f = ⊥
 
 -- Which faults end a run: the first bad line; want of memory; and, where all lines are read, what one of
 -- them came to.
@@ -103,17 +115,32 @@ abbrev pub KeepsUnless : Fault → Option (List ℕ) → Option (List ℕ) → T
 KeepsUnless fault.FileFault start now = Unit {0}
 KeepsUnless f start now = Keeps start now
 
--- What the first of these lines print was printed, and no more.
-pub record PrintsFirst (text : List Said → List ℕ) (lines : List Said) (start now : Option (List ℕ)) : Type 0 where
+-- the next of the lines left is a chain
+abbrev pub IsChainNext : List Said → Type 0
+IsChainNext [] = ⊥
+IsChainNext (line ∷ rest) = IsChain line
+
+-- Why a run stops where these lines are done and those are left: at a chain, for which the history or its
+-- guest's driver has no room, or memory was refused; memory may be refused before the first line, too.
+abbrev pub StopsFor : Fault → List Said → List Said → Type 0
+StopsFor fault.NoMemory [] rest = Unit {0}
+StopsFor fault.NoMemory (line ∷ first) rest = IsChainNext rest
+StopsFor fault.HistoryFull first rest = IsChainNext rest
+StopsFor fault.NoRoom first rest = IsChainNext rest
+StopsFor f first rest = ⊥
+
+-- What the first of these lines print was printed, and no more; the next is what the run stopped for.
+pub record PrintsFirst (f : Fault) (text : List Said → List ℕ) (lines : List Said) (start now : Option (List ℕ)) : Type 0 where
   pub first : List Said
   pub rest : List Said
   pub parts : lines ≡ first ++ rest
   pub printed : Appends start now (text first)
+  pub reason : StopsFor f first rest
 
 -- the same, unless standard output took no more
 abbrev pub PrintsFirstUnless : Fault → (List Said → List ℕ) → List Said → Option (List ℕ) → Option (List ℕ) → Type 0
 PrintsFirstUnless fault.FileFault text lines start now = Unit {0}
-PrintsFirstUnless f text lines start now = PrintsFirst text lines start now
+PrintsFirstUnless f text lines start now = PrintsFirst f text lines start now
 
 -- What a run that ends with a fault has printed: nothing, where a line is bad; else what a front of its
 -- lines prints, where no line stored into guest memory.

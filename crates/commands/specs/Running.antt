@@ -1,10 +1,13 @@
 -- What a line does to a host whose guests are all ready.
-use Rattle.std.specs.Prelude.{◌≡◌, ℕ, ◌+◌, ◌<◌, ◌≤◌, List, length, Option}
+use Rattle.std.specs.Prelude.{◌≡◌, ℕ, ◌+◌, ◌<◌, ◌≤◌, All, List, length, Option}
 use Rattle.std.specs.Io.KnownBytes.{Appends}
 use Rattle.mmio_transport.specs.Device.{last_count}
-use Rattle.script.specs.Line.{Said, nothing, chain, store, reset}
+use Rattle.script.specs.Line.{IsWithin, Said, nothing, chain, said, store, reset}
+use Rattle.script.specs.declared.line.Line.{Line}
 use Rattle.runner.specs.Host.{HostView, AreReady}
 use Rattle.commands.specs.Transcript.{Told, printed_by, told_by}
+use Rattle.commands.specs.declared.fault.Fault.{Fault}
+use Rattle.commands.specs.declared.fault.Fault.TheVariants as fault
 
 -- a chain has the sizes that a driver may offer
 abbrev pub IsSized : Said → Type 0
@@ -30,3 +33,37 @@ Runs h (chain guest readable writable) start now h' =
     (steps : ℕ) → (t : Told) → steps + 2 < last_count → IsAt steps t h → HasRun steps t (chain guest readable writable) start now h'
 Runs h (store guest at bytes) start now h' = Unit {0}
 Runs h (reset guest) start now h' = (steps : ℕ) → (t : Told) → steps + 2 < last_count → IsAt steps t h → HasRun steps t (reset guest) start now h'
+
+abbrev pub IsChain : Said → Type 0
+IsChain nothing = ⊥
+IsChain (chain guest readable writable) = Unit {0}
+IsChain (store guest at bytes) = ⊥
+IsChain (reset guest) = ⊥
+
+-- The faults that a line may come to where each guest is ready: those of a chain alone, for want of memory,
+-- of room in the history, or of descriptors; and that standard output took no more.
+abbrev pub MayFail : Fault → Said → Type 0
+MayFail fault.FileFault line = Unit {0}
+MayFail fault.NoMemory line = IsChain line
+MayFail fault.HistoryFull line = IsChain line
+MayFail fault.NoRoom line = IsChain line
+MayFail f line = ⊥
+
+-- the guests that stand there are those that lines of so many guests may name
+pub record AreGuests (guests : ℕ) (t : Told) : Type 0 where
+  pub cores : length t.cores ≡ guests
+  pub sessions : length t.sessions ≡ guests
+
+abbrev pub FailsAs : HostView → Said → Fault → Type 0
+FailsAs h line f = (steps guests : ℕ) → (t : Told) → steps + 2 < last_count → IsAt steps t h → AreGuests guests t → IsWithin guests line → MayFail f line
+
+-- how a line fails on a host that stands there; a store promises nothing
+abbrev pub Fails : HostView → Said → Fault → Type 0
+Fails h nothing f = FailsAs h nothing f
+Fails h (chain guest readable writable) f = FailsAs h (chain guest readable writable) f
+Fails h (store guest at bytes) f = Unit {0}
+Fails h (reset guest) f = FailsAs h (reset guest) f
+
+-- the lines name guests of a board of so many
+abbrev pub AreWithin : ℕ → List Line → Type 0
+AreWithin guests lines = All (λ line. IsWithin guests (said line)) lines

@@ -4,8 +4,8 @@ ghost use Rattle.std.specs.Prelude.{string_bytes};
 ghost use Rattle.std.specs.Io.KnownBytes.{Appends, Keeps};
 ghost use Rattle.script.specs.Line.{Said, chain, line_of, said};
 ghost use Rattle.script.specs.Script.{lines_of};
-ghost use Rattle.commands.specs.Ending.{IsOfRunning, KeepsUnless, PrintsFirstUnless, RunEnds, RunPrints};
-ghost use Rattle.commands.specs.Running.{IsAt, IsSized, Runs};
+ghost use Rattle.commands.specs.Ending.{IsOfReading, IsOfRunning, IsOfWriting, KeepsUnless, PrintsFirstUnless, RunEnds, RunPrints};
+ghost use Rattle.commands.specs.Running.{AreGuests, AreWithin, Fails, IsAt, IsSized, Runs};
 ghost use Rattle.commands.specs.Transcript.{AreSplit, IsBadAt, Says, StoresNothing, Told, output_of, shown};
 ghost use Rattle.commands.specs.Transcript.{stuck_line, transcript, used_line};
 
@@ -36,7 +36,7 @@ fn shown(alloc: Global, bytes: &[u8]) -> Result<String, Fault>
 #[tactic(auto, unfolding(crate::specs::Transcript::used_line))]
 fn write_reply<W: Write>(alloc: Global, guest: u16, reply: &[u8], out: &mut W) -> Result<(), Fault>
     ensures printed { OnOk result (Appends (W.contents out.old) (W.contents out.new) (used_line guest reply.now)) }
-    ensures ends { IfErr result IsOfRunning }
+    ensures ends { IfErr result IsOfWriting }
     ensures silent { IfErr result (λ fault. KeepsUnless fault (W.contents out.old) (W.contents out.new)) }
 {
     let text = match shown(alloc, reply) {
@@ -53,7 +53,7 @@ fn write_reply<W: Write>(alloc: Global, guest: u16, reply: &[u8], out: &mut W) -
 #[tactic(auto, unfolding(crate::specs::Transcript::stuck_line))]
 fn write_stuck<W: Write>(guest: u16, stuck: Stuck, out: &mut W) -> Result<(), Fault>
     ensures printed { OnOk result (Appends (W.contents out.old) (W.contents out.new) (stuck_line guest stuck)) }
-    ensures ends { IfErr result IsOfRunning }
+    ensures ends { IfErr result IsOfWriting }
     ensures silent { IfErr result (λ fault. KeepsUnless fault (W.contents out.old) (W.contents out.new)) }
 {
     let text = match stuck {
@@ -71,8 +71,10 @@ fn read_lines(alloc: Global, script: &str, board: &BoardConfig) -> Result<Vec<Li
     ensures ok { IfOk result (λ lines. map (λ line. Some (said line)) lines.items
         ≡ map (line_of (length board.now)) (lines_of script.now)) }
     ensures sized { IfOk result (λ lines. All (λ line. IsSized (said line)) lines.items) }
+    ensures within { IfOk result (λ lines. AreWithin (length board.now) lines.items) }
     ensures bad { (n : ℕ) → result ≡ Err (Fault.BadScript n) → IsBadAt board.now script.now n }
     ensures ends { IfErr result (RunEnds board.now script.now) }
+    ensures reads { IfErr result IsOfReading }
 {
     match read_script(alloc, script, board.guests().len() as u16) {
         Ok(lines) => Ok(lines),
@@ -93,6 +95,7 @@ fn run_chain<W: Write>(
     requires { IsSized (chain guest readable.now writable) }
     ensures runs { OnOk result (Runs host.old (chain guest readable.now writable) (W.contents out.old) (W.contents out.new) host.new) }
     ensures ends { IfErr result IsOfRunning }
+    ensures fails { IfErr result (Fails host.old (chain guest readable.now writable)) }
     ensures silent { IfErr result (λ fault. KeepsUnless fault (W.contents out.old) (W.contents out.new)) }
 {
     match host.chain(alloc, guest, readable, writable) {
@@ -107,6 +110,7 @@ fn run_line<W: Write>(alloc: Global, host: &mut Host, line: Line, out: &mut W) -
     requires { IsSized (said line) }
     ensures runs { OnOk result (Runs host.old (said line) (W.contents out.old) (W.contents out.new) host.new) }
     ensures ends { IfErr result IsOfRunning }
+    ensures fails { IfErr result (Fails host.old (said line)) }
     ensures silent { IfErr result (λ fault. KeepsUnless fault (W.contents out.old) (W.contents out.new)) }
 {
     match line {
@@ -138,7 +142,8 @@ fn run_lines<W: Write>(
     ensures printed { OnOk result ((t : Told) → IsAt 0 t host.old → StoresNothing (map said lines.items)
         → Appends (W.contents out.old) (W.contents out.new) (transcript t (map said lines.items))) }
     ensures ends { IfErr result IsOfRunning }
-    ensures stopped { IfErr result (λ fault. (t : Told) → IsAt 0 t host.old → StoresNothing (map said lines.items)
+    ensures stopped { IfErr result (λ fault. (guests : ℕ) → (t : Told) → IsAt 0 t host.old → AreGuests guests t
+        → AreWithin guests lines.items → StoresNothing (map said lines.items)
         → PrintsFirstUnless fault (transcript t) (map said lines.items) (W.contents out.old) (W.contents out.new)) }
 {
     for line in lines {
@@ -158,7 +163,7 @@ fn run_fresh<W: Write>(
     ensures printed { OnOk result (AreSplit board.now → StoresNothing (map said lines.items)
         → Appends (W.contents out.old) (W.contents out.new) (output_of board.now (map said lines.items))) }
     ensures ends { IfErr result IsOfRunning }
-    ensures stopped { IfErr result (λ fault. AreSplit board.now → StoresNothing (map said lines.items)
+    ensures stopped { IfErr result (λ fault. AreSplit board.now → AreWithin (length board.now) lines.items → StoresNothing (map said lines.items)
         → PrintsFirstUnless fault (output_of board.now) (map said lines.items) (W.contents out.old) (W.contents out.new)) }
 {
     let Ok(mut host) = Host::new(alloc, board) else {

@@ -156,8 +156,12 @@ fn a_job_is_what_was_popped(rt: HostRuntime) -> Result<(), Fail> {
     ask_for(alloc, &mut guest, &program_key(&[0x11; 32]), programmed)?;
     let request = get_write_counter(0x0001_0203_0405_0607_0809_0a0b_0c0d_0e0f);
     let job = guest.popped(&request)?;
+    let ones = [0xff; 512];
     for (at, len) in &POPPED {
-        guest.device.store(*at, &[0xff; 512][..*len])?;
+        let Some(bytes) = ones.get(..*len) else {
+            return Err(Fail::from("at most 512 bytes are overwritten"));
+        };
+        guest.device.store(*at, bytes)?;
     }
     let done = guest.runner.answer(alloc, job)?;
     check(

@@ -28,7 +28,7 @@ pub returns-in-Ok-clause-stopped : goal.returns-in-Ok-clause-stopped
 returns-in-Ok-clause-stopped g c =
     let start = g.W.Write.contents c.args.out.now in
     let end = g.W.Write.contents c.run_fresh.new.out in
-    all_run_prints c.args.board.now c.args.script.now c.in-Ok.lines.items c.run_fresh.result start end c.in-Ok.ensures.ok c.run_fresh.ensures.ends c.run_fresh.ensures.stopped
+    all_run_prints c.args.board.now c.args.script.now c.in-Ok.lines.items c.run_fresh.result start end c.in-Ok.ensures.ok c.in-Ok.ensures.within c.run_fresh.ensures.ends c.run_fresh.ensures.stopped
 
 pub returns-in-Err-clause-stopped : goal.returns-in-Err-clause-stopped
-returns-in-Err-clause-stopped g c = none_run c.args.board.now c.args.script.now c.in-Err.fault (g.W.Write.contents c.args.out.now)
+returns-in-Err-clause-stopped g c = none_run c.args.board.now c.args.script.now c.in-Err.fault (g.W.Write.contents c.args.out.now) c.in-Err.ensures.reads

@@ -1,9 +1,11 @@
-use Rattle.std.proofs.Common.{Ok, subst}
+use Rattle.std.proofs.Common.{Ok, subst, sym}
+use Rattle.script.specs.Line.{chain}
 use Rattle.std.proofs.lemmas.Result.{on_ok_weaker}
 use Rattle.runner.specs.Host.{HostAnswers}
 use Rattle.runner.specs.declared.guest.Answer.{Answer}
 use Rattle.runner.specs.declared.guest.Answer.TheVariants.{Used}
-use Rattle.commands.proofs.Lines.{used_runs, stuck_runs}
+use Rattle.commands.specs.Running.{Fails}
+use Rattle.commands.proofs.Lines.{chain_ends, stuck_runs, used_runs}
 use Rattle.commands.proofs.running.run_chain.Goals as goal
 
 pub returns-in-Ok-Used-clause-runs : goal.returns-in-Ok-Used-clause-runs
@@ -21,3 +23,8 @@ returns-in-Ok-Stuck-clause-runs g c =
     let given : Answer → Type 0 = λ x. HostAnswers c.args.host.now c.args.guest c.args.readable.now c.args.writable (Ok x) c.chain.new.self in
     on_ok_weaker c.write_stuck.result (λ printed. stuck_runs c.args.host.now c.chain.new.self c.args.guest c.args.readable.now c.args.writable c.in-Ok-Stuck.stuck start end
     (subst given c.in-Ok-Stuck.field-0-is c.in-Ok-Stuck.ensures.answer)) c.write_stuck.ensures.printed
+
+pub returns-in-Err-clause-fails : goal.returns-in-Err-clause-fails
+returns-in-Err-clause-fails g c =
+    subst (Fails c.args.host.now (chain c.args.guest c.args.readable.now c.args.writable)) (sym c.of.ensures)
+    (chain_ends c.args.host.now c.chain.new.self c.args.guest c.args.readable.now c.args.writable c.in-Err.fault c.in-Err.ensures.guest)

@@ -5,8 +5,8 @@ use Rattle.std.proofs.lemmas.List.{length-map}
 use Rattle.mmio_transport.specs.Device.{last_count}
 use Rattle.script.specs.Line.{said}
 use Rattle.script.specs.declared.line.Line.{Line}
-use Rattle.commands.specs.Running.{IsSized}
-use Rattle.commands.proofs.Printing.{Going, finish, none_left, step, stop, rest_sized}
+use Rattle.commands.specs.Running.{AreWithin, IsSized}
+use Rattle.commands.proofs.Printing.{Going, finish, head_within, none_left, rest_sized, rest_within, step, stop}
 use Rattle.commands.proofs.running.run_lines.Goals as goal
 
 pub loop-line-preserved : goal.loop-line-preserved
@@ -19,8 +19,9 @@ loop-line-preserved g c =
     let rest = c.in-Some.ensures.steps.0 in
     let sized : List Line → Type 0 = λ ls. All (λ l. IsSized (said l)) ls in (
       rest_sized c.in-Some.line c.next.new.self.rest.items (subst sized rest now.invariant.0),
+      (λ guests within. rest_within guests c.in-Some.line c.next.new.self.rest.items (subst (AreWithin guests) rest (now.invariant.1 guests within))),
       (λ t at clean.
-          let going = subst (Going start here t now.host all) (ap (map said) rest) (now.invariant.1 t at clean) in
+          let going = subst (Going start here t now.host all) (ap (map said) rest) (now.invariant.2 t at clean) in
           step start here (g.W.Write.contents c.run_line.new.out) t now.host c.run_line.new.host all (map said c.next.new.self.rest.items) (said c.in-Some.line) few going c.in_ok-run_line.ensures.runs),
     )
 
@@ -34,7 +35,7 @@ returns-clause-printed g c =
     let left = now.line-iterator.rest in
     let long : left.len ≡ length left.items = omega (arith, left.ok) in
     let rest = ap (map said) (none_left left.items left.len c.in-None.ensures.steps.0 long) in
-    finish start here t now.host all (subst (Going start here t now.host all) rest (now.invariant.1 t at clean))
+    finish start here t now.host all (subst (Going start here t now.host all) rest (now.invariant.2 t at clean))
 
 pub returns-in_err-run_line-clause-stopped : goal.returns-in_err-run_line-clause-stopped
 returns-in_err-run_line-clause-stopped g c =
@@ -43,8 +44,11 @@ returns-in_err-run_line-clause-stopped g c =
     let start = g.W.Write.contents c.args.out.now in
     let here = g.W.Write.contents now.out in
     let next = g.W.Write.contents c.run_line.new.out in
+    let few : length all + 2 < last_count = omega (arith, length-map c.args.lines.items said, c.args.lines.ok, c.args.lines.small) in
     let rest = c.in-Some.ensures.steps.0 in
+    let left = c.next.new.self.rest.items in
     let p = err_from_is_err_and c.from_residual.result c.from_residual.ensures.1 in
-    rw (p.1, p.2) (λ t at clean.
-    let going = subst (Going start here t now.host all) (ap (map said) rest) (now.invariant.1 t at clean) in
-    stop start here next t now.host all _ c.in_err-run_line.field-0.0 going c.in_err-run_line.ensures.silent)
+    rw (p.1, p.2) (λ guests t at are within clean.
+    let going = subst (Going start here t now.host all) (ap (map said) rest) (now.invariant.2 t at clean) in
+    let one = head_within guests c.in-Some.line left (subst (AreWithin guests) rest (now.invariant.1 guests within)) in
+    stop start here next t now.host all (map said left) (said c.in-Some.line) c.in_err-run_line.field-0.0 guests few going c.in_err-run_line.ensures.silent are one c.in_err-run_line.ensures.fails)
