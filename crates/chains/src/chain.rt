@@ -1,4 +1,4 @@
-ghost use Rattle.std.specs.Prelude.{◌≡◌, ◌≤◌, ◌<◌, ◌+◌, ◌^◌, ◌↔◌, IsTrue, true, IsOk, IfOk, length, [], ◌∷◌, take};
+ghost use Rattle.std.specs.Prelude.{◌≡◌, ◌≤◌, ◌<◌, ◌+◌, ◌^◌, ◌↔◌, IsTrue, true, IsOk, IfOk, OnErr, length, [], ◌∷◌, take};
 ghost use Rattle.std.specs.List.{flat_map, sum_by};
 ghost use Rattle.chains.specs.Range.{bytes_of, most_gathered, scattered, AreInside};
 ghost use Rattle.chains.specs.Chain.{no_buffers};
@@ -53,9 +53,10 @@ impl Chain {
     }
 
     /// What a reply needs of the chain: the buffers that the device may write, and none that it may
-    /// read.
+    /// read. Where there are none to write, no memory is taken.
     pub fn for_reply(&self, alloc: Global) -> Result<Chain, NoMemory>
-        ensures { IfOk result (λ chain. chain ≡ record { readable = []; writable = self.now.writable }) }
+        ensures value { IfOk result (λ chain. chain ≡ record { readable = []; writable = self.now.writable }) }
+        ensures refused { OnErr result (0 < length self.now.writable) }
     {
         let mut ranges = Vec::with_capacity(alloc, self.writable.len())?;
         ranges.extend_from_slice(&self.writable)?;
