@@ -48,17 +48,10 @@ fn pop(device: &mut Device) -> Result<Job, Fail> {
 
 // Publishes a job, with the reply where it has room for one.
 fn publish(alloc: Global, device: &mut Device, job: Job) -> Result<(), Fail> {
-    let reply = if job.writable() < 2 {
-        &REPLY[..0]
-    } else {
-        &REPLY[..]
-    };
-    publish_bytes(alloc, device, job, reply)
-}
-
-fn publish_bytes(alloc: Global, device: &mut Device, job: Job, reply: &[u8]) -> Result<(), Fail> {
+    let room = job.writable();
+    let reply = if room < 2 { &REPLY[..0] } else { &REPLY[..] };
     let reply = Vec::from_slice(alloc, reply).ok().ok_or("no room")?;
-    if reply.len() as u64 > job.writable() {
+    if reply.len() as u64 > room {
         return Err(Fail::from("no room for the reply"));
     }
     match device.publish(Done::of(job, reply, 0)) {
@@ -97,27 +90,6 @@ fn chains_come_back_as_they_were_published(rt: HostRuntime) -> Result<(), Fail> 
     reap(&mut driver, &device, 1, &REPLY)?;
     reap(&mut driver, &device, 0, &[])?;
     assert!(rt; matches!(driver.reap(&device), Ok(None)));
-    Ok(())
-}
-
-// Bytes of which none is like its neighbours, nor like the one 256 places on.
-fn largest_reply(alloc: Global) -> Result<Vec<u8>, Fail> {
-    let mut bytes = Vec::new(alloc);
-    for i in 0..8192_u32 {
-        bytes.push((i % 251) as u8).ok().ok_or("no memory")?;
-    }
-    Ok(bytes)
-}
-
-#[test]
-fn the_largest_request_and_reply(rt: HostRuntime) -> Result<(), Fail> {
-    let (mut device, mut driver) = in_service(rt.alloc())?;
-    let reply = largest_reply(rt.alloc())?;
-    assert_eq!(rt; driver.offer(&mut device, &[6; 8704], 8192), Ok(0));
-    let job = pop(&mut device)?;
-    assert!(rt; job.request() == [6; 8704].as_slice());
-    publish_bytes(rt.alloc(), &mut device, job, &reply)?;
-    reap(&mut driver, &device, 0, &reply)?;
     Ok(())
 }
 
