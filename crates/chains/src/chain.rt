@@ -1,4 +1,4 @@
-ghost use Rattle.std.specs.Prelude.{◌≡◌, ◌≤◌, ◌<◌, ◌+◌, ◌^◌, ◌↔◌, IsTrue, true, IsOk, IfOk, length, [], ◌∷◌, take};
+ghost use Rattle.std.specs.Prelude.{◌≡◌, ◌≤◌, ◌<◌, ◌+◌, ◌^◌, ◌↔◌, IsTrue, true, IsOk, IfOk, OnErr, length, [], ◌∷◌, take};
 ghost use Rattle.std.specs.List.{flat_map, sum_by};
 ghost use Rattle.chains.specs.Range.{bytes_of, most_gathered, scattered, AreInside};
 ghost use Rattle.chains.specs.Chain.{no_buffers};
@@ -53,9 +53,10 @@ impl Chain {
     }
 
     /// What a reply needs of the chain: the buffers that the device may write, and none that it may
-    /// read.
+    /// read. Where there are none to write, no memory is taken.
     pub fn for_reply(&self, alloc: Global) -> Result<Chain, NoMemory>
-        ensures { IfOk result (λ chain. chain ≡ record { readable = []; writable = self.now.writable }) }
+        ensures ok { IfOk result (λ chain. chain ≡ record { readable = []; writable = self.now.writable }) }
+        ensures refused { OnErr result (0 < length self.now.writable) }
     {
         let mut ranges = Vec::with_capacity(alloc, self.writable.len())?;
         ranges.extend_from_slice(&self.writable)?;
@@ -72,10 +73,12 @@ impl Chain {
         }
     }
 
-    /// The first 8,705 bytes that the device may read, or all where there are fewer.
+    /// The first 8,705 bytes that the device may read, or all where there are fewer. Where there are
+    /// none, no memory is taken.
     pub fn gather(&self, alloc: Global, memory: &Memory) -> Result<Vec<u8>, NoMemory>
         requires { AreInside (length memory.now) self.now.readable }
-        ensures { IfOk result (λ bytes. bytes.items ≡ take most_gathered (flat_map (bytes_of memory.now) self.now.readable)) }
+        ensures ok { IfOk result (λ bytes. bytes.items ≡ take most_gathered (flat_map (bytes_of memory.now) self.now.readable)) }
+        ensures refused { OnErr result (0 < length (flat_map (bytes_of memory.now) self.now.readable)) }
     {
         let mut gathered = Vec::new(alloc);
         for range in &self.readable {

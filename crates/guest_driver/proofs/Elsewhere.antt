@@ -1,14 +1,12 @@
 -- What a guest does beside its driver's calls leaves what driver and device agree on.
-use Rattle.std.proofs.Common.{◌≡◌, ℕ, ◌+◌, ◌≤◌, inl, inr, List, [], ◌∷◌, length, refl, arith}
+use Rattle.std.proofs.Common.{ℕ, inl, List, [], ◌∷◌, length, refl, arith}
 use Rattle.guest_memory.specs.Memory.{with_bytes}
 use Rattle.mmio_transport.specs.declared.queue.QueueKind.{QueueKind}
 use Rattle.mmio_transport.specs.Registers.{after_register}
 use Rattle.mmio_transport.specs.Device.{DeviceState, after_write}
 use Rattle.guest_driver.specs.Offered.{Offer}
 use Rattle.guest_driver.specs.Used.{Reply}
-use Rattle.guest_driver.specs.Driver.{DriverState}
 use Rattle.guest_driver.specs.Law.{SameBytes, SameReplies, Untouched}
-use Rattle.guest_driver.specs.OnDevice.{IsServed}
 use Rattle.guest_driver.specs.Beside.{IsApartFromBytes, IsApartFromReplies, AStoreElsewhereStays, AnAcknowledgementStays, ANotificationStays}
 use Rattle.guest_driver.proofs.Kept.{Wrote, wrote}
 use Rattle.guest_driver.proofs.Leaves.{it_stays}

@@ -264,7 +264,7 @@ reap_gives m d d' ring pending popped [] (Ok None) h p = p.1
 reap_gives m d d' ring pending popped [] (Ok (Some answer)) h p = p.new.moved (idle m d ring pending popped h)
 reap_gives m d d' ring pending popped [] (Err NoRoom) h p = p
 reap_gives m d d' ring pending popped [] (Err OutOfRange) h p = let small = p.0 in let inside = room_held d.kind m d.size h.reaped ring.used ring.popped pending _ h.held in omega (arith, small, inside)
-reap_gives m d d' ring pending popped [] (Err NoMemory) h p = p.0.moved (idle m d ring pending popped h)
+reap_gives m d d' ring pending popped [] (Err NoMemory) h p = p.0.new.moved (idle m d ring pending popped h)
 reap_gives m d d' ring pending popped [] (Err BadUsed) h p = p.0.moved (idle m d ring pending popped h)
 reap_gives m d d' ring pending popped (r ∷ rs) (Ok None) h p = let P : ℕ → Type 0 = λ v. IsStill d.kind m d.size v in (first_used d.kind m ring d.size h.reaped pending r rs h.setup h.held).moved (subst P h.used p.0.still)
 reap_gives m d d' ring pending popped (r ∷ rs) (Ok (Some answer)) h p =
@@ -284,7 +284,7 @@ reap_gives m d d' ring pending popped (r ∷ rs) (Ok (Some answer)) h p =
     }
 reap_gives m d d' ring pending popped (r ∷ rs) (Err NoRoom) h p = p
 reap_gives m d d' ring pending popped (r ∷ rs) (Err OutOfRange) h p = let small = p.0 in let inside = room_held d.kind m d.size h.reaped ring.used ring.popped pending _ h.held in omega (arith, small, inside)
-reap_gives m d d' ring pending popped (r ∷ rs) (Err NoMemory) h p = p.2
+reap_gives m d d' ring pending popped (r ∷ rs) (Err NoMemory) h p = p.1
 reap_gives m d d' ring pending popped (r ∷ rs) (Err BadUsed) h p =
     let f = first_of m d ring pending popped r rs h in
     let P : ℕ → ℕ → Type 0 = λ a b. IsFlight d a b in

@@ -14,7 +14,7 @@ use Rattle.chains.specs.declared.descriptor.Descriptor.{Descriptor}
 use Rattle.chains.specs.declared.descriptor.Shape.TheVariants.{SplitRing}
 use Rattle.chains.specs.Descriptor.{split_descriptor, descriptor_at, has}
 use Rattle.chains.specs.Range.{bytes_of, most_gathered}
-use Rattle.chains.specs.Walk.{Found, walk}
+use Rattle.chains.specs.Walk.{walk}
 use Rattle.chains.specs.Ring.{RingState}
 use Rattle.chains.proofs.ListLemmas.{list_law}
 use Rattle.split_ring.specs.Layout.{word_at, descriptor_table}

@@ -1,6 +1,6 @@
 -- What a guest may do beside its driver's calls, and leave what driver and device agree on. Section
 -- numbers are those of VIRTIO 1.2.
-use Rattle.std.specs.Prelude.{◌≡◌, ◌⊎◌, ℕ, ◌+◌, ◌≤◌, List, [], ◌∷◌, length}
+use Rattle.std.specs.Prelude.{◌⊎◌, ℕ, ◌+◌, ◌≤◌, List, [], ◌∷◌, length}
 use Rattle.guest_memory.specs.Memory.{with_bytes}
 use Rattle.mmio_transport.specs.declared.queue.QueueKind.{QueueKind}
 use Rattle.mmio_transport.specs.Device.{DeviceState, after_write}

@@ -1,5 +1,5 @@
 -- A reply is written once.
-use Rattle.std.proofs.Common.{◌≡◌, ℕ, Option, Some, ap, subst}
+use Rattle.std.proofs.Common.{◌≡◌, Option, Some, ap, subst}
 use Rattle.chains.specs.Ring.{IsFree}
 use Rattle.chains.proofs.Numbers.{not_among}
 use Rattle.mmio_transport.specs.declared.job.Ticket.{Ticket}

@@ -1,4 +1,4 @@
-ghost use Rattle.std.specs.Prelude.{◌≡◌, ◌≤◌, ◌^◌, IfOk, length, []};
+ghost use Rattle.std.specs.Prelude.{◌≡◌, ◌<◌, ◌≤◌, ◌^◌, IfOk, OnErr, length, []};
 ghost use Rattle.mmio_transport.specs.Job.{job_at, room_of};
 
 use chains::{Chain, NoMemory, Popped, Range};
@@ -81,8 +81,10 @@ impl Job {
 
     /// A second job of the same chain that has what a reply needs alone: no request, and no ranges
     /// to read. Of the replies to both, a device writes the first that it is given and drops the other.
+    /// Where the chain has no ranges to write, no memory is taken.
     pub fn for_reply(&self, alloc: Global) -> Result<Job, NoMemory>
-        ensures { IfOk result (λ job. job ≡ record self.now { readable = []; request = [] }) }
+        ensures ok { IfOk result (λ job. job ≡ record self.now { readable = []; request = [] }) }
+        ensures refused { OnErr result (0 < length self.now.writable) }
     {
         let chain = self.chain.for_reply(alloc)?;
         Ok(Job {

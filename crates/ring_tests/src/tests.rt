@@ -1,5 +1,6 @@
 mod devices;
 mod drivers;
+mod faults;
 mod memories;
 mod split_rings;
 mod walks;

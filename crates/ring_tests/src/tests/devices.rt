@@ -1,3 +1,4 @@
+mod limits;
 mod probe;
 mod queue;
 mod registers;

@@ -77,7 +77,7 @@ fn pop(
     memory: &mut Memory,
     reads: &mut Reads,
 ) -> Result<Answer, Fail> {
-    if !ring.lies_in(memory) || ring.last() > 100000 {
+    if !ring.lies_in(memory) || ring.last() > 1000000 {
         return Err(Fail::from("the ring isn't inside"));
     }
     let number = ring.last() + 1;
@@ -206,14 +206,15 @@ fn serve(alloc: Global, memory: &mut Memory, ring: &mut Ring, index: u16) -> Res
     Ok(ring.publish(memory, number, 0, 1, 8))
 }
 
-// Pops and publishes one chain for each place from 0 to 65,535, and answers whether the last one is
-// to be notified where the driver asked for the index that `event` names.
+// Pops and publishes one chain for each place from 0 to 131,071, so that the indexes run round twice,
+// and answers whether the last one is to be notified where the driver asked for the index that
+// `event` names.
 fn notified_at_the_wrap(alloc: Global, event: u16) -> Result<bool, Fail> {
     let (mut memory, mut ring) = new_ring(alloc)?;
     put(&mut memory, 0, &descriptor((200, 8, WRITE, 0)))?;
     set_word(&mut memory, USED_EVENT, event)?;
     let mut due = false;
-    for place in 0..65536_u64 {
+    for place in 0..131072_u64 {
         let index = ((place + 1) % 65536) as u16;
         due = serve(alloc, &mut memory, &mut ring, index)?;
     }
@@ -358,5 +359,25 @@ fn a_number_is_taken_once(rt: HostRuntime) -> Result<(), Fail> {
     assert!(rt; pop(rt.alloc(), &mut ring, &mut memory, &mut reads)? == Answer::Chain(8, 0));
     assert!(rt; is_refused_as_old(rt.alloc(), &mut ring, &mut memory, 1));
     assert!(rt; pop(rt.alloc(), &mut ring, &mut memory, &mut reads)? == Answer::Chain(8, 0));
+    Ok(())
+}
+
+fn is_popped_as(alloc: Global, ring: &mut Ring, memory: &mut Memory, number: u64) -> bool {
+    if !ring.lies_in(memory) {
+        return false;
+    }
+    match ring.pop(alloc, memory, &mut Reads::new(), number) {
+        Ok(Some(_)) => ring.last() == number,
+        _ => false,
+    }
+}
+
+#[test]
+fn the_largest_number_is_taken(rt: HostRuntime) -> Result<(), Fail> {
+    let (mut memory, mut ring) = new_ring(rt.alloc())?;
+    put(&mut memory, 0, &descriptor(PLAIN))?;
+    set_word(&mut memory, AVAIL_IDX, 2)?;
+    assert!(rt; is_popped_as(rt.alloc(), &mut ring, &mut memory, u64::MAX));
+    assert!(rt; is_refused_as_old(rt.alloc(), &mut ring, &mut memory, u64::MAX));
     Ok(())
 }

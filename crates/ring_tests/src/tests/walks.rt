@@ -1,5 +1,6 @@
-use chains::{Area, Chain, ChainFault, Range, Reads, RingFault, Shape, walk};
+use chains::{Area, Chain, ChainFault, Places, Popped, Range, Reads, RingFault, Shape, walk};
 use guest_memory::Memory;
+use split_ring::Ring;
 use std::alloc::Global;
 use std::test::Fail;
 
@@ -213,7 +214,7 @@ fn byte(memory: &Memory, at: u64) -> Result<u8, Fail> {
 }
 
 // A ring of 256 descriptors at 0: 255 of one byte to be read, the last of a table at 4,096 of 1,024
-// entries of 9 bytes to be written each, which is more than any reply has.
+// entries of 9 bytes each, which are more than any reply or request has.
 fn put_ring(memory: &mut Memory) -> Result<(), Fail> {
     for place in 0..255_u16 {
         let to = descriptor(40000 + place as u64, 1, NEXT, place + 1);
@@ -223,18 +224,19 @@ fn put_ring(memory: &mut Memory) -> Result<(), Fail> {
     put(memory, 4080, &descriptor(4096, 16384, INDIRECT, 0))
 }
 
-fn put_table(memory: &mut Memory) -> Result<(), Fail> {
+// The entries are to be written where `write` is WRITE, and to be read where it is 0.
+fn put_table(memory: &mut Memory, write: u16) -> Result<(), Fail> {
     for entry in 0..1023_u16 {
-        let to = descriptor(50000 + 9 * entry as u64, 9, WRITE + NEXT, entry + 1);
+        let to = descriptor(50000 + 9 * entry as u64, 9, write | NEXT, entry + 1);
         put(memory, 4096 + 16 * entry as u64, &to)?;
     }
-    put(memory, 20464, &descriptor(59207, 9, WRITE, 0))
+    put(memory, 20464, &descriptor(59207, 9, write, 0))
 }
 
-fn longest(alloc: Global) -> Result<Memory, Fail> {
+fn longest(alloc: Global, write: u16) -> Result<Memory, Fail> {
     let mut memory = Memory::new(alloc, 65536).ok().ok_or("no memory")?;
     put_ring(&mut memory)?;
-    put_table(&mut memory)?;
+    put_table(&mut memory, write)?;
     Ok(memory)
 }
 
@@ -267,7 +269,7 @@ fn reply_longest(alloc: Global, memory: &mut Memory, chain: &Chain) -> Result<()
 
 #[test]
 fn the_longest_chain(rt: HostRuntime) -> Result<(), Fail> {
-    let mut memory = longest(rt.alloc())?;
+    let mut memory = longest(rt.alloc(), WRITE)?;
     let (count, chain) = walk_longest(rt.alloc(), &memory)?;
     assert_eq!(rt; count, 1280);
     let kept = chain.for_reply(rt.alloc())?;
@@ -275,5 +277,54 @@ fn the_longest_chain(rt: HostRuntime) -> Result<(), Fail> {
     assert!(rt;
         byte(&memory, 50000)? == 7 && byte(&memory, 59215)? == 7 && byte(&memory, 59216)? == 0
     );
+    Ok(())
+}
+
+// The available ring and the used ring stand behind the table.
+const BEHIND_THE_TABLE: Places = Places {
+    descriptors: 0,
+    driver: 20480,
+    device: 24576,
+    indirect: true,
+    event_idx: false,
+};
+
+// What a ring pops whose first chain is the longest.
+fn pop_longest(alloc: Global, write: u16) -> Result<Popped, Fail> {
+    let mut memory = longest(alloc, write)?;
+    put(&mut memory, 20482, &[1, 0])?;
+    let mut ring = Ring::new(alloc, BEHIND_THE_TABLE, 256)
+        .ok()
+        .ok_or("no ring")?;
+    if !ring.lies_in(&memory) {
+        return Err(Fail::from("no room for the ring"));
+    }
+    match ring.pop(alloc, &mut memory, &mut Reads::new(), 1) {
+        Ok(Some(popped)) => Ok(popped),
+        _ => Err(Fail::from("no chain")),
+    }
+}
+
+// Whether a request begins with one byte of each descriptor in the ring, and goes on with zeros.
+fn is_request_of_longest(request: &[u8]) -> bool {
+    for (place, byte) in request.iter().enumerate() {
+        let expected = if place < 255 { place as u8 } else { 0 };
+        if *byte != expected {
+            return false;
+        }
+    }
+    true
+}
+
+#[test]
+fn a_ring_pops_the_longest_chains(rt: HostRuntime) -> Result<(), Fail> {
+    // Of 255 ranges to be read, and 1,024 to be written.
+    let popped = pop_longest(rt.alloc(), WRITE)?;
+    assert!(rt; popped.request.len() == 255 && is_request_of_longest(&popped.request));
+    assert_eq!(rt; popped.chain.writable_len(), 9216);
+    // Of 1,279 ranges to be read, whose request is too long.
+    let popped = pop_longest(rt.alloc(), 0)?;
+    assert!(rt; popped.request.len() == 8705 && is_request_of_longest(&popped.request));
+    assert_eq!(rt; popped.chain.writable_len(), 0);
     Ok(())
 }
