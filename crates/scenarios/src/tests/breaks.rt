@@ -25,15 +25,20 @@ fn settles(scene: &mut Scene, marks: Marks) -> bool {
     scene.book.settle(&scene.shares, marks) == Ok(())
 }
 
-/// Whether these are the bytes of a failure reply: zeros but for its last four bytes.
-fn is_failure(reply: &[u8], end: &[u8; 4]) -> bool {
-    reply.len() == 512 && reply[..508] == [0; 508] && reply[508..] == end[..]
+/// The bytes of a failure reply: zeros but for the last four.
+fn failure_of(end: [u8; 4]) -> [u8; 512] {
+    let mut bytes = [0; 512];
+    bytes[508] = end[0];
+    bytes[509] = end[1];
+    bytes[510] = end[2];
+    bytes[511] = end[3];
+    bytes
 }
 
 /// Whether the next reply to guest 0 is this failure, with need 0.
 fn fails(scene: &mut Scene, end: [u8; 4]) -> bool {
     match scene.book.collect(0) {
-        Some(done) => done.need() == 0 && is_failure(done.reply(), &end),
+        Some(done) => done.need() == 0 && done.reply() == failure_of(end).as_slice(),
         None => false,
     }
 }
