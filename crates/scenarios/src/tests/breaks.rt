@@ -2,12 +2,14 @@
 
 use crate::tests::image::{formatted, give, opened, settle};
 use crate::tests::scene::{
-    KEY, Scene, board_of, check, get_write_counter, has_tail, program_key, result_read, scene_of,
-    write_of,
+    KEY, Scene, accepted, board_of, check, get_write_counter, has_tail, job_of, program_key,
+    result_read, scene_of, write_of,
 };
 use disk::CutDisk;
 use flusher::{Marks, Store};
+use mmio_transport::{Done, Job};
 use rpmb_book::Refused;
+use rpmb_frame::Frame;
 use std::alloc::Global;
 use std::test::Fail;
 
@@ -35,12 +37,17 @@ fn failure_of(end: [u8; 4]) -> [u8; 512] {
     bytes
 }
 
-/// Whether the next reply to guest 0 is this failure, with need 0.
-fn fails(scene: &mut Scene, end: [u8; 4]) -> bool {
-    match scene.book.collect(0) {
+/// Whether the guest's next reply is this failure, with need 0.
+fn fails_for(scene: &mut Scene, guest: u16, end: [u8; 4]) -> bool {
+    match scene.book.collect(guest) {
         Some(done) => done.need() == 0 && done.reply() == failure_of(end).as_slice(),
         None => false,
     }
+}
+
+/// Whether the next reply to guest 0 is this failure, with need 0.
+fn fails(scene: &mut Scene, end: [u8; 4]) -> bool {
+    fails_for(scene, 0, end)
 }
 
 /// Whether the next reply to guest 0 has this need and this tail.
@@ -126,4 +133,72 @@ fn marks_above_what_was_taken_are_foreign(rt: HostRuntime) -> Result<(), Fail> {
     check(settles(&mut scene, store.marks()), "its own")?;
     check(settles(&mut scene, store.marks()), "once more")?;
     check(scene.book.settled(0) == Some(1), "settled")
+}
+
+/// The frame that reads the block at address 0.
+fn data_read() -> [[u8; 512]; 1] {
+    let frame = Frame::zeros().with_block_count(1).with_req_resp(0x0004);
+    [frame.to_bytes()]
+}
+
+/// A request for the result in a chain that has no room for a reply.
+fn without_room(alloc: Global, guest: u16) -> Result<Job, Fail> {
+    let request = result_read().to_vec(alloc)?;
+    Ok(Job::of(alloc, guest, 1, 5, 3, Vec::new(alloc), request))
+}
+
+/// One request of each kind, of guest 1.
+fn ask_each(alloc: Global, scene: &mut Scene) -> Result<(), Fail> {
+    scene.submit(alloc, 1, &program_key(&KEY))?;
+    scene.submit(alloc, 1, &get_write_counter(1))?;
+    scene.submit(alloc, 1, &write_of(0x5a, 0))?;
+    scene.submit(alloc, 1, &data_read())?;
+    scene.submit(alloc, 1, &[result_read()])?;
+    scene.submit(alloc, 1, &[[0; 512]])?;
+    accepted(scene.offer(alloc, without_room(alloc, 1)?))?;
+    Ok(())
+}
+
+/// A failure of each, with the type of its response, and nothing where there is no room.
+fn each_fails(scene: &mut Scene) -> bool {
+    fails_for(scene, 1, [0, 1, 1, 0])
+        && fails_for(scene, 1, [0, 1, 2, 0])
+        && fails_for(scene, 1, [0, 1, 3, 0])
+        && fails_for(scene, 1, [0, 1, 4, 0])
+        && fails_for(scene, 1, [0, 1, 0, 0])
+        && fails_for(scene, 1, [0, 1, 0, 0])
+        && is_empty(scene.book.collect(1))
+        && scene.book.collect(1).is_none()
+}
+
+fn is_empty(collected: Option<Done>) -> bool {
+    match collected {
+        Some(done) => done.reply().is_empty(),
+        None => false,
+    }
+}
+
+/// A broken book refuses a guest's job only where 64 replies of it are held.
+fn hold_64(alloc: Global, scene: &mut Scene) -> Result<(), Fail> {
+    for nonce in 0..64_u8 {
+        scene.submit(alloc, 0, &get_write_counter(u128::from(nonce)))?;
+    }
+    match scene.offer(alloc, job_of(alloc, 0, 1, &get_write_counter(64))?) {
+        Err((_, refused)) => check(refused == Refused::Busy, "busy"),
+        Ok(_) => Err(Fail::from("the 65th")),
+    }
+}
+
+#[test]
+fn a_broken_book_answers_each_request(rt: HostRuntime) -> Result<(), Fail> {
+    let alloc = rt.alloc();
+    let mut scene = scene_of(alloc, 2)?;
+    scene.book.break_off();
+    ask_each(alloc, &mut scene)?;
+    check(each_fails(&mut scene), "the failures")?;
+    hold_64(alloc, &mut scene)?;
+    for _ in 0..64 {
+        check(fails(&mut scene, [0, 1, 2, 0]), "one of 64")?;
+    }
+    check(scene.book.collect(0).is_none(), "no more")
 }
