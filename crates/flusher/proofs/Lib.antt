@@ -8,3 +8,4 @@ pub mod Table
 pub mod Kept
 pub mod Lookups
 pub mod Plans
+pub mod UnderWay

@@ -1,5 +1,5 @@
 -- Which call comes next, and what it makes of the guests and of the header.
-use Rattle.std.proofs.Common.{◌≡◌, ◌↔◌, ◌<◌, ◌≤◌, inl, inr, ⊎_elim, Bool, true, false, not, Option, Some, None, Result, Ok, Err, ℕ, List, [], ◌∷◌, length, map, length-set, get_or, refl, ap, sym, ◌∙◌, subst, arith, ◌+◌, ◌*◌}
+use Rattle.std.proofs.Common.{◌≡◌, ◌↔◌, ◌≤◌, inl, inr, ⊎_elim, Bool, true, false, not, Option, Some, None, Result, Ok, ℕ, List, [], ◌∷◌, length, map, length-set, get_or, refl, ap, sym, ◌∙◌, subst, arith}
 use Rattle.std.specs.Prelude.{slice_get, slice_set, position, if◌then◌else◌}
 use Rattle.std.specs.List.{list_any, position_or_len}
 use Rattle.std.proofs.lemmas.List.{length-map}
@@ -9,7 +9,6 @@ use Rattle.std.proofs.lemmas.List.Quantifiers.{position-Some}
 use Rattle.std.proofs.lemmas.List.Folds.{list_any_at, list_any_none}
 use Rattle.std.proofs.lemmas.Option.{slice_get-get_or, slice_get_within, get_or_from_slice_get}
 use Rattle.disk.specs.Disk.{DiskState, DiskCall, Write, Sync, Effect, during, Within, Still, Then}
-use Rattle.intent_slots.specs.Layout.{IsSlotPlace}
 use Rattle.flusher.specs.declared.guest.Guest.{Guest}
 use Rattle.flusher.specs.declared.slot.Slot.{Slot}
 use Rattle.flusher.specs.declared.plan.Plan.{Plan}

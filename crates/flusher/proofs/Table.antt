@@ -1,5 +1,5 @@
 -- The rows of one guest, as a round asks for them.
-use Rattle.std.proofs.Common.{◌≡◌, Bool, inl, inr, Option, Some, None, ℕ, ◌+◌, ◌*◌, ◌≤◌, List, length, refl, ap, arith}
+use Rattle.std.proofs.Common.{◌≡◌, Bool, inl, inr, Option, Some, None, ℕ, ◌+◌, ◌≤◌, List, length, refl, ap, arith}
 use Rattle.std.specs.Prelude.{slice_get, if◌then◌else◌}
 use Rattle.disk.specs.Content.{Content}
 use Rattle.intent_slots.specs.Layout.{Place, slot_place, IsSlotPlace, end_of}

@@ -1,5 +1,5 @@
 -- The guest whose turn it is.
-use Rattle.std.proofs.Common.{◌≡◌, Bool, true, false, IsTrue, Option, Some, None, ℕ, arith, ◌*◌, ◌^◌, ◌≤◌, List, get_or, refl, ap, sym, ◌∙◌, subst, ⊎_elim, [], ◌∷◌, ◌+◌, zero, suc, length}
+use Rattle.std.proofs.Common.{◌≡◌, Bool, true, false, IsTrue, Option, Some, None, ℕ, arith, ◌^◌, ◌≤◌, List, get_or, refl, ap, sym, ◌∙◌, subst, ⊎_elim, ◌+◌}
 use Rattle.std.specs.Prelude.{slice_get, slice_set, position, MatchOption, if◌then◌else◌}
 use Rattle.std.proofs.lemmas.List.Quantifiers.{position-Some}
 use Rattle.std.proofs.lemmas.Option.{slice_get-get_or}
@@ -8,7 +8,6 @@ use Rattle.intent_slots.specs.Layout.{Place, SlotPlace}
 use Rattle.intent_slots.specs.Payload.{Entry, Group, Intent, GroupFits}
 use Rattle.intent_slots.specs.Home.{home_bytes}
 use Rattle.flusher.specs.declared.phase.Phase.{Phase}
-use Rattle.flusher.specs.declared.phase.Phase.TheVariants.{Given, Written, Ready, Opening, Open, Applying, Applied, Closing}
 use Rattle.flusher.specs.declared.slot.Slot.{Slot}
 use Rattle.flusher.specs.declared.guest.Guest.{Guest}
 use Rattle.intent_slots.specs.Payload.{last_of}

@@ -1,5 +1,5 @@
 -- The one call that an advance makes (own).
-use Rattle.std.specs.Prelude.{◌≡◌, ◌⊎◌, ◌<◌, ℕ, Bool, true, false, List, length, map, slice_get, slice_set, Option, Some, None, Result, Ok, Err, is_err, position, if◌then◌else◌}
+use Rattle.std.specs.Prelude.{◌≡◌, ◌⊎◌, ◌<◌, ℕ, Bool, true, false, List, length, map, slice_get, slice_set, Option, Some, None, Result, Ok, Err, position, if◌then◌else◌}
 use Rattle.std.specs.List.{list_any}
 use Rattle.disk.specs.Disk.{DiskState, DiskCall, Write, Sync}
 use Rattle.flusher.specs.declared.guest.Guest.{Guest}

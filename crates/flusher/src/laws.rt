@@ -1,5 +1,5 @@
 //! Laws of the store's definitions. Each is a function that does nothing; its contract is the law.
-ghost use Rattle.flusher.specs.Laws.{HeldIsLeft, NothingIsEmpty};
+ghost use Rattle.flusher.specs.Laws.{HeldIsLeft, NothingIsEmpty, UnderWayGoesByGuest};
 
 /// Where the settled partitions are held, every stop leaves, of each guest, its settled partition, or,
 /// while its gate opens, that with its intent; and never one below its mark.
@@ -10,4 +10,9 @@ pub fn held_is_left()
 /// No call comes next exactly where all slots are empty and nothing is given.
 pub fn nothing_is_empty()
     ensures { NothingIsEmpty }
+{}
+
+/// While a call is under way, each guest is as it was, or as its write leaves it.
+pub fn calls_go_by_guest()
+    ensures { UnderWayGoesByGuest }
 {}
