@@ -10,7 +10,7 @@ use Rattle.flusher.specs.declared.guest.Guest.{Guest}
 use Rattle.flusher.specs.declared.progress.Progress.{Progress}
 use Rattle.flusher.specs.declared.progress.StoreFault.{StoreFault}
 use Rattle.flusher.specs.Round.{Moves, parts_after, under_way}
-use Rattle.flusher.specs.Slot.{mark_of, place_of, side_of}
+use Rattle.flusher.specs.Slot.{mark_of, region_of, side_of}
 use Rattle.flusher.specs.SlotInvariant.{EachStop, IsHeld}
 use Rattle.rpmb_book.specs.Guest.{GuestState}
 use Rattle.rpmb_book.specs.Sound.{IsOfBoard}
@@ -28,7 +28,7 @@ pub record AreLinked (bases : ℕ → Partition) (accepted : ℕ → List Reques
 -- requests, with all that its mark counts.
 abbrev pub EachPrefix : (ℕ → Partition) → (ℕ → List Request) → List Guest → DiskState → Type 0
 EachPrefix bases accepted held s = (g : ℕ) (y : Guest) → slice_get held g ≡ Some y → (c : Content) → MayLeave s c
-    → (q : Part) × StandsFor (place_of y) (side_of y) c q × IsPrefix (bases g) (accepted g) (mark_of y) q
+    → (q : Part) × StandsFor (region_of y) (side_of y) c q × IsPrefix (bases g) (accepted g) (mark_of y) q
 
 -- between two calls
 abbrev pub StopsBetween : Type 0

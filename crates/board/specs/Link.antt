@@ -9,7 +9,7 @@ use Rattle.disk.specs.Content.{Content}
 use Rattle.intent_slots.specs.Payload.{Intent}
 use Rattle.intent_slots.specs.Recovered.{Part, StandsFor, part_of}
 use Rattle.flusher.specs.declared.guest.Guest.{Guest}
-use Rattle.flusher.specs.Slot.{guest_after_sync, guest_after_write, mark_of, pending_of, place_of, side_of, with_intent}
+use Rattle.flusher.specs.Slot.{guest_after_sync, guest_after_write, mark_of, pending_of, region_of, side_of, with_intent}
 use Rattle.flusher.specs.SlotInvariant.{IsKept, guest_settled}
 use Rattle.mmio_transport.specs.Job.{Job}
 use Rattle.rpmb_book.specs.Guest.{GuestState, accepts, broken_off, collected, first_intent, intent_of, request_of, settled_at, submitted, took}
@@ -48,7 +48,7 @@ pub record IsPrefix (base : Partition) (accepted : List Request) (least : ℕ) (
 abbrev pub IsPrefixAtStops : Type 0
 IsPrefixAtStops = (n : ℕ) (base : Partition) (accepted : List Request) (part : Part) (x : GuestState) (held : Guest) (between : Option Intent) (c : Content)
     → IsLinked n base accepted part x held between → IsOfBoard base → IsKept part held c
-    → (q : Part) × StandsFor (place_of held) (side_of held) c q × IsPrefix base accepted (mark_of held) q
+    → (q : Part) × StandsFor (region_of held) (side_of held) c q × IsPrefix base accepted (mark_of held) q
 
 -- How the calls keep the link.
 abbrev pub SubmitLinks : Type 0

@@ -4,7 +4,7 @@ use Rattle.std.specs.Prelude.{slice_get, slice_set, nat_lt, ◌||◌, if◌then�
 use Rattle.std.proofs.lemmas.Bool.Decides.{nat_tests}
 use Rattle.disk.specs.Content.{Content, IsOutside, in_range}
 use Rattle.disk.specs.Disk.{DiskState, MayLeave, Write, Writes, Syncs, during}
-use Rattle.intent_slots.specs.Layout.{Place, AreApart, end_of}
+use Rattle.intent_slots.specs.Layout.{Region, AreApart, end_of}
 use Rattle.intent_slots.proofs.Bytes.{SameOn}
 use Rattle.intent_slots.specs.Recovered.{Part}
 use Rattle.flusher.specs.SlotInvariant.{IsHeldBy, settled_by}
@@ -56,7 +56,7 @@ pub seen_left : (s : DiskState) → MayLeave s s.seen
 seen_left s k synced = refl
 
 -- other partitions do not overlap
-apart_out : (p q : Place) (at n k : ℕ) → AreApart p q → p.base ≤ at → at + n ≤ end_of p → q.base ≤ k → k < q.base + (35328 + q.size) → IsOutside at n k
+apart_out : (p q : Region) (at n k : ℕ) → AreApart p q → p.base ≤ at → at + n ≤ end_of p → q.base ≤ k → k < q.base + (35328 + q.size) → IsOutside at n k
 apart_out p q at n k (inl before) low high from to = inr (omega arith)
 apart_out p q at n k (inr behind) low high from to = inl (omega arith)
 
@@ -65,12 +65,12 @@ length_map f [] = refl
 length_map f (x ∷ xs) = ap suc (length_map f xs)
 
 -- What is asked of the rows: each is a fact about one guest.
-module _ {X : Type 0} (place : X → Place) (row seen : Part → X → Content → Type 0) (write_of : X → Option (ℕ × List ℕ)) (moved synced : X → X) (settle : X → Part → Part) (stands : Part → X → Content → Type 0)
-    (place_moved : (x : X) → place (moved x) ≡ place x)
-    (place_synced : (x : X) → place (synced x) ≡ place x)
-    (row_frame : (p : Part) (x : X) (c d : Content) → SameOn (place x).base (35328 + (place x).size) c d → row p x c → row p x d)
-    (seen_frame : (p : Part) (x : X) (c d : Content) → SameOn (place x).base (35328 + (place x).size) c d → seen p x c → seen p x d)
-    (range : (p : Part) (x : X) (c : Content) (at : ℕ) (bytes : List ℕ) → row p x c → write_of x ≡ Some (at, bytes) → ((place x).base ≤ at) × (at + length bytes ≤ end_of (place x)))
+module _ {X : Type 0} (region : X → Region) (row seen : Part → X → Content → Type 0) (write_of : X → Option (ℕ × List ℕ)) (moved synced : X → X) (settle : X → Part → Part) (stands : Part → X → Content → Type 0)
+    (region_moved : (x : X) → region (moved x) ≡ region x)
+    (region_synced : (x : X) → region (synced x) ≡ region x)
+    (row_frame : (p : Part) (x : X) (c d : Content) → SameOn (region x).base (35328 + (region x).size) c d → row p x c → row p x d)
+    (seen_frame : (p : Part) (x : X) (c d : Content) → SameOn (region x).base (35328 + (region x).size) c d → seen p x c → seen p x d)
+    (range : (p : Part) (x : X) (c : Content) (at : ℕ) (bytes : List ℕ) → row p x c → write_of x ≡ Some (at, bytes) → ((region x).base ≤ at) × (at + length bytes ≤ end_of (region x)))
     (own_write : (p : Part) (x : X) (c d : Content) (at : ℕ) (bytes : List ℕ) → write_of x ≡ Some (at, bytes) → SameOutside c d at bytes → row p x c → row p (moved x) d)
     (own_seen : (p : Part) (x : X) (c d : Content) (at : ℕ) (bytes : List ℕ) → write_of x ≡ Some (at, bytes) → SameOutside c d at bytes → IsWritten d at bytes → row p x c → seen p x c → seen p (moved x) d)
     (synced_row : (p : Part) (x : X) (c : Content) → row p x c → seen p x c → row (settle x p) (synced x) c)
@@ -78,13 +78,13 @@ module _ {X : Type 0} (place : X → Place) (row seen : Part → X → Content �
     (row_stands : (p : Part) (x : X) (c : Content) → row p x c → stands p x c)
     (moved_stands : (p : Part) (x : X) (c : Content) → row p x c → stands p (moved x) c)
     (parts : ℕ → Part) (xs : List X) (s t : DiskState) where
-  pub stops : (broken : Bool) → IsHeldBy place row seen parts xs broken s → (g : ℕ) (x : X) → slice_get xs g ≡ Some x → (c : Content) → MayLeave s c → stands (parts g) x c
+  pub stops : (broken : Bool) → IsHeldBy region row seen parts xs broken s → (g : ℕ) (x : X) → slice_get xs g ≡ Some x → (c : Content) → MayLeave s c → stands (parts g) x c
   stops broken held g x is c left = row_stands (parts g) x c (held.rows g x is c left)
 
-  module _ (g : ℕ) (x : X) (at : ℕ) (bytes : List ℕ) (held : IsHeldBy place row seen parts xs false s) (is : slice_get xs g ≡ Some x) (next : write_of x ≡ Some (at, bytes)) (w : Touches at bytes s t) where
-    elsewhere : (h : ℕ) (y : X) → h ≢ g → slice_get xs h ≡ Some y → (k : ℕ) → (place y).base ≤ k → k < (place y).base + (35328 + (place y).size) → IsOutside at (length bytes) k
+  module _ (g : ℕ) (x : X) (at : ℕ) (bytes : List ℕ) (held : IsHeldBy region row seen parts xs false s) (is : slice_get xs g ≡ Some x) (next : write_of x ≡ Some (at, bytes)) (w : Touches at bytes s t) where
+    elsewhere : (h : ℕ) (y : X) → h ≢ g → slice_get xs h ≡ Some y → (k : ℕ) → (region y).base ≤ k → k < (region y).base + (35328 + (region y).size) → IsOutside at (length bytes) k
     elsewhere h y other at_h k le lt = (let r = range (parts g) x s.seen at bytes (held.rows g x is s.seen (seen_left s)) next in
-        apart_out (place x) (place y) at (length bytes) k (held.apart g h x y (λ e. other (sym e)) is at_h) r.0 r.1 le lt)
+        apart_out (region x) (region y) at (length bytes) k (held.apart g h x y (λ e. other (sym e)) is at_h) r.0 r.1 le lt)
 
     row_written : (h : ℕ) (y : X) → slice_get (slice_set xs g (moved x)) h ≡ Some y → (c : Content) → MayLeave t c → row (parts h) y c
     row_written h y here c left =
@@ -104,20 +104,20 @@ module _ {X : Type 0} (place : X → Place) (row seen : Part → X → Content �
         (λ e. seen_frame (parts h) y s.seen t.seen (λ k le lt. sym (w.outside k (elsewhere h y e.0 e.1 k le lt))) (held.seen_rows refl h y e.1))
         (set_cases xs g h (moved x) y here)
 
-    -- whoever stands at h after the write stood there in the same place before it
-    stood : (h : ℕ) (y : X) → slice_get (slice_set xs g (moved x)) h ≡ Some y → (z : X) × (slice_get xs h ≡ Some z) × (place y ≡ place z)
+    -- whoever stands at h after the write stood there in the same region before it
+    stood : (h : ℕ) (y : X) → slice_get (slice_set xs g (moved x)) h ≡ Some y → (z : X) × (slice_get xs h ≡ Some z) × (region y ≡ region z)
     stood h y here = ⊎_elim
-        (λ e. (x, subst (λ (v : ℕ). slice_get xs v ≡ Some x) (sym e.0) is, ap place e.1 ∙ place_moved x))
+        (λ e. (x, subst (λ (v : ℕ). slice_get xs v ≡ Some x) (sym e.0) is, ap region e.1 ∙ region_moved x))
         (λ e. (y, e.1, refl))
         (set_cases xs g h (moved x) y here)
 
     -- A write keeps every guest's row.
-    pub held_write : (ok : Bool) → Writes at bytes ok s t → IsHeldBy place row seen parts (slice_set xs g (moved x)) (not ok) t
+    pub held_write : (ok : Bool) → Writes at bytes ok s t → IsHeldBy region row seen parts (slice_set xs g (moved x)) (not ok) t
     held_write ok wr = record {
       known = wr.counts.faithful ∙ held.known;
-      fits = λ h y here. (let z = stood h y here in let old = held.fits h z.0 z.1 in let kept = wr.counts.len in subst (λ (v : Place). end_of v ≤ t.len) (sym z.2) (omega arith));
+      fits = λ h y here. (let z = stood h y here in let old = held.fits h z.0 z.1 in let kept = wr.counts.len in subst (λ (v : Region). end_of v ≤ t.len) (sym z.2) (omega arith));
       apart = λ h k y y' other here there. (let z = stood h y here in let z' = stood k y' there in
-          subst (λ (v : Place). AreApart v (place y')) (sym z.2) (subst (λ (v : Place). AreApart (place z.0) v) (sym z'.2) (held.apart h k z.0 z'.0 other z.1 z'.1)));
+          subst (λ (v : Region). AreApart v (region y')) (sym z.2) (subst (λ (v : Region). AreApart (region z.0) v) (sym z'.2) (held.apart h k z.0 z'.0 other z.1 z'.1)));
       rows = row_written;
       seen_rows = λ un. seen_written ok wr (went_so ok un);
     }
@@ -142,10 +142,10 @@ module _ {X : Type 0} (place : X → Place) (row seen : Part → X → Content �
     could_before : (c : Content) → MayLeave t c → MayLeave s c
     could_before c left k un = left k (sy.unsynced known k un) ∙ sy.seen known k
 
-    pub stops_synced : (broken : Bool) → IsHeldBy place row seen parts xs broken s → (g : ℕ) (x : X) → slice_get xs g ≡ Some x → (c : Content) → MayLeave t c → stands (parts g) x c
+    pub stops_synced : (broken : Bool) → IsHeldBy region row seen parts xs broken s → (g : ℕ) (x : X) → slice_get xs g ≡ Some x → (c : Content) → MayLeave t c → stands (parts g) x c
     stops_synced broken held g x is c left = stops broken held g x is c (could_before c left)
 
-    pub held_failed : IsHeldBy place row seen parts xs false s → IsHeldBy place row seen parts xs true t
+    pub held_failed : IsHeldBy region row seen parts xs false s → IsHeldBy region row seen parts xs true t
     held_failed held = record {
       known = sy.counts.faithful ∙ known;
       fits = λ g x is. (let kept = sy.counts.len in let old = held.fits g x is in omega arith);
@@ -155,13 +155,13 @@ module _ {X : Type 0} (place : X → Place) (row seen : Part → X → Content �
     }
 
     -- One sync moves every guest.
-    pub held_synced : ok ≡ true → IsHeldBy place row seen parts xs false s → IsHeldBy place row seen (λ g. settled_by settle (slice_get xs g) (parts g)) (map synced xs) false t
+    pub held_synced : ok ≡ true → IsHeldBy region row seen parts xs false s → IsHeldBy region row seen (λ g. settled_by settle (slice_get xs g) (parts g)) (map synced xs) false t
     held_synced went held = record {
       known = sy.counts.faithful ∙ known;
-      fits = λ g y is. (let z = map_cases synced xs g y is in let kept = sy.counts.len in let old = held.fits g z.0 z.1 in let e : place y ≡ place z.0 = ap place z.2 ∙ place_synced z.0 in subst (λ (v : Place). end_of v ≤ t.len) (sym e) (omega arith));
+      fits = λ g y is. (let z = map_cases synced xs g y is in let kept = sy.counts.len in let old = held.fits g z.0 z.1 in let e : region y ≡ region z.0 = ap region z.2 ∙ region_synced z.0 in subst (λ (v : Region). end_of v ≤ t.len) (sym e) (omega arith));
       apart = λ g h y y' other here there. (let z = map_cases synced xs g y here in let z' = map_cases synced xs h y' there in
-          let e : place y ≡ place z.0 = ap place z.2 ∙ place_synced z.0 in let e' : place y' ≡ place z'.0 = ap place z'.2 ∙ place_synced z'.0 in
-          subst (λ (v : Place). AreApart v (place y')) (sym e) (subst (λ (v : Place). AreApart (place z.0) v) (sym e') (held.apart g h z.0 z'.0 other z.1 z'.1)));
+          let e : region y ≡ region z.0 = ap region z.2 ∙ region_synced z.0 in let e' : region y' ≡ region z'.0 = ap region z'.2 ∙ region_synced z'.0 in
+          subst (λ (v : Region). AreApart v (region y')) (sym e) (subst (λ (v : Region). AreApart (region z.0) v) (sym e') (held.apart g h z.0 z'.0 other z.1 z'.1)));
       rows = λ g y is c left. row_synced g y is c left;
       seen_rows = λ no g y is. seen_synced g y is;
     }

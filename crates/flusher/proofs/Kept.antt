@@ -9,7 +9,7 @@ use Rattle.flusher.specs.declared.progress.Progress.TheVariants.{Wrote, Synced}
 use Rattle.flusher.specs.declared.progress.StoreFault.{StoreFault}
 use Rattle.flusher.specs.Marks.{marks_of}
 use Rattle.intent_slots.specs.Recovered.{Part}
-use Rattle.flusher.specs.Slot.{place_of, guest_write, guest_after_write, guest_after_sync}
+use Rattle.flusher.specs.Slot.{region_of, guest_write, guest_after_write, guest_after_sync}
 use Rattle.flusher.specs.SlotInvariant.{IsKept, guest_row, guest_seen, guest_settled, settled_by, IsHeld, EachStop}
 use Rattle.flusher.specs.declared.plan.Plan.{Plan}
 use Rattle.flusher.specs.declared.plan.Plan.TheVariants.{WriteOf, SyncAll, Nothing}
@@ -24,25 +24,25 @@ t_moved p x c r = kept_written p x c (t_stands p x c r)
 
 module _ (parts : ℕ → Part) (xs : List Guest) (s t : DiskState) where
   pub stops : (broken : Bool) → IsHeld parts xs broken s → EachStop parts xs s
-  stops = held_of.stops place_of guest_row guest_seen guest_write guest_after_write guest_after_sync guest_settled IsKept (λ x. refl) (λ x. refl) t_frame t_seen_frame t_range t_write t_seen t_synced t_synced_seen t_stands t_moved parts xs s t
+  stops = held_of.stops region_of guest_row guest_seen guest_write guest_after_write guest_after_sync guest_settled IsKept (λ x. refl) (λ x. refl) t_frame t_seen_frame t_range t_write t_seen t_synced t_synced_seen t_stands t_moved parts xs s t
 
   pub held_write : (g : ℕ) (x : Guest) (at : ℕ) (bytes : List ℕ) → IsHeld parts xs false s → slice_get xs g ≡ Some x → guest_write x ≡ Some (at, bytes) → Touches at bytes s t → (ok : Bool) → Writes at bytes ok s t → IsHeld parts (slice_set xs g (guest_after_write x)) (not ok) t
-  held_write = held_of.held_write place_of guest_row guest_seen guest_write guest_after_write guest_after_sync guest_settled IsKept (λ x. refl) (λ x. refl) t_frame t_seen_frame t_range t_write t_seen t_synced t_synced_seen t_stands t_moved parts xs s t
+  held_write = held_of.held_write region_of guest_row guest_seen guest_write guest_after_write guest_after_sync guest_settled IsKept (λ x. refl) (λ x. refl) t_frame t_seen_frame t_range t_write t_seen t_synced t_synced_seen t_stands t_moved parts xs s t
 
   pub stops_before : (g : ℕ) (x : Guest) (at : ℕ) (bytes : List ℕ) → IsHeld parts xs false s → slice_get xs g ≡ Some x → guest_write x ≡ Some (at, bytes) → Touches at bytes s t → EachStop parts (slice_set xs g (guest_after_write x)) s
-  stops_before = held_of.stops_before place_of guest_row guest_seen guest_write guest_after_write guest_after_sync guest_settled IsKept (λ x. refl) (λ x. refl) t_frame t_seen_frame t_range t_write t_seen t_synced t_synced_seen t_stands t_moved parts xs s t
+  stops_before = held_of.stops_before region_of guest_row guest_seen guest_write guest_after_write guest_after_sync guest_settled IsKept (λ x. refl) (λ x. refl) t_frame t_seen_frame t_range t_write t_seen t_synced t_synced_seen t_stands t_moved parts xs s t
 
   pub stops_written : (g : ℕ) (x : Guest) (at : ℕ) (bytes : List ℕ) → IsHeld parts xs false s → slice_get xs g ≡ Some x → guest_write x ≡ Some (at, bytes) → Touches at bytes s t → EachStop parts (slice_set xs g (guest_after_write x)) t
-  stops_written = held_of.stops_written place_of guest_row guest_seen guest_write guest_after_write guest_after_sync guest_settled IsKept (λ x. refl) (λ x. refl) t_frame t_seen_frame t_range t_write t_seen t_synced t_synced_seen t_stands t_moved parts xs s t
+  stops_written = held_of.stops_written region_of guest_row guest_seen guest_write guest_after_write guest_after_sync guest_settled IsKept (λ x. refl) (λ x. refl) t_frame t_seen_frame t_range t_write t_seen t_synced t_synced_seen t_stands t_moved parts xs s t
 
   pub stops_synced : (ok : Bool) → Syncs ok s t → s.faithful ≡ true → (broken : Bool) → IsHeld parts xs broken s → EachStop parts xs t
-  stops_synced = held_of.stops_synced place_of guest_row guest_seen guest_write guest_after_write guest_after_sync guest_settled IsKept (λ x. refl) (λ x. refl) t_frame t_seen_frame t_range t_write t_seen t_synced t_synced_seen t_stands t_moved parts xs s t
+  stops_synced = held_of.stops_synced region_of guest_row guest_seen guest_write guest_after_write guest_after_sync guest_settled IsKept (λ x. refl) (λ x. refl) t_frame t_seen_frame t_range t_write t_seen t_synced t_synced_seen t_stands t_moved parts xs s t
 
   pub held_failed : (ok : Bool) → Syncs ok s t → s.faithful ≡ true → IsHeld parts xs false s → IsHeld parts xs true t
-  held_failed = held_of.held_failed place_of guest_row guest_seen guest_write guest_after_write guest_after_sync guest_settled IsKept (λ x. refl) (λ x. refl) t_frame t_seen_frame t_range t_write t_seen t_synced t_synced_seen t_stands t_moved parts xs s t
+  held_failed = held_of.held_failed region_of guest_row guest_seen guest_write guest_after_write guest_after_sync guest_settled IsKept (λ x. refl) (λ x. refl) t_frame t_seen_frame t_range t_write t_seen t_synced t_synced_seen t_stands t_moved parts xs s t
 
   pub held_synced : (ok : Bool) → Syncs ok s t → s.faithful ≡ true → ok ≡ true → IsHeld parts xs false s → IsHeld (λ g. settled_by guest_settled (slice_get xs g) (parts g)) (map guest_after_sync xs) false t
-  held_synced = held_of.held_synced place_of guest_row guest_seen guest_write guest_after_write guest_after_sync guest_settled IsKept (λ x. refl) (λ x. refl) t_frame t_seen_frame t_range t_write t_seen t_synced t_synced_seen t_stands t_moved parts xs s t
+  held_synced = held_of.held_synced region_of guest_row guest_seen guest_write guest_after_write guest_after_sync guest_settled IsKept (λ x. refl) (λ x. refl) t_frame t_seen_frame t_range t_write t_seen t_synced t_synced_seen t_stands t_moved parts xs s t
 
 module _ {D : Type 0} (state : D → DiskState) (makes : D → DiskCall → D → Type 0) (effect : (old new : D) (call : DiskCall) → makes old call new → Effect (state old) call (state new))
     (parts : ℕ → Part) (od : D) (old : List Guest) (result : Result Progress StoreFault) (nd : D) (new : List Guest) (broken : Bool) where

@@ -4,12 +4,12 @@ use Rattle.std.specs.Prelude.{slice_get, slice_set}
 use Rattle.std.proofs.lemmas.Option.{slice_get-get_or, slice_get_within}
 use Rattle.disk.specs.Content.{Content}
 use Rattle.disk.specs.Disk.{DiskState, MayLeave}
-use Rattle.intent_slots.specs.Layout.{Place, AreApart, end_of}
+use Rattle.intent_slots.specs.Layout.{Region, AreApart, end_of}
 use Rattle.intent_slots.specs.Payload.{Intent}
 use Rattle.intent_slots.specs.Recovered.{Part}
 use Rattle.flusher.specs.declared.guest.Guest.{Guest}
 use Rattle.flusher.specs.declared.slot.Slot.{Slot}
-use Rattle.flusher.specs.Slot.{is_empty, place_of, side_of, mark_of, with_intent, pending_of}
+use Rattle.flusher.specs.Slot.{is_empty, region_of, side_of, mark_of, with_intent, pending_of}
 use Rattle.flusher.specs.Marks.{marks_of}
 use Rattle.flusher.specs.SlotInvariant.{Row, IsHeld, guest_row, guest_seen}
 use Rattle.flusher.specs.Store.{AllFit, GuestFits, Gives, is_free, is_free_of, pending, next_of, next_sequence, Fits, FitsOf, FitsGuest}
@@ -33,7 +33,7 @@ empty_is (Some s) is = absurd (cc)
 -- the row of a guest with an intent given
 given_row : (p : Part) (x : Guest) (i : Intent) (c : Content) → x.slot ≡ None → FitsGuest x i → i.group.first + 1 ≡ next_of (Some x) → guest_row p x c → guest_row p (with_intent x i) c
 given_row p x i c empty fits next r =
-    let was : Row (place_of x) (side_of x) p None c = subst (λ (s : Option Slot). Row (place_of x) (side_of x) p s c) empty r.0 in
+    let was : Row (region_of x) (side_of x) p None c = subst (λ (s : Option Slot). Row (region_of x) (side_of x) p s c) empty r.0 in
     let after = ap (λ (s : Option Slot). x.mark + pending (pending_of s) + 1) empty in
     ((was.0, was.1, fits.inside), record { mark = r.1.mark; follows = omega (arith, next, after) })
 
@@ -41,9 +41,9 @@ module _ (parts : ℕ → Part) (xs : List Guest) (broken : Bool) (s : DiskState
   abbrev new : Guest
   new = with_intent x i
 
-  stood : (h : ℕ) (y : Guest) → slice_get (slice_set xs i.guest new) h ≡ Some y → (z : Guest) × (slice_get xs h ≡ Some z) × (place_of y ≡ place_of z)
+  stood : (h : ℕ) (y : Guest) → slice_get (slice_set xs i.guest new) h ≡ Some y → (z : Guest) × (slice_get xs h ≡ Some z) × (region_of y ≡ region_of z)
   stood h y here = ⊎_elim
-      (λ e. (x, subst (λ (v : ℕ). slice_get xs v ≡ Some x) (sym e.0) at, ap place_of e.1))
+      (λ e. (x, subst (λ (v : ℕ). slice_get xs v ≡ Some x) (sym e.0) at, ap region_of e.1))
       (λ e. (y, e.1, refl))
       (set_cases xs i.guest h new y here)
 
@@ -63,9 +63,9 @@ module _ (parts : ℕ → Part) (xs : List Guest) (broken : Bool) (s : DiskState
   held_given : IsHeld parts (slice_set xs i.guest new) broken s
   held_given = record {
     known = held.known;
-    fits = λ h y here. (let z = stood h y here in let old = held.fits h z.0 z.1 in subst (λ (v : Place). end_of v ≤ s.len) (sym z.2) old);
+    fits = λ h y here. (let z = stood h y here in let old = held.fits h z.0 z.1 in subst (λ (v : Region). end_of v ≤ s.len) (sym z.2) old);
     apart = λ h k y y' other here there. (let z = stood h y here in let z' = stood k y' there in
-        subst (λ (v : Place). AreApart v (place_of y')) (sym z.2) (subst (λ (v : Place). AreApart (place_of z.0) v) (sym z'.2) (held.apart h k z.0 z'.0 other z.1 z'.1)));
+        subst (λ (v : Region). AreApart v (region_of y')) (sym z.2) (subst (λ (v : Region). AreApart (region_of z.0) v) (sym z'.2) (held.apart h k z.0 z'.0 other z.1 z'.1)));
     rows = row_given;
     seen_rows = seen_given;
   }

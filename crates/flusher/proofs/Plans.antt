@@ -16,7 +16,7 @@ use Rattle.flusher.specs.declared.plan.Plan.TheVariants.{WriteOf, SyncAll, Nothi
 use Rattle.flusher.specs.declared.progress.Progress.{Progress}
 use Rattle.flusher.specs.declared.progress.Progress.TheVariants.{Wrote, Synced, Idle}
 use Rattle.flusher.specs.declared.progress.StoreFault.{StoreFault}
-use Rattle.flusher.specs.Slot.{is_empty, slot_write, slot_writes, slot_awaits, place_of, side_of, guest_write, guest_has_write, guest_awaits, guest_after_write, guest_after_sync}
+use Rattle.flusher.specs.Slot.{is_empty, slot_write, slot_writes, slot_awaits, region_of, side_of, guest_write, guest_has_write, guest_awaits, guest_after_write, guest_after_sync}
 use Rattle.flusher.specs.Marks.{marks_of}
 use Rattle.flusher.specs.Round.{plan_at, planned, AllEmpty, Ends, Round, settles, MovedBy, Moves, FrontStays}
 use Rattle.flusher.specs.Store.{AllFit}
@@ -157,7 +157,7 @@ module _ {D : Type 0} (state : D → DiskState) (makes : D → DiskCall → D �
   goes_behind : (g : ℕ) (x : Guest) (at : ℕ) (bytes : List ℕ) → slice_get old g ≡ Some x → guest_write x ≡ Some (at, bytes) → 1024 ≤ at
   goes_behind g x at bytes is next =
       let f = fits.each g x is in
-      let from = (within (place_of x) (side_of x) (first_side (place_of x)) (slot_write x.slot) (at, bytes) (write_fits (place_of x) (side_of x) x.slot (at, bytes) f.slot_fits next) next).0 in
+      let from = (within (region_of x) (side_of x) (first_side (region_of x)) (slot_write x.slot) (at, bytes) (write_fits (region_of x) (side_of x) x.slot (at, bytes) f.slot_fits next) next).0 in
       omega (arith, from, f.behind)
 
   in_write : (at : ℕ) (bytes : List ℕ) (ok : Bool) → 1024 ≤ at → AtFront (during (state od) (Write at bytes ok))

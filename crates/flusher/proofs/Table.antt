@@ -2,7 +2,7 @@
 use Rattle.std.proofs.Common.{◌≡◌, Bool, inl, inr, Option, Some, None, ℕ, ◌+◌, ◌≤◌, List, length, refl, ap, arith}
 use Rattle.std.specs.Prelude.{slice_get, if◌then◌else◌}
 use Rattle.disk.specs.Content.{Content}
-use Rattle.intent_slots.specs.Layout.{Place, slot_place, IsSlotPlace, end_of}
+use Rattle.intent_slots.specs.Layout.{Region, slot_region, IsSlotRegion, end_of}
 use Rattle.intent_slots.specs.declared.layout.Side.TheVariants.{A}
 use Rattle.intent_slots.specs.Payload.{Entry, Group, Intent, last_of}
 use Rattle.intent_slots.proofs.Bytes.{SameOn}
@@ -12,7 +12,7 @@ use Rattle.flusher.specs.declared.slot.Slot.{Slot}
 use Rattle.flusher.specs.declared.guest.Guest.{Guest}
 use Rattle.intent_slots.specs.Recovered.{Part, after}
 use Rattle.flusher.specs.Phase.{open_after, written, synced, is_opening, is_settled}
-use Rattle.flusher.specs.Slot.{slot_write, in_phase, place_of, side_of, pending_of, settled_after, after_sync, guest_write, guest_after_write, guest_after_sync, after_write}
+use Rattle.flusher.specs.Slot.{slot_write, in_phase, region_of, side_of, pending_of, settled_after, after_sync, guest_write, guest_after_write, guest_after_sync, after_write}
 use Rattle.flusher.specs.SlotInvariant.{guest_row, guest_seen, guest_settled, BeforeOrAfter, MayStand, Follows, IsMarked, IsKept, sequence_of_part, settled}
 use Rattle.flusher.proofs.Rows.{row_frame, seen_frame, IsWritten, own_write, own_seen, synced_row, synced_seen, row_stands}
 use Rattle.flusher.proofs.Writes.{SameOutside, WriteFits, row_fits, write_fits, within, keeps, puts}
@@ -20,14 +20,14 @@ use Rattle.flusher.proofs.Writes.{SameOutside, WriteFits, row_fits, write_fits, 
 same_above : (p q : Part) (n : ℕ) → n ≡ sequence_of_part p → q ≡ p → n ≤ sequence_of_part q
 same_above p q n is same = (let e = ap sequence_of_part same in omega (arith, is, e))
 
-pub first_side : (place : Place) → IsSlotPlace place (slot_place place A)
-first_side place = record { behind_home = omega arith; gate_first = omega arith; before_blocks = omega arith }
+pub first_side : (region : Region) → IsSlotRegion region (slot_region region A)
+first_side region = record { behind_home = omega arith; gate_first = omega arith; before_blocks = omega arith }
 
-next_fits : (p : Part) (x : Guest) (c : Content) (at : ℕ) (bytes : List ℕ) → guest_row p x c → guest_write x ≡ Some (at, bytes) → WriteFits (place_of x) (slot_write x.slot)
-next_fits p x c at bytes r next = write_fits (place_of x) (side_of x) x.slot (at, bytes) (row_fits (place_of x) (side_of x) p x.slot c r.0) next
+next_fits : (p : Part) (x : Guest) (c : Content) (at : ℕ) (bytes : List ℕ) → guest_row p x c → guest_write x ≡ Some (at, bytes) → WriteFits (region_of x) (slot_write x.slot)
+next_fits p x c at bytes r next = write_fits (region_of x) (side_of x) x.slot (at, bytes) (row_fits (region_of x) (side_of x) p x.slot c r.0) next
 
-pub t_range : (p : Part) (x : Guest) (c : Content) (at : ℕ) (bytes : List ℕ) → guest_row p x c → guest_write x ≡ Some (at, bytes) → ((place_of x).base ≤ at) × (at + length bytes ≤ end_of (place_of x))
-t_range p x c at bytes r next = within (place_of x) (side_of x) (first_side (place_of x)) (slot_write x.slot) (at, bytes) (next_fits p x c at bytes r next) next
+pub t_range : (p : Part) (x : Guest) (c : Content) (at : ℕ) (bytes : List ℕ) → guest_row p x c → guest_write x ≡ Some (at, bytes) → ((region_of x).base ≤ at) × (at + length bytes ≤ end_of (region_of x))
+t_range p x c at bytes r next = within (region_of x) (side_of x) (first_side (region_of x)) (slot_write x.slot) (at, bytes) (next_fits p x c at bytes r next) next
 
 -- a write settles nothing
 open_follows : (n : ℕ) (i : Intent) (k : ℕ) (o : Option Entry) → Follows n (if is_settled (open_after k o) then None else Some i)
@@ -73,13 +73,13 @@ synced_mark p n (Some s) is f = phase_mark p n s.phase s.intent is f
 
 pub t_write : (p : Part) (x : Guest) (c d : Content) (at : ℕ) (bytes : List ℕ) → guest_write x ≡ Some (at, bytes) → SameOutside c d at bytes → guest_row p x c → guest_row p (guest_after_write x) d
 t_write p x c d at bytes next out r = (
-  own_write (place_of x) (side_of x) (first_side (place_of x)) p c d x.slot (keeps (place_of x) (side_of x) (first_side (place_of x)) (slot_write x.slot) at bytes c d (next_fits p x c at bytes r next) next out) r.0,
+  own_write (region_of x) (side_of x) (first_side (region_of x)) p c d x.slot (keeps (region_of x) (side_of x) (first_side (region_of x)) (slot_write x.slot) at bytes c d (next_fits p x c at bytes r next) next out) r.0,
   written_mark p x r.1,
 )
 
 pub t_seen : (p : Part) (x : Guest) (c d : Content) (at : ℕ) (bytes : List ℕ) → guest_write x ≡ Some (at, bytes) → SameOutside c d at bytes → IsWritten d at bytes → guest_row p x c → guest_seen p x c → guest_seen p (guest_after_write x) d
 t_seen p x c d at bytes next out put r s = (let fits = next_fits p x c at bytes r next in
-    own_seen (place_of x) (side_of x) (first_side (place_of x)) p c d x.slot (keeps (place_of x) (side_of x) (first_side (place_of x)) (slot_write x.slot) at bytes c d fits next out) (puts (place_of x) (side_of x) (first_side (place_of x)) (slot_write x.slot) at bytes d fits next put) r.0 s)
+    own_seen (region_of x) (side_of x) (first_side (region_of x)) p c d x.slot (keeps (region_of x) (side_of x) (first_side (region_of x)) (slot_write x.slot) at bytes c d fits next out) (puts (region_of x) (side_of x) (first_side (region_of x)) (slot_write x.slot) at bytes d fits next put) r.0 s)
 
 -- neither the partition before the intent nor the one after it is below the mark
 phase_above : (p q : Part) (n : ℕ) (phase : Phase) (i : Intent) → n ≡ sequence_of_part p → Follows n (if is_settled phase then None else Some i) → BeforeOrAfter (is_opening phase) p i.group q → n ≤ sequence_of_part q
@@ -99,7 +99,7 @@ above p q n (Some s) is f may = phase_above p q n s.phase s.intent is f may
 
 pub t_stands : (p : Part) (x : Guest) (c : Content) → guest_row p x c → IsKept p x c
 t_stands p x c r =
-    let st = row_stands (place_of x) (side_of x) p x.slot c r.0 in
+    let st = row_stands (region_of x) (side_of x) p x.slot c r.0 in
     record { part = st.part; stands = st.is; may = st.may; marked = above p st.part x.mark x.slot r.1.mark r.1.follows st.may }
 
 open_may : (p q : Part) (i : Group) (k : ℕ) (o : Option Entry) → q ≡ p → BeforeOrAfter (is_opening (open_after k o)) p i q
@@ -124,16 +124,16 @@ may_written p q (Some s) m = phase_may p q s.phase s.intent.group m
 pub kept_written : (p : Part) (x : Guest) (c : Content) → IsKept p x c → IsKept p (guest_after_write x) c
 kept_written p x c k = record { part = k.part; stands = k.stands; may = may_written p k.part x.slot k.may; marked = k.marked }
 
-pub t_frame : (p : Part) (x : Guest) (c d : Content) → SameOn (place_of x).base (35328 + (place_of x).size) c d → guest_row p x c → guest_row p x d
-t_frame p x c d same r = (row_frame (place_of x) (side_of x) (first_side (place_of x)) c d same p x.slot r.0, r.1)
+pub t_frame : (p : Part) (x : Guest) (c d : Content) → SameOn (region_of x).base (35328 + (region_of x).size) c d → guest_row p x c → guest_row p x d
+t_frame p x c d same r = (row_frame (region_of x) (side_of x) (first_side (region_of x)) c d same p x.slot r.0, r.1)
 
-pub t_seen_frame : (p : Part) (x : Guest) (c d : Content) → SameOn (place_of x).base (35328 + (place_of x).size) c d → guest_seen p x c → guest_seen p x d
-t_seen_frame p x c d same s = seen_frame (place_of x) (side_of x) (first_side (place_of x)) c d same p x.slot s
+pub t_seen_frame : (p : Part) (x : Guest) (c d : Content) → SameOn (region_of x).base (35328 + (region_of x).size) c d → guest_seen p x c → guest_seen p x d
+t_seen_frame p x c d same s = seen_frame (region_of x) (side_of x) (first_side (region_of x)) c d same p x.slot s
 
 pub t_synced : (p : Part) (x : Guest) (c : Content) → guest_row p x c → guest_seen p x c → guest_row (guest_settled x p) (guest_after_sync x) c
 t_synced p x c r s =
     let m = synced_mark p x.mark x.slot r.1.mark r.1.follows in
-    (synced_row (place_of x) (side_of x) p x.slot c r.0 s, record { mark = m.0; follows = m.1 })
+    (synced_row (region_of x) (side_of x) p x.slot c r.0 s, record { mark = m.0; follows = m.1 })
 
 pub t_synced_seen : (p : Part) (x : Guest) (c : Content) → guest_row p x c → guest_seen p x c → guest_seen (guest_settled x p) (guest_after_sync x) c
-t_synced_seen p x c r s = synced_seen (place_of x) (side_of x) p x.slot c r.0 s
+t_synced_seen p x c r s = synced_seen (region_of x) (side_of x) p x.slot c r.0 s

@@ -4,7 +4,7 @@ use Rattle.std.specs.Prelude.{slice_get, slice_set, position, MatchOption, if◌
 use Rattle.std.proofs.lemmas.List.Quantifiers.{position-Some}
 use Rattle.std.proofs.lemmas.Option.{slice_get-get_or}
 use Rattle.disk.specs.Disk.{DiskCall, Write}
-use Rattle.intent_slots.specs.Layout.{Place, SlotPlace}
+use Rattle.intent_slots.specs.Layout.{Region, SlotRegion}
 use Rattle.intent_slots.specs.Payload.{Entry, Group, Intent, GroupFits}
 use Rattle.intent_slots.specs.Home.{home_bytes}
 use Rattle.flusher.specs.declared.phase.Phase.{Phase}
@@ -12,15 +12,15 @@ use Rattle.flusher.specs.declared.slot.Slot.{Slot}
 use Rattle.flusher.specs.declared.guest.Guest.{Guest}
 use Rattle.intent_slots.specs.Payload.{last_of}
 use Rattle.flusher.specs.Phase.{open_write, synced, is_opening}
-use Rattle.flusher.specs.Slot.{spelled, intent_of, in_phase, settled_after, after_write, after_sync, guest_write, guest_after_write, guest_after_sync, guest_has_write, place_of}
+use Rattle.flusher.specs.Slot.{spelled, intent_of, in_phase, settled_after, after_write, after_sync, guest_write, guest_after_write, guest_after_sync, guest_has_write, region_of}
 use Rattle.flusher.specs.Store.{AllFit, GuestFits, IntentFits, IsOf}
 use Rattle.flusher.specs.Round.{WroteSlot}
 use Rattle.flusher.proofs.Guests.{set_cases, map_cases}
 use Rattle.std.specs.Prelude.{map}
 
-pub of_home : {D : Type 0} (makes : D → DiskCall → D → Type 0) (od nd : D) (ok : Bool) (place : Place) (side : SlotPlace) (i : Group) (o : Option Entry) (at : ℕ) (bytes : List ℕ) → o ≡ None → at ≡ place.base → bytes ≡ home_bytes i.key (last_of i) → makes od (Write at bytes ok) nd → MatchOption (spelled place side (open_write i o)) ⊥ (λ w. makes od (Write w.0 w.1 ok) nd)
-of_home makes od nd ok place side i None at bytes none there is call = subst (λ (n : ℕ). makes od (Write n (home_bytes i.key (last_of i)) ok) nd) there (subst (λ (b : List ℕ). makes od (Write at b ok) nd) is call)
-of_home makes od nd ok place side i (Some e) at bytes none there is call = absurd (cc)
+pub of_home : {D : Type 0} (makes : D → DiskCall → D → Type 0) (od nd : D) (ok : Bool) (region : Region) (side : SlotRegion) (i : Group) (o : Option Entry) (at : ℕ) (bytes : List ℕ) → o ≡ None → at ≡ region.base → bytes ≡ home_bytes i.key (last_of i) → makes od (Write at bytes ok) nd → MatchOption (spelled region side (open_write i o)) ⊥ (λ w. makes od (Write w.0 w.1 ok) nd)
+of_home makes od nd ok region side i None at bytes none there is call = subst (λ (n : ℕ). makes od (Write n (home_bytes i.key (last_of i)) ok) nd) there (subst (λ (b : List ℕ). makes od (Write at b ok) nd) is call)
+of_home makes od nd ok region side i (Some e) at bytes none there is call = absurd (cc)
 
 -- a write keeps the intent, and a sync keeps it or lets it go
 written_intent : (P : Option Intent → Type 0) (slot : Option Slot) → P (intent_of slot) → P (intent_of (after_write slot))
@@ -47,16 +47,16 @@ synced_fits : (len g : ℕ) (x : Guest) → GuestFits len g x → GuestFits len 
 synced_fits len g x f = record {
   behind = f.behind;
   room = f.room;
-  slot_fits = synced_intent (IntentFits (place_of x).size) x.slot tt f.slot_fits;
+  slot_fits = synced_intent (IntentFits (region_of x).size) x.slot tt f.slot_fits;
   own = synced_intent (IsOf g) x.slot tt f.own;
-  mark = settled_fits (place_of x).size x.mark x.slot f.mark f.slot_fits;
+  mark = settled_fits (region_of x).size x.mark x.slot f.mark f.slot_fits;
 }
 
 written_fits : (len g : ℕ) (x : Guest) → GuestFits len g x → GuestFits len g (guest_after_write x)
 written_fits len g x f = record {
   behind = f.behind;
   room = f.room;
-  slot_fits = written_intent (IntentFits (place_of x).size) x.slot f.slot_fits;
+  slot_fits = written_intent (IntentFits (region_of x).size) x.slot f.slot_fits;
   own = written_intent (IsOf g) x.slot f.own;
   mark = f.mark;
 }

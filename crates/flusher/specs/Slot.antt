@@ -1,6 +1,6 @@
 -- A guest's slot (own): empty, or an intent with its phase.
 use Rattle.std.specs.Prelude.{ℕ, ◌+◌, ◌*◌, Bool, true, false, not, List, [], ◌∷◌, if◌then◌else◌, Option, Some, None}
-use Rattle.intent_slots.specs.Layout.{Place, SlotPlace, slot_place, blocks_at}
+use Rattle.intent_slots.specs.Layout.{Region, SlotRegion, slot_region, blocks_at}
 use Rattle.intent_slots.specs.declared.layout.Side.TheVariants.{A}
 use Rattle.intent_slots.specs.Payload.{Intent, last_of, payload_bytes}
 use Rattle.intent_slots.specs.Home.{home_bytes}
@@ -60,20 +60,20 @@ settled_after None n = n
 settled_after (Some s) n = if is_opening s.phase then last_of s.intent.group + 1 else n
 
 -- where a write goes, and its bytes
-abbrev pub spelled : Place → SlotPlace → NextWrite → Option (ℕ × List ℕ)
-spelled place side NoWrite = None
-spelled place side (PayloadWrite i) = Some (side.payload, payload_bytes i)
-spelled place side (GateWrite byte) = Some (side.gate, byte ∷ [])
-spelled place side (BlocksWrite e) = Some (blocks_at place + 256 * e.address, e.blocks)
-spelled place side (HomeWrite i) = Some (place.base, home_bytes i.key (last_of i))
+abbrev pub spelled : Region → SlotRegion → NextWrite → Option (ℕ × List ℕ)
+spelled region side NoWrite = None
+spelled region side (PayloadWrite i) = Some (side.payload, payload_bytes i)
+spelled region side (GateWrite byte) = Some (side.gate, byte ∷ [])
+spelled region side (BlocksWrite e) = Some (blocks_at region + 256 * e.address, e.blocks)
+spelled region side (HomeWrite i) = Some (region.base, home_bytes i.key (last_of i))
 
--- 2. A guest: its partition's place, its mark, and its slot A
+-- 2. A guest: its partition's region, its mark, and its slot A
 
-abbrev pub place_of : Guest → Place
-place_of x = x.extent
+abbrev pub region_of : Guest → Region
+region_of x = x.extent
 
-abbrev pub side_of : Guest → SlotPlace
-side_of x = slot_place x.extent A
+abbrev pub side_of : Guest → SlotRegion
+side_of x = slot_region x.extent A
 
 -- the sequence up to which its requests are settled
 abbrev pub mark_of : Guest → ℕ
@@ -83,7 +83,7 @@ abbrev pub slot_of : Guest → Option Slot
 slot_of x = x.slot
 
 abbrev pub guest_write : Guest → Option (ℕ × List ℕ)
-guest_write x = spelled (place_of x) (side_of x) (slot_write x.slot)
+guest_write x = spelled (region_of x) (side_of x) (slot_write x.slot)
 
 abbrev pub with_slot : Guest → Option Slot → Guest
 with_slot x slot = record { extent = x.extent; mark = x.mark; slot = slot }
@@ -109,9 +109,9 @@ abbrev pub guest_awaits : Guest → Bool
 guest_awaits x = slot_awaits x.slot
 
 -- a guest with nothing in its slot
-abbrev pub resting : Place → ℕ → Guest
-resting place n = record { extent = place; mark = n; slot = None }
+abbrev pub resting : Region → ℕ → Guest
+resting region n = record { extent = region; mark = n; slot = None }
 
 -- a guest behind whose open gate an intent stands, with no write of it done
-abbrev pub redoing : Place → Intent → Guest
-redoing place i = record { extent = place; mark = last_of i.group + 1; slot = Some (record { phase = Open (skipped i.group.entries); intent = i }) }
+abbrev pub redoing : Region → Intent → Guest
+redoing region i = record { extent = region; mark = last_of i.group + 1; slot = Some (record { phase = Open (skipped i.group.entries); intent = i }) }

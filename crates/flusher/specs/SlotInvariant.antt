@@ -3,7 +3,7 @@ use Rattle.std.specs.Prelude.{◌≡◌, ◌≢◌, ◌⊎◌, ℕ, ◌≤◌, B
 use Rattle.rpmb_frame.specs.Partition.{sequence_of}
 use Rattle.disk.specs.Content.{Content}
 use Rattle.disk.specs.Disk.{DiskState, MayLeave}
-use Rattle.intent_slots.specs.Layout.{Place, SlotPlace, AreApart, end_of}
+use Rattle.intent_slots.specs.Layout.{Region, SlotRegion, AreApart, end_of}
 use Rattle.intent_slots.specs.Payload.{Group, GroupFits, Intent}
 use Rattle.intent_slots.specs.Recovered.{Part, HoldsHome, HasPayload, redone, redo, blocks_of, after, StandsFor}
 use Rattle.flusher.specs.declared.phase.Phase.{Phase}
@@ -11,46 +11,46 @@ use Rattle.flusher.specs.declared.phase.Phase.TheVariants.{Given, Written, Ready
 use Rattle.flusher.specs.declared.slot.Slot.{Slot}
 use Rattle.flusher.specs.declared.guest.Guest.{Guest}
 use Rattle.flusher.specs.Phase.{is_opening}
-use Rattle.flusher.specs.Slot.{pending_of, place_of, side_of}
+use Rattle.flusher.specs.Slot.{pending_of, region_of, side_of}
 
-abbrev pub IsShut : SlotPlace → Content → Type 0
+abbrev pub IsShut : SlotRegion → Content → Type 0
 IsShut side c = c side.gate ≢ 165
 
-abbrev pub IsWideOpen : SlotPlace → Content → Type 0
+abbrev pub IsWideOpen : SlotRegion → Content → Type 0
 IsWideOpen side c = c side.gate ≡ 165
 
--- What every stop leaves in a partition's place, where p is the settled partition. In Opening and
+-- What every stop leaves in a partition's region, where p is the settled partition. In Opening and
 -- Closing the gate may be any byte; in Open and Applying the blocks that the intent writes, and the
 -- home record, may be any bytes.
-abbrev pub PhaseRow : Place → SlotPlace → Part → Phase → Group → Content → Type 0
-PhaseRow place side p Given i c = IsShut side c × HoldsHome place c p × GroupFits place.size i
-PhaseRow place side p Written i c = IsShut side c × HoldsHome place c p × GroupFits place.size i
-PhaseRow place side p Ready i c = IsShut side c × HoldsHome place c p × HasPayload place side i c
-PhaseRow place side p Opening i c = HoldsHome place c p × HasPayload place side i c
-PhaseRow place side p (Open k) i c = IsWideOpen side c × (redone place c i ≡ p) × HasPayload place side i c
-PhaseRow place side p Applying i c = IsWideOpen side c × (redone place c i ≡ p) × HasPayload place side i c
-PhaseRow place side p Applied i c = IsWideOpen side c × (redone place c i ≡ p) × HasPayload place side i c × HoldsHome place c p
-PhaseRow place side p Closing i c = (redone place c i ≡ p) × HasPayload place side i c × HoldsHome place c p
+abbrev pub PhaseRow : Region → SlotRegion → Part → Phase → Group → Content → Type 0
+PhaseRow region side p Given i c = IsShut side c × HoldsHome region c p × GroupFits region.size i
+PhaseRow region side p Written i c = IsShut side c × HoldsHome region c p × GroupFits region.size i
+PhaseRow region side p Ready i c = IsShut side c × HoldsHome region c p × HasPayload region side i c
+PhaseRow region side p Opening i c = HoldsHome region c p × HasPayload region side i c
+PhaseRow region side p (Open k) i c = IsWideOpen side c × (redone region c i ≡ p) × HasPayload region side i c
+PhaseRow region side p Applying i c = IsWideOpen side c × (redone region c i ≡ p) × HasPayload region side i c
+PhaseRow region side p Applied i c = IsWideOpen side c × (redone region c i ≡ p) × HasPayload region side i c × HoldsHome region c p
+PhaseRow region side p Closing i c = (redone region c i ≡ p) × HasPayload region side i c × HoldsHome region c p
 
-abbrev pub Row : Place → SlotPlace → Part → Option Slot → Content → Type 0
-Row place side p None c = IsShut side c × HoldsHome place c p
-Row place side p (Some s) c = PhaseRow place side p s.phase s.intent.group c
+abbrev pub Row : Region → SlotRegion → Part → Option Slot → Content → Type 0
+Row region side p None c = IsShut side c × HoldsHome region c p
+Row region side p (Some s) c = PhaseRow region side p s.phase s.intent.group c
 
 -- What reads give besides, as long as no call has failed. In Open the entries that remain lead to the
 -- partition's blocks.
-abbrev pub PhaseSeen : Place → SlotPlace → Part → Phase → Group → Content → Type 0
-PhaseSeen place side p Given i c = Unit {0}
-PhaseSeen place side p Written i c = HasPayload place side i c
-PhaseSeen place side p Ready i c = Unit {0}
-PhaseSeen place side p Opening i c = IsWideOpen side c
-PhaseSeen place side p (Open k) i c = redo (drop k i.entries) (blocks_of place c) ≡ p.blocks
-PhaseSeen place side p Applying i c = HoldsHome place c p
-PhaseSeen place side p Applied i c = Unit {0}
-PhaseSeen place side p Closing i c = IsShut side c
+abbrev pub PhaseSeen : Region → SlotRegion → Part → Phase → Group → Content → Type 0
+PhaseSeen region side p Given i c = Unit {0}
+PhaseSeen region side p Written i c = HasPayload region side i c
+PhaseSeen region side p Ready i c = Unit {0}
+PhaseSeen region side p Opening i c = IsWideOpen side c
+PhaseSeen region side p (Open k) i c = redo (drop k i.entries) (blocks_of region c) ≡ p.blocks
+PhaseSeen region side p Applying i c = HoldsHome region c p
+PhaseSeen region side p Applied i c = Unit {0}
+PhaseSeen region side p Closing i c = IsShut side c
 
-abbrev pub Seen : Place → SlotPlace → Part → Option Slot → Content → Type 0
-Seen place side p None c = Unit {0}
-Seen place side p (Some s) c = PhaseSeen place side p s.phase s.intent.group c
+abbrev pub Seen : Region → SlotRegion → Part → Option Slot → Content → Type 0
+Seen region side p None c = Unit {0}
+Seen region side p (Some s) c = PhaseSeen region side p s.phase s.intent.group c
 
 -- the settled partition after a sync that succeeded
 abbrev pub settled : Option Slot → Part → Part
@@ -81,27 +81,27 @@ pub record IsMarked (p : Part) (x : Guest) : Type 0 where
   pub follows : Follows x.mark (pending_of x.slot)
 
 -- Each guest's settled partition is held by every stop. X is what the store holds for one guest.
-pub record IsHeldBy {X : Type 0} (place : X → Place) (row seen : Part → X → Content → Type 0) (parts : ℕ → Part) (guests : List X) (broken : Bool) (s : DiskState) : Type 0 where
+pub record IsHeldBy {X : Type 0} (region : X → Region) (row seen : Part → X → Content → Type 0) (parts : ℕ → Part) (guests : List X) (broken : Bool) (s : DiskState) : Type 0 where
   pub known : s.faithful ≡ true
-  pub fits : (g : ℕ) (x : X) → slice_get guests g ≡ Some x → end_of (place x) ≤ s.len
-  pub apart : (g h : ℕ) (x y : X) → g ≢ h → slice_get guests g ≡ Some x → slice_get guests h ≡ Some y → AreApart (place x) (place y)
+  pub fits : (g : ℕ) (x : X) → slice_get guests g ≡ Some x → end_of (region x) ≤ s.len
+  pub apart : (g h : ℕ) (x y : X) → g ≢ h → slice_get guests g ≡ Some x → slice_get guests h ≡ Some y → AreApart (region x) (region y)
   pub rows : (g : ℕ) (x : X) → slice_get guests g ≡ Some x → (c : Content) → MayLeave s c → row (parts g) x c
   pub seen_rows : broken ≡ false → (g : ℕ) (x : X) → slice_get guests g ≡ Some x → seen (parts g) x s.seen
 
 abbrev pub guest_row : Part → Guest → Content → Type 0
-guest_row p x c = Row (place_of x) (side_of x) p x.slot c × IsMarked p x
+guest_row p x c = Row (region_of x) (side_of x) p x.slot c × IsMarked p x
 
 abbrev pub guest_seen : Part → Guest → Content → Type 0
-guest_seen p x c = Seen (place_of x) (side_of x) p x.slot c
+guest_seen p x c = Seen (region_of x) (side_of x) p x.slot c
 
 abbrev pub IsHeld : (ℕ → Part) → List Guest → Bool → DiskState → Type 0
-IsHeld = IsHeldBy place_of guest_row guest_seen
+IsHeld = IsHeldBy region_of guest_row guest_seen
 
 -- A content stands for the guest's settled partition, or in Opening for that with its intent, and never
 -- for one below the mark.
 pub record IsKept (p : Part) (x : Guest) (c : Content) : Type 0 where
   pub part : Part
-  pub stands : StandsFor (place_of x) (side_of x) c part
+  pub stands : StandsFor (region_of x) (side_of x) c part
   pub may : MayStand p x.slot part
   pub marked : x.mark ≤ sequence_of_part part
 

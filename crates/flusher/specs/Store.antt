@@ -8,7 +8,7 @@ use Rattle.flusher.specs.declared.progress.Call.{Call}
 use Rattle.flusher.specs.declared.progress.Call.TheVariants as call
 use Rattle.flusher.specs.Round.{planned, call_of}
 use Rattle.flusher.specs.declared.guest.Guest.{Guest}
-use Rattle.flusher.specs.Slot.{is_empty, intent_of, pending_of, place_of, with_intent}
+use Rattle.flusher.specs.Slot.{is_empty, intent_of, pending_of, region_of, with_intent}
 use Rattle.flusher.specs.SlotInvariant.{IsHeld}
 use Rattle.flusher.specs.Marks.{marks_of}
 
@@ -34,9 +34,9 @@ IsOf g (Some i) = i.guest ≡ g
 -- Guest g: its partition lies behind the header on a disk of so many bytes, and its mark is a sequence
 -- of a 32-bit counter.
 pub record GuestFits (len g : ℕ) (x : Guest) : Type 0 where
-  pub behind : 1024 ≤ (place_of x).base
-  pub room : end_of (place_of x) ≤ len
-  pub slot_fits : IntentFits (place_of x).size (intent_of x.slot)
+  pub behind : 1024 ≤ (region_of x).base
+  pub room : end_of (region_of x) ≤ len
+  pub slot_fits : IntentFits (region_of x).size (intent_of x.slot)
   pub own : IsOf g (intent_of x.slot)
   pub mark : x.mark ≤ 2 ^ 32
 
@@ -97,7 +97,7 @@ HasSameKey (Some j) i = i.group.key ≡ j.group.key
 
 -- an intent that the guest's partition may become
 pub record FitsGuest (x : Guest) (i : Intent) : Type 0 where
-  pub inside : GroupFits (place_of x).size i.group
+  pub inside : GroupFits (region_of x).size i.group
   pub key : HasSameKey (intent_of x.slot) i
 
 abbrev pub FitsOf : Option Guest → Intent → Type 0

@@ -2,9 +2,9 @@
 ghost use Rattle.std.specs.Prelude.{◌≡◌, ◌+◌, ◌≤◌, length, is_ok, position, IsTrue, slice_get, Some, MatchOption};
 ghost use Rattle.disk.specs.Disk.{Write};
 ghost use Rattle.intent_slots.specs.Payload.{GroupFits};
-ghost use Rattle.intent_slots.specs.Layout.{end_of, slot_place};
+ghost use Rattle.intent_slots.specs.Layout.{end_of, slot_region};
 ghost use Rattle.flusher.specs.Phase.{open_write, next_write, has_write};
-ghost use Rattle.flusher.specs.Slot.{spelled, guest_write, guest_has_write, place_of, intent_of};
+ghost use Rattle.flusher.specs.Slot.{spelled, guest_write, guest_has_write, region_of, intent_of};
 ghost use Rattle.flusher.specs.Round.{WroteSlot, SyncedAll};
 ghost use Rattle.flusher.specs.Store.{AllFit, IntentFits};
 
@@ -25,7 +25,7 @@ fn write_open<D: Disk>(
 ) -> Result<(), DiskFault>
     requires fits { GroupFits extent.now.size intent.now.group }
     requires room { end_of extent.now ≤ (D.state disk.old).len }
-    ensures { MatchOption (spelled extent.now (slot_place extent.now side) (open_write intent.now.group (slice_get intent.now.group.entries done))) ⊥ (λ w. D.makes disk.old (Write w.0 w.1 (is_ok result)) disk.new) }
+    ensures { MatchOption (spelled extent.now (slot_region extent.now side) (open_write intent.now.group (slice_get intent.now.group.entries done))) ⊥ (λ w. D.makes disk.old (Write w.0 w.1 (is_ok result)) disk.new) }
 {
     if done < intent.entries() {
         let entry = intent.entry(done);
@@ -47,7 +47,7 @@ fn write_slot<D: Disk>(
     requires room { end_of extent.now ≤ (D.state disk.old).len }
     requires buffer { length buffer.old ≡ 16648 }
     requires has { IsTrue (has_write slot.now.phase) }
-    ensures wrote { MatchOption (spelled extent.now (slot_place extent.now side) (next_write slot.now.phase slot.now.intent.group)) ⊥ (λ w. D.makes disk.old (Write w.0 w.1 (is_ok result)) disk.new) }
+    ensures wrote { MatchOption (spelled extent.now (slot_region extent.now side) (next_write slot.now.phase slot.now.intent.group)) ⊥ (λ w. D.makes disk.old (Write w.0 w.1 (is_ok result)) disk.new) }
     ensures buffer { length buffer.new ≡ 16648 }
 {
     match slot.phase {
@@ -64,8 +64,8 @@ fn write_slot<D: Disk>(
 
 /// Makes the guest's next write.
 fn write_next<D: Disk>(disk: &mut D, buffer: &mut [u8], guest: &Guest) -> Result<(), DiskFault>
-    requires fits { IntentFits (place_of guest.now).size (intent_of guest.now.slot) }
-    requires room { end_of (place_of guest.now) ≤ (D.state disk.old).len }
+    requires fits { IntentFits (region_of guest.now).size (intent_of guest.now.slot) }
+    requires room { end_of (region_of guest.now) ≤ (D.state disk.old).len }
     requires buffer { length buffer.old ≡ 16648 }
     requires has { IsTrue (guest_has_write guest.now) }
     ensures wrote { MatchOption (guest_write guest.now) ⊥ (λ w. D.makes disk.old (Write w.0 w.1 (is_ok result)) disk.new) }

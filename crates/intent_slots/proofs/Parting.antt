@@ -5,7 +5,7 @@ use Rattle.std.proofs.lemmas.Bool.{cases_lt}
 use Rattle.std.proofs.lemmas.Bool.Decides.{nat_tests}
 use Rattle.disk.specs.Content.{Content, over}
 use Rattle.rpmb_frame.specs.Partition.{overwritten}
-use Rattle.intent_slots.specs.Layout.{Place, blocks_at, end_of}
+use Rattle.intent_slots.specs.Layout.{Region, blocks_at, end_of}
 use Rattle.intent_slots.specs.Payload.{Entry, last_of}
 use Rattle.intent_slots.specs.Recovered.{Part, SamePartition, redo, blocks_of, redone, ByHome, ByPayload, OnePart, PartIsItsBytes, RedoOverwrites, AfterOverwrites, AfterInTurn}
 use Rattle.intent_slots.proofs.Same.{same_home, same_payload, payload_short}
@@ -14,54 +14,54 @@ use Rattle.intent_slots.proofs.Decoding.{one_group}
 use Rattle.intent_slots.proofs.Buffers.{put_content}
 
 pub one_part : OnePart
-one_part place slot c p q (ByHome shut held) (ByHome other there) =
-    let homes = one_home p.key q.key p.counter q.counter c place.base held.home there.home in
+one_part region slot c p q (ByHome shut held) (ByHome other there) =
+    let homes = one_home p.key q.key p.counter q.counter c region.base held.home there.home in
     let key = homes.0 in
     let counter = homes.1 in
     let blocks : p.blocks ≡ q.blocks = sym held.same_blocks ∙ there.same_blocks in
     λ i. record { key = key i; counter = counter i; blocks = blocks i }
-one_part place slot c p q (ByHome shut held) (ByPayload j gate payload is) = absurd (shut gate)
-one_part place slot c p q (ByPayload i gate payload is) (ByHome shut held) = absurd (shut gate)
-one_part place slot c p q (ByPayload i gate payload is) (ByPayload j gate_too there other) =
-    sym is ∙ ap (redone place c) (one_group place.size i j c slot.payload payload there) ∙ other
+one_part region slot c p q (ByHome shut held) (ByPayload j gate payload is) = absurd (shut gate)
+one_part region slot c p q (ByPayload i gate payload is) (ByHome shut held) = absurd (shut gate)
+one_part region slot c p q (ByPayload i gate payload is) (ByPayload j gate_too there other) =
+    sym is ∙ ap (redone region c) (one_group region.size i j c slot.payload payload there) ∙ other
 
--- blocks of a place whose bytes are the same
-blocks_same : (place : Place) (c d : Content) → ((k : ℕ) → place.base ≤ k → k < end_of place → c k ≡ d k)
-    → blocks_of place c ≡ blocks_of place d
+-- blocks of a region whose bytes are the same
+blocks_same : (region : Region) (c d : Content) → ((k : ℕ) → region.base ≤ k → k < end_of region → c k ≡ d k)
+    → blocks_of region c ≡ blocks_of region d
 unfolding blocks_of
-blocks_same place c d same = λ i k. each k (cases_lt k place.size) i
+blocks_same region c d same = λ i k. each k (cases_lt k region.size) i
   where
-    each : (k : ℕ) → (k < place.size) ⊎ (place.size ≤ k) → blocks_of place c k ≡ blocks_of place d k
+    each : (k : ℕ) → (k < region.size) ⊎ (region.size ≤ k) → blocks_of region c k ≡ blocks_of region d k
     each k (inl lt) =
-        let yes : nat_lt k place.size ≡ true = grind (arith, nat_tests) in
-        let here : c (blocks_at place + k) ≡ d (blocks_at place + k) =
-        same (blocks_at place + k) (omega arith) (omega arith) in
-        ap (λ (b : Bool). if b then c (blocks_at place + k) else 0) yes ∙ here
-        ∙ ap (λ (b : Bool). if b then d (blocks_at place + k) else 0) (sym yes)
+        let yes : nat_lt k region.size ≡ true = grind (arith, nat_tests) in
+        let here : c (blocks_at region + k) ≡ d (blocks_at region + k) =
+        same (blocks_at region + k) (omega arith) (omega arith) in
+        ap (λ (b : Bool). if b then c (blocks_at region + k) else 0) yes ∙ here
+        ∙ ap (λ (b : Bool). if b then d (blocks_at region + k) else 0) (sym yes)
     each k (inr le) =
-        let no : nat_lt k place.size ≡ false = grind (arith, nat_tests) in
-        ap (λ (b : Bool). if b then c (blocks_at place + k) else 0) no
-        ∙ ap (λ (b : Bool). if b then d (blocks_at place + k) else 0) (sym no)
+        let no : nat_lt k region.size ≡ false = grind (arith, nat_tests) in
+        ap (λ (b : Bool). if b then c (blocks_at region + k) else 0) no
+        ∙ ap (λ (b : Bool). if b then d (blocks_at region + k) else 0) (sym no)
 
 pub part_own : PartIsItsBytes
-part_own place slot c d p apart same (ByHome shut held) =
+part_own region slot c d p apart same (ByHome shut held) =
     let low = apart.behind_home in
     let mid = apart.gate_first in
     let high = apart.before_blocks in
     let gate = same slot.gate (omega (arith, low)) (omega (arith, mid, high)) in
     ByHome (λ e. shut (gate ∙ e)) (record {
-      home = same_home c place.base d place.base p.key p.counter
-          (λ k lt. same (place.base + k) (omega arith) (omega (arith, lt))) held.home;
-      same_blocks = sym (blocks_same place c d same) ∙ held.same_blocks;
+      home = same_home c region.base d region.base p.key p.counter
+          (λ k lt. same (region.base + k) (omega arith) (omega (arith, lt))) held.home;
+      same_blocks = sym (blocks_same region c d same) ∙ held.same_blocks;
     })
-part_own place slot c d p apart same (ByPayload i gate payload is) =
+part_own region slot c d p apart same (ByPayload i gate payload is) =
     let low = apart.behind_home in
     let mid = apart.gate_first in
     let high = apart.before_blocks in
-    let short = payload_short place.size i payload.fits in
+    let short = payload_short region.size i payload.fits in
     let there = same slot.gate (omega (arith, low)) (omega (arith, mid, high)) in
     ByPayload i (sym there ∙ gate)
-    (same_payload place.size c slot.payload d slot.payload i
+    (same_payload region.size c slot.payload d slot.payload i
     (λ k lt. same (slot.payload + k) (omega (arith, low, mid)) (omega (arith, lt, short, high)))
     payload)
     (ap (λ (b : Content). record {
@@ -69,7 +69,7 @@ part_own place slot c d p apart same (ByPayload i gate payload is) =
       counter = i.first + (length i.entries - 1);
       blocks =
           redo i.entries b;
-    }) (sym (blocks_same place c d same)) ∙ is)
+    }) (sym (blocks_same region c d same)) ∙ is)
 
 pub redo_over : RedoOverwrites
 unfolding overwritten

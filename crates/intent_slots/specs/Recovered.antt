@@ -1,12 +1,12 @@
--- Which partition an image holds in a place (own).
+-- Which partition an image holds in a region (own).
 use Rattle.std.specs.Prelude.{◌≡◌, ◌≢◌, ℕ, ◌+◌, ◌*◌, ◌<◌, ◌≤◌, List, [], ◌∷◌, ◌++◌, length, nat_lt, if◌then◌else◌, Option, Some}
 use Rattle.disk.specs.Content.{Content, over, content_of}
 use Rattle.rpmb_frame.specs.Partition.{Partition, overwritten}
-use Rattle.intent_slots.specs.Layout.{Place, SlotPlace, IsSlotPlace, blocks_at, end_of}
+use Rattle.intent_slots.specs.Layout.{Region, SlotRegion, IsSlotRegion, blocks_at, end_of}
 use Rattle.intent_slots.specs.Home.{IsHome}
 use Rattle.intent_slots.specs.Payload.{Entry, Group, last_of, IsPayload}
 
--- A partition. Its blocks are the byte at each place, zeros beyond the last block.
+-- A partition. Its blocks are the byte at each offset, zeros beyond the last block.
 pub record Part : Type 0 where
   pub key : Option (List ℕ)
   pub counter : ℕ
@@ -25,39 +25,39 @@ redo (e ∷ es) c = redo es (over (256 * e.address) e.blocks c)
 abbrev pub after : Part → Group → Part
 after p i = record { key = Some i.key; counter = last_of i; blocks = redo i.entries p.blocks }
 
--- the blocks that stand in a partition's place
-unfoldable pub blocks_of : Place → Content → Content
-blocks_of place c = λ k. if nat_lt k place.size then c (blocks_at place + k) else 0
+-- the blocks that stand in a partition's region
+unfoldable pub blocks_of : Region → Content → Content
+blocks_of region c = λ k. if nat_lt k region.size then c (blocks_at region + k) else 0
 
 -- the home record and the blocks are those of a partition
-pub record HoldsHome (place : Place) (c : Content) (p : Part) : Type 0 where
-  pub home : IsHome c place.base p.key p.counter
-  pub same_blocks : blocks_of place c ≡ p.blocks
+pub record HoldsHome (region : Region) (c : Content) (p : Part) : Type 0 where
+  pub home : IsHome c region.base p.key p.counter
+  pub same_blocks : blocks_of region c ≡ p.blocks
 
 -- the blocks that stand there, with the group's over them, under its key and last counter
-abbrev pub redone : Place → Content → Group → Part
-redone place c i = record { key = Some i.key; counter = last_of i; blocks = redo i.entries (blocks_of place c) }
+abbrev pub redone : Region → Content → Group → Part
+redone region c i = record { key = Some i.key; counter = last_of i; blocks = redo i.entries (blocks_of region c) }
 
 -- the payload of a slot is well formed and holds the group
-abbrev pub HasPayload : Place → SlotPlace → Group → Content → Type 0
-HasPayload place slot i c = IsPayload place.size c slot.payload i
+abbrev pub HasPayload : Region → SlotRegion → Group → Content → Type 0
+HasPayload region slot i c = IsPayload region.size c slot.payload i
 
 -- The partition that a content holds: the home's where the gate isn't 0xA5, else the payload's.
-pub data StandsFor (place : Place) (slot : SlotPlace) (c : Content) (p : Part) : Type 0 where
-  ByHome : c slot.gate ≢ 165 → HoldsHome place c p → StandsFor place slot c p
-  ByPayload : (i : Group) → c slot.gate ≡ 165 → HasPayload place slot i c → redone place c i ≡ p
-      → StandsFor place slot c p
+pub data StandsFor (region : Region) (slot : SlotRegion) (c : Content) (p : Part) : Type 0 where
+  ByHome : c slot.gate ≢ 165 → HoldsHome region c p → StandsFor region slot c p
+  ByPayload : (i : Group) → c slot.gate ≡ 165 → HasPayload region slot i c → redone region c i ≡ p
+      → StandsFor region slot c p
 
--- a content holds at most one partition in a place
+-- a content holds at most one partition in a region
 abbrev pub OnePart : Type 0
-OnePart = (place : Place) (slot : SlotPlace) (c : Content) (p q : Part) → StandsFor place slot c p
-    → StandsFor place slot c q → p ≡ q
+OnePart = (region : Region) (slot : SlotRegion) (c : Content) (p q : Part) → StandsFor region slot c p
+    → StandsFor region slot c q → p ≡ q
 
--- what a content holds in a place rests on the bytes of that place alone
+-- what a content holds in a region rests on the bytes of that region alone
 abbrev pub PartIsItsBytes : Type 0
-PartIsItsBytes = (place : Place) (slot : SlotPlace) (c d : Content) (p : Part) → IsSlotPlace place slot
-    → ((k : ℕ) → place.base ≤ k → k < end_of place → c k ≡ d k)
-    → StandsFor place slot c p → StandsFor place slot d p
+PartIsItsBytes = (region : Region) (slot : SlotRegion) (c d : Content) (p : Part) → IsSlotRegion region slot
+    → ((k : ℕ) → region.base ≤ k → k < end_of region → c k ≡ d k)
+    → StandsFor region slot c p → StandsFor region slot d p
 
 -- two partitions of one capacity, each with all its blocks, of which one content may tell the same, are one
 abbrev pub SamePartition : Type 0

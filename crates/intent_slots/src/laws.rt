@@ -1,7 +1,7 @@
 //! Laws of the definitions.
 ghost use Rattle.std.specs.Prelude.{◌≡◌};
 ghost use Rattle.intent_slots.specs.declared.home.TheConstants.{HOME_LENGTH};
-ghost use Rattle.intent_slots.specs.declared.layout.TheConstants.{OPEN_GATE, SHUT_GATE, VERSION_PLACE, HEADER_LENGTH};
+ghost use Rattle.intent_slots.specs.declared.layout.TheConstants.{OPEN_GATE, SHUT_GATE, VERSION_OFFSET, HEADER_LENGTH};
 ghost use Rattle.intent_slots.specs.declared.payload.TheConstants.{PAYLOAD_LENGTH};
 ghost use Rattle.intent_slots.specs.Header.{HeaderReadsBack, HeaderIsItsBytes};
 ghost use Rattle.disk.specs.Content.{Content};
@@ -18,7 +18,7 @@ pub fn header_reads_back()
 {}
 
 /// A home record that was written is well formed and holds what was written; it speaks of its 64 bytes
-/// alone; and a content holds at most one home in a place.
+/// alone; and a content holds at most one home at an offset.
 pub fn home_reads_back()
     ensures same { HomeReadsBack }
     ensures own_bytes { HomeIsItsBytes }
@@ -26,14 +26,14 @@ pub fn home_reads_back()
 {}
 
 /// A payload that was written is well formed and holds what was written; it speaks of its own bytes
-/// alone; and a content holds at most one group in a place.
+/// alone; and a content holds at most one group at an offset.
 pub fn payload_reads_back()
     ensures same { PayloadReadsBack }
     ensures own_bytes { PayloadIsItsBytes }
     ensures one { OneGroup }
 {}
 
-/// A content holds at most one partition in a place, and which one rests on the bytes of that place; of
+/// A content holds at most one partition in a region, and which one rests on the bytes of that region; of
 /// one capacity no two partitions are held alike.
 pub fn one_partition()
     ensures one { OnePart }
@@ -46,7 +46,7 @@ pub fn one_partition()
 /// greatest payload 16,648.
 pub fn constants_are_the_formats()
     ensures gates { (OPEN_GATE ≡ 165) × (SHUT_GATE ≡ 0) }
-    ensures offsets { (VERSION_PLACE ≡ 512) × (HEADER_LENGTH ≡ 1024) }
+    ensures offsets { (VERSION_OFFSET ≡ 512) × (HEADER_LENGTH ≡ 1024) }
     ensures lengths { (HOME_LENGTH ≡ 64) × (PAYLOAD_LENGTH ≡ 16_648) }
 {}
 

@@ -1,5 +1,5 @@
 ghost use Rattle.std.specs.Prelude.{◌≡◌, ◌≤◌, ◌<◌, ◌+◌, ◌*◌, ◌^◌, length, slice_index};
-ghost use Rattle.intent_slots.specs.Layout.{capacities_of, place_at, start_of, image_length, slot_place, blocks_at, NeverOverlap, AllInside, PartsNeverOverlap, PartsInside, SlotsBetween};
+ghost use Rattle.intent_slots.specs.Layout.{capacities_of, region_at, start_of, image_length, slot_region, blocks_at, NeverOverlap, AllInside, PartsNeverOverlap, PartsInside, SlotsBetween};
 
 use crate::extent::Extent;
 use arrayvec::ArrayVec;
@@ -12,19 +12,19 @@ pub const OPEN_GATE: u8 = 0xA5;
 /// The byte that shuts a gate.
 pub const SHUT_GATE: u8 = 0x00;
 
-/// The place of the version byte in an image. A fresh image has 1 there, and nothing reads it yet.
-pub const VERSION_PLACE: u64 = 512;
+/// The offset of the version byte in an image. A fresh image has 1 there, and nothing reads it yet.
+pub const VERSION_OFFSET: u64 = 512;
 
 /// The length of the header in bytes: what stands before partition 0.
 pub const HEADER_LENGTH: u64 = 1024;
 
-/// The place of slot A's gate in a partition, in bytes from its first.
-pub(crate) const GATE_PLACE: u64 = 512;
+/// The offset of slot A's gate in a partition, in bytes from its first.
+pub(crate) const GATE_OFFSET: u64 = 512;
 
-/// The place of slot A's payload in a partition, in bytes from its first.
-pub(crate) const PAYLOAD_PLACE: u64 = 1024;
+/// The offset of slot A's payload in a partition, in bytes from its first.
+pub(crate) const PAYLOAD_OFFSET: u64 = 1024;
 
-/// The length in bytes of a partition's parts before its blocks: the place of block 0 in it.
+/// The length in bytes of a partition's parts before its blocks: the offset of block 0 in it.
 pub(crate) const PARTS_LENGTH: u64 = 35_328;
 
 /// The length in bytes of a block.
@@ -36,13 +36,13 @@ const UNIT_LENGTH: u64 = 131_072;
 /// The same as a length in memory.
 pub(crate) const UNIT_SIZE: usize = UNIT_LENGTH as usize;
 
-/// The place of slot B's gate in a partition, in bytes from its first.
-pub(crate) const GATE_B_PLACE: u64 = 17_920;
+/// The offset of slot B's gate in a partition, in bytes from its first.
+pub(crate) const GATE_B_OFFSET: u64 = 17_920;
 
-/// The place of slot B's payload in a partition, in bytes from its first.
-pub(crate) const PAYLOAD_B_PLACE: u64 = 18_432;
+/// The offset of slot B's payload in a partition, in bytes from its first.
+pub(crate) const PAYLOAD_B_OFFSET: u64 = 18_432;
 
-/// One of a partition's two slots. Slot B has its place, and nothing reads it yet.
+/// One of a partition's two slots. Slot B has its offsets, and nothing reads it yet.
 #[derive(Clone, Copy, Debug, PartialEq, Eq)]
 pub enum Side {
     /// The slot that intents go through.
@@ -69,7 +69,7 @@ impl Model for Layout {
     ghost invariant = { λ l. AreCapacities l.capacities.items };
 }
 
-#[tactic(auto, unfolding(crate::specs::Layout::place_at, crate::specs::Layout::image_length, crate::specs::Layout::capacities_of))]
+#[tactic(auto, unfolding(crate::specs::Layout::region_at, crate::specs::Layout::image_length, crate::specs::Layout::capacities_of))]
 impl Layout {
     /// The layout of a board's image. It takes no memory.
     pub fn of(board: &BoardConfig) -> Layout
@@ -118,7 +118,7 @@ impl Layout {
     /// Where a guest's partition stands.
     pub fn extent(&self, guest: u16) -> Extent
         requires { guest < length self.now }
-        ensures { result ≡ place_at self.now guest }
+        ensures { result ≡ region_at self.now guest }
     {
         let base = start(self.capacities.as_slice(), usize::from(guest));
         Extent::new(base, self.capacity(guest))
@@ -139,7 +139,7 @@ fn start(capacities: &[u8], guest: usize) -> u64
     at
 }
 
-/// Different partitions have no place in common.
+/// Different partitions have no offset in common.
 pub fn partitions_never_overlap()
     ensures { NeverOverlap }
 {}
@@ -149,7 +149,7 @@ pub fn partitions_lie_inside()
     ensures { AllInside }
 {}
 
-/// The parts of a partition have no place in common, and lie in it; a slot's gate and payload stand
+/// The parts of a partition have no offset in common, and lie in it; a slot's gate and payload stand
 /// between the home record and the blocks.
 pub fn parts_never_overlap()
     ensures apart { PartsNeverOverlap }

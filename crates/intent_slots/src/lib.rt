@@ -24,7 +24,7 @@ pub use laws::{
     payload_reads_back, requests_in_turn,
 };
 pub use layout::{
-    HEADER_LENGTH, Layout, OPEN_GATE, SHUT_GATE, Side, VERSION_PLACE, partitions_lie_inside,
+    HEADER_LENGTH, Layout, OPEN_GATE, SHUT_GATE, Side, VERSION_OFFSET, partitions_lie_inside,
     partitions_never_overlap, parts_never_overlap,
 };
 pub use payload::{NoMemory, PAYLOAD_LENGTH, Room};

@@ -5,7 +5,7 @@ use Rattle.disk.specs.Content.{Content, bytes_at, over, zeros}
 use Rattle.intent_slots.specs.Fields.{Agree, number_at}
 use Rattle.intent_slots.specs.Header.{header_bytes}
 use Rattle.intent_slots.specs.Home.{Unkeyed}
-use Rattle.intent_slots.specs.Layout.{place_at, slot_place, end_of, image_length}
+use Rattle.intent_slots.specs.Layout.{region_at, slot_region, end_of, image_length}
 use Rattle.intent_slots.specs.declared.layout.Side.TheVariants.{A}
 use Rattle.intent_slots.specs.Recovered.{StandsFor, ByHome, blocks_of}
 use Rattle.intent_slots.proofs.Over.{over_outside, list_over}
@@ -38,24 +38,24 @@ zero_list (suc n) at = ap (λ (l : List ℕ). 0 ∷ l) (zero_list n (suc at))
 
 -- zeros behind the header are an empty partition of each guest
 pub zeros_empty : (cs : List ℕ) (g : ℕ) (c : Content) → g < length cs → ((k : ℕ) → 1024 ≤ k → k < image_length cs → c k ≡ 0)
-    → StandsFor (place_at cs g) (slot_place (place_at cs g) A) c no_part
+    → StandsFor (region_at cs g) (slot_region (region_at cs g) A) c no_part
 zeros_empty cs g c lt is =
-    let place = place_at cs g in
+    let region = region_at cs g in
     let inside = lies_inside cs g lt in
     let low = inside.0 in
     let high = inside.1 in
-    let z = λ (k : ℕ) (from : place.base ≤ k) (to : k < end_of place). is k (omega (arith, from, low)) (omega (arith, to, high)) in
-    let agree = λ (at n : ℕ) (a : place.base ≤ at) (b : at + n ≤ end_of place) (k : ℕ) (l : k < n). z (at + k) (omega arith) (omega arith) in
+    let z = λ (k : ℕ) (from : region.base ≤ k) (to : k < end_of region). is k (omega (arith, from, low)) (omega (arith, to, high)) in
+    let agree = λ (at n : ℕ) (a : region.base ≤ at) (b : at + n ≤ end_of region) (k : ℕ) (l : k < n). z (at + k) (omega arith) (omega arith) in
     ByHome
-    (λ e. absurd (let gate = z (place.base + 512) (omega arith) (omega arith) in omega (arith, gate, e)))
+    (λ e. absurd (let gate = z (region.base + 512) (omega arith) (omega arith) in omega (arith, gate, e)))
     (record {
       home = Unkeyed (record {
-        flag = z place.base (omega arith) (omega arith);
-        key = same_list c (place.base + 1) zeros 0 32 (agree (place.base + 1) 32 (omega arith) (omega arith)) ∙ zero_list 32 0;
-        counter = same_number c (place.base + 33) zeros 0 4 (agree (place.base + 33) 4 (omega arith) (omega arith)) ∙ zero_number 4 0;
-        sequence = same_number c (place.base + 37) zeros 0 8 (agree (place.base + 37) 8 (omega arith) (omega arith)) ∙ zero_number 8 0;
+        flag = z region.base (omega arith) (omega arith);
+        key = same_list c (region.base + 1) zeros 0 32 (agree (region.base + 1) 32 (omega arith) (omega arith)) ∙ zero_list 32 0;
+        counter = same_number c (region.base + 33) zeros 0 4 (agree (region.base + 33) 4 (omega arith) (omega arith)) ∙ zero_number 4 0;
+        sequence = same_number c (region.base + 37) zeros 0 8 (agree (region.base + 37) 8 (omega arith) (omega arith)) ∙ zero_number 8 0;
       });
-      same_blocks = same_content (blocks_of place c) zeros (λ k. ⊎_elim (λ below. blocks_below place c k below ∙ z (place.base + 35328 + k) (omega arith) (omega arith)) (λ past. blocks_beyond place c k past) (cases_lt k place.size));
+      same_blocks = same_content (blocks_of region c) zeros (λ k. ⊎_elim (λ below. blocks_below region c k below ∙ z (region.base + 35328 + k) (omega arith) (omega arith)) (λ past. blocks_beyond region c k past) (cases_lt k region.size));
     })
 
 pub fresh_empty : FormattedIsEmpty

@@ -6,7 +6,7 @@ use Rattle.rpmb_frame.specs.Partition.{Partition, sequence_of}
 use Rattle.disk.specs.Content.{Content}
 use Rattle.disk.specs.Disk.{DiskState, MayLeave}
 use Rattle.intent_slots.specs.Header.{HasCapacities}
-use Rattle.intent_slots.specs.Layout.{Place, SlotPlace, place_at, slot_place, image_length, end_of, AreApart}
+use Rattle.intent_slots.specs.Layout.{Region, SlotRegion, region_at, slot_region, image_length, end_of, AreApart}
 use Rattle.intent_slots.specs.declared.layout.Side.TheVariants.{A}
 use Rattle.intent_slots.specs.Recovered.{Part, part_of, StandsFor, ByHome, ByPayload}
 use Rattle.intent_slots.proofs.Starts.{lies_inside, overlaps_never}
@@ -15,7 +15,7 @@ use Rattle.flusher.specs.declared.slot.Slot.{Slot}
 use Rattle.flusher.specs.declared.phase.Phase.{Phase}
 use Rattle.flusher.specs.declared.phase.Phase.TheVariants.{Open}
 use Rattle.flusher.specs.Phase.{skipped, is_settled}
-use Rattle.flusher.specs.Slot.{place_of, side_of, mark_of, pending_of}
+use Rattle.flusher.specs.Slot.{region_of, side_of, mark_of, pending_of}
 use Rattle.flusher.specs.Marks.{marks_of}
 use Rattle.intent_slots.specs.Payload.{Group}
 use Rattle.flusher.specs.SlotInvariant.{PhaseRow, Row, Seen, IsHeld, guest_row, guest_seen, Follows}
@@ -56,18 +56,18 @@ found_more c xs new ps next x p n count same_count pushed also all last = record
 
 -- 2. What was found stands there
 
-open_stands : (place : Place) (side : SlotPlace) (p : Part) (k : ℕ) (i : Group) (c : Content) → PhaseRow place side p (Open k) i c → StandsFor place side c p
-open_stands place side p k i c r = ByPayload i r.0 r.2 r.1
+open_stands : (region : Region) (side : SlotRegion) (p : Part) (k : ℕ) (i : Group) (c : Content) → PhaseRow region side p (Open k) i c → StandsFor region side c p
+open_stands region side p k i c r = ByPayload i r.0 r.2 r.1
 
-stands_row : (place : Place) (side : SlotPlace) (p : Part) (slot : Option Slot) (c : Content) → IsFirst slot → Row place side p slot c → StandsFor place side c p
-stands_row place side p None c first r = ByHome r.0 r.1
-stands_row place side p (Some s) c first r = open_stands place side p (skipped s.intent.group.entries) s.intent.group c (subst (λ (f : Phase). PhaseRow place side p f s.intent.group c) first r)
+stands_row : (region : Region) (side : SlotRegion) (p : Part) (slot : Option Slot) (c : Content) → IsFirst slot → Row region side p slot c → StandsFor region side c p
+stands_row region side p None c first r = ByHome r.0 r.1
+stands_row region side p (Some s) c first r = open_stands region side p (skipped s.intent.group.entries) s.intent.group c (subst (λ (f : Phase). PhaseRow region side p f s.intent.group c) first r)
 
 follows : (slot : Option Slot) (n : ℕ) → IsFirst slot → Follows n (pending_of slot)
 follows None n first = tt
 follows (Some s) n first = subst (λ (f : Phase). Follows n (if is_settled f then None else Some s.intent)) (sym first) tt
 
--- the element at a place of a list that is as long
+-- the element at an index of a list that is as long
 there : {X Y : Type 0} (xs : List X) (ys : List Y) (g : ℕ) (x : X) → length xs ≡ length ys → slice_get xs g ≡ Some x → (y : Y) × (slice_get ys g ≡ Some y)
 there xs ys g x same at = ⊎_elim
     (λ here. (here.0, here.2))
@@ -88,7 +88,7 @@ module _ (cs : List ℕ) (xs : List Guest) (ps : List Partition) (all : AllBegun
   has_each c found g lt =
       let x = at_place xs g (omega (arith, lt, all.all_guests)) in
       let p = partition_there g x.0 x.1 in
-      record { part = part_of p.0; stands = subst (λ (v : Place). StandsFor v (slot_place v A) c (part_of p.0)) (all.each g x.0 p.0 x.1 p.1).place (all_stand c found g x.0 p.0 x.1 p.1) }
+      record { part = part_of p.0; stands = subst (λ (v : Region). StandsFor v (slot_region v A) c (part_of p.0)) (all.each g x.0 p.0 x.1 p.1).region (all_stand c found g x.0 p.0 x.1 p.1) }
     where
       at_place : {X : Type 0} (ys : List X) (g : ℕ) → g < length ys → (y : X) × (slice_get ys g ≡ Some y)
       at_place ys g lt = ⊎_elim (λ here. (here.0, here.2)) (λ past. absurd (let e = past.0 in omega (arith, lt, e))) (slice_get_cases ys g).1
@@ -99,10 +99,10 @@ module _ (cs : List ℕ) (xs : List Guest) (ps : List Partition) (all : AllBegun
       fits : (g : ℕ) (x : Guest) → slice_get xs g ≡ Some x → (p : Partition) × (slice_get ps g ≡ Some p) × IsBegun cs g x p → GuestFits len g x
       fits g x at (p, here, b) = record {
         behind = (let lt = slice_get_within xs g x at in let inside = (lies_inside cs g (omega (arith, lt, all.all_guests))).0 in
-            subst (λ (v : Place). 1024 ≤ v.base) (sym b.place) inside);
+            subst (λ (v : Region). 1024 ≤ v.base) (sym b.region) inside);
         own = b.number;
         room = (let lt = slice_get_within xs g x at in let inside = (lies_inside cs g (omega (arith, lt, all.all_guests))).1 in
-            subst (λ (v : Place). end_of v ≤ len) (sym b.place) (omega (arith, inside, room)));
+            subst (λ (v : Region). end_of v ≤ len) (sym b.region) (omega (arith, inside, room)));
         slot_fits = b.fits;
         mark = b.small;
       }
@@ -117,28 +117,28 @@ module _ (cs : List ℕ) (xs : List Guest) (ps : List Partition) (all : AllBegun
     seen_rows = λ whole g x at. seen g x at (partition_there g x at);
   }
     where
-      apart : (g h : ℕ) (x y : Guest) → g ≢ h → slice_get xs g ≡ Some x → slice_get xs h ≡ Some y → AreApart (place_of x) (place_of y)
+      apart : (g h : ℕ) (x y : Guest) → g ≢ h → slice_get xs g ≡ Some x → slice_get xs h ≡ Some y → AreApart (region_of x) (region_of y)
       apart g h x y other at here =
           let a = begun_there g x at in
           let b = begun_there h y here in
           let lt = slice_get_within xs g x at in
           let less = slice_get_within xs h y here in
-          subst (λ (v : Place). AreApart v (place_of y)) (sym a.2.place) (subst (λ (v : Place). AreApart (place_at cs g) v) (sym b.2.place)
+          subst (λ (v : Region). AreApart v (region_of y)) (sym a.2.region) (subst (λ (v : Region). AreApart (region_at cs g) v) (sym b.2.region)
           (overlaps_never cs g h (omega (arith, lt, all.all_guests)) (omega (arith, less, all.all_guests)) other))
 
       row : (g : ℕ) (x : Guest) → slice_get xs g ≡ Some x → (c : Content) → MayLeave t c → (p : Partition) × (slice_get ps g ≡ Some p) → guest_row (parts_of ps g) x c
       row g x at c left (p, here) =
           let b = all.each g x p at here in
           subst (λ (o : Option Partition). guest_row (part_or o) x c) (sym here) (
-            subst (λ (d : Content). Row (place_of x) (side_of x) (part_of p) x.slot d) (same_content s.seen c (λ k. sym (left k (synced k) ∙ u.seen known k))) (found.each g x p at here).row,
+            subst (λ (d : Content). Row (region_of x) (side_of x) (part_of p) x.slot d) (same_content s.seen c (λ k. sym (left k (synced k) ∙ u.seen known k))) (found.each g x p at here).row,
             record { mark = b.mark; follows = follows x.slot x.mark b.slot },
           )
 
       seen : (g : ℕ) (x : Guest) → slice_get xs g ≡ Some x → (p : Partition) × (slice_get ps g ≡ Some p) → guest_seen (parts_of ps g) x t.seen
       seen g x at (p, here) = subst (λ (o : Option Partition). guest_seen (part_or o) x t.seen) (sym here)
-          (subst (λ (d : Content). Seen (place_of x) (side_of x) (part_of p) x.slot d) (same_content s.seen t.seen (λ k. sym (u.seen known k))) (found.each g x p at here).seen)
+          (subst (λ (d : Content). Seen (region_of x) (side_of x) (part_of p) x.slot d) (same_content s.seen t.seen (λ k. sym (u.seen known k))) (found.each g x p at here).seen)
 
--- what two lists of the same length have in common at each place
+-- what two lists of the same length have in common at each index
 same_maps : {X Y : Type 0} (f : X → ℕ) (h : Y → ℕ) (xs : List X) (ys : List Y) → length xs ≡ length ys
     → ((g : ℕ) (x : X) (y : Y) → slice_get xs g ≡ Some x → slice_get ys g ≡ Some y → f x ≡ h y) → map f xs ≡ map h ys
 same_maps f h [] [] same each = refl

@@ -3,12 +3,12 @@ use Rattle.std.specs.Prelude.{◌≡◌, ℕ, ◌+◌, ◌<◌, ◌≤◌, Bool,
 use Rattle.disk.specs.Content.{Content, IsOutside, over, zeros}
 use Rattle.disk.specs.Disk.{DiskState, DiskCall, Write, Sync, HasRisen, MayLeave, Within}
 use Rattle.intent_slots.specs.Header.{header_bytes}
-use Rattle.intent_slots.specs.Layout.{place_at, slot_place, image_length}
+use Rattle.intent_slots.specs.Layout.{region_at, slot_region, image_length}
 use Rattle.intent_slots.specs.declared.layout.Side.TheVariants.{A}
 use Rattle.intent_slots.specs.Recovered.{StandsFor}
 use Rattle.recovery.specs.Opening.{IsImage, no_part}
 
--- The header, the version byte 1 at place 512, and zeros.
+-- The header, the version byte 1 at offset 512, and zeros.
 unfoldable pub formatted : List ℕ → Content
 formatted capacities = over 512 (1 ∷ []) (over 0 (header_bytes capacities) zeros)
 
@@ -21,7 +21,7 @@ pub record IsFormatted (capacities : List ℕ) (s : DiskState) : Type 0 where
   pub seen : Holds (formatted capacities) (image_length capacities) s.seen
   pub synced : (k : ℕ) → s.unsynced k ≡ false
 
--- n bytes from a place on became zeros, and no other byte changed
+-- n bytes from an offset on became zeros, and no other byte changed
 pub record Zeroes (at n : ℕ) (old new : DiskState) : Type 0 where
   pub inside : (k : ℕ) → at ≤ k → k < at + n → new.seen k ≡ 0
   pub outside : (k : ℕ) → IsOutside at n k → new.seen k ≡ old.seen k
@@ -40,7 +40,7 @@ pub record SyncsZeros {D : Type 0} (makes : D → DiskCall → D → Type 0) (ok
 -- each content that a stop may leave stands for an empty partition of every guest
 abbrev pub LeavesEmpty : List ℕ → DiskState → Type 0
 LeavesEmpty capacities s = s.faithful ≡ true → (c : Content) → MayLeave s c → (g : ℕ) → g < length capacities
-    → StandsFor (place_at capacities g) (slot_place (place_at capacities g) A) c no_part
+    → StandsFor (region_at capacities g) (slot_region (region_at capacities g) A) c no_part
 
 -- behind the header zeros are read, and are what a stop leaves
 abbrev pub IsBlank : List ℕ → DiskState → Type 0
@@ -75,4 +75,4 @@ FormattedIsImage = (capacities : List ℕ) (c : Content) → length capacities �
 abbrev pub FormattedIsEmpty : Type 0
 FormattedIsEmpty = (capacities : List ℕ) (g : ℕ) (c : Content) → length capacities ≤ 64 → g < length capacities
     → Holds (formatted capacities) (image_length capacities) c
-    → StandsFor (place_at capacities g) (slot_place (place_at capacities g) A) c no_part
+    → StandsFor (region_at capacities g) (slot_region (region_at capacities g) A) c no_part

@@ -4,14 +4,14 @@ use Rattle.rpmb_frame.specs.Partition.{Partition, sequence_of}
 use Rattle.disk.specs.Content.{Content, zeros}
 use Rattle.disk.specs.Disk.{DiskState, DiskCall, Sync, MayLeave}
 use Rattle.intent_slots.specs.Header.{HasMagic, HasCapacities}
-use Rattle.intent_slots.specs.Layout.{place_at, slot_place, image_length}
+use Rattle.intent_slots.specs.Layout.{region_at, slot_region, image_length}
 use Rattle.intent_slots.specs.declared.layout.Side.TheVariants.{A}
 use Rattle.intent_slots.specs.Recovered.{Part, part_of, StandsFor}
 use Rattle.flusher.specs.declared.phase.Phase.TheVariants.{Open}
 use Rattle.flusher.specs.declared.slot.Slot.{Slot}
 use Rattle.flusher.specs.declared.guest.Guest.{Guest}
 use Rattle.flusher.specs.Phase.{skipped}
-use Rattle.flusher.specs.Slot.{intent_of, place_of, side_of, mark_of}
+use Rattle.flusher.specs.Slot.{intent_of, region_of, side_of, mark_of}
 use Rattle.flusher.specs.Store.{IntentFits, IsOf, OnlyReads, StoreState}
 use Rattle.recovery.specs.declared.fault.OpenFault.{OpenFault}
 use Rattle.recovery.specs.declared.fault.OpenFault.TheVariants as fault
@@ -39,7 +39,7 @@ pub record HasFront (len : ℕ) (c : Content) : Type 0 where
 -- the content stands for some partition of guest g
 pub record HasPart (capacities : List ℕ) (c : Content) (g : ℕ) : Type 0 where
   pub part : Part
-  pub stands : StandsFor (place_at capacities g) (slot_place (place_at capacities g) A) c part
+  pub stands : StandsFor (region_at capacities g) (slot_region (region_at capacities g) A) c part
 
 -- the content stands for some partition of each guest
 abbrev pub HoldsEach : List ℕ → Content → Type 0
@@ -86,18 +86,18 @@ IsFirst (Some s) = s.phase ≡ Open (skipped s.intent.group.entries)
 
 -- A guest as an opening leaves it, with its partition: all of it is settled.
 pub record IsBegun (capacities : List ℕ) (g : ℕ) (x : Guest) (p : Partition) : Type 0 where
-  pub place : place_of x ≡ place_at capacities g
+  pub region : region_of x ≡ region_at capacities g
   pub capacity : p.capacity ≡ slice_index capacities g
   pub mark : mark_of x ≡ sequence_of p.key p.counter
   pub small : mark_of x ≤ 2 ^ 32
   pub slot : IsFirst x.slot
   pub number : IsOf g (intent_of x.slot)
-  pub fits : IntentFits (place_of x).size (intent_of x.slot)
+  pub fits : IntentFits (region_of x).size (intent_of x.slot)
 
 abbrev pub EachBegun : List ℕ → List Guest → List Partition → Type 0
 EachBegun capacities guests partitions = (g : ℕ) (x : Guest) (p : Partition) → slice_get guests g ≡ Some x → slice_get partitions g ≡ Some p → IsBegun capacities g x p
 
--- each guest of the board in its place
+-- each guest of the board in its region
 pub record AllBegun (capacities : List ℕ) (guests : List Guest) (partitions : List Partition) : Type 0 where
   pub all_guests : length guests ≡ length capacities
   pub all_partitions : length partitions ≡ length capacities
@@ -106,7 +106,7 @@ pub record AllBegun (capacities : List ℕ) (guests : List Guest) (partitions : 
 -- each partition is what the content stands for
 abbrev pub AllStand : Content → List Guest → List Partition → Type 0
 AllStand c guests partitions = (g : ℕ) (x : Guest) (p : Partition) → slice_get guests g ≡ Some x → slice_get partitions g ≡ Some p
-    → StandsFor (place_of x) (side_of x) c (part_of p)
+    → StandsFor (region_of x) (side_of x) c (part_of p)
 
 -- the partitions' sequences
 abbrev pub sequences_of : List Partition → List ℕ

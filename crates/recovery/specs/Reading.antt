@@ -5,7 +5,7 @@ use Rattle.disk.specs.Content.{Content}
 use Rattle.disk.specs.Disk.{DiskState, DiskCall, HasRisen, Within}
 use Rattle.intent_slots.specs.Recovered.{part_of}
 use Rattle.flusher.specs.declared.guest.Guest.{Guest}
-use Rattle.flusher.specs.Slot.{place_of, side_of}
+use Rattle.flusher.specs.Slot.{region_of, side_of}
 use Rattle.flusher.specs.SlotInvariant.{Row, Seen}
 use Rattle.flusher.specs.Store.{OnlyReads}
 use Rattle.recovery.specs.declared.fault.OpenFault.{OpenFault}
@@ -45,8 +45,8 @@ pub record Opens {D : Type 0} (state : D → DiskState) (makes : D → DiskCall 
 
 -- what a content holds for one guest
 pub record IsFound (c : Content) (x : Guest) (p : Partition) : Type 0 where
-  pub row : Row (place_of x) (side_of x) (part_of p) x.slot c
-  pub seen : Seen (place_of x) (side_of x) (part_of p) x.slot c
+  pub row : Row (region_of x) (side_of x) (part_of p) x.slot c
+  pub seen : Seen (region_of x) (side_of x) (part_of p) x.slot c
 
 -- What the reading of one guest tells of the content.
 abbrev pub FindsFault : List ℕ → ℕ → Content → OpenFault → Type 0

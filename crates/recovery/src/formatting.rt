@@ -7,7 +7,7 @@ ghost use Rattle.recovery.specs.Format.{Attempts, formatted, Holds, IsFormatted,
 
 use crate::fault::OpenFault;
 use disk::{Disk, DiskFault};
-use intent_slots::{HOME_LENGTH, Layout, Side, VERSION_PLACE};
+use intent_slots::{HOME_LENGTH, Layout, Side, VERSION_OFFSET};
 use rpmb_frame::BoardConfig;
 
 /// The most bytes of one write.
@@ -89,7 +89,7 @@ fn write_header<D: Disk>(disk: &mut D, layout: &Layout) -> Result<(), DiskFault>
         Ok(()) => {}
         Err(fault) => return Err(fault),
     }
-    disk.write_at(VERSION_PLACE, &[1])
+    disk.write_at(VERSION_OFFSET, &[1])
 }
 
 /// Makes all durable.
@@ -102,7 +102,7 @@ fn sync<D: Disk>(disk: &mut D) -> Result<(), DiskFault>
     disk.sync()
 }
 
-/// Makes a fresh image: the header, the version byte 1 at place 512, and zeros, so that each partition
+/// Makes a fresh image: the header, the version byte 1 at offset 512, and zeros, so that each partition
 /// is empty. It writes zeros over the whole disk, and for each guest a home record without a key and
 /// both gates shut, makes a sync, writes the header and the version byte, and makes a sync. So no stop
 /// leaves the new header over what stood there before. It takes no memory. The disk has just the length

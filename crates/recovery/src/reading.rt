@@ -1,7 +1,7 @@
 //! What stands in the image for one guest.
 ghost use Rattle.std.specs.Prelude.{◌≡◌, ◌≤◌, ◌<◌, ◌+◌, ◌*◌, ◌^◌, ℕ, length, is_ok, not, IfOk, OnOk};
 ghost use Rattle.disk.specs.Content.{Content, bytes_at, content_of};
-ghost use Rattle.intent_slots.specs.Layout.{place_at, slot_place, image_length};
+ghost use Rattle.intent_slots.specs.Layout.{region_at, slot_region, image_length};
 ghost use Rattle.intent_slots.specs.declared.layout.Side.TheVariants.{A};
 ghost use Rattle.flusher.specs.SlotInvariant.{IsShut, IsWideOpen};
 ghost use Rattle.intent_slots.specs.Payload.{GroupFits};
@@ -53,11 +53,11 @@ fn read_shut<D: Disk>(
 ) -> Result<(Guest, Partition), OpenFault>
     requires guest { number < length layout.now }
     requires room { image_length layout.now ≤ (D.state disk.old).len }
-    requires size { length blocks.items ≡ (place_at layout.now number).size }
+    requires size { length blocks.items ≡ (region_at layout.now number).size }
     ensures passes { Passes D.state D.makes disk.old disk.new (is_disk_fault result) }
     ensures begun { IfOk result (λ r. IsBegun layout.now number r.0 r.1) }
     ensures memory { ¬ result ≡ Err OpenFault.NoMemory }
-    ensures finds { (c : Content) → Gives (D.state disk.old) c → IsShut (slot_place (place_at layout.now number) A) c → Finds layout.now number c result }
+    ensures finds { (c : Content) → Gives (D.state disk.old) c → IsShut (slot_region (region_at layout.now number) A) c → Finds layout.now number c result }
 {
     let extent = layout.extent(number);
     let mut record = [0; HOME_LENGTH];
@@ -89,12 +89,12 @@ fn read_open<D: Disk>(
 ) -> Result<(Guest, Partition), OpenFault>
     requires guest { number < length layout.now }
     requires room { image_length layout.now ≤ (D.state disk.old).len }
-    requires size { length space.blocks.items ≡ (place_at layout.now number).size }
+    requires size { length space.blocks.items ≡ (region_at layout.now number).size }
     requires buffer { length buffer.old ≡ 16648 }
     ensures passes { Passes D.state D.makes disk.old disk.new (is_disk_fault result) }
     ensures begun { IfOk result (λ r. IsBegun layout.now number r.0 r.1) }
     ensures memory { ¬ result ≡ Err OpenFault.NoMemory }
-    ensures finds { (c : Content) → Gives (D.state disk.old) c → IsWideOpen (slot_place (place_at layout.now number) A) c → Finds layout.now number c result }
+    ensures finds { (c : Content) → Gives (D.state disk.old) c → IsWideOpen (slot_region (region_at layout.now number) A) c → Finds layout.now number c result }
 {
     let extent = layout.extent(number);
     match read(disk, extent.payload(Side::A), buffer) {
@@ -125,7 +125,7 @@ pub(crate) fn read_guest<D: Disk>(
 ) -> Result<(Guest, Partition), OpenFault>
     requires guest { number < length layout.now }
     requires room { image_length layout.now ≤ (D.state disk.old).len }
-    requires size { length space.blocks.items ≡ (place_at layout.now number).size }
+    requires size { length space.blocks.items ≡ (region_at layout.now number).size }
     requires buffer { length buffer.old ≡ 16648 }
     ensures passes { Passes D.state D.makes disk.old disk.new (is_disk_fault result) }
     ensures begun { IfOk result (λ r. IsBegun layout.now number r.0 r.1) }

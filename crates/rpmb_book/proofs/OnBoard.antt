@@ -10,7 +10,7 @@ use Rattle.mmio_transport.specs.Job.{Job, room_of}
 use Rattle.rpmb_book.specs.Guest.{GuestCore, GuestState, core_after, core_when, submitted, took, collected, broken_off, request_of}
 use Rattle.rpmb_book.specs.Turn.{Turn, Submit, Take, Settle, Collect, Break, State, after_break, after_turn, IsRight, settled_all}
 use Rattle.rpmb_book.specs.Replay.{replay, IsLegal, fresh_guests}
-use Rattle.rpmb_book.specs.Sound.{IsAsked, IsHeld, IsCoreOfBoard, AreOfBoard}
+use Rattle.rpmb_book.specs.Sound.{IsAsked, IsStorable, IsCoreOfBoard, AreOfBoard}
 use Rattle.rpmb_book.proofs.Places.{all_at, all-update}
 use Rattle.rpmb_book.proofs.LeadingOn.{stays_of_board}
 use Rattle.rpmb_book.proofs.Asking.{asked_by_bytes}
@@ -79,7 +79,7 @@ first_same : (m n : ℕ) (ms ns : List ℕ) → ◌≡◌ {A = List ℕ} (m ∷ 
 first_same m n ms ns is = (cc, cc)
 
 -- guests of a configuration on partitions of its capacities
-fresh_stay : (gs : List GuestConfig) (ps : List Partition) → AllByRecursion IsGuest gs → AllByRecursion IsHeld ps → map (λ p. p.capacity) ps ≡ map (λ g. g.capacity) gs
+fresh_stay : (gs : List GuestConfig) (ps : List Partition) → AllByRecursion IsGuest gs → AllByRecursion IsStorable ps → map (λ p. p.capacity) ps ≡ map (λ g. g.capacity) gs
     → AllByRecursion IsGuestOfBoard (fresh_guests gs ps)
 fresh_stay [] ps guests held same = tt
 fresh_stay (g ∷ gs) [] guests held same = tt
@@ -89,6 +89,6 @@ fresh_stay (g ∷ gs) (p ∷ ps) guests held same =
       fresh_stay gs ps guests.1 held.1 here.1,
     )
 
-pub opens_on_board : (gs : List GuestConfig) (ps : List Partition) → All IsGuest gs → AllByRecursion IsHeld ps → map (λ p. p.capacity) ps ≡ map (λ g. g.capacity) gs
+pub opens_on_board : (gs : List GuestConfig) (ps : List Partition) → All IsGuest gs → AllByRecursion IsStorable ps → map (λ p. p.capacity) ps ≡ map (λ g. g.capacity) gs
     → AllByRecursion IsGuestOfBoard (fresh_guests gs ps)
 opens_on_board gs ps guests = fresh_stay gs ps (each_guest gs guests)

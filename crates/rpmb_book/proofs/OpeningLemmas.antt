@@ -11,7 +11,7 @@ use Rattle.rpmb_book.specs.Opening.{tallies_from}
 use Rattle.rpmb_book.specs.Replay.{fresh_guests}
 use Rattle.rpmb_book.specs.History.{HistoryView}
 use Rattle.rpmb_book.specs.Kept.{IsKept}
-use Rattle.rpmb_book.specs.Sound.{IsHeld}
+use Rattle.rpmb_book.specs.Sound.{IsStorable}
 use Rattle.rpmb_book.proofs.OnBoard.{opens_on_board}
 use Rattle.rpmb_frame.specs.Config.{IsGuest}
 use Rattle.std.specs.Prelude.{All}
@@ -65,14 +65,14 @@ first_left xs left i x lt is read = read ∙ ap (λ (ys : List Partition). get_o
 pub rest_left : (xs left : List Partition) (i : ℕ) → left ≡ drop i xs → drop 1 left ≡ drop (i + 1) xs
 rest_left xs left i is = ap (drop 1) is ∙ drop-drop 1 i xs
 
-held_push : (ps : List Partition) (p : Partition) → AllByRecursion IsHeld ps → IsHeld p → AllByRecursion IsHeld (ps ++ p ∷ [])
+held_push : (ps : List Partition) (p : Partition) → AllByRecursion IsStorable ps → IsStorable p → AllByRecursion IsStorable (ps ++ p ∷ [])
 held_push [] p so_far here = (here, tt)
 held_push (q ∷ ps) p so_far here = (so_far.0, held_push ps p so_far.1 here)
 
-pub held_more : (ps : List Partition) (i : ℕ) (p : Partition) → i < length ps → p ≡ get_or ps i p → AllByRecursion IsHeld (take i ps) → IsHeld p → AllByRecursion IsHeld (take (i + 1) ps)
+pub held_more : (ps : List Partition) (i : ℕ) (p : Partition) → i < length ps → p ≡ get_or ps i p → AllByRecursion IsStorable (take i ps) → IsStorable p → AllByRecursion IsStorable (take (i + 1) ps)
 held_more ps i p lt read so_far here =
     let more : take (i + 1) ps ≡ take i ps ++ p ∷ [] = take_more ps i p lt ∙ ap (λ x. take i ps ++ x ∷ []) (sym read) in
-    subst (AllByRecursion IsHeld) (sym more) (held_push (take i ps) p so_far here)
+    subst (AllByRecursion IsStorable) (sym more) (held_push (take i ps) p so_far here)
 
 pub all_fresh : (gs : List GuestConfig) (ps : List Partition) → AllByRecursion (λ g. g ≡ fresh g.core.limits g.core.partition) (fresh_guests gs ps)
 all_fresh [] ps = tt
@@ -86,7 +86,7 @@ length-fresh_guests (g ∷ gs) (p ∷ ps) same = ap suc (length-fresh_guests gs 
 
 -- a book that was opened on these partitions
 pub kept_opening : (config : List GuestConfig) (ps : List Partition) (opening guests : List GuestState) (h : HistoryView) → map (λ p. p.capacity) ps ≡ map (λ g. g.capacity) config
-    → All IsGuest config → AllByRecursion IsHeld ps → opening ≡ fresh_guests config ps → guests ≡ fresh_guests config ps → h ≡ record { guests = length config; turns = [] } → IsKept (record { guests = opening; broken = false }) h guests false 0
+    → All IsGuest config → AllByRecursion IsStorable ps → opening ≡ fresh_guests config ps → guests ≡ fresh_guests config ps → h ≡ record { guests = length config; turns = [] } → IsKept (record { guests = opening; broken = false }) h guests false 0
 kept_opening config ps opening guests h same board held is is' h_is =
     let many : length ps ≡ length config = sym (length-map ps (λ p. p.capacity)) ∙ ap length same ∙ length-map config (λ g. g.capacity) in
     rw (is, is', h_is) (record {

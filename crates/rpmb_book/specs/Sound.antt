@@ -25,13 +25,13 @@ abbrev pub IsSound : State → Type 0
 IsSound s = AllByRecursion IsSoundGuest s.guests
 
 -- all its blocks are there, and a home record can hold its key and its counter
-pub record IsHeld (p : Partition) : Type 0 where
+pub record IsStorable (p : Partition) : Type 0 where
   pub whole : IsWhole p
   pub home : HomeFits p.key p.counter
 
 -- a partition of a board has at most 128 units of 512 blocks, 2^24 bytes
 pub record IsOfBoard (p : Partition) : Type 0 where
-  pub held : IsHeld p
+  pub held : IsStorable p
   pub few : p.capacity ≤ 128
 
 -- a guest of a board may write at most 16 blocks at once

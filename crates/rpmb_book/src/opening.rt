@@ -4,7 +4,7 @@ ghost use Rattle.std.specs.List.{AllByRecursion};
 ghost use Rattle.rpmb_frame.specs.Partition.{sequence};
 ghost use Rattle.rpmb_book.specs.Opening.{tallies_from};
 ghost use Rattle.rpmb_book.specs.Replay.{fresh_guests};
-ghost use Rattle.rpmb_book.specs.Sound.{IsHeld};
+ghost use Rattle.rpmb_book.specs.Sound.{IsStorable};
 
 use crate::guest_state::GuestState;
 use crate::tally::Tally;
@@ -27,7 +27,7 @@ pub fn tallies(alloc: Global, count: usize) -> Result<Vec<Tally>, NoMemory>
 /// The sequence of each partition.
 pub fn sequences(alloc: Global, partitions: &[Partition]) -> Result<Vec<u64>, NoMemory>
     ensures value { IfOk result (λ v. v.items ≡ map sequence partitions.now) }
-    ensures held { OnOk result (AllByRecursion IsHeld partitions.now) }
+    ensures held { OnOk result (AllByRecursion IsStorable partitions.now) }
 {
     let mut sequences = Vec::with_capacity(alloc, partitions.len())?;
     for partition in partitions {
@@ -39,7 +39,7 @@ pub fn sequences(alloc: Global, partitions: &[Partition]) -> Result<Vec<u64>, No
 /// The sequence of a partition, with what its type says of its blocks, its key and its counter.
 fn sequence_of(partition: &Partition) -> u64
     ensures value { result ≡ sequence partition.now }
-    ensures held { IsHeld partition.now }
+    ensures held { IsStorable partition.now }
 {
     let _capacity = partition.capacity();
     let _counter = partition.counter();

@@ -1,6 +1,6 @@
 use Rattle.std.proofs.Common.{◌∙◌, ap, sym, subst, length, refl, arith}
 use Rattle.disk.specs.Content.{bytes_at}
-use Rattle.intent_slots.specs.Layout.{Place}
+use Rattle.intent_slots.specs.Layout.{Region}
 use Rattle.flusher.specs.declared.guest.Guest.{Guest}
 use Rattle.recovery.specs.Opening.{IsBegun}
 use Rattle.recovery.specs.Reading.{IsFound}
@@ -14,7 +14,7 @@ read-requires g c = part_inside c.args.layout.now c.args.number c.payload.result
 pub read_blocks-requires : goal.read_blocks-requires
 read_blocks-requires g c =
     let len = (pass_end g.D.Disk.state g.D.Disk.makes _ _ _ c.read.ensures.passes).len in
-    let same = ap (λ (v : Place). v.size) c.extent-extent.ensures in
+    let same = ap (λ (v : Region). v.size) c.extent-extent.ensures in
     let fits = part_inside c.args.layout.now c.args.number c.blocks-2.result (length c.args.space.blocks.items) _ 35328 _ c.requires.guest c.requires.room c.extent-extent.ensures c.blocks-2.ensures.value (omega (arith, c.requires.size, same)) in
     omega (arith, fits, len)
 
