@@ -1,14 +1,14 @@
 //! What a book tells after its store broke, and which marks it takes.
 
-use crate::tests::image::{formatted, give, opened, settle};
+use crate::tests::image::{fresh_store, give, settle};
 use crate::tests::scene::{
-    KEY, Scene, accepted, board_of, check, get_write_counter, has_tail, job_of, program_key,
-    result_read, scene_of, write_of,
+    KEY, Scene, accepted, check, get_write_counter, has_tail, job_of, program_key, result_read,
+    scene_of, write_of,
 };
 use disk::CutDisk;
 use flusher::{Marks, Store};
 use mmio_transport::{Done, Job};
-use rpmb_book::Refused;
+use rpmb_book::{Book, Refused, Shares};
 use rpmb_frame::Frame;
 use std::alloc::Global;
 use std::test::Fail;
@@ -90,49 +90,65 @@ fn accepts_nothing(alloc: Global, scene: &mut Scene) -> Result<(), Fail> {
     }
 }
 
+/// Keeps and settles the first intent.
+fn settle_one(alloc: Global, scene: &mut Scene) -> Result<(), Fail> {
+    let mut store = fresh_store(alloc, 1)?;
+    keep_one(scene, &mut store, 0)?;
+    check(settles(scene, store.marks()), "settled")
+}
+
+/// The book is whole, and broken once it is broken off, also a second time.
+fn breaks(scene: &mut Scene) -> bool {
+    let whole = !scene.book.is_broken();
+    scene.book.break_off();
+    scene.book.break_off();
+    whole && scene.book.is_broken()
+}
+
 #[test]
 fn a_break_fails_what_is_not_settled(rt: HostRuntime) -> Result<(), Fail> {
-    let alloc = rt.alloc();
-    let board = board_of(alloc, 1)?;
-    let (mut store, _) = opened(alloc, formatted(alloc, &board)?, &board)?;
-    let mut scene = scene_of(alloc, 1)?;
-    ask(alloc, &mut scene)?;
-    keep_one(&mut scene, &mut store, 0)?;
-    check(settles(&mut scene, store.marks()), "settled")?;
-    check(!scene.book.is_broken(), "whole")?;
-    scene.book.break_off();
-    scene.book.break_off();
-    check(scene.book.is_broken(), "broken")?;
+    let mut scene = scene_of(rt.alloc(), 1)?;
+    ask(rt.alloc(), &mut scene)?;
+    settle_one(rt.alloc(), &mut scene)?;
+    check(breaks(&mut scene), "whole, then broken")?;
     check(failures_leave(&mut scene), "the replies")?;
-    accepts_nothing(alloc, &mut scene)
+    accepts_nothing(rt.alloc(), &mut scene)
+}
+
+fn is_foreign(book: &mut Book, shares: &Shares, marks: Marks) -> bool {
+    book.settle(shares, marks) == Err(Refused::Foreign)
+}
+
+/// Marks above what was taken, and shares of another book, move nothing.
+fn refuses(alloc: Global, scene: &mut Scene, store: &Store<CutDisk>) -> Result<(), Fail> {
+    let mut other = scene_of(alloc, 1)?;
+    let above = is_foreign(&mut other.book, &other.shares, store.marks());
+    check(above, "a mark above")?;
+    let others = is_foreign(&mut scene.book, &other.shares, store.marks());
+    check(others && scene.book.settled(0) == Some(0), "other shares")
+}
+
+/// The book's own marks settle it, and may come once more.
+fn settles_twice(scene: &mut Scene, store: &Store<CutDisk>) -> bool {
+    settles(scene, store.marks())
+        && settles(scene, store.marks())
+        && scene.book.settled(0) == Some(1)
+}
+
+fn take_marks(alloc: Global, scene: &mut Scene) -> Result<(), Fail> {
+    let mut store = fresh_store(alloc, 1)?;
+    let none = settles(scene, store.marks());
+    check(none, "marks that move nothing")?;
+    keep_one(scene, &mut store, 0)?;
+    refuses(alloc, scene, &store)?;
+    check(settles_twice(scene, &store), "its own")
 }
 
 #[test]
 fn marks_above_what_was_taken_are_foreign(rt: HostRuntime) -> Result<(), Fail> {
-    let alloc = rt.alloc();
-    let board = board_of(alloc, 1)?;
-    let (mut store, _) = opened(alloc, formatted(alloc, &board)?, &board)?;
-    let mut scene = scene_of(alloc, 1)?;
-    let mut other = scene_of(alloc, 1)?;
-    ask(alloc, &mut scene)?;
-    check(
-        settles(&mut scene, store.marks()),
-        "marks that move nothing",
-    )?;
-    keep_one(&mut scene, &mut store, 0)?;
-    let refused = Err(Refused::Foreign);
-    check(
-        other.book.settle(&other.shares, store.marks()) == refused,
-        "a mark above",
-    )?;
-    check(
-        scene.book.settle(&other.shares, store.marks()) == refused,
-        "other shares",
-    )?;
-    check(scene.book.settled(0) == Some(0), "nothing moved")?;
-    check(settles(&mut scene, store.marks()), "its own")?;
-    check(settles(&mut scene, store.marks()), "once more")?;
-    check(scene.book.settled(0) == Some(1), "settled")
+    let mut scene = scene_of(rt.alloc(), 1)?;
+    ask(rt.alloc(), &mut scene)?;
+    take_marks(rt.alloc(), &mut scene)
 }
 
 /// The frame that reads the block at address 0.
@@ -147,11 +163,16 @@ fn without_room(alloc: Global, guest: u16) -> Result<Job, Fail> {
     Ok(Job::of(alloc, guest, 1, 5, 3, Vec::new(alloc), request))
 }
 
-/// One request of each kind, of guest 1.
-fn ask_each(alloc: Global, scene: &mut Scene) -> Result<(), Fail> {
+fn ask_three(alloc: Global, scene: &mut Scene) -> Result<(), Fail> {
     scene.submit(alloc, 1, &program_key(&KEY))?;
     scene.submit(alloc, 1, &get_write_counter(1))?;
     scene.submit(alloc, 1, &write_of(0x5a, 0))?;
+    Ok(())
+}
+
+/// One request of each kind, of guest 1.
+fn ask_each(alloc: Global, scene: &mut Scene) -> Result<(), Fail> {
+    ask_three(alloc, scene)?;
     scene.submit(alloc, 1, &data_read())?;
     scene.submit(alloc, 1, &[result_read()])?;
     scene.submit(alloc, 1, &[[0; 512]])?;
@@ -189,16 +210,21 @@ fn hold_64(alloc: Global, scene: &mut Scene) -> Result<(), Fail> {
     }
 }
 
+fn each_of_64_fails(scene: &mut Scene) -> bool {
+    for _ in 0..64 {
+        if !fails(scene, [0, 1, 2, 0]) {
+            return false;
+        }
+    }
+    scene.book.collect(0).is_none()
+}
+
 #[test]
 fn a_broken_book_answers_each_request(rt: HostRuntime) -> Result<(), Fail> {
-    let alloc = rt.alloc();
-    let mut scene = scene_of(alloc, 2)?;
+    let mut scene = scene_of(rt.alloc(), 2)?;
     scene.book.break_off();
-    ask_each(alloc, &mut scene)?;
+    ask_each(rt.alloc(), &mut scene)?;
     check(each_fails(&mut scene), "the failures")?;
-    hold_64(alloc, &mut scene)?;
-    for _ in 0..64 {
-        check(fails(&mut scene, [0, 1, 2, 0]), "one of 64")?;
-    }
-    check(scene.book.collect(0).is_none(), "no more")
+    hold_64(rt.alloc(), &mut scene)?;
+    check(each_of_64_fails(&mut scene), "64, and no more")
 }

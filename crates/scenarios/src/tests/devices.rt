@@ -102,6 +102,13 @@ fn ask_for(
     check(has_tail(reply.as_slice(), &tail), "the reply")
 }
 
+fn guest_with_a_key(alloc: Global) -> Result<Guest, Fail> {
+    let mut guest = guest_in_service(alloc)?;
+    let programmed = [0, 0, 0, 0, 0, 0, 0, 1, 0, 0, 1, 0];
+    ask_for(alloc, &mut guest, &program_key(&[0x11; 32]), programmed)?;
+    Ok(guest)
+}
+
 /// The write was accepted, whatever became of its reply; what its session could ask for is gone.
 fn ask_after_the_reset(alloc: Global, guest: &mut Guest) -> Result<(), Fail> {
     let counter = [0, 0, 0, 1, 0, 0, 0, 1, 0, 0, 2, 0];
@@ -113,9 +120,7 @@ fn ask_after_the_reset(alloc: Global, guest: &mut Guest) -> Result<(), Fail> {
 #[test]
 fn a_reset_drops_the_reply_and_keeps_the_write(rt: HostRuntime) -> Result<(), Fail> {
     let alloc = rt.alloc();
-    let mut guest = guest_in_service(alloc)?;
-    let programmed = [0, 0, 0, 0, 0, 0, 0, 1, 0, 0, 1, 0];
-    ask_for(alloc, &mut guest, &program_key(&[0x11; 32]), programmed)?;
+    let mut guest = guest_with_a_key(alloc)?;
     drop_a_reply(alloc, &mut guest)?;
     guest.negotiate()?;
     ask_after_the_reset(alloc, &mut guest)
@@ -136,37 +141,47 @@ fn loaded<const N: usize>(guest: &Guest, at: u64) -> Result<[u8; N], Fail> {
     Ok(bytes)
 }
 
-/// The reply is of the frame that was popped, stands at the range that was popped, and goes back under the
-/// id that was popped: it is the ring's second.
+/// The reply is of the frame that was popped, and stands at the range that was popped.
 fn look_at_the_reply(guest: &Guest, request: &[u8; 512]) -> Result<(), Fail> {
     let reply: [u8; 512] = loaded(guest, REPLY)?;
     check(&reply[484..500] == &request[484..500], "the nonce")?;
     let counter = [0, 0, 0, 0, 0, 0, 0, 1, 0, 0, 2, 0];
-    check(has_tail(&reply, &counter), "the reply")?;
+    check(has_tail(&reply, &counter), "the reply")
+}
+
+/// It goes back under the id that was popped: it is the ring's second.
+fn look_at_the_id(guest: &Guest) -> Result<(), Fail> {
     let used: [u8; 14] = loaded(guest, USED_RING + 2)?;
     check(&used[..2] == &[2, 0][..], "two chains came back")?;
     check(&used[10..] == &[0, 0, 0, 0][..], "the id")
 }
 
-#[test]
-fn a_job_is_what_was_popped(rt: HostRuntime) -> Result<(), Fail> {
-    let alloc = rt.alloc();
-    let mut guest = guest_in_service(alloc)?;
-    let programmed = [0, 0, 0, 0, 0, 0, 0, 1, 0, 0, 1, 0];
-    ask_for(alloc, &mut guest, &program_key(&[0x11; 32]), programmed)?;
-    let request = get_write_counter(0x0001_0203_0405_0607_0809_0a0b_0c0d_0e0f);
-    let job = guest.popped(&request)?;
+/// The guest overwrites all that was popped.
+fn overwrite(device: &mut Device) -> Result<(), Fail> {
     let ones = [0xff; 512];
     for (at, len) in &POPPED {
         let Some(bytes) = ones.get(..*len) else {
             return Err(Fail::from("at most 512 bytes are overwritten"));
         };
-        guest.device.store(*at, bytes)?;
+        device.store(*at, bytes)?;
     }
+    Ok(())
+}
+
+/// A request that is overwritten between its pop and its answer.
+fn answer_late(alloc: Global, guest: &mut Guest, request: &[[u8; 512]; 1]) -> Result<(), Fail> {
+    let job = guest.popped(request)?;
+    overwrite(&mut guest.device)?;
     let done = guest.runner.answer(alloc, job)?;
-    check(
-        guest.device.publish(done) != Published::Dropped,
-        "published",
-    )?;
-    look_at_the_reply(&guest, &request[0])
+    let published = guest.device.publish(done);
+    check(published != Published::Dropped, "published")
+}
+
+#[test]
+fn a_job_is_what_was_popped(rt: HostRuntime) -> Result<(), Fail> {
+    let mut guest = guest_with_a_key(rt.alloc())?;
+    let request = get_write_counter(0x0001_0203_0405_0607_0809_0a0b_0c0d_0e0f);
+    answer_late(rt.alloc(), &mut guest, &request)?;
+    look_at_the_reply(&guest, &request[0])?;
+    look_at_the_id(&guest)
 }

@@ -145,27 +145,34 @@ fn write_under_a_key(
     )
 }
 
-#[test]
-fn a_write_of_16_blocks_is_taken_whole(rt: HostRuntime) -> Result<(), Fail> {
-    let mut scene = scene_of(rt.alloc(), 1)?;
-    write_under_a_key(rt.alloc(), &mut scene, 496, 16)?;
-    let write = (1, 2, 1, 496, 4_096, Some(1), Some(16));
-    check(takes(&mut scene, 0, write), "the write")?;
-    check(takes_none(&mut scene, 0), "no more")
+/// The address and the number of blocks of a write, and what is taken of it.
+static TAKEN: [(u16, u8, Option<Told>); 3] = [
+    // Whole, and up to the last block.
+    (496, 16, Some((1, 2, 1, 496, 4_096, Some(1), Some(16)))),
+    (511, 1, Some((1, 2, 1, 511, 256, Some(1), Some(1)))),
+    // A write past it is refused, and leaves no intent.
+    (511, 2, None),
+];
+
+/// Whether the guest's next intent is this one, and no other waits.
+fn takes_all(scene: &mut Scene, write: Option<Told>) -> bool {
+    match write {
+        Some(write) => takes(scene, 0, write) && takes_none(scene, 0),
+        None => takes_none(scene, 0),
+    }
+}
+
+fn is_taken_as(alloc: Global, address: u16, count: u8, write: Option<Told>) -> Result<bool, Fail> {
+    let mut scene = scene_of(alloc, 1)?;
+    write_under_a_key(alloc, &mut scene, address, count)?;
+    Ok(takes_all(&mut scene, write))
 }
 
 #[test]
-fn the_last_block_is_written(rt: HostRuntime) -> Result<(), Fail> {
-    let mut scene = scene_of(rt.alloc(), 1)?;
-    write_under_a_key(rt.alloc(), &mut scene, 511, 1)?;
-    let write = (1, 2, 1, 511, 256, Some(1), Some(1));
-    check(takes(&mut scene, 0, write), "the write")?;
-    check(takes_none(&mut scene, 0), "no more")
-}
-
-#[test]
-fn a_refused_write_leaves_no_intent(rt: HostRuntime) -> Result<(), Fail> {
-    let mut scene = scene_of(rt.alloc(), 1)?;
-    write_under_a_key(rt.alloc(), &mut scene, 511, 2)?;
-    check(takes_none(&mut scene, 0), "no write")
+fn writes_are_taken_whole(rt: HostRuntime) -> Result<(), Fail> {
+    for (address, count, write) in &TAKEN {
+        let taken = is_taken_as(rt.alloc(), *address, *count, *write)?;
+        check(taken, "another intent")?;
+    }
+    Ok(())
 }

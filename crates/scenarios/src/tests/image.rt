@@ -1,5 +1,6 @@
 //! Images of a board, what opens from them, and what a store is given.
 
+use crate::tests::scene::board_of;
 use disk::{CutDisk, Disk};
 use flusher::{Progress, Store};
 use intent_slots::{Intent, Layout};
@@ -30,6 +31,13 @@ pub fn opened<D: Disk>(
         Ok(opened) => Ok(opened),
         Err((_, fault)) => Err(Fail::from(fault)),
     }
+}
+
+/// The store of a fresh image of so many guests.
+pub fn fresh_store(alloc: Global, guests: usize) -> Result<Store<CutDisk>, Fail> {
+    let board = board_of(alloc, guests)?;
+    let (store, _) = opened(alloc, formatted(alloc, &board)?, &board)?;
+    Ok(store)
 }
 
 /// Gives an intent to the store, which has to be one that it may be given.

@@ -1,6 +1,6 @@
 //! The book and the store together: what a guest was answered is on the disk when the store is idle.
 
-use crate::tests::image::{formatted, give, opened, settle};
+use crate::tests::image::{fresh_store, give, opened, settle};
 use crate::tests::scene::{KEY, Scene, board_of, check, program_key, scene_of, write_of};
 use disk::{CutDisk, Filler};
 use flusher::Store;
@@ -33,22 +33,42 @@ fn is(partition: Option<&Partition>, key: Option<[u8; 32]>, counter: u32, byte: 
     }
 }
 
-#[test]
-fn the_store_keeps_what_the_book_gives(rt: HostRuntime) -> Result<(), Fail> {
-    let alloc = rt.alloc();
-    let board = board_of(alloc, 2)?;
-    let (mut store, _) = opened(alloc, formatted(alloc, &board)?, &board)?;
-    let mut scene = scene_of(alloc, 2)?;
+fn ask(alloc: Global, scene: &mut Scene) -> Result<(), Fail> {
     scene.submit(alloc, 1, &program_key(&KEY))?;
     scene.submit(alloc, 1, &write_of(0xa5, 0))?;
     scene.submit(alloc, 1, &write_of(0x5a, 1))?;
     scene.submit(alloc, 1, &write_of(0x66, 1))?;
-    check(keep(&mut scene, &mut store, 0)? == 0, "nothing of guest 0")?;
-    check(keep(&mut scene, &mut store, 1)? == 3, "three of guest 1")?;
-    check(store.marks().get(1) == 3, "the mark")?;
+    Ok(())
+}
+
+/// A store that keeps all that waits: nothing of guest 0, three of guest 1.
+fn keep_all(scene: &mut Scene, store: &mut Store<CutDisk>) -> Result<(), Fail> {
+    check(keep(scene, store, 0)? == 0, "nothing of guest 0")?;
+    check(keep(scene, store, 1)? == 3, "three of guest 1")?;
+    check(store.marks().get(1) == 3, "the mark")
+}
+
+fn kept(alloc: Global) -> Result<Store<CutDisk>, Fail> {
+    let mut scene = scene_of(alloc, 2)?;
+    ask(alloc, &mut scene)?;
+    let mut store = fresh_store(alloc, 2)?;
+    keep_all(&mut scene, &mut store)?;
+    Ok(store)
+}
+
+/// What opens after a stop.
+fn reopened(alloc: Global, store: Store<CutDisk>) -> Result<Vec<Partition>, Fail> {
     let mut disk = store.into_disk();
     disk.cut(&Filler::Old);
+    let board = board_of(alloc, 2)?;
     let (_, partitions) = opened(alloc, disk, &board)?;
+    Ok(partitions)
+}
+
+#[test]
+fn the_store_keeps_what_the_book_gives(rt: HostRuntime) -> Result<(), Fail> {
+    let store = kept(rt.alloc())?;
+    let partitions = reopened(rt.alloc(), store)?;
     check(is(partitions.first(), None, 0, 0), "guest 0")?;
     check(is(partitions.get(1), Some(KEY), 2, 0x5a), "guest 1")
 }

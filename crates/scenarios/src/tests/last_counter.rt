@@ -87,19 +87,27 @@ fn is_at_the_end(partition: &Partition, byte: u8) -> bool {
         && partition.block(0) == [byte; 256]
 }
 
+/// Whether the last write is made.
+fn writes_the_last(partition: &mut Partition, limits: Limits) -> bool {
+    partition.sequence() == 0xffff_ffff
+        && answers(partition, limits, (0x77, COUNTER), (OK, WRITTEN))
+        && is_at_the_end(partition, 0x77)
+}
+
+/// Whether the write after it isn't made.
+fn writes_no_more(partition: &mut Partition, limits: Limits) -> bool {
+    let none = (WRITE_COUNTER_EXPIRED, EXPIRED);
+    answers(partition, limits, (0x78, 0xffff_ffff), none) && is_at_the_end(partition, 0x77)
+}
+
 #[test]
 fn the_last_write_and_the_one_after(rt: HostRuntime) -> Result<(), Fail> {
     let board = board_of(rt.alloc(), 1)?;
     let limits = limits_of(&board)?;
     let (_, mut partition) = opened_one(rt.alloc(), image(rt.alloc(), &board)?, &board)?;
-    check(partition.sequence() == 0xffff_ffff, "the sequence")?;
-    let last = answers(&mut partition, limits, (0x77, COUNTER), (OK, WRITTEN));
-    check(last, "the last write")?;
-    check(is_at_the_end(&partition, 0x77), "is made")?;
-    let none = (WRITE_COUNTER_EXPIRED, EXPIRED);
-    let after = answers(&mut partition, limits, (0x78, 0xffff_ffff), none);
-    check(after, "the one after")?;
-    check(is_at_the_end(&partition, 0x77), "isn't made")
+    let made = writes_the_last(&mut partition, limits);
+    check(made, "the last write")?;
+    check(writes_no_more(&mut partition, limits), "the one after")
 }
 
 /// The intent of the last write, of a block of this byte at address 0.
@@ -107,20 +115,25 @@ fn last_write(alloc: Global, byte: u8) -> Result<Intent, Fail> {
     Ok(Intent::write(0, KEY, 0xffff_ffff, 0, vec![in alloc; byte; 256]?))
 }
 
+fn keep_the_last(alloc: Global, store: &mut Store<CutDisk>) -> Result<(), Fail> {
+    give(store, last_write(alloc, 0x77)?)?;
+    settle(store)?;
+    check(store.marks().get(0) == 0x1_0000_0000, "the mark")
+}
+
+/// The disk with the last write.
+fn kept(alloc: Global, board: &BoardConfig) -> Result<CutDisk, Fail> {
+    let (mut store, _) = opened_one(alloc, image(alloc, board)?, board)?;
+    keep_the_last(alloc, &mut store)?;
+    Ok(store.into_disk())
+}
+
 #[test]
 fn the_last_write_on_the_disk(rt: HostRuntime) -> Result<(), Fail> {
     let board = board_of(rt.alloc(), 1)?;
-    let (mut store, _) = opened_one(rt.alloc(), image(rt.alloc(), &board)?, &board)?;
-    give(&mut store, last_write(rt.alloc(), 0x77)?)?;
-    settle(&mut store)?;
-    check(store.marks().get(0) == 0x1_0000_0000, "the mark")?;
-    let (_, mut partition) = opened_one(rt.alloc(), store.into_disk(), &board)?;
-    check(is_at_the_end(&partition, 0x77), "the partition")?;
-    let none = (WRITE_COUNTER_EXPIRED, EXPIRED);
     let limits = limits_of(&board)?;
-    let after = answers(&mut partition, limits, (0x78, 0xffff_ffff), none);
-    check(
-        after && is_at_the_end(&partition, 0x77),
-        "no write after it",
-    )
+    let (_, mut partition) = opened_one(rt.alloc(), kept(rt.alloc(), &board)?, &board)?;
+    check(is_at_the_end(&partition, 0x77), "the partition")?;
+    let no_more = writes_no_more(&mut partition, limits);
+    check(no_more, "no write after it")
 }

@@ -91,9 +91,13 @@ fn refuses_shares_of(scene: &mut Scene, other: &mut Scene) -> bool {
         && scene.book.settle_taken(&other.shares) == Err(Refused::Foreign)
 }
 
-fn take_another(alloc: Global, other: &mut Scene) -> Result<(), Fail> {
+/// A book of two guests that took an intent of guest 1.
+fn one_taken(alloc: Global) -> Result<Scene, Fail> {
+    let mut other = scene_of(alloc, 2)?;
     other.submit(alloc, 1, &program_key(&KEY))?;
-    check(other.book.take(&mut other.shares, 1).is_ok(), "a take")
+    let taken = other.book.take(&mut other.shares, 1).is_ok();
+    check(taken, "a take")?;
+    Ok(other)
 }
 
 #[test]
@@ -110,9 +114,8 @@ fn strangers_are_foreign(rt: HostRuntime) -> Result<(), Fail> {
 
 #[test]
 fn shares_of_another_book_are_foreign(rt: HostRuntime) -> Result<(), Fail> {
+    let mut other = one_taken(rt.alloc())?;
     let mut scene = scene_of(rt.alloc(), 2)?;
-    let mut other = scene_of(rt.alloc(), 2)?;
-    take_another(rt.alloc(), &mut other)?;
     check(refuses_shares_of(&mut scene, &mut other), "the shares")
 }
 

@@ -290,16 +290,23 @@ fn calls_of(alloc: Global, run: &mut Run) -> Result<u32, Fail> {
     Err(Fail::from("no end"))
 }
 
+fn run_to_the_end(alloc: Global, scene: &Scene) -> Result<Run, Fail> {
+    let mut run = begun(alloc, scene)?;
+    check(calls_of(alloc, &mut run)? == CALLS, "the calls")?;
+    Ok(run)
+}
+
+fn stopped_at_the_end(alloc: Global, scene: &Scene) -> Result<Stopped, Fail> {
+    let end = run_to_the_end(alloc, scene)?.stopped(&Filler::Old);
+    check(end.least == [4, 4, 4], "all is settled")?;
+    Ok(end)
+}
+
 #[test]
 fn undisturbed(rt: HostRuntime) -> Result<(), Fail> {
-    let alloc = rt.alloc();
-    let scene = new_scene(alloc)?;
-    let mut run = begun(alloc, &scene)?;
-    check(calls_of(alloc, &mut run)? == CALLS, "the calls")?;
-    let mut tally = no_tally();
-    let end = run.stopped(&Filler::Old);
-    check(end.least == [4, 4, 4], "all is settled")?;
-    end.open(alloc, &scene, &mut tally)?;
+    let scene = new_scene(rt.alloc())?;
+    let end = stopped_at_the_end(rt.alloc(), &scene)?;
+    end.open(rt.alloc(), &scene, &mut no_tally())?;
     Ok(())
 }
 
