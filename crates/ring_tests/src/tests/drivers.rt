@@ -4,6 +4,10 @@ use rpmb_frame::{DriverLayout, GuestConfig, RingKind};
 use std::alloc::Global;
 use std::test::Fail;
 
+fn check(holds: bool, what: &'static str) -> Result<(), Fail> {
+    if holds { Ok(()) } else { Err(Fail::from(what)) }
+}
+
 const GUEST: GuestConfig = GuestConfig {
     capacity: 1,
     max_wr_cnt: 16,
@@ -70,66 +74,102 @@ fn reap(driver: &mut Driver, device: &Device, id: u16, bytes: &[u8]) -> Result<(
     }
 }
 
-// The chains are published the last first, and come back so.
+fn offers_three(driver: &mut Driver, device: &mut Device) -> bool {
+    driver.offer(device, &READABLE, 0) == Ok(0)
+        && driver.offer(device, &READABLE, 2) == Ok(1)
+        && driver.offer(device, &[], 2) == Ok(3)
+}
+
+// Pops a chain of these bytes to be read.
+fn pop_of(device: &mut Device, request: &[u8]) -> Result<Job, Fail> {
+    let job = pop(device)?;
+    if job.request() == request {
+        Ok(job)
+    } else {
+        Err(Fail::from("another request"))
+    }
+}
+
+fn answer_two(alloc: Global, device: &mut Device) -> Result<(), Fail> {
+    let second = pop_of(device, &READABLE)?;
+    let third = pop_of(device, &[])?;
+    publish(alloc, device, third)?;
+    publish(alloc, device, second)
+}
+
+// Three chains are popped, and published the last first.
+fn answer_three(alloc: Global, device: &mut Device) -> Result<(), Fail> {
+    let first = pop_of(device, &READABLE)?;
+    answer_two(alloc, device)?;
+    publish(alloc, device, first)
+}
+
+fn reap_three(driver: &mut Driver, device: &Device) -> Result<(), Fail> {
+    reap(driver, device, 3, &REPLY)?;
+    reap(driver, device, 1, &REPLY)?;
+    reap(driver, device, 0, &[])?;
+    match driver.reap(device) {
+        Ok(None) => Ok(()),
+        _ => Err(Fail::from("a fourth")),
+    }
+}
+
+// They come back so.
 #[test]
 fn chains_come_back_as_they_were_published(rt: HostRuntime) -> Result<(), Fail> {
     let (mut device, mut driver) = in_service(rt.alloc())?;
-    assert_eq!(rt; driver.offer(&mut device, &READABLE, 0), Ok(0));
-    assert_eq!(rt; driver.offer(&mut device, &READABLE, 2), Ok(1));
-    assert_eq!(rt; driver.offer(&mut device, &[], 2), Ok(3));
-    let first = pop(&mut device)?;
-    let second = pop(&mut device)?;
-    let third = pop(&mut device)?;
-    assert_eq!(rt; first.request(), READABLE.as_slice());
-    assert_eq!(rt; second.request(), READABLE.as_slice());
-    assert_eq!(rt; third.request().len(), 0);
-    publish(rt.alloc(), &mut device, third)?;
-    publish(rt.alloc(), &mut device, second)?;
-    publish(rt.alloc(), &mut device, first)?;
-    reap(&mut driver, &device, 3, &REPLY)?;
-    reap(&mut driver, &device, 1, &REPLY)?;
-    reap(&mut driver, &device, 0, &[])?;
-    assert!(rt; matches!(driver.reap(&device), Ok(None)));
-    Ok(())
+    let offered = offers_three(&mut driver, &mut device);
+    check(offered, "the places of three chains")?;
+    answer_three(rt.alloc(), &mut device)?;
+    reap_three(&mut driver, &device)
+}
+
+fn go_round(alloc: Global, driver: &mut Driver, device: &mut Device) -> Result<(), Fail> {
+    driver.offer(device, &READABLE, 2).ok().ok_or("offer")?;
+    let job = pop(device)?;
+    publish(alloc, device, job)?;
+    reap(driver, device, 0, &REPLY)
 }
 
 #[test]
 fn the_indexes_run_round(rt: HostRuntime) -> Result<(), Fail> {
     let (mut device, mut driver) = in_service(rt.alloc())?;
     for _ in 0..65540 {
-        driver.offer(&mut device, &READABLE, 2).ok().ok_or("offer")?;
-        let job = pop(&mut device)?;
-        publish(rt.alloc(), &mut device, job)?;
-        reap(&mut driver, &device, 0, &REPLY)?;
+        go_round(rt.alloc(), &mut driver, &mut device)?;
     }
     Ok(())
+}
+
+// Four descriptors: two chains take three of them, and a third one the last.
+fn offers_four(driver: &mut Driver, device: &mut Device) -> bool {
+    driver.offer(device, &READABLE, 0) == Ok(0)
+        && driver.offer(device, &READABLE, 2) == Ok(1)
+        && driver.offer(device, &READABLE, 2) == Err(DriverFault::NoRoom)
+        && driver.offer(device, &[], 2) == Ok(3)
+        && driver.offer(device, &[], 2) == Err(DriverFault::NoRoom)
 }
 
 #[test]
 fn offers_until_there_is_no_room(rt: HostRuntime) -> Result<(), Fail> {
     let (mut device, mut driver) = in_service(rt.alloc())?;
-    assert_eq!(rt; driver.offer(&mut device, &READABLE, 0), Ok(0));
-    assert_eq!(rt; driver.offer(&mut device, &READABLE, 2), Ok(1));
-    assert_eq!(rt;
-        driver.offer(&mut device, &READABLE, 2),
-        Err(DriverFault::NoRoom)
-    );
-    assert_eq!(rt; driver.offer(&mut device, &[], 2), Ok(3));
-    assert_eq!(rt; driver.offer(&mut device, &[], 2), Err(DriverFault::NoRoom));
-    let mut small = new_device(
-        rt.alloc(),
-        &GuestConfig {
-            memory: 65536,
-            ..GUEST
-        },
-    )?;
+    check(offers_four(&mut driver, &mut device), "four descriptors")
+}
+
+fn is_out_of_range(driver: &mut Driver, device: &mut Device) -> bool {
+    driver.offer(device, &[], 2) == Err(DriverFault::OutOfRange)
+        && matches!(driver.reap(device), Err(DriverFault::OutOfRange))
+}
+
+#[test]
+fn a_memory_that_is_too_small(rt: HostRuntime) -> Result<(), Fail> {
+    let config = GuestConfig {
+        memory: 65536,
+        ..GUEST
+    };
+    let mut small = new_device(rt.alloc(), &config)?;
     let mut driver = new_driver(rt.alloc(), &GUEST)?;
-    assert_eq!(rt;
-        driver.offer(&mut small, &[], 2),
-        Err(DriverFault::OutOfRange)
-    );
-    assert!(rt; matches!(driver.reap(&small), Err(DriverFault::OutOfRange)));
-    Ok(())
+    let outside = is_out_of_range(&mut driver, &mut small);
+    check(outside, "out of range")
 }
 
 // Whether a device takes a queue of so many places, with this feature, in memory that held other
@@ -143,17 +183,24 @@ fn negotiates(alloc: Global, queue: u16, event_idx: bool) -> Result<bool, Fail> 
     };
     let mut device = new_device(alloc, &guest)?;
     let mut driver = new_driver(alloc, &guest)?;
+    fill(&mut device)?;
+    let answer = driver.negotiate(&mut device);
+    check(pops_nothing(&mut device), "something is offered")?;
+    Ok(answer)
+}
+
+fn fill(device: &mut Device) -> Result<(), Fail> {
     for page in 0..64u64 {
         device
             .store(4096 * page, &[0xee; 4096])
             .ok()
             .ok_or("store")?;
     }
-    let answer = driver.negotiate(&mut device);
-    if !matches!(device.pop(), Ok(None)) {
-        return Err(Fail::from("something is offered"));
-    }
-    Ok(answer)
+    Ok(())
+}
+
+fn pops_nothing(device: &mut Device) -> bool {
+    matches!(device.pop(), Ok(None))
 }
 
 // Sizes of split queues are powers of two (VIRTIO 1.2, 2.7), and the device has at most 256 places.
@@ -168,7 +215,8 @@ fn queues_that_a_device_takes(rt: HostRuntime) -> Result<(), Fail> {
         (0, false, false),
     ];
     for (queue, event_idx, answer) in cases {
-        assert_eq!(rt; negotiates(rt.alloc(), queue, event_idx)?, answer);
+        let taken = negotiates(rt.alloc(), queue, event_idx)?;
+        check(taken == answer, "a queue")?;
     }
     Ok(())
 }
@@ -178,19 +226,27 @@ fn queues_that_a_device_takes(rt: HostRuntime) -> Result<(), Fail> {
 fn reap_of(alloc: Global, id: u32, len: u32) -> Result<bool, Fail> {
     let (mut device, mut driver) = in_service(alloc)?;
     driver.offer(&mut device, &READABLE, 2).ok().ok_or("offer")?;
+    put_element(&mut device, id, len)?;
+    Ok(is_refused(&mut driver, &device) && is_refused(&mut driver, &device))
+}
+
+fn put_element(device: &mut Device, id: u32, len: u32) -> Result<(), Fail> {
     let at = DriverLayout::of(RingKind::Split, GUEST.queue).device_area;
     device.store(at + 4, &id.to_le_bytes()).ok().ok_or("id")?;
     device.store(at + 8, &len.to_le_bytes()).ok().ok_or("len")?;
     device.store(at + 2, &[1, 0]).ok().ok_or("idx")?;
-    let refused = matches!(driver.reap(&device), Err(DriverFault::BadUsed));
-    let again = matches!(driver.reap(&device), Err(DriverFault::BadUsed));
-    Ok(refused && again)
+    Ok(())
+}
+
+fn is_refused(driver: &mut Driver, device: &Device) -> bool {
+    matches!(driver.reap(device), Err(DriverFault::BadUsed))
 }
 
 #[test]
 fn elements_that_no_chain_has(rt: HostRuntime) -> Result<(), Fail> {
     for (id, len, refused) in [(0, 2, false), (0, 3, true), (1, 0, true), (65536, 0, true)] {
-        assert_eq!(rt; reap_of(rt.alloc(), id, len)?, refused);
+        let answer = reap_of(rt.alloc(), id, len)?;
+        check(answer == refused, "an element")?;
     }
     Ok(())
 }

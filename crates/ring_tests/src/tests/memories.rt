@@ -22,20 +22,35 @@ fn ranges(rt: HostRuntime) -> Result<(), Fail> {
     Ok(())
 }
 
+fn writes(memory: &mut Memory) -> bool {
+    memory.size() == 16
+        && memory.write(12, &[1, 2, 3]) == Ok(())
+        && memory.write(14, &[9, 9, 9]) == Err(MemFault::OutOfRange)
+}
+
+// What a read of four bytes gives, and what it leaves in their place.
+fn reads(memory: &Memory, at: u64) -> (Result<(), MemFault>, [u8; 4]) {
+    let mut out = [7; 4];
+    (memory.read(at, &mut out), out)
+}
+
+fn puts(memory: &mut Memory) -> bool {
+    if !memory.contains(11, 3) {
+        return false;
+    }
+    memory.put(11, &[4]);
+    memory.bytes(11, 3) == [4, 1, 2].as_slice()
+}
+
 #[test]
 fn reads_what_was_written(rt: HostRuntime) -> Result<(), Fail> {
     let mut memory = Memory::new(rt.alloc(), 16).ok().ok_or("no memory")?;
-    assert_eq!(rt; memory.size(), 16);
-    assert_eq!(rt; memory.write(12, &[1, 2, 3]), Ok(()));
-    assert_eq!(rt; memory.write(14, &[9, 9, 9]), Err(MemFault::OutOfRange));
-    let mut out = [7; 4];
-    assert_eq!(rt; memory.read(13, &mut out), Err(MemFault::OutOfRange));
-    assert_eq!(rt; out, [7, 7, 7, 7]);
-    assert_eq!(rt; memory.read(12, &mut out), Ok(()));
-    assert_eq!(rt; out, [1, 2, 3, 0]);
-    assert!(rt; memory.contains(11, 3));
-    memory.put(11, &[4]);
-    assert_eq!(rt; memory.bytes(11, 3), [4, 1, 2].as_slice());
+    assert!(rt; writes(&mut memory));
+    assert!(rt;
+        reads(&memory, 13) == (Err(MemFault::OutOfRange), [7, 7, 7, 7])
+            && reads(&memory, 12) == (Ok(()), [1, 2, 3, 0])
+    );
+    assert!(rt; puts(&mut memory));
     Ok(())
 }
 

@@ -135,11 +135,15 @@ const HOSTILE: [([Descriptor; 2], Answer, u64); 12] = [
     ),
 ];
 
+fn offer(memory: &mut Memory, descriptors: [Descriptor; 2]) -> Result<(), Fail> {
+    put(memory, 0, &descriptor(descriptors[0]))?;
+    put(memory, 16, &descriptor(descriptors[1]))?;
+    set_word(memory, AVAIL_IDX, 1)
+}
+
 fn popped_of(alloc: Global, descriptors: [Descriptor; 2]) -> Result<(Answer, u64), Fail> {
     let (mut memory, mut ring) = new_ring(alloc)?;
-    put(&mut memory, 0, &descriptor(descriptors[0]))?;
-    put(&mut memory, 16, &descriptor(descriptors[1]))?;
-    set_word(&mut memory, AVAIL_IDX, 1)?;
+    offer(&mut memory, descriptors)?;
     let mut reads = Reads::new();
     let answer = pop(alloc, &mut ring, &mut memory, &mut reads)?;
     Ok((answer, reads.count()))
@@ -256,22 +260,36 @@ fn reply(memory: &mut Memory, ring: &mut Ring, popped: &Popped) -> Result<bool, 
     Ok(ring.publish(memory, number, popped.id, popped.places, 16))
 }
 
-// A writable range over the used ring: the reply is there first, the used fields over it.
+// A writable range over the used ring, of the chain 2.
+fn offer_the_used_ring(memory: &mut Memory) -> Result<(), Fail> {
+    put(memory, 32, &descriptor((USED_RING, 16, WRITE, 0)))?;
+    set_word(memory, AVAIL_IDX + 2, 2)?;
+    set_word(memory, AVAIL_IDX, 1)
+}
+
+fn is_replied(alloc: Global, memory: &mut Memory, ring: &mut Ring) -> Result<bool, Fail> {
+    let popped = pop_one(alloc, memory, ring)?;
+    reply(memory, ring, &popped)
+}
+
+fn used_elements(memory: &Memory) -> Result<[u8; 16], Fail> {
+    let mut used = [0; 16];
+    memory.read(USED_RING, &mut used).ok().ok_or("read")?;
+    Ok(used)
+}
+
+// The reply is there first, the used fields over it.
+const OVER_THE_REPLY: [u8; 16] = [
+    0xee, 0xee, 1, 0, 2, 0, 0, 0, 16, 0, 0, 0, 0xee, 0xee, 0xee, 0xee,
+];
+
 #[test]
 fn a_reply_over_the_used_ring(rt: HostRuntime) -> Result<(), Fail> {
     let (mut memory, mut ring) = new_ring(rt.alloc())?;
-    put(&mut memory, 32, &descriptor((USED_RING, 16, WRITE, 0)))?;
-    set_word(&mut memory, AVAIL_IDX + 2, 2)?;
-    set_word(&mut memory, AVAIL_IDX, 1)?;
-    let popped = pop_one(rt.alloc(), &mut memory, &mut ring)?;
+    offer_the_used_ring(&mut memory)?;
     // used_event is 0, which the index passes as it goes from 0 to 1.
-    assert!(rt; reply(&mut memory, &mut ring, &popped)?);
-    let mut used = [0; 16];
-    memory.read(USED_RING, &mut used).ok().ok_or("read")?;
-    let expected = [
-        0xee, 0xee, 1, 0, 2, 0, 0, 0, 16, 0, 0, 0, 0xee, 0xee, 0xee, 0xee,
-    ];
-    assert!(rt; used == expected);
+    assert!(rt; is_replied(rt.alloc(), &mut memory, &mut ring)?);
+    assert!(rt; used_elements(&memory)? == OVER_THE_REPLY);
     Ok(())
 }
 
@@ -351,15 +369,29 @@ fn is_refused_as_old(alloc: Global, ring: &mut Ring, memory: &mut Memory, number
 
 #[test]
 fn a_number_is_taken_once(rt: HostRuntime) -> Result<(), Fail> {
-    let (mut memory, mut ring) = new_ring(rt.alloc())?;
+    let (mut memory, mut ring) = two_available(rt.alloc())?;
+    assert!(rt; is_taken_after(rt.alloc(), &mut ring, &mut memory, 0)?);
+    assert!(rt; is_taken_after(rt.alloc(), &mut ring, &mut memory, 1)?);
+    Ok(())
+}
+
+fn two_available(alloc: Global) -> Result<(Memory, Ring), Fail> {
+    let (mut memory, ring) = new_ring(alloc)?;
     put(&mut memory, 0, &descriptor(PLAIN))?;
     set_word(&mut memory, AVAIL_IDX, 2)?;
-    let mut reads = Reads::new();
-    assert!(rt; is_refused_as_old(rt.alloc(), &mut ring, &mut memory, 0));
-    assert!(rt; pop(rt.alloc(), &mut ring, &mut memory, &mut reads)? == Answer::Chain(8, 0));
-    assert!(rt; is_refused_as_old(rt.alloc(), &mut ring, &mut memory, 1));
-    assert!(rt; pop(rt.alloc(), &mut ring, &mut memory, &mut reads)? == Answer::Chain(8, 0));
-    Ok(())
+    Ok((memory, ring))
+}
+
+// Whether this number is refused, and the one after the last gives a chain.
+fn is_taken_after(
+    alloc: Global,
+    ring: &mut Ring,
+    memory: &mut Memory,
+    number: u64,
+) -> Result<bool, Fail> {
+    let refused = is_refused_as_old(alloc, ring, memory, number);
+    let answer = pop(alloc, ring, memory, &mut Reads::new())?;
+    Ok(refused && answer == Answer::Chain(8, 0))
 }
 
 fn is_popped_as(alloc: Global, ring: &mut Ring, memory: &mut Memory, number: u64) -> bool {
@@ -374,9 +406,7 @@ fn is_popped_as(alloc: Global, ring: &mut Ring, memory: &mut Memory, number: u64
 
 #[test]
 fn the_largest_number_is_taken(rt: HostRuntime) -> Result<(), Fail> {
-    let (mut memory, mut ring) = new_ring(rt.alloc())?;
-    put(&mut memory, 0, &descriptor(PLAIN))?;
-    set_word(&mut memory, AVAIL_IDX, 2)?;
+    let (mut memory, mut ring) = two_available(rt.alloc())?;
     assert!(rt; is_popped_as(rt.alloc(), &mut ring, &mut memory, u64::MAX));
     assert!(rt; is_refused_as_old(rt.alloc(), &mut ring, &mut memory, u64::MAX));
     Ok(())

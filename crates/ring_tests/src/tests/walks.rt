@@ -66,84 +66,125 @@ fn answer(
     Ok((number, reads.count()))
 }
 
+// A descriptor as its four fields.
+type Fields = (u64, u32, u16, u16);
+
+fn bytes_of(fields: Fields) -> [u8; 16] {
+    let (addr, len, third, fourth) = fields;
+    descriptor(addr, len, third, fourth)
+}
+
+// The first two descriptors of the ring, those of the table, and what the walk answers. The rest of the
+// ring repeats the second.
+type Case = ([Fields; 2], [Fields; 2], (u64, u64));
+
+fn answer_of(alloc: Global, shape: Shape, tables: bool, case: &Case) -> Result<(u64, u64), Fail> {
+    let (ring, table, _) = case;
+    let second = bytes_of(ring[1]);
+    let ring = [bytes_of(ring[0]), second, second, second];
+    let table = [bytes_of(table[0]), bytes_of(table[1])];
+    answer(alloc, shape, tables, ring, table)
+}
+
+fn goes_as_told(alloc: Global, shape: Shape, cases: &[Case]) -> Result<bool, Fail> {
+    for case in cases {
+        if answer_of(alloc, shape, true, case)? != case.2 {
+            return Ok(false);
+        }
+    }
+    Ok(true)
+}
+
+const PLAIN: Fields = (2048, 8, 0, 0);
+
+const SPLIT_TABLES: [Case; 11] = [
+    // Two entries that name each other.
+    (
+        [(TABLE, 32, INDIRECT, 0), PLAIN],
+        [(2048, 8, NEXT, 1), (2048, 8, NEXT, 0)],
+        (3, 3),
+    ),
+    // An entry that refers to a table.
+    (
+        [(TABLE, 32, INDIRECT, 0), PLAIN],
+        [(2048, 8, INDIRECT, 0), PLAIN],
+        (6, 2),
+    ),
+    // An entry whose `next` the table doesn't have.
+    (
+        [(TABLE, 32, INDIRECT, 0), PLAIN],
+        [(2048, 8, NEXT, 2), PLAIN],
+        (4, 2),
+    ),
+    // A readable entry behind a writable one.
+    (
+        [(TABLE, 32, INDIRECT, 0), PLAIN],
+        [(2048, 8, WRITE + NEXT, 1), PLAIN],
+        (5, 3),
+    ),
+    (
+        [(TABLE, 32, INDIRECT, 0), PLAIN],
+        [(2048, 8, NEXT, 1), (2048, 8, WRITE, 0)],
+        (0, 3),
+    ),
+    // Lengths that no table has, and the largest one.
+    ([(TABLE, 24, INDIRECT, 0), PLAIN], [PLAIN, PLAIN], (6, 1)),
+    ([(TABLE, 0, INDIRECT, 0), PLAIN], [PLAIN, PLAIN], (6, 1)),
+    ([(TABLE, 16400, INDIRECT, 0), PLAIN], [PLAIN, PLAIN], (6, 1)),
+    ([(TABLE, 16384, INDIRECT, 0), PLAIN], [PLAIN, PLAIN], (0, 2)),
+    // A table that goes on behind itself in the ring.
+    (
+        [(TABLE, 32, INDIRECT + NEXT, 1), PLAIN],
+        [PLAIN, PLAIN],
+        (6, 1),
+    ),
+    // A table that ends one entry past the memory.
+    ([(65520, 32, INDIRECT, 0), PLAIN], [PLAIN, PLAIN], (4, 1)),
+];
+
+// A readable descriptor, then a table of one writable entry.
+const A_TABLE_BEHIND: Case = (
+    [(2048, 8, NEXT, 1), (TABLE, 16, INDIRECT, 0)],
+    [(2048, 8, WRITE, 0), PLAIN],
+    (0, 3),
+);
+
 #[test]
 fn split_tables(rt: HostRuntime) -> Result<(), Fail> {
-    let plain = descriptor(2048, 8, 0, 0);
-    let next = |place: u16| descriptor(2048, 8, NEXT, place);
-    let refers = |len: u32| descriptor(TABLE, len, INDIRECT, 0);
-    let in_table = |flags: u16, next: u16| descriptor(2048, 8, flags, next);
-    let cases = [
-        // Two entries that name each other.
-        (refers(32), [in_table(NEXT, 1), in_table(NEXT, 0)], (3, 3)),
-        // An entry that refers to a table.
-        (refers(32), [in_table(INDIRECT, 0), plain], (6, 2)),
-        // An entry whose `next` the table doesn't have.
-        (refers(32), [in_table(NEXT, 2), plain], (4, 2)),
-        // A readable entry behind a writable one.
-        (refers(32), [in_table(WRITE + NEXT, 1), plain], (5, 3)),
-        (refers(32), [in_table(NEXT, 1), in_table(WRITE, 0)], (0, 3)),
-        // Lengths that no table has, and the largest one.
-        (refers(24), [plain, plain], (6, 1)),
-        (refers(0), [plain, plain], (6, 1)),
-        (refers(16400), [plain, plain], (6, 1)),
-        (refers(16384), [plain, plain], (0, 2)),
-        // A table that goes on behind itself in the ring.
-        (
-            descriptor(TABLE, 32, INDIRECT + NEXT, 1),
-            [plain, plain],
-            (6, 1),
-        ),
-        // A table that ends one entry past the memory.
-        (descriptor(65520, 32, INDIRECT, 0), [plain, plain], (4, 1)),
-    ];
-    for (head, table, expected) in cases {
-        let ring = [head, plain, plain, plain];
-        assert_eq!(rt;
-            answer(rt.alloc(), Shape::SplitRing, true, ring, table)?,
-            expected
-        );
-    }
-    // A readable descriptor, then a table of one writable entry.
-    let ring = [next(1), refers(16), plain, plain];
-    let table = [in_table(WRITE, 0), plain];
-    assert_eq!(rt;
-        answer(rt.alloc(), Shape::SplitRing, true, ring, table)?,
-        (0, 3)
-    );
+    let cases = SPLIT_TABLES;
+    assert!(rt; goes_as_told(rt.alloc(), Shape::SplitRing, &cases)?);
+    let behind = A_TABLE_BEHIND;
+    let taken = answer_of(rt.alloc(), Shape::SplitRing, true, &behind)?;
     // Tables weren't accepted.
-    assert_eq!(rt;
-        answer(rt.alloc(), Shape::SplitRing, false, ring, table)?,
-        (6, 2)
-    );
+    let refused = answer_of(rt.alloc(), Shape::SplitRing, false, &behind)?;
+    assert_eq!(rt; (taken, refused), ((0, 3), (6, 2)));
     Ok(())
 }
 
+const PACKED_CHAINS: [Case; 3] = [
+    // NEXT in all four.
+    (
+        [(2048, 8, 7, NEXT), (2048, 8, 7, NEXT)],
+        [(2048, 8, 7, 0), (2048, 8, 7, 0)],
+        (3, 4),
+    ),
+    // In a table WRITE is the only flag that counts.
+    (
+        [(TABLE, 32, 7, INDIRECT), (2048, 8, 7, 0)],
+        [(2048, 8, 7, INDIRECT), (2048, 8, 7, 0)],
+        (0, 3),
+    ),
+    (
+        [(TABLE, 32, 7, INDIRECT), (2048, 8, 7, 0)],
+        [(2048, 8, 7, WRITE), (2048, 8, 7, 0)],
+        (5, 3),
+    ),
+];
+
 #[test]
 fn packed_chains(rt: HostRuntime) -> Result<(), Fail> {
-    let next = descriptor(2048, 8, 7, NEXT);
-    let plain = descriptor(2048, 8, 7, 0);
-    let refers = descriptor(TABLE, 32, 7, INDIRECT);
-    let cases = [
-        // NEXT in all four.
-        ([next, next, next, next], [plain, plain], (3, 4)),
-        // In a table WRITE is the only flag that counts.
-        (
-            [refers, plain, plain, plain],
-            [descriptor(2048, 8, 7, INDIRECT), plain],
-            (0, 3),
-        ),
-        (
-            [refers, plain, plain, plain],
-            [descriptor(2048, 8, 7, WRITE), plain],
-            (5, 3),
-        ),
-    ];
-    for (ring, table, expected) in cases {
-        assert_eq!(rt;
-            answer(rt.alloc(), Shape::PackedRing, true, ring, table)?,
-            expected
-        );
-    }
+    let cases = PACKED_CHAINS;
+    assert!(rt; goes_as_told(rt.alloc(), Shape::PackedRing, &cases)?);
     Ok(())
 }
 
@@ -187,15 +228,21 @@ fn holds(memory: &Memory, at: u64, bytes: [u8; 3]) -> bool {
     memory.read(at, &mut out).is_ok() && out == bytes
 }
 
+// A byte past the longest request, so that one that is too long can be told.
+fn is_cut(request: &[u8]) -> bool {
+    request.len() == 8705 && request.last() == Some(&5)
+}
+
+fn holds_the_reply(memory: &Memory) -> bool {
+    holds(memory, 100, [1, 2, 0]) && holds(memory, 200, [3, 0, 0])
+}
+
 #[test]
 fn gathers_and_scatters(rt: HostRuntime) -> Result<(), Fail> {
     let mut memory = Memory::new(rt.alloc(), 65536).ok().ok_or("no memory")?;
     offer(&mut memory)?;
     let (chain, request) = chain_at_0(rt.alloc(), &memory)?;
-    // A byte past the longest request, so that one that is too long can be told.
-    assert!(rt; request.len() == 8705 && request.last() == Some(&5));
-    assert!(rt; scatters(&chain, &mut memory));
-    assert!(rt; holds(&memory, 100, [1, 2, 0]) && holds(&memory, 200, [3, 0, 0]));
+    assert!(rt; is_cut(&request) && scatters(&chain, &mut memory) && holds_the_reply(&memory));
     Ok(())
 }
 
@@ -267,16 +314,22 @@ fn reply_longest(alloc: Global, memory: &mut Memory, chain: &Chain) -> Result<()
     Ok(())
 }
 
+fn reply_to_kept(alloc: Global, memory: &mut Memory, chain: &Chain) -> Result<(), Fail> {
+    let kept = chain.for_reply(alloc)?;
+    reply_longest(alloc, memory, &kept)
+}
+
+fn holds_the_longest(memory: &Memory) -> Result<bool, Fail> {
+    Ok(byte(memory, 50000)? == 7 && byte(memory, 59215)? == 7 && byte(memory, 59216)? == 0)
+}
+
 #[test]
 fn the_longest_chain(rt: HostRuntime) -> Result<(), Fail> {
     let mut memory = longest(rt.alloc(), WRITE)?;
     let (count, chain) = walk_longest(rt.alloc(), &memory)?;
     assert_eq!(rt; count, 1280);
-    let kept = chain.for_reply(rt.alloc())?;
-    reply_longest(rt.alloc(), &mut memory, &kept)?;
-    assert!(rt;
-        byte(&memory, 50000)? == 7 && byte(&memory, 59215)? == 7 && byte(&memory, 59216)? == 0
-    );
+    reply_to_kept(rt.alloc(), &mut memory, &chain)?;
+    assert!(rt; holds_the_longest(&memory)?);
     Ok(())
 }
 
@@ -316,15 +369,20 @@ fn is_request_of_longest(request: &[u8]) -> bool {
     true
 }
 
+// The lengths of the request and of the room for a reply.
+fn lengths_popped(alloc: Global, write: u16) -> Result<(usize, u64), Fail> {
+    let popped = pop_longest(alloc, write)?;
+    if !is_request_of_longest(&popped.request) {
+        return Err(Fail::from("another request"));
+    }
+    Ok((popped.request.len(), popped.chain.writable_len()))
+}
+
 #[test]
 fn a_ring_pops_the_longest_chains(rt: HostRuntime) -> Result<(), Fail> {
     // Of 255 ranges to be read, and 1,024 to be written.
-    let popped = pop_longest(rt.alloc(), WRITE)?;
-    assert!(rt; popped.request.len() == 255 && is_request_of_longest(&popped.request));
-    assert_eq!(rt; popped.chain.writable_len(), 9216);
+    assert_eq!(rt; lengths_popped(rt.alloc(), WRITE)?, (255, 9216));
     // Of 1,279 ranges to be read, whose request is too long.
-    let popped = pop_longest(rt.alloc(), 0)?;
-    assert!(rt; popped.request.len() == 8705 && is_request_of_longest(&popped.request));
-    assert_eq!(rt; popped.chain.writable_len(), 0);
+    assert_eq!(rt; lengths_popped(rt.alloc(), 0)?, (8705, 0));
     Ok(())
 }

@@ -71,18 +71,43 @@ fn comes_back(device: &Device, driver: &mut Driver, reply: &[u8]) -> Result<(), 
 // How many bytes a request has, and its reply.
 static LENGTHS: [(usize, u32); 4] = [(1, 0), (1, 1), (512, 512), (8704, 8192)];
 
+fn offer(
+    alloc: Global,
+    device: &mut Device,
+    driver: &mut Driver,
+    length: usize,
+    room: u32,
+) -> Result<Job, Fail> {
+    let request = bytes_from(alloc, 5, length)?;
+    let job = offered(device, driver, &request, room)?;
+    check(job.request() == request.as_slice(), "a request")?;
+    Ok(job)
+}
+
 // Each reply is to what is kept of its job.
+fn reply(alloc: Global, device: &mut Device, job: &Job, bytes: &[u8]) -> Result<(), Fail> {
+    let kept = job.for_reply(alloc).ok().ok_or("not kept")?;
+    let done = answer(alloc, kept, bytes, 0)?;
+    check(device.publish(done) != Published::Dropped, "written")
+}
+
+fn go_round(
+    alloc: Global,
+    device: &mut Device,
+    driver: &mut Driver,
+    length: usize,
+    room: u32,
+) -> Result<(), Fail> {
+    let job = offer(alloc, device, driver, length, room)?;
+    let bytes = bytes_from(alloc, 7, room as usize)?;
+    reply(alloc, device, &job, &bytes)?;
+    comes_back(device, driver, &bytes)
+}
+
 fn exchange(alloc: Global, guest: u16, config: &GuestConfig) -> Result<(), Fail> {
     let (mut device, mut driver) = in_service(alloc, guest, config)?;
     for (length, room) in LENGTHS {
-        let request = bytes_from(alloc, 5, length)?;
-        let reply = bytes_from(alloc, 7, room as usize)?;
-        let job = offered(&mut device, &mut driver, &request, room)?;
-        check(job.request() == request.as_slice(), "a request")?;
-        let kept = job.for_reply(alloc).ok().ok_or("not kept")?;
-        let done = answer(alloc, kept, &reply, 0)?;
-        check(device.publish(done) != Published::Dropped, "written")?;
-        comes_back(&device, &mut driver, &reply)?;
+        go_round(alloc, &mut device, &mut driver, length, room)?;
     }
     Ok(())
 }
@@ -109,7 +134,8 @@ fn room_kept(alloc: Global, count: usize) -> Result<u64, Fail> {
 #[test]
 fn a_job_of_many_ranges_is_kept(rt: HostRuntime) -> Result<(), Fail> {
     for count in [1_024, 65_536] {
-        assert_eq!(rt; room_kept(rt.alloc(), count)?, count as u64);
+        let room = room_kept(rt.alloc(), count)?;
+        check(room == count as u64, "the room")?;
     }
     Ok(())
 }

@@ -140,10 +140,14 @@ fn remove(device: &mut Device) -> Result<(), Fail> {
 #[test]
 fn as_linux_does(rt: HostRuntime) -> Result<(), Fail> {
     let mut device = fresh_device(rt.alloc())?;
-    negotiate_as_linux(&mut device)?;
-    serve(rt.alloc(), &mut device)?;
-    interrupt(&mut device)?;
-    remove(&mut device)
+    go_as_linux(rt.alloc(), &mut device)
+}
+
+fn go_as_linux(alloc: Global, device: &mut Device) -> Result<(), Fail> {
+    negotiate_as_linux(device)?;
+    serve(alloc, device)?;
+    interrupt(device)?;
+    remove(device)
 }
 
 fn wrong_features(wrong: u32) -> u64 {
@@ -200,10 +204,14 @@ fn try_a_chain(device: &mut Device) -> Result<(), Fail> {
 fn as_linux_does_but_for_one_step(rt: HostRuntime) -> Result<(), Fail> {
     for wrong in 0..9 {
         let mut device = fresh_device(rt.alloc())?;
-        check(!goes_on(&mut device, wrong), "a wrong step")?;
-        try_a_chain(&mut device)?;
-        // The next probe, made rightly, succeeds.
-        check(goes_on(&mut device, 9), "the next probe")?;
+        stops_at(&mut device, wrong)?;
     }
     Ok(())
+}
+
+fn stops_at(device: &mut Device, wrong: u32) -> Result<(), Fail> {
+    check(!goes_on(device, wrong), "a wrong step")?;
+    try_a_chain(device)?;
+    // The next probe, made rightly, succeeds.
+    check(goes_on(device, 9), "the next probe")
 }

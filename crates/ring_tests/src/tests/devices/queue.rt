@@ -30,17 +30,24 @@ fn is_the_answer(done: &Done) -> bool {
     done.need() == 3 && done.id() == 1 && done.reply() == [5, 6, 7].as_slice()
 }
 
-fn exchange(alloc: Global, device: &mut Device) -> Result<(), Fail> {
-    take(device, &OFFER)?;
+fn pop_overwritten(device: &mut Device) -> Result<Job, Fail> {
     let job = pop(device)?;
     take(device, &OVERWRITE)?;
     check(is_the_offered(&job), "the job of the chain as it was")?;
+    Ok(job)
+}
+
+fn publish(alloc: Global, device: &mut Device, job: Job) -> Result<(), Fail> {
     let done = answer(alloc, job, &[5, 6, 7], 3)?;
     check(is_the_answer(&done), "the reply")?;
-    check(
-        device.publish(done) == Published::Wrote { notify: true },
-        "published",
-    )?;
+    let published = device.publish(done);
+    check(published == Published::Wrote { notify: true }, "published")
+}
+
+fn exchange(alloc: Global, device: &mut Device) -> Result<(), Fail> {
+    take(device, &OFFER)?;
+    let job = pop_overwritten(device)?;
+    publish(alloc, device, job)?;
     check(
         load12(device, 2000)? == [5, 6, 7, 0, 0, 0, 0, 0, 0, 0, 0, 0],
         "at the ranges popped",
@@ -72,12 +79,16 @@ static WITHOUT_A_QUEUE: [Step; 5] = [
     Step::Pops(Ok(Some(1))),
 ];
 
+fn pops_nothing(device: &mut Device) -> Result<(), Fail> {
+    take(device, &BEFORE_DRIVER_OK)?;
+    take(device, &OFFER)?;
+    take(device, &WITHOUT_A_QUEUE)
+}
+
 #[test]
 fn nothing_is_popped_before_driver_ok_or_without_a_queue(rt: HostRuntime) -> Result<(), Fail> {
     let mut device = fresh_device(rt.alloc())?;
-    take(&mut device, &BEFORE_DRIVER_OK)?;
-    take(&mut device, &OFFER)?;
-    take(&mut device, &WITHOUT_A_QUEUE)
+    pops_nothing(&mut device)
 }
 
 // The interrupt is raised once, and nothing but a reset brings the device back, not even a new queue.
@@ -99,13 +110,17 @@ static A_LOOP: [Step; 13] = [
 
 static POPPED: [Step; 1] = [Step::Pops(Ok(Some(1)))];
 
+fn stops_at_a_loop(device: &mut Device) -> Result<(), Fail> {
+    take(device, &OFFER)?;
+    take(device, &A_LOOP)?;
+    take(device, &OFFER)?;
+    take(device, &POPPED)
+}
+
 #[test]
 fn a_chain_that_leads_to_itself(rt: HostRuntime) -> Result<(), Fail> {
     let mut device = live_device(rt.alloc())?;
-    take(&mut device, &OFFER)?;
-    take(&mut device, &A_LOOP)?;
-    take(&mut device, &OFFER)?;
-    take(&mut device, &POPPED)
+    stops_at_a_loop(&mut device)
 }
 
 static AN_INDEX_THAT_JUMPS: [Step; 2] = [

@@ -269,8 +269,12 @@ fn asks_as_told(device: &mut Device) -> Result<(), Fail> {
 #[test]
 fn what_a_write_asks_for(rt: HostRuntime) -> Result<(), Fail> {
     let mut device = fresh_device(rt.alloc())?;
+    ask(&mut device)
+}
+
+fn ask(device: &mut Device) -> Result<(), Fail> {
     device.write(QUEUE_SEL, 4, 1);
-    asks_as_told(&mut device)?;
+    asks_as_told(device)?;
     check(device.session() == 3, "each reset begins a session")?;
     check(
         device.read(0x100, 4) == 0x0003_0201,

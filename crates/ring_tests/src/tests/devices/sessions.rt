@@ -81,6 +81,13 @@ fn a_reply_of_a_stopped_device_is_dropped(rt: HostRuntime) -> Result<(), Fail> {
     is_dropped_after(rt.alloc(), &A_FAULT)
 }
 
+// The reply is dropped while the chain of its id is outstanding.
+fn is_dropped_beside(alloc: Global, done: Done) -> Result<(), Fail> {
+    let mut device = live_device(alloc)?;
+    let _popped = popped(alloc, &mut device)?;
+    is_dropped(&mut device, done)
+}
+
 // A job of the session and the chain's id that no pop gave, as it is kept for the reply.
 fn job_of_no_device(alloc: Global) -> Result<Job, Fail> {
     let Ok(writable) = Vec::from_array(alloc, [Range { at: 2000, len: 8 }]) else {
@@ -103,9 +110,8 @@ fn answer_from_nowhere(alloc: Global) -> Result<Done, Fail> {
 
 #[test]
 fn a_reply_to_a_job_of_no_device_is_dropped(rt: HostRuntime) -> Result<(), Fail> {
-    let mut device = live_device(rt.alloc())?;
-    let _popped = popped(rt.alloc(), &mut device)?;
-    is_dropped(&mut device, answer_from_nowhere(rt.alloc())?)
+    let done = answer_from_nowhere(rt.alloc())?;
+    is_dropped_beside(rt.alloc(), done)
 }
 
 // The reply to the same chain of guest 8.
@@ -116,11 +122,9 @@ fn answer_of_another(alloc: Global) -> Result<Done, Fail> {
 
 #[test]
 fn a_reply_of_another_guest_is_dropped(rt: HostRuntime) -> Result<(), Fail> {
-    let mut device = live_device(rt.alloc())?;
-    let _popped = popped(rt.alloc(), &mut device)?;
     let done = answer_of_another(rt.alloc())?;
     check(done.guest() == 8, "the guest")?;
-    is_dropped(&mut device, done)
+    is_dropped_beside(rt.alloc(), done)
 }
 
 // Two chains of one head are available, and both are popped: the first is job 1, the second job 2.
