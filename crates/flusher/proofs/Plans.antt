@@ -8,7 +8,7 @@ use Rattle.std.proofs.lemmas.List.Sums.{fails_before_first}
 use Rattle.std.proofs.lemmas.List.Quantifiers.{position-Some}
 use Rattle.std.proofs.lemmas.List.Folds.{list_any_at, list_any_none}
 use Rattle.std.proofs.lemmas.Option.{slice_get-get_or, slice_get_within, get_or_from_slice_get}
-use Rattle.disk.specs.Disk.{DiskState, DiskCall, Write, Sync, Effect, during, Within, Still, Then}
+use Rattle.disk.specs.Disk.{DiskState, DiskCall, Read, Write, Sync, Effect, during, Within, Still, Then}
 use Rattle.flusher.specs.declared.guest.Guest.{Guest}
 use Rattle.flusher.specs.declared.slot.Slot.{Slot}
 use Rattle.flusher.specs.declared.plan.Plan.{Plan}
@@ -176,3 +176,16 @@ module _ {D : Type 0} (state : D → DiskState) (makes : D → DiskCall → D �
 
   pub round_front : Round makes (planned old) od old result nd new broken → Within state makes AtFront od nd
   round_front = front_by_plan (planned old)
+
+-- No call makes a disk faithful, or takes it away.
+counts_faithful : (a b : DiskState) (call : DiskCall) → Effect a call b → b.faithful ≡ a.faithful
+counts_faithful a b (Read good) e = e.counts.faithful
+counts_faithful a b (Write at bytes good) e = e.counts.faithful
+counts_faithful a b (Sync good) e = e.counts.faithful
+
+pub round_faithful : {D : Type 0} (shows : D → DiskState) (makes : D → DiskCall → D → Type 0) → ((a b : D) (call : DiskCall) → makes a call b → Effect (shows a) call (shows b))
+    → (p : Plan) (od : D) (old : List Guest) (result : Result Progress StoreFault) (nd : D) (new : List Guest) (broken : Bool) → Round makes p od old result nd new broken → (shows nd).faithful ≡ (shows od).faithful
+round_faithful shows makes effect (WriteOf g) od old result nd new broken r =
+    counts_faithful (shows od) (shows nd) (Write r.wrote.at r.wrote.bytes r.ok) (effect od nd (Write r.wrote.at r.wrote.bytes r.ok) r.wrote.call)
+round_faithful shows makes effect SyncAll od old result nd new broken r = counts_faithful (shows od) (shows nd) (Sync r.ok) (effect od nd (Sync r.ok) r.synced.call)
+round_faithful shows makes effect Nothing od old result nd new broken r = ap (λ d. (shows d).faithful) r.1
