@@ -1,2 +1,9 @@
 pub mod Links
-pub mod Boards
+pub mod Tied
+pub mod Linked
+pub mod Doing
+pub mod Stays
+pub mod Prefixes
+pub mod Openings
+pub mod Opened
+pub mod Runs

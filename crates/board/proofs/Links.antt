@@ -1,13 +1,13 @@
 -- The link of a guest's book and store through each call.
-use Rattle.std.proofs.Common.{◌≡◌, inl, inr, ℕ, zero, suc, ◌+◌, ◌≤◌, true, false, List, [], ◌∷◌, ◌++◌, Option, Some, None, length, take, drop, refl, ap, ap₂, sym, subst, ◌∙◌, arith, append_assoc, length-append, add-one}
+use Rattle.std.proofs.Common.{◌≡◌, inl, inr, ℕ, zero, suc, ◌+◌, ◌*◌, ◌≤◌, true, false, List, [], ◌∷◌, ◌++◌, Option, Some, None, length, take, drop, refl, ap, ap₂, sym, subst, ◌∙◌, arith, append_assoc, length-append, add-one}
 use Rattle.std.specs.Prelude.{option_to_list}
 use Rattle.rpmb_frame.specs.Request.{Request}
 use Rattle.rpmb_frame.specs.Partition.{Partition, sequence}
 use Rattle.rpmb_core.specs.Accept.{is_accepted, partition_after}
 use Rattle.rpmb_core.specs.Requests.{AllAccepted, partition_after_all}
-use Rattle.rpmb_core.proofs.Following.{accepted_joined, after_joined, sequence_of_all}
+use Rattle.rpmb_core.proofs.Following.{capacity_stays, accepted_joined, after_joined, sequence_of_all}
 use Rattle.rpmb_core.proofs.Sequence.{after_refused}
-use Rattle.intent_slots.specs.Payload.{Group, Intent, last_of}
+use Rattle.intent_slots.specs.Payload.{Group, GroupFits, Intent, last_of}
 use Rattle.intent_slots.specs.Recovered.{Part, after, part_of}
 use Rattle.flusher.specs.declared.phase.Phase.{Phase}
 use Rattle.flusher.specs.declared.phase.Phase.TheVariants.{Given, Written, Ready, Opening, Open, Applying, Applied, Closing}
@@ -100,7 +100,7 @@ drop_first zero xs ys le = refl
 drop_first (suc n) [] ys le = absurd (omega arith)
 drop_first (suc n) (x ∷ xs) ys le = drop_first n xs ys (omega arith)
 
-halves : {X : Type 0} (n : ℕ) (xs : List X) → take n xs ++ drop n xs ≡ xs
+pub halves : {X : Type 0} (n : ℕ) (xs : List X) → take n xs ++ drop n xs ≡ xs
 halves zero xs = refl
 halves (suc n) [] = refl
 halves (suc n) (x ∷ xs) = ap (λ r. x ∷ r) (halves n xs)
@@ -216,16 +216,16 @@ write_links n base accepted part x held between link = record {
 }
 
 -- the partition after a prefix is one of a board
-board_after : (p : Partition) (rs : List Request) → IsOfBoard p → AllByRecursion IsAsked rs → IsOfBoard (partition_after_all p rs)
+pub board_after : (p : Partition) (rs : List Request) → IsOfBoard p → AllByRecursion IsAsked rs → IsOfBoard (partition_after_all p rs)
 board_after p [] board asked = board
 board_after p (r ∷ rs) board asked = board_after (partition_after p r) rs (stays_of_board p r board asked.0) asked.1
 
-asked_parts : (k : ℕ) (rs : List Request) → AllByRecursion IsAsked rs → AllByRecursion IsAsked (take k rs) × AllByRecursion IsAsked (drop k rs)
+pub asked_parts : (k : ℕ) (rs : List Request) → AllByRecursion IsAsked rs → AllByRecursion IsAsked (take k rs) × AllByRecursion IsAsked (drop k rs)
 asked_parts zero rs all = (tt, all)
 asked_parts (suc k) [] all = (tt, tt)
 asked_parts (suc k) (r ∷ rs) all = (let rest = asked_parts k rs all.1 in ((all.0, rest.0), rest.1))
 
-length-front : (k : ℕ) (rs : List Request) → k ≤ length rs → length (take k rs) ≡ k
+pub length-front : (k : ℕ) (rs : List Request) → k ≤ length rs → length (take k rs) ≡ k
 length-front zero rs le = refl
 length-front (suc k) [] le = absurd (omega arith)
 length-front (suc k) (r ∷ rs) le = ap suc (length-front k rs (omega arith))
@@ -391,3 +391,59 @@ stands_prefix n base accepted part q x held between (Some s) board link is may =
 pub prefix_at_stops : IsPrefixAtStops
 prefix_at_stops n base accepted part x held between c link board kept =
     (kept.part, kept.stands, stands_prefix n base accepted part kept.part x held between held.slot board link refl kept.may)
+
+-- 4. What waits for a slot that is empty
+
+length-drop_by : {X : Type 0} (k : ℕ) (xs : List X) → k ≤ length xs → k + length (drop k xs) ≡ length xs
+length-drop_by zero xs le = omega arith
+length-drop_by (suc k) [] le = absurd (omega arith)
+length-drop_by (suc k) (x ∷ xs) le = (let rest = length-drop_by k xs (omega arith) in omega (arith, rest))
+
+length-intents : (n : ℕ) (p : Partition) (rs : List Request) → length (intents_of n p rs) ≡ length rs
+length-intents n p [] = refl
+length-intents n p (r ∷ rs) = ap suc (length-intents n (partition_after p r) rs)
+
+-- nothing is settled that wasn't taken
+pub mark_taken : (n : ℕ) (base : Partition) (accepted : List Request) (part : Part) (x : GuestState) (held : Guest) (between : Option Intent) → IsLinked n base accepted part x held between → mark_of held ≤ x.taken
+mark_taken n base accepted part x held between link =
+    let taken = link.taken in
+    let mark = link.mark in
+    let all = length-drop_by link.stored accepted link.within in
+    let many = sym (length-intents n (partition_after_all base (take link.stored accepted)) (drop link.stored accepted)) ∙ ap length link.rest in
+    omega (arith, taken, mark, all, many, length-append (option_to_list (pending_of held.slot)) (option_to_list between ++ x.waiting), length-append (option_to_list between) x.waiting)
+
+-- the intent of the accepted request that comes next
+pub record IsFirst (n : ℕ) (base : Partition) (k : ℕ) (i : Intent) : Type 0 where
+  pub guest : i.guest ≡ n
+  pub fits : GroupFits (131072 * base.capacity) i.group
+  pub first : i.group.first ≡ sequence base + k
+
+first_by : (n : ℕ) (base : Partition) (accepted : List Request) (k : ℕ) (i : Intent) (more : List Intent) (behind : List Request) → IsOfBoard base → k ≤ length accepted
+    → AllAccepted base accepted → AllByRecursion IsAsked accepted → drop k accepted ≡ behind → intents_of n (partition_after_all base (take k accepted)) behind ≡ i ∷ more → IsFirst n base k i
+first_by n base accepted k i more [] board within all asked behind_is is = absurd (cc)
+first_by n base accepted k i more (r ∷ later) board within all asked behind_is is =
+    let p = partition_after_all base (take k accepted) in
+    let head : intent_of n (partition_after p r) r.command ≡ i = cc in
+    let joined : AllAccepted base (take k accepted ++ (r ∷ later)) = subst (AllAccepted base) (sym (ap (λ b. take k accepted ++ b) (sym behind_is) ∙ halves k accepted)) all in
+    let both = (accepted_joined base (take k accepted) (r ∷ later)).0 joined in
+    let parts = asked_parts k accepted asked in
+    let here = board_after base (take k accepted) board parts.0 in
+    let leads = leads_on p r here (subst (AllByRecursion IsAsked) behind_is parts.1).0 both.1.0 in
+    let before : sequence p ≡ sequence base + k = sequence_of_all base (take k accepted) both.0 ∙ ap (λ m. sequence base + m) (length-front k accepted within) in
+    let same = capacity_stays base (take k accepted) in
+    let whole = here.held.whole in
+    let size : length p.blocks ≡ 131072 * base.capacity = omega (arith, whole, same) in
+    let one = leads.one in
+    let counted = leads.counted in
+    let next = leads.next in
+    record {
+      guest = ap (λ j. j.guest) (sym head);
+      fits = subst (λ m. GroupFits m i.group) size (subst (λ j. GroupFits (length p.blocks) j.group) head leads.fits);
+      first = ap (λ j. j.group.first) (sym head) ∙ omega (arith, one, counted, next, before);
+    }
+
+pub first_is : (n : ℕ) (base : Partition) (accepted : List Request) (part : Part) (x : GuestState) (held : Guest) (i : Intent) → IsOfBoard base
+    → (link : IsLinked n base accepted part x held (Some i)) → held.slot ≡ None → IsFirst n base link.stored i
+first_is n base accepted part x held i board link empty =
+    first_by n base accepted link.stored i x.waiting (drop link.stored accepted) board link.within link.in_turn link.asked refl
+    (link.rest ∙ ap (λ s. option_to_list (pending_of s) ++ (option_to_list (Some i) ++ x.waiting)) empty)

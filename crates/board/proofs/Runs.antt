@@ -1,0 +1,426 @@
+-- The headline over every run.
+use Rattle.std.proofs.Common.{◌≡◌, ◌≢◌, ◌⊎◌, inl, inr, ℕ, zero, suc, ◌+◌, ◌-◌, ◌<◌, ◌≤◌, Bool, true, false, List, [], ◌∷◌, ◌++◌, Option, Some, None, Ok, Err, length, drop, get_or, refl, ap, sym, subst, ◌∙◌, arith}
+use Rattle.std.specs.Prelude.{slice_get, if◌then◌else◌, ◌==◌, ◌&&◌, is_some, replicate}
+use Rattle.std.proofs.lemmas.Bool.{cases_eq}
+use Rattle.std.proofs.lemmas.List.{append-nil}
+use Rattle.std.proofs.lemmas.Bool.Decides.{nat_tests}
+use Rattle.std.proofs.lemmas.Option.{get_or_from_slice_get, slice_get_within}
+use Rattle.rpmb_frame.specs.Request.{Request}
+use Rattle.rpmb_frame.specs.Partition.{Partition, sequence}
+use Rattle.rpmb_frame.specs.declared.config.GuestConfig.{GuestConfig}
+use Rattle.rpmb_core.proofs.Following.{sequence_of_all}
+use Rattle.disk.specs.Content.{Content}
+use Rattle.disk.specs.CutDisk.{CutMakes, CutState, cut_state}
+use Rattle.disk.specs.Disk.{DiskCall, Effect, MayLeave}
+use Rattle.disk.specs.declared.filler.Filler.{Filler}
+use Rattle.flusher.specs.declared.progress.Call.{Call}
+use Rattle.flusher.specs.declared.progress.Call.TheVariants as call
+use Rattle.flusher.specs.Marks.{marks_of}
+use Rattle.flusher.specs.Slot.{mark_of}
+use Rattle.flusher.specs.Store.{is_free, next_call}
+use Rattle.intent_slots.specs.Payload.{Intent}
+use Rattle.intent_slots.specs.Recovered.{Part}
+use Rattle.mmio_transport.specs.Device.{DeviceState}
+use Rattle.mmio_transport.specs.Job.{Job, Done}
+use Rattle.mmio_transport.specs.declared.done.Published.TheVariants.{Wrote, Dropped}
+use Rattle.recovery.specs.Opening.{Untouched, parts_of}
+use Rattle.rpmb_book.specs.Book.{due_of, may_settle, next_intent, state, submit_of, with_turn}
+use Rattle.rpmb_book.specs.Job.{Tally}
+use Rattle.rpmb_book.specs.Marks.{marks_for}
+use Rattle.rpmb_book.specs.Turn.{Turn, Collect, Take, Settle, Break, move_some}
+use Rattle.rpmb_book.proofs.ByGuest.{never_falls}
+use Rattle.rpmb_book.specs.Guest.{GuestState}
+use Rattle.board.specs.declared.step.Act.{Act}
+use Rattle.board.specs.declared.step.Report.{Report}
+use Rattle.board.specs.declared.step.Report.TheVariants.{Marks, Fault}
+use Rattle.board.specs.declared.step.Step.{Step}
+use Rattle.board.specs.declared.step.Step.TheVariants as step
+use Rattle.board.specs.declared.step.Seen.TheVariants as seen
+use Rattle.board.specs.State.{BoardState, guests, in_place}
+use Rattle.board.specs.Steps.{AdvancesUnder, Answer, CollectsInto, Does, Drives, GivesWhere, PopsInto, PublishesFrom, SettlesBy, SubmitsFrom, TakesInto}
+use Rattle.board.specs.Board.{IsLinkedBoard, LeavesPrefixes, accepted_after, marks_in}
+use Rattle.board.specs.Opening.{Begins, GoesOn, kept_by, kept_of}
+use Rattle.board.specs.World.{CutBy, CutWithin, CutsTo, Event, Home, Up, Down, Happens, Opens, OpensOrNot, Publication, Refuses, StepsAt, StepsIn, WorldState, choosing, disk_of, opened_world, publication_of, published_after, with_publication}
+use Rattle.board.specs.Kept.{AllRequests, IsClosed, IsKept, IsKeptAt, IsNew, IsOpen, WasOpened}
+use Rattle.board.specs.Headline.{Gives, GivesAt, Headline, HeadlineOfRuns, Holds, HoldsAt}
+use Rattle.board.proofs.Doing.{full_at}
+use Rattle.board.proofs.Linked.{turned}
+use Rattle.board.proofs.Links.{halves}
+use Rattle.board.proofs.Opened.{fresh_at, within_end}
+use Rattle.board.proofs.Prefixes.{advance_moments, leaves_now}
+use Rattle.board.proofs.Stays.{does_stay, in_book, marks_at}
+
+-- 1. An open world
+
+-- what is accepted is what the bases accept
+requests_of : (w : WorldState) (b : BoardState CutState) (parts : ℕ → Part) → IsLinkedBoard cut_state w.config w.bases w.accepted parts b → AllRequests w
+requests_of w b parts linked = λ g below.
+    (let x = in_book cut_state w.config w.bases w.accepted parts b linked g below in
+    let t = linked.each g x.0 x.1 in
+    record { board = t.board; capacity = t.capacity; in_turn = t.link.in_turn; asked = t.link.asked })
+
+gives_of : (w : WorldState) (b : BoardState CutState) (parts : ℕ → Part) → IsLinkedBoard cut_state w.config w.bases w.accepted parts b → Gives w b
+gives_of w b parts linked = record { each = λ g x at. (linked.each g x at).link.partition }
+
+-- an open world, stopped now, is a closed one
+closed_with : (w : WorldState) (b : BoardState CutState) → IsOpen w b → (d : CutState) → LeavesPrefixes w.config w.bases w.accepted (marks_in b) (cut_state d) → IsClosed w d
+closed_with w b up d leaves = record {
+  least = marks_in b;
+  leaves = leaves;
+  requests = up.requests;
+  needs = λ g k p below at.
+      (let x = in_book cut_state w.config w.bases w.accepted up.parts b up.linked g below in
+      let t = up.linked.each g x.0 x.1 in
+      let need = up.needs g k p x.0 at x.1 in
+      let settled = t.link.settled in
+      let mark : marks_in b g ≡ mark_of t.stored = get_or_from_slice_get (marks_of b.store.guests) g (mark_of t.stored) 0 (marks_at b.store.guests g t.stored t.in_store) in
+      omega (arith, need, settled, mark));
+}
+
+closes : (w : WorldState) (b : BoardState CutState) → IsOpen w b → IsClosed w b.store.disk
+closes w b up = closed_with w b up b.store.disk (leaves_now cut_state w.config w.bases w.accepted up.parts b up.linked refl)
+
+-- 2. A world that stops
+
+get_or-false : (n k : ℕ) → get_or (replicate n false) k false ≡ false
+get_or-false zero k = refl
+get_or-false (suc n) zero = refl
+get_or-false (suc n) (suc k) = get_or-false n k
+
+-- what is cut leaves no more than what it was cut from
+cut_leaves : (d left : CutState) (filler : Filler) → CutsTo filler d left → (c : Content) → MayLeave (cut_state left) c → MayLeave (cut_state d) c
+cut_leaves d left filler cuts c may k un = may k (ap (λ l. get_or l k false) cuts.stops.unsynced ∙ get_or-false (length d.unsynced) k) ∙ cuts.leaves k un
+
+cut_closed : (w : WorldState) (d left : CutState) (filler : Filler) → IsClosed w d → CutsTo filler d left → IsClosed w left
+cut_closed w d left filler closed cuts = record {
+  least = closed.least;
+  leaves = λ g below c may. closed.leaves g below c (cut_leaves d left filler cuts c may);
+  requests = closed.requests;
+  needs = closed.needs;
+}
+
+untouched_closed : (w : WorldState) (d left : CutState) → IsClosed w d → Untouched (cut_state d) (cut_state left) → IsClosed w left
+untouched_closed w d left closed same = record {
+  least = closed.least;
+  leaves = λ g below c may. closed.leaves g below c (λ k un. may k (same.unsynced refl k un) ∙ same.seen refl k);
+  requests = closed.requests;
+  needs = closed.needs;
+}
+
+-- before an opening: a world that is new, or was opened
+abbrev Before : WorldState → CutState → Type 0
+Before w d = IsNew w ⊎ WasOpened w d
+
+before_cut : (w : WorldState) (d left : CutState) (filler : Filler) → Before w d → CutsTo filler d left → Before w left
+before_cut w d left filler before cuts = elim before [
+  | inl new ↦ inl new
+  | inr was ↦ inr (record { closed = cut_closed w d left filler was.closed cuts; openings = was.openings })
+]
+
+stopped : (w : WorldState) (home : Home) → IsKeptAt w home → Before w (disk_of home)
+stopped w (Up b) kept = inr (record { closed = closes w b kept.0; openings = kept.1 })
+stopped w (Down d) kept = kept
+
+cut_by : (c : Call) (w : WorldState) (b : BoardState CutState) (filler : Filler) (left : CutState) → IsKeptAt w (Up b) → CutBy c b filler left → Before w left
+cut_by call.Write w b filler left kept cuts =
+    let up = kept.0 in
+    let moments = advance_moments cut_state CutMakes w.config w.bases w.accepted up.parts b up.linked refl cuts.answer cuts.after None cuts.advances in
+    let leaves = within_end cut_state CutMakes (LeavesPrefixes w.config w.bases w.accepted (marks_in b)) b.store.disk cuts.after.store.disk moments in
+    inr (record { closed = cut_closed w cuts.after.store.disk left filler (closed_with w b up cuts.after.store.disk leaves) cuts.cuts; openings = kept.1 })
+cut_by call.Sync w b filler left kept cuts = before_cut w b.store.disk left filler (stopped w (Up b) kept) cuts
+cut_by call.None w b filler left kept cuts = before_cut w b.store.disk left filler (stopped w (Up b) kept) cuts
+
+cut_within : (w : WorldState) (home : Home) (filler : Filler) (left : CutState) → IsKeptAt w home → CutWithin home filler left → Before w left
+cut_within w (Up b) filler left kept cuts = cut_by (next_call b.store.broken b.store.guests) w b filler left kept cuts
+cut_within w (Down d) filler left kept cuts = before_cut w d left filler kept cuts
+
+-- 3. Openings
+
+-- nothing was settled of an opened guest but its partition
+fresh_settled : (life : ℕ) (config : List GuestConfig) (b : BoardState CutState) (start : Begins cut_state life config b) (g : ℕ) (x : GuestState) → slice_get (guests b) g ≡ Some x → x.settled ≡ sequence x.core.partition
+fresh_settled life config b start g x at =
+    let f = fresh_at config start.partitions g x (ap (λ v. slice_get (guests v) g) (sym start.is) ∙ at) in
+    ap (λ v. v.settled) f.is ∙ sym (ap (λ v. sequence v.core.partition) f.is)
+
+prefix_of : (o : Option GuestState) (base : Partition) (rs : List Request) → (rest : List Request) × (rs ≡ kept_by o base rs ++ rest)
+prefix_of None base rs = ([], sym (append-nil rs))
+prefix_of (Some x) base rs = (drop (sequence x.core.partition - sequence base) rs, sym (halves (sequence x.core.partition - sequence base) rs))
+
+first_open : (old : WorldState) (b : BoardState CutState) (start : Begins cut_state (old.openings + 1) old.config b) → IsNew old
+    → (IsOpen (opened_world zero old b start.partitions) b) × Holds old (opened_world zero old b start.partitions) b
+first_open old b start new =
+    let w = opened_world zero old b start.partitions in (
+      record {
+        parts = parts_of start.partitions;
+        linked = start.linked;
+        requests = requests_of w b (parts_of start.partitions) start.linked;
+        needs = λ g k p x at there. absurd (nothing g k p at);
+      },
+      record {
+        gives = gives_of w b (parts_of start.partitions) start.linked;
+        prefix = λ g. ([], new.accepted g);
+        holds = λ g k p below at. absurd (nothing g k p at);
+        published = refl;
+      },
+    )
+  where
+    nothing : (g k : ℕ) (p : Publication) → slice_get (old.published g) k ≡ Some p → ⊥
+    nothing g k p at = none [] k p refl (ap (λ l. slice_get l k) (sym (new.published g)) ∙ at)
+      where
+        none : (l : List Publication) (n : ℕ) (q : Publication) → l ≡ [] → slice_get l n ≡ Some q → ⊥
+        none [] zero q empty is = cc
+        none [] (suc n) q empty is = cc
+        none (x ∷ l) n q empty is = cc
+
+later_open : (n : ℕ) (d : CutState) (old : WorldState) (b : BoardState CutState) (start : Begins cut_state (old.openings + 1) old.config b) (closed : IsClosed old d) → GoesOn cut_state old.config old.bases old.accepted closed.least b
+    → (IsOpen (opened_world (suc n) old b start.partitions) b) × Holds old (opened_world (suc n) old b start.partitions) b
+later_open n d old b start closed on =
+    let w = opened_world (suc n) old b start.partitions in
+    let linked = on.linked.linked in (
+      record {
+        parts = on.linked.parts;
+        linked = linked;
+        requests = requests_of w b on.linked.parts linked;
+        needs = λ g k p x at there.
+            (let t = linked.each g x there in
+            let below = slice_get_within (guests b) g x there in
+            let many = linked.many in
+            let need = closed.needs g k p (omega (arith, below, many)) at in
+            let holds = on.holds g (omega (arith, below, many)) in
+            let settled = fresh_settled (old.openings + 1) old.config b start g x there in
+            let is = ap sequence (on.gives g x there) ∙ sequence_of_all (old.bases g) (kept_of old.bases old.accepted b g) t.link.in_turn in
+            omega (arith, need, holds, settled, is));
+      },
+      record {
+        gives = gives_of w b on.linked.parts linked;
+        prefix = λ g. prefix_of (slice_get (guests b) g) (old.bases g) (old.accepted g);
+        holds = λ g k p below at. (let need = closed.needs g k p below at in let holds = on.holds g below in omega (arith, need, holds));
+        published = refl;
+      },
+    )
+
+new_stays : (w : WorldState) (home : Home) → IsNew w → IsNew (record w { home = home })
+new_stays w home new = record { accepted = new.accepted; published = new.published; openings = new.openings }
+
+closed_stays : (w : WorldState) (home : Home) (d : CutState) → IsClosed w d → IsClosed (record w { home = home }) d
+closed_stays w home d closed = record { least = closed.least; leaves = closed.leaves; requests = closed.requests; needs = closed.needs }
+
+abbrev Kept : WorldState → WorldState → Type 0
+Kept old w = IsKept w × HoldsAt old w w.home
+
+opens_kept : (d : CutState) (old new : WorldState) → Before old d → Opens d old new → Kept old new
+opens_kept d old new before o = by old.openings refl o.after before
+  where
+    by : (n : ℕ) → old.openings ≡ n → new ≡ opened_world n old o.board o.begins.partitions → Before old d → Kept old new
+    by zero is after (inl first) = (let both = first_open old o.board o.begins first in subst (Kept old) (sym after) ((both.0, omega arith), both.1))
+    by zero is after (inr was) = absurd (let some = was.openings in omega (arith, some, is))
+    by (suc n) is after (inl first) = absurd (let none = first.openings in omega (arith, none, is))
+    by (suc n) is after (inr was) =
+        let closed = was.closed in
+        let both = later_open n d old o.board o.begins closed (o.goes_on old.bases old.accepted closed.least closed.requests closed.leaves) in
+        subst (Kept old) (sym after) ((both.0, omega arith), both.1)
+
+refuses_kept : (d : CutState) (old new : WorldState) → Before old d → Refuses d old new → Kept old new
+refuses_kept d old new before r = subst (Kept old) (sym r.after) (stays before, tt)
+  where
+    stays : Before old d → IsKept (record old { home = Down r.disk })
+    stays (inl first) = inl (new_stays old (Down r.disk) first)
+    stays (inr was) = inr (record { closed = closed_stays old (Down r.disk) r.disk (untouched_closed old d r.disk was.closed r.untouched); openings = was.openings })
+
+opening_kept : (d : CutState) (old new : WorldState) → Before old d → OpensOrNot d old new → Kept old new
+opening_kept d old new before (inl o) = opens_kept d old new before o
+opening_kept d old new before (inr r) = refuses_kept d old new before r
+
+-- 4. Steps
+
+-- a step makes at most one turn of the book
+abbrev Turned : BoardState CutState → BoardState CutState → Type 0
+Turned old new = (new.book ≡ old.book) ⊎ ((t : Turn) × (new.book ≡ with_turn old.book t))
+
+when : (old new : BoardState CutState) (c : Bool) (t : Turn) → new.book ≡ (if c then with_turn old.book t else old.book) → Turned old new
+when old new true t is = inr (t, is)
+when old new false t is = inl is
+
+unless : (old new : BoardState CutState) (c : Bool) (t : Turn) → new.book ≡ (if c then old.book else with_turn old.book t) → Turned old new
+unless old new true t is = inl is
+unless old new false t is = inr (t, is)
+
+module _ (old new : BoardState CutState) (answer : Answer) where
+  book_of : (to : BoardState CutState) → new ≡ to → new.book ≡ to.book
+  book_of to is = ap (λ v. v.book) is
+
+  drive_turn : (g : ℕ) (act : Act) (o : Option DeviceState) → Drives g act o answer old new → Turned old new
+  drive_turn g act None does = inl (book_of old does.1)
+  drive_turn g act (Some d) does = inl (book_of _ does.after)
+
+  pop_turn : (g : ℕ) (place : Option (Option Job)) (o : Option DeviceState) → PopsInto g place o answer old new → Turned old new
+  pop_turn g None o does = inl (book_of old does.1)
+  pop_turn g (Some (Some job)) o does = inl (book_of old does.1)
+  pop_turn g (Some None) None does = inl (book_of old does.1)
+  pop_turn g (Some None) (Some d) does = inl (book_of _ does.after)
+
+  publish_turn : (g : ℕ) (reply : Option Done) (o : Option DeviceState) → PublishesFrom g reply o answer old new → Turned old new
+  publish_turn g reply None does = inl (book_of old does.1)
+  publish_turn g None (Some d) does = inl (book_of old does.1)
+  publish_turn g (Some r) (Some d) does = inl (book_of _ does.after)
+
+  submit_turn : (g : ℕ) (job : Option Job) (tally : Option Tally) → SubmitsFrom g job tally answer old new → Turned old new
+  submit_turn g job None does = inl (book_of old does.1)
+  submit_turn g None (Some tally) does = inl (book_of old does.1)
+  submit_turn g (Some job) (Some tally) does = elim does [
+    | inl went ↦ inr (submit_of old.book job, book_of _ went.2)
+    | inr refused ↦ inl (book_of old refused.1)
+  ]
+
+  collect_turn : (g : ℕ) (place : Option (Option Done)) → CollectsInto g place answer old new → Turned old new
+  collect_turn g None does = inl (book_of old does.1)
+  collect_turn g (Some (Some r)) does = inl (book_of old does.1)
+  collect_turn g (Some None) does = when old new (is_some (due_of old.book g)) (Collect g) (book_of _ does.1)
+
+  take_turn : (g : ℕ) (place : Option (Option Intent)) → TakesInto g place answer old new → Turned old new
+  take_turn g None does = inl (book_of old does.1)
+  take_turn g (Some (Some i)) does = inl (book_of old does.1)
+  take_turn g (Some None) does = when old new (is_some (next_intent old.book old.shares g)) (Take g) (book_of _ does.1)
+
+  give_turn : (g : ℕ) (free : Bool) (intent : Option Intent) → GivesWhere g free intent answer old new → Turned old new
+  give_turn g false intent does = inl (book_of old does.1)
+  give_turn g true None does = inl (book_of old does.1)
+  give_turn g true (Some i) does = inl (book_of _ does.1)
+
+  advance_turn : (report : Option Report) → AdvancesUnder cut_state CutMakes report answer old new → Turned old new
+  advance_turn (Some r) does = inl (book_of old does.1)
+  advance_turn None does = inl (book_of _ does.after)
+
+  settle_turn : (report : Option Report) → SettlesBy report answer old new → Turned old new
+  settle_turn None does = inl (book_of old does.1)
+  settle_turn (Some (Marks marks)) does = when old new (may_settle old.book old.shares marks && move_some (guests old) marks) (Settle (marks_for (length (guests old)) marks)) (book_of _ does.1)
+  settle_turn (Some Fault) does = unless old new (state old.book).broken Break (book_of _ does.1)
+
+  one_turn : (s : Step) → Does cut_state CutMakes s answer old new → Turned old new
+  one_turn (step.Drive g act) does = drive_turn g act (slice_get old.devices g) does
+  one_turn (step.Pop g) does = pop_turn g (slice_get old.jobs g) (slice_get old.devices g) does
+  one_turn (step.Submit g) does = submit_turn g (in_place (slice_get old.jobs g)) (slice_get old.tallies g) does
+  one_turn (step.Collect g) does = collect_turn g (slice_get old.dones g) does
+  one_turn (step.Publish g) does = publish_turn g (in_place (slice_get old.dones g)) (slice_get old.devices g) does
+  one_turn (step.Take g) does = take_turn g (slice_get old.intents g) does
+  one_turn (step.Give g) does = give_turn g (is_free old.store.guests g) (in_place (slice_get old.intents g)) does
+  one_turn step.Advance does = advance_turn old.report does
+  one_turn step.Settle does = settle_turn old.report does
+
+  -- nothing that is settled falls
+  settled_before : Turned old new → (g : ℕ) (y : GuestState) → slice_get (guests new) g ≡ Some y → (x : GuestState) × (slice_get (guests old) g ≡ Some x) × (x.settled ≤ y.settled)
+  settled_before (inl same) g y at = (y, ap (λ b. slice_get (state b).guests g) (sym same) ∙ at, omega arith)
+  settled_before (inr turn) g y at =
+      let x = turned old.book turn.0 g y (ap (λ b. slice_get (state b).guests g) (sym turn.1) ∙ at) in
+      let risen = never_falls g (state old.book).broken turn.0 x.0 in
+      let is = ap (λ v. v.settled) x.2 in
+      (x.0, x.1, omega (arith, risen, is))
+
+-- a publication is an earlier one, or that of the reply in the guest's place
+last_or_before : (l : List Publication) (p q : Publication) (k : ℕ) → slice_get (l ++ p ∷ []) k ≡ Some q → (slice_get l k ≡ Some q) ⊎ (q ≡ p)
+last_or_before [] p q zero at = inr (let e : p ≡ q = cc in sym e)
+last_or_before [] p q (suc k) at = absurd (cc)
+last_or_before (x ∷ l) p q zero at = inl at
+last_or_before (x ∷ l) p q (suc k) at = last_or_before l p q k at
+
+record IsNoted (b : BoardState CutState) (published : ℕ → List Publication) (g k : ℕ) (p : Publication) : Type 0 where
+  pub noted : (slice_get (published g) k ≡ Some p) ⊎ ((d : Done) × (slice_get b.dones g ≡ Some (Some d)) × (p.need ≡ d.need))
+
+noted_at : (b : BoardState CutState) (published : ℕ → List Publication) (n g k : ℕ) (p : Publication) → slice_get (if g == n then with_publication (in_place (slice_get b.dones n)) (published g) else published g) k ≡ Some p → IsNoted b published g k p
+noted_at b published n g k p at = elim (cases_eq g n) [
+  | inl same ↦ (let here = ap (λ c. slice_get (if c then with_publication (in_place (slice_get b.dones n)) (published g) else published g) k) (sym (yes_it g n same)) ∙ at in
+      by (in_place (slice_get b.dones n)) refl same here)
+  | inr other ↦ record { noted = inl (ap (λ c. slice_get (if c then with_publication (in_place (slice_get b.dones n)) (published g) else published g) k) (sym (not_it g n other)) ∙ at) }
+]
+  where
+    yes_it : (a c : ℕ) → a ≡ c → (a == c) ≡ true
+    yes_it a c e = grind (arith, nat_tests)
+
+    not_it : (a c : ℕ) → a ≢ c → (a == c) ≡ false
+    not_it a c e = grind (arith, nat_tests)
+
+    by : (o : Option Done) → o ≡ in_place (slice_get b.dones n) → g ≡ n → slice_get (with_publication (in_place (slice_get b.dones n)) (published g)) k ≡ Some p → IsNoted b published g k p
+    by None is same here = record { noted = inl (ap (λ o. slice_get (with_publication o (published g)) k) is ∙ here) }
+    by (Some d) is same here = elim (last_or_before (published g) (publication_of d) p k (ap (λ o. slice_get (with_publication o (published g)) k) is ∙ here)) [
+      | inl old ↦ record { noted = inl old }
+      | inr new ↦ record { noted = inr (d, ap (λ m. slice_get b.dones m) same ∙ full_at (slice_get b.dones n) d is, ap (λ v. v.need) new) }
+    ]
+
+noted_by : (s : Step) (answer : Answer) (b : BoardState CutState) (published : ℕ → List Publication) (g k : ℕ) (p : Publication) → slice_get (published_after s answer b published g) k ≡ Some p → IsNoted b published g k p
+noted_by (step.Publish n) (Ok (seen.Published (Wrote notify))) b published g k p at = noted_at b published n g k p at
+noted_by (step.Publish n) (Ok (seen.Published Dropped)) b published g k p at = record { noted = inl at }
+noted_by (step.Publish n) (Ok (seen.Value v)) b published g k p at = record { noted = inl at }
+noted_by (step.Publish n) (Ok seen.Did) b published g k p at = record { noted = inl at }
+noted_by (step.Publish n) (Ok seen.Nothing) b published g k p at = record { noted = inl at }
+noted_by (step.Publish n) (Err e) b published g k p at = record { noted = inl at }
+noted_by (step.Drive n act) answer b published g k p at = record { noted = inl at }
+noted_by (step.Pop n) answer b published g k p at = record { noted = inl at }
+noted_by (step.Submit n) answer b published g k p at = record { noted = inl at }
+noted_by (step.Collect n) answer b published g k p at = record { noted = inl at }
+noted_by (step.Take n) answer b published g k p at = record { noted = inl at }
+noted_by (step.Give n) answer b published g k p at = record { noted = inl at }
+noted_by step.Advance answer b published g k p at = record { noted = inl at }
+noted_by step.Settle answer b published g k p at = record { noted = inl at }
+
+cut_effect : (a b : CutState) (call : DiskCall) → CutMakes a call b → Effect (cut_state a) call (cut_state b)
+cut_effect a b call made = made.effect
+
+step_open : (s : Step) (b : BoardState CutState) (old new : WorldState) → IsOpen old b → 0 < old.openings → StepsIn s b old new → IsKept new × GivesAt new new.home
+step_open s b old new up some st =
+    let k = does_stay cut_state CutMakes cut_effect old.config old.bases old.accepted up.parts b up.linked st.sound st.of_board s st.answer st.board st.does in
+    let w : WorldState = record old { home = Up st.board; accepted = accepted_after s st.answer b old.accepted; published = published_after s st.answer b old.published } in
+    let open_now : IsOpen w st.board = record { parts = k.parts; linked = k.linked; requests = requests_of w st.board k.parts k.linked; needs = needs } in
+    subst (λ v. IsKept v × GivesAt v v.home) (sym st.after) ((open_now, some), gives_of w st.board k.parts k.linked)
+  where
+    needs : (g k : ℕ) (p : Publication) (y : GuestState) → slice_get (published_after s st.answer b old.published g) k ≡ Some p → slice_get (guests st.board) g ≡ Some y → p.need ≤ y.settled
+    needs g k p y at there =
+        let x = settled_before b st.board st.answer (one_turn b st.board st.answer s st.does) g y there in
+        elim (noted_by s st.answer b old.published g k p at).noted [
+          | inl before ↦ (let need = up.needs g k p x.0 before x.1 in omega (arith, need, x.2))
+          | inr last ↦ (let leaves = (up.linked.each g x.0 x.1).leaves last.0 last.1 in let is = last.2 in omega (arith, leaves, is, x.2))
+        ]
+
+-- 5. Events
+
+step_kept : (s : Step) (old new : WorldState) (home : Home) → old.home ≡ home → IsKeptAt old home → StepsAt s home old new → IsKept new × GivesAt new new.home
+step_kept s old new (Up b) is kept (inl st) = step_open s b old new kept.0 kept.1 st
+step_kept s old new (Up b) is kept (inr same) =
+    subst (λ v. IsKept v × GivesAt v v.home) (sym same) (subst (λ h. IsKeptAt old h × GivesAt old h) (sym is) (kept, gives_of old b kept.0.parts kept.0.linked))
+step_kept s old new (Down d) is kept same =
+    subst (λ v. IsKept v × GivesAt v v.home) (sym same) (subst (λ h. IsKeptAt old h × GivesAt old h) (sym is) (kept, tt))
+
+fail_kept : (k : ℕ) (old new : WorldState) (home : Home) → IsKeptAt old home → new ≡ record old { home = choosing k home } → IsKept new × GivesAt new new.home
+fail_kept k old new (Up b) kept after =
+    let up = kept.0 in
+    let b' : BoardState CutState = record b { store = record b.store { disk = record b.store.disk { chosen = k } } } in
+    let w : WorldState = record old { home = Up b' } in
+    let l = up.linked in
+    let linked : IsLinkedBoard cut_state old.config old.bases old.accepted up.parts b' = record {
+      each = l.each;
+      kept = l.kept;
+      many = l.many;
+      held = l.held;
+      counted = l.counted;
+      places = (let p = l.places in record { devices = p.devices; jobs = p.jobs; dones = p.dones; intents = p.intents });
+      reported = l.reported;
+    } in
+    subst (λ v. IsKept v × GivesAt v v.home) (sym after) ((record { parts = up.parts; linked = linked; requests = up.requests; needs = up.needs }, kept.1), gives_of w b' up.parts linked)
+fail_kept k old new (Down d) kept after = subst (λ v. IsKept v × GivesAt v v.home) (sym after) (stays kept, tt)
+  where
+    stays : IsNew old ⊎ WasOpened old d → IsKept (record old { home = Down (record d { chosen = k }) })
+    stays (inl first) = inl (new_stays old _ first)
+    stays (inr was) = (let c = was.closed in inr (record { closed = record { least = c.least; leaves = c.leaves; requests = c.requests; needs = c.needs }; openings = was.openings }))
+
+event_kept : (old new : WorldState) (e : Event) → IsKept old → Happens old e new → IsKept new × Headline old e new
+event_kept old new (Event.Do s) kept h = step_kept s old new old.home refl kept h
+event_kept old new (Event.Fail k) kept h = fail_kept k old new old.home kept h
+event_kept old new (Event.Stop filler) kept h = opening_kept h.0 old new (before_cut old (disk_of old.home) h.0 filler (stopped old old.home kept) h.1) h.2
+event_kept old new (Event.StopIn filler) kept h = opening_kept h.0 old new (cut_within old old.home filler h.0 kept h.1) h.2
+event_kept old new Event.Open kept h = opening_kept (disk_of old.home) old new (stopped old old.home kept) h
+
+pub headline_of_runs : HeadlineOfRuns
+headline_of_runs old new [] kept run = (tt, subst IsKept (sym run) kept)
+headline_of_runs old new (e ∷ es) kept run =
+    let one = event_kept old run.0 e kept run.1 in
+    let rest = headline_of_runs run.0 new es one.0 run.2 in
+    ((one.1, rest.0), rest.1)
