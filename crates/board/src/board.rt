@@ -136,9 +136,10 @@ impl<D: Disk> Board<D> {
 
     /// One atomic action. It is `Nothing` exactly where it would overfill its place (an Advance while a
     /// report stands, which then makes no call to the disk), finds its place empty or the slot not
-    /// free, names no guest of the board, or its call gives nothing; then nothing changes. What a
-    /// refusal leaves is its call's: a Submit that is refused keeps its job in its place. An Advance
-    /// whose call fails leaves the fault as its report, and answers it too.
+    /// free, names no guest of the board, or its call gives nothing; then nothing changes but what a pop
+    /// that finds none writes. What a refusal leaves is its call's: a Submit that is refused keeps its
+    /// job in its place. An Advance whose call fails, or that finds the store broken, leaves the fault
+    /// as its report, and answers it too.
     ///
     /// A step makes at most one call to the disk, and only an Advance makes one. All steps but a Pop
     /// and a Submit take no memory.
