@@ -77,14 +77,14 @@ length-fresh [] ps many = refl
 length-fresh (c ∷ cs) [] many = absurd (omega (arith, many))
 length-fresh (c ∷ cs) (p ∷ ps) many = ap suc (length-fresh cs ps (omega (arith, many)))
 
-pub record IsFresh (config : List GuestConfig) (ps : List Partition) (g : ℕ) (x : GuestState) : Type 0 where
+pub record IsFreshGuest (config : List GuestConfig) (ps : List Partition) (g : ℕ) (x : GuestState) : Type 0 where
   pub guest : GuestConfig
   pub configured : slice_get config g ≡ Some guest
   pub partition : Partition
   pub there : slice_get ps g ≡ Some partition
   pub is : x ≡ fresh (limits_of guest) partition
 
-pub fresh_at : (config : List GuestConfig) (ps : List Partition) (g : ℕ) (x : GuestState) → slice_get (fresh_guests config ps) g ≡ Some x → IsFresh config ps g x
+pub fresh_at : (config : List GuestConfig) (ps : List Partition) (g : ℕ) (x : GuestState) → slice_get (fresh_guests config ps) g ≡ Some x → IsFreshGuest config ps g x
 fresh_at [] ps zero x at = absurd (cc)
 fresh_at [] ps (suc g) x at = absurd (cc)
 fresh_at (c ∷ cs) [] zero x at = absurd (cc)

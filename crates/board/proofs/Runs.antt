@@ -41,7 +41,7 @@ use Rattle.board.specs.Steps.{AdvancesUnder, Answer, CollectsInto, Does, Drives,
 use Rattle.board.specs.Board.{IsLinkedBoard, LeavesPrefixes, accepted_after, marks_in}
 use Rattle.board.specs.Opening.{Begins, GoesOn, kept_by, kept_of}
 use Rattle.board.specs.World.{CutBy, CutWithin, CutsTo, Event, Home, Up, Down, Happens, Opens, OpensOrNot, Publication, Refuses, StepsAt, StepsIn, WorldState, choosing, disk_of, opened_world, publication_of, published_after, with_publication}
-use Rattle.board.specs.Kept.{AllRequests, IsClosed, IsKept, IsKeptAt, IsNew, IsOpen, WasOpened}
+use Rattle.board.specs.Kept.{AllRequests, IsClosed, IsConsistent, IsConsistentAt, IsNew, IsOpen, WasOpened}
 use Rattle.board.specs.Headline.{Gives, GivesAt, Headline, HeadlineOfRuns, Holds, HoldsAt}
 use Rattle.board.proofs.Doing.{full_at}
 use Rattle.board.proofs.Linked.{turned}
@@ -117,11 +117,11 @@ before_cut w d left filler before cuts = elim before [
   | inr was ↦ inr (record { closed = cut_closed w d left filler was.closed cuts; openings = was.openings })
 ]
 
-stopped : (w : WorldState) (home : Home) → IsKeptAt w home → Before w (disk_of home)
+stopped : (w : WorldState) (home : Home) → IsConsistentAt w home → Before w (disk_of home)
 stopped w (Up b) kept = inr (record { closed = closes w b kept.0; openings = kept.1 })
 stopped w (Down d) kept = kept
 
-cut_by : (c : Call) (w : WorldState) (b : BoardState CutState) (filler : Filler) (left : CutState) → IsKeptAt w (Up b) → CutBy c b filler left → Before w left
+cut_by : (c : Call) (w : WorldState) (b : BoardState CutState) (filler : Filler) (left : CutState) → IsConsistentAt w (Up b) → CutBy c b filler left → Before w left
 cut_by call.Write w b filler left kept cuts =
     let up = kept.0 in
     let moments = advance_moments cut_state CutMakes w.config w.bases w.accepted up.parts b up.linked refl cuts.answer cuts.after None cuts.advances in
@@ -130,7 +130,7 @@ cut_by call.Write w b filler left kept cuts =
 cut_by call.Sync w b filler left kept cuts = before_cut w b.store.disk left filler (stopped w (Up b) kept) cuts
 cut_by call.None w b filler left kept cuts = before_cut w b.store.disk left filler (stopped w (Up b) kept) cuts
 
-cut_within : (w : WorldState) (home : Home) (filler : Filler) (left : CutState) → IsKeptAt w home → CutWithin home filler left → Before w left
+cut_within : (w : WorldState) (home : Home) (filler : Filler) (left : CutState) → IsConsistentAt w home → CutWithin home filler left → Before w left
 cut_within w (Up b) filler left kept cuts = cut_by (next_call b.store.broken b.store.guests) w b filler left kept cuts
 cut_within w (Down d) filler left kept cuts = before_cut w d left filler kept cuts
 
@@ -206,7 +206,7 @@ closed_stays : (w : WorldState) (home : Home) (d : CutState) → IsClosed w d �
 closed_stays w home d closed = record { least = closed.least; leaves = closed.leaves; requests = closed.requests; needs = closed.needs }
 
 abbrev Kept : WorldState → WorldState → Type 0
-Kept old w = IsKept w × HoldsAt old w w.home
+Kept old w = IsConsistent w × HoldsAt old w w.home
 
 opens_kept : (d : CutState) (old new : WorldState) → Before old d → Opens d old new → Kept old new
 opens_kept d old new before o = by old.openings refl o.after before
@@ -223,7 +223,7 @@ opens_kept d old new before o = by old.openings refl o.after before
 refuses_kept : (d : CutState) (old new : WorldState) → Before old d → Refuses d old new → Kept old new
 refuses_kept d old new before r = subst (Kept old) (sym r.after) (stays before, tt)
   where
-    stays : Before old d → IsKept (record old { home = Down r.disk })
+    stays : Before old d → IsConsistent (record old { home = Down r.disk })
     stays (inl first) = inl (new_stays old (Down r.disk) first)
     stays (inr was) = inr (record { closed = closed_stays old (Down r.disk) r.disk (untouched_closed old d r.disk was.closed r.untouched); openings = was.openings })
 
@@ -365,12 +365,12 @@ noted_by step.Settle answer b published g k p at = record { noted = inl at }
 cut_effect : (a b : CutState) (call : DiskCall) → CutMakes a call b → Effect (cut_state a) call (cut_state b)
 cut_effect a b call made = made.effect
 
-step_open : (s : Step) (b : BoardState CutState) (old new : WorldState) → IsOpen old b → 0 < old.openings → StepsIn s b old new → IsKept new × GivesAt new new.home
+step_open : (s : Step) (b : BoardState CutState) (old new : WorldState) → IsOpen old b → 0 < old.openings → StepsIn s b old new → IsConsistent new × GivesAt new new.home
 step_open s b old new up some st =
     let k = does_stay cut_state CutMakes cut_effect old.config old.bases old.accepted up.parts b up.linked st.sound st.of_board s st.answer st.board st.does in
     let w : WorldState = record old { home = Up st.board; accepted = accepted_after s st.answer b old.accepted; published = published_after s st.answer b old.published } in
     let open_now : IsOpen w st.board = record { parts = k.parts; linked = k.linked; requests = requests_of w st.board k.parts k.linked; needs = needs } in
-    subst (λ v. IsKept v × GivesAt v v.home) (sym st.after) ((open_now, some), gives_of w st.board k.parts k.linked)
+    subst (λ v. IsConsistent v × GivesAt v v.home) (sym st.after) ((open_now, some), gives_of w st.board k.parts k.linked)
   where
     needs : (g k : ℕ) (p : Publication) (y : GuestState) → slice_get (published_after s st.answer b old.published g) k ≡ Some p → slice_get (guests st.board) g ≡ Some y → p.need ≤ y.settled
     needs g k p y at there =
@@ -382,14 +382,14 @@ step_open s b old new up some st =
 
 -- 5. Events
 
-step_kept : (s : Step) (old new : WorldState) (home : Home) → old.home ≡ home → IsKeptAt old home → StepsAt s home old new → IsKept new × GivesAt new new.home
+step_kept : (s : Step) (old new : WorldState) (home : Home) → old.home ≡ home → IsConsistentAt old home → StepsAt s home old new → IsConsistent new × GivesAt new new.home
 step_kept s old new (Up b) is kept (inl st) = step_open s b old new kept.0 kept.1 st
 step_kept s old new (Up b) is kept (inr same) =
-    subst (λ v. IsKept v × GivesAt v v.home) (sym same) (subst (λ h. IsKeptAt old h × GivesAt old h) (sym is) (kept, gives_of old b kept.0.parts kept.0.linked))
+    subst (λ v. IsConsistent v × GivesAt v v.home) (sym same) (subst (λ h. IsConsistentAt old h × GivesAt old h) (sym is) (kept, gives_of old b kept.0.parts kept.0.linked))
 step_kept s old new (Down d) is kept same =
-    subst (λ v. IsKept v × GivesAt v v.home) (sym same) (subst (λ h. IsKeptAt old h × GivesAt old h) (sym is) (kept, tt))
+    subst (λ v. IsConsistent v × GivesAt v v.home) (sym same) (subst (λ h. IsConsistentAt old h × GivesAt old h) (sym is) (kept, tt))
 
-fail_kept : (k : ℕ) (old new : WorldState) (home : Home) → IsKeptAt old home → new ≡ record old { home = choosing k home } → IsKept new × GivesAt new new.home
+fail_kept : (k : ℕ) (old new : WorldState) (home : Home) → IsConsistentAt old home → new ≡ record old { home = choosing k home } → IsConsistent new × GivesAt new new.home
 fail_kept k old new (Up b) kept after =
     let up = kept.0 in
     let b' : BoardState CutState = record b { store = record b.store { disk = record b.store.disk { chosen = k } } } in
@@ -404,14 +404,14 @@ fail_kept k old new (Up b) kept after =
       places = (let p = l.places in record { devices = p.devices; jobs = p.jobs; dones = p.dones; intents = p.intents });
       reported = l.reported;
     } in
-    subst (λ v. IsKept v × GivesAt v v.home) (sym after) ((record { parts = up.parts; linked = linked; requests = up.requests; needs = up.needs }, kept.1), gives_of w b' up.parts linked)
-fail_kept k old new (Down d) kept after = subst (λ v. IsKept v × GivesAt v v.home) (sym after) (stays kept, tt)
+    subst (λ v. IsConsistent v × GivesAt v v.home) (sym after) ((record { parts = up.parts; linked = linked; requests = up.requests; needs = up.needs }, kept.1), gives_of w b' up.parts linked)
+fail_kept k old new (Down d) kept after = subst (λ v. IsConsistent v × GivesAt v v.home) (sym after) (stays kept, tt)
   where
-    stays : IsNew old ⊎ WasOpened old d → IsKept (record old { home = Down (record d { chosen = k }) })
+    stays : IsNew old ⊎ WasOpened old d → IsConsistent (record old { home = Down (record d { chosen = k }) })
     stays (inl first) = inl (new_stays old _ first)
     stays (inr was) = (let c = was.closed in inr (record { closed = record { least = c.least; leaves = c.leaves; requests = c.requests; needs = c.needs }; openings = was.openings }))
 
-event_kept : (old new : WorldState) (e : Event) → IsKept old → Happens old e new → IsKept new × Headline old e new
+event_kept : (old new : WorldState) (e : Event) → IsConsistent old → Happens old e new → IsConsistent new × Headline old e new
 event_kept old new (Event.Do s) kept h = step_kept s old new old.home refl kept h
 event_kept old new (Event.Fail k) kept h = fail_kept k old new old.home kept h
 event_kept old new (Event.Stop filler) kept h = opening_kept h.0 old new (before_cut old (disk_of old.home) h.0 filler (stopped old old.home kept) h.1) h.2
@@ -419,7 +419,7 @@ event_kept old new (Event.StopIn filler) kept h = opening_kept h.0 old new (cut_
 event_kept old new Event.Open kept h = opening_kept (disk_of old.home) old new (stopped old old.home kept) h
 
 pub headline_of_runs : HeadlineOfRuns
-headline_of_runs old new [] kept run = (tt, subst IsKept (sym run) kept)
+headline_of_runs old new [] kept run = (tt, subst IsConsistent (sym run) kept)
 headline_of_runs old new (e ∷ es) kept run =
     let one = event_kept old run.0 e kept run.1 in
     let rest = headline_of_runs run.0 new es one.0 run.2 in

@@ -9,7 +9,7 @@ use Rattle.disk.specs.CutDisk.{CutState}
 use Rattle.rpmb_book.specs.Guest.{GuestState}
 use Rattle.board.specs.State.{BoardState, guests}
 use Rattle.board.specs.World.{Event, Home, Up, Down, Publication, Runs, WorldState}
-use Rattle.board.specs.Kept.{IsKept}
+use Rattle.board.specs.Kept.{IsConsistent}
 
 -- each guest has the partition after its accepted requests, one after another
 pub record Gives (w : WorldState) (b : BoardState CutState) : Type 0 where
@@ -47,4 +47,4 @@ AllHeadlines old (e ∷ es) new run = Headline old e run.0 × AllHeadlines run.0
 
 -- For every list of events, from every world that began as a disk alone.
 abbrev pub HeadlineOfRuns : Type 0
-HeadlineOfRuns = (old new : WorldState) (events : List Event) → IsKept old → (run : Runs old events new) → AllHeadlines old events new run × IsKept new
+HeadlineOfRuns = (old new : WorldState) (events : List Event) → IsConsistent old → (run : Runs old events new) → AllHeadlines old events new run × IsConsistent new

@@ -36,9 +36,9 @@ pub record WasOpened (w : WorldState) (d : CutState) : Type 0 where
   pub closed : IsClosed w d
   pub openings : 0 < w.openings
 
-abbrev pub IsKeptAt : WorldState → Home → Type 0
-IsKeptAt w (Up b) = IsOpen w b × (0 < w.openings)
-IsKeptAt w (Down d) = IsNew w ⊎ WasOpened w d
+abbrev pub IsConsistentAt : WorldState → Home → Type 0
+IsConsistentAt w (Up b) = IsOpen w b × (0 < w.openings)
+IsConsistentAt w (Down d) = IsNew w ⊎ WasOpened w d
 
-abbrev pub IsKept : WorldState → Type 0
-IsKept w = IsKeptAt w w.home
+abbrev pub IsConsistent : WorldState → Type 0
+IsConsistent w = IsConsistentAt w w.home

@@ -9,7 +9,7 @@ use Rattle.script.specs.declared.line.Line.{Line}
 use Rattle.std.specs.Prelude.{All, IfErr}
 use Rattle.mmio_transport.specs.Device.{last_count}
 use Rattle.script.specs.Line.{nothing, chain, store, reset}
-use Rattle.runner.specs.Host.{HostView, IsFresh}
+use Rattle.runner.specs.Host.{HostView, IsFreshHost}
 use Rattle.rpmb_book.specs.Guest.{GuestCore, core_after}
 use Rattle.rpmb_book.specs.Turn.{update}
 use Rattle.runner.specs.Ready.{job_of}
@@ -195,7 +195,7 @@ still text lines start now next fault.Foreign printed kept = first_still fault.F
 still text lines start now next fault.BadBoard printed kept = first_still fault.BadBoard text lines start now next printed kept
 still text lines start now next (fault.BadScript line) printed kept = first_still (fault.BadScript line) text lines start now next printed kept
 
-pub fresh_stops : {X : Type 0} (board : List GuestConfig) (h : HostView) (lines : List Line) (r : Result X Fault) (start now next : Option (List ℕ)) → IsFresh board h → Keeps now next
+pub fresh_stops : {X : Type 0} (board : List GuestConfig) (h : HostView) (lines : List Line) (r : Result X Fault) (start now next : Option (List ℕ)) → IsFreshHost board h → Keeps now next
     → IfErr r (λ f. (guests : ℕ) → (t : Told) → IsAt 0 t h → AreGuests guests t → AreWithin guests lines → StoresNothing (map said lines) → PrintsFirstUnless f (transcript t) (map said lines) start now)
     → IfErr r (λ f. AreSplit board → AreWithin (length board) lines → StoresNothing (map said lines) → PrintsFirstUnless f (output_of board) (map said lines) start next)
 unfolding fresh_view

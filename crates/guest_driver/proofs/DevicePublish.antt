@@ -16,7 +16,7 @@ use Rattle.guest_driver.specs.Kinds.{places_of, found_of, writable_at}
 use Rattle.guest_driver.specs.Offered.{Offer}
 use Rattle.guest_driver.specs.Used.{Reply}
 use Rattle.guest_driver.specs.Driver.{DriverState, owner}
-use Rattle.guest_driver.specs.Law.{IsKept, IsOffered, HasNumber}
+use Rattle.guest_driver.specs.Law.{IsRemembered, IsOffered, HasNumber}
 use Rattle.guest_driver.specs.OnDevice.{IsServed, IsReplyTo, HasNumberIn, IsPublished, ADevicePublishJoins}
 use Rattle.guest_driver.proofs.ByKind.{room_held, range_inside}
 use Rattle.guest_driver.proofs.Tables.{count-append, kept_back, one_same, own_at_most_one, out_removed}
@@ -24,7 +24,7 @@ use Rattle.guest_driver.proofs.Leaves.{publish_joins}
 
 -- what is known of a popped chain
 record IsPoppedChain (d : DeviceState) (driver : DriverState) (ring : RingState) (c : Offer) (number : ℕ) : Type 0 where
-  pub kept : IsKept driver c
+  pub kept : IsRemembered driver c
   pub inside : AreInside (length d.memory) (found_of driver.kind driver.size c).buffers.writable
   pub outstanding : IsOutstanding ring number c.head (places_of driver.kind c)
 

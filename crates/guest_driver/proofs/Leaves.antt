@@ -17,7 +17,7 @@ use Rattle.guest_driver.specs.Offered.{Offer}
 use Rattle.guest_driver.specs.Used.{Reply, IsReply}
 use Rattle.guest_driver.specs.Driver.{DriverState, owner, no_flight}
 use Rattle.guest_driver.specs.Reap.{IsFlight, after_reap}
-use Rattle.guest_driver.specs.Law.{count, is_own, in_flight, IsKept, AreKept, HasNumber, offers_of, IsOffered, APopGivesTheFirst, APublishJoins, AReapGivesTheFirst, ItStays}
+use Rattle.guest_driver.specs.Law.{count, is_own, in_flight, IsRemembered, AreRemembered, HasNumber, offers_of, IsOffered, APopGivesTheFirst, APublishJoins, AReapGivesTheFirst, ItStays}
 use Rattle.mmio_transport.proofs.Next.{none_grows}
 use Rattle.guest_driver.proofs.ByKind.{places-append, none_offered, next_offered, request_offered, rest_offered, event_keeps, published_to, reply_joins, none_used, first_used, room_held, mark_next, flight_is, untouched_keeps}
 use Rattle.guest_driver.proofs.Tables.{one_if, one_same, one_other, count-append, kept-append, kept_front, kept_back, own_at_most_one, kept_apart, count_zero, none_of, out-append, out_removed, number-append}
@@ -122,7 +122,7 @@ published_more m d ring pending before c after published number reply fits h nam
     let new = places-append d.kind before after in
     let more = ap (places_in d.kind) (offers-append published r) ∙ places-append d.kind (offers_of published) (c ∷ []) in
     let held = reply_joins d.kind m ring d.size h.reaped pending published c reply at counted (omega (arith, between, old)) (omega (arith, counted, between, room)) is none h.held in
-    let P : List Offer → Type 0 = λ v. AreKept d v in
+    let P : List Offer → Type 0 = λ v. AreRemembered d v in
     record {
       setup = record { same = at.same; sizes = at.sizes; descriptors = at.descriptors; driver = at.driver; device = at.device };
       owned = h.owned;
@@ -160,7 +160,7 @@ freed d places head last = record d { used = mark_after d.kind d.size d.used pla
 owner_left : (d : DriverState) (n head last k : ℕ) → k ≢ head → k ≢ last → owner (freed d n head last).owners k ≡ owner d.owners k
 owner_left d n head last k p q = get_or-set_other (slice_set d.owners head None) last k None None q ∙ get_or-set_other d.owners head k None None p
 
-kept_left : (d : DriverState) (n : ℕ) (c : Offer) (cs : List Offer) → IsKept d c → count c.head cs ≡ 0 → AreKept d cs → AreKept (freed d n c.head c.last) cs
+kept_left : (d : DriverState) (n : ℕ) (c : Offer) (cs : List Offer) → IsRemembered d c → count c.head cs ≡ 0 → AreRemembered d cs → AreRemembered (freed d n c.head c.last) cs
 kept_left d n c [] is none k = tt
 kept_left d n c (x ∷ xs) is none k =
     let z = count_zero c.head x xs none in
@@ -177,7 +177,7 @@ kept_left d n c (x ∷ xs) is none k =
     )
 
 -- the chain is in flight no more, and the others are as before
-flight_less : (d : DriverState) (n : ℕ) (c : Offer) (h : ℕ) → IsKept d c → length d.owners ≡ d.size → in_flight d h ≡ one_if c.head h + in_flight (freed d n c.head c.last) h
+flight_less : (d : DriverState) (n : ℕ) (c : Offer) (h : ℕ) → IsRemembered d c → length d.owners ≡ d.size → in_flight d h ≡ one_if c.head h + in_flight (freed d n c.head c.last) h
 flight_less d n c h is sized =
     let below = is.below in
     let within = is.within in

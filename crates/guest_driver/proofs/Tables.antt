@@ -9,7 +9,7 @@ use Rattle.guest_driver.specs.Kinds.{places_of}
 use Rattle.guest_driver.specs.Offered.{Offer, IsApart}
 use Rattle.guest_driver.specs.Used.{Reply, IsNone}
 use Rattle.guest_driver.specs.Driver.{DriverState, owner}
-use Rattle.guest_driver.specs.Law.{count, is_own, in_flight, IsKept, AreKept, AreOutstanding, HasNumber, offers_of}
+use Rattle.guest_driver.specs.Law.{count, is_own, in_flight, IsRemembered, AreRemembered, AreOutstanding, HasNumber, offers_of}
 
 abbrev pub one_if : ℕ → ℕ → ℕ
 one_if h k = if h == k then 1 else 0
@@ -24,15 +24,15 @@ pub count-append : (h : ℕ) (xs ys : List Offer) → count h (xs ++ ys) ≡ cou
 count-append h [] ys = omega arith
 count-append h (x ∷ xs) ys = let rest = count-append h xs ys in omega (arith, rest)
 
-pub kept-append : (d : DriverState) (xs ys : List Offer) → AreKept d xs → AreKept d ys → AreKept d (xs ++ ys)
+pub kept-append : (d : DriverState) (xs ys : List Offer) → AreRemembered d xs → AreRemembered d ys → AreRemembered d (xs ++ ys)
 kept-append d [] ys p q = q
 kept-append d (x ∷ xs) ys p q = (p.0, kept-append d xs ys p.1 q)
 
-pub kept_front : (d : DriverState) (xs ys : List Offer) → AreKept d (xs ++ ys) → AreKept d xs
+pub kept_front : (d : DriverState) (xs ys : List Offer) → AreRemembered d (xs ++ ys) → AreRemembered d xs
 kept_front d [] ys p = tt
 kept_front d (x ∷ xs) ys p = (p.0, kept_front d xs ys p.1)
 
-pub kept_back : (d : DriverState) (xs ys : List Offer) → AreKept d (xs ++ ys) → AreKept d ys
+pub kept_back : (d : DriverState) (xs ys : List Offer) → AreRemembered d (xs ++ ys) → AreRemembered d ys
 kept_back d [] ys p = p
 kept_back d (x ∷ xs) ys p = kept_back d xs ys p.1
 
@@ -65,7 +65,7 @@ abbrev Below : ℕ → List Offer → Type 0
 Below n [] = Unit {0}
 Below n (c ∷ cs) = (c.head < n) × Below n cs
 
-below_kept : (d : DriverState) (cs : List Offer) → AreKept d cs → Below d.size cs
+below_kept : (d : DriverState) (cs : List Offer) → AreRemembered d cs → Below d.size cs
 below_kept d [] k = tt
 below_kept d (c ∷ cs) k = (k.0.below, below_kept d cs k.1)
 
@@ -99,13 +99,13 @@ abbrev pub Once : DriverState → List Offer → Type 0
 Once d cs = (h : ℕ) → h < d.size → count h cs ≡ in_flight d h
 
 -- there are no more chains than descriptors, and fewer where one is free
-pub few_kept : (d : DriverState) (cs : List Offer) → AreKept d cs → Once d cs → length cs ≤ d.size
+pub few_kept : (d : DriverState) (cs : List Offer) → AreRemembered d cs → Once d cs → length cs ≤ d.size
 few_kept d cs k once =
     let all = total-count d.size cs (below_kept d cs k) in
     let most = total-le (λ h. count h cs) d.size (λ h b. let e = once h b in let o = own_at_most_one h (owner d.owners h) in omega (arith, e, o)) in
     omega (arith, all, most)
 
-pub fewer_kept : (d : DriverState) (cs : List Offer) (free : ℕ) → free < d.size → owner d.owners free ≡ None → AreKept d cs → Once d cs → length cs < d.size
+pub fewer_kept : (d : DriverState) (cs : List Offer) (free : ℕ) → free < d.size → owner d.owners free ≡ None → AreRemembered d cs → Once d cs → length cs < d.size
 fewer_kept d cs free below none k once =
     let all = total-count d.size cs (below_kept d cs k) in
     let zero_there : count free cs ≡ 0 = once free below ∙ ap (is_own free) none in
@@ -117,7 +117,7 @@ abbrev the_owner : Option ℕ → ℕ
 the_owner None = 0
 the_owner (Some h) = h
 
-pub kept_apart : (d : DriverState) (x y : Offer) → IsKept d x → IsKept d y → x.head ≢ y.head → IsApart x y
+pub kept_apart : (d : DriverState) (x y : Offer) → IsRemembered d x → IsRemembered d y → x.head ≢ y.head → IsApart x y
 kept_apart d x y p q other = record {
   heads = other;
   head = λ e. other (ap the_owner (sym p.head ∙ ap (owner d.owners) e ∙ q.last));

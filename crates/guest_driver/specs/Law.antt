@@ -35,7 +35,7 @@ abbrev pub in_flight : DriverState → ℕ → ℕ
 in_flight driver head = is_own head (owner driver.owners head)
 
 -- the driver keeps a chain: its descriptors, and what it is
-pub record IsKept (driver : DriverState) (c : Offer) : Type 0 where
+pub record IsRemembered (driver : DriverState) (c : Offer) : Type 0 where
   pub below : c.head < driver.size
   pub within : c.last < driver.size
   pub head : owner driver.owners c.head ≡ Some c.head
@@ -43,9 +43,9 @@ pub record IsKept (driver : DriverState) (c : Offer) : Type 0 where
   pub flight : get_or driver.flights c.head no_flight ≡ record { last = c.last; writable = c.writable }
   pub room : c.writable ≤ 8192
 
-abbrev pub AreKept : DriverState → List Offer → Type 0
-AreKept driver [] = Unit {0}
-AreKept driver (c ∷ cs) = IsKept driver c × AreKept driver cs
+abbrev pub AreRemembered : DriverState → List Offer → Type 0
+AreRemembered driver [] = Unit {0}
+AreRemembered driver (c ∷ cs) = IsRemembered driver c × AreRemembered driver cs
 
 abbrev pub offers_of : List Reply → List Offer
 offers_of replies = map (λ r. r.offer) replies
@@ -79,7 +79,7 @@ pub record IsOffered (memory : List ℕ) (driver : DriverState) (ring : RingStat
   pub held : Holds driver.kind memory driver.size reaped ring.used ring.popped pending published
   -- the chains in flight have no more places than the ring
   pub room : places_in driver.kind pending + (places_in driver.kind popped + places_in driver.kind (offers_of published)) ≤ driver.size
-  pub kept : AreKept driver pending × AreKept driver popped × AreKept driver (offers_of published)
+  pub kept : AreRemembered driver pending × AreRemembered driver popped × AreRemembered driver (offers_of published)
   pub once : (head : ℕ) → head < driver.size
       → count head pending + (count head popped + count head (offers_of published)) ≡ in_flight driver head
 

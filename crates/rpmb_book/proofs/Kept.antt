@@ -12,7 +12,7 @@ use Rattle.rpmb_book.specs.Turn.{Turn, State, after_turn, IsRight, is_break, is_
 use Rattle.rpmb_book.specs.Replay.{replay}
 use Rattle.rpmb_book.specs.History.{HistoryView, settles_in, is_settle}
 use Rattle.rpmb_book.specs.Book.{refusal_at}
-use Rattle.rpmb_book.specs.Kept.{IsKept, IsFresh}
+use Rattle.rpmb_book.specs.Kept.{IsRecorded, IsFresh}
 use Rattle.rpmb_book.proofs.Places.{set-update, total}
 use Rattle.rpmb_book.proofs.Replay.{replay-push, legal-push}
 use Rattle.rpmb_book.specs.Sound.{IsSoundGuest}
@@ -32,7 +32,7 @@ opens s all =
     let open_ = fresh_guests_open s.guests all.guests in
     record { calm = open_.0; settled = open_.1; uncounted = open_.2; sound = open_.3 }
 
-pub kept_fits : (o : State) (h : HistoryView) (gs : List GuestState) (broken : Bool) (n : ℕ) → IsKept o h gs broken n → Fits o h.turns
+pub kept_fits : (o : State) (h : HistoryView) (gs : List GuestState) (broken : Bool) (n : ℕ) → IsRecorded o h gs broken n → Fits o h.turns
 kept_fits o h gs broken n kept = fits o h.turns (opens o kept.begins).sound kept.legal
 
 -- at most one turn is a Break
@@ -44,13 +44,13 @@ no_break : (o : State) (ts : List Turn) → o.broken ≡ false → Fits o ts →
 no_break o ts whole f right = omega (arith, f.breaks, ap one_if right)
 
 -- there is room for the turn of a job that isn't refused
-pub room_for_submit : (o : State) (h : HistoryView) (gs : List GuestState) (broken : Bool) (n : ℕ) → IsKept o h gs broken n → n ≢ 16384 → length h.turns < 65537
+pub room_for_submit : (o : State) (h : HistoryView) (gs : List GuestState) (broken : Bool) (n : ℕ) → IsRecorded o h gs broken n → n ≢ 16384 → length h.turns < 65537
 room_for_submit o h gs broken n kept more =
     let f = kept_fits o h gs broken n kept in
     omega (arith, f.turns, (opens o kept.begins).calm, kept.counted, kept.few, one_break o h.turns f)
 
 -- and for any other that is right
-pub room_for : (o : State) (h : HistoryView) (gs : List GuestState) (broken : Bool) (n : ℕ) → IsKept o h gs broken n → (t : Turn) → IsRight (replay o h.turns) t → is_submit t ≡ false → is_break t ≡ false
+pub room_for : (o : State) (h : HistoryView) (gs : List GuestState) (broken : Bool) (n : ℕ) → IsRecorded o h gs broken n → (t : Turn) → IsRight (replay o h.turns) t → is_submit t ≡ false → is_break t ≡ false
     → (length h.turns < 65537) × (settles_in h.turns + one_if (is_settle t) ≤ 16384)
 room_for o h gs broken n kept t right other lasts =
     let f = kept_fits o h gs broken n kept in
@@ -60,7 +60,7 @@ room_for o h gs broken n kept t right other lasts =
     (omega (arith, f.turns, open_.calm, kept.counted, kept.few, pays.turn, none, one_break o h.turns f, ap one_if lasts), omega (arith, f.marks, open_.settled, kept.counted, kept.few, pays.marks, none))
 
 -- there is room for a Break
-pub room_for_break : (o : State) (h : HistoryView) (gs : List GuestState) (broken : Bool) (n : ℕ) → IsKept o h gs broken n → (replay o h.turns).broken ≡ false → length h.turns < 65537
+pub room_for_break : (o : State) (h : HistoryView) (gs : List GuestState) (broken : Bool) (n : ℕ) → IsRecorded o h gs broken n → (replay o h.turns).broken ≡ false → length h.turns < 65537
 room_for_break o h gs broken n kept right =
     let f = kept_fits o h gs broken n kept in
     omega (arith, f.turns, (opens o kept.begins).calm, kept.counted, kept.few, no_break o h.turns kept.begins.whole f right)
@@ -71,20 +71,20 @@ each_le [] k g is = absurd (cc)
 each_le (x ∷ xs) zero g is = (let same : x ≡ g = cc in omega (arith, ap submits_of same))
 each_le (x ∷ xs) (suc k) g is = omega (arith, each_le xs k g is)
 
-pub few_submits : (o : State) (h : HistoryView) (gs : List GuestState) (broken : Bool) (n k : ℕ) (g : GuestState) → IsKept o h gs broken n → slice_get (replay o h.turns).guests k ≡ Some g → g.submits ≤ 16384
+pub few_submits : (o : State) (h : HistoryView) (gs : List GuestState) (broken : Bool) (n k : ℕ) (g : GuestState) → IsRecorded o h gs broken n → slice_get (replay o h.turns).guests k ≡ Some g → g.submits ≤ 16384
 few_submits o h gs broken n k g kept at =
     let f = kept_fits o h gs broken n kept in
     omega (arith, f.count, (opens o kept.begins).uncounted, kept.counted, kept.few, each_le (replay o h.turns).guests k g at)
 
-pub kept_turn : (o : State) (h : HistoryView) (gs : List GuestState) (broken : Bool) (n : ℕ) → IsKept o h gs broken n
+pub kept_turn : (o : State) (h : HistoryView) (gs : List GuestState) (broken : Bool) (n : ℕ) → IsRecorded o h gs broken n
     → (t : Turn) → IsRight (replay o h.turns) t
     → (gs' : List GuestState) → gs' ≡ (after_turn (replay o h.turns) t).guests → length gs' ≡ length gs
     → (broken' : Bool) → broken' ≡ (after_turn (replay o h.turns) t).broken
     → (n' : ℕ) → n' ≡ n + one_if (is_submit t) → n' ≤ 16384
     → (h' : HistoryView) → h' ≡ record h { turns = h.turns ++ t ∷ [] }
-    → IsKept o h' gs' broken' n'
+    → IsRecorded o h' gs' broken' n'
 kept_turn o h gs broken n kept t right gs' guests long broken' breaks n' counted few h' is =
-    let P : HistoryView → Type 0 = λ x. IsKept o x gs' broken' n' in
+    let P : HistoryView → Type 0 = λ x. IsRecorded o x gs' broken' n' in
     subst P (sym is) (record {
       guests_are = guests ∙ ap (λ s. s.guests) (sym (replay-push o h.turns t));
       broken_is = breaks ∙ ap (λ s. s.broken) (sym (replay-push o h.turns t));
@@ -111,13 +111,13 @@ length-set_at (g ∷ gs) zero v = refl
 length-set_at (g ∷ gs) (suc k) v = ap suc (length-set_at gs k v)
 
 -- a turn of one guest
-pub kept_guest : (o : State) (h : HistoryView) (gs : List GuestState) (broken : Bool) (n : ℕ) → IsKept o h gs broken n
+pub kept_guest : (o : State) (h : HistoryView) (gs : List GuestState) (broken : Bool) (n : ℕ) → IsRecorded o h gs broken n
     → (t : Turn) → IsRight (replay o h.turns) t
     → (m : ℕ) (f : GuestState → GuestState) → after_turn (replay o h.turns) t ≡ record (replay o h.turns) { guests = update (replay o h.turns).guests m f }
     → (g : GuestState) → slice_get (replay o h.turns).guests m ≡ Some g → (at : ℕ) → at ≡ m → (v : GuestState) → v ≡ f g
     → (n' : ℕ) → n' ≡ n + one_if (is_submit t) → n' ≤ 16384
     → (h' : HistoryView) → h' ≡ record h { turns = h.turns ++ t ∷ [] }
-    → IsKept o h' (set gs at v) broken n'
+    → IsRecorded o h' (set gs at v) broken n'
 kept_guest o h gs broken n kept t right m f does g is at at_is v v_is n' counted few h' h'_is =
     let s = replay o h.turns in
     let guests : set gs at v ≡ (after_turn s t).guests = rw (kept.guests_are, at_is, v_is) (set-update s.guests m f g is) ∙ ap (λ x. x.guests) (sym does) in

@@ -10,7 +10,7 @@ use Rattle.rpmb_book.specs.Guest.{GuestState, fresh}
 use Rattle.rpmb_book.specs.Opening.{tallies_from}
 use Rattle.rpmb_book.specs.Replay.{fresh_guests}
 use Rattle.rpmb_book.specs.History.{HistoryView}
-use Rattle.rpmb_book.specs.Kept.{IsKept}
+use Rattle.rpmb_book.specs.Kept.{IsRecorded}
 use Rattle.rpmb_book.specs.Sound.{IsStorable}
 use Rattle.rpmb_book.proofs.OnBoard.{opens_on_board}
 use Rattle.rpmb_frame.specs.Config.{IsGuest}
@@ -86,7 +86,7 @@ length-fresh_guests (g ∷ gs) (p ∷ ps) same = ap suc (length-fresh_guests gs 
 
 -- a book that was opened on these partitions
 pub kept_opening : (config : List GuestConfig) (ps : List Partition) (opening guests : List GuestState) (h : HistoryView) → map (λ p. p.capacity) ps ≡ map (λ g. g.capacity) config
-    → All IsGuest config → AllByRecursion IsStorable ps → opening ≡ fresh_guests config ps → guests ≡ fresh_guests config ps → h ≡ record { guests = length config; turns = [] } → IsKept (record { guests = opening; broken = false }) h guests false 0
+    → All IsGuest config → AllByRecursion IsStorable ps → opening ≡ fresh_guests config ps → guests ≡ fresh_guests config ps → h ≡ record { guests = length config; turns = [] } → IsRecorded (record { guests = opening; broken = false }) h guests false 0
 kept_opening config ps opening guests h same board held is is' h_is =
     let many : length ps ≡ length config = sym (length-map ps (λ p. p.capacity)) ∙ ap length same ∙ length-map config (λ g. g.capacity) in
     rw (is, is', h_is) (record {

@@ -8,7 +8,7 @@ use Rattle.rpmb_book.specs.Guest.{GuestState, settled_at}
 use Rattle.rpmb_book.specs.Turn.{State, Settle, IsRight, move_some, are_within, settled_all}
 use Rattle.rpmb_book.specs.Replay.{replay}
 use Rattle.rpmb_book.specs.History.{HistoryView, settles_in}
-use Rattle.rpmb_book.specs.Kept.{IsKept}
+use Rattle.rpmb_book.specs.Kept.{IsRecorded}
 use Rattle.rpmb_book.specs.Book.{BookView, state, with_turn, after_settle_taken, are_taken, is_taken, taken_marks}
 use Rattle.rpmb_book.proofs.Kept.{kept_turn, room_for}
 use Rattle.rpmb_book.proofs.Submitting.{shown}
@@ -57,9 +57,9 @@ written_back n new old n_is same =
 pub record Settles (o : State) (h : HistoryView) (gs : List GuestState) (broken : Bool) (n : ℕ) : Type 0 where
   pub room : length h.turns < 65537
   pub marks : settles_in h.turns < 16384
-  pub kept : (h' : HistoryView) (gs' : List GuestState) → h' ≡ record h { turns = h.turns ++ Settle (taken_marks gs) ∷ [] } → gs' ≡ settled_all gs (taken_marks gs) → IsKept o h' gs' broken n
+  pub kept : (h' : HistoryView) (gs' : List GuestState) → h' ≡ record h { turns = h.turns ++ Settle (taken_marks gs) ∷ [] } → gs' ≡ settled_all gs (taken_marks gs) → IsRecorded o h' gs' broken n
 
-pub settles : (o : State) (h : HistoryView) (gs : List GuestState) (broken : Bool) (n : ℕ) → IsKept o h gs broken n → list_any (λ g. nat_lt g.settled g.taken) gs ≡ true → Settles o h gs broken n
+pub settles : (o : State) (h : HistoryView) (gs : List GuestState) (broken : Bool) (n : ℕ) → IsRecorded o h gs broken n → list_any (λ g. nat_lt g.settled g.taken) gs ≡ true → Settles o h gs broken n
 settles o h gs broken n kept moves =
     let s = replay o h.turns in
     let marks = taken_marks gs in
@@ -75,10 +75,10 @@ settles o h gs broken n kept moves =
       kept = λ h' gs' h'_is gs'_is. kept_turn o h gs broken n kept (Settle marks) right gs' (gs'_is ∙ ap (λ (xs : List GuestState). settled_all xs marks) kept.guests_are) (ap length gs'_is ∙ length-settled_all gs marks) broken kept.broken_is n (omega arith) kept.few h' h'_is;
     }
 
-pub guests_shown : (life : ℕ) (o : State) (h : HistoryView) (gs : List GuestState) (broken : Bool) (n : ℕ) (v : BookView) → IsKept o h gs broken n → shown life o h ≡ v → gs ≡ (state v).guests
+pub guests_shown : (life : ℕ) (o : State) (h : HistoryView) (gs : List GuestState) (broken : Bool) (n : ℕ) (v : BookView) → IsRecorded o h gs broken n → shown life o h ≡ v → gs ≡ (state v).guests
 guests_shown life o h gs broken n v kept is = kept.guests_are ∙ ap (λ b. (state b).guests) is
 
-pub settled_some : (life : ℕ) (o : State) (h : HistoryView) (gs : List GuestState) (broken : Bool) (n : ℕ) (v : BookView) (shares : List ℕ) → IsKept o h gs broken n → shown life o h ≡ v → are_taken gs shares ≡ true → list_any (λ g. nat_lt g.settled g.taken) gs ≡ true
+pub settled_some : (life : ℕ) (o : State) (h : HistoryView) (gs : List GuestState) (broken : Bool) (n : ℕ) (v : BookView) (shares : List ℕ) → IsRecorded o h gs broken n → shown life o h ≡ v → are_taken gs shares ≡ true → list_any (λ g. nat_lt g.settled g.taken) gs ≡ true
     → (h' : HistoryView) → h' ≡ record h { turns = h.turns ++ Settle (taken_marks gs) ∷ [] } → shown life o h' ≡ after_settle_taken v shares
 settled_some life o h gs broken n v shares kept is taken moves h' h'_is =
     let same = guests_shown life o h gs broken n v kept is in
@@ -86,7 +86,7 @@ settled_some life o h gs broken n v shares kept is taken moves h' h'_is =
     ap (λ (xs : List GuestState). are_taken xs shares && move_some xs (taken_marks xs)) (sym same) ∙ ap₂ (λ a b. a && b) taken (move_some-taken gs ∙ moves) in
     ap (shown life o) h'_is ∙ ap (λ b. with_turn b (Settle (taken_marks gs))) is ∙ ap (λ (xs : List GuestState). with_turn v (Settle (taken_marks xs))) same ∙ sym (rw test refl)
 
-pub settled_none : (life : ℕ) (o : State) (h : HistoryView) (gs : List GuestState) (broken : Bool) (n : ℕ) (v : BookView) (shares : List ℕ) → IsKept o h gs broken n → shown life o h ≡ v → are_taken gs shares ≡ true → list_any (λ g. nat_lt g.settled g.taken) gs ≡ false → v ≡ after_settle_taken v shares
+pub settled_none : (life : ℕ) (o : State) (h : HistoryView) (gs : List GuestState) (broken : Bool) (n : ℕ) (v : BookView) (shares : List ℕ) → IsRecorded o h gs broken n → shown life o h ≡ v → are_taken gs shares ≡ true → list_any (λ g. nat_lt g.settled g.taken) gs ≡ false → v ≡ after_settle_taken v shares
 settled_none life o h gs broken n v shares kept is taken stays =
     let same = guests_shown life o h gs broken n v kept is in
     let test : (are_taken (state v).guests shares && move_some (state v).guests (taken_marks (state v).guests)) ≡ false =

@@ -9,7 +9,7 @@ use Rattle.rpmb_book.specs.Turn.{Submit, State, IsRight, answer_of}
 use Rattle.rpmb_book.specs.Replay.{replay}
 use Rattle.rpmb_book.specs.History.{HistoryView}
 use Rattle.rpmb_book.specs.Book.{BookView, refusal, with_turn, submit_of}
-use Rattle.rpmb_book.specs.Kept.{IsKept}
+use Rattle.rpmb_book.specs.Kept.{IsRecorded}
 use Rattle.rpmb_book.specs.Sound.{IsCoreOfBoard}
 use Rattle.rpmb_book.proofs.OnBoard.{core_at, on_board}
 use Rattle.rpmb_book.proofs.Kept.{not_refused, known, kept_guest, few_submits}
@@ -25,7 +25,7 @@ pub record AnswersHere (o : State) (h : HistoryView) (n : ℕ) (tally : Tally) (
   pub few : g.submits ≤ 16384
   pub of_board : IsCoreOfBoard g.core
 
-pub answers_here : (life : ℕ) (o : State) (h : HistoryView) (gs : List GuestState) (broken : Bool) (n : ℕ) (v : BookView) (tally : Tally) (job : Job) (at : ℕ) (g : GuestState) → IsKept o h gs broken n
+pub answers_here : (life : ℕ) (o : State) (h : HistoryView) (gs : List GuestState) (broken : Bool) (n : ℕ) (v : BookView) (tally : Tally) (job : Job) (at : ℕ) (g : GuestState) → IsRecorded o h gs broken n
     → shown life o h ≡ v → None ≡ refusal v tally job → at ≡ job.guest → g ≡ get_or gs at g → AnswersHere o h n tally job g
 answers_here life o h gs broken n v tally job at g kept is none at_is read =
     let s = replay o h.turns in
@@ -47,9 +47,9 @@ answers_here life o h gs broken n v tally job at g kept is none at_is read =
 answer_here : (s : State) (job : Job) (g : GuestState) → slice_get s.guests job.guest ≡ Some g → answer_when s.broken g.core job ≡ answer_of s job
 answer_here s job g at = rw at refl
 
-pub kept_submit : (o : State) (h : HistoryView) (gs : List GuestState) (broken : Bool) (n : ℕ) (tally : Tally) (job : Job) (g : GuestState) → IsKept o h gs broken n → AnswersHere o h n tally job g
+pub kept_submit : (o : State) (h : HistoryView) (gs : List GuestState) (broken : Bool) (n : ℕ) (tally : Tally) (job : Job) (g : GuestState) → IsRecorded o h gs broken n → AnswersHere o h n tally job g
     → (w : Submission) → w ≡ record { job = job; reply = answer_when broken g.core job } → (at : ℕ) → at ≡ job.guest → (v : GuestState) → v ≡ submitted broken job g
-    → (h' : HistoryView) → h' ≡ record h { turns = h.turns ++ Submit w ∷ [] } → IsKept o h' (set gs at v) broken (n + 1)
+    → (h' : HistoryView) → h' ≡ record h { turns = h.turns ++ Submit w ∷ [] } → IsRecorded o h' (set gs at v) broken (n + 1)
 kept_submit o h gs broken n tally job g kept here w w_is at at_is v v_is h' h'_is =
     let s = replay o h.turns in
     let u : Submission = record { job = job; reply = answer_when s.broken g.core job } in
@@ -58,7 +58,7 @@ kept_submit o h gs broken n tally job g kept here w w_is at at_is v v_is h' h'_i
     (h'_is ∙ ap (λ x. record h { turns = h.turns ++ Submit x ∷ [] }) (w_is ∙ ap (λ b. record { job = job; reply = answer_when b g.core job }) kept.broken_is))
 
 -- the book shows one turn more
-pub shows_submit : (life : ℕ) (o : State) (h : HistoryView) (gs : List GuestState) (broken : Bool) (n : ℕ) (v : BookView) (tally : Tally) (job : Job) (g : GuestState) → IsKept o h gs broken n → shown life o h ≡ v → AnswersHere o h n tally job g
+pub shows_submit : (life : ℕ) (o : State) (h : HistoryView) (gs : List GuestState) (broken : Bool) (n : ℕ) (v : BookView) (tally : Tally) (job : Job) (g : GuestState) → IsRecorded o h gs broken n → shown life o h ≡ v → AnswersHere o h n tally job g
     → (w : Submission) → w ≡ record { job = job; reply = answer_when broken g.core job } → (h' : HistoryView) → h' ≡ record h { turns = h.turns ++ Submit w ∷ [] }
     → shown life o h' ≡ with_turn v (submit_of v job)
 shows_submit life o h gs broken n v tally job g kept is here w w_is h' h'_is =

@@ -10,16 +10,16 @@ use Rattle.mmio_transport.specs.Job.{Done}
 use Rattle.intent_slots.specs.Payload.{Intent}
 use Rattle.rpmb_book.specs.Book.{BookView, with_turn, guest_of, due_at, due_of, after_collect, is_share, is_taken, next_intent, waiting_of, take_answer, after_take}
 use Rattle.rpmb_book.specs.declared.refused.Refused.TheVariants.{Foreign}
-use Rattle.rpmb_book.specs.Kept.{IsKept}
+use Rattle.rpmb_book.specs.Kept.{IsRecorded}
 use Rattle.rpmb_book.proofs.Kept.{known, kept_guest, room_for}
 use Rattle.rpmb_book.proofs.Submitting.{shown}
 
 -- the state has this guest in this place
 pub record Stands (o : State) (h : HistoryView) (gs : List GuestState) (broken : Bool) (n : ℕ) (m : ℕ) (g : GuestState) : Type 0 where
-  pub kept : IsKept o h gs broken n
+  pub kept : IsRecorded o h gs broken n
   pub at : slice_get (replay o h.turns).guests m ≡ Some g
 
-pub stands : (o : State) (h : HistoryView) (gs : List GuestState) (broken : Bool) (n m at : ℕ) (g : GuestState) → IsKept o h gs broken n → at ≡ m → at < length gs → g ≡ get_or gs at g → Stands o h gs broken n m g
+pub stands : (o : State) (h : HistoryView) (gs : List GuestState) (broken : Bool) (n m at : ℕ) (g : GuestState) → IsRecorded o h gs broken n → at ≡ m → at < length gs → g ≡ get_or gs at g → Stands o h gs broken n m g
 stands o h gs broken n m at g kept at_is lt read = record { kept = kept; at = known (replay o h.turns).guests gs at m g kept.guests_are at_is lt read }
 
 some_there : {X : Type 0} {x y : X} → Some x ≡ Some y → x ≡ y
@@ -34,7 +34,7 @@ right_collect s m g at due = (λ x is. subst (λ (y : GuestState). IsSome (first
 -- what a turn of one guest asks and leaves
 pub record TurnsGuest (o : State) (h : HistoryView) (gs : List GuestState) (broken : Bool) (n at : ℕ) (v : GuestState) (t : Turn) : Type 0 where
   pub room : length h.turns < 65537
-  pub kept : (h' : HistoryView) → h' ≡ record h { turns = h.turns ++ t ∷ [] } → IsKept o h' (set gs at v) broken n
+  pub kept : (h' : HistoryView) → h' ≡ record h { turns = h.turns ++ t ∷ [] } → IsRecorded o h' (set gs at v) broken n
 
 pub takes : (o : State) (h : HistoryView) (gs : List GuestState) (broken : Bool) (n m at : ℕ) (g v : GuestState) → Stands o h gs broken n m g → is_some (first_intent g.waiting) ≡ true → at ≡ m → v ≡ took g → TurnsGuest o h gs broken n at v (Take m)
 takes o h gs broken n m at g v here waits at_is v_is =
@@ -83,7 +83,7 @@ share_there None p is = absurd (cc)
 share_there (Some g) None is = absurd (cc)
 share_there (Some g) (Some n) is = (g, refl)
 
-pub share_inside : (life : ℕ) (o : State) (h : HistoryView) (gs : List GuestState) (broken : Bool) (n : ℕ) (v : BookView) (shares : List ℕ) (m : ℕ) → IsKept o h gs broken n → shown life o h ≡ v → is_share v shares m ≡ true → m < length gs
+pub share_inside : (life : ℕ) (o : State) (h : HistoryView) (gs : List GuestState) (broken : Bool) (n : ℕ) (v : BookView) (shares : List ℕ) (m : ℕ) → IsRecorded o h gs broken n → shown life o h ≡ v → is_share v shares m ≡ true → m < length gs
 share_inside life o h gs broken n v shares m kept shows is =
     let g = share_there (guest_of v m) (slice_get shares m) is in
     let at : slice_get (replay o h.turns).guests m ≡ Some g.0 = ap (λ b. guest_of b m) shows ∙ g.1 in

@@ -13,7 +13,7 @@ pub record IsFresh (s : State) : Type 0 where
   pub whole : s.broken ≡ false
 
 -- the guests are those after the turns of the history, each of which is right where it stands
-pub record IsKept (opening : State) (history : HistoryView) (guests : List GuestState) (broken : Bool) (submits : ℕ) : Type 0 where
+pub record IsRecorded (opening : State) (history : HistoryView) (guests : List GuestState) (broken : Bool) (submits : ℕ) : Type 0 where
   pub guests_are : guests ≡ (replay opening history.turns).guests
   pub broken_is : broken ≡ (replay opening history.turns).broken
   pub legal : IsLegal opening history.turns

@@ -50,13 +50,13 @@ pub struct Book {
 impl Model for Book {
     ghost use Rattle.std.specs.Prelude.{false};
     ghost use Rattle.rpmb_book.specs.Book.{BookView};
-    ghost use Rattle.rpmb_book.specs.Kept.{IsKept};
+    ghost use Rattle.rpmb_book.specs.Kept.{IsRecorded};
 
     ghost Value = { BookView };
 
     ghost view = { λ b. record { life = b.life; opening = record { guests = b.opening.items; broken = false }; history = b.history.turns } };
 
-    ghost invariant = { λ b. IsKept (record { guests = b.opening.items; broken = false }) b.history b.guests.items b.broken b.submits };
+    ghost invariant = { λ b. IsRecorded (record { guests = b.opening.items; broken = false }) b.history b.guests.items b.broken b.submits };
 }
 
 impl Book {
