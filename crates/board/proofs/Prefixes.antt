@@ -105,7 +105,7 @@ module _ {D : Type 0} (shows : D → DiskState) (makes : D → DiskCall → D �
   pop_moments g answer new (Some None) (Some d) does = as_it_was new _ does.after refl
 
   publish_moments : (g : ℕ) (answer : Answer) (new : BoardState D) (done : Option Done) (o : Option DeviceState) → PublishesFrom g done o answer old new → Moments new
-  publish_moments g answer new done None does = as_it_was new old does.1 refl
+  publish_moments g answer new reply None does = as_it_was new old does.1 refl
   publish_moments g answer new None (Some d) does = as_it_was new old does.1 refl
   publish_moments g answer new (Some r) (Some d) does = as_it_was new _ does.after refl
 

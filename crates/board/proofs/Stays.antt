@@ -236,7 +236,7 @@ module _ {D : Type 0} (shows : D → DiskState) (makes : D → DiskCall → D �
       (drives_linked shows config bases accepted parts old ok (slice_set old.devices g does.device) (put old.jobs g (job_of does.popped)) (length-set old.devices g does.device ∙ ok.places.devices) (length-put old.jobs g (job_of does.popped) ∙ ok.places.jobs))
 
   publish_stays : (g : ℕ) (answer : Answer) (new : BoardState D) (done : Option Done) (o : Option DeviceState) → done ≡ in_place (slice_get old.dones g) → PublishesFrom g done o answer old new → Stays accepted new
-  publish_stays g answer new done None is does = idle answer new does
+  publish_stays g answer new reply None is does = idle answer new does
   publish_stays g answer new None (Some d) is does = idle answer new does
   publish_stays g answer new (Some r) (Some d) is does = stay new (record old { devices = slice_set old.devices g does.device; dones = slice_set old.dones g None }) parts does.after
       (publishes_linked shows config bases accepted parts old ok g r (full_at (slice_get old.dones g) r is) (slice_set old.devices g does.device) (length-set old.devices g does.device ∙ ok.places.devices))

@@ -93,7 +93,7 @@ pub record PublishesReply {D : Type 0} (g : ℕ) (d : DeviceState) (done : Done)
   pub after : new ≡ record old { devices = slice_set old.devices g device; dones = slice_set old.dones g None }
 
 abbrev pub PublishesFrom : {D : Type 0} → ℕ → Option Done → Option DeviceState → Answer → BoardState D → BoardState D → Type 0
-PublishesFrom g done None answer old new = Idles answer old new
+PublishesFrom g reply None answer old new = Idles answer old new
 PublishesFrom g None (Some d) answer old new = Idles answer old new
 PublishesFrom g (Some done) (Some d) answer old new = PublishesReply g d done answer old new
 
