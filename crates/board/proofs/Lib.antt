@@ -7,3 +7,8 @@ pub mod Prefixes
 pub mod Openings
 pub mod Opened
 pub mod Runs
+pub mod Rooms
+pub mod Noted
+pub mod Logged
+pub mod Keeping
+pub mod Staging

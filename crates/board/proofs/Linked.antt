@@ -65,22 +65,22 @@ unchosen n g x y other = rw (differs n g (λ e. other (sym e))) refl
     differs k h other = grind (arith, nat_tests)
 
 -- the guest that the turn is of, and the others
-own : (b : BookView) (t : Turn) (n : ℕ) (f : GuestState → GuestState) → ((g : ℕ) (x : GuestState) → guest_after g (state b).broken t x ≡ (if n == g then f x else x))
+pub own : (b : BookView) (t : Turn) (n : ℕ) (f : GuestState → GuestState) → ((g : ℕ) (x : GuestState) → guest_after g (state b).broken t x ≡ (if n == g then f x else x))
     → (y : GuestState) → slice_get (state (with_turn b t)).guests n ≡ Some y → (x : GuestState) × (slice_get (state b).guests n ≡ Some x) × (y ≡ f x)
 own b t n f is y at = (let x = turned b t n y at in (x.0, x.1, x.2 ∙ is n x.0 ∙ chosen n x.0 (f x.0)))
 
-other_guest : (b : BookView) (t : Turn) (n : ℕ) (f : GuestState → GuestState) → ((g : ℕ) (x : GuestState) → guest_after g (state b).broken t x ≡ (if n == g then f x else x))
+pub other_guest : (b : BookView) (t : Turn) (n : ℕ) (f : GuestState → GuestState) → ((g : ℕ) (x : GuestState) → guest_after g (state b).broken t x ≡ (if n == g then f x else x))
     → (g : ℕ) → g ≢ n → (y : GuestState) → slice_get (state (with_turn b t)).guests g ≡ Some y → slice_get (state b).guests g ≡ Some y
 other_guest b t n f is g other y at = (let x = turned b t g y at in x.1 ∙ ap Some (sym (x.2 ∙ is g x.0 ∙ unchosen n g x.0 (f x.0) other)))
 
-at_each : {P : ℕ → Type 0} (n : ℕ) → P n → ((g : ℕ) → g ≢ n → P g) → (g : ℕ) → P g
+pub at_each : {P : ℕ → Type 0} (n : ℕ) → P n → ((g : ℕ) → g ≢ n → P g) → (g : ℕ) → P g
 at_each {P = P} n here there g = elim (cases_eq g n) [
   | inl same ↦ subst P (sym same) here
   | inr other ↦ there g other
 ]
 
 -- a tally that isn't refused is of the job's guest
-of_guest : (standing : ℕ) (tally : Tally) (job : Job) (o : Option GuestState) → refusal_at standing tally job o ≡ None → tally.guest ≡ job.guest
+pub of_guest : (standing : ℕ) (tally : Tally) (job : Job) (o : Option GuestState) → refusal_at standing tally job o ≡ None → tally.guest ≡ job.guest
 of_guest standing tally job None is = absurd (cc)
 of_guest standing tally job (Some g) is = grind (arith, nat_tests)
 

@@ -1,5 +1,5 @@
 -- The headline over every run.
-use Rattle.std.proofs.Common.{◌≡◌, ◌≢◌, ◌⊎◌, inl, inr, ℕ, zero, suc, ◌+◌, ◌-◌, ◌<◌, ◌≤◌, Bool, true, false, List, [], ◌∷◌, ◌++◌, Option, Some, None, Ok, Err, length, drop, get_or, refl, ap, sym, subst, ◌∙◌, arith}
+use Rattle.std.proofs.Common.{◌≡◌, ◌≢◌, ◌⊎◌, inl, inr, ℕ, zero, suc, ◌-◌, ◌<◌, ◌≤◌, Bool, true, false, List, [], ◌∷◌, ◌++◌, Option, Some, None, Ok, Err, length, drop, get_or, refl, ap, sym, subst, ◌∙◌, arith}
 use Rattle.std.specs.Prelude.{slice_get, if◌then◌else◌, ◌==◌, ◌&&◌, is_some, replicate}
 use Rattle.std.proofs.lemmas.Bool.{cases_eq}
 use Rattle.std.proofs.lemmas.List.{append-nil}
@@ -40,7 +40,13 @@ use Rattle.board.specs.State.{BoardState, guests, in_place}
 use Rattle.board.specs.Steps.{AdvancesUnder, Answer, CollectsInto, Does, Drives, GivesWhere, PopsInto, PublishesFrom, SettlesBy, SubmitsFrom, TakesInto}
 use Rattle.board.specs.Board.{IsLinkedBoard, LeavesPrefixes, accepted_after, marks_in}
 use Rattle.board.specs.Opening.{Begins, GoesOn, kept_by, kept_of}
-use Rattle.board.specs.World.{CutBy, CutWithin, CutsTo, Event, Home, Up, Down, Happens, Opens, OpensOrNot, Publication, Refuses, StepsAt, StepsIn, WorldState, choosing, disk_of, opened_world, publication_of, published_after, with_publication}
+use Rattle.board.specs.declared.event.Event.{Event}
+use Rattle.board.specs.declared.event.Event.TheVariants as event
+use Rattle.board.specs.declared.event.Refusal.{Refusal}
+use Rattle.board.specs.declared.home.Home.{Home}
+use Rattle.board.specs.declared.home.Home.TheVariants.{Up, Down}
+use Rattle.board.specs.declared.log.Publication.{Publication}
+use Rattle.board.specs.World.{CutBy, CutWithin, CutsTo, Happens, LacksRoom, Opens, OpensOrNot, Refuses, StepsAt, StepsIn, WorldState, choosing, choosing_call, disk_of, opened_world, publication_of, published_after, raised, with_publication}
 use Rattle.board.specs.Kept.{AllRequests, IsClosed, IsConsistent, IsConsistentAt, IsNew, IsOpen, WasOpened}
 use Rattle.board.specs.Headline.{Gives, GivesAt, Headline, HeadlineOfRuns, Holds, HoldsAt}
 use Rattle.board.proofs.Doing.{full_at}
@@ -59,7 +65,7 @@ requests_of w b parts linked = λ g below.
     let t = linked.each g x.0 x.1 in
     record { board = t.board; capacity = t.capacity; in_turn = t.link.in_turn; asked = t.link.asked })
 
-gives_of : (w : WorldState) (b : BoardState CutState) (parts : ℕ → Part) → IsLinkedBoard cut_state w.config w.bases w.accepted parts b → Gives w b
+pub gives_of : (w : WorldState) (b : BoardState CutState) (parts : ℕ → Part) → IsLinkedBoard cut_state w.config w.bases w.accepted parts b → Gives w b
 gives_of w b parts linked = record { each = λ g x at. (linked.each g x at).link.partition }
 
 -- an open world, stopped now, is a closed one
@@ -146,7 +152,7 @@ prefix_of : (o : Option GuestState) (base : Partition) (rs : List Request) → (
 prefix_of None base rs = ([], sym (append-nil rs))
 prefix_of (Some x) base rs = (drop (sequence x.core.partition - sequence base) rs, sym (halves (sequence x.core.partition - sequence base) rs))
 
-first_open : (old : WorldState) (b : BoardState CutState) (start : Begins cut_state (old.openings + 1) old.config b) → IsNew old
+first_open : (old : WorldState) (b : BoardState CutState) (start : Begins cut_state (raised old.openings) old.config b) → IsNew old
     → (IsOpen (opened_world zero old b start.partitions) b) × Holds old (opened_world zero old b start.partitions) b
 first_open old b start new =
     let w = opened_world zero old b start.partitions in (
@@ -172,7 +178,7 @@ first_open old b start new =
         none [] (suc n) q empty is = cc
         none (x ∷ l) n q empty is = cc
 
-later_open : (n : ℕ) (d : CutState) (old : WorldState) (b : BoardState CutState) (start : Begins cut_state (old.openings + 1) old.config b) (closed : IsClosed old d) → GoesOn cut_state old.config old.bases old.accepted closed.least b
+later_open : (n : ℕ) (d : CutState) (old : WorldState) (b : BoardState CutState) (start : Begins cut_state (raised old.openings) old.config b) (closed : IsClosed old d) → GoesOn cut_state old.config old.bases old.accepted closed.least b
     → (IsOpen (opened_world (suc n) old b start.partitions) b) × Holds old (opened_world (suc n) old b start.partitions) b
 later_open n d old b start closed on =
     let w = opened_world (suc n) old b start.partitions in
@@ -187,7 +193,7 @@ later_open n d old b start closed on =
             let many = linked.many in
             let need = closed.needs g k p (omega (arith, below, many)) at in
             let holds = on.holds g (omega (arith, below, many)) in
-            let settled = fresh_settled (old.openings + 1) old.config b start g x there in
+            let settled = fresh_settled (raised old.openings) old.config b start g x there in
             let is = ap sequence (on.gives g x there) ∙ sequence_of_all (old.bases g) (kept_of old.bases old.accepted b g) t.link.in_turn in
             omega (arith, need, holds, settled, is));
       },
@@ -208,28 +214,33 @@ closed_stays w home d closed = record { least = closed.least; leaves = closed.le
 abbrev Kept : WorldState → WorldState → Type 0
 Kept old w = IsConsistent w × HoldsAt old w w.home
 
-opens_kept : (d : CutState) (old new : WorldState) → Before old d → Opens d old new → Kept old new
-opens_kept d old new before o = by old.openings refl o.after before
+-- an opening is counted
+pub some_raised : (n : ℕ) → 0 < raised n
+unfolding raised
+some_raised n = grind (arith, nat_tests)
+
+opens_kept : (d : CutState) (old new : WorldState) (told : Option Refusal) → Before old d → Opens d old told new → Kept old new
+opens_kept d old new told before o = by old.openings refl o.after before
   where
     by : (n : ℕ) → old.openings ≡ n → new ≡ opened_world n old o.board o.begins.partitions → Before old d → Kept old new
-    by zero is after (inl first) = (let both = first_open old o.board o.begins first in subst (Kept old) (sym after) ((both.0, omega arith), both.1))
+    by zero is after (inl first) = (let both = first_open old o.board o.begins first in subst (Kept old) (sym after) ((both.0, some_raised old.openings), both.1))
     by zero is after (inr was) = absurd (let some = was.openings in omega (arith, some, is))
     by (suc n) is after (inl first) = absurd (let none = first.openings in omega (arith, none, is))
     by (suc n) is after (inr was) =
         let closed = was.closed in
         let both = later_open n d old o.board o.begins closed (o.goes_on old.bases old.accepted closed.least closed.requests closed.leaves) in
-        subst (Kept old) (sym after) ((both.0, omega arith), both.1)
+        subst (Kept old) (sym after) ((both.0, some_raised old.openings), both.1)
 
-refuses_kept : (d : CutState) (old new : WorldState) → Before old d → Refuses d old new → Kept old new
-refuses_kept d old new before r = subst (Kept old) (sym r.after) (stays before, tt)
+refuses_kept : (d : CutState) (old new : WorldState) (told : Option Refusal) → Before old d → Refuses d old told new → Kept old new
+refuses_kept d old new told before r = subst (Kept old) (sym r.after) (stays before, tt)
   where
     stays : Before old d → IsConsistent (record old { home = Down r.disk })
     stays (inl first) = inl (new_stays old (Down r.disk) first)
     stays (inr was) = inr (record { closed = closed_stays old (Down r.disk) r.disk (untouched_closed old d r.disk was.closed r.untouched); openings = was.openings })
 
-opening_kept : (d : CutState) (old new : WorldState) → Before old d → OpensOrNot d old new → Kept old new
-opening_kept d old new before (inl o) = opens_kept d old new before o
-opening_kept d old new before (inr r) = refuses_kept d old new before r
+opening_kept : (d : CutState) (old new : WorldState) (told : Option Refusal) → Before old d → OpensOrNot d old told new → Kept old new
+opening_kept d old new told before (inl o) = opens_kept d old new told before o
+opening_kept d old new told before (inr r) = refuses_kept d old new told before r
 
 -- 4. Steps
 
@@ -365,8 +376,8 @@ noted_by step.Settle answer b published g k p at = record { noted = inl at }
 cut_effect : (a b : CutState) (call : DiskCall) → CutMakes a call b → Effect (cut_state a) call (cut_state b)
 cut_effect a b call made = made.effect
 
-step_open : (s : Step) (b : BoardState CutState) (old new : WorldState) → IsOpen old b → 0 < old.openings → StepsIn s b old new → IsConsistent new × GivesAt new new.home
-step_open s b old new up some st =
+step_open : (s : Step) (b : BoardState CutState) (old new : WorldState) (told : Option Refusal) → IsOpen old b → 0 < old.openings → StepsIn s b old told new → IsConsistent new × GivesAt new new.home
+step_open s b old new told up some st =
     let k = does_stay cut_state CutMakes cut_effect old.config old.bases old.accepted up.parts b up.linked st.sound st.of_board s st.answer st.board st.does in
     let w : WorldState = record old { home = Up st.board; accepted = accepted_after s st.answer b old.accepted; published = published_after s st.answer b old.published } in
     let open_now : IsOpen w st.board = record { parts = k.parts; linked = k.linked; requests = requests_of w st.board k.parts k.linked; needs = needs } in
@@ -382,45 +393,59 @@ step_open s b old new up some st =
 
 -- 5. Events
 
-step_kept : (s : Step) (old new : WorldState) (home : Home) → old.home ≡ home → IsConsistentAt old home → StepsAt s home old new → IsConsistent new × GivesAt new new.home
-step_kept s old new (Up b) is kept (inl st) = step_open s b old new kept.0 kept.1 st
-step_kept s old new (Up b) is kept (inr same) =
-    subst (λ v. IsConsistent v × GivesAt v v.home) (sym same) (subst (λ h. IsConsistentAt old h × GivesAt old h) (sym is) (kept, gives_of old b kept.0.parts kept.0.linked))
-step_kept s old new (Down d) is kept same =
-    subst (λ v. IsConsistent v × GivesAt v v.home) (sym same) (subst (λ h. IsConsistentAt old h × GivesAt old h) (sym is) (kept, tt))
+lacks_same : (s : Step) (old new : WorldState) (told : Option Refusal) → LacksRoom s old told new → new ≡ old
+lacks_same (step.Submit n) old new told lacks = lacks.1
+lacks_same (step.Drive n act) old new told lacks = absurd lacks
+lacks_same (step.Pop n) old new told lacks = absurd lacks
+lacks_same (step.Collect n) old new told lacks = absurd lacks
+lacks_same (step.Publish n) old new told lacks = absurd lacks
+lacks_same (step.Take n) old new told lacks = absurd lacks
+lacks_same (step.Give n) old new told lacks = absurd lacks
+lacks_same step.Advance old new told lacks = absurd lacks
+lacks_same step.Settle old new told lacks = absurd lacks
+
+step_kept : (s : Step) (old new : WorldState) (told : Option Refusal) (home : Home) → old.home ≡ home → IsConsistentAt old home → StepsAt s home old told new → IsConsistent new × GivesAt new new.home
+step_kept s old new told (Up b) is kept (inl st) = step_open s b old new told kept.0 kept.1 st
+step_kept s old new told (Up b) is kept (inr lacks) =
+    subst (λ v. IsConsistent v × GivesAt v v.home) (sym (lacks_same s old new told lacks)) (subst (λ h. IsConsistentAt old h × GivesAt old h) (sym is) (kept, gives_of old b kept.0.parts kept.0.linked))
+step_kept s old new told (Down d) is kept same =
+    subst (λ v. IsConsistent v × GivesAt v v.home) (sym same.1) (subst (λ h. IsConsistentAt old h × GivesAt old h) (sym is) (kept, tt))
+
+-- a board whose disk's next failure is chosen is linked as before
+pub chosen_linked : (k : ℕ) (config : List GuestConfig) (bases : ℕ → Partition) (accepted : ℕ → List Request) (parts : ℕ → Part) (b : BoardState CutState) → IsLinkedBoard cut_state config bases accepted parts b
+    → IsLinkedBoard cut_state config bases accepted parts (choosing_call k b)
+chosen_linked k config bases accepted parts b l = record {
+  each = l.each;
+  kept = l.kept;
+  many = l.many;
+  held = l.held;
+  counted = l.counted;
+  places = (let p = l.places in record { devices = p.devices; jobs = p.jobs; dones = p.dones; intents = p.intents });
+  reported = l.reported;
+}
 
 fail_kept : (k : ℕ) (old new : WorldState) (home : Home) → IsConsistentAt old home → new ≡ record old { home = choosing k home } → IsConsistent new × GivesAt new new.home
 fail_kept k old new (Up b) kept after =
     let up = kept.0 in
-    let b' : BoardState CutState = record b { store = record b.store { disk = record b.store.disk { chosen = k } } } in
-    let w : WorldState = record old { home = Up b' } in
-    let l = up.linked in
-    let linked : IsLinkedBoard cut_state old.config old.bases old.accepted up.parts b' = record {
-      each = l.each;
-      kept = l.kept;
-      many = l.many;
-      held = l.held;
-      counted = l.counted;
-      places = (let p = l.places in record { devices = p.devices; jobs = p.jobs; dones = p.dones; intents = p.intents });
-      reported = l.reported;
-    } in
-    subst (λ v. IsConsistent v × GivesAt v v.home) (sym after) ((record { parts = up.parts; linked = linked; requests = up.requests; needs = up.needs }, kept.1), gives_of w b' up.parts linked)
+    let w : WorldState = record old { home = Up (choosing_call k b) } in
+    let linked = chosen_linked k old.config old.bases old.accepted up.parts b up.linked in
+    subst (λ v. IsConsistent v × GivesAt v v.home) (sym after) ((record { parts = up.parts; linked = linked; requests = up.requests; needs = up.needs }, kept.1), gives_of w (choosing_call k b) up.parts linked)
 fail_kept k old new (Down d) kept after = subst (λ v. IsConsistent v × GivesAt v v.home) (sym after) (stays kept, tt)
   where
     stays : IsNew old ⊎ WasOpened old d → IsConsistent (record old { home = Down (record d { chosen = k }) })
     stays (inl first) = inl (new_stays old _ first)
     stays (inr was) = (let c = was.closed in inr (record { closed = record { least = c.least; leaves = c.leaves; requests = c.requests; needs = c.needs }; openings = was.openings }))
 
-event_kept : (old new : WorldState) (e : Event) → IsConsistent old → Happens old e new → IsConsistent new × Headline old e new
-event_kept old new (Event.Do s) kept h = step_kept s old new old.home refl kept h
-event_kept old new (Event.Fail k) kept h = fail_kept k old new old.home kept h
-event_kept old new (Event.Stop filler) kept h = opening_kept h.0 old new (before_cut old (disk_of old.home) h.0 filler (stopped old old.home kept) h.1) h.2
-event_kept old new (Event.StopIn filler) kept h = opening_kept h.0 old new (cut_within old old.home filler h.0 kept h.1) h.2
-event_kept old new Event.Open kept h = opening_kept (disk_of old.home) old new (stopped old old.home kept) h
+pub event_kept : (old new : WorldState) (e : Event) (told : Option Refusal) → IsConsistent old → Happens old e told new → IsConsistent new × Headline old e new
+event_kept old new (event.Do s) told kept h = step_kept s old new told old.home refl kept h
+event_kept old new (event.Fail k) told kept h = fail_kept k old new old.home kept h.1
+event_kept old new (event.Stop filler) told kept h = opening_kept h.0 old new told (before_cut old (disk_of old.home) h.0 filler (stopped old old.home kept) h.1) h.2
+event_kept old new (event.StopIn filler) told kept h = opening_kept h.0 old new told (cut_within old old.home filler h.0 kept h.1) h.2
+event_kept old new event.Open told kept h = opening_kept (disk_of old.home) old new told (stopped old old.home kept) h
 
 pub headline_of_runs : HeadlineOfRuns
-headline_of_runs old new [] kept run = (tt, subst IsConsistent (sym run) kept)
-headline_of_runs old new (e ∷ es) kept run =
-    let one = event_kept old run.0 e kept run.1 in
-    let rest = headline_of_runs run.0 new es one.0 run.2 in
+headline_of_runs old new [] told kept run = (tt, subst IsConsistent (sym run.1) kept)
+headline_of_runs old new (e ∷ es) told kept run =
+    let one = event_kept old run.0 e run.2.one kept run.2.happens in
+    let rest = headline_of_runs run.0 new es run.1 one.0 run.3 in
     ((one.1, rest.0), rest.1)

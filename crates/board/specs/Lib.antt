@@ -4,5 +4,8 @@ pub mod Steps
 pub mod Board
 pub mod Opening
 pub mod World
+pub mod Logs
+pub mod Records
+pub mod Noting
 pub mod Kept
 pub mod Headline

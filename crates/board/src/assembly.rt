@@ -7,10 +7,11 @@ ghost use Rattle.rpmb_book.specs.Sound.{AreOfBoard, IsSound as IsSoundBook};
 ghost use Rattle.board.specs.State.{emptied, in_place};
 ghost use Rattle.board.specs.Steps.{Does, Acts, AdvancesUnder, advance_answer, report_of, CollectsInto, Drives, GivesWhere, PopsInto, PublishesFrom, SettlesBy, SubmitsFrom, TakesInto};
 ghost use Rattle.board.specs.Board.{IsSound};
+ghost use Rattle.board.specs.World.{choosing_call};
 ghost use Rattle.board.specs.declared.step.Report.TheVariants.{Marks as MarksReport};
 
 use crate::step::{Act, Report, Seen, Step, StepFault};
-use disk::Disk;
+use disk::{CutDisk, Disk};
 use flusher::{Progress, Store, StoreFault};
 use intent_slots::Intent;
 use mmio_transport::{Device, Done, Job};
@@ -266,5 +267,13 @@ impl<D: Disk> Assembly<D> {
             Step::Advance => self.advance(),
             Step::Settle => self.settle(),
         }
+    }
+}
+
+impl Assembly<CutDisk> {
+    pub(crate) fn fail(&mut self, k: u64)
+        ensures { self.new ≡ choosing_call k self.old }
+    {
+        self.store.fail(k);
     }
 }

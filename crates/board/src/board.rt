@@ -1,5 +1,5 @@
 //! A board: devices, a book and a store, and the steps between them.
-ghost use Rattle.std.specs.Prelude.{◌≡◌, ◌<◌, ℕ, List, true, false, length, IfOk, IfErr, OnOk};
+ghost use Rattle.std.specs.Prelude.{◌≡◌, ◌<◌, ℕ, List, true, false, length, slice_get, option_copied, option_map, IfOk, IfErr, OnOk};
 ghost use Rattle.rpmb_frame.specs.Partition as model;
 ghost use Rattle.rpmb_frame.specs.Request.{Request};
 ghost use Rattle.rpmb_frame.specs.declared.config.GuestConfig.{GuestConfig};
@@ -10,8 +10,10 @@ ghost use Rattle.flusher.specs.SlotInvariant.{IsHeld};
 ghost use Rattle.recovery.specs.Opening.{AllBegun, Answers, IsAtRest, Untouched, parts_of};
 ghost use Rattle.recovery.specs.Reading.{is_disk_fault};
 ghost use Rattle.rpmb_book.specs.Replay.{opened};
-ghost use Rattle.rpmb_book.specs.Sound.{AreOfBoard};
-ghost use Rattle.board.specs.State.{HasNothingBetween};
+ghost use Rattle.rpmb_book.specs.Book.{state};
+ghost use Rattle.rpmb_book.specs.Sound.{AreOfBoard, IsSound as IsSoundBook};
+ghost use Rattle.board.specs.State.{HasNothingBetween, guests, in_place};
+ghost use Rattle.board.specs.World.{choosing_call};
 ghost use Rattle.board.specs.Steps.{Does};
 ghost use Rattle.board.specs.Opening.{AreRequests, Begins, GoesOn, Stands, disk_left, new_board, opening_of};
 ghost use Rattle.board.specs.Board.{IsLinkedBoard, IsSound, LeavesPrefixes, StaysLinked, accepted_after, marks_in};
@@ -19,9 +21,9 @@ ghost use Rattle.board.specs.Board.{IsLinkedBoard, IsSound, LeavesPrefixes, Stay
 use crate::assembly::Assembly;
 use crate::opening::Beside;
 use crate::step::{Seen, Step, StepFault};
-use disk::Disk;
+use disk::{CutDisk, Disk};
 use flusher::Store;
-use mmio_transport::Device;
+use mmio_transport::{Device, Done, Job};
 use recovery::OpenFault;
 use rpmb_book::{Book, Shares, Tally};
 use rpmb_core::Partition;
@@ -163,6 +165,42 @@ impl<D: Disk> Board<D> {
         self.assembly.step(step)
     }
 
+    /// A guest's partition, after all its requests; None for a guest that the board lacks.
+    pub fn partition(&self, guest: u16) -> Option<&Partition>
+        ensures { option_copied result ≡ option_map (λ x. x.core.partition) (slice_get (guests self.now) guest) }
+    {
+        self.assembly.book.partition(guest)
+    }
+
+    /// What holds of the book, for proofs: it does nothing.
+    pub(crate) fn what_always_holds(&self)
+        ensures sound { IsSoundBook (state self.now.book) }
+        ensures of_board { AreOfBoard (state self.now.book) }
+    {
+        self.assembly.what_always_holds();
+    }
+
+    /// The guest's job that the book hasn't answered.
+    pub(crate) fn job(&self, guest: u16) -> Option<&Job>
+        ensures { option_copied result ≡ in_place (slice_get self.now.jobs guest) }
+    {
+        self.assembly.jobs.get(usize::from(guest))?.as_ref()
+    }
+
+    /// The guest's reply that its device hasn't written.
+    pub(crate) fn done(&self, guest: u16) -> Option<&Done>
+        ensures { option_copied result ≡ in_place (slice_get self.now.dones guest) }
+    {
+        self.assembly.dones.get(usize::from(guest))?.as_ref()
+    }
+
+    /// The store, as it is within an advance.
+    pub(crate) fn into_store(self) -> Store<D>
+        ensures { result ≡ self.store }
+    {
+        self.assembly.store
+    }
+
     /// The parts, as the steps left them. Nothing may lie between steps: no job, reply or intent of any
     /// guest, and no report.
     pub fn into_parts(self) -> Parts<D>
@@ -189,5 +227,14 @@ impl<D: Disk> Board<D> {
         ensures { result ≡ self.store.disk }
     {
         self.assembly.store.into_disk()
+    }
+}
+
+impl Board<CutDisk> {
+    /// Chooses the disk's call that is to fail, as `CutDisk::fail` does. It changes nothing else.
+    pub(crate) fn fail(&mut self, k: u64)
+        ensures { self.new ≡ choosing_call k self.old }
+    {
+        self.assembly.fail(k);
     }
 }

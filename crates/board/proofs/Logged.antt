@@ -1,0 +1,368 @@
+-- What is noted of a step, in the logs of all guests.
+use Rattle.std.proofs.Common.{◌≡◌, ◌≢◌, ◌⊎◌, inl, inr, ℕ, ◌+◌, ◌≤◌, ◌<◌, Bool, true, false, List, [], ◌∷◌, ◌++◌, Option, Some, None, Ok, Err, length, map, refl, ap, sym, subst, ◌∙◌, arith}
+use Rattle.std.specs.Prelude.{if◌then◌else◌, ◌==◌, option_map, slice_get, slice_index_or, slice_set}
+use Rattle.std.proofs.lemmas.Bool.{cases_eq}
+use Rattle.std.proofs.lemmas.Bool.Decides.{nat_tests}
+use Rattle.std.proofs.lemmas.Option.{slice_get_cases, slice_get-get_or, slice_get_within}
+use Rattle.rpmb_frame.specs.Limits.{Limits, limits_of}
+use Rattle.rpmb_frame.specs.Request.{Request}
+use Rattle.rpmb_frame.specs.Partition.{Partition}
+use Rattle.rpmb_frame.specs.declared.config.GuestConfig.{GuestConfig}
+use Rattle.disk.specs.CutDisk.{CutMakes, CutState, cut_state}
+use Rattle.intent_slots.specs.Recovered.{Part}
+use Rattle.flusher.proofs.Guests.{get_set_same, get_set_other}
+use Rattle.mmio_transport.specs.Device.{DeviceState}
+use Rattle.mmio_transport.specs.Job.{Job, Done}
+use Rattle.mmio_transport.specs.declared.done.Published.TheVariants.{Wrote, Dropped}
+use Rattle.rpmb_book.specs.Book.{guest_of, refusal_at, state, submit_of, submits_in, with_turn}
+use Rattle.rpmb_book.specs.Guest.{GuestState, submitted}
+use Rattle.rpmb_book.specs.Job.{Tally}
+use Rattle.board.specs.State.{BoardState, guests, in_place}
+use Rattle.board.specs.Steps.{Answer, Does, Idles, PublishesFrom, SubmitsFrom}
+use Rattle.board.specs.declared.step.Seen.TheVariants.{Did, Nothing, Value, Published}
+use Rattle.board.specs.declared.step.Step.TheVariants as step
+use Rattle.board.specs.Board.{IsLinkedBoard, accepted_after, accepted_by, answered, joined_when}
+use Rattle.board.specs.Logs.{GuestLog}
+use Rattle.board.specs.declared.home.Home.TheVariants.{Up}
+use Rattle.board.specs.declared.log.Publication.{Publication}
+use Rattle.board.specs.declared.step.Act.{Act}
+use Rattle.board.specs.declared.step.Step.{Step}
+use Rattle.board.specs.World.{published_after, publication_of, with_publication}
+use Rattle.board.specs.Records.{HasRoom, HaveRoom, accepted_in, accepted_of, asked_by, count_of, published_in, published_of}
+use Rattle.board.specs.Noting.{IsGuest, IsNoted, NotesSubmit, Submits, Unnoted}
+use Rattle.board.proofs.Doing.{full_at}
+use Rattle.board.proofs.Linked.{at_each, of_guest, other_guest, turned}
+use Rattle.board.proofs.Stays.{in_book}
+use Rattle.board.proofs.Noted.{IsQuiet, chosen_guest}
+
+-- 1. A Submit and a Publish, in the logs of all guests
+
+module _ (config : List GuestConfig) (n : ℕ) (answer : Answer) (b b' : BoardState CutState) (logs : List GuestLog) (log log' : GuestLog) (at : slice_get logs n ≡ Some log) where
+  abbrev Logs' : List GuestLog
+  Logs' = slice_set logs n log'
+
+  here : slice_get Logs' n ≡ Some log'
+  here = get_set_same logs n log log' at
+
+  other : (g : ℕ) → g ≢ n → slice_get Logs' g ≡ slice_get logs g
+  other g differs = get_set_other logs n g log' differs
+
+  said_same : (o : Option GuestConfig) → log'.accepted ≡ log.accepted → accepted_of o (Some log') ≡ accepted_of o (Some log)
+  said_same None same = refl
+  said_same (Some c) same = ap (map (asked_by c)) same
+
+  accepted_same : log'.accepted ≡ log.accepted → (g : ℕ) → accepted_in config Logs' g ≡ accepted_in config logs g
+  accepted_same same = at_each {P = λ g. accepted_in config Logs' g ≡ accepted_in config logs g} n
+      (ap (accepted_of (slice_get config n)) here ∙ said_same (slice_get config n) same ∙ ap (accepted_of (slice_get config n)) (sym at))
+      (λ g differs. ap (accepted_of (slice_get config g)) (other g differs))
+
+  published_same : log'.published ≡ log.published → (g : ℕ) → published_in Logs' g ≡ published_in logs g
+  published_same same = at_each {P = λ g. published_in Logs' g ≡ published_in logs g} n
+      (ap published_of here ∙ same ∙ ap published_of (sym at))
+      (λ g differs. ap published_of (other g differs))
+
+  -- room, guest by guest
+  room_each : (v : BoardState CutState)
+      → ((y : GuestState) → slice_get (guests v) n ≡ Some y → HasRoom log' y (slice_get v.dones n))
+      → ((g : ℕ) (l : GuestLog) (y : GuestState) → g ≢ n → slice_get logs g ≡ Some l → slice_get (guests v) g ≡ Some y → HasRoom l y (slice_get v.dones g))
+      → HaveRoom (Up v) Logs'
+  room_each v mine others g l y there is = elim (cases_eq g n) [
+    | inl same ↦ (let same_log : log' ≡ l = (let a = here in let c = ap (slice_get Logs') (sym same) ∙ there in cc) in
+        subst (λ k. HasRoom k y (slice_get v.dones g)) same_log (subst (λ k. HasRoom log' y (slice_get v.dones k)) (sym same) (mine y (ap (slice_get (guests v)) (sym same) ∙ is))))
+    | inr differs ↦ others g l y differs (sym (other g differs) ∙ there) is
+  ]
+
+  -- a guest's log that says the same, with as much room
+  same_room : log'.published ≡ log.published → log.room ≤ log'.room → (x : GuestState) (reply : Option (Option Done)) → HasRoom log x reply → HasRoom log' x reply
+  same_room same more x reply has = record {
+    few = has.few;
+    room = (let room = has.room in let long = ap length same in omega (arith, room, more, long));
+  }
+
+  -- 2. A Submit
+
+  module _ (linked_many : length (guests b) ≡ length config) (many : length logs ≡ length (guests b)) (is : (c : GuestConfig) → slice_get config n ≡ Some c → IsGuest c n b) (room : HaveRoom (Up b) logs) where
+    configured : (c : GuestConfig) × (slice_get config n ≡ Some c)
+    configured = elim (slice_get_cases config n).1 [
+      | inl there ↦ (there.0, there.2)
+      | inr past ↦ (let beyond = past.0 in let below = slice_get_within logs n log at in absurd (omega (arith, beyond, below, linked_many, many)))
+    ]
+
+    tallied : (t : ℕ) → option_map (λ v. v.guest) (slice_get b.tallies n) ≡ Some t → t ≡ n
+    tallied = (is configured.0 configured.1).tallied
+
+    only_here : (o : Option Job) (rs qs : ℕ → List Request) → rs n ≡ qs n → accepted_by (state b.book) o rs n ≡ accepted_by (state b.book) o qs n
+    only_here None rs qs same = same
+    only_here (Some job) rs qs same = ap (λ l. if n == job.guest then joined_when (state b.book).broken (slice_get (guests b) n) job l else l) same
+
+    unchosen : (m g : ℕ) (x y : List Request) → g ≢ m → (if g == m then y else x) ≡ x
+    unchosen m g x y differs = rw (not_it m g differs) refl
+      where
+        not_it : (k h : ℕ) → h ≢ k → (h == k) ≡ false
+        not_it k h differs = grind (arith, nat_tests)
+
+    -- what a Submit that wasn't refused made
+    record Went : Type 0 where
+      pub job : Job
+      pub lies : in_place (slice_get b.jobs n) ≡ Some job
+      pub its : job.guest ≡ n
+      pub known : (x : GuestState) → slice_get (guests b) n ≡ Some x → ¬ (length x.held ≡ 64)
+      pub did : answer ≡ Ok Did
+      pub book : b'.book ≡ with_turn b.book (submit_of b.book job)
+      pub dones : b'.dones ≡ b.dones
+
+    -- it went, or all is as it was and nothing is accepted
+    record Stayed : Type 0 where
+      pub board : b' ≡ b
+      pub nothing : answered (step.Submit n) answer b ≡ None
+
+    went_or_stayed : (o : Option Job) (tally : Option Tally) → in_place (slice_get b.jobs n) ≡ o → slice_get b.tallies n ≡ tally → SubmitsFrom n o tally answer b b' → Went ⊎ Stayed
+    went_or_stayed o None lies there does = inr (record { board = does.1; nothing = ap (λ a. answered (step.Submit n) a b) does.0 })
+    went_or_stayed None (Some tally) lies there does = inr (record { board = does.1; nothing = ap (λ a. answered (step.Submit n) a b) does.0 })
+    went_or_stayed (Some job) (Some tally) lies there does = elim does [
+      | inl went ↦ (let its : job.guest ≡ n = sym (of_guest (submits_in b.book) tally job (guest_of b.book job.guest) went.0) ∙ tallied tally.guest (ap (option_map (λ v. v.guest)) there) in
+          inl (record {
+            job = job;
+            lies = lies;
+            its = its;
+            known = λ x found. not_full (submits_in b.book) tally job x (subst (λ o. refusal_at (submits_in b.book) tally job o ≡ None) (ap (slice_get (guests b)) its ∙ found) went.0);
+            did = went.1;
+            book = ap (λ v. v.book) went.2;
+            dones = ap (λ v. v.dones) went.2;
+          }))
+      | inr refused ↦ inr (record { board = refused.1; nothing = ap (λ a. answered (step.Submit n) a b) refused.0 })
+    ]
+      where
+        not_full : (standing : ℕ) (tally : Tally) (job : Job) (x : GuestState) → refusal_at standing tally job (Some x) ≡ None → ¬ (length x.held ≡ 64)
+        not_full standing tally job x allowed = grind (arith, nat_tests)
+
+    -- of the other guests nothing is accepted
+    accepted_there : Went ⊎ Stayed → (g : ℕ) → g ≢ n → (rs : ℕ → List Request) → accepted_after (step.Submit n) answer b rs g ≡ rs g
+    accepted_there (inl went) g differs rs =
+        ap (λ a. accepted_after (step.Submit n) a b rs g) went.did ∙ ap (λ o. accepted_by (state b.book) o rs g) went.lies
+        ∙ unchosen went.job.guest g (rs g) (joined_when (state b.book).broken (slice_get (guests b) g) went.job (rs g)) (λ e. differs (e ∙ went.its))
+    accepted_there (inr stayed) g differs rs = ap (λ o. accepted_by (state b.book) o rs g) stayed.nothing
+
+    submit_says : Submits n answer b b' log log' → (g : ℕ) → accepted_in config Logs' g ≡ accepted_after (step.Submit n) answer b (accepted_in config logs) g
+    submit_says made = at_each {P = λ g. accepted_in config Logs' g ≡ accepted_after (step.Submit n) answer b (accepted_in config logs) g} n mine
+        (λ g differs. ap (accepted_of (slice_get config g)) (other g differs) ∙ sym (accepted_there (went_or_stayed (in_place (slice_get b.jobs n)) (slice_get b.tallies n) refl refl made.does) g differs (accepted_in config logs)))
+      where
+        mine : accepted_in config Logs' n ≡ accepted_after (step.Submit n) answer b (accepted_in config logs) n
+        mine =
+            let c = configured.0 in
+            let said : accepted_in config logs n ≡ map (asked_by c) log.accepted = ap (λ o. accepted_of o (slice_get logs n)) configured.1 ∙ ap (accepted_of (Some c)) at in
+            ap (λ o. accepted_of o (slice_get Logs' n)) configured.1 ∙ ap (accepted_of (Some c)) here ∙ made.accepted c (is c configured.1)
+            ∙ only_here (answered (step.Submit n) answer b) (λ h. map (asked_by c) log.accepted) (accepted_in config logs) (sym said)
+
+    few_done : (o : Option Done) → count_of o ≤ 1
+    few_done None = omega arith
+    few_done (Some d) = omega arith
+
+    submit_room : NotesSubmit n answer b b' log log' → Submits n answer b b' log log' → Went ⊎ Stayed → HaveRoom (Up b') Logs'
+    submit_room notes made (inr stayed) = subst (λ v. HaveRoom (Up v) Logs') (sym stayed.board)
+        (room_each b (λ y there. same_room notes.published notes.capacity y (slice_get b.dones n) (room n log y at there)) (λ g l y differs found there. room g l y found there))
+    submit_room notes made (inl went) = room_each b' mine others
+      where
+        mine : (y : GuestState) → slice_get (guests b') n ≡ Some y → HasRoom log' y (slice_get b'.dones n)
+        mine y there =
+            let x = turned b.book (submit_of b.book went.job) n y (ap (λ v. slice_get (state v).guests n) (sym went.book) ∙ there) in
+            let has = room n log x.0 at x.1 in
+            let few = has.few in
+            let not_full = went.known x.0 x.1 in
+            let long : length y.held ≡ length x.0.held + 1 = ap (λ v. length v.held) (x.2 ∙ chosen_guest went.job.guest n went.its x.0 (submitted (state b.book).broken went.job x.0)) ∙ one_longer x.0.held _ in
+            let wide = made.room went.did in
+            let one = few_done (in_place (slice_get b'.dones n)) in
+            let less = below (length x.0.held) few not_full in
+            let same = ap length notes.published in
+            record { few = omega (arith, long, less); room = omega (arith, long, less, one, wide, same) }
+          where
+            below : (k : ℕ) → k ≤ 64 → ¬ (k ≡ 64) → k < 64
+            below k few differs = grind (arith)
+
+            one_longer : {X : Type 0} (list : List X) (x : X) → length (list ++ x ∷ []) ≡ length list + 1
+            one_longer [] x = omega arith
+            one_longer (v ∷ list) x = (let rest = one_longer list x in omega (arith, rest))
+
+        others : (g : ℕ) (l : GuestLog) (y : GuestState) → g ≢ n → slice_get logs g ≡ Some l → slice_get (guests b') g ≡ Some y → HasRoom l y (slice_get b'.dones g)
+        others g l y differs found there =
+            let before = other_guest b.book (submit_of b.book went.job) went.job.guest (submitted (state b.book).broken went.job) (λ k x. refl) g (λ e. differs (e ∙ went.its)) y (ap (λ v. slice_get (state v).guests g) (sym went.book) ∙ there) in
+            subst (HasRoom l y) (ap (λ d. slice_get d g) (sym went.dones)) (room g l y found before)
+
+    pub submit_noted : NotesSubmit n answer b b' log log' → IsNoted config (step.Submit n) answer b b' logs Logs'
+    submit_noted notes = by notes.made
+      where
+        by : Submits n answer b b' log log' ⊎ Unnoted answer b b' log log' → IsNoted config (step.Submit n) answer b b' logs Logs'
+        by (inl made) = record {
+          steps = inl (made.does, record { accepted = submit_says made; published = published_same notes.published });
+          room = submit_room notes made (went_or_stayed (in_place (slice_get b.jobs n)) (slice_get b.tallies n) refl refl made.does);
+        }
+        by (inr unnoted) = record {
+          steps = inr (unnoted.answer_is, record { board = unnoted.board; accepted = accepted_same unnoted.accepted; published = published_same notes.published });
+          room = subst (λ v. HaveRoom (Up v) Logs') (sym unnoted.board)
+              (room_each b (λ y there. same_room notes.published notes.capacity y (slice_get b.dones n) (room n log y at there)) (λ g l y differs found there. room g l y found there));
+        }
+
+    -- 3. A Publish
+
+    publish_here : (a : Answer) (ps qs : ℕ → List Publication) → ps n ≡ qs n → published_after (step.Publish n) a b ps n ≡ published_after (step.Publish n) a b qs n
+    publish_here (Ok (Published (Wrote notify))) ps qs same = ap (λ l. if n == n then with_publication (in_place (slice_get b.dones n)) l else l) same
+    publish_here (Ok (Published Dropped)) ps qs same = same
+    publish_here (Ok (Value v)) ps qs same = same
+    publish_here (Ok Did) ps qs same = same
+    publish_here (Ok Nothing) ps qs same = same
+    publish_here (Err e) ps qs same = same
+
+    publish_there : (a : Answer) (ps : ℕ → List Publication) (g : ℕ) → g ≢ n → published_after (step.Publish n) a b ps g ≡ ps g
+    publish_there (Ok (Published (Wrote notify))) ps g differs = rw (not_it n g differs) refl
+      where
+        not_it : (k h : ℕ) → h ≢ k → (h == k) ≡ false
+        not_it k h differs = grind (arith, nat_tests)
+    publish_there (Ok (Published Dropped)) ps g differs = refl
+    publish_there (Ok (Value v)) ps g differs = refl
+    publish_there (Ok Did) ps g differs = refl
+    publish_there (Ok Nothing) ps g differs = refl
+    publish_there (Err e) ps g differs = refl
+
+    one_more : (o : Option Done) (list : List Publication) → length (with_publication o list) ≤ length list + count_of o
+    one_more None list = omega arith
+    one_more (Some d) list = by list
+      where
+        by : (list : List Publication) → length (list ++ publication_of d ∷ []) ≤ length list + 1
+        by [] = omega arith
+        by (p ∷ list) = (let rest = by list in omega (arith, rest))
+
+    publish_long : (a : Answer) (ps : ℕ → List Publication) → length (published_after (step.Publish n) a b ps n) ≤ length (ps n) + count_of (in_place (slice_get b.dones n))
+    publish_long (Ok (Published (Wrote notify))) ps = at_most (n == n) (one_more (in_place (slice_get b.dones n)) (ps n))
+      where
+        at_most : (c : Bool) → length (with_publication (in_place (slice_get b.dones n)) (ps n)) ≤ length (ps n) + count_of (in_place (slice_get b.dones n))
+            → length (if c then with_publication (in_place (slice_get b.dones n)) (ps n) else ps n) ≤ length (ps n) + count_of (in_place (slice_get b.dones n))
+        at_most true le = le
+        at_most false le = omega arith
+    publish_long (Ok (Published Dropped)) ps = omega arith
+    publish_long (Ok (Value v)) ps = omega arith
+    publish_long (Ok Did) ps = omega arith
+    publish_long (Ok Nothing) ps = omega arith
+    publish_long (Err e) ps = omega arith
+
+    -- the book is as it was, and the reply's place is empty then
+    record Emptied : Type 0 where
+      pub book : b'.book ≡ b.book
+      pub gone : count_of (in_place (slice_get b'.dones n)) ≡ 0
+      pub rest : (g : ℕ) → g ≢ n → slice_get b'.dones g ≡ slice_get b.dones g
+
+    pub publish_noted : Does cut_state CutMakes (step.Publish n) answer b b' → log' ≡ record log { published = published_after (step.Publish n) answer b (λ g. log.published) n }
+        → IsNoted config (step.Publish n) answer b b' logs Logs'
+    publish_noted does is_log = record {
+      steps = inl (
+        does,
+        record {
+          accepted = accepted_same (ap (λ l. l.accepted) is_log);
+          published = at_each {P = λ g. published_in Logs' g ≡ published_after (step.Publish n) answer b (published_in logs) g} n
+              (ap published_of here ∙ ap (λ l. l.published) is_log ∙ publish_here answer (λ g. log.published) (published_in logs) (sym (ap published_of at)))
+              (λ g differs. ap published_of (other g differs) ∙ sym (publish_there answer (published_in logs) g differs));
+        },
+      );
+      room = (let gone = empties (in_place (slice_get b.dones n)) (slice_get b.devices n) refl does in room_each b' (mine gone) (others gone));
+    }
+      where
+        empties : (o : Option Done) (device : Option DeviceState) → in_place (slice_get b.dones n) ≡ o → PublishesFrom n o device answer b b' → Emptied ⊎ Idles answer b b'
+        empties o None lies does = inr does
+        empties None (Some d) lies does = inr does
+        empties (Some r) (Some d) lies does = inl (record {
+          book = ap (λ v. v.book) does.after;
+          gone = ap (λ v. count_of (in_place (slice_get v.dones n))) does.after ∙ ap (λ o. count_of (in_place o)) (get_set_same b.dones n (Some r) None (full_at (slice_get b.dones n) r (sym lies)));
+          rest = λ g differs. ap (λ v. slice_get v.dones g) does.after ∙ get_set_other b.dones n g None differs;
+        })
+
+        mine : Emptied ⊎ Idles answer b b' → (y : GuestState) → slice_get (guests b') n ≡ Some y → HasRoom log' y (slice_get b'.dones n)
+        mine (inl went) y there =
+            let has = room n log y at (ap (λ v. slice_get (state v).guests n) (sym went.book) ∙ there) in
+            let fits = has.room in
+            let long = publish_long answer (λ g. log.published) in
+            let is = ap (λ l. length l.published) is_log in
+            let wide = ap (λ l. l.room) is_log in
+            let gone = went.gone in
+            record { few = has.few; room = omega (arith, fits, long, is, wide, gone) }
+        mine (inr idle) y there =
+            let unsaid = ap (λ l. l.published) is_log ∙ ap (λ a. published_after (step.Publish n) a b (λ g. log.published) n) idle.0 in
+            let wide = ap (λ l. l.room) is_log in
+            same_room unsaid (omega (arith, wide)) y (slice_get b'.dones n)
+            (subst (λ v. HasRoom log y (slice_get v.dones n)) (sym idle.1) (room n log y at (ap (λ v. slice_get (guests v) n) (sym idle.1) ∙ there)))
+
+        others : Emptied ⊎ Idles answer b b' → (g : ℕ) (l : GuestLog) (y : GuestState) → g ≢ n → slice_get logs g ≡ Some l → slice_get (guests b') g ≡ Some y → HasRoom l y (slice_get b'.dones g)
+        others (inl went) g l y differs found there = subst (HasRoom l y) (sym (went.rest g differs)) (room g l y found (ap (λ v. slice_get (state v).guests g) (sym went.book) ∙ there))
+        others (inr idle) g l y differs found there = subst (λ v. HasRoom l y (slice_get v.dones g)) (sym idle.1) (room g l y found (ap (λ v. slice_get (guests v) g) (sym idle.1) ∙ there))
+
+-- 4. As the code looks at them
+
+guest_is : (config : List GuestConfig) (bases : ℕ → Partition) (accepted : ℕ → List Request) (parts : ℕ → Part) (b : BoardState CutState) → IsLinkedBoard cut_state config bases accepted parts b
+    → (n : ℕ) (c : GuestConfig) → slice_get config n ≡ Some c → IsGuest c n b
+guest_is config bases accepted parts b linked n c at =
+    let x = in_book cut_state config bases accepted parts b linked n (slice_get_within config n c at) in
+    let counted = (linked.each n x.0 x.1).tallied in
+    record {
+      limits = λ y there. same_limits (limits_of c) y.core.limits (ap (option_map limits_of) (sym at) ∙ (linked.each n y there).limits);
+      tallied = λ t told. same_guest n t (ap (option_map (λ v. v.guest)) (sym counted) ∙ told);
+    }
+  where
+    same_limits : (l k : Limits) → Some l ≡ Some k → k ≡ l
+    same_limits l k is = cc
+
+    same_guest : (k t : ℕ) → Some k ≡ Some t → t ≡ k
+    same_guest k t is = cc
+
+module _ (config : List GuestConfig) (bases : ℕ → Partition) (accepted : ℕ → List Request) (parts : ℕ → Part) (b : BoardState CutState) (linked : IsLinkedBoard cut_state config bases accepted parts b)
+    (logs : List GuestLog) (many : length logs ≡ length (guests b)) (room : HaveRoom (Up b) logs) where
+  pub submit_is : (s : Step) (n at : ℕ) (answer : Answer) (b' : BoardState CutState) (log log' : GuestLog) → s ≡ step.Submit n → at ≡ n → at < length logs → log ≡ slice_index_or logs at log
+      → NotesSubmit n answer b b' log log' → IsNoted config s answer b b' logs (slice_set logs at log')
+  submit_is s n at answer b' log log' is same below read notes =
+      let there : slice_get logs n ≡ Some log = ap (slice_get logs) (sym same) ∙ slice_get-get_or logs at log below ∙ ap Some (sym read) in
+      subst (λ k. IsNoted config s answer b b' logs (slice_set logs k log')) (sym same)
+      (subst (λ v. IsNoted config v answer b b' logs (slice_set logs n log')) (sym is)
+      (submit_noted config n answer b b' logs log log' there linked.many many (guest_is config bases accepted parts b linked n) room notes))
+
+  pub publish_is : (s : Step) (n at : ℕ) (answer : Answer) (b' : BoardState CutState) (log log' : GuestLog) → s ≡ step.Publish n → at ≡ n → at < length logs → log ≡ slice_index_or logs at log
+      → Does cut_state CutMakes (step.Publish n) answer b b' → log' ≡ record log { published = published_after (step.Publish n) answer b (λ g. log.published) n }
+      → IsNoted config s answer b b' logs (slice_set logs at log')
+  publish_is s n at answer b' log log' is same below read does after =
+      let there : slice_get logs n ≡ Some log = ap (slice_get logs) (sym same) ∙ slice_get-get_or logs at log below ∙ ap Some (sym read) in
+      subst (λ k. IsNoted config s answer b b' logs (slice_set logs k log')) (sym same)
+      (subst (λ v. IsNoted config v answer b b' logs (slice_set logs n log')) (sym is)
+      (publish_noted config n answer b b' logs log log' there linked.many many (guest_is config bases accepted parts b linked n) room does after))
+
+  -- no place of a guest that the board lacks is full
+  none_there : {X : Type 0} (places : List (Option X)) (n : ℕ) → length places ≡ length config → length logs ≤ n → in_place (slice_get places n) ≡ None
+  none_there places n wide past = elim (slice_get_cases places n).1 [
+    | inl found ↦ (let below = slice_get_within places n found.0 found.2 in let all = linked.many in absurd (omega (arith, below, wide, past, many, all)))
+    | inr beyond ↦ ap in_place beyond.1
+  ]
+
+  pub submit_past : (n at : ℕ) → at ≡ n → length logs ≤ at → in_place (slice_get b.jobs n) ≡ None
+  submit_past n at same past = none_there b.jobs n linked.places.jobs (omega (arith, same, past))
+
+  pub publish_past : (n at : ℕ) → at ≡ n → length logs ≤ at → in_place (slice_get b.dones n) ≡ None
+  publish_past n at same past = none_there b.dones n linked.places.dones (omega (arith, same, past))
+
+-- what a Publish asks for
+pub room_for_one : (b : BoardState CutState) (logs : List GuestLog) (n at : ℕ) (log : GuestLog) → length logs ≡ length (guests b) → HaveRoom (Up b) logs → at ≡ n → at < length logs → log ≡ slice_index_or logs at log
+    → length log.published + count_of (in_place (slice_get b.dones n)) ≤ log.room
+room_for_one b logs n at log many room same below read =
+    let there : slice_get logs n ≡ Some log = ap (slice_get logs) (sym same) ∙ slice_get-get_or logs at log below ∙ ap Some (sym read) in
+    let inside = slice_get_within logs n log there in
+    elim (slice_get_cases (guests b) n).1 [
+      | inl found ↦ (let has = (room n log found.0 there found.2).room in omega (arith, has))
+      | inr beyond ↦ (let past = beyond.0 in absurd (omega (arith, past, inside, many)))
+    ]
+
+-- the other steps
+abbrev Others : Step → Type 0
+Others s = ((n : ℕ) × (act : Act) × (s ≡ step.Drive n act)) ⊎ (((n : ℕ) × (s ≡ step.Pop n)) ⊎ (((n : ℕ) × (s ≡ step.Collect n)) ⊎ (((n : ℕ) × (s ≡ step.Take n)) ⊎ (((n : ℕ) × (s ≡ step.Give n)) ⊎ ((s ≡ step.Advance) ⊎ (s ≡ step.Settle))))))
+
+pub quiet_others : (s : Step) (b : BoardState CutState) → Others s → IsQuiet s b
+quiet_others s b (inl d) = subst (λ v. IsQuiet v b) (sym d.2) tt
+quiet_others s b (inr (inl p)) = subst (λ v. IsQuiet v b) (sym p.1) tt
+quiet_others s b (inr (inr (inl c))) = subst (λ v. IsQuiet v b) (sym c.1) tt
+quiet_others s b (inr (inr (inr (inl t)))) = subst (λ v. IsQuiet v b) (sym t.1) tt
+quiet_others s b (inr (inr (inr (inr (inl g))))) = subst (λ v. IsQuiet v b) (sym g.1) tt
+quiet_others s b (inr (inr (inr (inr (inr (inl a)))))) = subst (λ v. IsQuiet v b) (sym a) tt
+quiet_others s b (inr (inr (inr (inr (inr (inr z)))))) = subst (λ v. IsQuiet v b) (sym z) tt
