@@ -1,3 +1,4 @@
+mod acts;
 mod breaks;
 mod devices;
 mod entries;
@@ -10,3 +11,4 @@ mod memory;
 mod receipts;
 mod scene;
 mod stops;
+mod worlds;

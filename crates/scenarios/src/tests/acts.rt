@@ -1,0 +1,156 @@
+//! What happens to a world: a driver that sets its device up and offers chains, and the steps that take
+//! requests to their replies.
+
+use board::{Act, Event, Step};
+use disk::Filler;
+use mmio_transport::register as reg;
+use std::alloc::Global;
+use std::test::Fail;
+
+/// What a driver writes into the registers: a reset, VIRTIO_F_VERSION_1 alone, a queue of 16 with its
+/// descriptors at 0x1000, its available ring at 0x2000 and its used ring at 0x3000, and DRIVER_OK
+/// (VIRTIO 1.2, 3.1.1 and 4.2.3.2).
+const SETUP: [(u32, u32); 14] = [
+    (reg::STATUS, 0),
+    (reg::STATUS, 3),
+    (reg::DRIVER_FEATURES_SEL, 0),
+    (reg::DRIVER_FEATURES, 0),
+    (reg::DRIVER_FEATURES_SEL, 1),
+    (reg::DRIVER_FEATURES, 1),
+    (reg::STATUS, 11),
+    (reg::QUEUE_SEL, 0),
+    (reg::QUEUE_NUM, 16),
+    (reg::QUEUE_DESC_LOW, 0x1000),
+    (reg::QUEUE_DRIVER_LOW, 0x2000),
+    (reg::QUEUE_DEVICE_LOW, 0x3000),
+    (reg::QUEUE_READY, 1),
+    (reg::STATUS, 15),
+];
+
+/// Two descriptors (VIRTIO 1.2, 2.7.5): the request of 512 or 1,024 bytes at 0x4000, and room for 512 bytes
+/// at 0x8000.
+fn descriptors(frames: usize) -> [u8; 32] {
+    let mut bytes = [0; 32];
+    bytes[1] = 0x40;
+    bytes[9] = 2 * frames.min(100) as u8;
+    bytes[12] = 1;
+    bytes[14] = 1;
+    bytes[17] = 0x80;
+    bytes[25] = 2;
+    bytes[28] = 2;
+    bytes
+}
+
+/// Events in their order, up to one that is to come in place of the store's n-th advance.
+#[derive(Drop)]
+pub struct Acts {
+    alloc: Global,
+    pub events: Vec<Event>,
+    /// How many advances come before the stop; None where there is no stop.
+    left: Option<u32>,
+    filler: u8,
+    /// How many chains each guest has offered since its setup.
+    offered: [u16; 3],
+}
+
+/// The fillers of a stop, by number.
+fn filler_of(alloc: Global, number: u8) -> Result<Filler, Fail> {
+    match number {
+        0 => Ok(Filler::Old),
+        1 => Ok(Filler::New),
+        2 => Ok(Filler::Fill(Vec::new(alloc))),
+        _ => Ok(Filler::Fill(Vec::from_slice(alloc, &[0xff])?)),
+    }
+}
+
+impl Acts {
+    /// None yet; they end with a stop within the advance after `left` others.
+    pub fn new(alloc: Global, left: Option<u32>, filler: u8) -> Acts {
+        Acts {
+            alloc,
+            events: Vec::new(alloc),
+            left,
+            filler,
+            offered: [0; 3],
+        }
+    }
+
+    /// One more event, unless the stop has come.
+    pub fn add(&mut self, event: Event) -> Result<(), Fail> {
+        if let Some(Event::StopIn(_)) = self.events.last() {
+            return Ok(());
+        }
+        Ok(self.events.push(event)?)
+    }
+
+    pub fn step(&mut self, step: Step) -> Result<(), Fail> {
+        self.add(Event::Do(step))
+    }
+
+    /// The store's next call, or the stop in its place; and what it means to the book.
+    pub fn advance(&mut self) -> Result<(), Fail> {
+        if self.left == Some(0) {
+            let filler = filler_of(self.alloc, self.filler)?;
+            return self.add(Event::StopIn(filler));
+        }
+        self.left = self.left.map(|left| left.saturating_sub(1));
+        self.step(Step::Advance)?;
+        self.step(Step::Settle)
+    }
+
+    pub fn advances(&mut self, times: u32) -> Result<(), Fail> {
+        for _ in 0..times {
+            self.advance()?;
+        }
+        Ok(())
+    }
+
+    /// Sets a guest's device up.
+    pub fn set_up(&mut self, guest: u16) -> Result<(), Fail> {
+        for (offset, value) in SETUP.iter() {
+            let act = Act::Write {
+                offset: *offset,
+                width: 4,
+                value: *value,
+            };
+            self.step(Step::Drive(guest, act))?;
+        }
+        if let Some(offered) = self.offered.get_mut(usize::from(guest)) {
+            *offered = 0;
+        }
+        Ok(())
+    }
+
+    fn store(&mut self, guest: u16, at: u64, bytes: &[u8]) -> Result<(), Fail> {
+        let bytes = bytes.to_vec(self.alloc)?;
+        self.step(Step::Drive(guest, Act::Store { at, bytes }))
+    }
+
+    /// A guest offers a chain of these frames with room for one, and its job is answered.
+    pub fn submit(&mut self, guest: u16, frames: &[[u8; 512]]) -> Result<(), Fail> {
+        let Some(offered) = self.offered.get_mut(usize::from(guest)) else {
+            return Err(Fail::from("no such guest"));
+        };
+        let place = *offered % 16;
+        *offered = offered.wrapping_add(1);
+        let index = offered.to_le_bytes();
+        self.store(guest, 0x4000, frames.as_flattened())?;
+        self.store(guest, 0x1000, &descriptors(frames.len()))?;
+        self.store(guest, 0x2004 + 2 * u64::from(place), &[0, 0])?;
+        self.store(guest, 0x2002, &index)?;
+        self.step(Step::Pop(guest))?;
+        self.step(Step::Submit(guest))
+    }
+
+    /// The guest's next intent goes to the store.
+    pub fn hand_over(&mut self, guest: u16) -> Result<(), Fail> {
+        self.step(Step::Take(guest))?;
+        self.step(Step::Give(guest))
+    }
+
+    /// The guest's next reply leaves, where it may.
+    pub fn reply(&mut self, guest: u16) -> Result<(), Fail> {
+        self.step(Step::Collect(guest))?;
+        self.step(Step::Publish(guest))
+    }
+}
