@@ -11,4 +11,5 @@ mod memory;
 mod receipts;
 mod scene;
 mod stops;
+mod sweeps;
 mod worlds;

@@ -10,7 +10,7 @@ use std::alloc::Global;
 use std::test::Fail;
 
 /// A world over a fresh image of so many guests.
-fn world_of(alloc: Global, guests: usize) -> Result<World, Fail> {
+pub fn world_of(alloc: Global, guests: usize) -> Result<World, Fail> {
     let board = board_of(alloc, guests)?;
     let disk = formatted(alloc, &board)?;
     Ok(World::new(alloc, disk, board))

@@ -1,0 +1,124 @@
+//! Three guests side by side, stopped within each of the store's advances in turn, with each filler.
+
+use crate::tests::acts::Acts;
+use crate::tests::scene::{KEY, board_of, check, get_write_counter, program_key, write_of};
+use crate::tests::worlds::world_of;
+use board::{Event, World};
+use rpmb_core::{OK, Partition, is_change};
+use rpmb_frame::{Limits, Request};
+use std::alloc::Global;
+use std::test::Fail;
+
+/// How many advances the list has.
+const ADVANCES: u32 = 64;
+
+/// Each guest programs its key, writes twice and reads after each write.
+fn mixed(acts: &mut Acts) -> Result<(), Fail> {
+    acts.add(Event::Open)?;
+    for guest in 0..3 {
+        acts.set_up(guest)?;
+        acts.submit(guest, &program_key(&KEY))?;
+        acts.hand_over(guest)?;
+        acts.advances(2)?;
+    }
+    for place in 0..6_u16 {
+        serve(acts, place % 3, u32::from(place / 3))?;
+    }
+    acts.advances(40)?;
+    for place in 0..15_u16 {
+        acts.reply(place % 3)?;
+    }
+    Ok(())
+}
+
+/// A guest's next write and a read after it, while the store goes on.
+fn serve(acts: &mut Acts, guest: u16, counter: u32) -> Result<(), Fail> {
+    acts.submit(guest, &write_of(0x40 + (guest % 64) as u8, counter))?;
+    acts.submit(guest, &get_write_counter(u128::from(counter)))?;
+    acts.hand_over(guest)?;
+    acts.advances(3)?;
+    acts.reply(guest)?;
+    acts.reply(guest)
+}
+
+/// The limits of each guest.
+fn limits(alloc: Global) -> Result<Limits, Fail> {
+    let board = board_of(alloc, 1)?;
+    match board.guests().first() {
+        Some(guest) => Ok(Limits::of(guest)),
+        None => Err(Fail::from("no guest")),
+    }
+}
+
+#[tactic(auto, unfolding(rpmb_core::specs::Accept::is_accepted))]
+fn accept(partition: &mut Partition, request: &Request<'_>) {
+    if is_change(request) && partition.verdict(request) == OK {
+        partition.accept(request);
+    }
+}
+
+/// A guest's base after all that was accepted.
+fn replayed(alloc: Global, world: &World, guest: u16) -> Result<Partition, Fail> {
+    let limits = limits(alloc)?;
+    let Some(base) = world.base(guest) else {
+        return Err(Fail::from("no base"));
+    };
+    let mut partition = base.copy(alloc)?;
+    for accepted in world.accepted(guest) {
+        let request = Request::classify(accepted.request(), accepted.writable(), limits);
+        accept(&mut partition, &request);
+    }
+    Ok(partition)
+}
+
+fn is_same(one: &Partition, other: &Partition) -> bool {
+    for address in 0..512_u16 {
+        if one.block(address) != other.block(address) {
+            return false;
+        }
+    }
+    one.key() == other.key() && one.counter() == other.counter()
+}
+
+/// Whether every reply that was published needs no more than was accepted.
+fn holds(world: &World, guest: u16) -> bool {
+    let accepted = world.accepted(guest).len() as u64;
+    world
+        .published(guest)
+        .iter()
+        .all(|publication| publication.need <= accepted)
+}
+
+/// The guest has the partition after what was accepted, which holds what it was shown.
+fn check_guest(alloc: Global, world: &World, guest: u16) -> Result<(), Fail> {
+    let after = replayed(alloc, world, guest)?;
+    check(
+        world
+            .partition(guest)
+            .is_some_and(|now| is_same(now, &after)),
+        "a partition",
+    )?;
+    check(holds(world, guest), "a need")
+}
+
+fn stopped(alloc: Global, left: u32, filler: u8) -> Result<(), Fail> {
+    let mut world = world_of(alloc, 3)?;
+    let mut acts = Acts::new(alloc, Some(left), filler);
+    mixed(&mut acts)?;
+    check(world.run(&acts.events).is_none(), "a refusal")?;
+    check(world.openings() == 2, "an opening")?;
+    for guest in 0..3 {
+        check_guest(alloc, &world, guest)?;
+    }
+    Ok(())
+}
+
+#[test]
+fn a_stop_within_each_advance(rt: HostRuntime) -> Result<(), Fail> {
+    for left in 0..ADVANCES {
+        for filler in 0..4 {
+            stopped(rt.alloc(), left, filler)?;
+        }
+    }
+    Ok(())
+}
