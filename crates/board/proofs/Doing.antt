@@ -7,7 +7,7 @@ use Rattle.intent_slots.specs.Recovered.{Part}
 use Rattle.flusher.specs.declared.progress.Progress.{Progress}
 use Rattle.flusher.specs.declared.progress.StoreFault.{StoreFault}
 use Rattle.flusher.specs.declared.progress.StoreFault.TheVariants.{Broken, DiskFault}
-use Rattle.flusher.specs.Round.{Moves, Round, parts_after, planned, under_way}
+use Rattle.flusher.specs.Round.{FrontStays, Moves, Round, parts_after, planned, under_way}
 use Rattle.flusher.specs.SlotInvariant.{EachStop, IsHeld}
 use Rattle.flusher.specs.Store.{StoreState}
 use Rattle.mmio_transport.specs.Job.{Job}
@@ -20,7 +20,7 @@ use Rattle.board.specs.Steps.{AdvancesUnder, Answer, SubmitsFrom, advance_answer
 use Rattle.board.specs.declared.step.StepFault.TheVariants as fault
 use Rattle.board.specs.declared.step.Report.{Report}
 
-set_same : {X : Type 0} (xs : List X) (k : ℕ) (x : X) → slice_get xs k ≡ Some x → slice_set xs k x ≡ xs
+pub set_same : {X : Type 0} (xs : List X) (k : ℕ) (x : X) → slice_get xs k ≡ Some x → slice_set xs k x ≡ xs
 set_same [] zero x is = refl
 set_same [] (suc k) x is = refl
 set_same (y ∷ xs) zero x is = (let e : y ≡ x = cc in ap (λ v. v ∷ xs) (sym e))
@@ -83,9 +83,10 @@ pub advances_of : {D : Type 0} (shows : D → DiskState) (makes : D → DiskCall
     → Moves progress old.store.guests store'.guests
     → ((parts : ℕ → Part) → IsHeld parts old.store.guests old.store.broken (shows old.store.disk) → Within shows makes (EachStop parts (under_way old.store.guests)) old.store.disk store'.disk)
     → ((parts : ℕ → Part) → IsHeld parts old.store.guests old.store.broken (shows old.store.disk) → IsHeld (parts_after progress old.store.guests parts) store'.guests store'.broken (shows store'.disk))
+    → ((shows old.store.disk).faithful ≡ true → Within shows makes (FrontStays (shows old.store.disk)) old.store.disk store'.disk)
     → answer ≡ advance_answer progress → report' ≡ report_of progress
     → AdvancesUnder shows makes old.report answer old (record old { store = store'; report = report' })
-advances_of shows makes old progress store' answer report' none round refused cause moves moments held answers told =
+advances_of shows makes old progress store' answer report' none round refused cause moves moments held front answers told =
     subst (λ r. AdvancesUnder shows makes r answer old (record old { store = store'; report = report' })) (sym none)
     (record {
       progress = progress;
@@ -96,6 +97,7 @@ advances_of shows makes old progress store' answer report' none round refused ca
       moves = moves;
       moments = moments;
       held = held;
+      front = front;
       answers = answers;
       after = ap (λ r. record old { store = store'; report = r }) told;
     })

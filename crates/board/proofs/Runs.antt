@@ -94,7 +94,7 @@ get_or-false (suc n) zero = refl
 get_or-false (suc n) (suc k) = get_or-false n k
 
 -- what is cut leaves no more than what it was cut from
-cut_leaves : (d left : CutState) (filler : Filler) → CutsTo filler d left → (c : Content) → MayLeave (cut_state left) c → MayLeave (cut_state d) c
+pub cut_leaves : (d left : CutState) (filler : Filler) → CutsTo filler d left → (c : Content) → MayLeave (cut_state left) c → MayLeave (cut_state d) c
 cut_leaves d left filler cuts c may k un = may k (ap (λ l. get_or l k false) cuts.stops.unsynced ∙ get_or-false (length d.unsynced) k) ∙ cuts.leaves k un
 
 cut_closed : (w : WorldState) (d left : CutState) (filler : Filler) → IsClosed w d → CutsTo filler d left → IsClosed w left
@@ -393,7 +393,7 @@ step_open s b old new told up some st =
 
 -- 5. Events
 
-lacks_same : (s : Step) (old new : WorldState) (told : Option Refusal) → LacksRoom s old told new → new ≡ old
+pub lacks_same : (s : Step) (old new : WorldState) (told : Option Refusal) → LacksRoom s old told new → new ≡ old
 lacks_same (step.Submit n) old new told lacks = lacks.1
 lacks_same (step.Drive n act) old new told lacks = absurd lacks
 lacks_same (step.Pop n) old new told lacks = absurd lacks

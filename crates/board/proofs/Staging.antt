@@ -8,9 +8,10 @@ use Rattle.rpmb_frame.specs.Partition.{Partition, sequence}
 use Rattle.rpmb_frame.specs.Request.{Request}
 use Rattle.rpmb_frame.specs.declared.config.GuestConfig.{GuestConfig}
 use Rattle.rpmb_core.specs.Requests.{partition_after_all}
+use Rattle.disk.specs.Content.{content_of}
 use Rattle.disk.specs.CutDisk.{CutMakes, CutState, cut_state}
 use Rattle.disk.specs.Disk.{HasRisen, Within}
-use Rattle.recovery.specs.Opening.{Untouched}
+use Rattle.recovery.specs.Opening.{AnswersFault, IsAtRest, Untouched}
 use Rattle.recovery.specs.declared.fault.OpenFault.{OpenFault}
 use Rattle.recovery.specs.declared.fault.OpenFault.TheVariants as open_fault
 use Rattle.rpmb_book.specs.Replay.{fresh_guests}
@@ -149,21 +150,22 @@ left_fit s d consistent fit = record {
 
 -- what an opening makes of a world doesn't depend on where its disk was
 pub opened_from : (d : CutState) (w : WorldState) (h : Home) (told : Option Refusal) (new : WorldState) → OpensOrNot d (record w { home = h }) told new → OpensOrNot d w told new
-opened_from d w h told new (inl o) = inl (record { tells = o.tells; board = o.board; begins = o.begins; goes_on = o.goes_on; after = o.after ∙ same w.openings })
+opened_from d w h told new (inl o) = inl (record { tells = o.tells; board = o.board; begins = o.begins; goes_on = o.goes_on; rest = o.rest; after = o.after ∙ same w.openings })
   where
     same : (n : ℕ) → opened_world n (record w { home = h }) o.board o.begins.partitions ≡ opened_world n w o.board o.begins.partitions
     same zero = refl
     same (suc n) = refl
-opened_from d w h told new (inr r) = inr (record { fault = r.fault; tells = r.tells; disk = r.disk; untouched = r.untouched; cause = r.cause; after = r.after })
+opened_from d w h told new (inr r) = inr (record { fault = r.fault; tells = r.tells; disk = r.disk; untouched = r.untouched; cause = r.cause; reason = r.reason; after = r.after })
 
 pub refuses_at : (s new : Stage) (disk left : CutState) (fault : OpenFault) (told : Option Refusal) → told ≡ Some (refusal.Open fault) → new ≡ record s { home = Some (Down left) }
-    → Within cut_state CutMakes (Untouched (cut_state disk)) disk left → (fault ≡ open_fault.DiskFault → HasRisen disk.failures left.failures) → OpensOrNot disk (world_of (seen_of s)) told (world_of (seen_of new))
-refuses_at s new disk left fault told is after moments cause = inr (record {
+    → Within cut_state CutMakes (Untouched (cut_state disk)) disk left → (fault ≡ open_fault.DiskFault → HasRisen disk.failures left.failures) → AnswersFault (capacities_of s.config) (length disk.seen) (content_of disk.seen) fault → OpensOrNot disk (world_of (seen_of s)) told (world_of (seen_of new))
+refuses_at s new disk left fault told is after moments cause reason = inr (record {
   fault = fault;
   tells = is;
   disk = left;
   untouched = within_end cut_state CutMakes (Untouched (cut_state disk)) disk left moments;
   cause = cause;
+  reason = reason;
   after = ap (λ v. world_of (seen_of v)) after;
 })
 
@@ -262,13 +264,15 @@ module _ (s t : Stage) (disk : CutState) (b : BoardState CutState) (life : ℕ) 
   pub opens_at : (s.openings ≡ 0 → IsNew (world_of (seen_of s)))
       → (true ≡ true → (bases : ℕ → Partition) (accepted : ℕ → List Request) (least : ℕ → ℕ) → ((g : ℕ) → g < length s.config → AreRequests s.config g (bases g) (accepted g)) → LeavesPrefixes s.config bases accepted least (cut_state disk)
       → GoesOn cut_state s.config bases accepted least b)
+      → (true ≡ true → IsAtRest (capacities_of s.config) (cut_state b.store.disk))
       → OpensOrNot disk (world_of (seen_of s)) None (world_of (seen_of Opened))
   unfolding begins_now
-  opens_at new goes_on = inl (record {
+  opens_at new goes_on rest_is = inl (record {
     tells = refl;
     board = b;
     begins = begins_now;
     goes_on = goes_on refl;
+    rest = rest_is refl;
     after = ap (λ v. world_of (seen_of v)) same_opened ∙ opened_now s.openings refl new;
   })
 

@@ -9,3 +9,5 @@ pub mod Records
 pub mod Noting
 pub mod Kept
 pub mod Headline
+pub mod Images
+pub mod Memory

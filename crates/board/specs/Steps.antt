@@ -16,7 +16,7 @@ use Rattle.flusher.specs.declared.progress.Progress.{Progress}
 use Rattle.flusher.specs.declared.progress.Progress.TheVariants.{Wrote, Synced, Idle}
 use Rattle.flusher.specs.declared.progress.StoreFault.{StoreFault}
 use Rattle.flusher.specs.declared.progress.StoreFault.TheVariants.{Broken, DiskFault}
-use Rattle.flusher.specs.Round.{Moves, Round, parts_after, planned, under_way}
+use Rattle.flusher.specs.Round.{FrontStays, Moves, Round, parts_after, planned, under_way}
 use Rattle.flusher.specs.SlotInvariant.{EachStop, IsHeld}
 use Rattle.flusher.specs.Store.{StoreState, given, is_free}
 use Rattle.rpmb_book.specs.Book.{after_break_off, after_collect, after_settle, after_take, due_of, next_intent, refusal, share_moved, submit_of, with_turn}
@@ -159,6 +159,8 @@ pub record Advances {D : Type 0} (shows : D → DiskState) (makes : D → DiskCa
   pub moves : Moves progress old.store.guests store.guests
   pub moments : (parts : ℕ → Part) → IsHeld parts old.store.guests old.store.broken (shows old.store.disk) → Within shows makes (EachStop parts (under_way old.store.guests)) old.store.disk store.disk
   pub held : (parts : ℕ → Part) → IsHeld parts old.store.guests old.store.broken (shows old.store.disk) → IsHeld (parts_after progress old.store.guests parts) store.guests store.broken (shows store.disk)
+  -- the header stays
+  pub front : (shows old.store.disk).faithful ≡ true → Within shows makes (FrontStays (shows old.store.disk)) old.store.disk store.disk
   pub answers : answer ≡ advance_answer progress
   pub after : new ≡ record old { store = store; report = report_of progress }
 

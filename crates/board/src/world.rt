@@ -4,7 +4,12 @@ ghost use Rattle.rpmb_frame.specs.declared.config.GuestConfig.{GuestConfig};
 ghost use Rattle.rpmb_core.specs.Requests.{partition_after_all};
 ghost use Rattle.board.specs.World.{Runs, base_in, partition_in};
 ghost use Rattle.board.specs.declared.home.Home.TheVariants.{Down};
+ghost use Rattle.disk.specs.CutDisk.{cut_state};
+ghost use Rattle.intent_slots.specs.Layout.{capacities_of, image_length};
+ghost use Rattle.recovery.specs.Format.{IsFormatted};
 ghost use Rattle.board.specs.Headline.{AllHeadlines};
+ghost use Rattle.board.specs.Images.{AllKnown, HasImage};
+ghost use Rattle.board.specs.Memory.{AllKeptWithout};
 ghost use Rattle.board.specs.Records.{asked_by, world_of};
 
 use crate::event::{Event, Refusal};
@@ -37,8 +42,12 @@ impl Model for World {
 impl World {
     /// A world that is closed: a disk alone, to be opened as an image of this board.
     pub fn new(alloc: Global, disk: CutDisk, config: BoardConfig) -> World
-        ensures { result ≡ record { config = config; home = Down disk; bases = []; logs = []; openings = 0 } }
+        ensures value { result ≡ record { config = config; home = Down disk; bases = []; logs = []; openings = 0 } }
+        // A disk that was formatted for this board is an image of it.
+        ensures image { length disk.seen ≡ image_length (capacities_of config) → IsFormatted (capacities_of config) (cut_state disk) → HasImage (world_of result) }
     {
+        // The board has at most 64 guests.
+        let _guests = config.guests();
         World {
             stage: Stage {
                 alloc,
@@ -60,6 +69,14 @@ impl World {
         // At each event that opened the world each guest has its partition after a prefix of what was accepted,
         // which holds all that any published reply has shown; and at all others that after all of it.
         ensures headline { (run : Runs (world_of self.old) events.now result (world_of self.new)) → AllHeadlines (world_of self.old) events.now result (world_of self.new) run }
+
+        // Where each stop leaves an image of the board, so it does after each event, and no opening is refused
+        // for what the image holds.
+        ensures image { HasImage (world_of self.old) → HasImage (world_of self.new) }
+        ensures known { HasImage (world_of self.old) → (run : Runs (world_of self.old) events.now result (world_of self.new)) → AllKnown (world_of self.old) events.now result (world_of self.new) run }
+
+        // Memory that is refused to a Pop or a Submit changes nothing.
+        ensures memory { (run : Runs (world_of self.old) events.now result (world_of self.new)) → AllKeptWithout (world_of self.old) events.now result (world_of self.new) run }
     {
         let mut first = None;
         for event in events {
