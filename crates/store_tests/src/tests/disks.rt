@@ -14,7 +14,7 @@ enum Left {
 }
 
 // What a stop leaves of START after 21 and 22 were written to the places 1 and 2, and 25 to place 5.
-const STOPS: [(Left, [u8; 8]); 6] = [
+static STOPS: [(Left, [u8; 8]); 6] = [
     (Left::Old, [10, 11, 12, 13, 14, 15, 16, 17]),
     (Left::New, [10, 21, 22, 13, 14, 25, 16, 17]),
     (Left::Fill(&[1, 2]), [10, 1, 2, 13, 14, 1, 16, 17]),
@@ -49,14 +49,26 @@ fn read(disk: &mut impl Disk, at: u64, out: &mut [u8]) -> Result<(), DiskFault> 
     disk.read_at(at, out)
 }
 
+// A disk on which both writes went well.
+fn written(alloc: Global) -> Result<CutDisk, Fail> {
+    let mut disk = cut_disk(alloc)?;
+    if write(&mut disk, 1, &[21, 22]).is_err() || write(&mut disk, 5, &[25]).is_err() {
+        return Err(Fail::from("a write failed"));
+    }
+    Ok(disk)
+}
+
+fn is_left(alloc: Global, left: &Left, wanted: &[u8]) -> Result<bool, Fail> {
+    let mut disk = written(alloc)?;
+    let filler = filler(alloc, left)?;
+    disk.cut(&filler);
+    Ok(disk.content() == wanted)
+}
+
 #[test]
 fn stops(rt: HostRuntime) -> Result<(), Fail> {
     for (left, wanted) in &STOPS {
-        let mut disk = cut_disk(rt.alloc())?;
-        assert_eq!(rt; write(&mut disk, 1, &[21, 22]), Ok(()));
-        assert_eq!(rt; write(&mut disk, 5, &[25]), Ok(()));
-        disk.cut(&filler(rt.alloc(), left)?);
-        assert_eq!(rt; disk.content(), wanted.as_slice());
+        assert!(rt; is_left(rt.alloc(), left, wanted)?);
     }
     Ok(())
 }
@@ -86,7 +98,7 @@ fn played(disk: &mut CutDisk, script: &[u8], out: &mut [u8]) {
 }
 
 // Which calls fail.
-const SCRIPTS: [(&[u8; 6], &[u8; 6]); 7] = [
+static SCRIPTS: [(&[u8; 6], &[u8; 6]); 7] = [
     (b"rwsrws", b"rwsrws"),
     (b"2rwsrw", b"2rxsrw"),
     (b"3rwsrw", b"3rwxrw"),
@@ -107,29 +119,39 @@ fn chosen_calls(rt: HostRuntime) -> Result<(), Fail> {
     Ok(())
 }
 
+// A write that is synced, and then one that fails.
+fn fails_once(disk: &mut CutDisk) -> bool {
+    if write(disk, 3, &[33, 34]) != Ok(()) || disk.sync() != Ok(()) {
+        return false;
+    }
+    disk.fail(1);
+    write(disk, 4, &[44, 45]) == Err(DiskFault) && disk.failures() == 1
+}
+
 #[test]
 fn a_write_that_failed(rt: HostRuntime) -> Result<(), Fail> {
     let mut disk = cut_disk(rt.alloc())?;
-    assert_eq!(rt; write(&mut disk, 3, &[33, 34]), Ok(()));
-    assert_eq!(rt; disk.sync(), Ok(()));
-    disk.fail(1);
-    assert_eq!(rt; write(&mut disk, 4, &[44, 45]), Err(DiskFault));
-    assert_eq!(rt; disk.failures(), 1);
-    assert_eq!(rt; disk.content(), [10, 11, 12, 33, 34, 15, 16, 17].as_slice());
-    disk.cut(&filler(rt.alloc(), &Left::Fill(&[1, 2]))?);
-    assert_eq!(rt; disk.content(), [10, 11, 12, 33, 1, 2, 16, 17].as_slice());
+    assert!(rt; fails_once(&mut disk));
+    assert!(rt; disk.content() == [10, 11, 12, 33, 34, 15, 16, 17].as_slice());
+    let filler = filler(rt.alloc(), &Left::Fill(&[1, 2]))?;
+    disk.cut(&filler);
+    assert!(rt; disk.content() == [10, 11, 12, 33, 1, 2, 16, 17].as_slice());
     Ok(())
+}
+
+fn writes_and_reads(disk: &mut MemDisk) -> bool {
+    let mut out = [0; 3];
+    write(&mut &mut *disk, 6, &[66, 67]) == Ok(())
+        && disk.sync() == Ok(())
+        && read(&mut &mut *disk, 5, &mut out) == Ok(())
+        && out == [15, 66, 67]
 }
 
 #[test]
 fn in_memory(rt: HostRuntime) -> Result<(), Fail> {
     let mut disk = MemDisk::new(START.to_vec(rt.alloc())?);
-    let mut out = [0; 3];
-    assert_eq!(rt; write(&mut &mut disk, 6, &[66, 67]), Ok(()));
-    assert_eq!(rt; disk.sync(), Ok(()));
-    assert_eq!(rt; read(&mut &mut disk, 5, &mut out), Ok(()));
-    assert_eq!(rt; out, [15, 66, 67]);
-    assert_eq!(rt; disk.content(), [10, 11, 12, 13, 14, 15, 66, 67].as_slice());
-    assert_eq!(rt; disk.failures(), 0);
+    assert!(rt; writes_and_reads(&mut disk));
+    assert!(rt; disk.content() == [10, 11, 12, 13, 14, 15, 66, 67].as_slice());
+    assert!(rt; disk.failures() == 0);
     Ok(())
 }

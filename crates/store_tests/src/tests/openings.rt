@@ -64,6 +64,30 @@ fn found(
     Ok(told)
 }
 
+/// Whether an opening finds these partitions.
+fn finds(
+    alloc: Global,
+    disk: CutDisk,
+    board: &BoardConfig,
+    wanted: &[(bool, u32, [u8; 3])],
+) -> Result<bool, Fail> {
+    let told = found(alloc, disk, board)?;
+    Ok(told.as_slice() == wanted)
+}
+
+fn fault_of(alloc: Global, disk: CutDisk, board: &BoardConfig) -> Option<OpenFault> {
+    match open(alloc, disk, board) {
+        Ok(_) => None,
+        Err((_, fault)) => Some(fault),
+    }
+}
+
+/// The store over a formatted disk.
+fn begun(alloc: Global, board: &BoardConfig) -> Result<Store<CutDisk>, Fail> {
+    let disk = fresh(alloc, board)?;
+    opened(alloc, disk, board)
+}
+
 /// Gives an intent where the store takes it.
 fn give(store: &mut Store<CutDisk>, intent: Intent) {
     if !store.fits(&intent) {
@@ -90,22 +114,23 @@ const NOTHING: (bool, u32, [u8; 3]) = (false, 0, [0; 3]);
 
 const KEYED: (bool, u32, [u8; 3]) = (true, 0, [0; 3]);
 
+fn is_at_rest(store: &Store<CutDisk>) -> bool {
+    (store.next(0), store.next(1), store.next(2)) == (1, 1, 0) && store.next_call() == Call::None
+}
+
 #[test]
 fn formatted(rt: HostRuntime) -> Result<(), Fail> {
     let alloc = rt.alloc();
     let board = board(alloc, &[1, 2])?;
-    let store = opened(alloc, fresh(alloc, &board)?, &board)?;
-    assert_eq!(rt; (store.next(0), store.next(1), store.next(2)), (1, 1, 0));
-    assert!(rt; store.next_call() == Call::None);
-    assert!(rt;
-        found(alloc, store.into_disk(), &board)?.as_slice() == [NOTHING, NOTHING].as_slice()
-    );
+    let store = begun(alloc, &board)?;
+    assert!(rt; is_at_rest(&store));
+    assert!(rt; finds(alloc, store.into_disk(), &board, &[NOTHING, NOTHING])?);
     Ok(())
 }
 
 /// The disk of three guests, whose key requests stand before a sync, in Applying, Opening and Written.
 fn three_guests(alloc: Global, board: &BoardConfig, more: usize) -> Result<CutDisk, Fail> {
-    let mut store = opened(alloc, fresh(alloc, board)?, board)?;
+    let mut store = begun(alloc, board)?;
     for (guest, calls) in [2, 3, 0].iter().enumerate() {
         give(&mut store, Intent::program_key(guest as u16, KEY));
         advance(&mut store, *calls);
@@ -129,25 +154,35 @@ fn stopped_at_a_sync(rt: HostRuntime) -> Result<(), Fail> {
     {
         let mut disk = three_guests(alloc, &board, more)?;
         disk.cut(&Filler::Old);
-        assert!(rt;
-            found(alloc, disk, &board)?.as_slice() == wanted.as_slice(),
-            "{more}"
-        );
+        assert!(rt; finds(alloc, disk, &board, wanted)?, "{more}");
     }
     Ok(())
 }
 
-/// A disk that was stopped in the write of eight blocks behind an open gate.
-fn eight_blocks(alloc: Global, board: &BoardConfig) -> Result<CutDisk, Fail> {
-    let mut store = opened(alloc, fresh(alloc, board)?, board)?;
+/// A store that has settled a key request, and was given the write of eight blocks.
+fn eight_given(alloc: Global, board: &BoardConfig) -> Result<Store<CutDisk>, Fail> {
+    let mut store = begun(alloc, board)?;
     give(&mut store, Intent::program_key(0, KEY));
     advance(&mut store, 8);
     let blocks = vec![in alloc; 0x77; 2048]?;
     if blocks.len() == 2048 {
         give(&mut store, Intent::write(0, KEY, 1, 0, blocks));
     }
+    Ok(store)
+}
+
+/// A disk that was stopped in the write of eight blocks behind an open gate.
+fn eight_blocks(alloc: Global, board: &BoardConfig) -> Result<CutDisk, Fail> {
+    let mut store = eight_given(alloc, board)?;
     advance(&mut store, 5);
     Ok(store.into_disk())
+}
+
+/// A stop that leaves this byte in each place that wasn't synced.
+fn fill(alloc: Global, disk: &mut CutDisk, byte: u8) -> Result<(), Fail> {
+    let bytes = [byte].to_vec(alloc)?;
+    disk.cut(&Filler::Fill(bytes));
+    Ok(())
 }
 
 #[test]
@@ -155,70 +190,78 @@ fn stopped_in_a_write(rt: HostRuntime) -> Result<(), Fail> {
     let alloc = rt.alloc();
     let board = board(alloc, &[1])?;
     let mut disk = eight_blocks(alloc, &board)?;
-    disk.cut(&Filler::Fill([0xff].to_vec(alloc)?));
-    assert!(rt; found(alloc, disk, &board)?.as_slice() == [(true, 1, [0x77, 0x77, 0])].as_slice());
+    fill(alloc, &mut disk, 0xff)?;
+    assert!(rt; finds(alloc, disk, &board, &[(true, 1, [0x77, 0x77, 0])])?);
     Ok(())
 }
 
 /// A disk of which a call of the key request failed.
 fn failed(alloc: Global, board: &BoardConfig, k: u64) -> Result<CutDisk, Fail> {
-    let mut store = opened(alloc, fresh(alloc, board)?, board)?;
+    let mut store = begun(alloc, board)?;
     give(&mut store, Intent::program_key(0, KEY));
     store.fail(k);
     advance(&mut store, 8);
     Ok(store.into_disk())
 }
 
+fn finds_after(alloc: Global, board: &BoardConfig, k: u64) -> Result<bool, Fail> {
+    let wanted = if k < 4 { NOTHING } else { KEYED };
+    let disk = failed(alloc, board, k)?;
+    finds(alloc, disk, board, &[wanted])
+}
+
+/// The same after the third, and a stop that leaves the byte of an open gate.
+fn finds_after_a_stop(alloc: Global, board: &BoardConfig) -> Result<bool, Fail> {
+    let mut disk = failed(alloc, board, 3)?;
+    fill(alloc, &mut disk, 0xa5)?;
+    finds(alloc, disk, board, &[KEYED])
+}
+
 #[test]
 fn failed_calls(rt: HostRuntime) -> Result<(), Fail> {
-    let alloc = rt.alloc();
-    let board = board(alloc, &[1])?;
+    let board = board(rt.alloc(), &[1])?;
     for k in 1..9 {
-        let wanted = if k < 4 { NOTHING } else { KEYED };
-        let disk = failed(alloc, &board, k)?;
-        assert!(rt;
-            found(alloc, disk, &board)?.as_slice() == [wanted].as_slice(),
-            "{k}"
-        );
+        assert!(rt; finds_after(rt.alloc(), &board, k)?, "{k}");
     }
-    let mut disk = failed(alloc, &board, 3)?;
-    disk.cut(&Filler::Fill([0xa5].to_vec(alloc)?));
-    assert!(rt; found(alloc, disk, &board)?.as_slice() == [KEYED].as_slice());
+    assert!(rt; finds_after_a_stop(rt.alloc(), &board)?);
     Ok(())
 }
 
 /// A disk on which the sync of a write's open gate failed: 0xA5 is read there, and a stop may take it.
 fn gate_unsynced(alloc: Global, board: &BoardConfig) -> Result<CutDisk, Fail> {
-    let mut store = opened(alloc, fresh(alloc, board)?, board)?;
-    give(&mut store, Intent::program_key(0, KEY));
-    advance(&mut store, 8);
-    let blocks = vec![in alloc; 0x77; 2048]?;
-    if blocks.len() == 2048 {
-        give(&mut store, Intent::write(0, KEY, 1, 0, blocks));
-    }
+    let mut store = eight_given(alloc, board)?;
     store.fail(4);
     advance(&mut store, 4);
     Ok(store.into_disk())
+}
+
+/// The disk after an opening, which finds the mark 2.
+fn opened_once(alloc: Global, disk: CutDisk, board: &BoardConfig) -> Result<CutDisk, Fail> {
+    let store = opened(alloc, disk, board)?;
+    if store.marks().get(0) != 2 {
+        return Err("another mark".into());
+    }
+    Ok(store.into_disk())
+}
+
+fn finds_after_opening(alloc: Global, board: &BoardConfig, opens: bool) -> Result<bool, Fail> {
+    let mut disk = gate_unsynced(alloc, board)?;
+    let mut wanted = KEYED;
+    if opens {
+        disk = opened_once(alloc, disk, board)?;
+        wanted = (true, 1, [0x77, 0x77, 0]);
+    }
+    disk.cut(&Filler::Old);
+    finds(alloc, disk, board, &[wanted])
 }
 
 /// What an opening has found, a stop after it leaves: the opening's sync has stored it. A stop without
 /// an opening takes it.
 #[test]
 fn opened_before_a_stop(rt: HostRuntime) -> Result<(), Fail> {
-    let alloc = rt.alloc();
-    let board = board(alloc, &[1])?;
-    for (opens, wanted) in [(false, KEYED), (true, (true, 1, [0x77, 0x77, 0]))] {
-        let mut disk = gate_unsynced(alloc, &board)?;
-        if opens {
-            let store = opened(alloc, disk, &board)?;
-            assert_eq!(rt; store.marks().get(0), 2);
-            disk = store.into_disk();
-        }
-        disk.cut(&Filler::Old);
-        assert!(rt;
-            found(alloc, disk, &board)?.as_slice() == [wanted].as_slice(),
-            "{opens}"
-        );
+    let board = board(rt.alloc(), &[1])?;
+    for opens in [false, true] {
+        assert!(rt; finds_after_opening(rt.alloc(), &board, opens)?, "{opens}");
     }
     Ok(())
 }
@@ -241,6 +284,17 @@ fn write_last(alloc: Global, store: &mut Store<CutDisk>) -> Result<(), Fail> {
     Ok(())
 }
 
+/// A store whose guest has the last counter but one, or the last one.
+fn last_store(alloc: Global, board: &BoardConfig, writes: bool) -> Result<Store<CutDisk>, Fail> {
+    let home = Home::with_key(KEY, 0xffff_fffe).encode();
+    let disk = written(alloc, board, 1024, &home)?;
+    let mut store = opened(alloc, disk, board)?;
+    if writes {
+        write_last(alloc, &mut store)?;
+    }
+    Ok(store)
+}
+
 /// Whether the last write is made, the mark, and what an opening finds.
 const LAST_COUNTERS: [(bool, u64, (bool, u32, [u8; 3])); 2] = [
     (false, 0xffff_ffff, (true, 0xffff_fffe, [0; 3])),
@@ -251,14 +305,10 @@ const LAST_COUNTERS: [(bool, u64, (bool, u32, [u8; 3])); 2] = [
 fn last_counter(rt: HostRuntime) -> Result<(), Fail> {
     let alloc = rt.alloc();
     let board = board(alloc, &[1])?;
-    let home = Home::with_key(KEY, 0xffff_fffe).encode();
     for (writes, mark, wanted) in LAST_COUNTERS {
-        let mut store = opened(alloc, written(alloc, &board, 1024, &home)?, &board)?;
-        if writes {
-            write_last(alloc, &mut store)?;
-        }
-        assert_eq!(rt; store.marks().get(0), mark);
-        assert!(rt; found(alloc, store.into_disk(), &board)?.as_slice() == [wanted].as_slice());
+        let store = last_store(alloc, &board, writes)?;
+        assert!(rt; store.marks().get(0) == mark);
+        assert!(rt; finds(alloc, store.into_disk(), &board, &[wanted])?);
     }
     Ok(())
 }
@@ -279,17 +329,10 @@ fn refused(rt: HostRuntime) -> Result<(), Fail> {
     let board = board(alloc, &[1, 1])?;
     for (at, byte, fault) in FAULTS {
         let disk = written(alloc, &board, at, &[byte])?;
-        assert_eq!(rt;
-            open(alloc, disk, &board).err().map(|e| e.1),
-            Some(fault),
-            "{at}"
-        );
+        assert!(rt; fault_of(alloc, disk, &board) == Some(fault), "{at}");
     }
     let short = CutDisk::new(alloc, vec![in alloc; 0; 1000]?)?;
-    assert_eq!(rt;
-        open(alloc, short, &board).err().map(|e| e.1),
-        Some(OpenFault::NotFormatted)
-    );
+    assert!(rt; fault_of(alloc, short, &board) == Some(OpenFault::NotFormatted));
     Ok(())
 }
 
@@ -319,11 +362,7 @@ fn other_lengths(rt: HostRuntime) -> Result<(), Fail> {
     for (length, failing, fault) in LENGTHS {
         let mut disk = resized(alloc, &board, length)?;
         disk.fail(failing);
-        assert_eq!(rt;
-            open(alloc, disk, &board).err().map(|e| e.1),
-            Some(fault),
-            "{length}"
-        );
+        assert!(rt; fault_of(alloc, disk, &board) == Some(fault), "{length}");
     }
     Ok(())
 }

@@ -139,6 +139,35 @@ const SHORT_PATH: &str = "disk_test_short_file";
 // the last is a hole.
 static LENGTHS: [u64; 3] = [8, (1 << 24) + 5, LEN];
 
+fn reads_as(disk: &mut FileDisk, at: u64, wanted: [u8; 3]) -> bool {
+    let mut out = [9; 3];
+    read(disk, at, &mut out) == Ok(()) && out == wanted
+}
+
+// Where the last three bytes of so many stand.
+fn end_of(len: u64) -> u64 {
+    len.saturating_sub(3)
+}
+
+fn writes_two(disk: &mut FileDisk, len: u64) -> bool {
+    disk.len() == len
+        && write(disk, len.saturating_sub(2), &[66, 67]) == Ok(())
+        && disk.sync() == Ok(())
+}
+
+fn is_written(file: File, len: u64) -> Result<bool, Fail> {
+    let mut disk = FileDisk::of(file)?;
+    let written = writes_two(&mut disk, len)
+        && reads_as(&mut disk, end_of(len), [0, 66, 67])
+        && reads_as(&mut disk, 0, [0, 0, 0]);
+    Ok(written && disk.failures() == 0)
+}
+
+fn is_kept(file: File, len: u64) -> Result<bool, Fail> {
+    let mut disk = FileDisk::of(file)?;
+    Ok(reads_as(&mut disk, end_of(len), [0, 66, 67]) && disk.len() == len)
+}
+
 #[test]
 fn over_files(rt: HostRuntime) -> Result<(), Fail> {
     for len in &LENGTHS {
@@ -148,39 +177,34 @@ fn over_files(rt: HostRuntime) -> Result<(), Fail> {
             .create(true)
             .open(&rt, PATH)?;
         file.set_len(*len)?;
-        let mut disk = FileDisk::of(file)?;
-        let at = len.saturating_sub(2);
-        let mut out = [9; 3];
-        assert_eq!(rt; disk.len(), *len);
-        assert_eq!(rt; write(&mut disk, at, &[66, 67]), Ok(()));
-        assert_eq!(rt; disk.sync(), Ok(()));
-        assert_eq!(rt; read(&mut disk, at.saturating_sub(1), &mut out), Ok(()));
-        assert_eq!(rt; out, [0, 66, 67], "{len}");
-        assert_eq!(rt; read(&mut disk, 0, &mut out), Ok(()));
-        assert_eq!(rt; out, [0, 0, 0], "{len}");
-        assert_eq!(rt; disk.failures(), 0);
-        drop(disk);
+        assert!(rt; is_written(file, *len)?, "{len}");
         // It stays when the file is opened again.
         let file = File::options().read(true).write(true).open(&rt, PATH)?;
-        let mut disk = FileDisk::of(file)?;
-        assert_eq!(rt; read(&mut disk, at.saturating_sub(1), &mut out), Ok(()));
-        assert_eq!(rt; (disk.len(), out), (*len, [0, 66, 67]));
+        assert!(rt; is_kept(file, *len)?, "{len}");
         fs::remove_file(&rt, PATH)?;
     }
     Ok(())
+}
+
+fn fails_twice(file: File) -> bool {
+    let mut disk = FileDisk::new(file, 4);
+    read(&mut disk, 1, &mut [0; 3]) == Err(DiskFault)
+        && write(&mut disk, 0, &[1]) == Err(DiskFault)
+        && disk.failures() == 2
 }
 
 #[test]
 fn over_a_short_file(rt: HostRuntime) -> Result<(), Fail> {
     fs::write(&rt, SHORT_PATH, [1, 2, 3].as_slice())?;
     // opened for reading alone, and said to be longer than it is
-    let mut disk = FileDisk::new(File::open(&rt, SHORT_PATH)?, 4);
-    assert_eq!(rt; read(&mut disk, 1, &mut [0; 3]), Err(DiskFault));
-    assert_eq!(rt; write(&mut disk, 0, &[1]), Err(DiskFault));
-    assert_eq!(rt; disk.failures(), 2);
-    drop(disk);
+    assert!(rt; fails_twice(File::open(&rt, SHORT_PATH)?));
     fs::remove_file(&rt, SHORT_PATH)?;
     Ok(())
+}
+
+fn fails_to_sync(file: File) -> bool {
+    let mut disk = FileDisk::new(file, 0);
+    disk.sync() == Err(DiskFault) && disk.failures() == 1
 }
 
 // What can't be synced isn't told as synced: Linux refuses an fsync of this device.
@@ -190,8 +214,6 @@ fn over_what_has_no_sync(rt: HostRuntime) -> Result<(), Fail> {
         .read(true)
         .write(true)
         .open(&rt, "/dev/null")?;
-    let mut disk = FileDisk::new(file, 0);
-    assert_eq!(rt; disk.sync(), Err(DiskFault));
-    assert_eq!(rt; disk.failures(), 1);
+    assert!(rt; fails_to_sync(file));
     Ok(())
 }

@@ -8,17 +8,17 @@ use std::test::Fail;
 const KEY: [u8; 32] = [0x11; 32];
 
 /// A PROGRAM_KEY before its key; behind it are zeros.
-const BEFORE_NEW_KEY: [u8; 17] = *b"\x01\0\0\0\0\0\0\0\0\0\0\0\0\0\0\x01\x01";
+static BEFORE_NEW_KEY: [u8; 17] = *b"\x01\0\0\0\0\0\0\0\0\0\0\0\0\0\0\x01\x01";
 
 /// The fields of a write of one block at address 511 that leaves counter 1, before and behind its key,
 /// and the first byte of its block.
-const BEFORE_KEY: [u8; 17] = *b"\x01\0\0\0\0\0\0\0\0\0\0\0\0\0\0\x02\x03";
+static BEFORE_KEY: [u8; 17] = *b"\x01\0\0\0\0\0\0\0\0\0\0\0\0\0\0\x02\x03";
 
-const BEHIND_KEY: [u8; 24] = *b"\0\0\0\x01\x01\xff\0\x01\0\0\0\0\0\0\0\0\0\0\0\0\0\0\0\x5a";
+static BEHIND_KEY: [u8; 24] = *b"\0\0\0\x01\x01\xff\0\x01\0\0\0\0\0\0\0\0\0\0\0\0\0\0\0\x5a";
 
 /// A byte of the payload of a PROGRAM_KEY and the write of one block at address 511 behind it, what it
 /// becomes, and whether the payload is then well formed in a partition of capacity 1.
-const CHANGES: [(usize, u8, bool); 24] = [
+static CHANGES: [(usize, u8, bool); 24] = [
     (0, 2, true),
     (1, 9, true),
     (57, 9, true),
@@ -45,9 +45,7 @@ const CHANGES: [(usize, u8, bool); 24] = [
     (4_216, 2, false),
 ];
 
-fn encoded(alloc: Global, intent: &Intent) -> Result<Vec<u8>, Fail>
-    ensures { IfOk result (λ buffer. length buffer.items ≡ 16_648) }
-{
+fn encoded(alloc: Global, intent: &Intent) -> Result<Vec<u8>, Fail> {
     let mut buffer = vec![in alloc; 0xff; PAYLOAD_LENGTH]?;
     intent.encode(&mut buffer);
     Ok(buffer)
@@ -59,25 +57,43 @@ fn block(alloc: Global) -> Result<Vec<u8>, Fail>
     Ok(vec![in alloc; 0x5a; 256]?)
 }
 
+/// Whether these bytes stand in a payload from a place on.
+fn stand(payload: &[u8], at: usize, bytes: &[u8]) -> bool {
+    for (k, byte) in bytes.iter().enumerate() {
+        if payload.get(at.saturating_add(k)) != Some(byte) {
+            return false;
+        }
+    }
+    true
+}
+
+fn has_fields(payload: &[u8], before: &[u8], behind: &[u8]) -> bool {
+    stand(payload, 0, before) && stand(payload, 17, &KEY) && stand(payload, 49, behind)
+}
+
+/// Whether an intent has a payload of so many bytes, with these before and behind its key.
+fn is_encoded(
+    alloc: Global,
+    intent: &Intent,
+    len: usize,
+    before: &[u8],
+    behind: &[u8],
+) -> Result<bool, Fail> {
+    let payload = encoded(alloc, intent)?;
+    Ok(intent.payload_len() == len && has_fields(&payload, before, behind))
+}
+
 #[test]
 fn program_key(rt: HostRuntime) -> Result<(), Fail> {
     let intent = Intent::program_key(3, KEY);
-    let buffer = encoded(rt.alloc(), &intent)?;
-    assert_eq!(rt; intent.payload_len(), 72);
-    assert!(rt; &buffer[..17] == &BEFORE_NEW_KEY[..]);
-    assert!(rt; &buffer[17..49] == &KEY[..]);
-    assert!(rt; &buffer[49..72] == &[0; 23][..]);
+    assert!(rt; is_encoded(rt.alloc(), &intent, 72, &BEFORE_NEW_KEY, &[0; 23])?);
     Ok(())
 }
 
 #[test]
 fn write_of_the_last_block(rt: HostRuntime) -> Result<(), Fail> {
     let intent = Intent::write(3, KEY, 1, 511, block(rt.alloc())?);
-    let buffer = encoded(rt.alloc(), &intent)?;
-    assert_eq!(rt; intent.payload_len(), 328);
-    assert!(rt; &buffer[..17] == &BEFORE_KEY[..]);
-    assert!(rt; &buffer[17..49] == &KEY[..]);
-    assert!(rt; &buffer[49..73] == &BEHIND_KEY[..]);
+    assert!(rt; is_encoded(rt.alloc(), &intent, 328, &BEFORE_KEY, &BEHIND_KEY)?);
     assert!(rt; intent.lies_inside(&Extent::new(1024, 1)));
     Ok(())
 }
@@ -104,17 +120,22 @@ fn getters(rt: HostRuntime) -> Result<(), Fail> {
     Ok(())
 }
 
-fn is_decoded(alloc: Global, payload: &[u8]) -> Result<bool, Fail>
-    requires { length payload.now ≡ 16_648 }
-{
-    Ok(Intent::decode(3, &Extent::new(1024, 1), payload, Room::new(alloc)?).is_some())
+/// The payload of both.
+fn payload_of_two(alloc: Global) -> Result<Vec<u8>, Fail> {
+    let intent = two(alloc)?;
+    encoded(alloc, &intent)
+}
+
+fn decoded(alloc: Global, payload: &[u8]) -> Result<Option<Intent>, Fail> {
+    if payload.len() != PAYLOAD_LENGTH {
+        return Err(Fail::from("another length"));
+    }
+    let room = Room::new(alloc)?;
+    Ok(Intent::decode(3, &Extent::new(1024, 1), payload, room))
 }
 
 /// A copy with another byte in one place.
-fn changed(alloc: Global, payload: &[u8], place: usize, byte: u8) -> Result<Vec<u8>, Fail>
-    requires { length payload.now ≡ 16_648 }
-    ensures { IfOk result (λ copy. length copy.items ≡ 16_648) }
-{
+fn changed(alloc: Global, payload: &[u8], place: usize, byte: u8) -> Result<Vec<u8>, Fail> {
     let mut copy = Vec::from_slice(alloc, payload)?;
     if place < copy.len() {
         copy[place] = byte;
@@ -122,25 +143,37 @@ fn changed(alloc: Global, payload: &[u8], place: usize, byte: u8) -> Result<Vec<
     Ok(copy)
 }
 
+fn is_decoded_with(alloc: Global, payload: &[u8], place: usize, byte: u8) -> Result<bool, Fail> {
+    let copy = changed(alloc, payload, place, byte)?;
+    Ok(decoded(alloc, &copy)?.is_some())
+}
+
 #[test]
 fn changed_payloads(rt: HostRuntime) -> Result<(), Fail> {
-    let buffer = encoded(rt.alloc(), &two(rt.alloc())?)?;
-    for (place, byte, is_payload) in CHANGES {
-        let copy = changed(rt.alloc(), &buffer, place, byte)?;
-        assert_eq!(rt; is_decoded(rt.alloc(), &copy)?, is_payload, "at {place}");
+    let payload = payload_of_two(rt.alloc())?;
+    for (place, byte, is_payload) in &CHANGES {
+        let found = is_decoded_with(rt.alloc(), &payload, *place, *byte)?;
+        assert!(rt; found == *is_payload, "at {place}");
     }
     Ok(())
 }
 
+/// Whether the intent is of guest 3, and its payload is this one.
+fn is_payload_of(alloc: Global, payload: &[u8], intent: &Intent) -> Result<bool, Fail> {
+    let encoded = encoded(alloc, intent)?;
+    Ok(intent.guest() == 3 && encoded.as_slice() == payload)
+}
+
+fn decodes_to_itself(alloc: Global, payload: &[u8]) -> Result<bool, Fail> {
+    match decoded(alloc, payload)? {
+        Some(intent) => is_payload_of(alloc, payload, &intent),
+        None => Ok(false),
+    }
+}
+
 #[test]
 fn decoded_encodes_to_the_same(rt: HostRuntime) -> Result<(), Fail> {
-    let buffer = encoded(rt.alloc(), &two(rt.alloc())?)?;
-    match Intent::decode(3, &Extent::new(1024, 1), &buffer, Room::new(rt.alloc())?) {
-        Some(intent) => {
-            assert_eq!(rt; intent.guest(), 3);
-            assert!(rt; encoded(rt.alloc(), &intent)?.as_slice() == buffer.as_slice());
-        }
-        None => assert!(rt; false),
-    }
+    let payload = payload_of_two(rt.alloc())?;
+    assert!(rt; decodes_to_itself(rt.alloc(), &payload)?);
     Ok(())
 }

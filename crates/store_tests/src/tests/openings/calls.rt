@@ -2,11 +2,13 @@
 ghost use Rattle.std.specs.Prelude.{◌≡◌};
 
 use super::board;
+use super::many::formatted;
 use arrayvec::ArrayVec;
 use disk::{Disk, DiskFault, MemDisk};
 use flusher::{Marks, Progress, Store};
-use intent_slots::{Intent, Layout};
-use recovery::{format, open};
+use intent_slots::Intent;
+use recovery::open;
+use rpmb_frame::BoardConfig;
 use std::alloc::Global;
 use std::test::Fail;
 
@@ -70,19 +72,23 @@ impl<D: Disk> Disk for LogDisk<D> {
     }
 }
 
-/// The store over a fresh image of guests of these capacities, and the calls of its opening.
-fn fresh(alloc: Global, capacities: &[u8]) -> Result<Store<LogDisk<MemDisk>>, Fail> {
-    let board = board(alloc, capacities)?;
-    let layout = Layout::of(&board);
-    let mut inner = MemDisk::new(vec![in alloc; 0xee; layout.length() as usize]?);
-    if inner.len() == layout.length() {
-        format(&mut inner, &board)?;
-    }
+/// The store over an image, and the calls of its opening.
+fn opened(
+    alloc: Global,
+    inner: MemDisk,
+    board: &BoardConfig,
+) -> Result<Store<LogDisk<MemDisk>>, Fail> {
     let calls = ArrayVec::new();
-    match open(alloc, LogDisk { inner, calls }, &board) {
+    match open(alloc, LogDisk { inner, calls }, board) {
         Ok((store, _)) => Ok(store),
         Err((_, fault)) => Err(fault.into()),
     }
+}
+
+/// The store over a fresh image of guests of these capacities, and the calls of its opening.
+fn fresh(alloc: Global, capacities: &[u8]) -> Result<Store<LogDisk<MemDisk>>, Fail> {
+    let board = board(alloc, capacities)?;
+    opened(alloc, formatted(alloc, &board)?, &board)
 }
 
 /// Gives the request that programs a guest's key; answers whether it could be given.
@@ -125,39 +131,59 @@ static KEY_CALLS: [Logged; 13] = [
     Logged::Sync,
 ];
 
+fn is_idle(store: &mut Store<LogDisk<MemDisk>>) -> bool {
+    matches!(store.advance(), Ok(Progress::Idle))
+}
+
+/// Whether one call after another leaves these marks of guest 0.
+fn marks_one(store: &mut Store<LogDisk<MemDisk>>, settled: &[u64]) -> bool {
+    for mark in settled {
+        match advance(store, 1) {
+            Some(marks) if marks.get(0) == *mark => {}
+            _ => return false,
+        }
+    }
+    true
+}
+
+fn takes_eight_calls(store: &mut Store<LogDisk<MemDisk>>) -> bool {
+    is_idle(store)
+        && give_key(store, 0)
+        && marks_one(store, &[0, 0, 0, 1, 1, 1, 1, 1])
+        && is_idle(store)
+        && store.is_free(0)
+        && store.next(0) == 2
+}
+
 #[test]
 fn a_key_takes_eight_calls(rt: HostRuntime) -> Result<(), Fail> {
     let mut store = fresh(rt.alloc(), &[1])?;
-    assert!(rt; matches!(store.advance(), Ok(Progress::Idle)));
-    assert!(rt; give_key(&mut store, 0));
-    for settled in [0, 0, 0, 1, 1, 1, 1, 1] {
-        let marks = advance(&mut store, 1);
-        assert!(rt; marks.is_some_and(|marks| marks.get(0) == settled));
-    }
-    assert!(rt; matches!(store.advance(), Ok(Progress::Idle)));
-    assert!(rt; store.is_free(0) && store.next(0) == 2);
+    assert!(rt; takes_eight_calls(&mut store));
     let disk = store.into_disk();
     assert!(rt; disk.calls.as_slice() == KEY_CALLS.as_slice());
     Ok(())
 }
 
+/// Whether these are the marks of three guests.
+fn marks_three(marks: Option<Marks>, wanted: [u64; 3]) -> bool {
+    match marks {
+        Some(marks) => [marks.get(0), marks.get(1), marks.get(2)] == wanted,
+        None => false,
+    }
+}
+
+/// Gives the key request of a guest, and makes so many calls.
+fn goes_on(store: &mut Store<LogDisk<MemDisk>>, guest: u16, times: u32) -> bool {
+    give_key(store, guest) && advance(store, times).is_some()
+}
+
 #[test]
 fn one_sync_serves_every_phase(rt: HostRuntime) -> Result<(), Fail> {
     let mut store = fresh(rt.alloc(), &[1, 1, 1])?;
-    assert!(rt; give_key(&mut store, 0));
-    assert!(rt; advance(&mut store, 2).is_some());
-    assert!(rt; give_key(&mut store, 1));
-    assert!(rt; advance(&mut store, 3).is_some());
-    assert!(rt; give_key(&mut store, 2));
+    assert!(rt; goes_on(&mut store, 0, 2) && goes_on(&mut store, 1, 3) && give_key(&mut store, 2));
     // Guest 0 is at its home record, guest 1 at its gate, guest 2 at its payload.
-    let before = advance(&mut store, 3);
-    assert!(rt;
-        before.is_some_and(|marks| marks.get(0) == 1 && marks.get(1) == 0 && marks.get(2) == 0)
-    );
-    let after = advance(&mut store, 1);
-    assert!(rt;
-        after.is_some_and(|marks| marks.get(0) == 1 && marks.get(1) == 1 && marks.get(2) == 0)
-    );
+    assert!(rt; marks_three(advance(&mut store, 3), [1, 0, 0]));
+    assert!(rt; marks_three(advance(&mut store, 1), [1, 1, 0]));
     Ok(())
 }
 
@@ -174,15 +200,8 @@ static OPEN_CALLS: [Logged; 5] = [
 fn an_open_gate_is_read_once(rt: HostRuntime) -> Result<(), Fail> {
     let alloc = rt.alloc();
     let mut store = fresh(alloc, &[1])?;
-    assert!(rt; give_key(&mut store, 0));
-    assert!(rt; advance(&mut store, 4).is_some());
-    let inner = store.into_disk().inner;
-    let calls = ArrayVec::new();
-    match open(alloc, LogDisk { inner, calls }, &board(alloc, &[1])?) {
-        Ok((store, _)) => {
-            assert!(rt; store.into_disk().calls.as_slice() == OPEN_CALLS.as_slice());
-            Ok(())
-        }
-        Err((_, fault)) => Err(fault.into()),
-    }
+    assert!(rt; goes_on(&mut store, 0, 4));
+    let store = opened(alloc, store.into_disk().inner, &board(alloc, &[1])?)?;
+    assert!(rt; store.into_disk().calls.as_slice() == OPEN_CALLS.as_slice());
+    Ok(())
 }

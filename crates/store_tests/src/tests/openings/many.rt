@@ -10,7 +10,7 @@ use std::alloc::Global;
 use std::test::Fail;
 
 /// A formatted disk, on which other bytes stood.
-fn formatted(alloc: Global, board: &BoardConfig) -> Result<MemDisk, Fail> {
+pub fn formatted(alloc: Global, board: &BoardConfig) -> Result<MemDisk, Fail> {
     let layout = Layout::of(board);
     let mut disk = MemDisk::new(vec![in alloc; 0xee; layout.length() as usize]?);
     if disk.len() == layout.length() {
@@ -45,29 +45,42 @@ fn last_keyed(alloc: Global, board: &BoardConfig) -> Result<MemDisk, Fail> {
     Ok(disk)
 }
 
+/// Whether a guest of an opened image is as told: with a key and the counter 5 where it is the last.
+fn is_found(store: &Store<MemDisk>, guest: u16, partition: &Partition, is_last: bool) -> bool {
+    let wanted = if is_last {
+        (Some(KEY), 5, 7)
+    } else {
+        (None, 0, 1)
+    };
+    (partition.key(), partition.counter(), store.next(guest)) == wanted
+}
+
+fn are_found(store: &Store<MemDisk>, partitions: &[Partition], count: u16) -> bool {
+    for guest in 0..count {
+        match partitions.get(usize::from(guest)) {
+            Some(partition) => {
+                if !is_found(store, guest, partition, guest + 1 == count) {
+                    return false;
+                }
+            }
+            None => return false,
+        }
+    }
+    partitions.len() == usize::from(count) && store.next(count) == 0
+}
+
+fn opens_many(alloc: Global, count: u16) -> Result<bool, Fail> {
+    let capacities = vec![in alloc; 1; usize::from(count)]?;
+    let board = board(alloc, capacities.as_slice())?;
+    let disk = last_keyed(alloc, &board)?;
+    let (store, partitions) = opened(alloc, disk, &board)?;
+    Ok(are_found(&store, &partitions, count))
+}
+
 #[test]
 fn many_guests(rt: HostRuntime) -> Result<(), Fail> {
-    let alloc = rt.alloc();
     for count in [32, 33, 64] {
-        let board = board(alloc, vec![in alloc; 1; count]?.as_slice())?;
-        let (store, partitions) = opened(alloc, last_keyed(alloc, &board)?, &board)?;
-        assert_eq!(rt; partitions.len(), count);
-        for (guest, partition) in partitions.iter().enumerate() {
-            let wanted = if guest + 1 == count {
-                (Some(KEY), 5, 7)
-            } else {
-                (None, 0, 1)
-            };
-            assert!(rt;
-                (
-                    partition.key(),
-                    partition.counter(),
-                    store.next(guest as u16)
-                ) == wanted,
-                "{guest} of {count}"
-            );
-        }
-        assert_eq!(rt; store.next(count as u16), 0);
+        assert!(rt; opens_many(rt.alloc(), count)?, "{count}");
     }
     Ok(())
 }
