@@ -9,3 +9,4 @@ pub mod Kept
 pub mod Lookups
 pub mod Plans
 pub mod UnderWay
+pub mod Countdown

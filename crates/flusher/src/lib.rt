@@ -13,7 +13,7 @@ mod store;
 mod writing;
 
 pub use guest::Guest;
-pub use laws::{held_is_left, nothing_is_empty};
+pub use laws::{calls_run_out, held_is_left, nothing_is_empty};
 pub use marks::Marks;
 pub use progress::{Call, Progress, StoreFault};
 pub use store::Store;
