@@ -1,6 +1,6 @@
 //! What a book tells after its store broke, and which marks it takes.
 
-use crate::tests::image::{fresh_store, give, settle};
+use crate::tests::image::{fresh_store, keep_next};
 use crate::tests::scene::{
     KEY, Scene, accepted, check, get_write_counter, has_tail, job_of, program_key, result_read,
     scene_of, write_of,
@@ -12,20 +12,6 @@ use rpmb_book::{Book, Refused, Shares};
 use rpmb_frame::Frame;
 use std::alloc::Global;
 use std::test::Fail;
-
-/// Takes the guest's next intent, and has the store keep it.
-fn keep_one(scene: &mut Scene, store: &mut Store<CutDisk>, guest: u16) -> Result<(), Fail> {
-    match scene.book.take(&mut scene.shares, guest) {
-        Ok(Some(intent)) => give(store, intent)?,
-        _ => return Err(Fail::from("nothing waits")),
-    }
-    settle(store)
-}
-
-/// Settles the book to these marks.
-fn settles(scene: &mut Scene, marks: Marks) -> bool {
-    scene.book.settle(&scene.shares, marks) == Ok(())
-}
 
 /// The bytes of a failure reply: zeros but for the last four.
 fn failure_of(end: [u8; 4]) -> [u8; 512] {
@@ -93,8 +79,8 @@ fn accepts_nothing(alloc: Global, scene: &mut Scene) -> Result<(), Fail> {
 /// Keeps and settles the first intent.
 fn settle_one(alloc: Global, scene: &mut Scene) -> Result<(), Fail> {
     let mut store = fresh_store(alloc, 1)?;
-    keep_one(scene, &mut store, 0)?;
-    check(settles(scene, store.marks()), "settled")
+    check(keep_next(scene, &mut store, 0)?, "something waits")?;
+    check(scene.settles(store.marks()), "settled")
 }
 
 /// The book is whole, and broken once it is broken off, also a second time.
@@ -130,16 +116,14 @@ fn refuses(alloc: Global, scene: &mut Scene, store: &Store<CutDisk>) -> Result<(
 
 /// The book's own marks settle it, and may come once more.
 fn settles_twice(scene: &mut Scene, store: &Store<CutDisk>) -> bool {
-    settles(scene, store.marks())
-        && settles(scene, store.marks())
-        && scene.book.settled(0) == Some(1)
+    scene.settles(store.marks()) && scene.settles(store.marks()) && scene.book.settled(0) == Some(1)
 }
 
 fn take_marks(alloc: Global, scene: &mut Scene) -> Result<(), Fail> {
     let mut store = fresh_store(alloc, 1)?;
-    let none = settles(scene, store.marks());
+    let none = scene.settles(store.marks());
     check(none, "marks that move nothing")?;
-    keep_one(scene, &mut store, 0)?;
+    check(keep_next(scene, &mut store, 0)?, "something waits")?;
     refuses(alloc, scene, &store)?;
     check(settles_twice(scene, &store), "its own")
 }

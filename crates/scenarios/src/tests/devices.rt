@@ -1,24 +1,30 @@
 //! A guest whose requests go through driver and device, and who resets its device while a reply is on
 //! its way.
 
+use super::image::{fresh_store, keep_next};
 use super::scene::{
-    board_of, check, get_write_counter, has_tail, program_key, result_read, write_of,
+    Scene, accepted, board_of, check, get_write_counter, has_tail, program_key, result_read,
+    scene_of, write_of,
 };
+use disk::CutDisk;
+use flusher::Store;
 use guest_driver::Driver;
 use mmio_transport::register::STATUS;
 use mmio_transport::{Device, Done, Job, Published};
-use runner::Runner;
 use std::alloc::Global;
 use std::test::Fail;
 
 /// Where the used ring of a queue of 16 stands in the driver's layout, and how long it is.
 const USED_RING: u64 = 304;
 
+/// A guest with its driver and device, the book that answers it, and the store that keeps what the book
+/// accepted.
 #[derive(Drop)]
 struct Guest {
     device: Device,
     driver: Driver,
-    runner: Runner,
+    scene: Scene,
+    store: Store<CutDisk>,
 }
 
 fn guest_in_service(alloc: Global) -> Result<Guest, Fail> {
@@ -29,7 +35,8 @@ fn guest_in_service(alloc: Global) -> Result<Guest, Fail> {
     let mut guest = Guest {
         device: Device::new(alloc, 0, config)?,
         driver: Driver::new(alloc, config)?,
-        runner: Runner::new(alloc, &board)?,
+        scene: scene_of(alloc, 1)?,
+        store: fresh_store(alloc, 1)?,
     };
     guest.negotiate()?;
     Ok(guest)
@@ -57,10 +64,21 @@ impl Guest {
         }
     }
 
+    /// The reply to a job, which leaves once what it shows is settled.
+    fn answer(&mut self, alloc: Global, job: Job) -> Result<Done, Fail> {
+        accepted(self.scene.offer(alloc, job))?;
+        keep_next(&mut self.scene, &mut self.store, 0)?;
+        check(self.scene.settles(self.store.marks()), "settled")?;
+        match self.scene.book.collect(0) {
+            Some(done) => Ok(done),
+            None => Err(Fail::from("no reply")),
+        }
+    }
+
     /// Offers a request of these frames with room for one frame, and answers it.
     fn answered(&mut self, alloc: Global, frames: &[[u8; 512]]) -> Result<Done, Fail> {
         let job = self.popped(frames)?;
-        Ok(self.runner.answer(alloc, job)?)
+        self.answer(alloc, job)
     }
 
     /// The reply to a request of these frames.
@@ -172,7 +190,7 @@ fn overwrite(device: &mut Device) -> Result<(), Fail> {
 fn answer_late(alloc: Global, guest: &mut Guest, request: &[[u8; 512]; 1]) -> Result<(), Fail> {
     let job = guest.popped(request)?;
     overwrite(&mut guest.device)?;
-    let done = guest.runner.answer(alloc, job)?;
+    let done = guest.answer(alloc, job)?;
     let published = guest.device.publish(done);
     check(published != Published::Dropped, "published")
 }

@@ -1,9 +1,12 @@
 //! What the store is given, and when replies leave.
 
+use crate::tests::image::{fresh_store, settle};
 use crate::tests::scene::{
     KEY, LIFE, Scene, check, get_write_counter, has_tail, program_key, result_read, scene_of,
     write_of,
 };
+use disk::CutDisk;
+use flusher::Store;
 use hmac256::mac_of;
 use intent_slots::Intent;
 use mmio_transport::Done;
@@ -43,12 +46,20 @@ fn takes(scene: &mut Scene, guest: u16, request: Told) -> bool {
     }
 }
 
-fn takes_none(scene: &mut Scene, guest: u16) -> bool {
-    matches!(scene.book.take(&mut scene.shares, guest), Ok(None))
+/// Whether the guest's next intent is this one, which the store then has.
+fn gives(scene: &mut Scene, store: &mut Store<CutDisk>, guest: u16, request: Told) -> bool {
+    let Ok(Some(intent)) = scene.book.take(&mut scene.shares, guest) else {
+        return false;
+    };
+    if !is_intent(&intent, guest, request) || !store.takes(&intent) {
+        return false;
+    }
+    store.give(intent);
+    true
 }
 
-fn settles(scene: &mut Scene) -> bool {
-    scene.book.settle_taken(&scene.shares) == Ok(())
+fn takes_none(scene: &mut Scene, guest: u16) -> bool {
+    matches!(scene.book.take(&mut scene.shares, guest), Ok(None))
 }
 
 /// Whether it is a reply to guest 1 with this need and this tail.
@@ -77,36 +88,53 @@ fn ask_of_guest_1(alloc: Global, scene: &mut Scene) -> Result<(), Fail> {
     Ok(())
 }
 
-/// What was asked before the key needs nothing; the reply to the key waits until it is settled.
-fn key_is_settled(scene: &mut Scene) -> bool {
+/// What was asked before the key needs nothing; the reply to the key waits.
+fn key_is_given(scene: &mut Scene, store: &mut Store<CutDisk>) -> bool {
     collects(scene, 0, [0, 0, 0, 0, 0, 0, 0, 1, 0, 7, 2, 0])
         && collects_none(scene)
-        && takes(scene, 1, (1, 1, 0, 0, 0, None, None))
+        && gives(scene, store, 1, (1, 1, 0, 0, 0, None, None))
         && collects_none(scene)
-        && settles(scene)
-        && collects(scene, 1, [0, 0, 0, 0, 0, 0, 0, 1, 0, 0, 1, 0])
+}
+
+/// It leaves once the key is settled.
+fn key_is_settled(scene: &mut Scene, store: &Store<CutDisk>) -> bool {
+    scene.settles(store.marks()) && collects(scene, 1, [0, 0, 0, 0, 0, 0, 0, 1, 0, 0, 1, 0])
 }
 
 /// While the write isn't settled, neither its reply leaves nor that to what was asked after it.
-fn write_is_settled(scene: &mut Scene) -> bool {
+fn write_is_given(scene: &mut Scene, store: &mut Store<CutDisk>) -> bool {
     collects_none(scene)
         && takes_none(scene, 0)
-        && takes(scene, 1, (1, 2, 1, 0, 256, Some(0xa5), Some(0xa5)))
+        && gives(scene, store, 1, (1, 2, 1, 0, 256, Some(0xa5), Some(0xa5)))
         && takes_none(scene, 1)
         && collects_none(scene)
-        && settles(scene)
+}
+
+/// Both leave then.
+fn write_is_settled(scene: &mut Scene, store: &Store<CutDisk>) -> bool {
+    scene.settles(store.marks())
         && collects(scene, 2, [0, 0, 0, 1, 0, 0, 0, 1, 0, 0, 3, 0])
         && collects(scene, 2, [0, 0, 0, 1, 0, 0, 0, 1, 0, 0, 2, 0])
         && collects_none(scene)
 }
 
+/// What guest 1 asked leaves as the store settles it.
+fn replies_leave(scene: &mut Scene, store: &mut Store<CutDisk>) -> Result<(), Fail> {
+    check(key_is_given(scene, store), "the key")?;
+    settle(store)?;
+    check(key_is_settled(scene, store), "the key is settled")?;
+    check(write_is_given(scene, store), "the write")?;
+    settle(store)?;
+    check(write_is_settled(scene, store), "the write is settled")
+}
+
 #[test]
 fn replies_wait_for_what_they_show(rt: HostRuntime) -> Result<(), Fail> {
     let mut scene = scene_of(rt.alloc(), 2)?;
+    let mut store = fresh_store(rt.alloc(), 2)?;
     check(scene.book.life() == LIFE, "the life")?;
     ask_of_guest_1(rt.alloc(), &mut scene)?;
-    check(key_is_settled(&mut scene), "the key")?;
-    check(write_is_settled(&mut scene), "the write")
+    replies_leave(&mut scene, &mut store)
 }
 
 /// The frames that write so many blocks from an address on, the first of bytes 1, the next of bytes 2,

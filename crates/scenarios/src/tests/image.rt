@@ -1,6 +1,6 @@
 //! Images of a board, what opens from them, and what a store is given.
 
-use crate::tests::scene::board_of;
+use crate::tests::scene::{Scene, board_of};
 use disk::{CutDisk, Disk};
 use flusher::{Progress, Store};
 use intent_slots::{Intent, Layout};
@@ -57,4 +57,15 @@ pub fn settle(store: &mut Store<CutDisk>) -> Result<(), Fail> {
         }
     }
     Err(Fail::from("no end"))
+}
+
+/// Has the store keep a guest's next intent; whether one waited.
+pub fn keep_next(scene: &mut Scene, store: &mut Store<CutDisk>, guest: u16) -> Result<bool, Fail> {
+    match scene.book.take(&mut scene.shares, guest) {
+        Ok(Some(intent)) => give(store, intent)?,
+        Ok(None) => return Ok(false),
+        Err(refused) => return Err(Fail::from(refused)),
+    }
+    settle(store)?;
+    Ok(true)
 }

@@ -1,6 +1,6 @@
 //! The book and the store together: what a guest was answered is on the disk when the store is idle.
 
-use crate::tests::image::{fresh_store, give, opened, settle};
+use crate::tests::image::{fresh_store, keep_next, opened};
 use crate::tests::scene::{KEY, Scene, board_of, check, program_key, scene_of, write_of};
 use disk::{CutDisk, Filler};
 use flusher::Store;
@@ -8,15 +8,12 @@ use rpmb_core::Partition;
 use std::alloc::Global;
 use std::test::Fail;
 
-/// Takes all that waits for the store, one after another.
+/// Has the store keep all that waits for it, one after another; how many there were.
 fn keep(scene: &mut Scene, store: &mut Store<CutDisk>, guest: u16) -> Result<u32, Fail> {
-    for taken in 0..100_u32 {
-        match scene.book.take(&mut scene.shares, guest) {
-            Ok(Some(intent)) => give(store, intent)?,
-            Ok(None) => return Ok(taken),
-            Err(refused) => return Err(Fail::from(refused)),
+    for kept in 0..100_u32 {
+        if !keep_next(scene, store, guest)? {
+            return Ok(kept);
         }
-        settle(store)?;
     }
     Err(Fail::from("no end"))
 }

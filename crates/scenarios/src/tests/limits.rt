@@ -1,9 +1,11 @@
 //! How many replies a guest may have held, how many requests a book answers, and whom it knows.
 
+use crate::tests::image::{fresh_store, keep_next};
 use crate::tests::scene::{
     KEY, Scene, accepted, check, get_write_counter, has_tail, job_of, nonce_of, program_key,
     result_read, scene_of,
 };
+use flusher::Marks;
 use mmio_transport::{Done, Job};
 use rpmb_book::{Receipt, Refused};
 use std::alloc::Global;
@@ -86,9 +88,9 @@ fn knows_no_guest_2(scene: &mut Scene) -> bool {
 }
 
 /// The shares of a book that counted otherwise.
-fn refuses_shares_of(scene: &mut Scene, other: &mut Scene) -> bool {
+fn refuses_shares_of(scene: &mut Scene, other: &mut Scene, marks: Marks) -> bool {
     scene.book.take(&mut other.shares, 1).is_err()
-        && scene.book.settle_taken(&other.shares) == Err(Refused::Foreign)
+        && scene.book.settle(&other.shares, marks) == Err(Refused::Foreign)
 }
 
 /// A book of two guests that took an intent of guest 1.
@@ -116,7 +118,10 @@ fn strangers_are_foreign(rt: HostRuntime) -> Result<(), Fail> {
 fn shares_of_another_book_are_foreign(rt: HostRuntime) -> Result<(), Fail> {
     let mut other = one_taken(rt.alloc())?;
     let mut scene = scene_of(rt.alloc(), 2)?;
-    check(refuses_shares_of(&mut scene, &mut other), "the shares")
+    // No mark is above what either book took.
+    let marks = fresh_store(rt.alloc(), 2)?.marks();
+    let refused = refuses_shares_of(&mut scene, &mut other, marks);
+    check(refused, "the shares")
 }
 
 fn answer_one(alloc: Global, scene: &mut Scene, number: u32) -> Result<(), Fail> {
@@ -152,9 +157,10 @@ fn ask_for_the_result(alloc: Global, scene: &mut Scene) -> Result<(), Fail> {
     Ok(())
 }
 
-fn settle_one(scene: &mut Scene) -> bool {
-    matches!(scene.book.take(&mut scene.shares, 0), Ok(Some(_)))
-        && scene.book.settle_taken(&scene.shares) == Ok(())
+fn settle_one(alloc: Global, scene: &mut Scene) -> Result<(), Fail> {
+    let mut store = fresh_store(alloc, 2)?;
+    check(keep_next(scene, &mut store, 0)?, "something waits")?;
+    check(scene.settles(store.marks()), "the key is settled")
 }
 
 fn leaves(scene: &mut Scene, guest: u16, tail: &[u8; 12]) -> bool {
@@ -185,6 +191,6 @@ fn results_leave(scene: &mut Scene) -> bool {
 fn another_session_forgets_the_outcome(rt: HostRuntime) -> Result<(), Fail> {
     let mut scene = scene_of(rt.alloc(), 2)?;
     ask_for_the_result(rt.alloc(), &mut scene)?;
-    check(settle_one(&mut scene), "the key is settled")?;
+    settle_one(rt.alloc(), &mut scene)?;
     check(results_leave(&mut scene), "the results")
 }

@@ -1,11 +1,13 @@
 //! A book on fresh partitions of 512 blocks, and the requests that scenes make.
+ghost use Rattle.std.specs.Prelude.{◌≡◌, IfOk, map};
 
 use chains::Range;
+use flusher::Marks;
 use hmac256::mac_of;
 use mmio_transport::Job;
 use rpmb_book::{Book, Receipt, Refused, Shares, Tally};
+use rpmb_core::Partition;
 use rpmb_frame::{BoardConfig, Frame, GuestConfig};
-use runner::fresh_partitions;
 use std::alloc::Global;
 use std::test::Fail;
 
@@ -31,6 +33,17 @@ pub fn board_of(alloc: Global, guests: usize) -> Result<BoardConfig, Fail> {
     Ok(BoardConfig::new(configs)?)
 }
 
+/// A partition for each guest of the board, without a key and with blocks of zeros.
+fn fresh_partitions(alloc: Global, board: &BoardConfig) -> Result<Vec<Partition>, Fail>
+    ensures { IfOk result (λ v. map (λ p. p.capacity) v.items ≡ map (λ g. g.capacity) board.now) }
+{
+    let mut partitions = Vec::with_capacity(alloc, board.guests().len())?;
+    for guest in board.guests() {
+        partitions.push(Partition::new(alloc, guest.capacity)?)?;
+    }
+    Ok(partitions)
+}
+
 /// The scene at its opening, with so many guests.
 pub fn scene_of(alloc: Global, guests: usize) -> Result<Scene, Fail> {
     let board = board_of(alloc, guests)?;
@@ -50,6 +63,11 @@ impl Scene {
             Some(tally) => self.book.submit(alloc, tally, job),
             None => Err((job, Refused::Foreign)),
         }
+    }
+
+    /// Settles the book to the marks of a store; whether they are its own.
+    pub fn settles(&mut self, marks: Marks) -> bool {
+        self.book.settle(&self.shares, marks) == Ok(())
     }
 
     /// Has the book answer a request of these frames, in the guest's first session.
