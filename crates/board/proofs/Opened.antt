@@ -1,5 +1,5 @@
 -- A board that was opened is linked.
-use Rattle.std.proofs.Common.{◌≡◌, inl, inr, ℕ, zero, suc, ◌+◌, ◌-◌, ◌<◌, ◌≤◌, true, List, [], ◌∷◌, ◌++◌, Option, Some, None, length, map, take, drop, refl, ap, ap₂, sym, subst, ◌∙◌, arith}
+use Rattle.std.proofs.Common.{false, ◌≡◌, inl, inr, ℕ, zero, suc, ◌+◌, ◌-◌, ◌<◌, ◌≤◌, true, List, [], ◌∷◌, ◌++◌, Option, Some, None, length, map, take, drop, refl, ap, ap₂, sym, subst, ◌∙◌, arith}
 use Rattle.std.specs.Prelude.{if◌then◌else◌, slice_get, slice_index, option_map, option_to_list, replicate, Result, Ok, Err, IfOk, OnOk}
 use Rattle.std.proofs.lemmas.List.{length-map, length-replicate}
 use Rattle.std.proofs.lemmas.Option.{get_or_from_slice_get, slice_get_cases, slice_get_within, slice_get-map}
@@ -248,8 +248,8 @@ module _ {D : Type 0} (shows : D → DiskState) (life : ℕ) (config : List Gues
           is = sym base;
         }))
 
-    pub begins : Begins shows life config (new_board life config ps store)
-    begins = record { partitions = ps; store = store; is = refl; begun = begun; linked = linked_first }
+    pub begins : store.broken ≡ false → Begins shows life config (new_board life config ps store)
+    begins whole = record { partitions = ps; store = store; is = refl; begun = begun; whole = whole; linked = linked_first }
 
     pub sound_first : IsSound shows (new_board life config ps store)
     sound_first = record { config = config; bases = bases_of ps; accepted = λ g. []; parts = parts_of ps; linked = linked_first }

@@ -1,5 +1,5 @@
 -- What an opening of a board gives.
-use Rattle.std.specs.Prelude.{◌≡◌, ℕ, ◌+◌, ◌-◌, ◌<◌, ◌≤◌, List, [], ◌∷◌, length, map, take, replicate, get_or, slice_get, slice_index, Option, Some, None, Result, Ok, Err}
+use Rattle.std.specs.Prelude.{◌≡◌, ℕ, ◌+◌, ◌-◌, ◌<◌, ◌≤◌, false, List, [], ◌∷◌, length, map, take, replicate, get_or, slice_get, slice_index, Option, Some, None, Result, Ok, Err}
 use Rattle.std.specs.List.{AllByRecursion}
 use Rattle.rpmb_frame.specs.Request.{Request}
 use Rattle.rpmb_frame.specs.Partition.{Partition, empty_partition, sequence}
@@ -61,6 +61,8 @@ pub record Begins {D : Type 0} (shows : D → DiskState) (life : ℕ) (config : 
   pub store : StoreState D
   pub is : b ≡ new_board life config partitions store
   pub begun : AllBegun (capacities_of config) store.guests partitions
+  -- no call of the store has failed
+  pub whole : store.broken ≡ false
   pub linked : IsLinkedBoard shows config (bases_of partitions) (λ g. []) (parts_of partitions) b
 
 -- Each guest's partition is what a content stands for.

@@ -1,10 +1,10 @@
 -- What each step answers, and what it makes of the board. A step is Nothing exactly where it would overfill its place,
 -- finds its place empty or the slot not free, names no guest of the board, or its call gives nothing.
-use Rattle.std.specs.Prelude.{◌≡◌, ◌⊎◌, ℕ, ◌+◌, length, slice_get, slice_set, Bool, true, false, Option, Some, None, Result, Ok, Err, unwrap_or}
+use Rattle.std.specs.Prelude.{◌≡◌, ◌⊎◌, ℕ, ◌+◌, ◌≤◌, length, slice_get, slice_set, Bool, true, false, Option, Some, None, Result, Ok, Err, unwrap_or}
 use Rattle.guest_memory.specs.Memory.{IsInside, with_bytes}
 use Rattle.guest_memory.specs.declared.fault.MemFault.TheVariants.{OutOfRange}
 use Rattle.mmio_transport.specs.Device.{DeviceState, after_write, read_value}
-use Rattle.mmio_transport.specs.Job.{Job, Done}
+use Rattle.mmio_transport.specs.Job.{Job, Done, room_in}
 use Rattle.mmio_transport.specs.Popping.{GivesJob}
 use Rattle.mmio_transport.specs.Publishing.{Publishes}
 use Rattle.mmio_transport.specs.declared.done.Published.{Published}
@@ -89,6 +89,8 @@ pub record PublishesReply {D : Type 0} (g : ℕ) (d : DeviceState) (done : Done)
   pub published : Published
   pub device : DeviceState
   pub publishes : Publishes d done published device
+  -- a reply has no more bytes than its chain has room for
+  pub fits : length done.reply ≤ room_in done.writable
   pub answers : answer ≡ Ok (seen.Published published)
   pub after : new ≡ record old { devices = slice_set old.devices g device; dones = slice_set old.dones g None }
 

@@ -1,5 +1,6 @@
 //! What a board is made of, and what each step does to it.
-ghost use Rattle.std.specs.Prelude.{◌≡◌, ℕ, List, slice_get, None, Some, true};
+ghost use Rattle.std.specs.Prelude.{◌≡◌, ◌<◌, ℕ, List, length, slice_get, None, Some, true};
+ghost use Rattle.std.specs.Borrow.{sem};
 ghost use Rattle.flusher.specs.Store.{MayGive, is_free};
 ghost use Rattle.intent_slots.specs.Payload.{Intent as IntentSpec};
 ghost use Rattle.rpmb_book.specs.Book.{is_share, may_settle, state};
@@ -98,6 +99,17 @@ fn take_from<T: Drop>(places: &mut Vec<Option<T>>, at: usize) -> Option<T>
 }
 
 impl<D: Disk> Assembly<D> {
+    ghost use Rattle.board.specs.Lending.{lends_of_parts};
+
+    /// Lends a guest's device.
+    pub(crate) fn device(&mut self, guest: u16) -> &mut Device
+        requires { guest < length self.old.devices }
+        ensures* writes_back { sem 𝓛 (lends_of_parts D.row D.Disk self.entry guest result) }
+        ensures device { slice_get self.old.devices guest ≡ Some result.now }
+    {
+        &mut self.devices[usize::from(guest)]
+    }
+
     pub(crate) fn drive(&mut self, guest: u16, act: &Act) -> Result<Seen, StepFault>
         ensures { Drives guest act.now (slice_get self.old.devices guest) result self.old self.new }
     {

@@ -1,5 +1,6 @@
 //! A board: devices, a book and a store, and the steps between them.
 ghost use Rattle.std.specs.Prelude.{◌≡◌, ◌<◌, ℕ, List, true, false, length, slice_get, option_copied, option_map, IfOk, IfErr, OnOk};
+ghost use Rattle.std.specs.Borrow.{sem};
 ghost use Rattle.rpmb_frame.specs.Partition as model;
 ghost use Rattle.rpmb_frame.specs.Request.{Request};
 ghost use Rattle.rpmb_frame.specs.declared.config.GuestConfig.{GuestConfig};
@@ -65,6 +66,8 @@ impl<D: Disk> Model for Board<D> {
 }
 
 impl<D: Disk> Board<D> {
+    ghost use Rattle.board.specs.Lending.{lends_device};
+
     /// Opens the image of a disk that a stop may have left: a board on the partitions that it stands
     /// for, in this life, with fresh devices and nothing between its steps. It makes a sync, and only
     /// after its success it reads; nothing is written.
@@ -163,6 +166,23 @@ impl<D: Disk> Board<D> {
     {
         self.assembly.what_always_holds();
         self.assembly.step(step)
+    }
+
+    /// Whether a call of the disk has failed and the book was told, so that nothing more is accepted.
+    pub fn is_broken(&self) -> bool
+        ensures { result ≡ (state self.now.book).broken }
+    {
+        self.assembly.book.is_broken()
+    }
+
+    /// Lends the device of a guest of the board to its driver. What is done to it changes nothing else:
+    /// not the book, the store, or what lies between two steps.
+    pub fn device(&mut self, guest: u16) -> &mut Device
+        requires { guest < length self.old.devices }
+        ensures* writes_back { sem 𝓛 (lends_device D.row D.Disk self.entry guest result) }
+        ensures device { slice_get self.old.devices guest ≡ Some result.now }
+    {
+        self.assembly.device(guest)
     }
 
     /// A guest's partition, after all its requests; None for a guest that the board lacks.

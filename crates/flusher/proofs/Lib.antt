@@ -10,3 +10,4 @@ pub mod Lookups
 pub mod Plans
 pub mod UnderWay
 pub mod Countdown
+pub mod Endings
