@@ -1,0 +1,16 @@
+pub mod Chains
+pub mod Collects
+pub mod First
+pub mod Fronts
+pub mod Hosts
+pub mod Looks
+pub mod Same
+pub mod Seen
+pub mod SameReply
+pub mod Serves
+pub mod Settled
+pub mod Starting
+pub mod Steps
+pub mod Updates
+pub mod Work
+pub mod Writes

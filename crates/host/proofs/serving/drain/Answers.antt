@@ -1,0 +1,43 @@
+use Rattle.std.proofs.Common.{Ok, Err, false, true, subst}
+use Rattle.host.specs.Serving.{Drains, ServesOne, Where}
+use Rattle.host.specs.declared.fault.HostFault.{HostFault}
+use Rattle.host.specs.declared.serving.Step.{Step}
+use Rattle.host.specs.declared.serving.Step.TheVariants as step
+use Rattle.host.proofs.Looks.{touches_twice, where_then}
+use Rattle.host.proofs.Steps.{no_more_answered, no_more_failed, no_more_stopped, quiet_more}
+use Rattle.host.proofs.serving.drain.Goals as goal
+
+pub returns-in-Ok-Nothing-clause-drains : goal.returns-in-Ok-Nothing-clause-drains
+returns-in-Ok-Nothing-clause-drains g c =
+    let n = c.args.guest in
+    let given : Step → Type 0 = λ x. Where n (λ d r d' r'. ServesOne n d r (Ok x) d' r') c.loop.board c.serve_one.new.board in
+    where_then g.D.Disk.state g.D.Disk.makes n (λ d r d' r'. Drains n d r (Ok false) d' r') (λ d r d' r'. ServesOne n d r (Ok step.Nothing) d' r') (λ d r d' r'. Drains n d r (Ok false) d' r')
+    c.args.board.now c.loop.board c.serve_one.new.board c.loop.invariant.2 c.loop.invariant.1 c.serve_one.ensures.touches (subst given c.in-Ok-Nothing.field-0-is c.in-Ok-Nothing.ensures.serves)
+    (λ d d1 d2 r r1 r2 before serves. quiet_more n d d1 d2 r r1 r2 before serves)
+
+pub returns-in-Ok-Stopped-clause-drains : goal.returns-in-Ok-Stopped-clause-drains
+returns-in-Ok-Stopped-clause-drains g c =
+    let n = c.args.guest in
+    let given : Step → Type 0 = λ x. Where n (λ d r d' r'. ServesOne n d r (Ok x) d' r') c.loop.board c.serve_one.new.board in
+    where_then g.D.Disk.state g.D.Disk.makes n (λ d r d' r'. Drains n d r (Ok false) d' r') (λ d r d' r'. ServesOne n d r (Ok step.Stopped) d' r') (λ d r d' r'. Drains n d r (Ok true) d' r')
+    c.args.board.now c.loop.board c.serve_one.new.board c.loop.invariant.2 c.loop.invariant.1 c.serve_one.ensures.touches (subst given c.in-Ok-Stopped.field-0-is c.in-Ok-Stopped.ensures.serves)
+    (λ d d1 d2 r r1 r2 before serves. no_more_stopped n d d1 d2 r r1 r2 true before serves)
+
+pub returns-in-Err-clause-drains : goal.returns-in-Err-clause-drains
+returns-in-Err-clause-drains g c =
+    let n = c.args.guest in
+    let given : HostFault → Type 0 = λ x. Where n (λ d r d' r'. ServesOne n d r (Err x) d' r') c.loop.board c.serve_one.new.board in
+    where_then g.D.Disk.state g.D.Disk.makes n (λ d r d' r'. Drains n d r (Ok false) d' r') (λ d r d' r'. ServesOne n d r (Err c.in-Err.fault) d' r') (λ d r d' r'. Drains n d r (Err c.in-Err.fault) d' r')
+    c.args.board.now c.loop.board c.serve_one.new.board c.loop.invariant.2 c.loop.invariant.1 c.serve_one.ensures.touches (subst given c.in-Err.fault-is c.in-Err.ensures.serves)
+    (λ d d1 d2 r r1 r2 before serves. no_more_failed n d d1 d2 r r1 r2 c.in-Err.fault before serves)
+
+pub loop-preserved : goal.loop-preserved
+loop-preserved g c =
+    let n = c.args.guest in
+    let given : Step → Type 0 = λ x. Where n (λ d r d' r'. ServesOne n d r (Ok x) d' r') c.loop.board c.serve_one.new.board in (
+      touches_twice g.D.Disk.state g.D.Disk.makes n c.args.board.now c.loop.board c.serve_one.new.board c.loop.invariant.0 c.serve_one.ensures.touches,
+      c.in-Ok-Answered.ensures.empty,
+      where_then g.D.Disk.state g.D.Disk.makes n (λ d r d' r'. Drains n d r (Ok false) d' r') (λ d r d' r'. ServesOne n d r (Ok step.Answered) d' r') (λ d r d' r'. Drains n d r (Ok false) d' r')
+          c.args.board.now c.loop.board c.serve_one.new.board c.loop.invariant.2 c.loop.invariant.1 c.serve_one.ensures.touches (subst given c.in-Ok-Answered.field-0-is c.in-Ok-Answered.ensures.serves)
+          (λ d d1 d2 r r1 r2 before serves. no_more_answered n d d1 d2 r r1 r2 false before serves),
+    )

@@ -1,0 +1,10 @@
+pub mod Calm
+pub mod Fault
+pub mod Guest
+pub mod Host
+pub mod Opening
+pub mod Ready
+pub mod Runner
+pub mod Serving
+pub mod Waiting
+pub mod Work

@@ -1,0 +1,59 @@
+-- What of a board the answers to its guests depend on, and what a job makes of it.
+use Rattle.std.specs.Prelude.{ℕ, ◌+◌, ◌==◌, nat_lt, not, Option, Some, None, List, [], ◌∷◌, length, map, slice_get}
+use Rattle.rpmb_frame.specs.Limits.{limits_of}
+use Rattle.rpmb_frame.specs.Partition.{empty_partition}
+use Rattle.rpmb_frame.specs.Table.{first_row}
+use Rattle.rpmb_frame.specs.declared.config.GuestConfig.{GuestConfig}
+use Rattle.mmio_transport.specs.Job.{Job}
+use Rattle.rpmb_book.specs.Book.{submits_in}
+use Rattle.rpmb_book.specs.Guest.{GuestCore, answer, core_after, need}
+use Rattle.rpmb_book.specs.Turn.{update}
+use Rattle.rpmb_book.specs.declared.refused.Refused.{Refused}
+use Rattle.rpmb_book.specs.declared.refused.Refused.TheVariants.{Foreign, HistoryFull}
+use Rattle.board.specs.State.{BoardState, guests}
+
+pub record RunnerView : Type 0 where
+  -- what the answers to each guest depend on
+  pub cores : List GuestCore
+  -- how many jobs were answered
+  pub answered : ℕ
+
+-- what a board shows of it
+abbrev pub runner_of : {D : Type 0} → BoardState D → RunnerView
+runner_of b = record { cores = map (λ g. g.core) (guests b); answered = submits_in b.book }
+
+-- a guest without a key, of whom nothing was asked yet
+abbrev pub fresh_core : GuestConfig → GuestCore
+fresh_core g = record { limits = limits_of g; partition = empty_partition g.capacity; last = None }
+
+unfoldable pub fresh_view : List GuestConfig → RunnerView
+fresh_view board = record { cores = map fresh_core board; answered = 0 }
+
+abbrev pub answer_at : Job → Option GuestCore → List ℕ
+answer_at job None = []
+answer_at job (Some c) = answer c job
+
+abbrev pub need_at : Job → Option GuestCore → ℕ
+need_at job None = 0
+need_at job (Some c) = need c job
+
+-- the reply to a job, and the sequence that is settled before it leaves
+unfoldable pub reply_of : List GuestCore → Job → List ℕ
+reply_of cores job = answer_at job (slice_get cores job.guest)
+
+unfoldable pub need_of : List GuestCore → Job → ℕ
+need_of cores job = need_at job (slice_get cores job.guest)
+
+-- the guests after a job: it changes its own guest alone
+unfoldable pub cores_after : List GuestCore → Job → List GuestCore
+cores_after cores job = update cores job.guest (λ c. core_after c job)
+
+unfoldable pub after_job : RunnerView → Job → RunnerView
+after_job v job = record { cores = cores_after v.cores job; answered = v.answered + 1 }
+
+-- why a job is refused whatever memory there is: the first row that applies
+unfoldable pub refusal_of : RunnerView → Job → Option Refused
+refusal_of v job = first_row (
+    (not (nat_lt job.guest (length v.cores)), Some Foreign)
+    ∷ (v.answered == 16384, Some HistoryFull)
+    ∷ []) None

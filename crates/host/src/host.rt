@@ -1,0 +1,113 @@
+//! All guests of a board, each with a driver before its device.
+ghost use Rattle.std.specs.Prelude.{◌≡◌, ◌≤◌, ◌<◌, ◌+◌, IfOk, false, length};
+ghost use Rattle.host.specs.Calm.{is_broken};
+ghost use Rattle.host.specs.Host.{HostAnswers, HostChains, HostResets, HostResetsGuest, HostStores, Keeps, seen};
+ghost use Rattle.host.specs.Opening.{IsFirstHost, IsJustOpened};
+
+use crate::fault::HostFault;
+use crate::front::{Answer, Front, store_in};
+use crate::opening::fronts_of;
+use board::Board;
+use disk::Disk;
+use rpmb_core::NoMemory;
+use rpmb_frame::BoardConfig;
+use std::alloc::Global;
+use std::marker::Model;
+
+/// The guests of a board, each with a driver before its device. What a guest offers is taken to its end
+/// before the next chain is offered: answered, written to the disk, and published once it is settled.
+#[derive(Drop)]
+pub struct Host<D: Disk> {
+    board: Board<D>,
+    fronts: Vec<Front>,
+}
+
+impl<D: Disk> Model for Host<D> {
+    ghost use Rattle.std.specs.Prelude.{◌≡◌, length};
+    ghost use Rattle.host.specs.Calm.{IsCalm};
+    ghost use Rattle.host.specs.Host.{HostState};
+
+    ghost Value = { HostState D };
+
+    ghost view = { λ h. record { board = h.board; fronts = h.fronts.items } };
+
+    ghost invariant = { λ h. IsCalm D.state h.board × (length h.fronts.items ≡ length h.board.devices) };
+}
+
+impl<D: Disk> Host<D> {
+    /// The host of a board that was just opened: each guest's driver brings its device into service.
+    /// `NoMemory` where there is no room for what the drivers keep; the board goes then.
+    pub fn new(alloc: Global, board: Board<D>, config: &BoardConfig) -> Result<Host<D>, NoMemory>
+        requires opened { IsJustOpened D.state config.now board }
+        ensures { IfOk result (IsFirstHost config.now board) }
+    {
+        let mut board = board;
+        let fronts = fronts_of(alloc, &mut board, config)?;
+        Ok(Host { board, fronts })
+    }
+
+    /// What a chain of a guest comes to: these readable bytes, at most 8,704, and room for `writable`
+    /// bytes, at most 8,192; one byte of either at least. It is offered, all that the device pops is
+    /// taken to its end, and the driver reaps once.
+    ///
+    /// Where the guest is ready, whatever the others are, and no count of its device comes near
+    /// 2^64 - 1, an answer is the reply to its request, and the guest is ready again, unless a call of
+    /// the disk failed. A guest whose device stopped, or gave nothing or nonsense back, is stuck until
+    /// its reset. The device and the driver of every other guest stay as they are.
+    ///
+    /// # Errors
+    ///
+    /// `Foreign` where there is no such guest; then nothing changes. Of a ready guest `HistoryFull`
+    /// where 16,384 jobs were answered, `NoRoom` where too few descriptors are free, else `NoMemory`;
+    /// the book stays as it was, but that after `NoMemory` the request may have been answered.
+    pub fn chain(&mut self, guest: u16, readable: &[u8], writable: u32) -> Result<Answer, HostFault>
+        requires readable { length readable.now ≤ 8704 }
+        requires writable { writable ≤ 8192 }
+        requires some { 0 < length readable.now + writable }
+        ensures answer { is_broken self.new.board ≡ false → HostAnswers (seen self.old) guest readable.now writable result (seen self.new) }
+        ensures guest { HostChains (is_broken self.new.board) (seen self.old) guest readable.now writable result (seen self.new) }
+        ensures keeps { Keeps D.makes self.old.board self.new.board }
+    {
+        let at = usize::from(guest);
+        if at >= self.fronts.len() {
+            return Err(HostFault::Foreign);
+        }
+        self.fronts[at].chain(&mut self.board, guest, readable, writable)
+    }
+
+    /// Stores bytes into a guest's memory, from the address `at` on, as the guest itself does.
+    /// `OutOfRange` where they don't all lie in it, `Foreign` where there is no such guest; then
+    /// nothing changes.
+    pub fn store(&mut self, guest: u16, at: u64, bytes: &[u8]) -> Result<(), HostFault>
+        ensures guest { HostStores (seen self.old) guest at bytes.now result (seen self.new) }
+        ensures keeps { Keeps D.makes self.old.board self.new.board }
+    {
+        if usize::from(guest) >= self.fronts.len() {
+            return Err(HostFault::Foreign);
+        }
+        store_in(self.board.device(guest), at, bytes)
+    }
+
+    /// Resets a guest's device and brings it into service again, in the guest's next session; a guest
+    /// that was stuck may offer again. That the guest is ready then is said where all guests were.
+    /// `Foreign` where there is no such guest; then nothing changes.
+    pub fn reset(&mut self, guest: u16) -> Result<(), HostFault>
+        ensures guest { HostResetsGuest (seen self.old) guest result (seen self.new) }
+        ensures ready { HostResets (seen self.old) guest result (seen self.new) }
+        ensures keeps { Keeps D.makes self.old.board self.new.board }
+    {
+        let at = usize::from(guest);
+        if at >= self.fronts.len() {
+            return Err(HostFault::Foreign);
+        }
+        self.fronts[at].reset(&mut self.board, guest);
+        Ok(())
+    }
+
+    /// Whether a call of the disk has failed, so that nothing more is accepted.
+    pub fn is_broken(&self) -> bool
+        ensures { result ≡ is_broken self.now.board }
+    {
+        self.board.is_broken()
+    }
+}

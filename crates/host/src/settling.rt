@@ -1,0 +1,45 @@
+//! Takes what a guest had accepted to the disk, until its reply may leave.
+ghost use Rattle.mmio_transport.specs.Job.{Done};
+ghost use Rattle.board.specs.State.{BoardState};
+ghost use Rattle.host.specs.Waiting.{Collected, Leaves, Waits, WaitsForSome, WritesOn};
+
+use board::{Board, Seen, Step};
+use disk::Disk;
+
+/// Looks for the reply that a guest waits for. Whether it lies in its place now.
+fn collect<D: Disk>(board: &mut Board<D>, guest: u16) -> bool
+    requires waits { WaitsForSome D.state D.makes guest board.old }
+    ensures { (start : BoardState D) (reply : Done) → Waits D.state D.makes guest start reply board.old
+        → Collected result D.state D.makes guest start reply board.old board.new }
+{
+    match board.step(&Step::Collect(guest)) {
+        Ok(Seen::Did) => true,
+        Ok(Seen::Nothing) => false,
+        Ok(Seen::Value(_)) => unreachable!(),
+        Ok(Seen::Published(_)) => unreachable!(),
+        Err(_) => unreachable!(),
+    }
+}
+
+/// Brings what the guest had accepted one call of the disk nearer to being settled, and tells the book.
+fn write_on<D: Disk>(board: &mut Board<D>, guest: u16)
+    ensures { (start : BoardState D) (reply : Done) → Waits D.state D.makes guest start reply board.old
+        → WritesOn D.state D.makes guest start reply board.old board.new }
+{
+    // What these steps come to shows in what the next Collect gives.
+    let _ = board.step(&Step::Take(guest));
+    let _ = board.step(&Step::Give(guest));
+    let _ = board.step(&Step::Advance);
+    let _ = board.step(&Step::Settle);
+}
+
+/// Lets the one reply that a guest waits for into its place, once all that the guest's partition took is
+/// settled. A call of the disk that fails makes a failure reply of it. It takes no memory.
+pub(crate) fn settle_reply<D: Disk>(board: &mut Board<D>, guest: u16)
+    requires waits { WaitsForSome D.state D.makes guest board.old }
+    ensures leaves { (reply : Done) → Waits D.state D.makes guest board.old reply board.old → Leaves D.state D.makes guest board.old reply board.new }
+{
+    while !collect(board, guest) {
+        write_on(board, guest);
+    }
+}
