@@ -1,14 +1,12 @@
 //! Whole requests of one guest, from the offer to the reap.
 ghost use Rattle.std.specs.Prelude.{◌<◌, ◌≤◌};
 
-use crate::requests::{KEY, write};
+use crate::host::Host;
+use crate::requests::{key, write};
 use anyhow::{Result, bail};
 use guest_driver::Driver;
 use mmio_transport::{Device, Published};
-use rpmb_frame::{
-    BoardConfig, DATA_READ, Frame, GET_WRITE_COUNTER, GuestConfig, PROGRAM_KEY, RESULT_READ,
-};
-use runner::Runner;
+use rpmb_frame::{BoardConfig, DATA_READ, Frame, GET_WRITE_COUNTER, GuestConfig};
 use std::alloc::Global;
 
 /// The bytes of the longest request.
@@ -29,7 +27,7 @@ impl Kind {
     pub fn name(self) -> &'static str {
         match self {
             Kind::Counter => "counter",
-            Kind::Write => "write of 1 block",
+            Kind::Write => "write of 1 block with its store",
             Kind::Read => "read of 16 blocks",
         }
     }
@@ -75,12 +73,12 @@ impl Kind {
     }
 }
 
-/// A guest with its driver and device, and the book that answers it.
+/// A guest with its driver and device, and the host that answers it.
 #[derive(Drop)]
 pub struct Guest {
     device: Device,
     driver: Driver,
-    runner: Runner,
+    host: Host,
 }
 
 /// A guest whose device is in service.
@@ -96,11 +94,11 @@ fn guest_in_service(alloc: Global) -> Result<Guest> {
     if !driver.negotiate(&mut device) {
         bail!("no queue");
     }
-    let runner = Runner::new(alloc, &board)?;
+    let host = Host::new(alloc, &board)?;
     Ok(Guest {
         device,
         driver,
-        runner,
+        host,
     })
 }
 
@@ -114,13 +112,7 @@ pub fn new_guest(alloc: Global) -> Result<Guest> {
 impl Guest {
     /// Programs the key.
     fn program_key(&mut self, alloc: Global) -> Result<()> {
-        let frame = Frame::zeros()
-            .with_key_mac(&KEY)
-            .with_block_count(1)
-            .with_req_resp(PROGRAM_KEY);
-        let mut request = Vec::from_slice(alloc, frame.to_bytes().as_slice())?;
-        let closing = Frame::zeros().with_req_resp(RESULT_READ);
-        request.extend_from_slice(closing.to_bytes().as_slice())?;
+        let request = key(alloc)?;
         let reply = self.reply(alloc, request.as_slice(), 512)?;
         if !reply.ends_with(&[0, 0, 1, 0]) {
             bail!("no key");
@@ -147,7 +139,7 @@ impl Guest {
         let Ok(Some(job)) = self.device.pop() else {
             bail!("no chain");
         };
-        let done = self.runner.answer(alloc, job)?;
+        let done = self.host.answer(alloc, job)?;
         match self.device.publish(done) {
             Published::Wrote { .. } => Ok(()),
             Published::Dropped => bail!("no outstanding chain"),

@@ -36,12 +36,9 @@ pub fn new_store(alloc: Global, board: &BoardConfig) -> Result<Store<MemDisk>> {
     }
 }
 
-fn give(store: &mut Store<MemDisk>, intent: Intent) -> Result<()> {
-    let guest = intent.guest();
-    if !store.is_free(guest)
-        || !store.fits(&intent)
-        || store.next(guest) != intent.first_sequence()
-    {
+/// Gives an intent to a store that may be given it.
+pub fn give(store: &mut Store<MemDisk>, intent: Intent) -> Result<()> {
+    if !store.takes(&intent) {
         bail!("an intent that can't be given");
     }
     store.give(intent);
@@ -56,6 +53,12 @@ pub fn give_keys(store: &mut Store<MemDisk>, guests: u16) -> Result<()> {
     Ok(())
 }
 
+/// A guest's write of its first block, which leaves this write counter.
+pub fn write_intent(alloc: Global, guest: u16, counter: u32) -> Result<Intent> {
+    let blocks = vec![in alloc; 0x5a; 256]?;
+    Ok(Intent::write(guest, KEY, counter, 0, blocks))
+}
+
 /// Gives each of so many guests a write of its first block, which leaves this write counter.
 pub fn give_writes(
     alloc: Global,
@@ -64,8 +67,7 @@ pub fn give_writes(
     counter: u32,
 ) -> Result<()> {
     for guest in 0..guests {
-        let blocks = vec![in alloc; 0x5a; 256]?;
-        give(store, Intent::write(guest, KEY, counter, 0, blocks))?;
+        give(store, write_intent(alloc, guest, counter)?)?;
     }
     Ok(())
 }

@@ -1,30 +1,42 @@
-//! Times MACs, the requests of many guests, chains through a ring, and whole requests of one guest:
-//! `bench macs COUNT`, `bench requests COUNT`, `bench rings COUNT`, `bench device COUNT`, `bench store COUNT`,
-//! `bench open COUNT`, where COUNT is of MACs, of requests for each of 64 guests, of chains of 8,704 bytes,
-//! of requests of each kind, of writes of each of 64 guests, or of openings. Without arguments it prints
-//! checksums alone.
+//! Times work of one kind, `bench WORK COUNT`; without arguments it prints checksums alone. COUNT is
+//!
+//! - of `macs`: of MACs;
+//! - of `requests`: of requests for each of 64 guests;
+//! - of `rings`: of chains of 8,704 bytes;
+//! - of `device`: of whole requests of each kind, of one guest;
+//! - of `store`: of writes of each of 64 guests;
+//! - of `open`: of openings;
+//! - of `board`: of writes of each of 64 guests, which a board's steps settle, its book and store, and its
+//!   store alone.
+//!
+//! Where a book answers (`requests`, `device`), the reply to a write leaves once its store has settled it on
+//! a disk in memory: the times have the calls of that store in them, and no sync of a real disk.
 #![tactic(auto)]
 
 mod devices;
+mod host;
 mod images;
 mod macs;
 mod requests;
 mod rings;
+mod steps;
+mod ways;
 
 use anyhow::{Context, Result, bail};
 use devices::{Guest, Kind, new_guest, requests_of, whole};
 use disk::MemDisk;
 use flusher::Store;
+use host::Host;
 use images::{Calls, give_keys, give_writes, new_disk, new_store, put_writes, read_all, settle};
 use macs::{keyed_macs, plain_macs};
 use recovery::open;
 use requests::{counters, keyed, writes};
 use rings::{Queue, chains, copies, new_queue};
 use rpmb_frame::{BoardConfig, GuestConfig};
-use runner::Runner;
 use std::alloc::Global;
 use std::env;
 use std::time::{Duration, Instant};
+use ways::new_ways;
 
 const GUESTS: u16 = 64;
 
@@ -58,12 +70,7 @@ fn time_macs(rt: &HostRuntime, count: u32) -> Result<()> {
 
 /// Times so many requests for the counter from each guest of a board, and so many writes from each of
 /// another.
-fn time_loads(
-    rt: &HostRuntime,
-    counted: &mut Runner,
-    written: &mut Runner,
-    part: u32,
-) -> Result<()> {
+fn time_loads(rt: &HostRuntime, counted: &mut Host, written: &mut Host, part: u32) -> Result<()> {
     let start = Instant::now(rt)?;
     let counter = counters(rt.alloc(), counted, GUESTS, part)?;
     let counters_took = start.elapsed(rt)?;
@@ -73,7 +80,7 @@ fn time_loads(
     let each_counter = each(counters_took, part) / u128::from(GUESTS);
     let each_write = each(writes_took, part) / u128::from(GUESTS);
     println!(rt;
-        "{part} a guest: counter {each_counter} ns, write {each_write} ns; {counter} {write}"
+        "{part} a guest: counter {each_counter} ns, write with its store {each_write} ns; {counter} {write}"
     )?;
     Ok(())
 }
@@ -254,6 +261,24 @@ fn time_open(rt: &HostRuntime, count: u32) -> Result<()> {
     Ok(())
 }
 
+/// Times the settling of writes of 64 guests by a board, by its book and store, and by its store alone. A
+/// history holds 16,384 requests, one of each guest programs its key, and so COUNT is at most 255.
+fn time_board(rt: &HostRuntime, count: u32) -> Result<()> {
+    let mut ways = new_ways(rt.alloc(), &board(rt.alloc())?)?;
+    let [steps, calls, store] = ways.times(rt, count)?;
+    let [by_steps, by_calls, by_store] = ways.settled();
+    let guests = u128::from(GUESTS);
+    println!(rt;
+        "a write: board {} ns; book and store {} ns, the board {} percent of that; store {} ns, the board {} percent of that; {by_steps} {by_calls} {by_store}",
+        each(steps, count) / guests,
+        each(calls, count) / guests,
+        steps.as_nanos() * 100 / calls.as_nanos().max(1),
+        each(store, count) / guests,
+        steps.as_nanos() * 100 / store.as_nanos().max(1)
+    )?;
+    Ok(())
+}
+
 /// The calls and syncs of 64 keys, and of 64 writes.
 fn few_calls(alloc: Global) -> Result<(Calls, Calls)> {
     let mut store = new_store(alloc, &board(alloc)?)?;
@@ -266,9 +291,9 @@ fn few_calls(alloc: Global) -> Result<(Calls, Calls)> {
 
 /// Two counter requests and two writes of each guest.
 fn few_answers(alloc: Global) -> Result<(u32, u32)> {
-    let mut runner = keyed(alloc, &board(alloc)?)?;
-    let counter = counters(alloc, &mut runner, GUESTS, 2)?;
-    let write = writes(alloc, &mut runner, GUESTS, 2)?;
+    let mut host = keyed(alloc, &board(alloc)?)?;
+    let counter = counters(alloc, &mut host, GUESTS, 2)?;
+    let write = writes(alloc, &mut host, GUESTS, 2)?;
     Ok((counter, write))
 }
 
@@ -295,6 +320,13 @@ fn few_requests(alloc: Global) -> Result<u32> {
     Ok(answered)
 }
 
+/// Two writes of each guest in each way; answers how many of them were settled.
+fn few_settled(rt: &HostRuntime) -> Result<[u64; 3]> {
+    let mut ways = new_ways(rt.alloc(), &board(rt.alloc())?)?;
+    ways.times(rt, 2)?;
+    Ok(ways.settled())
+}
+
 /// What the gate runs: a few of each, with no times.
 fn checksums(rt: &HostRuntime) -> Result<()> {
     let alloc = rt.alloc();
@@ -308,6 +340,8 @@ fn checksums(rt: &HostRuntime) -> Result<()> {
         "{} {}, {} {}",
         keys.all, keys.syncs, stored.all, stored.syncs
     )?;
+    let [by_steps, by_calls, by_store] = few_settled(rt)?;
+    println!(rt; "{by_steps} {by_calls} {by_store}")?;
     Ok(())
 }
 
@@ -324,6 +358,7 @@ fn main(rt: HostRuntime) -> Result<()> {
         "device" => time_device(&rt, count),
         "store" => time_store(&rt, count),
         "open" => time_open(&rt, count),
+        "board" => time_board(&rt, count),
         _ => bail!("no such work"),
     }
 }
