@@ -1,5 +1,5 @@
 -- What a script prints.
-use Rattle.std.specs.Prelude.{ℕ, ◌≡◌, All, List, [], ◌∷◌, ◌++◌, Some, codes, get_or, length, map, replicate}
+use Rattle.std.specs.Prelude.{ℕ, ◌≡◌, All, List, [], ◌∷◌, ◌++◌, Some, None, codes, get_or, length, map, replicate}
 use Rattle.std.specs.Fmt.{decimal}
 use Rattle.hex.specs.Hex.{encode_lower}
 use Rattle.rpmb_frame.specs.declared.config.GuestConfig.{GuestConfig}
@@ -7,11 +7,13 @@ use Rattle.rpmb_frame.specs.declared.config.RingKind.TheVariants.{Split}
 use Rattle.script.specs.Line.{Said, nothing, chain, store, reset, line_of}
 use Rattle.script.specs.Script.{first_bad, lines_of}
 use Rattle.rpmb_book.specs.Guest.{GuestCore}
-use Rattle.runner.specs.Runner.{cores_after, fresh_view, reply_of}
-use Rattle.runner.specs.Ready.{job_of}
-use Rattle.runner.specs.Host.{sessions_after}
-use Rattle.runner.specs.declared.guest.Stuck.{Stuck}
-use Rattle.runner.specs.declared.guest.Stuck.TheVariants as stuck
+use Rattle.rpmb_frame.specs.Limits.{limits_of}
+use Rattle.rpmb_frame.specs.Partition.{Partition}
+use Rattle.host.specs.Runner.{cores_after, reply_of}
+use Rattle.host.specs.Ready.{job_of}
+use Rattle.host.specs.Host.{sessions_after}
+use Rattle.host.specs.declared.front.Stuck.{Stuck}
+use Rattle.host.specs.declared.front.Stuck.TheVariants as stuck
 
 -- two digits a byte, in lower case; no bytes are shown by a dash
 abbrev pub shown : List ℕ → List ℕ
@@ -61,6 +63,11 @@ unfoldable pub transcript : Told → List Said → List ℕ
 transcript t [] = []
 transcript t (line ∷ lines) = printed_by t line ++ transcript (told_by t line) lines
 
+-- and what they make of the guests
+unfoldable pub told_after : Told → List Said → Told
+told_after t [] = t
+told_after t (line ∷ lines) = told_after (told_by t line) lines
+
 -- no line stores into guest memory, whose rings and requests are then the driver's alone
 abbrev pub StoresNothing : List Said → Type 0
 StoresNothing [] = Unit {0}
@@ -73,9 +80,23 @@ StoresNothing (reset guest ∷ lines) = StoresNothing lines
 abbrev pub AreSplit : List GuestConfig → Type 0
 AreSplit board = All (λ g. g.ring ≡ Split) board
 
--- what they print on the fresh partitions of a board
-abbrev pub output_of : List GuestConfig → List Said → List ℕ
-output_of board lines = transcript (record { cores = (fresh_view board).cores; sessions = replicate (length board) 1 }) lines
+-- the guests of a board on these partitions, of whom nothing was asked yet
+abbrev pub first_cores : List GuestConfig → List Partition → List GuestCore
+first_cores [] partitions = []
+first_cores (g ∷ board) [] = []
+first_cores (g ∷ board) (p ∷ partitions) = record { limits = limits_of g; partition = p; last = None } ∷ first_cores board partitions
+
+-- each in its first session
+abbrev pub first_told : List GuestConfig → List Partition → Told
+first_told board partitions = record { cores = first_cores board partitions; sessions = replicate (length board) 1 }
+
+-- what lines print on the partitions of a board
+abbrev pub output_of : List GuestConfig → List Partition → List Said → List ℕ
+output_of board partitions lines = transcript (first_told board partitions) lines
+
+-- the partitions after them
+abbrev pub partitions_after : List GuestConfig → List Partition → List Said → List Partition
+partitions_after board partitions lines = map (λ c. c.partition) (told_after (first_told board partitions) lines).cores
 
 -- the script says these lines to the board
 abbrev pub Says : List GuestConfig → List ℕ → List Said → Type 0

@@ -2,8 +2,8 @@
 ghost use Rattle.std.specs.Prelude.{◌≡◌, Some};
 ghost use Rattle.commands.specs.Fault.{fault_of, fault_of_image, fault_text};
 
+use host::HostFault;
 use recovery::OpenFault;
-use runner::HostFault;
 use std::fmt;
 
 /// Why a command didn't reach its end.

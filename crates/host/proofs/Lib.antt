@@ -1,5 +1,6 @@
 pub mod Chains
 pub mod Collects
+pub mod Ending
 pub mod First
 pub mod Fronts
 pub mod Hosts

@@ -1,5 +1,6 @@
 pub mod Calm
 pub mod Fault
+pub mod Finishing
 pub mod Guest
 pub mod Host
 pub mod Opening

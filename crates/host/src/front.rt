@@ -67,6 +67,7 @@ pub(crate) fn begin<D: Disk>(
 ) -> Result<Front, NoMemory>
     requires there { guest < length board.old.devices }
     ensures front { IfOk result (λ f. f ≡ first_front config.now) }
+    ensures store { board.new.store ≡ board.old.store }
     ensures board { OnOk result ((d : DeviceState) → slice_get board.old.devices guest ≡ Some d
         → board.new ≡ with_device board.old guest (negotiated d config.now.queue config.now.event_idx)) }
 {

@@ -1,15 +1,16 @@
 //! All guests of a board, each with a driver before its device.
-ghost use Rattle.std.specs.Prelude.{◌≡◌, ◌≤◌, ◌<◌, ◌+◌, IfOk, false, length};
+ghost use Rattle.std.specs.Prelude.{◌≡◌, ◌≤◌, ◌<◌, ◌+◌, IfErr, IfOk, false, length};
 ghost use Rattle.host.specs.Calm.{is_broken};
+ghost use Rattle.host.specs.Finishing.{Finishes};
 ghost use Rattle.host.specs.Host.{HostAnswers, HostChains, HostResets, HostResetsGuest, HostStores, Keeps, seen};
 ghost use Rattle.host.specs.Opening.{IsFirstHost, IsJustOpened};
 
 use crate::fault::HostFault;
+use crate::finishing::finish_calls;
 use crate::front::{Answer, Front, store_in};
 use crate::opening::fronts_of;
 use board::Board;
-use disk::Disk;
-use rpmb_core::NoMemory;
+use disk::{Disk, DiskFault};
 use rpmb_frame::BoardConfig;
 use std::alloc::Global;
 use std::marker::Model;
@@ -25,7 +26,8 @@ pub struct Host<D: Disk> {
 impl<D: Disk> Model for Host<D> {
     ghost use Rattle.std.specs.Prelude.{◌≡◌, length};
     ghost use Rattle.host.specs.Calm.{IsCalm};
-    ghost use Rattle.host.specs.Host.{HostState};
+    ghost use Rattle.host.specs.Finishing.{Finishes};
+ghost use Rattle.host.specs.Host.{HostState};
 
     ghost Value = { HostState D };
 
@@ -36,14 +38,17 @@ impl<D: Disk> Model for Host<D> {
 
 impl<D: Disk> Host<D> {
     /// The host of a board that was just opened: each guest's driver brings its device into service.
-    /// `NoMemory` where there is no room for what the drivers keep; the board goes then.
-    pub fn new(alloc: Global, board: Board<D>, config: &BoardConfig) -> Result<Host<D>, NoMemory>
+    /// Where memory was refused for what the drivers keep, the board's disk is given back.
+    pub fn new(alloc: Global, board: Board<D>, config: &BoardConfig) -> Result<Host<D>, D>
         requires opened { IsJustOpened D.state config.now board }
-        ensures { IfOk result (IsFirstHost config.now board) }
+        ensures first { IfOk result (IsFirstHost config.now board) }
+        ensures refused { IfErr result (λ disk. disk ≡ board.store.disk) }
     {
         let mut board = board;
-        let fronts = fronts_of(alloc, &mut board, config)?;
-        Ok(Host { board, fronts })
+        match fronts_of(alloc, &mut board, config) {
+            Ok(fronts) => Ok(Host { board, fronts }),
+            Err(_) => Err(board.into_disk()),
+        }
     }
 
     /// What a chain of a guest comes to: these readable bytes, at most 8,704, and room for `writable`
@@ -109,5 +114,28 @@ impl<D: Disk> Host<D> {
         ensures { result ≡ is_broken self.now.board }
     {
         self.board.is_broken()
+    }
+
+    /// Makes the calls that the store still has before it, and gives the disk back: all that was accepted
+    /// stands in its place then, and no slot holds anything. `DiskFault` where a call of the disk has
+    /// failed, now or before; what was settled is kept then too.
+    pub fn finish(self) -> (D, Result<(), DiskFault>)
+        ensures { Finishes self result.1 result.0 }
+    {
+        let mut board = self.board;
+        finish_calls(&mut board);
+        let ended = if board.is_broken() {
+            Err(DiskFault)
+        } else {
+            Ok(())
+        };
+        (board.into_disk(), ended)
+    }
+
+    /// The disk, as the last chain left it, without another call. All else goes.
+    pub fn into_disk(self) -> D
+        ensures { result ≡ self.board.store.disk }
+    {
+        self.board.into_disk()
     }
 }

@@ -3,6 +3,7 @@
 #![tactic(auto)]
 
 mod fault;
+mod finishing;
 mod front;
 mod host;
 mod opening;

@@ -1,0 +1,40 @@
+-- The end of a host: its store makes the calls that it still has before it.
+use Rattle.std.specs.Prelude.{ℕ, ◌≡◌, ◌<◌, Bool, true, false, not, None, Result, is_ok}
+use Rattle.disk.specs.declared.disk.DiskFault.{DiskFault}
+use Rattle.flusher.specs.CallsLeft.{left_of}
+use Rattle.flusher.specs.Round.{AllEmpty}
+use Rattle.board.specs.State.{BoardState}
+use Rattle.host.specs.Calm.{is_broken}
+use Rattle.host.specs.Host.{HostState}
+use Rattle.host.specs.Runner.{runner_of}
+
+-- the book knows what the store's last call did
+pub record IsListened {D : Type 0} (b : BoardState D) : Type 0 where
+  pub report : b.report ≡ None
+  pub broken : b.store.broken ≡ is_broken b
+
+-- what the answers to all guests depend on stays, unless the store broke
+pub record Rests {D : Type 0} (b b' : BoardState D) : Type 0 where
+  pub listened : IsListened b'
+  pub whole : is_broken b' ≡ false → is_broken b ≡ false
+  pub runner : is_broken b' ≡ false → runner_of b' ≡ runner_of b
+
+-- One call more, of which the book heard. Where there was none to make, or it failed, no slot holds anything, or the
+-- store is broken.
+pub record GoesOn {D : Type 0} (went : Bool) (b b' : BoardState D) : Type 0 where
+  pub rests : Rests b b'
+  pub less : went ≡ true → left_of b'.store.guests < left_of b.store.guests
+  pub idle : went ≡ false → is_broken b' ≡ false → AllEmpty b'.store.guests
+
+-- no call is left, unless the store broke
+pub record Finished {D : Type 0} (b b' : BoardState D) : Type 0 where
+  pub rests : Rests b b'
+  pub idle : is_broken b' ≡ false → AllEmpty b'.store.guests
+
+-- The last board of a host, and its disk.
+pub record Finishes {D : Type 0} (h : HostState D) (ended : Result (Unit {0}) DiskFault) (disk : D) : Type 0 where
+  pub last : BoardState D
+  pub finished : Finished h.board last
+  pub disk : disk ≡ last.store.disk
+  -- whether every call of it went well
+  pub told : is_ok ended ≡ not (is_broken last)
