@@ -2,9 +2,11 @@ pub mod Calm
 pub mod Fault
 pub mod Guest
 pub mod Host
+pub mod Moving
 pub mod Opening
 pub mod Ready
 pub mod Runner
 pub mod Serving
+pub mod Spares
 pub mod Waiting
 pub mod Work
