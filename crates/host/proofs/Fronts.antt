@@ -1,7 +1,7 @@
 -- A chain of a guest, from its offer to its reap, in a board.
-use Rattle.std.proofs.Common.{◌≡◌, ◌<◌, ◌≤◌, ◌+◌, ℕ, false, inl, List, Option, Some, None, Result, Ok, length, refl, ◌∙◌, length-set}
+use Rattle.std.proofs.Common.{◌≡◌, ◌<◌, ◌≤◌, ◌+◌, ℕ, false, List, Option, Some, None, Result, Ok, length, refl, ◌∙◌, length-set}
 use Rattle.std.specs.Prelude.{slice_get, slice_set}
-use Rattle.disk.specs.Disk.{DiskCall, DiskState}
+use Rattle.disk.specs.Disk.{DiskState}
 use Rattle.flusher.proofs.Guests.{get_set_same, get_set_other}
 use Rattle.mmio_transport.specs.Device.{DeviceState, last_count}
 use Rattle.mmio_transport.specs.Job.{Job}

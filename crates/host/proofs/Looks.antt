@@ -1,10 +1,10 @@
 -- What one look at a guest's queue comes to, by the way it ended.
-use Rattle.std.proofs.Common.{◌≡◌, ◌<◌, ◌⊎◌, inl, inr, ℕ, true, false, [], Option, Some, None, Ok, Err, length, unwrap_or, refl, ap, sym, subst, ◌∙◌, arith, length-set}
+use Rattle.std.proofs.Common.{◌≡◌, ◌<◌, inl, inr, ℕ, true, false, [], Option, Some, None, Ok, Err, length, unwrap_or, refl, ap, sym, subst, ◌∙◌, arith, length-set}
 use Rattle.std.specs.Prelude.{◌==◌, nat_lt, slice_get, slice_set}
 use Rattle.std.proofs.lemmas.Bool.Decides.{nat_tests}
 use Rattle.std.proofs.lemmas.List.{length-map}
 use Rattle.std.proofs.lemmas.Option.{slice_get_cases, slice_get_within}
-use Rattle.disk.specs.Disk.{DiskCall, DiskState}
+use Rattle.disk.specs.Disk.{DiskState}
 use Rattle.flusher.proofs.Guests.{get_set_same, get_set_other}
 use Rattle.mmio_transport.specs.Device.{DeviceState}
 use Rattle.mmio_transport.specs.Job.{Job, Done, done_of}

@@ -15,7 +15,7 @@ use Rattle.flusher.specs.declared.progress.Progress.{Progress}
 use Rattle.flusher.specs.declared.progress.StoreFault.{StoreFault}
 use Rattle.flusher.specs.Round.{MovedBy, Round, plan_at, planned, settles}
 use Rattle.flusher.specs.Slot.{guest_after_sync, guest_awaits, guest_has_write, mark_of}
-use Rattle.flusher.specs.Store.{given, is_free}
+use Rattle.flusher.specs.Store.{is_free}
 use Rattle.flusher.proofs.Endings.{round_badly, round_well}
 use Rattle.mmio_transport.specs.Device.{DeviceState}
 use Rattle.mmio_transport.specs.Job.{Job, Done}
@@ -24,7 +24,7 @@ use Rattle.rpmb_book.specs.Job.{Tally}
 use Rattle.rpmb_book.proofs.IsolationLemmas.{by_test}
 use Rattle.board.specs.Board.{IsLinkedBoard, IsSound, LeavesPrefixes, StaysLinked, accepted_after, answered, marks_in}
 use Rattle.board.specs.State.{BoardState, in_place}
-use Rattle.board.specs.Steps.{Advances, AdvancesUnder, Answer, CollectsInto, Does, Drives, GivesWhere, PopsInto, PublishesFrom, SettlesBy, SubmitsFrom, TakesInto, report_of}
+use Rattle.board.specs.Steps.{AdvancesUnder, Answer, CollectsInto, Does, Drives, GivesWhere, PopsInto, PublishesFrom, SettlesBy, SubmitsFrom, TakesInto}
 use Rattle.board.specs.declared.step.Act.{Act}
 use Rattle.board.specs.declared.step.Report.{Report}
 use Rattle.board.specs.declared.step.Report.TheVariants.{Marks, Fault}
@@ -34,7 +34,7 @@ use Rattle.board.proofs.Linked.{drives_linked}
 use Rattle.board.proofs.Prefixes.{leaves_now}
 use Rattle.board.proofs.Stays.{in_book}
 use Rattle.host.specs.Guest.{with_device}
-use Rattle.host.specs.Moving.{GoOn, Moves, Reaches}
+use Rattle.host.specs.Moving.{Moves}
 use Rattle.host.proofs.Prefixes.{accepted_goes, given_rise, goes_none, goes_twice, leaves_longer, marks_rise, sync_rises}
 
 -- two clauses of a step

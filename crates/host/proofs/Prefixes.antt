@@ -1,6 +1,6 @@
 -- Prefixes of requests that go on, and marks that rise.
 use Rattle.std.proofs.Common.{◌≡◌, ◌≤◌, ◌+◌, ℕ, zero, suc, Bool, true, false, List, [], ◌∷◌, ◌++◌, Option, Some, None, length, take, refl, ap, sym, ◌∙◌, arith, append_assoc, append-nil, length-append, length-set}
-use Rattle.std.specs.Prelude.{if◌then◌else◌, ◌==◌, drop, option_to_list, slice_get, slice_set}
+use Rattle.std.specs.Prelude.{if◌then◌else◌, ◌==◌, drop, option_to_list, slice_get}
 use Rattle.std.proofs.lemmas.List.{length-drop, take-append-le}
 use Rattle.rpmb_frame.specs.Request.{Request}
 use Rattle.rpmb_frame.specs.Partition.{Partition, sequence}
@@ -16,7 +16,6 @@ use Rattle.flusher.specs.declared.phase.Phase.TheVariants.{Given, Written, Ready
 use Rattle.flusher.specs.declared.slot.Slot.{Slot}
 use Rattle.flusher.specs.Marks.{mark, marks_of}
 use Rattle.flusher.specs.Phase.{is_settled, synced}
-use Rattle.flusher.specs.Round.{MovedBy}
 use Rattle.flusher.specs.Slot.{after_sync, guest_after_sync, in_phase, mark_of, pending_of, with_intent}
 use Rattle.flusher.specs.SlotInvariant.{guest_settled}
 use Rattle.flusher.specs.Store.{given, given_of}

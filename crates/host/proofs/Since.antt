@@ -1,5 +1,5 @@
 -- What answers depend on, before and after a break, or none.
-use Rattle.std.proofs.Common.{◌≡◌, Bool, true, false, List, [], ◌∷◌, Option, Some, None, map, refl, ap, ap₂, sym, ◌∙◌}
+use Rattle.std.proofs.Common.{◌≡◌, Bool, true, false, List, [], ◌∷◌, Option, Some, None, map, refl, ap, ap₂}
 use Rattle.std.specs.Prelude.{option_map}
 use Rattle.rpmb_book.specs.Guest.{GuestCore}
 use Rattle.host.specs.Runner.{RunnerView, runner_since, since}

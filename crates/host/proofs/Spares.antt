@@ -1,16 +1,10 @@
 -- What the steps of one guest's chains spare the others.
-use Rattle.std.proofs.Common.{◌≡◌, ◌≢◌, ◌≤◌, ◌<◌, ℕ, ◌+◌, ◌-◌, max, false, List, [], ◌∷◌, Option, Some, None, Ok, length, refl, ap, sym, subst, ◌∙◌, arith}
+use Rattle.std.proofs.Common.{◌≡◌, ◌≤◌, ℕ, ◌+◌, ◌-◌, max, false, refl, ap, sym, subst, ◌∙◌, arith}
 use Rattle.std.specs.Prelude.{option_map, slice_get}
 use Rattle.std.proofs.lemmas.Bool.Decides.{nat_tests}
-use Rattle.rpmb_frame.specs.Request.{Request}
-use Rattle.rpmb_frame.specs.Partition.{Partition}
-use Rattle.rpmb_frame.specs.declared.config.GuestConfig.{GuestConfig}
-use Rattle.disk.specs.Disk.{DiskCall, DiskState, Effect, Within}
-use Rattle.intent_slots.specs.Recovered.{Part}
+use Rattle.disk.specs.Disk.{DiskCall, DiskState, Effect}
 use Rattle.mmio_transport.specs.Device.{DeviceState}
 use Rattle.mmio_transport.specs.Job.{Done}
-use Rattle.rpmb_book.specs.Turn.{update}
-use Rattle.board.specs.Board.{IsLinkedBoard, IsSound, LeavesPrefixes, StaysLinked, accepted_after, marks_in}
 use Rattle.board.specs.State.{BoardState}
 use Rattle.board.specs.Steps.{Answer, Does, PopsInto}
 use Rattle.board.specs.declared.step.Step.TheVariants as step

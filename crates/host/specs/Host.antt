@@ -1,10 +1,9 @@
 -- All guests of a board, and the book that answers them.
-use Rattle.std.specs.Prelude.{◌≡◌, ◌⊎◌, ℕ, ◌+◌, ◌<◌, Bool, true, false, List, length, get_or, replicate, All, Option, Some, None, slice_get, slice_set, Result, Ok, Err}
+use Rattle.std.specs.Prelude.{◌≡◌, ℕ, ◌+◌, ◌<◌, Bool, false, List, length, get_or, replicate, All, Option, Some, None, slice_get, slice_set, Result, Ok, Err}
 use Rattle.rpmb_frame.specs.declared.config.GuestConfig.{GuestConfig}
 use Rattle.rpmb_frame.specs.declared.config.RingKind.TheVariants.{Split}
 use Rattle.mmio_transport.specs.Device.{last_count}
 use Rattle.board.specs.State.{BoardState}
-use Rattle.host.specs.Calm.{is_broken}
 use Rattle.host.specs.Guest.{GuestView, StoresInto, after_reset, stuck_by, views_of}
 use Rattle.host.specs.declared.front.Stuck.{Stuck}
 use Rattle.host.specs.declared.front.Answer.TheVariants as answer

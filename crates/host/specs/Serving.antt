@@ -1,5 +1,5 @@
 -- What becomes of a chain that is offered to a device in service, where nothing else was offered.
-use Rattle.std.specs.Prelude.{◌≡◌, ◌≢◌, ℕ, ◌+◌, ◌<◌, ◌≤◌, ◌⊎◌, Bool, true, false, List, [], ◌∷◌, length, slice_get, Some, None, Result, Ok, Err}
+use Rattle.std.specs.Prelude.{◌≡◌, ◌≢◌, ℕ, ◌+◌, ◌<◌, ◌≤◌, ◌⊎◌, Bool, false, List, [], ◌∷◌, length, slice_get, Some, None, Result, Ok, Err}
 use Rattle.disk.specs.Disk.{DiskState}
 use Rattle.board.specs.State.{BoardState}
 use Rattle.mmio_transport.specs.Device.{DeviceState, last_count}
