@@ -3,7 +3,7 @@ use Rattle.std.proofs.Common.{◌≡◌, ◌≤◌, ◌<◌, ◌⊎◌, inl, inr
 use Rattle.std.specs.Prelude.{if◌then◌else◌, nat_le, slice_get, slice_set}
 use Rattle.std.proofs.lemmas.Bool.Decides.{nat_tests}
 use Rattle.rpmb_frame.specs.Partition.{sequence}
-use Rattle.disk.specs.Disk.{DiskCall, DiskState}
+use Rattle.disk.specs.Disk.{DiskState}
 use Rattle.mmio_transport.specs.Job.{Done}
 use Rattle.rpmb_book.specs.Book.{due_at, due_of, with_turn}
 use Rattle.rpmb_book.specs.Guest.{GuestState, collected, first_due}
@@ -16,6 +16,7 @@ use Rattle.board.specs.declared.step.Seen.TheVariants.{Did, Nothing}
 use Rattle.board.specs.declared.step.StepFault.{StepFault}
 use Rattle.board.proofs.Linked.{at_each, other_guest, own}
 use Rattle.host.specs.Calm.{IsCalmGuest, is_broken}
+use Rattle.host.specs.Runner.{runner_of, runner_since}
 use Rattle.host.specs.Waiting.{IsLate, Leaves, Waits}
 use Rattle.host.proofs.Same.{also_there, cores_in, cores_update, count_same, runner_is, state_of}
 use Rattle.host.proofs.Settled.{below}
@@ -39,7 +40,7 @@ collect_never_fails g (Some None) e b b' collects = of (due_of b.book g) collect
     of None is = absurd (cc)
     of (Some d) is = absurd (cc)
 
-module _ {D : Type 0} (shows : D → DiskState) (makes : D → DiskCall → D → Type 0) (g : ℕ) (start : BoardState D) (reply : Done) (b b' : BoardState D) (w : Waits shows makes g start reply b) where
+module _ {D : Type 0} (shows : D → DiskState) (g : ℕ) (start : BoardState D) (reply : Done) (b b' : BoardState D) (w : Waits shows g start reply b) where
   empty : slice_get b.dones g ≡ Some None
   empty =
       let s = w.sound in
@@ -80,10 +81,10 @@ module _ {D : Type 0} (shows : D → DiskState) (makes : D → DiskCall → D �
           unbroken false here = here
           unbroken true here = absurd (let le = w.late here in let above = over w.held.done.need w.guest.settled is in omega (arith, le, above))
 
-  pub collect_did : CollectsInto g (slice_get b.dones g) (Ok Did) b b' → IsSound shows b' → Leaves shows makes g start reply b'
+  pub collect_did : CollectsInto g (slice_get b.dones g) (Ok Did) b b' → IsSound shows b' → Leaves shows g start reply b'
   collect_did collects sound = by (nat_le w.held.done.need w.guest.settled) refl (subst (λ p. CollectsInto g p (Ok Did) b b') empty collects)
     where
-      by : (c : Bool) → nat_le w.held.done.need w.guest.settled ≡ c → CollectsInto g (Some None) (Ok Did) b b' → Leaves shows makes g start reply b'
+      by : (c : Bool) → nat_le w.held.done.need w.guest.settled ≡ c → CollectsInto g (Some None) (Ok Did) b b' → Leaves shows g start reply b'
       by false is into = absurd (
           let due = due_when false is in
           let named = into.0 ∙ ap given_answer due in
@@ -93,7 +94,7 @@ module _ {D : Type 0} (shows : D → DiskState) (makes : D → DiskCall → D �
           let now : BoardState D = record b { book = with_turn b.book (Collect g); dones = slice_set b.dones g (Some w.held.done) } in
           let to : b' ≡ now = into.1 ∙ rw due refl in
           let same_broken : is_broken now ≡ is_broken b = ap (λ s. s.broken) (state_of b.book (Collect g)) in
-          subst (Leaves shows makes g start reply) (sym to) (record {
+          subst (Leaves shows g start reply) (sym to) (record {
             sound = subst (IsSound shows) to sound;
             done = w.held.done;
             given = λ whole. w.same (sym same_broken ∙ whole);
@@ -120,9 +121,8 @@ module _ {D : Type 0} (shows : D → DiskState) (makes : D → DiskCall → D �
             stays = record {
               devices = w.stays.devices;
               jobs = w.stays.jobs;
-              runner = λ whole. runner_is b now (ap (λ s. cores_in s.guests) (state_of b.book (Collect g)) ∙ cores_update (guests b) g collected (λ x. refl)) (count_same b.book (Collect g) refl) ∙ w.stays.runner (sym same_broken ∙ whole);
+              runner = runner_is b now (ap (λ s. cores_in s.guests) (state_of b.book (Collect g)) ∙ cores_update (guests b) g collected (λ x. refl)) (count_same b.book (Collect g) refl) ∙ w.stays.runner ∙ ap (λ k. runner_since (is_broken start) k (runner_of start)) (sym same_broken);
               whole = λ whole. w.stays.whole (sym same_broken ∙ whole);
-              cause = λ broken. w.stays.cause (sym same_broken ∙ broken);
             };
           })
         where

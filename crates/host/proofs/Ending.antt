@@ -144,7 +144,7 @@ module _ {D : Type 0} (shows : D → DiskState) (makes : D → DiskCall → D �
               let bad = round_badly makes b.store.disk a.store.disk b.store.guests a.store.guests e a.store.broken (subst At is round) in
               let is1 = after (Err e) is in
               let is2 : b2 ≡ record b { store = a.store; report = None; book = with_turn b.book Break } = (subst (λ v. SettlesBy v.report a2 v b2) is1 told_so).1 ∙ rw whole refl in
-              let broke : is_broken b2 ≡ true = ap is_broken is2 ∙ ap (λ s. s.broken) (state_of b.book Break) in
+              let broke : is_broken b2 ≡ true = ap is_broken is2 ∙ ap (λ s. s.broken) (state_of b.book Break) ∙ rw whole refl in
               record {
                 rests = record {
                   listened = record { report = ap (λ v. v.report) is2; broken = ap (λ v. v.store.broken) is2 ∙ bad.0 ∙ sym broke };

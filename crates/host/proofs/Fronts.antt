@@ -1,7 +1,7 @@
 -- A chain of a guest, from its offer to its reap, in a board.
-use Rattle.std.proofs.Common.{◌≡◌, ◌<◌, ◌≤◌, ◌+◌, ℕ, false, inl, List, Option, Some, None, Result, Ok, length, refl, ◌∙◌, length-set}
+use Rattle.std.proofs.Common.{◌≡◌, ◌<◌, ◌≤◌, ◌+◌, ℕ, false, List, Option, Some, None, Result, Ok, length, refl, ◌∙◌, length-set}
 use Rattle.std.specs.Prelude.{slice_get, slice_set}
-use Rattle.disk.specs.Disk.{DiskCall, DiskState}
+use Rattle.disk.specs.Disk.{DiskState}
 use Rattle.flusher.proofs.Guests.{get_set_same, get_set_other}
 use Rattle.mmio_transport.specs.Device.{DeviceState, last_count}
 use Rattle.mmio_transport.specs.Job.{Job}
@@ -27,7 +27,7 @@ use Rattle.host.proofs.Same.{also_there}
 pub same_there : {X : Type 0} (o : Option X) (x y : X) → o ≡ Some x → o ≡ Some y → x ≡ y
 same_there o x y first second = cc
 
-module _ {D : Type 0} (shows : D → DiskState) (makes : D → DiskCall → D → Type 0) (g : ℕ) where
+module _ {D : Type 0} (shows : D → DiskState) (g : ℕ) where
   -- a device that was lent leaves all else as it was
   pub sound_lent : (b : BoardState D) (d : DeviceState) → IsSound shows b → IsSound shows (with_device b g d)
   sound_lent b d s = record {
@@ -38,7 +38,7 @@ module _ {D : Type 0} (shows : D → DiskState) (makes : D → DiskCall → D �
     linked = drives_linked shows s.config s.bases s.accepted s.parts b s.linked (slice_set b.devices g d) b.jobs (length-set b.devices g d ∙ s.linked.places.devices) s.linked.places.jobs;
   }
 
-  pub touches_lent : (b : BoardState D) (d : DeviceState) → IsCalm shows b → Touches shows makes g b (with_device b g d)
+  pub touches_lent : (b : BoardState D) (d : DeviceState) → IsCalm shows b → Touches shows g b (with_device b g d)
   touches_lent b d calm = record {
     calm = record { sound = sound_lent b d calm.sound; quiet = calm.quiet; replies = calm.replies; report = calm.report; broken = calm.broken };
     devices = λ k other. get_set_other b.devices g k d other;
@@ -46,19 +46,18 @@ module _ {D : Type 0} (shows : D → DiskState) (makes : D → DiskCall → D �
     many = length-set b.devices g d;
     wide = refl;
     whole = λ whole. whole;
-    cause = λ broken. inl broken;
   }
 
   -- before, between and after
-  pub touches_between : (b b2 : BoardState D) (d : DeviceState) → IsCalm shows b → Touches shows makes g (with_device b g d) b2 → Touches shows makes g b b2
-  touches_between b b2 d calm t = touches_twice shows makes g b (with_device b g d) b2 (touches_lent b d calm) t
+  pub touches_between : (b b2 : BoardState D) (d : DeviceState) → IsCalm shows b → Touches shows g (with_device b g d) b2 → Touches shows g b b2
+  touches_between b b2 d calm t = touches_twice shows g b (with_device b g d) b2 (touches_lent b d calm) t
 
-  pub touches_after : (b b2 : BoardState D) (d d2 : DeviceState) → IsCalm shows b → Touches shows makes g (with_device b g d) b2 → Touches shows makes g b (with_device b2 g d2)
-  touches_after b b2 d d2 calm t = touches_twice shows makes g b b2 (with_device b2 g d2) (touches_between b b2 d calm t) (touches_lent b2 d2 t.calm)
+  pub touches_after : (b b2 : BoardState D) (d d2 : DeviceState) → IsCalm shows b → Touches shows g (with_device b g d) b2 → Touches shows g b (with_device b2 g d2)
+  touches_after b b2 d d2 calm t = touches_twice shows g b b2 (with_device b2 g d2) (touches_between b b2 d calm t) (touches_lent b2 d2 t.calm)
 
   -- what a chain comes to, where it is known of the device and the job that stand there afterwards
   pub answered_at : (b b' : BoardState D) (d : DeviceState) (j : Option Job) (front front' : Front) (readable : List ℕ) (writable : ℕ) (told : Result Answer HostFault) → slice_get b.devices g ≡ Some d → slice_get b.jobs g ≡ Some j
-      → Touches shows makes g b b'
+      → Touches shows g b b'
       → ((d' : DeviceState) (j' : Option Job) → slice_get b'.devices g ≡ Some d' → slice_get b'.jobs g ≡ Some j' → is_broken b' ≡ false → Answers g (view_of d j front) (runner_of b) readable writable told (view_of d' j' front') (runner_of b'))
       → IsAnsweredAt g (view_of d j front) b readable writable told front' b'
   answered_at b b' d j front front' readable writable told at place t answers =

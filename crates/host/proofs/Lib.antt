@@ -5,11 +5,15 @@ pub mod First
 pub mod Fronts
 pub mod Hosts
 pub mod Looks
+pub mod Moving
+pub mod Prefixes
 pub mod Same
 pub mod Seen
 pub mod SameReply
 pub mod Serves
 pub mod Settled
+pub mod Since
+pub mod Spares
 pub mod Starting
 pub mod Steps
 pub mod Updates

@@ -1,10 +1,10 @@
 -- What one look at a guest's queue comes to, by the way it ended.
-use Rattle.std.proofs.Common.{◌≡◌, ◌<◌, ◌⊎◌, inl, inr, ℕ, true, false, [], Option, Some, None, Ok, Err, length, unwrap_or, refl, ap, sym, subst, ◌∙◌, arith, length-set}
+use Rattle.std.proofs.Common.{◌≡◌, ◌<◌, inl, inr, ℕ, true, false, [], Option, Some, None, Ok, Err, length, unwrap_or, refl, ap, sym, subst, ◌∙◌, arith, length-set}
 use Rattle.std.specs.Prelude.{◌==◌, nat_lt, slice_get, slice_set}
 use Rattle.std.proofs.lemmas.Bool.Decides.{nat_tests}
 use Rattle.std.proofs.lemmas.List.{length-map}
 use Rattle.std.proofs.lemmas.Option.{slice_get_cases, slice_get_within}
-use Rattle.disk.specs.Disk.{DiskCall, DiskState}
+use Rattle.disk.specs.Disk.{DiskState}
 use Rattle.flusher.proofs.Guests.{get_set_same, get_set_other}
 use Rattle.mmio_transport.specs.Device.{DeviceState}
 use Rattle.mmio_transport.specs.Job.{Job, Done, done_of}
@@ -24,18 +24,19 @@ use Rattle.host.specs.Calm.{IsCalm, is_broken}
 use Rattle.host.specs.Fault.{fault_of}
 use Rattle.host.specs.Runner.{RunnerView, after_job, need_of, refusal_of, reply_of, runner_of}
 use Rattle.host.specs.Serving.{ServesOne, Touches, Where}
-use Rattle.host.specs.Waiting.{HasFailed, Leaves, Waits}
+use Rattle.host.specs.Waiting.{Leaves, Waits}
 use Rattle.host.specs.declared.serving.Step.TheVariants as step
 use Rattle.mmio_transport.specs.Publishing.{Publishes}
 use Rattle.rpmb_book.specs.Book.{submit_of, with_turn}
 use Rattle.host.proofs.Same.{also_there, cores_in, state_of}
 use Rattle.host.proofs.Serves.{IsHandedOver, Submitted, changes_calm, leaves_calm, leaves_published, pop_changes, pop_failed, popped, put_place, reply_in, runner_after, submit_did, submit_refused, submit_waits}
+use Rattle.host.proofs.Since.{since_whole}
 use Rattle.host.proofs.Steps.{answered_steps, left_steps, nothing_steps}
 
-module _ {D : Type 0} (shows : D → DiskState) (makes : D → DiskCall → D → Type 0) (g : ℕ) where
+module _ {D : Type 0} (shows : D → DiskState) (g : ℕ) where
   -- 1. What stays
 
-  pub touches_pop : (answer : Answer) (b b' : BoardState D) → IsCalm shows b → PopsInto g (slice_get b.jobs g) (slice_get b.devices g) answer b b' → IsSound shows b' → Touches shows makes g b b'
+  pub touches_pop : (answer : Answer) (b b' : BoardState D) → IsCalm shows b → PopsInto g (slice_get b.jobs g) (slice_get b.devices g) answer b b' → IsSound shows b' → Touches shows g b b'
   touches_pop answer b b' calm pops sound =
       let c = pop_changes g (slice_get b.jobs g) (slice_get b.devices g) answer b b' pops in
       let same : is_broken b' ≡ is_broken b = ap is_broken c.is in
@@ -46,13 +47,12 @@ module _ {D : Type 0} (shows : D → DiskState) (makes : D → DiskCall → D �
         many = ap (λ v. length v.devices) c.is ∙ c.many;
         wide = ap (λ v. length v.jobs) c.is ∙ c.wide;
         whole = λ whole. sym same ∙ whole;
-        cause = λ broken. inl (sym same ∙ broken);
       }
 
-  pub touches_same : (b b' b2 : BoardState D) → Touches shows makes g b b' → b2 ≡ b' → Touches shows makes g b b2
-  touches_same b b' b2 t is = subst (Touches shows makes g b) (sym is) t
+  pub touches_same : (b b' b2 : BoardState D) → Touches shows g b b' → b2 ≡ b' → Touches shows g b b2
+  touches_same b b' b2 t is = subst (Touches shows g b) (sym is) t
 
-  pub touches_twice : (a b c : BoardState D) → Touches shows makes g a b → Touches shows makes g b c → Touches shows makes g a c
+  pub touches_twice : (a b c : BoardState D) → Touches shows g a b → Touches shows g b c → Touches shows g a c
   touches_twice a b c p q = record {
     calm = q.calm;
     devices = λ k other. q.devices k other ∙ p.devices k other;
@@ -60,12 +60,7 @@ module _ {D : Type 0} (shows : D → DiskState) (makes : D → DiskCall → D �
     many = q.many ∙ p.many;
     wide = q.wide ∙ p.wide;
     whole = λ whole. p.whole (q.whole whole);
-    cause = λ broken. from (q.cause broken);
   }
-    where
-      from : (is_broken b ≡ true) ⊎ HasFailed makes → (is_broken a ≡ true) ⊎ HasFailed makes
-      from (inl broken) = p.cause broken
-      from (inr failed) = inr failed
 
   -- 2. The pop made a fault
 
@@ -148,12 +143,12 @@ module _ {D : Type 0} (shows : D → DiskState) (makes : D → DiskCall → D �
     pub done : Submitted g b1 b2
     done = submit_did g (in_place (slice_get b1.jobs g)) (slice_get b1.tallies g) b1 b2 refl refl submits
 
-    pub waits_then : Waits shows makes g b2 (reply_in b1 done.job) b2
-    waits_then = submit_waits shows makes g b1 b2 calm1 done sound2
+    pub waits_then : Waits shows g b2 (reply_in b1 done.job) b2
+    waits_then = submit_waits shows g b1 b2 calm1 done sound2
 
-    module _ (leaves : (reply : Done) → Waits shows makes g b2 reply b2 → Leaves shows makes g b2 reply b3) (sound4 : IsSound shows b4) (there : g < length b.devices) (many1 : length b1.devices ≡ length b.devices)
+    module _ (leaves : (reply : Done) → Waits shows g b2 reply b2 → Leaves shows g b2 reply b3) (sound4 : IsSound shows b4) (there : g < length b.devices) (many1 : length b1.devices ≡ length b.devices)
         (from : PublishesFrom g (in_place (slice_get b3.dones g)) (slice_get b3.devices g) answer b3 b4) where
-      left : Leaves shows makes g b2 (reply_in b1 done.job) b3
+      pub left : Leaves shows g b2 (reply_in b1 done.job) b3
       left = leaves (reply_in b1 done.job) waits_then
 
       same_devices : b3.devices ≡ b1.devices
@@ -165,8 +160,8 @@ module _ {D : Type 0} (shows : D → DiskState) (makes : D → DiskCall → D �
         | inr past ↦ (let beyond = past.0 in let n : length b3.devices ≡ length b1.devices = ap length same_devices in absurd (omega (arith, beyond, n, many1, there)))
       ]
 
-      over : IsHandedOver g left.done b3 b4
-      over = leaves_published shows makes g b2 (reply_in b1 done.job) b3 b4 left device.0 answer device.1 from
+      pub over : IsHandedOver g left.done b3 b4
+      over = leaves_published shows g b2 (reply_in b1 done.job) b3 b4 left device.0 answer device.1 from
 
       broken4 : is_broken b4 ≡ is_broken b3
       broken4 = ap is_broken over.is
@@ -177,20 +172,15 @@ module _ {D : Type 0} (shows : D → DiskState) (makes : D → DiskCall → D �
           same_book : is_broken (record b1 { book = with_turn b1.book (submit_of b1.book done.job) }) ≡ is_broken b1
           same_book = ap (λ v. v.broken) (state_of b1.book (submit_of b1.book done.job))
 
-      pub touches_answered : Touches shows makes g b1 b4
+      pub touches_answered : Touches shows g b1 b4
       touches_answered = record {
-        calm = leaves_calm shows makes g b2 (reply_in b1 done.job) b3 b4 left device.0 device.1 over sound4;
+        calm = leaves_calm shows g b2 (reply_in b1 done.job) b3 b4 left device.0 device.1 over sound4;
         devices = λ k other. ap (λ v. slice_get v.devices k) over.is ∙ get_set_other b3.devices g k over.device other ∙ ap (λ v. slice_get v k) same_devices;
         jobs = λ k other. ap (λ v. slice_get v.jobs k) over.is ∙ ap (λ v. slice_get v k) left.stays.jobs ∙ ap (λ v. slice_get v.jobs k) done.is ∙ get_set_other b1.jobs g k None other;
         many = ap (λ v. length v.devices) over.is ∙ length-set b3.devices g over.device ∙ ap length same_devices;
         wide = ap (λ v. length v.jobs) over.is ∙ ap length left.stays.jobs ∙ ap (λ v. length v.jobs) done.is ∙ length-set b1.jobs g None;
         whole = λ whole. sym broken2 ∙ left.stays.whole (sym broken4 ∙ whole);
-        cause = λ broken. cause_of (left.stays.cause (sym broken4 ∙ broken));
       }
-        where
-          cause_of : (is_broken b2 ≡ true) ⊎ HasFailed makes → (is_broken b1 ≡ true) ⊎ HasFailed makes
-          cause_of (inl broken) = inl (sym broken2 ∙ broken)
-          cause_of (inr failed) = inr failed
 
       pub place_answered : slice_get b4.jobs g ≡ Some None
       place_answered = ap (λ v. slice_get v.jobs g) over.is ∙ ap (λ v. slice_get v g) left.stays.jobs ∙ ap (λ v. slice_get v.jobs g) done.is ∙ emptied_place (slice_get b1.jobs g) refl done.place
@@ -213,7 +203,7 @@ module _ {D : Type 0} (shows : D → DiskState) (makes : D → DiskCall → D �
           let answers : left.done ≡ done_of done.job (reply_of (runner_of b).cores done.job) (need_of (runner_of b1).cores done.job) =
           reply ∙ ap (λ r. done_of done.job (reply_of r.cores done.job) (need_of (runner_of b1).cores done.job)) seen in
           let after : runner_of b4 ≡ after_job (runner_of b) done.job =
-          ap runner_of over.is ∙ left.stays.runner whole3 ∙ runner_after shows makes g b1 b2 calm1 done whole1 ∙ ap (λ r. after_job r done.job) seen in
+          ap runner_of over.is ∙ left.stays.runner ∙ since_whole (is_broken b2) (is_broken b3) (runner_of b2) whole3 ∙ runner_after shows g b1 b2 calm1 done whole1 ∙ ap (λ r. after_job r done.job) seen in
           record {
             device = over.device;
             there = ap (λ v. slice_get v.devices g) over.is ∙ get_set_same b3.devices g over.before over.device over.at;
@@ -223,14 +213,14 @@ module _ {D : Type 0} (shows : D → DiskState) (makes : D → DiskCall → D �
 
 -- 6. One after another
 
-module _ {D : Type 0} (shows : D → DiskState) (makes : D → DiskCall → D → Type 0) (g : ℕ) where
-  pub touches_none : (b : BoardState D) → IsCalm shows b → Touches shows makes g b b
-  touches_none b calm = record { calm = calm; devices = λ k other. refl; jobs = λ k other. refl; many = refl; wide = refl; whole = λ whole. whole; cause = λ broken. inl broken }
+module _ {D : Type 0} (shows : D → DiskState) (g : ℕ) where
+  pub touches_none : (b : BoardState D) → IsCalm shows b → Touches shows g b b
+  touches_none b calm = record { calm = calm; devices = λ k other. refl; jobs = λ k other. refl; many = refl; wide = refl; whole = λ whole. whole }
 
-  pub still_there : (b b' : BoardState D) → Touches shows makes g b b' → g < length b.devices → g < length b'.devices
+  pub still_there : (b b' : BoardState D) → Touches shows g b b' → g < length b.devices → g < length b'.devices
   still_there b b' t there = (let many = t.many in omega (arith, many, there))
 
-  pub where_then : (P Q R : DeviceState → RunnerView → DeviceState → RunnerView → Type 0) (b b1 b2 : BoardState D) → Where g P b b1 → slice_get b1.jobs g ≡ Some None → Touches shows makes g b1 b2 → Where g Q b1 b2
+  pub where_then : (P Q R : DeviceState → RunnerView → DeviceState → RunnerView → Type 0) (b b1 b2 : BoardState D) → Where g P b b1 → slice_get b1.jobs g ≡ Some None → Touches shows g b1 b2 → Where g Q b1 b2
       → ((d d1 d2 : DeviceState) (r r1 r2 : RunnerView) → P d r d1 r1 → Q d1 r1 d2 r2 → R d r d2 r2) → Where g R b b2
   where_then P Q R b b1 b2 first empty1 touches second both d at empty whole =
       let p = first d at empty (touches.whole whole) in

@@ -3,7 +3,7 @@ use Rattle.std.proofs.Common.{◌≡◌, inl, inr, ℕ, zero, suc, ◌+◌, Bool
 use Rattle.std.specs.Prelude.{if◌then◌else◌, ◌==◌, slice_get, slice_set}
 use Rattle.std.proofs.lemmas.List.Sums.{sum_by_push}
 use Rattle.std.proofs.lemmas.Option.{slice_get_cases, slice_get_within}
-use Rattle.disk.specs.Disk.{DiskCall, DiskState}
+use Rattle.disk.specs.Disk.{DiskState}
 use Rattle.flusher.specs.declared.guest.Guest.{Guest}
 use Rattle.flusher.specs.Slot.{mark_of, with_intent}
 use Rattle.flusher.specs.Store.{given, given_of}
@@ -21,7 +21,7 @@ use Rattle.board.specs.Steps.{Answer, TakesInto, GivesWhere}
 use Rattle.board.proofs.Linked.{as_many, at_each, turned}
 use Rattle.rpmb_frame.specs.Partition.{sequence}
 use Rattle.host.specs.Calm.{is_broken}
-use Rattle.host.specs.Runner.{RunnerView, runner_of}
+use Rattle.host.specs.Runner.{RunnerView, runner_of, runner_since}
 use Rattle.host.specs.Waiting.{Stays, Waits}
 
 pub record IsSameGuest (x x' : GuestState) : Type 0 where
@@ -66,18 +66,17 @@ also_there xs ys k x at many = elim (slice_get_cases ys k).1 [
   | inr past ↦ (let beyond = past.0 in let below = slice_get_within xs k x at in absurd (omega (arith, beyond, below, many)))
 ]
 
-pub same_stays : {D : Type 0} (makes : D → DiskCall → D → Type 0) (start b b' : BoardState D) → Same b b' → Stays makes start b → Stays makes start b'
-same_stays makes start b b' s st = record {
+pub same_stays : {D : Type 0} (start b b' : BoardState D) → Same b b' → Stays start b → Stays start b'
+same_stays start b b' s st = record {
   devices = s.devices ∙ st.devices;
   jobs = s.jobs ∙ st.jobs;
-  runner = λ whole. s.runner ∙ st.runner (sym s.broken ∙ whole);
+  runner = s.runner ∙ st.runner ∙ ap (λ k. runner_since (is_broken start) k (runner_of start)) (sym s.broken);
   whole = λ whole. st.whole (sym s.broken ∙ whole);
-  cause = λ broken. st.cause (sym s.broken ∙ broken);
 }
 
-pub same_waits : {D : Type 0} (shows : D → DiskState) (makes : D → DiskCall → D → Type 0) (g : ℕ) (start : BoardState D) (reply : Done) (b b' : BoardState D)
-    → Waits shows makes g start reply b → Same b b' → IsSound shows b' → Waits shows makes g start reply b'
-same_waits shows makes g start reply b b' w s sound =
+pub same_waits : {D : Type 0} (shows : D → DiskState) (g : ℕ) (start : BoardState D) (reply : Done) (b b' : BoardState D)
+    → Waits shows g start reply b → Same b b' → IsSound shows b' → Waits shows g start reply b'
+same_waits shows g start reply b b' w s sound =
     let y = also_there (guests b) (guests b') g w.guest w.there s.count in
     let x = s.each g y.0 y.1 in
     let is : x.0 ≡ w.guest = (let a = x.1 in let c = w.there in cc) in
@@ -101,7 +100,7 @@ same_waits shows makes g start reply b b' w s sound =
       dones = s.dones ∙ w.dones;
       report = s.report ∙ w.report;
       broken = s.store ∙ w.broken ∙ sym s.broken;
-      stays = same_stays makes start b b' s w.stays;
+      stays = same_stays start b b' s w.stays;
     }
 
 -- 1. A turn that changes no core
@@ -170,7 +169,7 @@ take_same g (Some None) answer b b' takes = by (next_intent b.book b.shares g) r
 -- 3. Give
 
 -- an intent that is given moves no mark
-given_marks : (held : List Guest) (i : Intent) (k : ℕ) (y' : Guest) → slice_get (given held i) k ≡ Some y' → (y : Guest) × (slice_get held k ≡ Some y) × (mark_of y' ≡ mark_of y)
+pub given_marks : (held : List Guest) (i : Intent) (k : ℕ) (y' : Guest) → slice_get (given held i) k ≡ Some y' → (y : Guest) × (slice_get held k ≡ Some y) × (mark_of y' ≡ mark_of y)
 unfolding given
 given_marks held i k y' at = by (slice_get held i.guest) refl
   where

@@ -2,7 +2,7 @@
 use Rattle.std.proofs.Common.{◌≡◌, ◌<◌, ◌≤◌, ◌+◌, ℕ, zero, suc, Bool, false, inl, inr, List, [], ◌∷◌, Option, Some, None, Result, Ok, Err, length, set, get_or, refl, ap, ap₂, sym, subst, ◌∙◌, arith}
 use Rattle.std.specs.Prelude.{slice_get}
 use Rattle.std.proofs.lemmas.Option.{slice_get-get_or, slice_get_cases}
-use Rattle.disk.specs.Disk.{DiskCall, DiskState}
+use Rattle.disk.specs.Disk.{DiskState}
 use Rattle.mmio_transport.specs.Device.{DeviceState, last_count}
 use Rattle.mmio_transport.specs.Job.{Job}
 use Rattle.board.specs.State.{BoardState}
@@ -63,7 +63,7 @@ stands shows h n front calm many at =
     let j = also_there h.fronts h.board.jobs n front at (wide ∙ sym many) in
     record { device = d.0; at = d.1; job = j.0; place = j.1; front_at = at; wide = wide }
 
-module _ {D : Type 0} (shows : D → DiskState) (makes : D → DiskCall → D → Type 0) (h : HostState D) (n : ℕ) (front : Front) (s : Stands h n front) where
+module _ {D : Type 0} (shows : D → DiskState) (h : HostState D) (n : ℕ) (front : Front) (s : Stands h n front) where
   view : GuestView
   view = view_of s.device s.job front
 
@@ -71,14 +71,14 @@ module _ {D : Type 0} (shows : D → DiskState) (makes : D → DiskCall → D �
   seen_there = view_at h.board.devices h.board.jobs h.fronts n s.device s.job front s.at s.place s.front_at
 
   -- another board, whose other guests are the same
-  seen_after : (b' : BoardState D) (front' : Front) (d : DeviceState) (j : Option Job) → Touches shows makes n h.board b' → slice_get b'.devices n ≡ Some d → slice_get b'.jobs n ≡ Some j
+  seen_after : (b' : BoardState D) (front' : Front) (d : DeviceState) (j : Option Job) → Touches shows n h.board b' → slice_get b'.devices n ≡ Some d → slice_get b'.jobs n ≡ Some j
       → views_of b'.devices b'.jobs (set h.fronts n front') ≡ set (seen h).guests n (view_of d j front')
   seen_after b' front' d j t at place =
       let devices = differ_in h.board.devices b'.devices n d t.many at t.devices in
       let jobs = differ_in h.board.jobs b'.jobs n j t.wide place t.jobs in
       ap₂ (λ ds js. views_of ds js (set h.fronts n front')) devices jobs ∙ set_views h.board.devices h.board.jobs h.fronts n d j front'
 
-  module _ (b' : BoardState D) (front' : Front) (readable : List ℕ) (writable : ℕ) (told : Result Answer HostFault) (t : Touches shows makes n h.board b') (answers : AnswersAt n front h.board readable writable told front' b') where
+  module _ (b' : BoardState D) (front' : Front) (readable : List ℕ) (writable : ℕ) (told : Result Answer HostFault) (t : Touches shows n h.board b') (answers : AnswersAt n front h.board readable writable told front' b') where
     a : IsAnsweredAt n (view_of s.device s.job front) h.board readable writable told front' b'
     a = answers s.device s.job s.at s.place
 

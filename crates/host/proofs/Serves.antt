@@ -2,7 +2,7 @@
 use Rattle.std.proofs.Common.{◌≡◌, ◌≢◌, ◌≤◌, ◌⊎◌, inl, inr, ℕ, ◌+◌, ◌++◌, Bool, true, false, List, [], ◌∷◌, Option, Some, None, Result, Ok, Err, length, unwrap_or, refl, ap, ap₂, sym, subst, ◌∙◌, arith, length-set}
 use Rattle.std.specs.Prelude.{if◌then◌else◌, ◌==◌, slice_get, slice_set, option_map}
 use Rattle.rpmb_frame.specs.Partition.{sequence}
-use Rattle.disk.specs.Disk.{DiskCall, DiskState}
+use Rattle.disk.specs.Disk.{DiskState}
 use Rattle.flusher.specs.declared.guest.Guest.{Guest}
 use Rattle.flusher.specs.Slot.{mark_of}
 use Rattle.flusher.proofs.Guests.{get_set_same, get_set_other}
@@ -31,7 +31,8 @@ use Rattle.host.specs.Runner.{RunnerView, after_job, cores_after, need_of, reply
 use Rattle.host.specs.Waiting.{Leaves, Waits}
 use Rattle.host.proofs.Same.{also_there, cores_in, count_submit, state_of}
 use Rattle.host.proofs.Settled.{below}
-use Rattle.host.proofs.Updates.{get-map, map-change}
+use Rattle.host.proofs.Since.{since_still}
+use Rattle.host.proofs.Updates.{get-map, map-change, update-other}
 
 -- 1. Pop
 
@@ -201,7 +202,7 @@ submit_seen g (Some job) (Some t) s b b' (inr left) = absurd (let no = left.0 in
 abbrev pub reply_in : {D : Type 0} → BoardState D → Job → Done
 reply_in b job = done_of job (reply_of (runner_of b).cores job) (need_of (runner_of b).cores job)
 
-module _ {D : Type 0} (shows : D → DiskState) (makes : D → DiskCall → D → Type 0) (g : ℕ) (b b' : BoardState D) (calm : IsCalm shows b) (s : Submitted g b b') where
+module _ {D : Type 0} (shows : D → DiskState) (g : ℕ) (b b' : BoardState D) (calm : IsCalm shows b) (s : Submitted g b b') where
   -- the guest of the job, in the book
   x : (v : GuestState) × (slice_get (guests b) g ≡ Some v)
   x = also_there b.tallies (guests b) g s.tally s.counted (calm.sound.linked.many ∙ sym calm.sound.linked.counted)
@@ -218,11 +219,23 @@ module _ {D : Type 0} (shows : D → DiskState) (makes : D → DiskCall → D �
   answered : BoardState D
   answered = record b { book = with_turn b.book (submit_of b.book s.job); tallies = slice_set b.tallies g (record s.tally { count = s.tally.count + 1 }); jobs = slice_set b.jobs g None }
 
-  same_broken : is_broken b' ≡ is_broken b
+  pub same_broken : is_broken b' ≡ is_broken b
   same_broken = ap is_broken s.is ∙ ap (λ v. v.broken) (state_of b.book (submit_of b.book s.job))
 
   after_broken : (c : Bool) → is_broken b ≡ c → (state (with_turn b.book (submit_of b.book s.job))).guests ≡ update (guests b) s.job.guest (submitted c s.job)
   after_broken c is = ap (λ v. v.guests) (state_of b.book (submit_of b.book s.job)) ∙ ap (λ k. update (guests b) s.job.guest (submitted k s.job)) is
+
+  -- the other guests, and how many jobs were answered
+  pub others_after : (k : ℕ) → k ≢ g → slice_get (runner_of b').cores k ≡ slice_get (runner_of b).cores k
+  others_after k other =
+      ap (λ v. slice_get (runner_of v).cores k) s.is
+      ∙ ap (λ l. slice_get (cores_in l) k) (after_broken (is_broken b) refl)
+      ∙ get-map (λ v. v.core) (update (guests b) s.job.guest (submitted (is_broken b) s.job)) k
+      ∙ ap (option_map (λ v. v.core)) (update-other (guests b) s.job.guest (submitted (is_broken b) s.job) k (λ is. other (is ∙ named)))
+      ∙ sym (get-map (λ v. v.core) (guests b) k)
+
+  pub count_after : (runner_of b').answered ≡ (runner_of b).answered + 1
+  count_after = ap (λ v. (runner_of v).answered) s.is ∙ count_submit b.book _
 
   -- what answers depend on, after it
   pub runner_after : is_broken b ≡ false → runner_of b' ≡ after_job (runner_of b) s.job
@@ -240,9 +253,9 @@ module _ {D : Type 0} (shows : D → DiskState) (makes : D → DiskCall → D �
   unfolding reply_of need_of
   reply_here = rw core_here refl
 
-  pub submit_waits : IsSound shows b' → Waits shows makes g b' (reply_in b s.job) b'
+  pub submit_waits : IsSound shows b' → Waits shows g b' (reply_in b s.job) b'
   unfolding answered
-  submit_waits sound = subst (λ n. Waits shows makes n b' (reply_in b s.job) b') named (subst (λ v. Waits shows makes s.job.guest v (reply_in b s.job) v) (sym s.is) waits)
+  submit_waits sound = subst (λ n. Waits shows n b' (reply_in b s.job) b') named (subst (λ v. Waits shows s.job.guest v (reply_in b s.job) v) (sym s.is) waits)
     where
       n : ℕ
       n = s.job.guest
@@ -272,7 +285,7 @@ module _ {D : Type 0} (shows : D → DiskState) (makes : D → DiskCall → D �
           let to : mark_of m.stored ≡ mark_of z = ap mark_of same in
           omega (arith, settled, le, most, to)
 
-      waits : Waits shows makes n answered (reply_in b s.job) answered
+      waits : Waits shows n answered (reply_in b s.job) answered
       waits = record {
         sound = subst (IsSound shows) s.is sound;
         guest = y.0;
@@ -293,7 +306,7 @@ module _ {D : Type 0} (shows : D → DiskState) (makes : D → DiskCall → D �
         dones = refl;
         report = calm.report;
         broken = calm.broken ∙ sym broken_is;
-        stays = record { devices = refl; jobs = refl; runner = λ whole. refl; whole = λ whole. whole; cause = λ broken. inl broken };
+        stays = record { devices = refl; jobs = refl; runner = sym (since_still (is_broken answered) (runner_of answered)); whole = λ whole. whole };
       }
         where
           settled_same : (c : Bool) (u v : GuestState) → v ≡ (if c then submitted (is_broken b) s.job u else u) → v.settled ≡ u.settled
@@ -315,7 +328,7 @@ pub record IsHandedOver {D : Type 0} (g : ℕ) (done : Done) (b b' : BoardState 
 pub publishes : {D : Type 0} (g : ℕ) (d : DeviceState) (done : Done) (answer : Answer) (b b' : BoardState D) → slice_get b.devices g ≡ Some d → PublishesReply g d done answer b b' → IsHandedOver g done b b'
 publishes g d done answer b b' at p = record { before = d; at = at; published = p.published; device = p.device; publishes = p.publishes; fits = p.fits; is = p.after }
 
-module _ {D : Type 0} (shows : D → DiskState) (makes : D → DiskCall → D → Type 0) (g : ℕ) (start : BoardState D) (reply : Done) (b b' : BoardState D) (l : Leaves shows makes g start reply b) where
+module _ {D : Type 0} (shows : D → DiskState) (g : ℕ) (start : BoardState D) (reply : Done) (b b' : BoardState D) (l : Leaves shows g start reply b) where
   place : (d : DeviceState) → slice_get b.devices g ≡ Some d → slice_get b.dones g ≡ Some (Some l.done)
   place d at =
       let p = l.sound.linked.places in

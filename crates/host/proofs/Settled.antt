@@ -5,7 +5,7 @@ use Rattle.std.proofs.lemmas.Bool.Decides.{nat_tests}
 use Rattle.std.proofs.lemmas.List.{length-map}
 use Rattle.rpmb_frame.specs.Partition.{sequence}
 use Rattle.rpmb_core.proofs.Following.{sequence_of_all}
-use Rattle.disk.specs.Disk.{DiskCall, DiskState}
+use Rattle.disk.specs.Disk.{DiskState}
 use Rattle.flusher.specs.declared.guest.Guest.{Guest}
 use Rattle.flusher.specs.declared.progress.Progress.{Progress}
 use Rattle.flusher.specs.declared.progress.Progress.TheVariants.{Synced}
@@ -26,8 +26,9 @@ use Rattle.board.specs.declared.step.Report.TheVariants.{Marks, Fault}
 use Rattle.board.proofs.Linked.{as_many, turned}
 use Rattle.board.proofs.Stays.{marks_at, may_settle_them}
 use Rattle.host.specs.Calm.{is_broken}
-use Rattle.host.specs.Runner.{RunnerView}
-use Rattle.host.specs.Waiting.{HasFailed, Waits}
+use Rattle.host.specs.Runner.{RunnerView, runner_of, runner_since, since}
+use Rattle.host.specs.Waiting.{Waits}
+use Rattle.host.proofs.Since.{since_whole}
 use Rattle.host.proofs.Same.{Same, also_there, cores_in, count_same, same_guest, state_of}
 
 -- 1. A call that settles nothing
@@ -99,7 +100,7 @@ waiting_settled (g ∷ gs) [] k = refl
 waiting_settled (g ∷ gs) (m ∷ ms) zero = refl
 waiting_settled (g ∷ gs) (m ∷ ms) (suc k) = waiting_settled gs ms k
 
-cores_settled : (gs : List GuestState) (ms : List ℕ) → cores_in (settled_all gs ms) ≡ cores_in gs
+pub cores_settled : (gs : List GuestState) (ms : List ℕ) → cores_in (settled_all gs ms) ≡ cores_in gs
 cores_settled [] ms = refl
 cores_settled (g ∷ gs) [] = refl
 cores_settled (g ∷ gs) (m ∷ ms) = ap (λ cs. g.core ∷ cs) (cores_settled gs ms)
@@ -150,12 +151,12 @@ pub record IsHeard {D : Type 0} (waits : BoardState D → Type 0) (b : BoardStat
   pub intents : b'.intents ≡ b.intents
   pub known : guests b' ≡ now
 
-pub synced_waits : {D : Type 0} (shows : D → DiskState) (makes : D → DiskCall → D → Type 0) (g : ℕ) (start : BoardState D) (reply : Done) (b b1 b2 : BoardState D) (store : StoreState D) (told : List ℕ) (answer : Answer)
-    → Waits shows makes g start reply b → is_broken b ≡ false → IsSound shows b1 → IsSound shows b2
+pub synced_waits : {D : Type 0} (shows : D → DiskState) (g : ℕ) (start : BoardState D) (reply : Done) (b b1 b2 : BoardState D) (store : StoreState D) (told : List ℕ) (answer : Answer)
+    → Waits shows g start reply b → is_broken b ≡ false → IsSound shows b1 → IsSound shows b2
     → Moves (Ok (Synced told)) b.store.guests store.guests → store.broken ≡ false → b1 ≡ record b { store = store; report = Some (Marks told) } → SettlesBy b1.report answer b1 b2
-    → IsHeard (Waits shows makes g start reply) b store (settled_all (guests b) told) b2
+    → IsHeard (Waits shows g start reply) b store (settled_all (guests b) told) b2
 unfolding marks_of
-synced_waits {D = D} shows makes g start reply b b1 b2 store told answer w whole sound1 sound2 moves broken is settles = record {
+synced_waits {D = D} shows g start reply b b1 b2 store told answer w whole sound1 sound2 moves broken is settles = record {
   is = made (sym is2);
   stored = ap (λ v. v.store) is2;
   intents = ap (λ v. v.intents) is2;
@@ -203,7 +204,7 @@ synced_waits {D = D} shows makes g start reply b b1 b2 store told answer w whole
         largest : (m n s : ℕ) → s ≡ max m n → s ≤ m → s ≡ m
         largest m n s is le = grind (arith, nat_tests)
 
-    made : (heard_of b store told) ≡ b2 → Waits shows makes g start reply b2
+    made : (heard_of b store told) ≡ b2 → Waits shows g start reply b2
     made to =
         let whole' : is_broken (heard_of b store told) ≡ false = book.broken ∙ whole in
         let y = also_there (guests b) (guests (heard_of b store told)) g w.guest w.there (ap length book.guests ∙ length_settled (guests b) told) in
@@ -211,7 +212,7 @@ synced_waits {D = D} shows makes g start reply b b1 b2 store told answer w whole
         let x = each g y.0 z.stored y.1 z.at in
         let same : x.0 ≡ w.guest = (let a = x.1 in let c = w.there in cc) in
         let core : y.0.core ≡ w.guest.core = ap (λ v. v.core) x.2 ∙ ap (λ v. v.core) same in
-        subst (Waits shows makes g start reply) to (record {
+        subst (Waits shows g start reply) to (record {
           sound = sound;
           guest = y.0;
           there = y.1;
@@ -238,9 +239,8 @@ synced_waits {D = D} shows makes g start reply b b1 b2 store told answer w whole
           stays = record {
             devices = w.stays.devices;
             jobs = w.stays.jobs;
-            runner = λ is. ap₂ (λ c k. (let r : RunnerView = record { cores = c; answered = k } in r)) (ap cores_in book.guests ∙ cores_settled (guests b) told) book.count ∙ w.stays.runner whole;
+            runner = ap₂ (λ c k. (let r : RunnerView = record { cores = c; answered = k } in r)) (ap cores_in book.guests ∙ cores_settled (guests b) told) book.count ∙ w.stays.runner ∙ ap (λ k. runner_since (is_broken start) k (runner_of start)) (sym book.broken);
             whole = λ is. w.stays.whole whole;
-            cause = λ broke. absurd (let no = whole' in cc);
           };
         })
       where
@@ -256,14 +256,21 @@ kept_need settled h = by (nat_le h.done.need settled) refl
     by true is = grind (arith, nat_tests)
     by false is = omega arith
 
-pub broken_waits : {D : Type 0} (shows : D → DiskState) (makes : D → DiskCall → D → Type 0) (g : ℕ) (start : BoardState D) (reply : Done) (b b1 b2 : BoardState D) (store : StoreState D) (answer : Answer)
-    → Waits shows makes g start reply b → is_broken b ≡ false → IsSound shows b2 → HasFailed makes
+cores_broken_off : (gs : List GuestState) → cores_in (map broken_off gs) ≡ map (since false true) (cores_in gs)
+cores_broken_off [] = refl
+cores_broken_off (g ∷ gs) = ap (λ cs. since false true g.core ∷ cs) (cores_broken_off gs)
+
+pub broken_waits : {D : Type 0} (shows : D → DiskState) (g : ℕ) (start : BoardState D) (reply : Done) (b b1 b2 : BoardState D) (store : StoreState D) (answer : Answer)
+    → Waits shows g start reply b → is_broken b ≡ false → IsSound shows b2
     → store.broken ≡ true → b1 ≡ record b { store = store; report = Some Fault } → SettlesBy b1.report answer b1 b2
-    → Waits shows makes g start reply b2 × (b2.store ≡ store)
-broken_waits {D = D} shows makes g start reply b b1 b2 store answer w whole sound2 failed broken is settles = (made (sym is2), ap (λ v. v.store) is2)
+    → Waits shows g start reply b2 × (b2.store ≡ store)
+broken_waits {D = D} shows g start reply b b1 b2 store answer w whole sound2 broken is settles = (made (sym is2), ap (λ v. v.store) is2)
   where
     is2 : b2 ≡ (broken_of b store)
     is2 = (subst (λ v. SettlesBy v.report answer v b2) is settles).1 ∙ rw whole refl
+
+    cores_broke : cores_in (guests (broken_of b store)) ≡ map (since false true) (cores_in (guests b))
+    cores_broke = ap (λ s. cores_in s.guests) (state_of b.book Break) ∙ rw whole (cores_broken_off (guests b))
 
     broke : is_broken (broken_of b store) ≡ true
     broke = ap (λ s. s.broken) (state_of b.book Break) ∙ rw whole refl
@@ -271,14 +278,14 @@ broken_waits {D = D} shows makes g start reply b b1 b2 store answer w whole soun
     each : (k : ℕ) (x' : GuestState) → slice_get (guests (broken_of b store)) k ≡ Some x' → (x : GuestState) × (slice_get (guests b) k ≡ Some x) × (x' ≡ broken_off x)
     each k x' at = (let x = turned b.book Break k x' at in (x.0, x.1, x.2 ∙ rw whole refl))
 
-    made : (broken_of b store) ≡ b2 → Waits shows makes g start reply b2
+    made : (broken_of b store) ≡ b2 → Waits shows g start reply b2
     made to =
         let y = also_there (guests b) (guests (broken_of b store)) g w.guest w.there (as_many b.book Break) in
         let x = each g y.0 y.1 in
         let same : x.0 ≡ w.guest = (let a = x.1 in let c = w.there in cc) in
         let settled : y.0.settled ≡ w.guest.settled = ap (λ v. v.settled) x.2 ∙ ap (λ v. v.settled) same in
         let le = kept_need w.guest.settled w.held in
-        subst (Waits shows makes g start reply) to (record {
+        subst (Waits shows g start reply) to (record {
           sound = subst (IsSound shows) is2 sound2;
           guest = y.0;
           there = y.1;
@@ -299,8 +306,9 @@ broken_waits {D = D} shows makes g start reply b b1 b2 store answer w whole soun
           stays = record {
             devices = w.stays.devices;
             jobs = w.stays.jobs;
-            runner = λ no. absurd (let yes = broke in cc);
+            runner = ap₂ (λ c k. (let r : RunnerView = record { cores = c; answered = k } in r)) cores_broke (count_same b.book Break refl)
+                ∙ ap (runner_since false true) (w.stays.runner ∙ since_whole (is_broken start) (is_broken b) (runner_of start) whole)
+                ∙ ap₂ (λ was now. runner_since was now (runner_of start)) (sym (w.stays.whole whole)) (sym broke);
             whole = λ no. absurd (let yes = broke in cc);
-            cause = λ yes. inr failed;
           };
         })

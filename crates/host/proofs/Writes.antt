@@ -52,7 +52,7 @@ late_still g b b' s late = record {
 
 module _ {D : Type 0} (shows : D → DiskState) (makes : D → DiskCall → D → Type 0) (g : ℕ) (start : BoardState D) (reply : Done) where
   abbrev W : BoardState D → Type 0
-  W b = Waits shows makes g start reply b
+  W b = Waits shows g start reply b
 
   -- Advance and Settle, as one
   pub record Moved (b b' : BoardState D) : Type 0 where
@@ -121,17 +121,17 @@ module _ {D : Type 0} (shows : D → DiskState) (makes : D → DiskCall → D �
           by (Ok Wrote) is =
               let q = quiet Wrote is refl refl in
               record {
-                waits = same_waits shows makes g start reply b b2 w q.1 sound2;
+                waits = same_waits shows g start reply b b2 w q.1 sound2;
                 less = λ known busy. subst (λ v. work_of g v < work_of g b) (sym q.0) (work_less b (record b { store = a.store; report = None }) whole refl refl (lower (Ok Wrote) is refl));
               }
           by (Ok Idle) is =
               let q = quiet Idle is refl refl in
               record {
-                waits = same_waits shows makes g start reply b b2 w q.1 sound2;
+                waits = same_waits shows g start reply b b2 w q.1 sound2;
                 less = λ known busy. absurd (busy (round_idle makes b.store.disk a.store.disk b.store.guests a.store.guests a.store.broken (subst At is round)));
               }
           by (Ok (Synced told)) is =
-              let heard = synced_waits shows makes g start reply b b1 b2 a.store told a2 w whole sound1 sound2 (subst (λ q. Moves q b.store.guests a.store.guests) is a.moves)
+              let heard = synced_waits shows g start reply b b1 b2 a.store told a2 w whole sound1 sound2 (subst (λ q. Moves q b.store.guests a.store.guests) is a.moves)
               (round_well makes b.store.disk a.store.disk b.store.guests a.store.guests (Synced told) a.store.broken (subst At is round)) (after (Ok (Synced told)) is) told_so in
               let fewer = lower (Ok (Synced told)) is refl in
               record {
@@ -141,7 +141,7 @@ module _ {D : Type 0} (shows : D → DiskState) (makes : D → DiskCall → D �
               }
           by (Err e) is =
               let bad = round_badly makes b.store.disk a.store.disk b.store.guests a.store.guests e a.store.broken (subst At is round) in
-              let heard = broken_waits shows makes g start reply b b1 b2 a.store a2 w whole sound2 (record { before = b.store.disk; call = bad.1.call; after = a.store.disk; made = bad.1.made; failed = bad.1.failed }) bad.0 (after (Err e) is) told_so in
+              let heard = broken_waits shows g start reply b b1 b2 a.store a2 w whole sound2 bad.0 (after (Err e) is) told_so in
               let broke : is_broken b2 ≡ true = sym heard.0.broken ∙ ap (λ s. s.broken) heard.1 ∙ bad.0 in
               let none : work_of g b2 ≡ 0 = rw broke refl in
               let some : work_of g b ≡ suc (left_of b.store.guests + (between_calls (in_place (slice_get b.intents g)) + waiting_calls (waiting_of (slice_get (guests b) g)))) = rw whole refl in
@@ -150,12 +150,12 @@ module _ {D : Type 0} (shows : D → DiskState) (makes : D → DiskCall → D �
   -- the whole round
   pub writes : (b0 b1 b2 b3 b4 : BoardState D) (a1 a2 a3 a4 : Answer) → W b0 → IsSound shows b1 → IsSound shows b2 → IsSound shows b3 → IsSound shows b4
       → TakesInto g (slice_get b0.intents g) a1 b0 b1 → GivesWhere g (is_free b1.store.guests g) (in_place (slice_get b1.intents g)) a2 b1 b2
-      → AdvancesUnder shows makes b2.report a3 b2 b3 → SettlesBy b3.report a4 b3 b4 → WritesOn shows makes g start reply b0 b4
+      → AdvancesUnder shows makes b2.report a3 b2 b3 → SettlesBy b3.report a4 b3 b4 → WritesOn shows g start reply b0 b4
   writes b0 b1 b2 b3 b4 a1 a2 a3 a4 w s1 s2 s3 s4 takes gives advances settles =
       let same1 = take_same g (slice_get b0.intents g) a1 b0 b1 takes in
-      let w1 = same_waits shows makes g start reply b0 b1 w same1 s1 in
+      let w1 = same_waits shows g start reply b0 b1 w same1 s1 in
       let same2 = give_same g (is_free b1.store.guests g) (in_place (slice_get b1.intents g)) a2 b1 b2 gives in
-      let w2 = same_waits shows makes g start reply b1 b2 w1 same2 s2 in
+      let w2 = same_waits shows g start reply b1 b2 w1 same2 s2 in
       let moved = advance_moves b2 b3 b4 a3 a4 w2 s3 s4 advances settles in
       let taken = take_work shows g w.guest (slice_get b0.intents g) a1 b0 b1 w.sound w.there refl takes in
       let t = s1.linked.each g w1.guest w1.there in

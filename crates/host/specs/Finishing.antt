@@ -1,11 +1,13 @@
 -- The end of a host: its store makes the calls that it still has before it.
 use Rattle.std.specs.Prelude.{ℕ, ◌≡◌, ◌<◌, Bool, true, false, not, None, Result, is_ok}
+use Rattle.disk.specs.Disk.{DiskCall, DiskState}
 use Rattle.disk.specs.declared.disk.DiskFault.{DiskFault}
 use Rattle.flusher.specs.CallsLeft.{left_of}
 use Rattle.flusher.specs.Round.{AllEmpty}
 use Rattle.board.specs.State.{BoardState}
 use Rattle.host.specs.Calm.{is_broken}
 use Rattle.host.specs.Host.{HostState}
+use Rattle.host.specs.Moving.{Moves}
 use Rattle.host.specs.Runner.{runner_of}
 
 -- the book knows what the store's last call did
@@ -32,9 +34,10 @@ pub record Finished {D : Type 0} (b b' : BoardState D) : Type 0 where
   pub idle : is_broken b' ≡ false → AllEmpty b'.store.guests
 
 -- The last board of a host, and its disk.
-pub record Finishes {D : Type 0} (h : HostState D) (ended : Result (Unit {0}) DiskFault) (disk : D) : Type 0 where
+pub record Finishes {D : Type 0} (shows : D → DiskState) (makes : D → DiskCall → D → Type 0) (h : HostState D) (ended : Result (Unit {0}) DiskFault) (left : D) : Type 0 where
   pub last : BoardState D
   pub finished : Finished h.board last
-  pub disk : disk ≡ last.store.disk
+  pub moves : Moves shows makes h.board last
+  pub disk : left ≡ last.store.disk
   -- whether every call of it went well
   pub told : is_ok ended ≡ not (is_broken last)

@@ -1,13 +1,10 @@
 -- All guests of a board, and the book that answers them.
-use Rattle.std.specs.Prelude.{◌≡◌, ◌⊎◌, ℕ, ◌+◌, ◌<◌, Bool, true, false, List, length, get_or, replicate, All, Option, Some, None, slice_get, slice_set, Result, Ok, Err}
+use Rattle.std.specs.Prelude.{◌≡◌, ℕ, ◌+◌, ◌<◌, Bool, false, List, length, get_or, replicate, All, Option, Some, None, slice_get, slice_set, Result, Ok, Err}
 use Rattle.rpmb_frame.specs.declared.config.GuestConfig.{GuestConfig}
 use Rattle.rpmb_frame.specs.declared.config.RingKind.TheVariants.{Split}
 use Rattle.mmio_transport.specs.Device.{last_count}
 use Rattle.board.specs.State.{BoardState}
-use Rattle.disk.specs.Disk.{DiskCall}
-use Rattle.host.specs.Calm.{is_broken}
 use Rattle.host.specs.Guest.{GuestView, StoresInto, after_reset, stuck_by, views_of}
-use Rattle.host.specs.Waiting.{HasFailed}
 use Rattle.host.specs.declared.front.Stuck.{Stuck}
 use Rattle.host.specs.declared.front.Answer.TheVariants as answer
 use Rattle.host.specs.Ready.{IsReady, IsUsedWith, Answers, job_of}
@@ -87,12 +84,6 @@ StuckBy (Some why) g told g' h h' = (told ≡ Ok (answer.Stuck why)) × (g' ≡ 
 
 abbrev pub IsStuckAfter : GuestView → Result Answer HostFault → GuestView → HostView → HostView → Type 0
 IsStuckAfter g told g' h h' = StuckBy g.stuck g told g' h h'
-
--- What every call keeps of the board, whatever comes of it: a store that broke stays so, and it breaks only where a
--- call of the disk failed.
-pub record Keeps {D : Type 0} (makes : D → DiskCall → D → Type 0) (old new : BoardState D) : Type 0 where
-  pub whole : is_broken new ≡ false → is_broken old ≡ false
-  pub cause : is_broken new ≡ true → (is_broken old ≡ true) ⊎ HasFailed makes
 
 pub record ChainsOf (broken : Bool) (g : GuestView) (h : HostView) (guest : ℕ) (readable : List ℕ) (writable : ℕ) (told : Result Answer HostFault) (h' : HostView) : Type 0 where
   pub after : GuestView

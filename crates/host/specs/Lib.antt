@@ -3,9 +3,11 @@ pub mod Fault
 pub mod Finishing
 pub mod Guest
 pub mod Host
+pub mod Moving
 pub mod Opening
 pub mod Ready
 pub mod Runner
 pub mod Serving
+pub mod Spares
 pub mod Waiting
 pub mod Work

@@ -1,5 +1,5 @@
 -- What of a board the answers to its guests depend on, and what a job makes of it.
-use Rattle.std.specs.Prelude.{ℕ, ◌+◌, ◌==◌, nat_lt, not, Option, Some, None, List, [], ◌∷◌, length, map, slice_get}
+use Rattle.std.specs.Prelude.{ℕ, ◌+◌, ◌==◌, Bool, true, false, nat_lt, not, Option, Some, None, List, [], ◌∷◌, length, map, slice_get}
 use Rattle.rpmb_frame.specs.Limits.{limits_of}
 use Rattle.rpmb_frame.specs.Partition.{empty_partition}
 use Rattle.rpmb_frame.specs.Table.{first_row}
@@ -21,6 +21,15 @@ pub record RunnerView : Type 0 where
 -- what a board shows of it
 abbrev pub runner_of : {D : Type 0} → BoardState D → RunnerView
 runner_of b = record { cores = map (λ g. g.core) (guests b); answered = submits_in b.book }
+
+-- a guest's part of it, before and after: where the board broke meanwhile, what was asked last is known no more
+abbrev pub since : Bool → Bool → GuestCore → GuestCore
+since true now c = c
+since false false c = c
+since false true c = record c { last = None }
+
+abbrev pub runner_since : Bool → Bool → RunnerView → RunnerView
+runner_since was now v = record v { cores = map (since was now) v.cores }
 
 -- a guest without a key, of whom nothing was asked yet
 abbrev pub fresh_core : GuestConfig → GuestCore

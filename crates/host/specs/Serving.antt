@@ -1,6 +1,6 @@
 -- What becomes of a chain that is offered to a device in service, where nothing else was offered.
-use Rattle.std.specs.Prelude.{◌≡◌, ◌≢◌, ℕ, ◌+◌, ◌<◌, ◌≤◌, ◌⊎◌, Bool, true, false, List, [], ◌∷◌, length, slice_get, Some, None, Result, Ok, Err}
-use Rattle.disk.specs.Disk.{DiskCall, DiskState}
+use Rattle.std.specs.Prelude.{◌≡◌, ◌≢◌, ℕ, ◌+◌, ◌<◌, ◌≤◌, ◌⊎◌, Bool, false, List, [], ◌∷◌, length, slice_get, Some, None, Result, Ok, Err}
+use Rattle.disk.specs.Disk.{DiskState}
 use Rattle.board.specs.State.{BoardState}
 use Rattle.mmio_transport.specs.Device.{DeviceState, last_count}
 use Rattle.mmio_transport.specs.Job.{Job}
@@ -13,7 +13,6 @@ use Rattle.guest_driver.specs.OnDevice.{IsServed, IsSameSession}
 use Rattle.host.specs.Fault.{told_of}
 use Rattle.host.specs.Calm.{IsCalm, is_broken}
 use Rattle.host.specs.Runner.{RunnerView, after_job, refusal_of, reply_of, runner_of}
-use Rattle.host.specs.Waiting.{HasFailed}
 use Rattle.host.specs.declared.fault.HostFault.{HostFault}
 use Rattle.host.specs.declared.fault.HostFault.TheVariants.{NoMemory}
 use Rattle.host.specs.declared.serving.Step.{Step}
@@ -106,13 +105,12 @@ pub record Comes {D : Type 0} (guest : ℕ) (P : DeviceState → RunnerView → 
 abbrev pub Where : {D : Type 0} → ℕ → (DeviceState → RunnerView → DeviceState → RunnerView → Type 0) → BoardState D → BoardState D → Type 0
 Where guest P b b' = (d : DeviceState) → slice_get b.devices guest ≡ Some d → slice_get b.jobs guest ≡ Some None → is_broken b' ≡ false → Comes guest P d b b'
 
--- What one guest's share in a board leaves: the board is calm, the other guests' devices and jobs stay, and a store
--- that broke stays so; it breaks only where a call of the disk failed.
-pub record Touches {D : Type 0} (shows : D → DiskState) (makes : D → DiskCall → D → Type 0) (guest : ℕ) (b b' : BoardState D) : Type 0 where
+-- What one guest's share in a board leaves: the board is calm, the other guests' devices and jobs stay, and a board
+-- that broke stays so.
+pub record Touches {D : Type 0} (shows : D → DiskState) (guest : ℕ) (b b' : BoardState D) : Type 0 where
   pub calm : IsCalm shows b'
   pub devices : (k : ℕ) → k ≢ guest → slice_get b'.devices k ≡ slice_get b.devices k
   pub jobs : (k : ℕ) → k ≢ guest → slice_get b'.jobs k ≡ slice_get b.jobs k
   pub many : length b'.devices ≡ length b.devices
   pub wide : length b'.jobs ≡ length b.jobs
   pub whole : is_broken b' ≡ false → is_broken b ≡ false
-  pub cause : is_broken b' ≡ true → (is_broken b ≡ true) ⊎ HasFailed makes

@@ -1,6 +1,6 @@
 -- A board one guest of which waits for a reply, until the reply lies in its place.
-use Rattle.std.specs.Prelude.{ℕ, ◌≡◌, ◌≢◌, ◌≤◌, ◌<◌, ◌⊎◌, Bool, true, false, [], ◌∷◌, Option, Some, None, slice_get, slice_set}
-use Rattle.disk.specs.Disk.{DiskCall, DiskState, is_success}
+use Rattle.std.specs.Prelude.{ℕ, ◌≡◌, ◌≢◌, ◌≤◌, ◌<◌, Bool, true, false, [], ◌∷◌, Option, Some, None, slice_get, slice_set}
+use Rattle.disk.specs.Disk.{DiskState}
 use Rattle.flusher.specs.declared.guest.Guest.{Guest}
 use Rattle.flusher.specs.Slot.{mark_of}
 use Rattle.mmio_transport.specs.Job.{Done}
@@ -9,28 +9,19 @@ use Rattle.rpmb_book.specs.Guest.{GuestState, Held}
 use Rattle.board.specs.Board.{IsSound}
 use Rattle.board.specs.State.{BoardState, guests}
 use Rattle.host.specs.Calm.{IsCalmGuest, is_broken}
-use Rattle.host.specs.Runner.{runner_of}
+use Rattle.host.specs.Runner.{runner_of, runner_since}
 use Rattle.host.specs.Work.{work_of}
 
--- a call of the disk failed
-pub record HasFailed {D : Type 0} (makes : D → DiskCall → D → Type 0) : Type 0 where
-  pub before : D
-  pub call : DiskCall
-  pub after : D
-  pub made : makes before call after
-  pub failed : is_success call ≡ false
-
--- what stays of a board while a reply of it is on its way: the devices, the jobs, and, while no call of the disk
--- fails, all that the answers depend on
-pub record Stays {D : Type 0} (makes : D → DiskCall → D → Type 0) (start b : BoardState D) : Type 0 where
+-- what stays of a board while a reply of it is on its way: the devices, the jobs, and all that the answers depend on,
+-- but what a break makes of it
+pub record Stays {D : Type 0} (start b : BoardState D) : Type 0 where
   pub devices : b.devices ≡ start.devices
   pub jobs : b.jobs ≡ start.jobs
-  pub runner : is_broken b ≡ false → runner_of b ≡ runner_of start
+  pub runner : runner_of b ≡ runner_since (is_broken start) (is_broken b) (runner_of start)
   pub whole : is_broken b ≡ false → is_broken start ≡ false
-  pub cause : is_broken b ≡ true → (is_broken start ≡ true) ⊎ HasFailed makes
 
 -- guest g holds one reply, this one unless the store breaks, which needs all that was accepted; the others are calm
-pub record Waits {D : Type 0} (shows : D → DiskState) (makes : D → DiskCall → D → Type 0) (g : ℕ) (start : BoardState D) (reply : Done) (b : BoardState D) : Type 0 where
+pub record Waits {D : Type 0} (shows : D → DiskState) (g : ℕ) (start : BoardState D) (reply : Done) (b : BoardState D) : Type 0 where
   pub sound : IsSound shows b
   pub guest : GuestState
   pub there : slice_get (guests b) g ≡ Some guest
@@ -45,10 +36,10 @@ pub record Waits {D : Type 0} (shows : D → DiskState) (makes : D → DiskCall 
   pub dones : b.dones ≡ start.dones
   pub report : b.report ≡ None
   pub broken : b.store.broken ≡ is_broken b
-  pub stays : Stays makes start b
+  pub stays : Stays start b
 
 -- its reply lies in its place, and nobody holds one any more
-pub record Leaves {D : Type 0} (shows : D → DiskState) (makes : D → DiskCall → D → Type 0) (g : ℕ) (start : BoardState D) (reply : Done) (b : BoardState D) : Type 0 where
+pub record Leaves {D : Type 0} (shows : D → DiskState) (g : ℕ) (start : BoardState D) (reply : Done) (b : BoardState D) : Type 0 where
   pub sound : IsSound shows b
   pub done : Done
   pub given : is_broken b ≡ false → done ≡ reply
@@ -57,13 +48,13 @@ pub record Leaves {D : Type 0} (shows : D → DiskState) (makes : D → DiskCall
   pub replies : (k : ℕ) (o : Option Done) → slice_get start.dones k ≡ Some o → o ≡ None
   pub report : b.report ≡ None
   pub broken : b.store.broken ≡ is_broken b
-  pub stays : Stays makes start b
+  pub stays : Stays start b
 
 -- a guest waits for some reply
-pub record WaitsForSome {D : Type 0} (shows : D → DiskState) (makes : D → DiskCall → D → Type 0) (g : ℕ) (b : BoardState D) : Type 0 where
+pub record WaitsForSome {D : Type 0} (shows : D → DiskState) (g : ℕ) (b : BoardState D) : Type 0 where
   pub start : BoardState D
   pub reply : Done
-  pub waits : Waits shows makes g start reply b
+  pub waits : Waits shows g start reply b
 
 -- the guest's reply needs more than is settled
 pub record IsLate {D : Type 0} (g : ℕ) (b : BoardState D) : Type 0 where
@@ -71,11 +62,11 @@ pub record IsLate {D : Type 0} (g : ℕ) (b : BoardState D) : Type 0 where
   pub late : (x : GuestState) → slice_get (guests b) g ≡ Some x → x.settled < sequence x.core.partition
 
 -- what a look for the reply comes to
-abbrev pub Collected : {D : Type 0} → Bool → (D → DiskState) → (D → DiskCall → D → Type 0) → ℕ → BoardState D → Done → BoardState D → BoardState D → Type 0
-Collected true shows makes g start reply old new = Leaves shows makes g start reply new
-Collected false shows makes g start reply old new = (new ≡ old) × IsLate g old
+abbrev pub Collected : {D : Type 0} → Bool → (D → DiskState) → ℕ → BoardState D → Done → BoardState D → BoardState D → Type 0
+Collected true shows g start reply old new = Leaves shows g start reply new
+Collected false shows g start reply old new = (new ≡ old) × IsLate g old
 
 -- it still waits, and less is left to do
-pub record WritesOn {D : Type 0} (shows : D → DiskState) (makes : D → DiskCall → D → Type 0) (g : ℕ) (start : BoardState D) (reply : Done) (old new : BoardState D) : Type 0 where
-  pub waits : Waits shows makes g start reply new
+pub record WritesOn {D : Type 0} (shows : D → DiskState) (g : ℕ) (start : BoardState D) (reply : Done) (old new : BoardState D) : Type 0 where
+  pub waits : Waits shows g start reply new
   pub less : IsLate g old → work_of g new < work_of g old

@@ -1,5 +1,7 @@
 //! Makes what the store still has before it, once no guest offers anything more.
+ghost use Rattle.board.specs.Board.{IsSound};
 ghost use Rattle.host.specs.Finishing.{Finished, GoesOn, IsListened};
+ghost use Rattle.host.specs.Moving.{Moves};
 
 use board::{Board, Seen, Step};
 use disk::Disk;
@@ -8,7 +10,8 @@ use disk::Disk;
 /// succeeded.
 fn go_on<D: Disk>(board: &mut Board<D>) -> bool
     requires listened { IsListened board.old }
-    ensures { GoesOn result board.old board.new }
+    ensures goes { GoesOn result board.old board.new }
+    ensures moves { IsSound D.state board.old → Moves D.state D.makes board.old board.new }
 {
     let went = match board.step(&Step::Advance) {
         Ok(Seen::Did) => true,
@@ -25,7 +28,8 @@ fn go_on<D: Disk>(board: &mut Board<D>) -> bool
 /// Makes the store's calls until it has none, or one fails.
 pub(crate) fn finish_calls<D: Disk>(board: &mut Board<D>)
     requires listened { IsListened board.old }
-    ensures { Finished board.old board.new }
+    ensures finished { Finished board.old board.new }
+    ensures moves { IsSound D.state board.old → Moves D.state D.makes board.old board.new }
 {
     while go_on(board) {}
 }

@@ -1,11 +1,13 @@
 //! What a guest has in front of its device: its driver, and whether it is stuck.
-ghost use Rattle.std.specs.Prelude.{◌≡◌, ◌≤◌, ◌<◌, ◌+◌, IfOk, OnOk, Some, length, slice_get};
+ghost use Rattle.std.specs.Prelude.{◌≡◌, ◌≤◌, ◌<◌, ◌+◌, IfOk, OnOk, Some, length, max, slice_get};
 ghost use Rattle.mmio_transport.specs.Device.{DeviceState};
 ghost use Rattle.guest_driver.specs.Negotiation.{negotiated};
 ghost use Rattle.host.specs.Calm.{IsCalm};
 ghost use Rattle.host.specs.Guest.{StaysStuck, StoresIn, device_after_reset, first_front, front_after_reset, with_device};
+ghost use Rattle.host.specs.Moving.{Moves};
 ghost use Rattle.host.specs.Ready.{AnswersAt};
 ghost use Rattle.host.specs.Serving.{Touches};
+ghost use Rattle.host.specs.Spares.{Passes};
 
 use crate::fault::HostFault;
 use crate::serving::{Served, serve};
@@ -87,6 +89,7 @@ impl Front {
         ensures front { self.new ≡ front_after_reset self.old }
         ensures board { (d : DeviceState) → slice_get board.old.devices guest ≡ Some d
             → board.new ≡ with_device board.old guest (device_after_reset d self.old) }
+        ensures moves { Moves D.state D.makes board.old board.new }
     {
         let device = board.device(guest);
         device.write(STATUS, 4, 0);
@@ -107,7 +110,8 @@ impl Front {
         requires some { 0 < length readable.now + writable }
         requires calm { IsCalm D.state board.old }
         requires there { guest < length board.old.devices }
-        ensures touches { Touches D.state D.makes guest board.old board.new }
+        ensures touches { Touches D.state guest board.old board.new }
+        ensures passes { Passes D.state D.makes guest (max 1 self.old.places) board.old board.new }
         ensures answer { AnswersAt guest self.old board.old readable.now writable result self.new board.new }
         ensures stuck { self.new.stuck ≡ self.old.stuck }
     {
@@ -148,7 +152,8 @@ impl Front {
         requires some { 0 < length readable.now + writable }
         requires calm { IsCalm D.state board.old }
         requires there { guest < length board.old.devices }
-        ensures touches { Touches D.state D.makes guest board.old board.new }
+        ensures touches { Touches D.state guest board.old board.new }
+        ensures passes { Passes D.state D.makes guest (max 1 self.old.places) board.old board.new }
         ensures answer { AnswersAt guest self.old board.old readable.now writable result self.new board.new }
         ensures stuck { StaysStuck self.old.stuck self.new.stuck result self.old self.new board.old board.new }
     {

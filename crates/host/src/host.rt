@@ -1,9 +1,11 @@
 //! All guests of a board, each with a driver before its device.
-ghost use Rattle.std.specs.Prelude.{◌≡◌, ◌≤◌, ◌<◌, ◌+◌, IfErr, IfOk, false, length};
+ghost use Rattle.std.specs.Prelude.{◌≡◌, ◌≤◌, ◌<◌, ◌+◌, IfErr, IfOk, false, length, slice_get};
 ghost use Rattle.host.specs.Calm.{is_broken};
 ghost use Rattle.host.specs.Finishing.{Finishes};
-ghost use Rattle.host.specs.Host.{HostAnswers, HostChains, HostResets, HostResetsGuest, HostStores, Keeps, seen};
+ghost use Rattle.host.specs.Host.{HostAnswers, HostChains, HostResets, HostResetsGuest, HostStores, seen};
+ghost use Rattle.host.specs.Moving.{Moves};
 ghost use Rattle.host.specs.Opening.{IsFirstHost, IsJustOpened};
+ghost use Rattle.host.specs.Spares.{Spares, most_at};
 
 use crate::fault::HostFault;
 use crate::finishing::finish_calls;
@@ -60,6 +62,11 @@ impl<D: Disk> Host<D> {
     /// the disk failed. A guest whose device stopped, or gave nothing or nonsense back, is stuck until
     /// its reset. The device and the driver of every other guest stay as they are.
     ///
+    /// Whatever the guests hold: at each moment a stop leaves, of each guest, the partition after a prefix
+    /// of its accepted requests, with all that was settled before. What the book has of every other guest
+    /// stays, but that all forget what was asked last where a call of the disk fails; and of this one no
+    /// more jobs are answered than its queue has places.
+    ///
     /// # Errors
     ///
     /// `Foreign` where there is no such guest; then nothing changes. Of a ready guest `HistoryFull`
@@ -71,7 +78,9 @@ impl<D: Disk> Host<D> {
         requires some { 0 < length readable.now + writable }
         ensures answer { is_broken self.new.board ≡ false → HostAnswers (seen self.old) guest readable.now writable result (seen self.new) }
         ensures guest { HostChains (is_broken self.new.board) (seen self.old) guest readable.now writable result (seen self.new) }
-        ensures keeps { Keeps D.makes self.old.board self.new.board }
+        ensures keeps { is_broken self.new.board ≡ false → is_broken self.old.board ≡ false }
+        ensures moves { Moves D.state D.makes self.old.board self.new.board }
+        ensures others { Spares guest (most_at (slice_get self.old.fronts guest)) self.old.board self.new.board }
     {
         let at = usize::from(guest);
         if at >= self.fronts.len() {
@@ -85,7 +94,8 @@ impl<D: Disk> Host<D> {
     /// nothing changes.
     pub fn store(&mut self, guest: u16, at: u64, bytes: &[u8]) -> Result<(), HostFault>
         ensures guest { HostStores (seen self.old) guest at bytes.now result (seen self.new) }
-        ensures keeps { Keeps D.makes self.old.board self.new.board }
+        ensures keeps { is_broken self.new.board ≡ false → is_broken self.old.board ≡ false }
+        ensures moves { Moves D.state D.makes self.old.board self.new.board }
     {
         if usize::from(guest) >= self.fronts.len() {
             return Err(HostFault::Foreign);
@@ -99,7 +109,8 @@ impl<D: Disk> Host<D> {
     pub fn reset(&mut self, guest: u16) -> Result<(), HostFault>
         ensures guest { HostResetsGuest (seen self.old) guest result (seen self.new) }
         ensures ready { HostResets (seen self.old) guest result (seen self.new) }
-        ensures keeps { Keeps D.makes self.old.board self.new.board }
+        ensures keeps { is_broken self.new.board ≡ false → is_broken self.old.board ≡ false }
+        ensures moves { Moves D.state D.makes self.old.board self.new.board }
     {
         let at = usize::from(guest);
         if at >= self.fronts.len() {
@@ -120,7 +131,7 @@ impl<D: Disk> Host<D> {
     /// stands in its place then, and no slot holds anything. `DiskFault` where a call of the disk has
     /// failed, now or before; what was settled is kept then too.
     pub fn finish(self) -> (D, Result<(), DiskFault>)
-        ensures { Finishes self result.1 result.0 }
+        ensures { Finishes D.state D.makes self result.1 result.0 }
     {
         let mut board = self.board;
         finish_calls(&mut board);

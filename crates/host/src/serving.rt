@@ -1,7 +1,8 @@
 //! Takes what a guest offered to its end: each chain is popped, answered and published before the
 //! next is popped.
-ghost use Rattle.std.specs.Prelude.{◌≡◌, ◌<◌, None, OnOk, Some, length, slice_get};
+ghost use Rattle.std.specs.Prelude.{◌≡◌, ◌<◌, ◌-◌, None, OnOk, Some, length, max, slice_get};
 ghost use Rattle.host.specs.Calm.{IsCalm};
+ghost use Rattle.host.specs.Spares.{Passes};
 ghost use Rattle.host.specs.Serving.{Drains, Serves, ServesOne, Touches, Where};
 
 use crate::fault::HostFault;
@@ -36,7 +37,8 @@ pub(crate) enum Served {
 fn serve_one<D: Disk>(board: &mut Board<D>, guest: u16) -> Result<Step, HostFault>
     requires calm { IsCalm D.state board.old }
     requires there { guest < length board.old.devices }
-    ensures touches { Touches D.state D.makes guest board.old board.new }
+    ensures touches { Touches D.state guest board.old board.new }
+    ensures passes { Passes D.state D.makes guest 1 board.old board.new }
     ensures empty { OnOk result (slice_get board.new.jobs guest ≡ Some None) }
     ensures serves { Where guest (λ d r d' r'. ServesOne guest d r result d' r') board.old board.new }
 {
@@ -71,11 +73,12 @@ fn drain<D: Disk>(board: &mut Board<D>, guest: u16, times: u16) -> Result<bool, 
     requires calm { IsCalm D.state board.old }
     requires there { guest < length board.old.devices }
     requires empty { slice_get board.old.jobs guest ≡ Some None }
-    ensures touches { Touches D.state D.makes guest board.old board.new }
+    ensures touches { Touches D.state guest board.old board.new }
+    ensures passes { Passes D.state D.makes guest (times - 1) board.old board.new }
     ensures empty { OnOk result (slice_get board.new.jobs guest ≡ Some None) }
     ensures drains { Where guest (λ d r d' r'. Drains guest d r result d' r') board.old board.new }
 {
-    for _ in 1..times {
+    for _look in 1..times {
         match serve_one(board, guest) {
             Ok(Step::Answered) => {}
             Ok(Step::Nothing) => return Ok(false),
@@ -94,7 +97,8 @@ pub(crate) fn serve<D: Disk>(
 ) -> Result<Served, HostFault>
     requires calm { IsCalm D.state board.old }
     requires there { guest < length board.old.devices }
-    ensures touches { Touches D.state D.makes guest board.old board.new }
+    ensures touches { Touches D.state guest board.old board.new }
+    ensures passes { Passes D.state D.makes guest (max 1 times) board.old board.new }
     ensures empty { OnOk result (slice_get board.new.jobs guest ≡ Some None) }
     ensures serves { Where guest (λ d r d' r'. Serves guest d r result d' r') board.old board.new }
 {

@@ -1,6 +1,8 @@
 //! Takes what a guest had accepted to the disk, until its reply may leave.
 ghost use Rattle.mmio_transport.specs.Job.{Done};
+ghost use Rattle.board.specs.Board.{IsSound};
 ghost use Rattle.board.specs.State.{BoardState};
+ghost use Rattle.host.specs.Moving.{Moves};
 ghost use Rattle.host.specs.Waiting.{Collected, Leaves, Waits, WaitsForSome, WritesOn};
 
 use board::{Board, Seen, Step};
@@ -8,9 +10,10 @@ use disk::Disk;
 
 /// Looks for the reply that a guest waits for. Whether it lies in its place now.
 fn collect<D: Disk>(board: &mut Board<D>, guest: u16) -> bool
-    requires waits { WaitsForSome D.state D.makes guest board.old }
-    ensures { (start : BoardState D) (reply : Done) → Waits D.state D.makes guest start reply board.old
-        → Collected result D.state D.makes guest start reply board.old board.new }
+    requires waits { WaitsForSome D.state guest board.old }
+    ensures moves { Moves D.state D.makes board.old board.new }
+    ensures found { (start : BoardState D) (reply : Done) → Waits D.state guest start reply board.old
+        → Collected result D.state guest start reply board.old board.new }
 {
     match board.step(&Step::Collect(guest)) {
         Ok(Seen::Did) => true,
@@ -23,8 +26,9 @@ fn collect<D: Disk>(board: &mut Board<D>, guest: u16) -> bool
 
 /// Brings what the guest had accepted one call of the disk nearer to being settled, and tells the book.
 fn write_on<D: Disk>(board: &mut Board<D>, guest: u16)
-    ensures { (start : BoardState D) (reply : Done) → Waits D.state D.makes guest start reply board.old
-        → WritesOn D.state D.makes guest start reply board.old board.new }
+    ensures moves { IsSound D.state board.old → Moves D.state D.makes board.old board.new }
+    ensures writes { (start : BoardState D) (reply : Done) → Waits D.state guest start reply board.old
+        → WritesOn D.state guest start reply board.old board.new }
 {
     // What these steps come to shows in what the next Collect gives.
     let _ = board.step(&Step::Take(guest));
@@ -36,8 +40,9 @@ fn write_on<D: Disk>(board: &mut Board<D>, guest: u16)
 /// Lets the one reply that a guest waits for into its place, once all that the guest's partition took is
 /// settled. A call of the disk that fails makes a failure reply of it. It takes no memory.
 pub(crate) fn settle_reply<D: Disk>(board: &mut Board<D>, guest: u16)
-    requires waits { WaitsForSome D.state D.makes guest board.old }
-    ensures leaves { (reply : Done) → Waits D.state D.makes guest board.old reply board.old → Leaves D.state D.makes guest board.old reply board.new }
+    requires waits { WaitsForSome D.state guest board.old }
+    ensures moves { Moves D.state D.makes board.old board.new }
+    ensures leaves { (reply : Done) → Waits D.state guest board.old reply board.old → Leaves D.state guest board.old reply board.new }
 {
     while !collect(board, guest) {
         write_on(board, guest);

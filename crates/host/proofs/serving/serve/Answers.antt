@@ -1,10 +1,12 @@
-use Rattle.std.proofs.Common.{Bool, Ok, Err, false, true, subst}
+use Rattle.std.proofs.Common.{Bool, arith, max, Ok, Err, false, true, subst}
+use Rattle.std.proofs.lemmas.Bool.Decides.{nat_tests}
 use Rattle.host.specs.Serving.{Drains, Serves, ServesOne, Where}
 use Rattle.host.specs.declared.fault.HostFault.{HostFault}
 use Rattle.host.specs.declared.serving.Served.TheVariants as served
 use Rattle.host.specs.declared.serving.Step.{Step}
 use Rattle.host.specs.declared.serving.Step.TheVariants as step
 use Rattle.host.proofs.Looks.{where_then, where_weaker}
+use Rattle.host.proofs.Spares.{passes_more, served_passes}
 use Rattle.host.proofs.Steps.{answered_then_failed, answered_then_quiet, answered_then_stopped}
 use Rattle.host.proofs.serving.serve.Goals as goal
 
@@ -12,21 +14,21 @@ pub returns-in-Ok-Nothing-clause-serves : goal.returns-in-Ok-Nothing-clause-serv
 returns-in-Ok-Nothing-clause-serves g c =
     let n = c.args.guest in
     let one : Step → Type 0 = λ x. Where n (λ d r d' r'. ServesOne n d r (Ok x) d' r') c.args.board.now c.serve_one.new.board in
-    where_weaker g.D.Disk.state g.D.Disk.makes n (λ d r d' r'. ServesOne n d r (Ok step.Nothing) d' r') (λ d r d' r'. Serves n d r (Ok served.Nothing) d' r') c.args.board.now c.serve_one.new.board
+    where_weaker g.D.Disk.state n (λ d r d' r'. ServesOne n d r (Ok step.Nothing) d' r') (λ d r d' r'. Serves n d r (Ok served.Nothing) d' r') c.args.board.now c.serve_one.new.board
     (subst one c.in-Ok-Nothing.field-0-is c.in-Ok-Nothing.ensures.serves) (λ d d' r r' s driver offer room counting more there. s.one driver offer room counting there)
 
 pub returns-in-Ok-Stopped-clause-serves : goal.returns-in-Ok-Stopped-clause-serves
 returns-in-Ok-Stopped-clause-serves g c =
     let n = c.args.guest in
     let one : Step → Type 0 = λ x. Where n (λ d r d' r'. ServesOne n d r (Ok x) d' r') c.args.board.now c.serve_one.new.board in
-    where_weaker g.D.Disk.state g.D.Disk.makes n (λ d r d' r'. ServesOne n d r (Ok step.Stopped) d' r') (λ d r d' r'. Serves n d r (Ok served.Stopped) d' r') c.args.board.now c.serve_one.new.board
+    where_weaker g.D.Disk.state n (λ d r d' r'. ServesOne n d r (Ok step.Stopped) d' r') (λ d r d' r'. Serves n d r (Ok served.Stopped) d' r') c.args.board.now c.serve_one.new.board
     (subst one c.in-Ok-Stopped.field-0-is c.in-Ok-Stopped.ensures.serves) (λ d d' r r' s driver offer room counting more there. s.one driver offer room counting there)
 
 pub returns-in-Err-clause-serves : goal.returns-in-Err-clause-serves
 returns-in-Err-clause-serves g c =
     let n = c.args.guest in
     let one : HostFault → Type 0 = λ x. Where n (λ d r d' r'. ServesOne n d r (Err x) d' r') c.args.board.now c.serve_one.new.board in
-    where_weaker g.D.Disk.state g.D.Disk.makes n (λ d r d' r'. ServesOne n d r (Err c.in-Err.fault) d' r') (λ d r d' r'. Serves n d r (Err c.in-Err.fault) d' r') c.args.board.now c.serve_one.new.board
+    where_weaker g.D.Disk.state n (λ d r d' r'. ServesOne n d r (Err c.in-Err.fault) d' r') (λ d r d' r'. Serves n d r (Err c.in-Err.fault) d' r') c.args.board.now c.serve_one.new.board
     (subst one c.in-Err.fault-is c.in-Err.ensures.serves) (λ d d' r r' s driver offer room counting more there. s.one driver offer room counting there)
 
 pub returns-in-Ok-true-clause-serves : goal.returns-in-Ok-true-clause-serves
@@ -34,7 +36,7 @@ returns-in-Ok-true-clause-serves g c =
     let n = c.args.guest in
     let one : Step → Type 0 = λ x. Where n (λ d r d' r'. ServesOne n d r (Ok x) d' r') c.args.board.now c.serve_one.new.board in
     let rest : Bool → Type 0 = λ x. Where n (λ d r d' r'. Drains n d r (Ok x) d' r') c.serve_one.new.board c.drain.new.board in
-    where_then g.D.Disk.state g.D.Disk.makes n (λ d r d' r'. ServesOne n d r (Ok step.Answered) d' r') (λ d r d' r'. Drains n d r (Ok true) d' r') (λ d r d' r'. Serves n d r (Ok served.Stopped) d' r')
+    where_then g.D.Disk.state n (λ d r d' r'. ServesOne n d r (Ok step.Answered) d' r') (λ d r d' r'. Drains n d r (Ok true) d' r') (λ d r d' r'. Serves n d r (Ok served.Stopped) d' r')
     c.args.board.now c.serve_one.new.board c.drain.new.board (subst one c.in-Ok-Answered.field-0-is c.in-Ok-Answered.ensures.serves) c.in-Ok-Answered.ensures.empty c.drain.ensures.touches
     (subst rest c.in-Ok-true.field-0-test c.in-Ok-true.ensures.drains) (λ d d1 d2 r r1 r2 before after. answered_then_stopped n d d1 d2 r r1 r2 before after)
 
@@ -43,7 +45,7 @@ returns-in-Ok-false-clause-serves g c =
     let n = c.args.guest in
     let one : Step → Type 0 = λ x. Where n (λ d r d' r'. ServesOne n d r (Ok x) d' r') c.args.board.now c.serve_one.new.board in
     let rest : Bool → Type 0 = λ x. Where n (λ d r d' r'. Drains n d r (Ok x) d' r') c.serve_one.new.board c.drain.new.board in
-    where_then g.D.Disk.state g.D.Disk.makes n (λ d r d' r'. ServesOne n d r (Ok step.Answered) d' r') (λ d r d' r'. Drains n d r (Ok false) d' r') (λ d r d' r'. Serves n d r (Ok served.Answered) d' r')
+    where_then g.D.Disk.state n (λ d r d' r'. ServesOne n d r (Ok step.Answered) d' r') (λ d r d' r'. Drains n d r (Ok false) d' r') (λ d r d' r'. Serves n d r (Ok served.Answered) d' r')
     c.args.board.now c.serve_one.new.board c.drain.new.board (subst one c.in-Ok-Answered.field-0-is c.in-Ok-Answered.ensures.serves) c.in-Ok-Answered.ensures.empty c.drain.ensures.touches
     (subst rest c.in-Ok-false.field-0-test c.in-Ok-false.ensures.drains) (λ d d1 d2 r r1 r2 before after. answered_then_quiet n d d1 d2 r r1 r2 before after)
 
@@ -51,6 +53,24 @@ pub returns-in-Err-drain-clause-serves : goal.returns-in-Err-drain-clause-serves
 returns-in-Err-drain-clause-serves g c =
     let n = c.args.guest in
     let one : Step → Type 0 = λ x. Where n (λ d r d' r'. ServesOne n d r (Ok x) d' r') c.args.board.now c.serve_one.new.board in
-    where_then g.D.Disk.state g.D.Disk.makes n (λ d r d' r'. ServesOne n d r (Ok step.Answered) d' r') (λ d r d' r'. Drains n d r (Err c.in-Err-drain.fault) d' r') (λ d r d' r'. Serves n d r (Err c.in-Err-drain.fault) d' r')
+    where_then g.D.Disk.state n (λ d r d' r'. ServesOne n d r (Ok step.Answered) d' r') (λ d r d' r'. Drains n d r (Err c.in-Err-drain.fault) d' r') (λ d r d' r'. Serves n d r (Err c.in-Err-drain.fault) d' r')
     c.args.board.now c.serve_one.new.board c.drain.new.board (subst one c.in-Ok-Answered.field-0-is c.in-Ok-Answered.ensures.serves) c.in-Ok-Answered.ensures.empty c.drain.ensures.touches
     c.in-Err-drain.ensures.drains (λ d d1 d2 r r1 r2 before after. answered_then_failed n d d1 d2 r r1 r2 c.in-Err-drain.fault before after)
+
+pub returns-in-Ok-Nothing-clause-passes : goal.returns-in-Ok-Nothing-clause-passes
+returns-in-Ok-Nothing-clause-passes g c = passes_more g.D.Disk.state g.D.Disk.makes c.args.guest 1 (max 1 c.args.times) c.args.board.now c.serve_one.new.board (grind (arith, nat_tests)) c.serve_one.ensures.passes
+
+pub returns-in-Ok-Stopped-clause-passes : goal.returns-in-Ok-Stopped-clause-passes
+returns-in-Ok-Stopped-clause-passes g c = passes_more g.D.Disk.state g.D.Disk.makes c.args.guest 1 (max 1 c.args.times) c.args.board.now c.serve_one.new.board (grind (arith, nat_tests)) c.serve_one.ensures.passes
+
+pub returns-in-Err-clause-passes : goal.returns-in-Err-clause-passes
+returns-in-Err-clause-passes g c = passes_more g.D.Disk.state g.D.Disk.makes c.args.guest 1 (max 1 c.args.times) c.args.board.now c.serve_one.new.board (grind (arith, nat_tests)) c.serve_one.ensures.passes
+
+pub returns-in-Ok-true-clause-passes : goal.returns-in-Ok-true-clause-passes
+returns-in-Ok-true-clause-passes g c = served_passes g.D.Disk.state g.D.Disk.makes c.args.guest c.args.times c.args.board.now c.serve_one.new.board c.drain.new.board c.serve_one.ensures.passes c.drain.ensures.passes
+
+pub returns-in-Ok-false-clause-passes : goal.returns-in-Ok-false-clause-passes
+returns-in-Ok-false-clause-passes g c = served_passes g.D.Disk.state g.D.Disk.makes c.args.guest c.args.times c.args.board.now c.serve_one.new.board c.drain.new.board c.serve_one.ensures.passes c.drain.ensures.passes
+
+pub returns-in-Err-drain-clause-passes : goal.returns-in-Err-drain-clause-passes
+returns-in-Err-drain-clause-passes g c = served_passes g.D.Disk.state g.D.Disk.makes c.args.guest c.args.times c.args.board.now c.serve_one.new.board c.drain.new.board c.serve_one.ensures.passes c.drain.ensures.passes

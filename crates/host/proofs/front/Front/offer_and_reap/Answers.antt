@@ -1,4 +1,4 @@
-use Rattle.std.proofs.Common.{◌≡◌, Option, Ok, Err, Some, None, subst, sym, ap, ◌∙◌, inr}
+use Rattle.std.proofs.Common.{◌≡◌, Option, Ok, Err, Some, None, max, subst, sym, ap, ◌∙◌, arith, inr}
 use Rattle.std.specs.Prelude.{slice_get, slice_set}
 use Rattle.mmio_transport.specs.Device.{DeviceState}
 use Rattle.guest_driver.specs.declared.reaping.Reaped.{Reaped}
@@ -19,40 +19,44 @@ use Rattle.host.specs.declared.serving.Served.TheVariants as served
 use Rattle.host.specs.declared.fault.HostFault.{HostFault}
 use Rattle.host.proofs.Chains.{bad_back, came_back, fails, no_room_back, none_back, unfetched}
 use Rattle.host.proofs.Fronts.{answered_at, comes, same_there, touches_after, touches_between}
+use Rattle.host.proofs.Spares.{passes_between, passes_lent, passes_more, passes_none}
 use Rattle.host.proofs.front.Front.offer_and_reap.Goals as goal
 
+pub returns-in-Ok-Stopped-clause-touches : goal.returns-in-Ok-Stopped-clause-touches
+returns-in-Ok-Stopped-clause-touches g c = touches_between g.D.Disk.state c.args.guest c.args.board.now c.serve.new.board c.offer.new.device c.requires.calm c.serve.ensures.touches
+
 pub returns-in-Ok-Nothing-clause-touches : goal.returns-in-Ok-Nothing-clause-touches
-returns-in-Ok-Nothing-clause-touches g c = touches_between g.D.Disk.state g.D.Disk.makes c.args.guest c.args.board.now c.serve.new.board c.offer.new.device c.requires.calm c.serve.ensures.touches
+returns-in-Ok-Nothing-clause-touches g c = touches_between g.D.Disk.state c.args.guest c.args.board.now c.serve.new.board c.offer.new.device c.requires.calm c.serve.ensures.touches
 
 pub returns-in-Err-clause-touches : goal.returns-in-Err-clause-touches
-returns-in-Err-clause-touches g c = touches_between g.D.Disk.state g.D.Disk.makes c.args.guest c.args.board.now c.serve.new.board c.offer.new.device c.requires.calm c.serve.ensures.touches
+returns-in-Err-clause-touches g c = touches_between g.D.Disk.state c.args.guest c.args.board.now c.serve.new.board c.offer.new.device c.requires.calm c.serve.ensures.touches
 
 pub returns-in-Ok-Some-clause-touches : goal.returns-in-Ok-Some-clause-touches
-returns-in-Ok-Some-clause-touches g c = touches_after g.D.Disk.state g.D.Disk.makes c.args.guest c.args.board.now c.serve.new.board c.offer.new.device c.device-2.result.now c.requires.calm c.serve.ensures.touches
+returns-in-Ok-Some-clause-touches g c = touches_after g.D.Disk.state c.args.guest c.args.board.now c.serve.new.board c.offer.new.device c.device-2.result.now c.requires.calm c.serve.ensures.touches
 
 pub returns-in-Ok-None-clause-touches : goal.returns-in-Ok-None-clause-touches
-returns-in-Ok-None-clause-touches g c = touches_after g.D.Disk.state g.D.Disk.makes c.args.guest c.args.board.now c.serve.new.board c.offer.new.device c.device-2.result.now c.requires.calm c.serve.ensures.touches
+returns-in-Ok-None-clause-touches g c = touches_after g.D.Disk.state c.args.guest c.args.board.now c.serve.new.board c.offer.new.device c.device-2.result.now c.requires.calm c.serve.ensures.touches
 
 pub returns-in-Err-BadUsed-reap-clause-touches : goal.returns-in-Err-BadUsed-reap-clause-touches
-returns-in-Err-BadUsed-reap-clause-touches g c = touches_after g.D.Disk.state g.D.Disk.makes c.args.guest c.args.board.now c.serve.new.board c.offer.new.device c.device-2.result.now c.requires.calm c.serve.ensures.touches
+returns-in-Err-BadUsed-reap-clause-touches g c = touches_after g.D.Disk.state c.args.guest c.args.board.now c.serve.new.board c.offer.new.device c.device-2.result.now c.requires.calm c.serve.ensures.touches
 
 pub returns-in-Err-NoMemory-reap-clause-touches : goal.returns-in-Err-NoMemory-reap-clause-touches
-returns-in-Err-NoMemory-reap-clause-touches g c = touches_after g.D.Disk.state g.D.Disk.makes c.args.guest c.args.board.now c.serve.new.board c.offer.new.device c.device-2.result.now c.requires.calm c.serve.ensures.touches
+returns-in-Err-NoMemory-reap-clause-touches g c = touches_after g.D.Disk.state c.args.guest c.args.board.now c.serve.new.board c.offer.new.device c.device-2.result.now c.requires.calm c.serve.ensures.touches
 
 pub returns-in-Err-OutOfRange-reap-clause-touches : goal.returns-in-Err-OutOfRange-reap-clause-touches
-returns-in-Err-OutOfRange-reap-clause-touches g c = touches_after g.D.Disk.state g.D.Disk.makes c.args.guest c.args.board.now c.serve.new.board c.offer.new.device c.device-2.result.now c.requires.calm c.serve.ensures.touches
+returns-in-Err-OutOfRange-reap-clause-touches g c = touches_after g.D.Disk.state c.args.guest c.args.board.now c.serve.new.board c.offer.new.device c.device-2.result.now c.requires.calm c.serve.ensures.touches
 
 pub returns-in-Ok-Stopped-clause-answer : goal.returns-in-Ok-Stopped-clause-answer
 returns-in-Ok-Stopped-clause-answer g c d j at place =
     let serving : Served → Type 0 = λ x. Where c.args.guest (λ y r y' r'. Serves c.args.guest y r (Ok x) y' r') (with_device c.args.board.now c.args.guest c.offer.new.device) c.serve.new.board in
-    answered_at g.D.Disk.state g.D.Disk.makes c.args.guest c.args.board.now c.serve.new.board d j c.args.self.now _ c.args.readable.now c.args.writable _ at place (touches_between g.D.Disk.state g.D.Disk.makes c.args.guest c.args.board.now c.serve.new.board c.offer.new.device c.requires.calm c.serve.ensures.touches) (λ d' j' at' place' whole session steps few ready.
+    answered_at g.D.Disk.state c.args.guest c.args.board.now c.serve.new.board d j c.args.self.now _ c.args.readable.now c.args.writable _ at place (touches_between g.D.Disk.state c.args.guest c.args.board.now c.serve.new.board c.offer.new.device c.requires.calm c.serve.ensures.touches) (λ d' j' at' place' whole session steps few ready.
     let n = c.args.guest in
     let b = c.args.board.now in
     let b2 = c.serve.new.board in
     let none : j ≡ None = ready.empty in
     let there = subst (λ o. IsReady n session steps (view_of d o c.args.self.now)) none ready in
     let same : d ≡ c.device.result.now = same_there (slice_get b.devices n) d c.device.result.now at c.device.ensures.device in
-    let came = comes g.D.Disk.state g.D.Disk.makes n b b2 d c.offer.new.device c.args.self.now.driver c.offer.new.self c.args.readable.now c.args.writable c.in-Ok.field-0 session steps c.args.self.now.places c.args.self.now.stuck (Ok served.Stopped)
+    let came = comes g.D.Disk.state n b b2 d c.offer.new.device c.args.self.now.driver c.offer.new.self c.args.readable.now c.args.writable c.in-Ok.field-0 session steps c.args.self.now.places c.args.self.now.stuck (Ok served.Stopped)
     at (place ∙ ap Some none) (subst serving c.in-Ok-Stopped.field-0-is c.in-Ok-Stopped.ensures.serves) (whole) c.requires.readable c.requires.writable c.requires.some few there
     (subst (λ (x : DeviceState). Offering x.memory c.args.self.now.driver c.args.readable.now c.args.writable (Ok c.in-Ok.field-0) c.offer.new.device.memory c.offer.new.self) (sym same) c.in-Ok.ensures.offering)
     (subst (λ (x : DeviceState). ButForMemory x c.offer.new.device) (sym same) c.in-Ok.ensures.rest) in
@@ -61,14 +65,14 @@ returns-in-Ok-Stopped-clause-answer g c d j at place =
 pub returns-in-Ok-Nothing-clause-answer : goal.returns-in-Ok-Nothing-clause-answer
 returns-in-Ok-Nothing-clause-answer g c d j at place =
     let serving : Served → Type 0 = λ x. Where c.args.guest (λ y r y' r'. Serves c.args.guest y r (Ok x) y' r') (with_device c.args.board.now c.args.guest c.offer.new.device) c.serve.new.board in
-    answered_at g.D.Disk.state g.D.Disk.makes c.args.guest c.args.board.now c.serve.new.board d j c.args.self.now _ c.args.readable.now c.args.writable _ at place (touches_between g.D.Disk.state g.D.Disk.makes c.args.guest c.args.board.now c.serve.new.board c.offer.new.device c.requires.calm c.serve.ensures.touches) (λ d' j' at' place' whole session steps few ready.
+    answered_at g.D.Disk.state c.args.guest c.args.board.now c.serve.new.board d j c.args.self.now _ c.args.readable.now c.args.writable _ at place (touches_between g.D.Disk.state c.args.guest c.args.board.now c.serve.new.board c.offer.new.device c.requires.calm c.serve.ensures.touches) (λ d' j' at' place' whole session steps few ready.
     let n = c.args.guest in
     let b = c.args.board.now in
     let b2 = c.serve.new.board in
     let none : j ≡ None = ready.empty in
     let there = subst (λ o. IsReady n session steps (view_of d o c.args.self.now)) none ready in
     let same : d ≡ c.device.result.now = same_there (slice_get b.devices n) d c.device.result.now at c.device.ensures.device in
-    let came = comes g.D.Disk.state g.D.Disk.makes n b b2 d c.offer.new.device c.args.self.now.driver c.offer.new.self c.args.readable.now c.args.writable c.in-Ok.field-0 session steps c.args.self.now.places c.args.self.now.stuck (Ok served.Nothing)
+    let came = comes g.D.Disk.state n b b2 d c.offer.new.device c.args.self.now.driver c.offer.new.self c.args.readable.now c.args.writable c.in-Ok.field-0 session steps c.args.self.now.places c.args.self.now.stuck (Ok served.Nothing)
     at (place ∙ ap Some none) (subst serving c.in-Ok-Nothing.field-0-is c.in-Ok-Nothing.ensures.serves) (whole) c.requires.readable c.requires.writable c.requires.some few there
     (subst (λ (x : DeviceState). Offering x.memory c.args.self.now.driver c.args.readable.now c.args.writable (Ok c.in-Ok.field-0) c.offer.new.device.memory c.offer.new.self) (sym same) c.in-Ok.ensures.offering)
     (subst (λ (x : DeviceState). ButForMemory x c.offer.new.device) (sym same) c.in-Ok.ensures.rest) in
@@ -78,14 +82,14 @@ pub returns-in-Err-clause-answer : goal.returns-in-Err-clause-answer
 unfolding job_of
 returns-in-Err-clause-answer g c d j at place =
     let serving : HostFault → Type 0 = λ x. Where c.args.guest (λ y r y' r'. Serves c.args.guest y r (Err x) y' r') (with_device c.args.board.now c.args.guest c.offer.new.device) c.serve.new.board in
-    answered_at g.D.Disk.state g.D.Disk.makes c.args.guest c.args.board.now c.serve.new.board d j c.args.self.now _ c.args.readable.now c.args.writable _ at place (touches_between g.D.Disk.state g.D.Disk.makes c.args.guest c.args.board.now c.serve.new.board c.offer.new.device c.requires.calm c.serve.ensures.touches) (λ d' j' at' place' whole session steps few ready.
+    answered_at g.D.Disk.state c.args.guest c.args.board.now c.serve.new.board d j c.args.self.now _ c.args.readable.now c.args.writable _ at place (touches_between g.D.Disk.state c.args.guest c.args.board.now c.serve.new.board c.offer.new.device c.requires.calm c.serve.ensures.touches) (λ d' j' at' place' whole session steps few ready.
     let n = c.args.guest in
     let b = c.args.board.now in
     let b2 = c.serve.new.board in
     let none : j ≡ None = ready.empty in
     let there = subst (λ o. IsReady n session steps (view_of d o c.args.self.now)) none ready in
     let same : d ≡ c.device.result.now = same_there (slice_get b.devices n) d c.device.result.now at c.device.ensures.device in
-    let came = comes g.D.Disk.state g.D.Disk.makes n b b2 d c.offer.new.device c.args.self.now.driver c.offer.new.self c.args.readable.now c.args.writable c.in-Ok.field-0 session steps c.args.self.now.places c.args.self.now.stuck (Err c.in-Err.fault)
+    let came = comes g.D.Disk.state n b b2 d c.offer.new.device c.args.self.now.driver c.offer.new.self c.args.readable.now c.args.writable c.in-Ok.field-0 session steps c.args.self.now.places c.args.self.now.stuck (Err c.in-Err.fault)
     at (place ∙ ap Some none) (subst serving c.in-Err.fault-is c.in-Err.ensures.serves) (whole) c.requires.readable c.requires.writable c.requires.some few there
     (subst (λ (x : DeviceState). Offering x.memory c.args.self.now.driver c.args.readable.now c.args.writable (Ok c.in-Ok.field-0) c.offer.new.device.memory c.offer.new.self) (sym same) c.in-Ok.ensures.offering)
     (subst (λ (x : DeviceState). ButForMemory x c.offer.new.device) (sym same) c.in-Ok.ensures.rest) in
@@ -98,14 +102,14 @@ returns-in-Ok-Some-clause-answer g c d j at place =
     let serving : Served → Type 0 = λ x. Where c.args.guest (λ y r y' r'. Serves c.args.guest y r (Ok x) y' r') (with_device c.args.board.now c.args.guest c.offer.new.device) c.serve.new.board in
     let reaped : Option Reaped → Type 0 = λ x. Reaps c.device-2.result.now.memory c.offer.new.self (Ok x) c.reap.new.self in
     let refused : DriverFault → Type 0 = λ x. Reaps c.device-2.result.now.memory c.offer.new.self (Err x) c.reap.new.self in
-    answered_at g.D.Disk.state g.D.Disk.makes c.args.guest c.args.board.now (with_device c.serve.new.board c.args.guest c.device-2.result.now) d j c.args.self.now _ c.args.readable.now c.args.writable _ at place (touches_after g.D.Disk.state g.D.Disk.makes c.args.guest c.args.board.now c.serve.new.board c.offer.new.device c.device-2.result.now c.requires.calm c.serve.ensures.touches) (λ d' j' at' place' whole session steps few ready.
+    answered_at g.D.Disk.state c.args.guest c.args.board.now (with_device c.serve.new.board c.args.guest c.device-2.result.now) d j c.args.self.now _ c.args.readable.now c.args.writable _ at place (touches_after g.D.Disk.state c.args.guest c.args.board.now c.serve.new.board c.offer.new.device c.device-2.result.now c.requires.calm c.serve.ensures.touches) (λ d' j' at' place' whole session steps few ready.
     let n = c.args.guest in
     let b = c.args.board.now in
     let b2 = c.serve.new.board in
     let none : j ≡ None = ready.empty in
     let there = subst (λ o. IsReady n session steps (view_of d o c.args.self.now)) none ready in
     let same : d ≡ c.device.result.now = same_there (slice_get b.devices n) d c.device.result.now at c.device.ensures.device in
-    let came = comes g.D.Disk.state g.D.Disk.makes n b b2 d c.offer.new.device c.args.self.now.driver c.offer.new.self c.args.readable.now c.args.writable c.in-Ok.field-0 session steps c.args.self.now.places c.args.self.now.stuck (Ok served.Answered)
+    let came = comes g.D.Disk.state n b b2 d c.offer.new.device c.args.self.now.driver c.offer.new.self c.args.readable.now c.args.writable c.in-Ok.field-0 session steps c.args.self.now.places c.args.self.now.stuck (Ok served.Answered)
     at (place ∙ ap Some none) (subst serving c.in-Ok-Answered.field-0-is c.in-Ok-Answered.ensures.serves) (whole) c.requires.readable c.requires.writable c.requires.some few there
     (subst (λ (x : DeviceState). Offering x.memory c.args.self.now.driver c.args.readable.now c.args.writable (Ok c.in-Ok.field-0) c.offer.new.device.memory c.offer.new.self) (sym same) c.in-Ok.ensures.offering)
     (subst (λ (x : DeviceState). ButForMemory x c.offer.new.device) (sym same) c.in-Ok.ensures.rest) in
@@ -124,14 +128,14 @@ returns-in-Ok-None-clause-answer g c d j at place =
     let serving : Served → Type 0 = λ x. Where c.args.guest (λ y r y' r'. Serves c.args.guest y r (Ok x) y' r') (with_device c.args.board.now c.args.guest c.offer.new.device) c.serve.new.board in
     let reaped : Option Reaped → Type 0 = λ x. Reaps c.device-2.result.now.memory c.offer.new.self (Ok x) c.reap.new.self in
     let refused : DriverFault → Type 0 = λ x. Reaps c.device-2.result.now.memory c.offer.new.self (Err x) c.reap.new.self in
-    answered_at g.D.Disk.state g.D.Disk.makes c.args.guest c.args.board.now (with_device c.serve.new.board c.args.guest c.device-2.result.now) d j c.args.self.now _ c.args.readable.now c.args.writable _ at place (touches_after g.D.Disk.state g.D.Disk.makes c.args.guest c.args.board.now c.serve.new.board c.offer.new.device c.device-2.result.now c.requires.calm c.serve.ensures.touches) (λ d' j' at' place' whole session steps few ready.
+    answered_at g.D.Disk.state c.args.guest c.args.board.now (with_device c.serve.new.board c.args.guest c.device-2.result.now) d j c.args.self.now _ c.args.readable.now c.args.writable _ at place (touches_after g.D.Disk.state c.args.guest c.args.board.now c.serve.new.board c.offer.new.device c.device-2.result.now c.requires.calm c.serve.ensures.touches) (λ d' j' at' place' whole session steps few ready.
     let n = c.args.guest in
     let b = c.args.board.now in
     let b2 = c.serve.new.board in
     let none : j ≡ None = ready.empty in
     let there = subst (λ o. IsReady n session steps (view_of d o c.args.self.now)) none ready in
     let same : d ≡ c.device.result.now = same_there (slice_get b.devices n) d c.device.result.now at c.device.ensures.device in
-    let came = comes g.D.Disk.state g.D.Disk.makes n b b2 d c.offer.new.device c.args.self.now.driver c.offer.new.self c.args.readable.now c.args.writable c.in-Ok.field-0 session steps c.args.self.now.places c.args.self.now.stuck (Ok served.Answered)
+    let came = comes g.D.Disk.state n b b2 d c.offer.new.device c.args.self.now.driver c.offer.new.self c.args.readable.now c.args.writable c.in-Ok.field-0 session steps c.args.self.now.places c.args.self.now.stuck (Ok served.Answered)
     at (place ∙ ap Some none) (subst serving c.in-Ok-Answered.field-0-is c.in-Ok-Answered.ensures.serves) (whole) c.requires.readable c.requires.writable c.requires.some few there
     (subst (λ (x : DeviceState). Offering x.memory c.args.self.now.driver c.args.readable.now c.args.writable (Ok c.in-Ok.field-0) c.offer.new.device.memory c.offer.new.self) (sym same) c.in-Ok.ensures.offering)
     (subst (λ (x : DeviceState). ButForMemory x c.offer.new.device) (sym same) c.in-Ok.ensures.rest) in
@@ -144,14 +148,14 @@ returns-in-Err-BadUsed-reap-clause-answer g c d j at place =
     let serving : Served → Type 0 = λ x. Where c.args.guest (λ y r y' r'. Serves c.args.guest y r (Ok x) y' r') (with_device c.args.board.now c.args.guest c.offer.new.device) c.serve.new.board in
     let reaped : Option Reaped → Type 0 = λ x. Reaps c.device-2.result.now.memory c.offer.new.self (Ok x) c.reap.new.self in
     let refused : DriverFault → Type 0 = λ x. Reaps c.device-2.result.now.memory c.offer.new.self (Err x) c.reap.new.self in
-    answered_at g.D.Disk.state g.D.Disk.makes c.args.guest c.args.board.now (with_device c.serve.new.board c.args.guest c.device-2.result.now) d j c.args.self.now _ c.args.readable.now c.args.writable _ at place (touches_after g.D.Disk.state g.D.Disk.makes c.args.guest c.args.board.now c.serve.new.board c.offer.new.device c.device-2.result.now c.requires.calm c.serve.ensures.touches) (λ d' j' at' place' whole session steps few ready.
+    answered_at g.D.Disk.state c.args.guest c.args.board.now (with_device c.serve.new.board c.args.guest c.device-2.result.now) d j c.args.self.now _ c.args.readable.now c.args.writable _ at place (touches_after g.D.Disk.state c.args.guest c.args.board.now c.serve.new.board c.offer.new.device c.device-2.result.now c.requires.calm c.serve.ensures.touches) (λ d' j' at' place' whole session steps few ready.
     let n = c.args.guest in
     let b = c.args.board.now in
     let b2 = c.serve.new.board in
     let none : j ≡ None = ready.empty in
     let there = subst (λ o. IsReady n session steps (view_of d o c.args.self.now)) none ready in
     let same : d ≡ c.device.result.now = same_there (slice_get b.devices n) d c.device.result.now at c.device.ensures.device in
-    let came = comes g.D.Disk.state g.D.Disk.makes n b b2 d c.offer.new.device c.args.self.now.driver c.offer.new.self c.args.readable.now c.args.writable c.in-Ok.field-0 session steps c.args.self.now.places c.args.self.now.stuck (Ok served.Answered)
+    let came = comes g.D.Disk.state n b b2 d c.offer.new.device c.args.self.now.driver c.offer.new.self c.args.readable.now c.args.writable c.in-Ok.field-0 session steps c.args.self.now.places c.args.self.now.stuck (Ok served.Answered)
     at (place ∙ ap Some none) (subst serving c.in-Ok-Answered.field-0-is c.in-Ok-Answered.ensures.serves) (whole) c.requires.readable c.requires.writable c.requires.some few there
     (subst (λ (x : DeviceState). Offering x.memory c.args.self.now.driver c.args.readable.now c.args.writable (Ok c.in-Ok.field-0) c.offer.new.device.memory c.offer.new.self) (sym same) c.in-Ok.ensures.offering)
     (subst (λ (x : DeviceState). ButForMemory x c.offer.new.device) (sym same) c.in-Ok.ensures.rest) in
@@ -164,14 +168,14 @@ returns-in-Err-OutOfRange-reap-clause-answer g c d j at place =
     let serving : Served → Type 0 = λ x. Where c.args.guest (λ y r y' r'. Serves c.args.guest y r (Ok x) y' r') (with_device c.args.board.now c.args.guest c.offer.new.device) c.serve.new.board in
     let reaped : Option Reaped → Type 0 = λ x. Reaps c.device-2.result.now.memory c.offer.new.self (Ok x) c.reap.new.self in
     let refused : DriverFault → Type 0 = λ x. Reaps c.device-2.result.now.memory c.offer.new.self (Err x) c.reap.new.self in
-    answered_at g.D.Disk.state g.D.Disk.makes c.args.guest c.args.board.now (with_device c.serve.new.board c.args.guest c.device-2.result.now) d j c.args.self.now _ c.args.readable.now c.args.writable _ at place (touches_after g.D.Disk.state g.D.Disk.makes c.args.guest c.args.board.now c.serve.new.board c.offer.new.device c.device-2.result.now c.requires.calm c.serve.ensures.touches) (λ d' j' at' place' whole session steps few ready.
+    answered_at g.D.Disk.state c.args.guest c.args.board.now (with_device c.serve.new.board c.args.guest c.device-2.result.now) d j c.args.self.now _ c.args.readable.now c.args.writable _ at place (touches_after g.D.Disk.state c.args.guest c.args.board.now c.serve.new.board c.offer.new.device c.device-2.result.now c.requires.calm c.serve.ensures.touches) (λ d' j' at' place' whole session steps few ready.
     let n = c.args.guest in
     let b = c.args.board.now in
     let b2 = c.serve.new.board in
     let none : j ≡ None = ready.empty in
     let there = subst (λ o. IsReady n session steps (view_of d o c.args.self.now)) none ready in
     let same : d ≡ c.device.result.now = same_there (slice_get b.devices n) d c.device.result.now at c.device.ensures.device in
-    let came = comes g.D.Disk.state g.D.Disk.makes n b b2 d c.offer.new.device c.args.self.now.driver c.offer.new.self c.args.readable.now c.args.writable c.in-Ok.field-0 session steps c.args.self.now.places c.args.self.now.stuck (Ok served.Answered)
+    let came = comes g.D.Disk.state n b b2 d c.offer.new.device c.args.self.now.driver c.offer.new.self c.args.readable.now c.args.writable c.in-Ok.field-0 session steps c.args.self.now.places c.args.self.now.stuck (Ok served.Answered)
     at (place ∙ ap Some none) (subst serving c.in-Ok-Answered.field-0-is c.in-Ok-Answered.ensures.serves) (whole) c.requires.readable c.requires.writable c.requires.some few there
     (subst (λ (x : DeviceState). Offering x.memory c.args.self.now.driver c.args.readable.now c.args.writable (Ok c.in-Ok.field-0) c.offer.new.device.memory c.offer.new.self) (sym same) c.in-Ok.ensures.offering)
     (subst (λ (x : DeviceState). ButForMemory x c.offer.new.device) (sym same) c.in-Ok.ensures.rest) in
@@ -184,14 +188,14 @@ returns-in-Err-NoMemory-reap-clause-answer g c d j at place =
     let serving : Served → Type 0 = λ x. Where c.args.guest (λ y r y' r'. Serves c.args.guest y r (Ok x) y' r') (with_device c.args.board.now c.args.guest c.offer.new.device) c.serve.new.board in
     let reaped : Option Reaped → Type 0 = λ x. Reaps c.device-2.result.now.memory c.offer.new.self (Ok x) c.reap.new.self in
     let refused : DriverFault → Type 0 = λ x. Reaps c.device-2.result.now.memory c.offer.new.self (Err x) c.reap.new.self in
-    answered_at g.D.Disk.state g.D.Disk.makes c.args.guest c.args.board.now (with_device c.serve.new.board c.args.guest c.device-2.result.now) d j c.args.self.now _ c.args.readable.now c.args.writable _ at place (touches_after g.D.Disk.state g.D.Disk.makes c.args.guest c.args.board.now c.serve.new.board c.offer.new.device c.device-2.result.now c.requires.calm c.serve.ensures.touches) (λ d' j' at' place' whole session steps few ready.
+    answered_at g.D.Disk.state c.args.guest c.args.board.now (with_device c.serve.new.board c.args.guest c.device-2.result.now) d j c.args.self.now _ c.args.readable.now c.args.writable _ at place (touches_after g.D.Disk.state c.args.guest c.args.board.now c.serve.new.board c.offer.new.device c.device-2.result.now c.requires.calm c.serve.ensures.touches) (λ d' j' at' place' whole session steps few ready.
     let n = c.args.guest in
     let b = c.args.board.now in
     let b2 = c.serve.new.board in
     let none : j ≡ None = ready.empty in
     let there = subst (λ o. IsReady n session steps (view_of d o c.args.self.now)) none ready in
     let same : d ≡ c.device.result.now = same_there (slice_get b.devices n) d c.device.result.now at c.device.ensures.device in
-    let came = comes g.D.Disk.state g.D.Disk.makes n b b2 d c.offer.new.device c.args.self.now.driver c.offer.new.self c.args.readable.now c.args.writable c.in-Ok.field-0 session steps c.args.self.now.places c.args.self.now.stuck (Ok served.Answered)
+    let came = comes g.D.Disk.state n b b2 d c.offer.new.device c.args.self.now.driver c.offer.new.self c.args.readable.now c.args.writable c.in-Ok.field-0 session steps c.args.self.now.places c.args.self.now.stuck (Ok served.Answered)
     at (place ∙ ap Some none) (subst serving c.in-Ok-Answered.field-0-is c.in-Ok-Answered.ensures.serves) (whole) c.requires.readable c.requires.writable c.requires.some few there
     (subst (λ (x : DeviceState). Offering x.memory c.args.self.now.driver c.args.readable.now c.args.writable (Ok c.in-Ok.field-0) c.offer.new.device.memory c.offer.new.self) (sym same) c.in-Ok.ensures.offering)
     (subst (λ (x : DeviceState). ButForMemory x c.offer.new.device) (sym same) c.in-Ok.ensures.rest) in
@@ -199,3 +203,47 @@ returns-in-Err-NoMemory-reap-clause-answer g c d j at place =
     inr (unfetched c.offer.new.device came.device c.offer.new.self (runner_of b) (runner_of b2) c.args.readable.now c.args.writable c.in-Ok.field-0 came.last n session
     (ap (λ (x : DeviceState). x.guest) (subst (λ (x : DeviceState). ButForMemory x c.offer.new.device) (sym same) c.in-Ok.ensures.rest) ∙ there.named)
     (ap (λ (x : DeviceState). x.session) (subst (λ (x : DeviceState). ButForMemory x c.offer.new.device) (sym same) c.in-Ok.ensures.rest) ∙ there.current) came.by))
+
+pub returns-in-Ok-Stopped-clause-passes : goal.returns-in-Ok-Stopped-clause-passes
+returns-in-Ok-Stopped-clause-passes g c = passes_between g.D.Disk.state g.D.Disk.makes c.args.guest (max 1 c.args.self.now.places) c.args.board.now c.serve.new.board c.offer.new.device c.serve.ensures.passes
+
+pub returns-in-Ok-Nothing-clause-passes : goal.returns-in-Ok-Nothing-clause-passes
+returns-in-Ok-Nothing-clause-passes g c = passes_between g.D.Disk.state g.D.Disk.makes c.args.guest (max 1 c.args.self.now.places) c.args.board.now c.serve.new.board c.offer.new.device c.serve.ensures.passes
+
+pub returns-in-Err-clause-passes : goal.returns-in-Err-clause-passes
+returns-in-Err-clause-passes g c = passes_between g.D.Disk.state g.D.Disk.makes c.args.guest (max 1 c.args.self.now.places) c.args.board.now c.serve.new.board c.offer.new.device c.serve.ensures.passes
+
+pub returns-in-Ok-Some-clause-passes : goal.returns-in-Ok-Some-clause-passes
+returns-in-Ok-Some-clause-passes g c =
+    passes_lent g.D.Disk.state g.D.Disk.makes c.args.guest (max 1 c.args.self.now.places) c.args.board.now c.serve.new.board c.device-2.result.now
+    (passes_between g.D.Disk.state g.D.Disk.makes c.args.guest (max 1 c.args.self.now.places) c.args.board.now c.serve.new.board c.offer.new.device c.serve.ensures.passes)
+
+pub returns-in-Ok-None-clause-passes : goal.returns-in-Ok-None-clause-passes
+returns-in-Ok-None-clause-passes g c =
+    passes_lent g.D.Disk.state g.D.Disk.makes c.args.guest (max 1 c.args.self.now.places) c.args.board.now c.serve.new.board c.device-2.result.now
+    (passes_between g.D.Disk.state g.D.Disk.makes c.args.guest (max 1 c.args.self.now.places) c.args.board.now c.serve.new.board c.offer.new.device c.serve.ensures.passes)
+
+pub returns-in-Err-BadUsed-reap-clause-passes : goal.returns-in-Err-BadUsed-reap-clause-passes
+returns-in-Err-BadUsed-reap-clause-passes g c =
+    passes_lent g.D.Disk.state g.D.Disk.makes c.args.guest (max 1 c.args.self.now.places) c.args.board.now c.serve.new.board c.device-2.result.now
+    (passes_between g.D.Disk.state g.D.Disk.makes c.args.guest (max 1 c.args.self.now.places) c.args.board.now c.serve.new.board c.offer.new.device c.serve.ensures.passes)
+
+pub returns-in-Err-NoMemory-reap-clause-passes : goal.returns-in-Err-NoMemory-reap-clause-passes
+returns-in-Err-NoMemory-reap-clause-passes g c =
+    passes_lent g.D.Disk.state g.D.Disk.makes c.args.guest (max 1 c.args.self.now.places) c.args.board.now c.serve.new.board c.device-2.result.now
+    (passes_between g.D.Disk.state g.D.Disk.makes c.args.guest (max 1 c.args.self.now.places) c.args.board.now c.serve.new.board c.offer.new.device c.serve.ensures.passes)
+
+pub returns-in-Err-OutOfRange-reap-clause-passes : goal.returns-in-Err-OutOfRange-reap-clause-passes
+returns-in-Err-OutOfRange-reap-clause-passes g c =
+    passes_lent g.D.Disk.state g.D.Disk.makes c.args.guest (max 1 c.args.self.now.places) c.args.board.now c.serve.new.board c.device-2.result.now
+    (passes_between g.D.Disk.state g.D.Disk.makes c.args.guest (max 1 c.args.self.now.places) c.args.board.now c.serve.new.board c.offer.new.device c.serve.ensures.passes)
+
+pub returns-in-Err-NoRoom-clause-passes : goal.returns-in-Err-NoRoom-clause-passes
+returns-in-Err-NoRoom-clause-passes g c =
+    passes_lent g.D.Disk.state g.D.Disk.makes c.args.guest (max 1 c.args.self.now.places) c.args.board.now c.args.board.now c.offer.new.device
+    (passes_more g.D.Disk.state g.D.Disk.makes c.args.guest 0 (max 1 c.args.self.now.places) c.args.board.now c.args.board.now (omega arith) (passes_none g.D.Disk.state g.D.Disk.makes c.args.guest c.args.board.now))
+
+pub returns-in-Err-OutOfRange-clause-passes : goal.returns-in-Err-OutOfRange-clause-passes
+returns-in-Err-OutOfRange-clause-passes g c =
+    passes_lent g.D.Disk.state g.D.Disk.makes c.args.guest (max 1 c.args.self.now.places) c.args.board.now c.args.board.now c.offer.new.device
+    (passes_more g.D.Disk.state g.D.Disk.makes c.args.guest 0 (max 1 c.args.self.now.places) c.args.board.now c.args.board.now (omega arith) (passes_none g.D.Disk.state g.D.Disk.makes c.args.guest c.args.board.now))

@@ -4,10 +4,10 @@ use Rattle.host.proofs.host.Host.new.Goals as goal
 pub invariant_of-result : goal.invariant_of-result
 invariant_of-result g c =
     let config = c.args.config.now in (
-      calm_started g.D.Disk.state config c.args.board c.requires.opened c.fronts_of.new.board c.in_ok-fronts.fronts.items c.in_ok-fronts.ensures.board c.in_ok-fronts.ensures.fronts,
-      many_started g.D.Disk.state config c.args.board c.requires.opened c.fronts_of.new.board c.in_ok-fronts.fronts.items c.in_ok-fronts.ensures.board c.in_ok-fronts.ensures.fronts,
+      calm_started g.D.Disk.state config c.args.board c.requires.opened c.fronts_of.new.board c.in-Ok.fronts.items c.in-Ok.ensures.board c.in-Ok.ensures.fronts,
+      many_started g.D.Disk.state config c.args.board c.requires.opened c.fronts_of.new.board c.in-Ok.fronts.items c.in-Ok.ensures.board c.in-Ok.ensures.fronts,
     )
 
-pub returns : goal.returns
-returns g c =
-    first_host g.D.Disk.state c.args.config.now c.args.board c.requires.opened c.fronts_of.new.board c.in_ok-fronts.fronts.items c.in_ok-fronts.ensures.board c.in_ok-fronts.ensures.fronts c.in_ok-fronts.ensures.in_range
+pub returns-in-Ok-clause-first : goal.returns-in-Ok-clause-first
+returns-in-Ok-clause-first g c =
+    first_host g.D.Disk.state c.args.config.now c.args.board c.requires.opened c.fronts_of.new.board c.in-Ok.fronts.items c.in-Ok.ensures.board c.in-Ok.ensures.fronts c.in-Ok.ensures.in_range

@@ -1,10 +1,12 @@
-use Rattle.std.proofs.Common.{◌≡◌, ◌<◌, inl, Some, Ok, Err, length, set, sym, ap, ap₂, ◌∙◌, subst, arith, length-set}
+use Rattle.std.proofs.Common.{◌≡◌, ◌<◌, false, Some, Ok, Err, length, set, sym, ap, ap₂, ◌∙◌, subst, arith, length-set}
 use Rattle.std.specs.Prelude.{slice_get}
 use Rattle.host.specs.Calm.{IsCalm, is_broken}
 use Rattle.host.specs.Guest.{device_after_reset, front_after_reset, with_device}
-use Rattle.host.specs.Host.{AreReady, HostResetsGuest, HostState, IsReset, Keeps, seen}
+use Rattle.host.specs.Host.{AreReady, HostResetsGuest, HostState, IsReset, seen}
 use Rattle.host.specs.declared.fault.HostFault.TheVariants.{Foreign}
 use Rattle.host.proofs.Fronts.{touches_lent}
+use Rattle.host.specs.Moving.{Moves}
+use Rattle.host.proofs.Moving.{moves_none}
 use Rattle.host.proofs.Hosts.{length_views}
 use Rattle.host.proofs.Seen.{front_there, no_reset, reset_host, reset_ready, stands}
 use Rattle.host.proofs.host.Host.reset.Goals as goal
@@ -27,7 +29,7 @@ invariant_of-self g c =
     let there : slice_get fs n ≡ Some front = subst (λ k. slice_get fs k ≡ Some front) c.from-at.ensures (front_there fs c.from-at.result front inside c.index_mut.ensures.value) in
     let s = stands g.D.Disk.state before n front c.self.invariant.0 c.self.invariant.1 there in
     let board = c.reset.ensures.board s.device s.at in
-    let lent = touches_lent g.D.Disk.state g.D.Disk.makes n i.board (device_after_reset s.device front) c.self.invariant.0 in (
+    let lent = touches_lent g.D.Disk.state n i.board (device_after_reset s.device front) c.self.invariant.0 in (
       subst (IsCalm g.D.Disk.state) (sym board) lent.calm,
       length-set fs c.from-at.result c.reset.new.self ∙ c.self.invariant.1 ∙ sym (ap (λ b. length b.devices) board ∙ lent.many),
     )
@@ -48,7 +50,7 @@ returns-clause-guest g c =
     ap (λ b. (let r : HostState g.row.D.Denot = record { board = b; fronts = set fs n (front_after_reset front) } in r)) (sym board)
     ∙ ap₂ (λ k f. (let r : HostState g.row.D.Denot = record { board = c.reset.new.board; fronts = set fs k f } in r)) (sym c.from-at.ensures) (sym c.reset.ensures.front) in
     subst (λ h. HostResetsGuest (seen h) n (Ok tt) (seen after)) c.self.view_is
-    (subst (λ h. HostResetsGuest (seen before) n (Ok tt) (seen h)) is (reset_host g.D.Disk.state g.D.Disk.makes before n front s))
+    (subst (λ h. HostResetsGuest (seen before) n (Ok tt) (seen h)) is (reset_host g.D.Disk.state before n front s))
 
 pub returns-clause-ready : goal.returns-clause-ready
 returns-clause-ready g c steps sessions few are =
@@ -70,7 +72,7 @@ returns-clause-ready g c steps sessions few are =
     ∙ ap₂ (λ k f. (let r : HostState g.row.D.Denot = record { board = c.reset.new.board; fronts = set fs k f } in r)) (sym at_is) (sym c.reset.ensures.front) in
     let ready = subst (λ h. AreReady steps sessions (seen h).guests) (sym c.self.view_is) are in
     subst (λ h. IsReset steps sessions (seen h) n (seen after)) c.self.view_is
-    (subst (λ h. IsReset steps sessions (seen before) n (seen h)) is (reset_ready g.D.Disk.state g.D.Disk.makes before n front s steps sessions (omega (arith, long, many, inside, at_is)) few ready))
+    (subst (λ h. IsReset steps sessions (seen before) n (seen h)) is (reset_ready g.D.Disk.state before n front s steps sessions (omega (arith, long, many, inside, at_is)) few ready))
 
 pub returns-clause-keeps : goal.returns-clause-keeps
 returns-clause-keeps g c =
@@ -84,4 +86,10 @@ returns-clause-keeps g c =
     let s = stands g.D.Disk.state before n front c.self.invariant.0 c.self.invariant.1 there in
     let board = c.reset.ensures.board s.device s.at in
     let same = ap is_broken board in
-    subst (λ h. Keeps g.D.Disk.makes h.board c.reset.new.board) c.self.view_is (record { whole = λ whole. sym same ∙ whole; cause = λ broken. inl (sym same ∙ broken) })
+    subst (λ h. is_broken c.reset.new.board ≡ false → is_broken h.board ≡ false) c.self.view_is (λ whole. sym same ∙ whole)
+
+pub returns-then-at-len-clause-moves : goal.returns-then-at-len-clause-moves
+returns-then-at-len-clause-moves g c = subst (λ h. Moves g.D.Disk.state g.D.Disk.makes h.board h.board) c.self.view_is (moves_none g.D.Disk.state g.D.Disk.makes c.self.inside.board)
+
+pub returns-clause-moves : goal.returns-clause-moves
+returns-clause-moves g c = subst (λ h. Moves g.D.Disk.state g.D.Disk.makes h.board c.reset.new.board) c.self.view_is c.reset.ensures.moves

@@ -1,0 +1,317 @@
+-- What one step of a board does to its disk, and what steps one after another do.
+use Rattle.std.proofs.Common.{◌≡◌, ◌≤◌, ◌<◌, ◌⊎◌, ◌+◌, ◌^◌, inl, inr, ℕ, zero, suc, Bool, true, false, List, Option, Some, None, Result, Ok, Err, length, refl, ap, sym, subst, ◌∙◌, arith, length-set}
+use Rattle.std.specs.Prelude.{position, slice_get, slice_set}
+use Rattle.std.specs.List.{list_any}
+use Rattle.std.proofs.lemmas.Option.{slice_get_within}
+use Rattle.rpmb_frame.specs.Request.{Request}
+use Rattle.rpmb_frame.specs.Partition.{Partition}
+use Rattle.rpmb_frame.specs.declared.config.GuestConfig.{GuestConfig}
+use Rattle.disk.specs.Disk.{Counts, DiskCall, DiskState, Effect, HasRisen, Read, Still, Sync, Within, Write, is_success}
+use Rattle.disk.proofs.Ways.{within_both, within_weaker}
+use Rattle.intent_slots.specs.Payload.{Intent}
+use Rattle.intent_slots.specs.Recovered.{Part}
+use Rattle.flusher.specs.declared.guest.Guest.{Guest}
+use Rattle.flusher.specs.declared.progress.Progress.{Progress}
+use Rattle.flusher.specs.declared.progress.StoreFault.{StoreFault}
+use Rattle.flusher.specs.Round.{MovedBy, Round, plan_at, planned, settles}
+use Rattle.flusher.specs.Slot.{guest_after_sync, guest_awaits, guest_has_write, mark_of}
+use Rattle.flusher.specs.Store.{is_free}
+use Rattle.flusher.proofs.Endings.{round_badly, round_well}
+use Rattle.mmio_transport.specs.Device.{DeviceState}
+use Rattle.mmio_transport.specs.Job.{Job, Done}
+use Rattle.rpmb_book.specs.Book.{state}
+use Rattle.rpmb_book.specs.Job.{Tally}
+use Rattle.rpmb_book.proofs.IsolationLemmas.{by_test}
+use Rattle.board.specs.Board.{IsLinkedBoard, IsSound, LeavesPrefixes, StaysLinked, accepted_after, answered, marks_in}
+use Rattle.board.specs.State.{BoardState, in_place}
+use Rattle.board.specs.Steps.{AdvancesUnder, Answer, CollectsInto, Does, Drives, GivesWhere, PopsInto, PublishesFrom, SettlesBy, SubmitsFrom, TakesInto}
+use Rattle.board.specs.declared.step.Act.{Act}
+use Rattle.board.specs.declared.step.Report.{Report}
+use Rattle.board.specs.declared.step.Report.TheVariants.{Marks, Fault}
+use Rattle.board.specs.declared.step.Step.{Step}
+use Rattle.board.specs.declared.step.Step.TheVariants as step
+use Rattle.board.proofs.Linked.{drives_linked}
+use Rattle.board.proofs.Prefixes.{leaves_now}
+use Rattle.board.proofs.Stays.{in_book}
+use Rattle.host.specs.Guest.{with_device}
+use Rattle.host.specs.Moving.{Moves}
+use Rattle.host.proofs.Prefixes.{accepted_goes, given_rise, goes_none, goes_twice, leaves_longer, marks_rise, sync_rises}
+
+-- two clauses of a step
+abbrev pub LinksBy : {D : Type 0} → (D → DiskState) → Step → Answer → BoardState D → BoardState D → Type 0
+LinksBy shows s answer old new = (config : List GuestConfig) (bases : ℕ → Partition) (accepted : ℕ → List Request) (parts : ℕ → Part) → IsLinkedBoard shows config bases accepted parts old
+    → StaysLinked shows config bases (accepted_after s answer old accepted) new
+
+abbrev pub KeepsPrefixes : {D : Type 0} → (D → DiskState) → (D → DiskCall → D → Type 0) → BoardState D → BoardState D → Type 0
+KeepsPrefixes shows makes old new = (config : List GuestConfig) (bases : ℕ → Partition) (accepted : ℕ → List Request) (parts : ℕ → Part) → IsLinkedBoard shows config bases accepted parts old
+    → (shows old.store.disk).faithful ≡ true → Within shows makes (LeavesPrefixes config bases accepted (marks_in old)) old.store.disk new.store.disk
+
+-- 1. One call of the disk
+
+counts_of : (a b : DiskState) (call : DiskCall) → Effect a call b → Counts (is_success call) a b
+counts_of a b (Read ok) e = e.counts
+counts_of a b (Write at bytes ok) e = e.counts
+counts_of a b (Sync ok) e = e.counts
+
+-- What moved of a board but for the requests of its guests.
+pub record Goes {D : Type 0} (shows : D → DiskState) (old new : BoardState D) : Type 0 where
+  pub len : (shows new.store.disk).len ≡ (shows old.store.disk).len
+  pub faithful : (shows new.store.disk).faithful ≡ (shows old.store.disk).faithful
+  pub later : (shows old.store.disk).failures ≤ (shows new.store.disk).failures
+  pub whole : new.store.broken ≡ false → old.store.broken ≡ false
+  pub cause : new.store.broken ≡ true → (old.store.broken ≡ true) ⊎ HasRisen (shows old.store.disk).failures (shows new.store.disk).failures
+  pub marks : (g : ℕ) → marks_in old g ≤ marks_in new g
+
+-- the disk's length and failures after a call of it, or none
+pub record Shown (old new : DiskState) : Type 0 where
+  pub len : new.len ≡ old.len
+  pub faithful : new.faithful ≡ old.faithful
+  pub later : old.failures ≤ new.failures
+
+shown_still : (s : DiskState) → Shown s s
+shown_still s = record { len = refl; faithful = refl; later = omega arith }
+
+module _ {D : Type 0} (shows : D → DiskState) (makes : D → DiskCall → D → Type 0) (effect : (a b : D) (call : DiskCall) → makes a call b → Effect (shows a) call (shows b)) where
+  shown_call : (a b : D) (call : DiskCall) → makes a call b → Shown (shows a) (shows b)
+  shown_call a b call made = (let c = counts_of (shows a) (shows b) call (effect a b call made) in record { len = c.len; faithful = c.faithful; later = c.later })
+
+  shown_round : (o : Option ℕ) (w : Bool) (od : D) (old : List Guest) (result : Result Progress StoreFault) (nd : D) (new : List Guest) (broken : Bool) → Round makes (plan_at o w) od old result nd new broken → Shown (shows od) (shows nd)
+  shown_round (Some g) w od old result nd new broken r = shown_call od nd (Write r.wrote.at r.wrote.bytes r.ok) r.wrote.call
+  shown_round None true od old result nd new broken r = shown_call od nd (Sync r.ok) r.synced.call
+  shown_round None false od old result nd new broken r = subst (λ d. Shown (shows od) (shows d)) (sym r.1) (shown_still (shows od))
+
+  failed_round : (p : Result Progress StoreFault) (od : D) (old : List Guest) (nd : D) (new : List Guest) (broken : Bool) → Round makes (planned old) od old p nd new broken → broken ≡ true → HasRisen (shows od).failures (shows nd).failures
+  failed_round (Ok p) od old nd new broken r is = absurd (let no = round_well makes od nd old new p broken r in cc)
+  failed_round (Err e) od old nd new broken r is =
+      let bad = (round_badly makes od nd old new e broken r).1 in
+      (counts_of (shows od) (shows nd) bad.call (effect od nd bad.call bad.made)).cause bad.failed
+
+  -- 2. Each step
+
+  module _ (old : BoardState D) (sound : IsSound shows old) where
+    still : (new to : BoardState D) → new ≡ to → to.store ≡ old.store → Goes shows old new
+    still new to is same = back (ap (λ v. v.store) is ∙ same)
+      where
+        back : new.store ≡ old.store → Goes shows old new
+        back stays = record {
+          len = ap (λ s. (shows s.disk).len) stays;
+          faithful = ap (λ s. (shows s.disk).faithful) stays;
+          later = (let count = ap (λ s. (shows s.disk).failures) stays in omega (arith, count));
+          whole = λ whole. sym (ap (λ s. s.broken) stays) ∙ whole;
+          cause = λ broken. inl (sym (ap (λ s. s.broken) stays) ∙ broken);
+          marks = λ g. (let b : marks_in new g ≡ marks_in old g = ap (λ s. marks_in (record old { store = s }) g) stays in omega (arith, b));
+        }
+
+    moved_up : (s : Bool) (g : ℕ) (y z : Guest) → slice_get old.store.guests g ≡ Some y → MovedBy s y z → mark_of y ≤ mark_of z
+    moved_up true g y z at is =
+        let ok = sound.linked in
+        let below = slice_get_within old.store.guests g y at in
+        let held = ok.held in
+        let x = in_book shows sound.config sound.bases sound.accepted sound.parts old ok g (omega (arith, below, held)) in
+        let t = ok.each g x.0 x.1 in
+        let there = t.in_store in
+        let same : t.stored ≡ y = cc in
+        let up = sync_rises g (sound.bases g) (sound.accepted g) (sound.parts g) x.0 t.stored t.intent t.board t.link in
+        let last : mark_of z ≡ mark_of (guest_after_sync t.stored) = ap mark_of is ∙ ap (λ v. mark_of (guest_after_sync v)) (sym same) in
+        let first = ap mark_of same in
+        omega (arith, up, last, first)
+    moved_up false g y z at (inl is) = (let same = ap mark_of is in omega (arith, same))
+    moved_up false g y z at (inr is) = (let same : mark_of z ≡ mark_of y = ap mark_of is in omega (arith, same))
+
+    drive_goes : (g : ℕ) (act : Act) (answer : Answer) (new : BoardState D) (o : Option DeviceState) → Drives g act o answer old new → Goes shows old new
+    drive_goes g act answer new None does = still new old does.1 refl
+    drive_goes g act answer new (Some d) does = still new _ does.after refl
+
+    pop_goes : (g : ℕ) (answer : Answer) (new : BoardState D) (place : Option (Option Job)) (o : Option DeviceState) → PopsInto g place o answer old new → Goes shows old new
+    pop_goes g answer new None o does = still new old does.1 refl
+    pop_goes g answer new (Some (Some job)) o does = still new old does.1 refl
+    pop_goes g answer new (Some None) None does = still new old does.1 refl
+    pop_goes g answer new (Some None) (Some d) does = still new _ does.after refl
+
+    publish_goes : (g : ℕ) (answer : Answer) (new : BoardState D) (done : Option Done) (o : Option DeviceState) → PublishesFrom g done o answer old new → Goes shows old new
+    publish_goes g answer new reply None does = still new old does.1 refl
+    publish_goes g answer new None (Some d) does = still new old does.1 refl
+    publish_goes g answer new (Some r) (Some d) does = still new _ does.after refl
+
+    submit_goes : (g : ℕ) (answer : Answer) (new : BoardState D) (job : Option Job) (tally : Option Tally) → SubmitsFrom g job tally answer old new → Goes shows old new
+    submit_goes g answer new job None does = still new old does.1 refl
+    submit_goes g answer new None (Some tally) does = still new old does.1 refl
+    submit_goes g answer new (Some job) (Some tally) does = elim does [
+      | inl went ↦ still new _ went.2 refl
+      | inr refused ↦ still new old refused.1 refl
+    ]
+
+    collect_goes : (g : ℕ) (answer : Answer) (new : BoardState D) (place : Option (Option Done)) → CollectsInto g place answer old new → Goes shows old new
+    collect_goes g answer new None does = still new old does.1 refl
+    collect_goes g answer new (Some (Some r)) does = still new old does.1 refl
+    collect_goes g answer new (Some None) does = still new _ does.1 refl
+
+    take_goes : (g : ℕ) (answer : Answer) (new : BoardState D) (place : Option (Option Intent)) → TakesInto g place answer old new → Goes shows old new
+    take_goes g answer new None does = still new old does.1 refl
+    take_goes g answer new (Some (Some i)) does = still new old does.1 refl
+    take_goes g answer new (Some None) does = still new _ does.1 refl
+
+    give_goes : (g : ℕ) (answer : Answer) (new : BoardState D) (free : Bool) (intent : Option Intent) → GivesWhere g free intent answer old new → Goes shows old new
+    give_goes g answer new false intent does = still new old does.1 refl
+    give_goes g answer new true None does = still new old does.1 refl
+    give_goes g answer new true (Some i) does = subst (Goes shows old) (sym does.1) (record {
+      len = refl;
+      faithful = refl;
+      later = omega arith;
+      whole = λ whole. whole;
+      cause = λ broken. inl broken;
+      marks = λ k. given_rise old.store.guests i k;
+    })
+
+    advance_goes : (answer : Answer) (new : BoardState D) (report : Option Report) → AdvancesUnder shows makes report answer old new → Goes shows old new
+    advance_goes answer new (Some r) does = still new old does.1 refl
+    advance_goes answer new None does = by_test old.store.broken
+        (λ broken. still new _ does.after (does.refused broken).1)
+        (λ whole. called whole)
+      where
+        called : old.store.broken ≡ false → Goes shows old new
+        called whole =
+            let round = does.round whole in
+            let d = shown_round (position guest_has_write old.store.guests) (list_any guest_awaits old.store.guests) old.store.disk old.store.guests does.progress does.store.disk does.store.guests does.store.broken round in
+            subst (Goes shows old) (sym does.after) (record {
+              len = d.len;
+              faithful = d.faithful;
+              later = d.later;
+              whole = λ now. whole;
+              cause = λ broken. inr (failed_round does.progress old.store.disk old.store.guests does.store.disk does.store.guests does.store.broken round broken);
+              marks = λ g. marks_rise old.store.guests does.store.guests does.moves.count (λ k y z at there. moved_up (settles does.progress) k y z at (does.moves.each k y z at there)) g;
+            })
+
+    settle_goes : (answer : Answer) (new : BoardState D) (report : Option Report) → SettlesBy report answer old new → Goes shows old new
+    settle_goes answer new None does = still new old does.1 refl
+    settle_goes answer new (Some (Marks marks)) does = still new _ does.1 refl
+    settle_goes answer new (Some Fault) does = still new _ does.1 refl
+
+    does_goes : (s : Step) (answer : Answer) (new : BoardState D) → Does shows makes s answer old new → Goes shows old new
+    does_goes (step.Drive g act) answer new does = drive_goes g act answer new (slice_get old.devices g) does
+    does_goes (step.Pop g) answer new does = pop_goes g answer new (slice_get old.jobs g) (slice_get old.devices g) does
+    does_goes (step.Submit g) answer new does = submit_goes g answer new (in_place (slice_get old.jobs g)) (slice_get old.tallies g) does
+    does_goes (step.Collect g) answer new does = collect_goes g answer new (slice_get old.dones g) does
+    does_goes (step.Publish g) answer new does = publish_goes g answer new (in_place (slice_get old.dones g)) (slice_get old.devices g) does
+    does_goes (step.Take g) answer new does = take_goes g answer new (slice_get old.intents g) does
+    does_goes (step.Give g) answer new does = give_goes g answer new (is_free old.store.guests g) (in_place (slice_get old.intents g)) does
+    does_goes step.Advance answer new does = advance_goes answer new old.report does
+    does_goes step.Settle answer new does = settle_goes answer new old.report does
+
+  -- 3. What a board moves by
+
+  -- one step, by its clauses
+  pub step_moves : (s : Step) (answer : Answer) (old new : BoardState D) → IsSound shows old → Does shows makes s answer old new → LinksBy shows s answer old new → KeepsPrefixes shows makes old new → Moves shows makes old new
+  step_moves s answer old new sound does linked moments =
+      let go = does_goes old sound s answer new does in
+      record {
+        len = go.len;
+        faithful = go.faithful;
+        later = go.later;
+        whole = go.whole;
+        cause = go.cause;
+        marks = go.marks;
+        reaches = λ config bases accepted was. (
+            let more = accepted_goes (state old.book) (answered s answer old) accepted in record {
+              now = accepted_after s answer old accepted;
+              more = more;
+              linked = linked config bases accepted was.parts was.linked;
+              moments = λ known. within_weaker shows makes (LeavesPrefixes config bases accepted (marks_in old)) (LeavesPrefixes config bases (accepted_after s answer old accepted) (marks_in old)) old.store.disk new.store.disk
+                  (λ moment. leaves_longer config bases accepted (accepted_after s answer old accepted) (marks_in old) (marks_in old) moment more (λ g. omega arith)) (moments config bases accepted was.parts was.linked known);
+            });
+      }
+
+-- where nothing but devices and jobs changed, as many as they were
+pub still_moves : {D : Type 0} (shows : D → DiskState) (makes : D → DiskCall → D → Type 0) (old : BoardState D) (devices' : List DeviceState) (jobs' : List (Option Job)) → length devices' ≡ length old.devices → length jobs' ≡ length old.jobs
+    → Moves shows makes old (record old { devices = devices'; jobs = jobs' })
+still_moves shows makes old devices' jobs' many wide = record {
+  len = refl;
+  faithful = refl;
+  later = omega arith;
+  whole = λ whole. whole;
+  cause = λ broken. inl broken;
+  marks = λ g. omega arith;
+  reaches = λ config bases accepted was. record {
+    now = accepted;
+    more = goes_none accepted;
+    linked = record {
+      parts = was.parts;
+      linked = drives_linked shows config bases accepted was.parts old was.linked devices' jobs' (many ∙ was.linked.places.devices) (wide ∙ was.linked.places.jobs);
+    };
+    moments = λ known. Still old.store.disk (leaves_now shows config bases accepted was.parts old was.linked known);
+  };
+}
+
+-- a device that was lent
+pub lent_moves : {D : Type 0} (shows : D → DiskState) (makes : D → DiskCall → D → Type 0) (g : ℕ) (b : BoardState D) (d : DeviceState) → Moves shows makes b (with_device b g d)
+lent_moves shows makes g b d = still_moves shows makes b (slice_set b.devices g d) b.jobs (length-set b.devices g d) refl
+
+pub moves_none : {D : Type 0} (shows : D → DiskState) (makes : D → DiskCall → D → Type 0) (b : BoardState D) → Moves shows makes b b
+moves_none shows makes b = still_moves shows makes b b.devices b.jobs refl refl
+
+below_or_not : (a c : ℕ) → (a < c) ⊎ (c ≤ a)
+below_or_not a zero = inr (omega arith)
+below_or_not zero (suc c) = inl (omega arith)
+below_or_not (suc a) (suc c) = elim (below_or_not a c) [
+  | inl less ↦ inl (omega (arith, less))
+  | inr not ↦ inr (omega (arith, not))
+]
+
+-- a count at its end stands at it from before, or rose
+ended : (most a b c : ℕ) → a ≤ b → b ≤ c → most ≤ b + 1 → (a < c) ⊎ (most ≤ a + 1)
+ended most a b c first second end = elim (below_or_not a c) [
+  | inl less ↦ inl less
+  | inr not ↦ inr (omega (arith, first, second, end, not))
+]
+
+-- one after another
+pub moves_twice : {D : Type 0} (shows : D → DiskState) (makes : D → DiskCall → D → Type 0) (a b c : BoardState D) → Moves shows makes a b → Moves shows makes b c → Moves shows makes a c
+moves_twice {D = D} shows makes a b c p q = record {
+  len = q.len ∙ p.len;
+  faithful = q.faithful ∙ p.faithful;
+  later = (let first = p.later in let second = q.later in omega (arith, first, second));
+  whole = λ whole. p.whole (q.whole whole);
+  cause = λ broken. from (q.cause broken);
+  marks = up;
+  reaches = λ config bases accepted was. (
+      let r = p.reaches config bases accepted was in
+      let s = q.reaches config bases r.now r.linked in record {
+        now = s.now;
+        more = goes_twice accepted r.now s.now r.more s.more;
+        linked = s.linked;
+        moments = λ known. within_both shows makes (LeavesPrefixes config bases r.now (marks_in a)) (LeavesPrefixes config bases s.now (marks_in b)) (LeavesPrefixes config bases s.now (marks_in a)) a.store.disk b.store.disk c.store.disk
+            (λ moment. leaves_longer config bases r.now s.now (marks_in a) (marks_in a) moment s.more (λ g. omega arith))
+            (λ moment. leaves_longer config bases s.now s.now (marks_in b) (marks_in a) moment (goes_none s.now) p.marks)
+            (r.moments known) (s.moments (p.faithful ∙ known));
+      });
+}
+  where
+    up : (g : ℕ) → marks_in a g ≤ marks_in c g
+    up g = (let first = p.marks g in let second = q.marks g in omega (arith, first, second))
+
+    risen : HasRisen (shows b.store.disk).failures (shows c.store.disk).failures → HasRisen (shows a.store.disk).failures (shows c.store.disk).failures
+    risen (inl more) = inl (let first = p.later in omega (arith, more, first))
+    risen (inr end) = ended (2 ^ 64) (shows a.store.disk).failures (shows b.store.disk).failures (shows c.store.disk).failures p.later q.later end
+
+    kept : HasRisen (shows a.store.disk).failures (shows b.store.disk).failures → HasRisen (shows a.store.disk).failures (shows c.store.disk).failures
+    kept (inl more) = inl (let second = q.later in omega (arith, more, second))
+    kept (inr end) = inr end
+
+    from : (b.store.broken ≡ true) ⊎ HasRisen (shows b.store.disk).failures (shows c.store.disk).failures → (a.store.broken ≡ true) ⊎ HasRisen (shows a.store.disk).failures (shows c.store.disk).failures
+    from (inr rose) = inr (risen rose)
+    from (inl broken) = elim (p.cause broken) [
+      | inl was ↦ inl was
+      | inr rose ↦ inr (kept rose)
+    ]
+
+-- what moved stays sound
+pub sound_moved : {D : Type 0} (shows : D → DiskState) (makes : D → DiskCall → D → Type 0) (a b : BoardState D) → IsSound shows a → Moves shows makes a b → IsSound shows b
+sound_moved shows makes a b s m =
+    let r = m.reaches s.config s.bases s.accepted (record { parts = s.parts; linked = s.linked }) in
+    record { config = s.config; bases = s.bases; accepted = r.now; parts = r.linked.parts; linked = r.linked.linked }
+
+-- a step more
+pub step_on : {D : Type 0} (shows : D → DiskState) (makes : D → DiskCall → D → Type 0) (effect : (a b : D) (call : DiskCall) → makes a call b → Effect (shows a) call (shows b)) (s : Step) (answer : Answer) (a b c : BoardState D)
+    → IsSound shows a → Moves shows makes a b → Does shows makes s answer b c → LinksBy shows s answer b c → KeepsPrefixes shows makes b c → Moves shows makes a c
+step_on shows makes effect s answer a b c sound moves does linked moments =
+    moves_twice shows makes a b c moves (step_moves shows makes effect s answer b c (sound_moved shows makes a b sound moves) does linked moments)

@@ -1,0 +1,149 @@
+-- Prefixes of requests that go on, and marks that rise.
+use Rattle.std.proofs.Common.{◌≡◌, ◌≤◌, ◌+◌, ℕ, zero, suc, Bool, true, false, List, [], ◌∷◌, ◌++◌, Option, Some, None, length, take, refl, ap, sym, ◌∙◌, arith, append_assoc, append-nil, length-append, length-set}
+use Rattle.std.specs.Prelude.{if◌then◌else◌, ◌==◌, drop, option_to_list, slice_get}
+use Rattle.std.proofs.lemmas.List.{length-drop, take-append-le}
+use Rattle.rpmb_frame.specs.Request.{Request}
+use Rattle.rpmb_frame.specs.Partition.{Partition, sequence}
+use Rattle.rpmb_frame.specs.declared.config.GuestConfig.{GuestConfig}
+use Rattle.rpmb_core.specs.Accept.{partition_after}
+use Rattle.rpmb_core.specs.Requests.{partition_after_all}
+use Rattle.disk.specs.Disk.{DiskState}
+use Rattle.intent_slots.specs.Payload.{Intent}
+use Rattle.intent_slots.specs.Recovered.{Part, part_of}
+use Rattle.flusher.specs.declared.guest.Guest.{Guest}
+use Rattle.flusher.specs.declared.phase.Phase.{Phase}
+use Rattle.flusher.specs.declared.phase.Phase.TheVariants.{Given, Written, Ready, Opening, Open, Applying, Applied, Closing}
+use Rattle.flusher.specs.declared.slot.Slot.{Slot}
+use Rattle.flusher.specs.Marks.{mark, marks_of}
+use Rattle.flusher.specs.Phase.{is_settled, synced}
+use Rattle.flusher.specs.Slot.{after_sync, guest_after_sync, in_phase, mark_of, pending_of, with_intent}
+use Rattle.flusher.specs.SlotInvariant.{guest_settled}
+use Rattle.flusher.specs.Store.{given, given_of}
+use Rattle.mmio_transport.specs.Job.{Job}
+use Rattle.rpmb_book.specs.Guest.{GuestState, accepts, request_of}
+use Rattle.rpmb_book.specs.Sound.{IsOfBoard}
+use Rattle.rpmb_book.specs.Turn.{State}
+use Rattle.board.specs.Board.{LeavesPrefixes, accepted_by, joined_when}
+use Rattle.board.specs.Link.{IsLinked, IsPrefix, due, intents_of}
+use Rattle.board.proofs.Links.{sync_links}
+use Rattle.host.specs.Moving.{GoOn}
+use Rattle.host.proofs.Same.{given_marks}
+
+-- 1. Requests that go on
+
+pub goes_none : (accepted : ℕ → List Request) → GoOn accepted accepted
+goes_none accepted g = ([], sym (append-nil (accepted g)))
+
+pub goes_twice : (a b c : ℕ → List Request) → GoOn a b → GoOn b c → GoOn a c
+goes_twice a b c first second g =
+    let p = first g in
+    let q = second g in
+    (p.0 ++ q.0, q.1 ∙ ap (λ l. l ++ q.0) p.1 ∙ append_assoc (a g) p.0 q.0)
+
+joined_goes : (b : Bool) (x : Option GuestState) (job : Job) (rs : List Request) → (rest : List Request) × (joined_when b x job rs ≡ rs ++ rest)
+joined_goes true x job rs = ([], sym (append-nil rs))
+joined_goes false None job rs = ([], sym (append-nil rs))
+joined_goes false (Some x) job rs = by (accepts x.core job)
+  where
+    by : (c : Bool) → (rest : List Request) × ((if c then rs ++ request_of x.core job ∷ [] else rs) ≡ rs ++ rest)
+    by true = (request_of x.core job ∷ [], refl)
+    by false = ([], sym (append-nil rs))
+
+-- a step accepts one request or none
+pub accepted_goes : (s : State) (o : Option Job) (accepted : ℕ → List Request) → GoOn accepted (accepted_by s o accepted)
+accepted_goes s None accepted g = ([], sym (append-nil (accepted g)))
+accepted_goes s (Some job) accepted g = by (g == job.guest)
+  where
+    by : (c : Bool) → (rest : List Request) × ((if c then joined_when s.broken (slice_get s.guests g) job (accepted g) else accepted g) ≡ accepted g ++ rest)
+    by true = joined_goes s.broken (slice_get s.guests g) job (accepted g)
+    by false = ([], sym (append-nil (accepted g)))
+
+longer : (base : Partition) (before now rest : List Request) (least less : ℕ) (q : Part) → now ≡ before ++ rest → less ≤ least → IsPrefix base before least q → IsPrefix base now less q
+longer base before now rest least less q is le p =
+    let within = p.within in
+    let enough = p.enough in
+    let more : take p.count now ≡ take p.count before = ap (take p.count) is ∙ take-append-le p.count before rest within in
+    let long = ap length is in
+    let sum = length-append before rest in
+    record {
+      count = p.count;
+      within = omega (arith, within, long, sum);
+      is = p.is ∙ ap (λ l. part_of (partition_after_all base l)) (sym more);
+      enough = omega (arith, enough, le);
+    }
+
+-- what leaves prefixes of some requests leaves prefixes of more of them, with less that is counted
+pub leaves_longer : (config : List GuestConfig) (bases : ℕ → Partition) (before now : ℕ → List Request) (least less : ℕ → ℕ) (s : DiskState) → GoOn before now → ((g : ℕ) → less g ≤ least g)
+    → LeavesPrefixes config bases before least s → LeavesPrefixes config bases now less s
+leaves_longer config bases before now least less s more le all g below c left =
+    let p = all g below c left in
+    let r = more g in
+    (p.0, p.1, longer (bases g) (before g) (now g) r.0 (least g) (less g) p.0 r.1 (le g) p.2)
+
+-- 2. Marks that rise
+
+pub marks_rise : (old new : List Guest) → length new ≡ length old → ((g : ℕ) (y z : Guest) → slice_get old g ≡ Some y → slice_get new g ≡ Some z → mark_of y ≤ mark_of z)
+    → (g : ℕ) → mark (marks_of old) g ≤ mark (marks_of new) g
+unfolding marks_of
+marks_rise [] [] many each g = omega arith
+marks_rise [] (z ∷ zs) many each g = absurd (omega (arith, many))
+marks_rise (y ∷ ys) [] many each g = absurd (omega (arith, many))
+marks_rise (y ∷ ys) (z ∷ zs) many each zero = each 0 y z refl refl
+marks_rise (y ∷ ys) (z ∷ zs) many each (suc g) = marks_rise ys zs (omega (arith, many)) (λ k a b at there. each (suc k) a b at there) g
+
+length-given : (held : List Guest) (i : Intent) → length (given held i) ≡ length held
+unfolding given
+length-given held i = by (slice_get held i.guest)
+  where
+    by : (o : Option Guest) → length (given_of held i o) ≡ length held
+    by None = refl
+    by (Some x) = length-set held i.guest (with_intent x i)
+
+-- an intent that is given moves no mark
+pub given_rise : (held : List Guest) (i : Intent) (g : ℕ) → mark (marks_of held) g ≤ mark (marks_of (given held i)) g
+given_rise held i g = marks_rise held (given held i) (length-given held i) (λ k y z at there.
+    let w = given_marks held i k z there in
+    let was = w.1 in
+    let same : w.0 ≡ y = cc in
+    let marks : mark_of z ≡ mark_of y = w.2 ∙ ap mark_of same in
+    omega (arith, marks)) g
+
+-- a sync leaves no more intents that aren't settled
+fewer_in : (phase : Phase) (i : Intent) → length (option_to_list (pending_of (in_phase i (synced phase i.group)))) ≤ length (option_to_list (if is_settled phase then None else Some i))
+fewer_in Given i = omega arith
+fewer_in Written i = omega arith
+fewer_in Ready i = omega arith
+fewer_in Opening i = omega arith
+fewer_in (Open k) i = omega arith
+fewer_in Applying i = omega arith
+fewer_in Applied i = omega arith
+fewer_in Closing i = omega arith
+
+fewer : (slot : Option Slot) → length (option_to_list (pending_of (after_sync slot))) ≤ length (option_to_list (pending_of slot))
+fewer None = omega arith
+fewer (Some s) = fewer_in s.phase s.intent
+
+length-intents : (n : ℕ) (p : Partition) (rs : List Request) → length (intents_of n p rs) ≡ length rs
+length-intents n p [] = refl
+length-intents n p (r ∷ rs) = ap suc (length-intents n (partition_after p r) rs)
+
+-- what is settled, and what isn't, is all that was accepted
+counted : (n : ℕ) (base : Partition) (accepted : List Request) (part : Part) (x : GuestState) (held : Guest) (between : Option Intent) → IsLinked n base accepted part x held between
+    → mark_of held + length (due held between x) ≡ sequence base + length accepted
+counted n base accepted part x held between link =
+    let mark = link.mark in
+    let within = link.within in
+    let left = length-drop link.stored accepted in
+    let many = sym (length-intents n (partition_after_all base (take link.stored accepted)) (drop link.stored accepted)) ∙ ap length link.rest in
+    omega (arith, mark, within, left, many)
+
+-- so a sync moves a mark only up
+pub sync_rises : (n : ℕ) (base : Partition) (accepted : List Request) (part : Part) (x : GuestState) (held : Guest) (between : Option Intent) → IsOfBoard base → IsLinked n base accepted part x held between
+    → mark_of held ≤ mark_of (guest_after_sync held)
+sync_rises n base accepted part x held between board link =
+    let before = counted n base accepted part x held between link in
+    let after = counted n base accepted (guest_settled held part) x (guest_after_sync held) between (sync_links n base accepted part x held between board link) in
+    let less = fewer held.slot in
+    let one = length-append (option_to_list (pending_of held.slot)) (option_to_list between ++ x.waiting) in
+    let two = length-append (option_to_list (pending_of (after_sync held.slot))) (option_to_list between ++ x.waiting) in
+    omega (arith, before, after, less, one, two)
