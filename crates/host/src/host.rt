@@ -41,7 +41,8 @@ impl<D: Disk> Host<D> {
     /// `NoMemory` where there is no room for what the drivers keep; the board goes then.
     pub fn new(alloc: Global, board: Board<D>, config: &BoardConfig) -> Result<Host<D>, NoMemory>
         requires opened { IsJustOpened D.state config.now board }
-        ensures { IfOk result (IsFirstHost config.now board) }
+        ensures first { IfOk result (IsFirstHost config.now board) }
+        ensures moves { IfOk result (λ h. Moves D.state D.makes board h.board) }
     {
         let mut board = board;
         let fronts = fronts_of(alloc, &mut board, config)?;
