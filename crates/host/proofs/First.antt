@@ -2,7 +2,7 @@
 use Rattle.std.proofs.Common.{◌≡◌, ℕ, zero, suc, false, List, [], ◌∷◌, Option, Some, None, length, map, replicate, refl, ap, sym, subst, ◌∙◌}
 use Rattle.std.specs.Prelude.{slice_get}
 use Rattle.std.proofs.lemmas.List.{length-map}
-use Rattle.disk.specs.Disk.{DiskState}
+use Rattle.disk.specs.Disk.{DiskCall, DiskState}
 use Rattle.rpmb_frame.specs.Config.{IsBoard}
 use Rattle.rpmb_frame.specs.Partition.{Partition}
 use Rattle.rpmb_frame.specs.declared.config.GuestConfig.{GuestConfig}
@@ -14,10 +14,12 @@ use Rattle.board.proofs.Linked.{drives_linked}
 use Rattle.host.specs.Calm.{IsCalm, IsCalmGuest, is_broken}
 use Rattle.host.specs.Guest.{first_front, first_guests, views_of}
 use Rattle.host.specs.Host.{AreReady}
+use Rattle.host.specs.Moving.{Moves}
 use Rattle.host.specs.Opening.{IsFirstHost, IsJustOpened, started}
 use Rattle.host.specs.Runner.{runner_of}
 use Rattle.host.specs.declared.front.Front.{Front}
 use Rattle.host.proofs.Hosts.{ready_all}
+use Rattle.host.proofs.Moving.{still_moves}
 use Rattle.host.proofs.Starting.{all_started, length_started, none_started}
 
 fresh_calm : (cs : List GuestConfig) (ps : List Partition) (g : ℕ) (x : GuestState) → slice_get (fresh_guests cs ps) g ≡ Some x → IsCalmGuest false x
@@ -76,6 +78,9 @@ module _ {D : Type 0} (shows : D → DiskState) (config : List GuestConfig) (b :
           report = calm_first.report;
           broken = calm_first.broken;
         })
+
+    pub moves_started : (makes : D → DiskCall → D → Type 0) → Moves shows makes b b'
+    moves_started makes = subst (Moves shows makes b) (sym is) (still_moves shows makes b (started 0 (length config) config) b.jobs (length_started 0 (length config) config ∙ sym many_first) refl)
 
     pub many_started : length fronts ≡ length b'.devices
     many_started = ap length fronts_is ∙ length-map config first_front ∙ sym (ap (λ v. length v.devices) is ∙ length_started 0 (length config) config)

@@ -10,7 +10,8 @@ use Rattle.host.specs.declared.front.Front.{Front}
 -- Whatever one guest's memory holds: what the answers to every other guest depend on stays, but that a break makes all
 -- forget what was asked last; and no more than so many jobs were answered, of which the book has room for 16,384.
 pub record Spares {D : Type 0} (guest most : ℕ) (old new : BoardState D) : Type 0 where
-  pub cores : (k : ℕ) → k ≢ guest → slice_get (runner_of new).cores k ≡ option_map (since (is_broken old) (is_broken new)) (slice_get (runner_of old).cores k)
+  pub cores : (k : ℕ) → k ≢ guest
+      → slice_get (runner_of new).cores k ≡ option_map (since (is_broken old) (is_broken new)) (slice_get (runner_of old).cores k)
   pub kept : (runner_of old).answered ≤ (runner_of new).answered
   pub few : (runner_of new).answered ≤ (runner_of old).answered + most
   pub whole : is_broken new ≡ false → is_broken old ≡ false

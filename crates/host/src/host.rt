@@ -45,6 +45,7 @@ impl<D: Disk> Host<D> {
         requires opened { IsJustOpened D.state config.now board }
         ensures first { IfOk result (IsFirstHost config.now board) }
         ensures refused { IfErr result (λ disk. disk ≡ board.store.disk) }
+        ensures moves { IfOk result (λ h. Moves D.state D.makes board h.board) }
     {
         let mut board = board;
         match fronts_of(alloc, &mut board, config) {
