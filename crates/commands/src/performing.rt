@@ -73,7 +73,7 @@ pub fn perform<D: Disk, W: Write, E: Write>(
     let (done, disk) = match command {
         Command::Format { .. } => (make_image(&mut disk, board, out), disk),
         Command::Show { .. } => show_image(alloc, disk, board, out),
-        Command::Run { .. } => (run(alloc, board, script, out), disk),
+        Command::Run { .. } => run(alloc, board, script, disk, out),
     };
     match done {
         Ok(()) => (0, Some(disk)),

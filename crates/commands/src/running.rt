@@ -1,4 +1,4 @@
-//! What `run` does: a script on partitions in memory.
+//! What `run` does: a script on the partitions of an image.
 ghost use Rattle.std.specs.Prelude.{◌≡◌, ℕ, All, List, Err, IfErr, IfOk, IsErr, OnOk, Some, length, map};
 ghost use Rattle.std.specs.Prelude.{string_bytes};
 ghost use Rattle.std.specs.Io.KnownBytes.{Appends, Keeps};
@@ -10,11 +10,16 @@ ghost use Rattle.commands.specs.Transcript.{AreSplit, IsBadAt, Says, StoresNothi
 ghost use Rattle.commands.specs.Transcript.{stuck_line, transcript, used_line};
 
 use crate::fault::Fault;
+use board::Board;
+use disk::Disk;
+use host::{Answer, Host, Stuck};
 use rpmb_frame::BoardConfig;
-use runner::{Answer, Host, Stuck};
 use script::{Line, ScriptError, read_script};
 use std::alloc::Global;
 use std::io::Write;
+
+/// The life of the board that a run opens. No job of it comes to another one.
+const LIFE: u64 = 1;
 
 /// The bytes in hex digits of lower case, or a dash where there are none.
 fn shown(alloc: Global, bytes: &[u8]) -> Result<String, Fault>
@@ -84,21 +89,23 @@ fn read_lines(alloc: Global, script: &str, board: &BoardConfig) -> Result<Vec<Li
 }
 
 /// Takes a chain of a guest to its end, and writes what it came to.
-fn run_chain<W: Write>(
+fn run_chain<D: Disk, W: Write>(
     alloc: Global,
-    host: &mut Host,
+    host: &mut Host<D>,
     guest: u16,
     readable: &[u8],
     writable: u32,
     out: &mut W,
 ) -> Result<(), Fault>
     requires { IsSized (chain guest readable.now writable) }
-    ensures runs { OnOk result (Runs host.old (chain guest readable.now writable) (W.contents out.old) (W.contents out.new) host.new) }
+    ensures runs { OnOk result (Runs (is_broken host.new.board) (seen host.old) (chain guest readable.now writable) (W.contents out.old) (W.contents out.new) (seen host.new)) }
+    ensures keeps { is_broken host.new.board ≡ false → is_broken host.old.board ≡ false }
+    ensures moves { Moves D.state D.makes host.old.board host.new.board }
     ensures ends { IfErr result IsOfRunning }
-    ensures fails { IfErr result (Fails host.old (chain guest readable.now writable)) }
+    ensures fails { IfErr result (Fails (is_broken host.new.board) (seen host.old) (chain guest readable.now writable)) }
     ensures silent { IfErr result (λ fault. KeepsUnless fault (W.contents out.old) (W.contents out.new)) }
 {
-    match host.chain(alloc, guest, readable, writable) {
+    match host.chain(guest, readable, writable) {
         Ok(Answer::Used(reply)) => write_reply(alloc, guest, reply.as_slice(), out),
         Ok(Answer::Stuck(stuck)) => write_stuck(guest, stuck, out),
         Err(fault) => Err(Fault::of(fault)),
@@ -106,11 +113,18 @@ fn run_chain<W: Write>(
 }
 
 /// Takes what a line asks for to its end.
-fn run_line<W: Write>(alloc: Global, host: &mut Host, line: Line, out: &mut W) -> Result<(), Fault>
+fn run_line<D: Disk, W: Write>(
+    alloc: Global,
+    host: &mut Host<D>,
+    line: Line,
+    out: &mut W,
+) -> Result<(), Fault>
     requires { IsSized (said line) }
-    ensures runs { OnOk result (Runs host.old (said line) (W.contents out.old) (W.contents out.new) host.new) }
+    ensures runs { OnOk result (Runs (is_broken host.new.board) (seen host.old) (said line) (W.contents out.old) (W.contents out.new) (seen host.new)) }
+    ensures keeps { is_broken host.new.board ≡ false → is_broken host.old.board ≡ false }
+    ensures moves { Moves D.state D.makes host.old.board host.new.board }
     ensures ends { IfErr result IsOfRunning }
-    ensures fails { IfErr result (Fails host.old (said line)) }
+    ensures fails { IfErr result (Fails (is_broken host.new.board) (seen host.old) (said line)) }
     ensures silent { IfErr result (λ fault. KeepsUnless fault (W.contents out.old) (W.contents out.new)) }
 {
     match line {
@@ -131,18 +145,21 @@ fn run_line<W: Write>(alloc: Global, host: &mut Host, line: Line, out: &mut W) -
     }
 }
 
+/// Takes the lines to their end, one after another.
 #[tactic(auto, using(crate::proofs::Printing::begin))]
-fn run_lines<W: Write>(
+fn run_lines<D: Disk, W: Write>(
     alloc: Global,
-    host: &mut Host,
+    host: &mut Host<D>,
     lines: Vec<Line>,
     out: &mut W,
 ) -> Result<(), Fault>
     requires { All (λ line. IsSized (said line)) lines.items }
-    ensures printed { OnOk result ((t : Told) → IsAt 0 t host.old → StoresNothing (map said lines.items)
-        → Appends (W.contents out.old) (W.contents out.new) (transcript t (map said lines.items))) }
+    ensures told { OnOk result (is_broken host.new.board ≡ false → (t : Told) → IsAt 0 t (seen host.old) → StoresNothing (map said lines.items)
+        → Tells t (map said lines.items) (W.contents out.old) (W.contents out.new) (seen host.new)) }
+    ensures keeps { is_broken host.new.board ≡ false → is_broken host.old.board ≡ false }
+    ensures moves { Moves D.state D.makes host.old.board host.new.board }
     ensures ends { IfErr result IsOfRunning }
-    ensures stopped { IfErr result (λ fault. (guests : ℕ) → (t : Told) → IsAt 0 t host.old → AreGuests guests t
+    ensures stopped { IfErr result (λ fault. is_broken host.new.board ≡ false → (guests : ℕ) → (t : Told) → IsAt 0 t (seen host.old) → AreGuests guests t
         → AreWithin guests lines.items → StoresNothing (map said lines.items)
         → PrintsFirstUnless fault (transcript t) (map said lines.items) (W.contents out.old) (W.contents out.new)) }
 {
@@ -152,47 +169,67 @@ fn run_lines<W: Write>(
     Ok(())
 }
 
-/// Takes all lines to their end, one after another, on fresh partitions in memory.
-fn run_fresh<W: Write>(
+/// The guests of an image, each in its first session. The disk is given back with a fault.
+fn open_host<D: Disk>(alloc: Global, disk: D, board: &BoardConfig) -> Result<Host<D>, (D, Fault)>
+    ensures opened { IfOk result (IsOpened D.state D.makes board.now disk) }
+    ensures ends { IfErr result (λ e. IsOfOpening (capacities_of board.now) (D.state disk) (D.state e.0) e.1) }
+    ensures untouched { IfErr result (λ e. Within D.state D.makes (Untouched (D.state disk)) disk e.0) }
+{
+    match Board::open(alloc, disk, LIFE, board) {
+        Ok(opened) => match Host::new(alloc, opened, board) {
+            Ok(host) => Ok(host),
+            Err(disk) => Err((disk, Fault::NoMemory)),
+        },
+        Err((disk, fault)) => Err((disk, Fault::of_image(fault))),
+    }
+}
+
+/// Makes the calls of the disk that are left, once all lines are at their end.
+fn finish<D: Disk>(host: Host<D>) -> (Result<(), Fault>, D)
+    ensures { Ends D.state D.makes host result.0 result.1 }
+{
+    match host.finish() {
+        (disk, Ok(())) => (Ok(()), disk),
+        (disk, Err(_)) => (Err(Fault::DiskFault), disk),
+    }
+}
+
+/// Takes all lines to their end, one after another, on the partitions of an image.
+fn run_on<D: Disk, W: Write>(
     alloc: Global,
     board: &BoardConfig,
     lines: Vec<Line>,
+    disk: D,
     out: &mut W,
-) -> Result<(), Fault>
+) -> (Result<(), Fault>, D)
     requires { All (λ line. IsSized (said line)) lines.items }
-    ensures printed { OnOk result (AreSplit board.now → StoresNothing (map said lines.items)
-        → Appends (W.contents out.old) (W.contents out.new) (output_of board.now (map said lines.items))) }
-    ensures ends { IfErr result IsOfRunning }
-    ensures stopped { IfErr result (λ fault. AreSplit board.now → AreWithin (length board.now) lines.items → StoresNothing (map said lines.items)
-        → PrintsFirstUnless fault (output_of board.now) (map said lines.items) (W.contents out.old) (W.contents out.new)) }
 {
-    let Ok(mut host) = Host::new(alloc, board) else {
-        return Err(Fault::NoMemory);
+    let mut host = match open_host(alloc, disk, board) {
+        Ok(host) => host,
+        Err((disk, fault)) => return (Err(fault), disk),
     };
     let ran = run_lines(alloc, &mut host, lines, out);
     // The lines so far are printed also where the next one ended the run; that they aren't is told first.
     if out.flush().is_err() {
-        return Err(Fault::FileFault);
+        return (Err(Fault::FileFault), host.into_disk());
     }
-    ran
+    match ran {
+        Ok(()) => finish(host),
+        Err(fault) => (Err(fault), host.into_disk()),
+    }
 }
 
-/// Performs a script. All its lines are read before one is performed.
-pub fn run<W: Write>(
+/// Performs a script on the partitions of an image. All its lines are read before the image is opened.
+pub fn run<D: Disk, W: Write>(
     alloc: Global,
     board: &BoardConfig,
     script: &str,
+    disk: D,
     out: &mut W,
-) -> Result<(), Fault>
-    ensures printed { OnOk result ((lines : List Said) → Says board.now script.now lines → AreSplit board.now → StoresNothing lines
-        → Appends (W.contents out.old) (W.contents out.new) (output_of board.now lines)) }
-    ensures bad { (n : ℕ) → IsBadAt board.now script.now n
-        → IsErr result × Keeps (W.contents out.old) (W.contents out.new) }
-    ensures ends { IfErr result (RunEnds board.now script.now) }
-    ensures stopped { IfErr result (λ fault. RunPrints board.now script.now fault (W.contents out.old) (W.contents out.new)) }
+) -> (Result<(), Fault>, D)
 {
     match read_lines(alloc, script, board) {
-        Ok(lines) => run_fresh(alloc, board, lines, out),
-        Err(fault) => Err(fault),
+        Ok(lines) => run_on(alloc, board, lines, disk, out),
+        Err(fault) => (Err(fault), disk),
     }
 }

@@ -7,16 +7,15 @@ use Rattle.flusher.specs.declared.progress.Progress.TheVariants.{Wrote, Synced, 
 use Rattle.flusher.specs.declared.progress.StoreFault.{StoreFault}
 use Rattle.flusher.specs.CallsLeft.{called, left_of}
 use Rattle.flusher.specs.Round.{AllEmpty, Round, planned}
-use Rattle.flusher.specs.Store.{StoreState}
 use Rattle.flusher.proofs.Countdown.{round_lowers}
 use Rattle.flusher.proofs.Endings.{round_badly, round_idle, round_well}
-use Rattle.rpmb_book.specs.Book.{BookView, after_break_off, after_settle, may_settle, state, submits_in, with_turn}
+use Rattle.rpmb_book.specs.Book.{BookView, after_settle, may_settle, state, submits_in, with_turn}
 use Rattle.rpmb_book.specs.Marks.{marks_for}
-use Rattle.rpmb_book.specs.Turn.{Break, Settle, move_some, settled_all}
+use Rattle.rpmb_book.specs.Turn.{Break, Settle, move_some}
 use Rattle.board.specs.State.{BoardState, guests}
 use Rattle.board.specs.Steps.{Advances, AdvancesUnder, Answer, SettlesBy, advance_answer, report_of}
 use Rattle.board.specs.declared.step.Seen.TheVariants.{Value, Published, Did, Nothing}
-use Rattle.board.specs.declared.step.Report.TheVariants.{Marks, Fault}
+use Rattle.board.specs.declared.step.Report.TheVariants.{Fault}
 use Rattle.host.specs.Calm.{is_broken}
 use Rattle.host.specs.Finishing.{GoesOn, IsListened, Rests}
 use Rattle.host.specs.Runner.{runner_of}

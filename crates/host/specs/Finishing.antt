@@ -1,5 +1,5 @@
 -- The end of a host: its store makes the calls that it still has before it.
-use Rattle.std.specs.Prelude.{ℕ, ◌≡◌, ◌<◌, Bool, true, false, not, None, Result, is_ok}
+use Rattle.std.specs.Prelude.{◌≡◌, ◌<◌, Bool, true, false, not, None, Result, is_ok}
 use Rattle.disk.specs.Disk.{DiskCall, DiskState}
 use Rattle.disk.specs.declared.disk.DiskFault.{DiskFault}
 use Rattle.flusher.specs.CallsLeft.{left_of}
