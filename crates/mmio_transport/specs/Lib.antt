@@ -1,7 +1,6 @@
 pub mod Job
 pub mod Register
 pub mod Feature
-pub mod Constants
 pub mod Registers
 pub mod Queue
 pub mod Device

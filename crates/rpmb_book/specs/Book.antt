@@ -1,5 +1,5 @@
 -- What a book shows, and what each of its calls answers and makes of it.
-use Rattle.std.specs.Prelude.{ℕ, ◌==◌, ◌&&◌, ◌||◌, not, Bool, true, false, if◌then◌else◌, Option, Some, None, is_some, Result, Ok, Err, List, [], ◌∷◌, ◌++◌, length, map, count_by, slice_get, slice_set}
+use Rattle.std.specs.Prelude.{ℕ, ◌==◌, ◌&&◌, ◌||◌, not, Bool, true, false, if◌then◌else◌, Option, Some, None, is_some, Result, Ok, Err, List, [], ◌∷◌, ◌++◌, length, count_by, slice_get, slice_set}
 use Rattle.rpmb_frame.specs.Table.{first_row}
 use Rattle.mmio_transport.specs.Job.{Job, Done}
 use Rattle.intent_slots.specs.Payload.{Intent}
@@ -80,19 +80,6 @@ abbrev pub are_taken : List GuestState → List ℕ → Bool
 are_taken [] shares = true
 are_taken (g ∷ gs) [] = false
 are_taken (g ∷ gs) (n ∷ ns) = (g.taken == n) && are_taken gs ns
-
--- a mark a guest: what was taken
-abbrev pub taken_marks : List GuestState → List ℕ
-taken_marks gs = map (λ g. g.taken) gs
-
--- what a settling to all that was taken answers, and makes of the book
-abbrev pub settle_taken_answer : BookView → List ℕ → Result (Unit {0}) Refused
-settle_taken_answer b shares = if are_taken (state b).guests shares then Ok tt else Err Foreign
-
-abbrev pub after_settle_taken : BookView → List ℕ → BookView
-after_settle_taken b shares =
-    let marks = taken_marks (state b).guests in
-    if are_taken (state b).guests shares && move_some (state b).guests marks then with_turn b (Settle marks) else b
 
 -- a settling to these marks isn't refused
 abbrev pub may_settle : BookView → List ℕ → List ℕ → Bool

@@ -1,14 +1,12 @@
-ghost use Rattle.std.specs.Prelude.{◌≡◌, ◌≤◌, ◌+◌, ◌<◌, ℕ, List, [], IfOk, IfErr, OnOk, OnErr, None, Some, nat_lt, if◌then◌else◌, unwrap_or, option_map, map, length};
+ghost use Rattle.std.specs.Prelude.{◌≡◌, ◌≤◌, ◌+◌, ◌<◌, ℕ, List, [], IfOk, IfErr, OnOk, OnErr, None, Some, if◌then◌else◌, unwrap_or, option_map, map, length};
 ghost use Rattle.rpmb_frame.specs.Partition.{sequence};
 ghost use Rattle.rpmb_book.specs.Opening.{tallies_from};
 ghost use Rattle.rpmb_book.specs.Replay.{opened, IsLegal};
-ghost use Rattle.rpmb_book.specs.Book.{BookView, state, guest_of, submits_in, with_turn, submit_of, refusal, is_share, is_taken, take_answer, after_take, next_intent, share_moved, are_taken, settle_answer, after_settle, settle_taken_answer, after_settle_taken, after_break_off, due_of, after_collect, found_by, taken_marks};
+ghost use Rattle.rpmb_book.specs.Book.{BookView, state, guest_of, submits_in, with_turn, submit_of, refusal, is_share, is_taken, take_answer, after_take, next_intent, share_moved, are_taken, settle_answer, after_settle, after_break_off, due_of, after_collect, found_by};
 ghost use Rattle.rpmb_book.specs.Guest.{broken_off};
-ghost use Rattle.std.specs.List.{list_any};
 ghost use Rattle.std.specs.Option.{option_copied};
 ghost use Rattle.rpmb_book.specs.Asked.{answered_in};
 ghost use Rattle.rpmb_book.specs.Kept.{IsFresh};
-ghost use Rattle.rpmb_book.specs.Turn.{settled_all};
 ghost use Rattle.rpmb_book.specs.Sound.{AreOfBoard, IsSound};
 ghost use Rattle.rpmb_book.specs.Receipt.{turn_seen, submission_seen};
 
@@ -184,22 +182,6 @@ impl Book {
         }
     }
 
-    /// Settles all that was taken, as a store does that has written and synced it. `Foreign` exactly
-    /// where the share of some guest isn't its taken sequence; then nothing changes. It takes no memory.
-    pub fn settle_taken(&mut self, shares: &Shares) -> Result<(), Refused>
-        ensures answer { result ≡ settle_taken_answer self.old shares.now }
-        ensures book { self.new ≡ after_settle_taken self.old shares.now }
-    {
-        if !are_taken(&self.guests, shares) {
-            return Err(Refused::Foreign);
-        }
-        if any_moves(&self.guests) {
-            self.history.push_settle(&self.guests);
-            settle_all(&mut self.guests);
-        }
-        Ok(())
-    }
-
     /// Settles what a store has, by the marks of a sync. `Foreign` exactly where the share of some guest
     /// isn't its taken sequence, or a mark is above it; then nothing changes. A mark below what is
     /// settled moves nothing, and marks of guests that the book lacks aren't looked at. It takes no
@@ -359,22 +341,6 @@ fn is_taken(guest: &GuestState, share: Option<u64>) -> bool
     match share {
         Some(share) => guest.taken() == share,
         None => false,
-    }
-}
-
-/// Whether some guest has intents that were taken and aren't settled.
-fn any_moves(guests: &[GuestState]) -> bool
-    ensures { result ≡ list_any (λ g. nat_lt g.settled g.taken) guests.now }
-{
-    guests.iter().any(|guest| guest.settled() < guest.taken())
-}
-
-fn settle_all(guests: &mut [GuestState])
-    ensures { guests.new ≡ settled_all guests.old (taken_marks guests.old) }
-{
-    for guest in guests.iter_mut() {
-        let mark = guest.taken();
-        guest.settle(mark);
     }
 }
 

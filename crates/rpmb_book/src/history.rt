@@ -2,10 +2,9 @@ ghost use Rattle.std.specs.Prelude.{◌≡◌, ◌<◌, ◌≤◌, ◌+◌, ◌+
 ghost use Rattle.std.specs.Option.{option_copied};
 ghost use Rattle.rpmb_book.specs.Turn.{Settle};
 ghost use Rattle.rpmb_book.specs.History.{turn_of, has_marks, settles_in};
-ghost use Rattle.rpmb_book.specs.Book.{submission_of, taken_marks};
+ghost use Rattle.rpmb_book.specs.Book.{submission_of};
 ghost use Rattle.rpmb_book.specs.Marks.{marks_for};
 
-use crate::guest_state::GuestState;
 use crate::marks::mark_at;
 use mmio_transport::Job;
 use std::alloc::{AllocError, Global};
@@ -129,17 +128,6 @@ impl History {
         self.records.push_reserved(turn);
     }
 
-    /// Appends a Settle to what was taken of each guest.
-    pub fn push_settle(&mut self, guests: &[GuestState])
-        requires same { length guests.now ≡ self.old.guests }
-        requires room { length self.old.turns < 65_537 }
-        requires room_for_marks { settles_in self.old.turns < 16_384 }
-        ensures { self.new ≡ record self.old { turns = self.old.turns ++ Settle (taken_marks guests.now) ∷ [] } }
-    {
-        push_taken(&mut self.marks, guests);
-        self.records.push_reserved(TurnRecord::Settle);
-    }
-
     /// Appends a Settle to the marks of a store, 0 for a guest that it lacks.
     pub fn push_marks(&mut self, marks: &[u64])
         requires room { length self.old.turns < 65_537 }
@@ -158,16 +146,6 @@ impl History {
             Some(record) => record.submission(guest),
             None => None,
         }
-    }
-}
-
-fn push_taken(marks: &mut Vec<u64>, guests: &[GuestState])
-    requires { vec_len marks.old + length guests.now ≤ vec_capacity marks.old }
-    ensures items { marks.new.items ≡ marks.old.items ++ taken_marks guests.now }
-    ensures capacity { vec_capacity marks.new ≡ vec_capacity marks.old }
-{
-    for guest in guests {
-        marks.push_reserved(guest.taken());
     }
 }
 
