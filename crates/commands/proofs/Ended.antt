@@ -1,5 +1,5 @@
 -- Which faults end a command.
-use Rattle.std.proofs.Common.{◌≡◌, ℕ, List, Option, Some, Ok, Err, Result, length, map, refl, subst, sym, true}
+use Rattle.std.proofs.Common.{◌≡◌, ℕ, List, Option, Some, Ok, Err, Result, inl, inr, length, map, refl, subst, sym, true}
 use Rattle.std.specs.Prelude.{IfErr}
 use Rattle.rpmb_frame.specs.declared.config.GuestConfig.{GuestConfig}
 use Rattle.commands.specs.declared.fault.Fault.{Fault}
@@ -9,74 +9,15 @@ use Rattle.recovery.specs.declared.fault.OpenFault.{OpenFault}
 use Rattle.recovery.specs.declared.fault.OpenFault.TheVariants as image
 use Rattle.recovery.specs.Opening.{AnswersFault, CallsFault}
 use Rattle.commands.specs.Fault.{fault_of_image}
-use Rattle.commands.specs.Ending.{IsOfReading, IsOfRunning, IsReadAlone, IsReadable, PrintsFirstUnless, RunEnds, RunPrints, ShowEnds, Synced, Uncalled}
+use Rattle.intent_slots.specs.Layout.{capacities_of}
+use Rattle.commands.specs.Ending.{IsOfReading, IsReadAlone, IsReadable, LinesPrint, NoneFailed, OpenedEnds, OpenedPrints, PrintsFront, PrintsOn, RunEnds, RunPrints, ShowEnds, Synced, Uncalled}
 use Rattle.commands.specs.Running.{AreWithin}
-use Rattle.commands.specs.Transcript.{AreSplit, Says, StoresNothing, output_of}
-use Rattle.commands.proofs.Printing.{none_printed, says_same}
-use Rattle.script.specs.Line.{Said, line_of, said}
+use Rattle.commands.specs.Transcript.{AreSplit, IsBadAt, StoresNothing}
+use Rattle.commands.proofs.Printing.{says_same}
+use Rattle.script.specs.Line.{line_of, said}
 use Rattle.script.specs.Script.{lines_of}
 use Rattle.script.specs.declared.line.Line.{Line}
 use Rattle.std.proofs.KnownBytes.{Keeps-refl}
-
--- a fault of a line ends the run of a script that was read
-run_ends : (board : List GuestConfig) (script : List ℕ) (f : Fault) → IsReadable board script → IsOfRunning f → RunEnds board script f
-run_ends board script (fault.BadScript line) good of = absurd of
-run_ends board script fault.NoMemory good of = tt
-run_ends board script fault.OutOfRange good of = (good, tt)
-run_ends board script fault.Busy good of = (good, tt)
-run_ends board script fault.HistoryFull good of = (good, tt)
-run_ends board script fault.NoRoom good of = (good, tt)
-run_ends board script fault.Foreign good of = (good, tt)
-run_ends board script fault.FileFault good of = (good, tt)
-run_ends board script fault.DiskFault good of = absurd of
-run_ends board script fault.NotFormatted good of = absurd of
-run_ends board script fault.OtherConfig good of = absurd of
-run_ends board script fault.BadBoard good of = absurd of
-
-pub all_run_ends : {X : Type 0} (board : List GuestConfig) (script : List ℕ) (r : Result X Fault) → IsReadable board script
-    → IfErr r IsOfRunning → IfErr r (RunEnds board script)
-all_run_ends board script (Ok x) good of = of
-all_run_ends board script (Err f) good of = run_ends board script f good of
-
--- a script of which no line was performed has printed nothing
-pub none_run : (board : List GuestConfig) (script : List ℕ) (f : Fault) (start : Option (List ℕ)) → IsOfReading f → RunPrints board script f start start
-none_run board script (fault.BadScript line) start of = Keeps-refl start
-none_run board script fault.NoMemory start of = λ lines says split clean. none_printed board lines start
-none_run board script fault.FileFault start of = absurd of
-none_run board script fault.OutOfRange start of = absurd of
-none_run board script fault.DiskFault start of = absurd of
-none_run board script fault.NotFormatted start of = absurd of
-none_run board script fault.OtherConfig start of = absurd of
-none_run board script fault.Busy start of = absurd of
-none_run board script fault.HistoryFull start of = absurd of
-none_run board script fault.NoRoom start of = absurd of
-none_run board script fault.Foreign start of = absurd of
-none_run board script fault.BadBoard start of = absurd of
-
--- what the first lines printed is what the run has
-run_prints : (board : List GuestConfig) (script : List ℕ) (f : Fault) (start now : Option (List ℕ)) → IsOfRunning f
-    → ((lines : List Said) → Says board script lines → AreSplit board → StoresNothing lines → PrintsFirstUnless f (output_of board) lines start now)
-    → RunPrints board script f start now
-run_prints board script (fault.BadScript line) start now of prints = absurd of
-run_prints board script fault.FileFault start now of prints = prints
-run_prints board script fault.OutOfRange start now of prints = prints
-run_prints board script fault.NoMemory start now of prints = prints
-run_prints board script fault.DiskFault start now of prints = prints
-run_prints board script fault.NotFormatted start now of prints = prints
-run_prints board script fault.OtherConfig start now of prints = prints
-run_prints board script fault.Busy start now of prints = prints
-run_prints board script fault.HistoryFull start now of prints = prints
-run_prints board script fault.NoRoom start now of prints = prints
-run_prints board script fault.Foreign start now of prints = prints
-run_prints board script fault.BadBoard start now of prints = prints
-
-pub all_run_prints : {X : Type 0} (board : List GuestConfig) (script : List ℕ) (read : List Line) (r : Result X Fault) (start now : Option (List ℕ))
-    → map (λ line. Some (said line)) read ≡ map (line_of (length board)) (lines_of script) → AreWithin (length board) read → IfErr r IsOfRunning
-    → IfErr r (λ f. AreSplit board → AreWithin (length board) read → StoresNothing (map said read) → PrintsFirstUnless f (output_of board) (map said read) start now)
-    → IfErr r (λ f. RunPrints board script f start now)
-all_run_prints board script read (Ok x) start now is within of prints = of
-all_run_prints board script read (Err f) start now is within of prints = run_prints board script f start now of (λ lines says.
-    subst (λ ls. AreSplit board → StoresNothing ls → PrintsFirstUnless f (output_of board) ls start now) (sym (says_same lines read _ says is)) (λ split. prints split within))
 
 -- a fault of an opening ends a listing
 pub show_ends : (capacities : List ℕ) (old new : DiskState) (f : OpenFault) → (f ≡ image.NoMemory → new ≡ old) → (f ≡ image.DiskFault → HasRisen old.failures new.failures)
@@ -91,3 +32,79 @@ read_alone makes old new image.NoMemory calls = Uncalled calls
 read_alone makes old new image.DiskFault calls = Synced calls
 read_alone makes old new image.NotFormatted calls = Synced calls
 read_alone makes old new image.OtherConfig calls = Synced calls
+
+-- a script whose lines were read, and then run
+run_ends : (board : List GuestConfig) (script : List ℕ) (old new : DiskState) (f : Fault) → IsReadable board script → OpenedEnds (capacities_of board) old new f → RunEnds board script old new f
+run_ends board script old new (fault.BadScript line) good of = absurd of
+run_ends board script old new fault.NoMemory good of = tt
+run_ends board script old new fault.OutOfRange good of = (good, tt)
+run_ends board script old new fault.Busy good of = (good, tt)
+run_ends board script old new fault.HistoryFull good of = (good, tt)
+run_ends board script old new fault.NoRoom good of = (good, tt)
+run_ends board script old new fault.Foreign good of = (good, tt)
+run_ends board script old new fault.FileFault good of = (good, tt)
+run_ends board script old new fault.DiskFault good of = (good, of)
+run_ends board script old new fault.NotFormatted good of = (good, of)
+run_ends board script old new fault.OtherConfig good of = (good, of)
+run_ends board script old new fault.BadBoard good of = absurd of
+
+pub all_run_ends : (board : List GuestConfig) (script : List ℕ) (old new : DiskState) (r : Result (Unit {0}) Fault) → IsReadable board script
+    → IfErr r (OpenedEnds (capacities_of board) old new) → IfErr r (RunEnds board script old new)
+all_run_ends board script old new (Ok x) good of = of
+all_run_ends board script old new (Err f) good of = run_ends board script old new f good of
+
+-- what the lines printed is what the script printed
+of_script : (board : List GuestConfig) (script : List ℕ) (read : List Line) (old new : DiskState) (f : Fault) (start now : Option (List ℕ)) → map (λ line. Some (said line)) read ≡ map (line_of (length board)) (lines_of script)
+    → AreWithin (length board) read → LinesPrint board read old new f start now → PrintsFront board script old new f start now
+of_script board script read old new f start now is within prints = λ lines says.
+    subst (λ ls. AreSplit board → StoresNothing ls → NoneFailed old new → PrintsOn board old f ls start now) (sym (says_same lines read _ says is)) (λ split. prints split within)
+
+run_prints : (board : List GuestConfig) (script : List ℕ) (read : List Line) (old new : DiskState) (f : Fault) (start now : Option (List ℕ)) → map (λ line. Some (said line)) read ≡ map (line_of (length board)) (lines_of script)
+    → AreWithin (length board) read → OpenedEnds (capacities_of board) old new f → OpenedPrints board read old new f start now → RunPrints board script old new f start now
+run_prints board script read old new (fault.BadScript line) start now is within of prints = absurd of
+run_prints board script read old new fault.NoMemory start now is within of (inl kept) = inl kept
+run_prints board script read old new fault.NoMemory start now is within of (inr prints) = inr (of_script board script read old new fault.NoMemory start now is within prints)
+run_prints board script read old new fault.OutOfRange start now is within of prints = of_script board script read old new fault.OutOfRange start now is within prints
+run_prints board script read old new fault.Busy start now is within of prints = of_script board script read old new fault.Busy start now is within prints
+run_prints board script read old new fault.HistoryFull start now is within of prints = of_script board script read old new fault.HistoryFull start now is within prints
+run_prints board script read old new fault.NoRoom start now is within of prints = of_script board script read old new fault.NoRoom start now is within prints
+run_prints board script read old new fault.Foreign start now is within of prints = of_script board script read old new fault.Foreign start now is within prints
+run_prints board script read old new fault.FileFault start now is within of prints = of_script board script read old new fault.FileFault start now is within prints
+run_prints board script read old new fault.DiskFault start now is within of prints = tt
+run_prints board script read old new fault.NotFormatted start now is within of prints = prints
+run_prints board script read old new fault.OtherConfig start now is within of prints = prints
+run_prints board script read old new fault.BadBoard start now is within of prints = absurd of
+
+pub all_run_prints : (board : List GuestConfig) (script : List ℕ) (read : List Line) (old new : DiskState) (r : Result (Unit {0}) Fault) (start now : Option (List ℕ)) → map (λ line. Some (said line)) read ≡ map (line_of (length board)) (lines_of script)
+    → AreWithin (length board) read → IfErr r (OpenedEnds (capacities_of board) old new) → IfErr r (λ f. OpenedPrints board read old new f start now) → IfErr r (λ f. RunPrints board script old new f start now)
+all_run_prints board script read old new (Ok x) start now is within of prints = of
+all_run_prints board script read old new (Err f) start now is within of prints = run_prints board script read old new f start now is within of prints
+
+-- a script that wasn't read
+pub none_run : (board : List GuestConfig) (script : List ℕ) (old : DiskState) (f : Fault) (start : Option (List ℕ)) → IsOfReading f → RunPrints board script old old f start start
+none_run board script old (fault.BadScript line) start of = Keeps-refl start
+none_run board script old fault.NoMemory start of = inl (Keeps-refl start)
+none_run board script old fault.FileFault start of = absurd of
+none_run board script old fault.OutOfRange start of = absurd of
+none_run board script old fault.DiskFault start of = absurd of
+none_run board script old fault.NotFormatted start of = absurd of
+none_run board script old fault.OtherConfig start of = absurd of
+none_run board script old fault.Busy start of = absurd of
+none_run board script old fault.HistoryFull start of = absurd of
+none_run board script old fault.NoRoom start of = absurd of
+none_run board script old fault.Foreign start of = absurd of
+none_run board script old fault.BadBoard start of = absurd of
+
+pub none_ends : (board : List GuestConfig) (script : List ℕ) (old : DiskState) (f : Fault) → ((n : ℕ) → f ≡ fault.BadScript n → IsBadAt board script n) → IsOfReading f → RunEnds board script old old f
+none_ends board script old (fault.BadScript line) bad of = bad line refl
+none_ends board script old fault.NoMemory bad of = tt
+none_ends board script old fault.FileFault bad of = absurd of
+none_ends board script old fault.OutOfRange bad of = absurd of
+none_ends board script old fault.DiskFault bad of = absurd of
+none_ends board script old fault.NotFormatted bad of = absurd of
+none_ends board script old fault.OtherConfig bad of = absurd of
+none_ends board script old fault.Busy bad of = absurd of
+none_ends board script old fault.HistoryFull bad of = absurd of
+none_ends board script old fault.NoRoom bad of = absurd of
+none_ends board script old fault.Foreign bad of = absurd of
+none_ends board script old fault.BadBoard bad of = absurd of

@@ -3,3 +3,4 @@ pub mod Printing
 pub mod Telling
 pub mod Listed
 pub mod Ended
+pub mod Opened

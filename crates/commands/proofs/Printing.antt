@@ -1,30 +1,25 @@
 -- What lines print, one after another.
-use Rattle.std.proofs.Common.{◌≡◌, ℕ, zero, suc, ◌+◌, ◌<◌, List, [], ◌∷◌, ◌++◌, Option, Some, None, Result, Ok, Err, get_or, length, map, replicate, refl, ap, ap₂, subst, sym, ◌∙◌, arith}
+use Rattle.std.proofs.Common.{◌≡◌, ℕ, zero, suc, ◌+◌, ◌<◌, Bool, false, List, [], ◌∷◌, ◌++◌, Option, Some, None, get_or, length, map, refl, ap, ap₂, subst, sym, ◌∙◌, arith}
 use Rattle.std.proofs.KnownBytes.{Appends-kept, Appends-nil, Appends-trans}
-use Rattle.std.proofs.lemmas.List.{append_assoc, append-nil, length-map, length-replicate, length-set}
+use Rattle.std.proofs.lemmas.List.{append_assoc, append-nil, length-set}
 use Rattle.std.specs.Io.KnownBytes.{Appends, Keeps}
 use Rattle.script.specs.Line.{IsWithin, Said, line_of, said}
 use Rattle.script.specs.Script.{first_bad}
 use Rattle.script.specs.declared.line.Line.{Line}
-use Rattle.std.specs.Prelude.{All, IfErr}
+use Rattle.std.specs.Prelude.{All}
 use Rattle.mmio_transport.specs.Device.{last_count}
 use Rattle.script.specs.Line.{nothing, chain, store, reset}
-use Rattle.runner.specs.Host.{HostView, IsFreshHost}
+use Rattle.host.specs.Host.{HostView}
 use Rattle.rpmb_book.specs.Guest.{GuestCore, core_after}
 use Rattle.rpmb_book.specs.Turn.{update}
-use Rattle.runner.specs.Ready.{job_of}
-use Rattle.runner.specs.Runner.{cores_after, fresh_core, fresh_view}
-use Rattle.commands.specs.Transcript.{AreSplit, StoresNothing, Told, output_of, printed_by, told_by, transcript}
-use Rattle.rpmb_frame.specs.declared.config.GuestConfig.{GuestConfig}
+use Rattle.host.specs.Ready.{job_of}
+use Rattle.host.specs.Runner.{cores_after}
+use Rattle.commands.specs.Transcript.{StoresNothing, Told, printed_by, told_after, told_by, transcript}
 use Rattle.commands.specs.Running.{AreGuests, AreWithin, Fails, HasRun, IsAt, IsChain, IsSized, MayFail, Runs}
+use Rattle.commands.specs.Image.{Tells}
 use Rattle.commands.specs.Ending.{KeepsUnless, PrintsFirst, PrintsFirstUnless, StopsFor}
 use Rattle.commands.specs.declared.fault.Fault.{Fault}
 use Rattle.commands.specs.declared.fault.Fault.TheVariants as fault
-
--- what lines make of the guests, one after another
-unfoldable pub told_after : Told → List Said → Told
-told_after t [] = t
-told_after t (line ∷ lines) = told_after (told_by t line) lines
 
 -- a line more at the end
 told_after-append : (t : Told) (lines : List Said) (line : Said) → told_after t (lines ++ line ∷ []) ≡ told_by (told_after t lines) line
@@ -105,22 +100,25 @@ went_on start now next first h h' all rest line going run clean =
       after = ap (λ t. told_by t line) going.after ∙ sym (told_after-append first going.done line);
     }
 
-pub step : (start now next : Option (List ℕ)) (first : Told) (h h' : HostView) (all rest : List Said) (line : Said) → length all + 2 < last_count
-    → Going start now first h all (line ∷ rest) → Runs h line now next h' → Going start next first h' all rest
-step start now next first h h' all rest nothing few going runs =
+pub step : (broken : Bool) (start now next : Option (List ℕ)) (first : Told) (h h' : HostView) (all rest : List Said) (line : Said) → length all + 2 < last_count → broken ≡ false
+    → Going start now first h all (line ∷ rest) → Runs broken h line now next h' → Going start next first h' all rest
+step broken start now next first h h' all rest nothing few whole going runs =
     let counted = going.counted in
-    went_on start now next first h h' all rest nothing going (runs going.steps going.told (omega (arith, counted, few)) going.at) going.clean
-step start now next first h h' all rest (chain guest readable writable) few going runs =
+    went_on start now next first h h' all rest nothing going (runs whole going.steps going.told (omega (arith, counted, few)) going.at) going.clean
+step broken start now next first h h' all rest (chain guest readable writable) few whole going runs =
     let counted = going.counted in
-    went_on start now next first h h' all rest (chain guest readable writable) going (runs going.steps going.told (omega (arith, counted, few)) going.at) going.clean
-step start now next first h h' all rest (store guest at bytes) few going runs = absurd going.clean
-step start now next first h h' all rest (reset guest) few going runs =
+    went_on start now next first h h' all rest (chain guest readable writable) going (runs whole going.steps going.told (omega (arith, counted, few)) going.at) going.clean
+step broken start now next first h h' all rest (store guest at bytes) few whole going runs = absurd going.clean
+step broken start now next first h h' all rest (reset guest) few whole going runs =
     let counted = going.counted in
-    went_on start now next first h h' all rest (reset guest) going (runs going.steps going.told (omega (arith, counted, few)) going.at) going.clean
+    went_on start now next first h h' all rest (reset guest) going (runs whole going.steps going.told (omega (arith, counted, few)) going.at) going.clean
 
-pub finish : (start now : Option (List ℕ)) (first : Told) (h : HostView) (all : List Said) → Going start now first h all [] → Appends start now (transcript first all)
+pub finish : (start now : Option (List ℕ)) (first : Told) (h : HostView) (all : List Said) → Going start now first h all [] → Tells first all start now h
 unfolding transcript
-finish start now first h all going = subst (Appends start now) (sym (append-nil going.bytes) ∙ going.whole) going.so_far
+finish start now first h all going = record {
+  printed = subst (Appends start now) (sym (append-nil going.bytes) ∙ going.whole) going.so_far;
+  cores = going.at.cores ∙ ap (λ t. t.cores) (going.after ∙ ap (told_after first) (sym (append-nil going.done) ∙ sym going.parts));
+}
 
 -- what was printed stays as it is, and the line that is next is what the run stopped for
 stopped : (start now next : Option (List ℕ)) (first : Told) (h : HostView) (all rest : List Said) (f : Fault) → (going : Going start now first h all rest) → Keeps now next
@@ -151,36 +149,31 @@ stops start now next first h all rest line fault.BadBoard going kept may = absur
 stops start now next first h all rest line (fault.BadScript n) going kept may = absurd may
 
 -- how the next line fails, where the run stands
-line_fails : (start now : Option (List ℕ)) (first : Told) (h : HostView) (all rest : List Said) (line : Said) (f : Fault) (guests : ℕ) → length all + 2 < last_count
-    → Going start now first h all (line ∷ rest) → AreGuests guests first → IsWithin guests line → Fails h line f → MayFail f line
-line_fails start now first h all rest nothing f guests few going are within fails =
+line_fails : (broken : Bool) (start now : Option (List ℕ)) (first : Told) (h : HostView) (all rest : List Said) (line : Said) (f : Fault) (guests : ℕ) → length all + 2 < last_count
+    → Going start now first h all (line ∷ rest) → AreGuests guests first → IsWithin guests line → broken ≡ false → Fails broken h line f → MayFail f line
+line_fails broken start now first h all rest nothing f guests few going are within whole fails =
     let counted = going.counted in
-    fails going.steps guests going.told (omega (arith, counted, few)) going.at (subst (AreGuests guests) (sym going.after) (guests_after guests first going.done are)) within
-line_fails start now first h all rest (chain guest readable writable) f guests few going are within fails =
+    fails whole going.steps guests going.told (omega (arith, counted, few)) going.at (subst (AreGuests guests) (sym going.after) (guests_after guests first going.done are)) within
+line_fails broken start now first h all rest (chain guest readable writable) f guests few going are within whole fails =
     let counted = going.counted in
-    fails going.steps guests going.told (omega (arith, counted, few)) going.at (subst (AreGuests guests) (sym going.after) (guests_after guests first going.done are)) within
-line_fails start now first h all rest (store guest at bytes) f guests few going are within fails = absurd going.clean
-line_fails start now first h all rest (reset guest) f guests few going are within fails =
+    fails whole going.steps guests going.told (omega (arith, counted, few)) going.at (subst (AreGuests guests) (sym going.after) (guests_after guests first going.done are)) within
+line_fails broken start now first h all rest (store guest at bytes) f guests few going are within whole fails = absurd going.clean
+line_fails broken start now first h all rest (reset guest) f guests few going are within whole fails =
     let counted = going.counted in
-    fails going.steps guests going.told (omega (arith, counted, few)) going.at (subst (AreGuests guests) (sym going.after) (guests_after guests first going.done are)) within
+    fails whole going.steps guests going.told (omega (arith, counted, few)) going.at (subst (AreGuests guests) (sym going.after) (guests_after guests first going.done are)) within
 
-pub stop : (start now next : Option (List ℕ)) (first : Told) (h : HostView) (all rest : List Said) (line : Said) (f : Fault) (guests : ℕ) → length all + 2 < last_count
-    → Going start now first h all (line ∷ rest) → KeepsUnless f now next → AreGuests guests first → IsWithin guests line → Fails h line f
+pub stop : (broken : Bool) (start now next : Option (List ℕ)) (first : Told) (h : HostView) (all rest : List Said) (line : Said) (f : Fault) (guests : ℕ) → length all + 2 < last_count
+    → Going start now first h all (line ∷ rest) → KeepsUnless f now next → AreGuests guests first → IsWithin guests line → broken ≡ false → Fails broken h line f
     → PrintsFirstUnless f (transcript first) all start next
-stop start now next first h all rest line f guests few going kept are within fails =
-    stops start now next first h all rest line f going kept (line_fails start now first h all rest line f guests few going are within fails)
+stop broken start now next first h all rest line f guests few going kept are within whole fails =
+    stops start now next first h all rest line f going kept (line_fails broken start now first h all rest line f guests few going are within whole fails)
 
--- nothing is what none of the lines print
-pub none_printed : (board : List GuestConfig) (lines : List Said) (start : Option (List ℕ)) → PrintsFirst fault.NoMemory (output_of board) lines start start
-unfolding transcript
-none_printed board lines start = record { first = []; rest = lines; parts = refl; printed = Appends-nil start; reason = tt }
-
--- and what the first lines printed stays through a flush
+-- what the first lines printed stays through a flush
 first_still : (f : Fault) (text : List Said → List ℕ) (lines : List Said) (start now next : Option (List ℕ)) → PrintsFirst f text lines start now → Keeps now next → PrintsFirst f text lines start next
 first_still f text lines start now next printed kept =
     record { first = printed.first; rest = printed.rest; parts = printed.parts; printed = Appends-kept start now next _ printed.printed kept; reason = printed.reason }
 
-still : (text : List Said → List ℕ) (lines : List Said) (start now next : Option (List ℕ)) (f : Fault) → PrintsFirstUnless f text lines start now → Keeps now next
+pub still : (text : List Said → List ℕ) (lines : List Said) (start now next : Option (List ℕ)) (f : Fault) → PrintsFirstUnless f text lines start now → Keeps now next
     → PrintsFirstUnless f text lines start next
 still text lines start now next fault.FileFault printed kept = tt
 still text lines start now next fault.OutOfRange printed kept = first_still fault.OutOfRange text lines start now next printed kept
@@ -194,17 +187,6 @@ still text lines start now next fault.NoRoom printed kept = first_still fault.No
 still text lines start now next fault.Foreign printed kept = first_still fault.Foreign text lines start now next printed kept
 still text lines start now next fault.BadBoard printed kept = first_still fault.BadBoard text lines start now next printed kept
 still text lines start now next (fault.BadScript line) printed kept = first_still (fault.BadScript line) text lines start now next printed kept
-
-pub fresh_stops : {X : Type 0} (board : List GuestConfig) (h : HostView) (lines : List Line) (r : Result X Fault) (start now next : Option (List ℕ)) → IsFreshHost board h → Keeps now next
-    → IfErr r (λ f. (guests : ℕ) → (t : Told) → IsAt 0 t h → AreGuests guests t → AreWithin guests lines → StoresNothing (map said lines) → PrintsFirstUnless f (transcript t) (map said lines) start now)
-    → IfErr r (λ f. AreSplit board → AreWithin (length board) lines → StoresNothing (map said lines) → PrintsFirstUnless f (output_of board) (map said lines) start next)
-unfolding fresh_view
-fresh_stops board h lines (Ok x) start now next fresh kept stops = stops
-fresh_stops board h lines (Err f) start now next fresh kept stops = λ split within clean.
-    let told : Told = record { cores = (fresh_view board).cores; sessions = replicate (length board) 1 } in
-    let are : AreGuests (length board) told = record { cores = length-map board fresh_core; sessions = length-replicate (length board) 1 } in
-    still (transcript told) (map said lines) start now next f
-    (stops (length board) told (record { cores = ap (λ r. r.cores) fresh.runner; ready = fresh.guests split }) are within clean) kept
 
 -- the lines that are left have the sizes of lines
 pub head_sized : (line : Line) (rest : List Line) → All (λ l. IsSized (said l)) (line ∷ rest) → IsSized (said line)

@@ -1,5 +1,5 @@
 -- Why a command ends with a fault, and what it has printed then.
-use Rattle.std.specs.Prelude.{◌≡◌, ℕ, ◌++◌, ◌∷◌, [], List, Option, None, length, true}
+use Rattle.std.specs.Prelude.{◌≡◌, ◌⊎◌, ℕ, ◌++◌, ◌∷◌, [], List, Option, None, length, map, true}
 use Rattle.std.specs.Io.KnownBytes.{Appends, Keeps}
 use Rattle.command_line.specs.declared.command.Command.{Command}
 use Rattle.command_line.specs.declared.command.Command.TheVariants as command
@@ -12,8 +12,11 @@ use Rattle.recovery.specs.Opening.{IsImage, IsOther, IsUnformatted, SyncsFirst}
 use Rattle.commands.specs.declared.fault.Fault.{Fault}
 use Rattle.commands.specs.declared.fault.Fault.TheVariants as fault
 use Rattle.commands.specs.Fault.{fault_line}
-use Rattle.script.specs.Line.{Said}
-use Rattle.commands.specs.Running.{IsChain}
+use Rattle.script.specs.Line.{Said, said}
+use Rattle.script.specs.declared.line.Line.{Line}
+use Rattle.rpmb_frame.specs.Partition.{Partition}
+use Rattle.commands.specs.Image.{AreOf}
+use Rattle.commands.specs.Running.{AreWithin, IsChain}
 use Rattle.commands.specs.Transcript.{AreSplit, IsBadAt, Says, StoresNothing, output_of}
 
 abbrev pub IsRun : Command → Type 0
@@ -61,12 +64,23 @@ IsOfReading (fault.BadScript line) = Unit {0}
 IsOfReading fault.NoMemory = Unit {0}
 IsOfReading f = ⊥
 
--- Which faults end a run: the first bad line; want of memory; and, where all lines are read, what one of
--- them came to.
-abbrev pub RunEnds : List GuestConfig → List ℕ → Fault → Type 0
-RunEnds board script (fault.BadScript line) = IsBadAt board script line
-RunEnds board script fault.NoMemory = Unit {0}
-RunEnds board script f = IsReadable board script × IsOfRunning f
+-- why an image isn't opened
+abbrev pub IsOfOpening : List ℕ → DiskState → DiskState → Fault → Type 0
+IsOfOpening capacities old new fault.NoMemory = Unit {0}
+IsOfOpening capacities old new fault.DiskFault = HasRisen old.failures new.failures
+IsOfOpening capacities old new fault.NotFormatted = old.faithful ≡ true → IsUnformatted capacities old.len old.seen
+IsOfOpening capacities old new fault.OtherConfig = old.faithful ≡ true → IsOther capacities old.len old.seen
+IsOfOpening capacities old new f = ⊥
+
+-- Which faults end a run: the first bad line; want of memory; and, where all lines are read, why the image isn't
+-- opened, a call of the disk that failed, or what a line came to.
+abbrev pub RunEnds : List GuestConfig → List ℕ → DiskState → DiskState → Fault → Type 0
+RunEnds board script old new (fault.BadScript line) = IsBadAt board script line
+RunEnds board script old new fault.NoMemory = Unit {0}
+RunEnds board script old new fault.DiskFault = IsReadable board script × HasRisen old.failures new.failures
+RunEnds board script old new fault.NotFormatted = IsReadable board script × (old.faithful ≡ true → IsUnformatted (capacities_of board) old.len old.seen)
+RunEnds board script old new fault.OtherConfig = IsReadable board script × (old.faithful ≡ true → IsOther (capacities_of board) old.len old.seen)
+RunEnds board script old new f = IsReadable board script × IsOfRunning f
 
 -- Which faults end the making of an image: a call of the disk failed, or the image is made and
 -- standard output took no more.
@@ -101,7 +115,7 @@ ShowEnds capacities old new fault.OtherConfig = old.faithful ≡ true → IsOthe
 ShowEnds capacities old new fault.BadBoard = ⊥
 
 abbrev pub Ends : Command → List GuestConfig → List ℕ → DiskState → DiskState → Fault → Type 0
-Ends (command.Run b s) board script old new f = RunEnds board script f
+Ends (command.Run b s) board script old new f = RunEnds board script old new f
 Ends (command.Format b) board script old new f = FormatEnds (capacities_of board) old new f
 Ends (command.Show b) board script old new f = ShowEnds (capacities_of board) old new f
 
@@ -142,18 +156,61 @@ abbrev pub PrintsFirstUnless : Fault → (List Said → List ℕ) → List Said 
 PrintsFirstUnless fault.FileFault text lines start now = Unit {0}
 PrintsFirstUnless f text lines start now = PrintsFirst f text lines start now
 
--- What a run that ends with a fault has printed: nothing, where a line is bad; else what a front of its
--- lines prints, where no line stored into guest memory.
-abbrev pub RunPrints : List GuestConfig → List ℕ → Fault → Option (List ℕ) → Option (List ℕ) → Type 0
-RunPrints board script (fault.BadScript line) start now = Keeps start now
-RunPrints board script f start now = (lines : List Said) → Says board script lines → AreSplit board → StoresNothing lines
-    → PrintsFirstUnless f (output_of board) lines start now
+-- The same, on the partitions that an image stood for.
+pub record PrintsOn (board : List GuestConfig) (s : DiskState) (f : Fault) (lines : List Said) (start now : Option (List ℕ)) : Type 0 where
+  pub partitions : List Partition
+  pub of_image : AreOf board s partitions
+  pub prints : PrintsFirstUnless f (output_of board partitions) lines start now
+
+-- no call of the disk has failed between the two
+abbrev pub NoneFailed : DiskState → DiskState → Type 0
+NoneFailed old new = ¬ HasRisen old.failures new.failures
+
+-- where no line stores into guest memory, and no call of the disk fails
+abbrev pub PrintsFront : List GuestConfig → List ℕ → DiskState → DiskState → Fault → Option (List ℕ) → Option (List ℕ) → Type 0
+PrintsFront board script old new f start now = (lines : List Said) → Says board script lines → AreSplit board → StoresNothing lines → NoneFailed old new
+    → PrintsOn board old f lines start now
+
+-- 1. Of lines that were read
+
+-- why a run over lines that were read ends
+abbrev pub OpenedEnds : List ℕ → DiskState → DiskState → Fault → Type 0
+OpenedEnds capacities old new (fault.BadScript line) = ⊥
+OpenedEnds capacities old new fault.NoMemory = Unit {0}
+OpenedEnds capacities old new fault.DiskFault = HasRisen old.failures new.failures
+OpenedEnds capacities old new fault.NotFormatted = old.faithful ≡ true → IsUnformatted capacities old.len old.seen
+OpenedEnds capacities old new fault.OtherConfig = old.faithful ≡ true → IsOther capacities old.len old.seen
+OpenedEnds capacities old new f = IsOfRunning f
+
+abbrev pub LinesPrint : List GuestConfig → List Line → DiskState → DiskState → Fault → Option (List ℕ) → Option (List ℕ) → Type 0
+LinesPrint board read old new f start now = AreSplit board → AreWithin (length board) read → StoresNothing (map said read) → NoneFailed old new
+    → PrintsOn board old f (map said read) start now
+
+-- and what it has printed
+abbrev pub OpenedPrints : List GuestConfig → List Line → DiskState → DiskState → Fault → Option (List ℕ) → Option (List ℕ) → Type 0
+OpenedPrints board read old new fault.NotFormatted start now = Keeps start now
+OpenedPrints board read old new fault.OtherConfig start now = Keeps start now
+OpenedPrints board read old new fault.DiskFault start now = Unit {0}
+OpenedPrints board read old new fault.NoMemory start now = Keeps start now ⊎ LinesPrint board read old new fault.NoMemory start now
+OpenedPrints board read old new f start now = LinesPrint board read old new f start now
+
+-- 2. Of a script
+
+-- What a run that ends with a fault has printed: nothing, where a line is bad or the image isn't opened; else what a
+-- front of its lines prints. Of a run that a call of the disk failed in, nothing is said yet.
+abbrev pub RunPrints : List GuestConfig → List ℕ → DiskState → DiskState → Fault → Option (List ℕ) → Option (List ℕ) → Type 0
+RunPrints board script old new (fault.BadScript line) start now = Keeps start now
+RunPrints board script old new fault.NotFormatted start now = Keeps start now
+RunPrints board script old new fault.OtherConfig start now = Keeps start now
+RunPrints board script old new fault.DiskFault start now = Unit {0}
+RunPrints board script old new fault.NoMemory start now = Keeps start now ⊎ PrintsFront board script old new fault.NoMemory start now
+RunPrints board script old new f start now = PrintsFront board script old new f start now
 
 -- What a command that ends with a fault has printed.
-abbrev pub Prints : Command → List GuestConfig → List ℕ → Fault → Option (List ℕ) → Option (List ℕ) → Type 0
-Prints (command.Run b s) board script f start now = RunPrints board script f start now
-Prints (command.Format b) board script f start now = KeepsUnless f start now
-Prints (command.Show b) board script f start now = KeepsUnless f start now
+abbrev pub Prints : Command → List GuestConfig → List ℕ → DiskState → DiskState → Fault → Option (List ℕ) → Option (List ℕ) → Type 0
+Prints (command.Run b s) board script old new f start now = RunPrints board script old new f start now
+Prints (command.Format b) board script old new f start now = KeepsUnless f start now
+Prints (command.Show b) board script old new f start now = KeepsUnless f start now
 
 -- A writer took the text, or a front of it and then no more.
 pub record Takes (start now : Option (List ℕ)) (text : List ℕ) : Type 0 where

@@ -1,4 +1,5 @@
 pub mod Fault
+pub mod Image
 pub mod Transcript
 pub mod Running
 pub mod Listing

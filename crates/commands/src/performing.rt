@@ -7,8 +7,9 @@ ghost use Rattle.recovery.specs.Format.{IsFormatted};
 ghost use Rattle.recovery.specs.Opening.{IsImage, Untouched};
 ghost use Rattle.script.specs.Line.{Said};
 ghost use Rattle.commands.specs.Ending.{Ends, Fails, IsFormat, IsReadAlone, IsRun, IsShow, Prints};
+ghost use Rattle.commands.specs.Image.{Ran};
 ghost use Rattle.commands.specs.Listing.{Lists, formatted_line};
-ghost use Rattle.commands.specs.Transcript.{AreSplit, IsBadAt, Says, StoresNothing, output_of};
+ghost use Rattle.commands.specs.Transcript.{AreSplit, IsBadAt, Says, StoresNothing};
 
 use crate::fault::Fault;
 use crate::formatting::make_image;
@@ -22,9 +23,9 @@ use std::alloc::Global;
 use std::io::Write;
 
 /// Performs the command, and gives the status that the program ends with, and the disk: 0, or 1 after the
-/// line of a fault on standard error. `format` and `show` work on the disk's content; `run` keeps its
-/// partitions in memory and makes no call of the disk. Only `run` looks at the script. What was printed is
-/// flushed before the status is decided.
+/// line of a fault on standard error. All work on the disk's content: `run` takes the script's lines to their
+/// end on the partitions of the image, one after another, and tells of each once it is settled. Only `run`
+/// looks at the script. What was printed is flushed before the status is decided.
 pub fn perform<D: Disk, W: Write, E: Write>(
     alloc: Global,
     command: Command<'_>,
@@ -38,15 +39,14 @@ pub fn perform<D: Disk, W: Write, E: Write>(
     requires { IsFormat command → (D.state disk).len ≡ image_length (capacities_of board.now) }
     ensures status { (result.0 ≡ 0) ⊎ (result.0 ≡ 1) }
     ensures back { IsSome result.1 }
-    // A run that reached its end has printed the reply to each chain, and nothing else, where each guest has
-    // a split ring and no line stored into guest memory.
-    ensures printed { IsRun command.entry → result.0 ≡ 0 → (lines : List Said) → Says board.now script.now lines → AreSplit board.now → StoresNothing lines
-        → Appends (W.contents out.old) (W.contents out.new) (output_of board.now lines) }
-    // Nothing is printed of a script with a bad line.
+    // A run that reached its end has printed the reply to each chain on the partitions of the image, and
+    // nothing else, where each guest has a split ring and no line stored into guest memory; and every stop
+    // leaves the partitions after them.
+    ensures ran { IsRun command.entry → result.0 ≡ 0 → (lines : List Said) → Says board.now script.now lines → AreSplit board.now → StoresNothing lines
+        → IfSome result.1 (λ d. Ran board.now (D.state disk) (D.state d) lines (W.contents out.old) (W.contents out.new)) }
+    // Of a script with a bad line nothing is printed, and the disk isn't called.
     ensures bad { IsRun command.entry → (n : ℕ) → IsBadAt board.now script.now n
-        → (result.0 ≡ 1) × Keeps (W.contents out.old) (W.contents out.new) }
-    // A run makes no call of the disk.
-    ensures unused { IsRun command.entry → result.1 ≡ Some disk }
+        → (result.0 ≡ 1) × Keeps (W.contents out.old) (W.contents out.new) × (result.1 ≡ Some disk) }
     // The disk holds a fresh image, and its length was printed.
     ensures formatted { IsFormat command.entry → result.0 ≡ 0 → (D.state disk).faithful ≡ true
         → IfSome result.1 (λ d. IsFormatted (capacities_of board.now) (D.state d)) }
@@ -64,9 +64,9 @@ pub fn perform<D: Disk, W: Write, E: Write>(
     // Nothing is written on standard error unless the status says so.
     ensures quiet { result.0 ≡ 0 → Keeps (E.contents err.old) (E.contents err.new) }
     // Then it is the line of a fault that may end the command. Only a run has printed something before it:
-    // what a front of its lines prints, unless standard output took no more.
+    // what a front of its lines prints, unless standard output took no more, or a call of the disk failed.
     ensures fault { result.0 ≡ 1 → IfSome result.1 (λ d. Fails
-        (λ f. Ends command.entry board.now script.now (D.state disk) (D.state d) f × Prints command.entry board.now script.now f (W.contents out.old) (W.contents out.new))
+        (λ f. Ends command.entry board.now script.now (D.state disk) (D.state d) f × Prints command.entry board.now script.now (D.state disk) (D.state d) f (W.contents out.old) (W.contents out.new))
         (E.contents err.old) (E.contents err.new)) }
 {
     let mut disk = disk;

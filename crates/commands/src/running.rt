@@ -1,12 +1,19 @@
 //! What `run` does: a script on the partitions of an image.
-ghost use Rattle.std.specs.Prelude.{◌≡◌, ℕ, All, List, Err, IfErr, IfOk, IsErr, OnOk, Some, length, map};
+ghost use Rattle.std.specs.Prelude.{◌≡◌, ℕ, All, List, Err, IfErr, IfOk, IsErr, OnOk, Some, false, length, map};
 ghost use Rattle.std.specs.Prelude.{string_bytes};
 ghost use Rattle.std.specs.Io.KnownBytes.{Appends, Keeps};
+ghost use Rattle.disk.specs.Disk.{Within};
+ghost use Rattle.intent_slots.specs.Layout.{capacities_of};
+ghost use Rattle.recovery.specs.Opening.{Untouched};
 ghost use Rattle.script.specs.Line.{Said, chain, line_of, said};
 ghost use Rattle.script.specs.Script.{lines_of};
-ghost use Rattle.commands.specs.Ending.{IsOfReading, IsOfRunning, IsOfWriting, KeepsUnless, PrintsFirstUnless, RunEnds, RunPrints};
+ghost use Rattle.host.specs.Calm.{is_broken};
+ghost use Rattle.host.specs.Host.{seen};
+ghost use Rattle.host.specs.Moving.{Moves};
+ghost use Rattle.commands.specs.Ending.{IsOfOpening, IsOfReading, IsOfRunning, IsOfWriting, KeepsUnless, OpenedEnds, OpenedPrints, PrintsFirstUnless, RunEnds, RunPrints};
+ghost use Rattle.commands.specs.Image.{Finishes, IsOpened, Ran, Tells};
 ghost use Rattle.commands.specs.Running.{AreGuests, AreWithin, Fails, IsAt, IsSized, Runs};
-ghost use Rattle.commands.specs.Transcript.{AreSplit, IsBadAt, Says, StoresNothing, Told, output_of, shown};
+ghost use Rattle.commands.specs.Transcript.{AreSplit, IsBadAt, Says, StoresNothing, Told, shown};
 ghost use Rattle.commands.specs.Transcript.{stuck_line, transcript, used_line};
 
 use crate::fault::Fault;
@@ -78,7 +85,6 @@ fn read_lines(alloc: Global, script: &str, board: &BoardConfig) -> Result<Vec<Li
     ensures sized { IfOk result (λ lines. All (λ line. IsSized (said line)) lines.items) }
     ensures within { IfOk result (λ lines. AreWithin (length board.now) lines.items) }
     ensures bad { (n : ℕ) → result ≡ Err (Fault.BadScript n) → IsBadAt board.now script.now n }
-    ensures ends { IfErr result (RunEnds board.now script.now) }
     ensures reads { IfErr result IsOfReading }
 {
     match read_script(alloc, script, board.guests().len() as u16) {
@@ -146,7 +152,6 @@ fn run_line<D: Disk, W: Write>(
 }
 
 /// Takes the lines to their end, one after another.
-#[tactic(auto, using(crate::proofs::Printing::begin))]
 fn run_lines<D: Disk, W: Write>(
     alloc: Global,
     host: &mut Host<D>,
@@ -186,7 +191,7 @@ fn open_host<D: Disk>(alloc: Global, disk: D, board: &BoardConfig) -> Result<Hos
 
 /// Makes the calls of the disk that are left, once all lines are at their end.
 fn finish<D: Disk>(host: Host<D>) -> (Result<(), Fault>, D)
-    ensures { Ends D.state D.makes host result.0 result.1 }
+    ensures { Finishes D.state D.makes host result.0 result.1 }
 {
     match host.finish() {
         (disk, Ok(())) => (Ok(()), disk),
@@ -203,6 +208,10 @@ fn run_on<D: Disk, W: Write>(
     out: &mut W,
 ) -> (Result<(), Fault>, D)
     requires { All (λ line. IsSized (said line)) lines.items }
+    ensures ran { OnOk result.0 (AreSplit board.now → StoresNothing (map said lines.items)
+        → Ran board.now (D.state disk) (D.state result.1) (map said lines.items) (W.contents out.old) (W.contents out.new)) }
+    ensures ends { IfErr result.0 (OpenedEnds (capacities_of board.now) (D.state disk) (D.state result.1)) }
+    ensures stopped { IfErr result.0 (λ fault. OpenedPrints board.now lines.items (D.state disk) (D.state result.1) fault (W.contents out.old) (W.contents out.new)) }
 {
     let mut host = match open_host(alloc, disk, board) {
         Ok(host) => host,
@@ -227,6 +236,12 @@ pub fn run<D: Disk, W: Write>(
     disk: D,
     out: &mut W,
 ) -> (Result<(), Fault>, D)
+    ensures ran { OnOk result.0 ((lines : List Said) → Says board.now script.now lines → AreSplit board.now → StoresNothing lines
+        → Ran board.now (D.state disk) (D.state result.1) lines (W.contents out.old) (W.contents out.new)) }
+    ensures bad { (n : ℕ) → IsBadAt board.now script.now n
+        → IsErr result.0 × Keeps (W.contents out.old) (W.contents out.new) × (result.1 ≡ disk) }
+    ensures ends { IfErr result.0 (RunEnds board.now script.now (D.state disk) (D.state result.1)) }
+    ensures stopped { IfErr result.0 (λ fault. RunPrints board.now script.now (D.state disk) (D.state result.1) fault (W.contents out.old) (W.contents out.new)) }
 {
     match read_lines(alloc, script, board) {
         Ok(lines) => run_on(alloc, board, lines, disk, out),

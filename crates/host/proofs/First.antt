@@ -5,9 +5,11 @@ use Rattle.std.proofs.lemmas.List.{length-map}
 use Rattle.disk.specs.Disk.{DiskCall, DiskState}
 use Rattle.rpmb_frame.specs.Config.{IsBoard}
 use Rattle.rpmb_frame.specs.Partition.{Partition}
+use Rattle.rpmb_frame.specs.Request.{Request}
 use Rattle.rpmb_frame.specs.declared.config.GuestConfig.{GuestConfig}
 use Rattle.rpmb_book.specs.Guest.{GuestState}
 use Rattle.rpmb_book.specs.Replay.{fresh_guests}
+use Rattle.board.specs.Board.{StaysLinked}
 use Rattle.board.specs.Opening.{first_devices, new_board}
 use Rattle.board.specs.State.{BoardState, guests}
 use Rattle.board.proofs.Linked.{drives_linked}
@@ -96,3 +98,10 @@ module _ {D : Type 0} (shows : D → DiskState) (config : List GuestConfig) (b :
           ∙ ap (views_of (started 0 (length config) config) (replicate (length config) None)) fronts_is ∙ all_started 0 config in
           subst (AreReady 0 (replicate (length config) 1)) (sym views) (ready_all config in_range split);
     }
+
+    -- nothing but the devices moved
+    pub linked_started : (bases : ℕ → Partition) (accepted : ℕ → List Request) → StaysLinked shows config bases accepted b → StaysLinked shows config bases accepted b'
+    linked_started bases accepted l = subst (StaysLinked shows config bases accepted) (sym is) (record {
+      parts = l.parts;
+      linked = drives_linked shows config bases accepted l.parts b l.linked (started 0 (length config) config) b.jobs (length_started 0 (length config) config ∙ sym many_first ∙ l.linked.places.devices) l.linked.places.jobs;
+    })

@@ -1,6 +1,7 @@
 pub mod Chains
 pub mod Collects
 pub mod Ending
+pub mod Failing
 pub mod First
 pub mod Fronts
 pub mod Hosts
@@ -17,5 +18,6 @@ pub mod Spares
 pub mod Starting
 pub mod Steps
 pub mod Updates
+pub mod Whole
 pub mod Work
 pub mod Writes

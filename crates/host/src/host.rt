@@ -1,5 +1,8 @@
 //! All guests of a board, each with a driver before its device.
-ghost use Rattle.std.specs.Prelude.{◌≡◌, ◌≤◌, ◌<◌, ◌+◌, IfErr, IfOk, false, length, slice_get};
+ghost use Rattle.std.specs.Prelude.{◌≡◌, ◌≤◌, ◌<◌, ◌+◌, ℕ, List, IfErr, IfOk, false, length, slice_get};
+ghost use Rattle.rpmb_frame.specs.Request.{Request};
+ghost use Rattle.rpmb_frame.specs.Partition.{Partition};
+ghost use Rattle.board.specs.Board.{StaysLinked};
 ghost use Rattle.host.specs.Calm.{is_broken};
 ghost use Rattle.host.specs.Finishing.{Finishes};
 ghost use Rattle.host.specs.Host.{HostAnswers, HostChains, HostResets, HostResetsGuest, HostStores, seen};
@@ -46,6 +49,9 @@ impl<D: Disk> Host<D> {
         ensures first { IfOk result (IsFirstHost config.now board) }
         ensures refused { IfErr result (λ disk. disk ≡ board.store.disk) }
         ensures moves { IfOk result (λ h. Moves D.state D.makes board h.board) }
+        // It is tied to what the board was tied to.
+        ensures linked { IfOk result (λ h. (bases : ℕ → Partition) (accepted : ℕ → List Request) → StaysLinked D.state config.now bases accepted board
+            → StaysLinked D.state config.now bases accepted h.board) }
     {
         let mut board = board;
         match fronts_of(alloc, &mut board, config) {
@@ -146,7 +152,9 @@ impl<D: Disk> Host<D> {
 
     /// The disk, as the last chain left it, without another call. All else goes.
     pub fn into_disk(self) -> D
-        ensures { result ≡ self.board.store.disk }
+        ensures disk { result ≡ self.board.store.disk }
+        // The book knows what the disk's last call did.
+        ensures known { self.board.store.broken ≡ is_broken self.board }
     {
         self.board.into_disk()
     }

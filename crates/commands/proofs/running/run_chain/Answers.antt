@@ -1,9 +1,10 @@
-use Rattle.std.proofs.Common.{Ok, subst, sym}
+use Rattle.std.proofs.Common.{◌≡◌, false, Ok, subst, sym}
 use Rattle.script.specs.Line.{chain}
 use Rattle.std.proofs.lemmas.Result.{on_ok_weaker}
-use Rattle.runner.specs.Host.{HostAnswers}
-use Rattle.runner.specs.declared.guest.Answer.{Answer}
-use Rattle.runner.specs.declared.guest.Answer.TheVariants.{Used}
+use Rattle.host.specs.Calm.{is_broken}
+use Rattle.host.specs.Host.{HostAnswers, seen}
+use Rattle.host.specs.declared.front.Answer.{Answer}
+use Rattle.host.specs.declared.front.Answer.TheVariants.{Used}
 use Rattle.commands.specs.Running.{Fails}
 use Rattle.commands.proofs.Lines.{chain_ends, stuck_runs, used_runs}
 use Rattle.commands.proofs.running.run_chain.Goals as goal
@@ -12,19 +13,19 @@ pub returns-in-Ok-Used-clause-runs : goal.returns-in-Ok-Used-clause-runs
 returns-in-Ok-Used-clause-runs g c =
     let start = g.W.Write.contents c.args.out.now in
     let end = g.W.Write.contents c.write_reply.new.out in
-    let given : Answer → Type 0 = λ x. HostAnswers c.args.host.now c.args.guest c.args.readable.now c.args.writable (Ok x) c.chain.new.self in
-    on_ok_weaker c.write_reply.result (λ printed. used_runs c.args.host.now c.chain.new.self c.args.guest c.args.readable.now c.args.writable (Used c.in-Ok-Used.reply) c.as_slice.result.now start end
+    let given : Answer → Type 0 = λ x. is_broken c.chain.new.self.board ≡ false → HostAnswers (seen c.args.host.now) c.args.guest c.args.readable.now c.args.writable (Ok x) (seen c.chain.new.self) in
+    on_ok_weaker c.write_reply.result (λ printed. used_runs (is_broken c.chain.new.self.board) (seen c.args.host.now) (seen c.chain.new.self) c.args.guest c.args.readable.now c.args.writable (Used c.in-Ok-Used.reply) c.as_slice.result.now start end
     (subst given c.in-Ok-Used.field-0-is c.in-Ok-Used.ensures.answer) c.as_slice.ensures.value printed) c.write_reply.ensures.printed
 
 pub returns-in-Ok-Stuck-clause-runs : goal.returns-in-Ok-Stuck-clause-runs
 returns-in-Ok-Stuck-clause-runs g c =
     let start = g.W.Write.contents c.args.out.now in
     let end = g.W.Write.contents c.write_stuck.new.out in
-    let given : Answer → Type 0 = λ x. HostAnswers c.args.host.now c.args.guest c.args.readable.now c.args.writable (Ok x) c.chain.new.self in
-    on_ok_weaker c.write_stuck.result (λ printed. stuck_runs c.args.host.now c.chain.new.self c.args.guest c.args.readable.now c.args.writable c.in-Ok-Stuck.stuck start end
+    let given : Answer → Type 0 = λ x. is_broken c.chain.new.self.board ≡ false → HostAnswers (seen c.args.host.now) c.args.guest c.args.readable.now c.args.writable (Ok x) (seen c.chain.new.self) in
+    on_ok_weaker c.write_stuck.result (λ printed. stuck_runs (is_broken c.chain.new.self.board) (seen c.args.host.now) (seen c.chain.new.self) c.args.guest c.args.readable.now c.args.writable c.in-Ok-Stuck.stuck start end
     (subst given c.in-Ok-Stuck.field-0-is c.in-Ok-Stuck.ensures.answer)) c.write_stuck.ensures.printed
 
 pub returns-in-Err-clause-fails : goal.returns-in-Err-clause-fails
 returns-in-Err-clause-fails g c =
-    subst (Fails c.args.host.now (chain c.args.guest c.args.readable.now c.args.writable)) (sym c.of.ensures)
-    (chain_ends c.args.host.now c.chain.new.self c.args.guest c.args.readable.now c.args.writable c.in-Err.fault c.in-Err.ensures.guest)
+    subst (Fails (is_broken c.chain.new.self.board) (seen c.args.host.now) (chain c.args.guest c.args.readable.now c.args.writable)) (sym c.of.ensures)
+    (chain_ends (is_broken c.chain.new.self.board) (seen c.args.host.now) (seen c.chain.new.self) c.args.guest c.args.readable.now c.args.writable c.in-Err.fault c.in-Err.ensures.guest)

@@ -1,6 +1,9 @@
-use Rattle.std.proofs.Common.{ℕ, map}
+use Rattle.std.proofs.Common.{◌≡◌, ℕ, false, map}
 use Rattle.std.specs.Prelude.{All}
 use Rattle.script.specs.Line.{said}
+use Rattle.host.specs.Calm.{is_broken}
+use Rattle.host.specs.Host.{seen}
+use Rattle.host.specs.Moving.{Moves}
 use Rattle.commands.specs.Transcript.{StoresNothing, Told}
 use Rattle.commands.specs.Running.{AreWithin, IsAt, IsSized}
 use Rattle.commands.proofs.Printing.{Going}
@@ -10,5 +13,7 @@ abbrev pub invariant-loop-line : goal.invariant-loop-line
 invariant-loop-line g l =
     All (λ line. IsSized (said line)) l.line-iterator.rest.items
     × ((guests : ℕ) → AreWithin guests l.fn.lines.items → AreWithin guests l.line-iterator.rest.items)
-    × ((t : Told) → IsAt 0 t l.fn.host → StoresNothing (map said l.fn.lines.items)
-    → Going (g.W.Write.contents l.fn.out) (g.W.Write.contents l.out) t l.host (map said l.fn.lines.items) (map said l.line-iterator.rest.items))
+    × (is_broken l.host.board ≡ false → is_broken l.fn.host.board ≡ false)
+    × Moves g.D.Disk.state g.D.Disk.makes l.fn.host.board l.host.board
+    × (is_broken l.host.board ≡ false → (t : Told) → IsAt 0 t (seen l.fn.host) → StoresNothing (map said l.fn.lines.items)
+    → Going (g.W.Write.contents l.fn.out) (g.W.Write.contents l.out) t (seen l.host) (map said l.fn.lines.items) (map said l.line-iterator.rest.items))
