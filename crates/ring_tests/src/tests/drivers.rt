@@ -231,10 +231,20 @@ fn reap_of(alloc: Global, id: u32, len: u32) -> Result<bool, Fail> {
 }
 
 fn put_element(device: &mut Device, id: u32, len: u32) -> Result<(), Fail> {
-    let at = DriverLayout::of(RingKind::Split, GUEST.queue).device_area;
-    device.store(at + 4, &id.to_le_bytes()).ok().ok_or("id")?;
-    device.store(at + 8, &len.to_le_bytes()).ok().ok_or("len")?;
-    device.store(at + 2, &[1, 0]).ok().ok_or("idx")?;
+    store(device, 4, &id.to_le_bytes())?;
+    store(device, 8, &len.to_le_bytes())?;
+    store(device, 2, &[1, 0])
+}
+
+// The device's area of the driver's layout.
+fn device_area() -> u64 {
+    DriverLayout::of(RingKind::Split, GUEST.queue).device_area
+}
+
+// Stores bytes that far behind the beginning of that area.
+fn store(device: &mut Device, place: u64, bytes: &[u8]) -> Result<(), Fail> {
+    let at = device_area().saturating_add(place);
+    device.store(at, bytes).ok().ok_or("store")?;
     Ok(())
 }
 

@@ -2,7 +2,7 @@ use guest_memory::{MemFault, Memory};
 use std::test::Fail;
 
 // A range that is asked for, and whether it lies in a memory of 16 bytes.
-const RANGES: [(u64, u64, bool); 8] = [
+static RANGES: [(u64, u64, bool); 8] = [
     (0, 16, true),
     (15, 1, true),
     (16, 0, true),
@@ -16,8 +16,8 @@ const RANGES: [(u64, u64, bool); 8] = [
 #[test]
 fn ranges(rt: HostRuntime) -> Result<(), Fail> {
     let memory = Memory::new(rt.alloc(), 16).ok().ok_or("no memory")?;
-    for (at, len, inside) in RANGES {
-        assert_eq!(rt; memory.contains(at, len), inside);
+    for (at, len, inside) in &RANGES {
+        assert!(rt; memory.contains(*at, *len) == *inside, "{at}, {len}");
     }
     Ok(())
 }

@@ -106,8 +106,8 @@ fn go_round(
 
 fn exchange(alloc: Global, guest: u16, config: &GuestConfig) -> Result<(), Fail> {
     let (mut device, mut driver) = in_service(alloc, guest, config)?;
-    for (length, room) in LENGTHS {
-        go_round(alloc, &mut device, &mut driver, length, room)?;
+    for (length, room) in &LENGTHS {
+        go_round(alloc, &mut device, &mut driver, *length, *room)?;
     }
     Ok(())
 }

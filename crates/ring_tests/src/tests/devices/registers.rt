@@ -52,8 +52,8 @@ static FRESH: [(u32, u8, u32); 35] = [
 ];
 
 fn reads_as_told(device: &Device) -> Result<(), Fail> {
-    for (offset, width, value) in FRESH {
-        check(device.read(offset, width) == value, "a read")?;
+    for (offset, width, value) in &FRESH {
+        check(device.read(*offset, *width) == *value, "a read")?;
     }
     Ok(())
 }
@@ -260,8 +260,8 @@ static KICKS: [(u32, u8, u32, Kick); 10] = [
 ];
 
 fn asks_as_told(device: &mut Device) -> Result<(), Fail> {
-    for (offset, width, value, kick) in KICKS {
-        check(device.write(offset, width, value) == kick, "a kick")?;
+    for (offset, width, value, kick) in &KICKS {
+        check(device.write(*offset, *width, *value) == *kick, "a kick")?;
     }
     Ok(())
 }
