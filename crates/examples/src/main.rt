@@ -1,6 +1,9 @@
 //! Performs the examples that its words name, each a folder, and prints of each whether it wrote what the
-//! folder expects: `expected.txt` on standard output, and `fault.txt`, where there is one, on standard error.
-//! A folder with a `script.txt` is run, another one formatted and shown, both on a disk in memory.
+//! folder expects. Each is performed on a disk in memory.
+//!
+//! A folder with a `script.txt` is run on a fresh image: `expected.txt` on standard output, and `fault.txt`,
+//! where there is one, on standard error. One with a `story.txt` has a command in each line of it, `format`,
+//! `show` or `run SCRIPT`, and behind ` > ` the file of what it prints; all of them on one disk.
 #![tactic(auto)]
 
 use anyhow::{Result, bail};
@@ -22,39 +25,43 @@ const RUN: Command<'static> = Command::Run {
     script: "",
 };
 
-/// What a command wrote, and the status that it ended with.
+/// What a command wrote, the status that it ended with, and the disk.
 #[derive(Drop)]
 struct Ended {
     status: u8,
     out: Vec<u8>,
     err: Vec<u8>,
+    disk: MemDisk,
 }
 
-/// Runs a script.
-fn run(alloc: Global, board: &BoardConfig, script: &str) -> Ended {
-    let mut out = Vec::new(alloc);
-    let mut err = Vec::new(alloc);
-    let disk = MemDisk::new(Vec::new(alloc));
-    let (status, _) = perform(alloc, RUN, board, script, disk, &mut out, &mut err);
-    Ended { status, out, err }
-}
-
-/// Makes a fresh image, and shows it.
-fn show(alloc: Global, board: &BoardConfig) -> Result<Ended> {
-    let length = Layout::of(board).length();
-    let disk = MemDisk::new(vec![in alloc; 0; length as usize]?);
-    if disk.len() != length {
+/// Performs a command on a disk. An image is made only on a disk of its length.
+fn perform_on(
+    alloc: Global,
+    command: Command<'_>,
+    board: &BoardConfig,
+    script: &str,
+    disk: MemDisk,
+) -> Result<Ended> {
+    if disk.len() != Layout::of(board).length() {
         bail!("another length");
     }
     let mut out = Vec::new(alloc);
     let mut err = Vec::new(alloc);
-    let (_, disk) = perform(alloc, FORMAT, board, "", disk, &mut out, &mut err);
-    let Some(disk) = disk else {
-        bail!("no disk");
-    };
-    out.clear();
-    let (status, _) = perform(alloc, SHOW, board, "", disk, &mut out, &mut err);
-    Ok(Ended { status, out, err })
+    match perform(alloc, command, board, script, disk, &mut out, &mut err) {
+        (status, Some(disk)) => Ok(Ended {
+            status,
+            out,
+            err,
+            disk,
+        }),
+        (_, None) => bail!("no disk"),
+    }
+}
+
+/// A disk of the length of the board's image.
+fn blank(alloc: Global, board: &BoardConfig) -> Result<MemDisk> {
+    let length = Layout::of(board).length();
+    Ok(MemDisk::new(vec![in alloc; 0; length as usize]?))
 }
 
 /// What a file of a folder holds, or nothing where it isn't there.
@@ -67,26 +74,69 @@ fn text(rt: &HostRuntime, name: &str, file: &str) -> Result<String> {
     Ok(fs::read_to_string(rt, path.as_str())?)
 }
 
-/// Performs the example of a folder.
-fn performed(rt: &HostRuntime, name: &str) -> Result<Ended> {
+/// Whether a script on a fresh image ended as the folder expects.
+fn runs(rt: &HostRuntime, name: &str, board: &BoardConfig, script: &str) -> Result<bool> {
     let alloc = rt.alloc();
-    let board = text(rt, name, "board.toml")?;
-    let (board, _) = read_board(alloc, board.as_str())?;
-    let script = text(rt, name, "script.txt")?;
-    if script.is_empty() {
-        return show(alloc, &board);
-    }
-    Ok(run(alloc, &board, script.as_str()))
-}
-
-/// Whether the example of a folder ended as its files expect.
-fn is_as_expected(rt: &HostRuntime, name: &str) -> Result<bool> {
-    let ended = performed(rt, name)?;
+    let made = perform_on(alloc, FORMAT, board, "", blank(alloc, board)?)?;
+    let ended = perform_on(alloc, RUN, board, script, made.disk)?;
     let expected = text(rt, name, "expected.txt")?;
     let fault = text(rt, name, "fault.txt")?;
     let is_told = ended.out.as_slice() == expected.as_bytes()
         && ended.err.as_slice() == fault.as_bytes();
     Ok(is_told && (ended.status == 0) == fault.is_empty())
+}
+
+/// Performs the command of a line of a story.
+fn step(
+    rt: &HostRuntime,
+    name: &str,
+    board: &BoardConfig,
+    words: &str,
+    disk: MemDisk,
+) -> Result<Ended> {
+    if words == "format" {
+        return perform_on(rt.alloc(), FORMAT, board, "", disk);
+    }
+    if words == "show" {
+        return perform_on(rt.alloc(), SHOW, board, "", disk);
+    }
+    let Some(file) = words.strip_prefix("run ") else {
+        bail!("no command");
+    };
+    let script = text(rt, name, file)?;
+    perform_on(rt.alloc(), RUN, board, script.as_str(), disk)
+}
+
+/// Whether each command of a story ended as the folder expects.
+fn tells(rt: &HostRuntime, name: &str, board: &BoardConfig, story: &str) -> Result<bool> {
+    let mut disk = blank(rt.alloc(), board)?;
+    for line in story.lines() {
+        let Some((words, file)) = line.split_once(" > ") else {
+            bail!("no line of a story");
+        };
+        let ended = step(rt, name, board, words, disk)?;
+        let expected = text(rt, name, file)?;
+        if ended.status != 0 || ended.out.as_slice() != expected.as_bytes() {
+            return Ok(false);
+        }
+        disk = ended.disk;
+    }
+    Ok(true)
+}
+
+/// Whether the example of a folder ended as its files expect.
+fn is_as_expected(rt: &HostRuntime, name: &str) -> Result<bool> {
+    let board = text(rt, name, "board.toml")?;
+    let (board, _) = read_board(rt.alloc(), board.as_str())?;
+    let story = text(rt, name, "story.txt")?;
+    if !story.is_empty() {
+        return tells(rt, name, &board, story.as_str());
+    }
+    let script = text(rt, name, "script.txt")?;
+    if script.is_empty() {
+        bail!("neither a story nor a script");
+    }
+    runs(rt, name, &board, script.as_str())
 }
 
 fn main(rt: HostRuntime) -> Result<()> {

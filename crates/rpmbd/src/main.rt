@@ -7,11 +7,13 @@ ghost use Rattle.intent_slots.specs.Layout.{capacities_of, image_length};
 ghost use Rattle.commands.specs.Ending.{IsFormat};
 
 mod files;
+mod fresh;
 
 use command_line::{Command, WordsError, read_words};
 use commands::{Fault, perform, report};
-use disk::{Disk, MemDisk};
+use disk::Disk;
 use files::{create_image, open_image, read_board_file, read_image_board, read_text};
+use fresh::fresh_disk;
 use intent_slots::Layout;
 use rpmb_frame::BoardConfig;
 use std::io::{BufWriter, Write};
@@ -37,6 +39,29 @@ fn perform_on<D: Disk, W: Write>(
     status
 }
 
+/// Runs a script on the image in the file that the board names, or on a fresh one in memory.
+fn run_on_image<W: Write>(
+    rt: &HostRuntime,
+    command: Command<'_>,
+    board: &BoardConfig,
+    script: &str,
+    image: Option<String>,
+    out: &mut W,
+) -> Result<u8, Fault>
+    requires { ¬ IsFormat command }
+{
+    match image {
+        Some(path) => {
+            let disk = open_image(rt, path.as_str())?;
+            Ok(perform_on(rt, command, board, script, disk, out))
+        }
+        None => {
+            let disk = fresh_disk(rt.alloc(), board)?;
+            Ok(perform_on(rt, command, board, script, disk, out))
+        }
+    }
+}
+
 /// Reads the files that the command names, and performs it on them.
 fn perform_on_files(rt: &HostRuntime, command: Command<'_>) -> Result<u8, Fault> {
     // Nothing is asked for after a file was cut to its length, but what the command itself needs.
@@ -55,10 +80,9 @@ fn perform_on_files(rt: &HostRuntime, command: Command<'_>) -> Result<u8, Fault>
             Ok(perform_on(rt, command, &board, "", disk, &mut out))
         }
         Command::Run { board, script } => {
-            let (board, _) = read_board_file(rt, board)?;
+            let (board, image) = read_board_file(rt, board)?;
             let script = read_text(rt, script)?;
-            let disk = MemDisk::new(Vec::new(rt.alloc()));
-            Ok(perform_on(rt, command, &board, script.as_str(), disk, &mut out))
+            run_on_image(rt, command, &board, script.as_str(), image, &mut out)
         }
     }
 }

@@ -1,8 +1,12 @@
+mod failing;
 mod images;
+mod lines;
+mod runs;
 
 use command_line::Command;
 use commands::perform;
-use disk::MemDisk;
+use disk::{Disk, MemDisk};
+use intent_slots::Layout;
 use rpmb_frame::{BoardConfig, GuestConfig};
 use std::alloc::Global;
 use std::io;
@@ -14,17 +18,79 @@ const RUN: Command<'static> = Command::Run {
     script: "",
 };
 
-/// Runs a script. No call is made on the disk, which has no room for one.
+const FORMAT: Command<'static> = Command::Format { board: "" };
+
+const SHOW: Command<'static> = Command::Show { board: "" };
+
+/// Performs a command on a disk, and gives the status and the disk. An image is made only on a disk of its
+/// length.
+fn perform_on<D: Disk, W: Write, E: Write>(
+    alloc: Global,
+    command: Command<'_>,
+    board: &BoardConfig,
+    script: &str,
+    disk: D,
+    out: &mut W,
+    err: &mut E,
+) -> Result<(u8, D), Fail> {
+    if disk.len() != Layout::of(board).length() {
+        if let Command::Format { .. } = command {
+            return Err("another length").map_err(Fail::from);
+        }
+    }
+    match perform(alloc, command, board, script, disk, out, err) {
+        (status, Some(disk)) => Ok((status, disk)),
+        (_, None) => Err("no disk").map_err(Fail::from),
+    }
+}
+
+/// What a command ended with: the status, what it wrote on standard output and on standard error, and the
+/// disk.
+#[derive(Drop)]
+struct Ended<D: Disk> {
+    status: u8,
+    out: Vec<u8>,
+    err: Vec<u8>,
+    disk: D,
+}
+
+/// Performs a command on a disk.
+fn performed<D: Disk>(
+    alloc: Global,
+    command: Command<'_>,
+    board: &BoardConfig,
+    script: &str,
+    disk: D,
+) -> Result<Ended<D>, Fail> {
+    let mut out = Vec::new(alloc);
+    let mut err = Vec::new(alloc);
+    let (status, disk) = perform_on(alloc, command, board, script, disk, &mut out, &mut err)?;
+    Ok(Ended {
+        status,
+        out,
+        err,
+        disk,
+    })
+}
+
+/// A fresh image, on a disk that held other bytes.
+fn fresh(alloc: Global, board: &BoardConfig) -> Result<Vec<u8>, Fail> {
+    let content = vec![in alloc; 0xee; Layout::of(board).length() as usize]?;
+    let ended = performed(alloc, FORMAT, board, "", MemDisk::new(content))?;
+    Ok(ended.disk.content().to_vec(alloc)?)
+}
+
+/// Runs a script on a fresh image.
 fn run_on<W: Write, E: Write>(
     alloc: Global,
     board: &BoardConfig,
     script: &str,
     out: &mut W,
     err: &mut E,
-) -> u8 {
-    let disk = MemDisk::new(Vec::new(alloc));
-    let (status, _) = perform(alloc, RUN, board, script, disk, out, err);
-    status
+) -> Result<u8, Fail> {
+    let disk = MemDisk::new(fresh(alloc, board)?);
+    let (status, _) = perform_on(alloc, RUN, board, script, disk, out, err)?;
+    Ok(status)
 }
 
 /// The board of guests of these capacities, with the defaults of a board file in all else.
@@ -69,7 +135,7 @@ fn ends_where_output_fails(rt: HostRuntime) -> Result<(), Fail> {
         let mut out = Narrow { room };
         let mut err = Vec::new(alloc);
         let script = "chain 0 - 16\nchain 0 - 16\n";
-        let status = run_on(alloc, &board, script, &mut out, &mut err);
+        let status = run_on(alloc, &board, script, &mut out, &mut err)?;
         assert_eq!(rt; status, 1, "at {room}");
         assert_eq!(rt;
             err.as_slice(),
@@ -77,7 +143,7 @@ fn ends_where_output_fails(rt: HostRuntime) -> Result<(), Fail> {
             "at {room}"
         );
         let mut err = Narrow { room: 7 };
-        let status = run_on(alloc, &board, script, &mut Narrow { room }, &mut err);
+        let status = run_on(alloc, &board, script, &mut Narrow { room }, &mut err)?;
         assert_eq!(rt; status, 1, "at {room}");
     }
     Ok(())
@@ -92,7 +158,7 @@ fn tells_lost_lines_before_another_fault(rt: HostRuntime) -> Result<(), Fail> {
         let mut out = Narrow { room };
         let mut err = Vec::new(alloc);
         let script = "chain 0 - 16\nstore 0 1048576 00\n";
-        let status = run_on(alloc, &board, script, &mut out, &mut err);
+        let status = run_on(alloc, &board, script, &mut out, &mut err)?;
         assert_eq!(rt; status, 1, "at {room}");
         assert_eq!(rt; err.as_slice(), fault.as_bytes(), "at {room}");
     }
@@ -129,7 +195,7 @@ fn answers_a_full_board_and_a_full_history(rt: HostRuntime) -> Result<(), Fail> 
         }
         let mut out = Vec::new(alloc);
         let mut err = Vec::new(alloc);
-        let found = run_on(alloc, &board, script.as_str(), &mut out, &mut err);
+        let found = run_on(alloc, &board, script.as_str(), &mut out, &mut err)?;
         assert_eq!(rt; found, status, "at {guests} and {lines}");
         assert!(rt;
             out.as_slice() == want.as_bytes(),

@@ -16,6 +16,11 @@ const FORMAT: Command<'static> = Command::Format { board: "" };
 
 const SHOW: Command<'static> = Command::Show { board: "" };
 
+const RUN: Command<'static> = Command::Run {
+    board: "",
+    script: "",
+};
+
 /// One guest of capacity 1: its home stands at 1,024, its gate at 1,536, its blocks at 36,352.
 const ONE: &str = "[[guest]]\ncapacity = 1\n";
 
@@ -48,10 +53,16 @@ fn perform_on<D: Disk>(
     Ok((status, out, err))
 }
 
-fn shown(rt: &HostRuntime, path: &str, text: &str) -> Result<(u8, Vec<u8>, Vec<u8>), Fail> {
+/// Performs a command on a file that is there.
+fn performed(
+    rt: &HostRuntime,
+    command: Command<'_>,
+    path: &str,
+    text: &str,
+) -> Result<(u8, Vec<u8>, Vec<u8>), Fail> {
     let board = board_of(rt.alloc(), text)?;
     let disk = open_image(rt, path)?;
-    perform_on(rt.alloc(), SHOW, &board, disk)
+    perform_on(rt.alloc(), command, &board, disk)
 }
 
 /// Makes a fresh image of one guest in a file, over what the file holds.
@@ -79,7 +90,8 @@ fn fresh(alloc: Global) -> Result<Vec<u8>, Fail> {
     Ok(content)
 }
 
-/// Whether `show` of a file with this content ends with the fault, prints nothing, and leaves the file.
+/// Whether `show` and `run` of a file with this content end with the fault, print nothing, and leave the
+/// file.
 fn refuses(
     rt: &HostRuntime,
     path: &str,
@@ -88,9 +100,14 @@ fn refuses(
     fault: &str,
 ) -> Result<bool, Fail> {
     fs::write(rt, path, content)?;
-    let (status, out, err) = shown(rt, path, text)?;
-    let is_told = status == 1 && out.is_empty() && err.as_slice() == fault.as_bytes();
-    Ok(is_told && fs::read(rt, path)?.as_slice() == content)
+    for command in [SHOW, RUN] {
+        let (status, out, err) = performed(rt, command, path, text)?;
+        let is_told = status == 1 && out.is_empty() && err.as_slice() == fault.as_bytes();
+        if !is_told || fs::read(rt, path)?.as_slice() != content {
+            return Ok(false);
+        }
+    }
+    Ok(true)
 }
 
 /// Which faults a byte in a fresh image of one guest leads to: magic, number of guests, capacity, key flag,
@@ -123,7 +140,7 @@ fn formats_a_file_and_shows_it(rt: HostRuntime) -> Result<(), Fail> {
             fs::read(&rt, path)?.as_slice() == wanted.as_slice(),
             "at {length}"
         );
-        let (status, out, err) = shown(&rt, path, ONE)?;
+        let (status, out, err) = performed(&rt, SHOW, path, ONE)?;
         assert_eq!(rt; (status, err.len()), (0, 0), "at {length}");
         assert_eq!(rt; out.as_slice(), FRESH.as_bytes(), "at {length}");
     }
@@ -191,7 +208,7 @@ fn refuses_files(rt: HostRuntime) -> Result<(), Fail> {
         );
     }
     fs::remove_dir(&rt, "folder")?;
-    // No file is made to be shown.
+    // No file is made to be shown or run.
     assert!(rt; open_image(&rt, "missing").err() == Some(Fault::FileFault));
     assert!(rt; !fs::exists(&rt, "missing")?);
     Ok(())

@@ -28,7 +28,7 @@ static FILES: [(&str, &str); 7] = [
 
 // The words, and the status that they end with: 2 for words that name no command, 1 for a fault, else 0. A
 // board is read before a script, and an image is opened only once both are.
-static WORDS: [(&str, u8); 24] = [
+static WORDS: [(&str, u8); 29] = [
     ("", 2),
     ("run", 2),
     ("run board.toml", 2),
@@ -44,7 +44,7 @@ static WORDS: [(&str, u8); 24] = [
     ("run no_board.toml script.txt", 1),
     ("run missing.toml script.txt", 1),
     ("run board.toml missing.txt", 1),
-    ("run image.toml script.txt", 0),
+    ("run image.toml script.txt", 1),
     ("show board.toml", 1),
     ("show image.toml", 1),
     ("format board.toml", 1),
@@ -53,6 +53,11 @@ static WORDS: [(&str, u8); 24] = [
     ("show image.toml", 0),
     ("show other.toml", 1),
     ("show missing.toml", 1),
+    ("run image.toml script.txt", 0),
+    ("run image.toml bad.txt", 1),
+    ("run other.toml script.txt", 1),
+    ("run lost.toml script.txt", 1),
+    ("run lost.toml bad.txt", 1),
 ];
 
 fn words_of(alloc: Global, line: &str) -> Result<Vec<String>, Fail> {

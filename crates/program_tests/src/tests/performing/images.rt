@@ -1,56 +1,18 @@
 //! Images that are made and shown, on disks in memory. What is wanted was written out by hand from the
 //! layout of an image (docs/FORMATS.md, "The image"), not by this program.
 
-use super::{Narrow, board_of};
-use command_line::Command;
-use commands::perform;
+use super::{FORMAT, Narrow, SHOW, board_of, fresh, perform_on, performed};
 use disk::{CutDisk, Disk, MemDisk};
 use intent_slots::Layout;
 use rpmb_frame::BoardConfig;
 use std::alloc::Global;
-use std::io::Write;
 use std::test::Fail;
-
-const FORMAT: Command<'static> = Command::Format { board: "" };
-
-const SHOW: Command<'static> = Command::Show { board: "" };
 
 /// One guest of capacity 1: its home stands at 1,024, its blocks at 36,352.
 const ONE: &[u8] = &[1];
 
 /// Guests of capacities 1 and 2: the second one's home stands at 167,424, its blocks at 202,752.
 const TWO: &[u8] = &[1, 2];
-
-/// Performs a command on a disk, and gives the status and the disk. An image is made only on a disk of its
-/// length.
-fn perform_on<D: Disk, W: Write, E: Write>(
-    alloc: Global,
-    command: Command<'_>,
-    board: &BoardConfig,
-    disk: D,
-    out: &mut W,
-    err: &mut E,
-) -> Result<(u8, D), Fail> {
-    if disk.len() != Layout::of(board).length() {
-        if let Command::Format { .. } = command {
-            return Err("another length").map_err(Fail::from);
-        }
-    }
-    match perform(alloc, command, board, "", disk, out, err) {
-        (status, Some(disk)) => Ok((status, disk)),
-        (_, None) => Err("no disk").map_err(Fail::from),
-    }
-}
-
-/// A fresh image, on a disk that held other bytes.
-fn fresh(alloc: Global, board: &BoardConfig) -> Result<Vec<u8>, Fail> {
-    let content = vec![in alloc; 0xee; Layout::of(board).length() as usize]?;
-    let disk = MemDisk::new(content);
-    let mut out = Vec::new(alloc);
-    let mut err = Vec::new(alloc);
-    let (_, disk) = perform_on(alloc, FORMAT, board, disk, &mut out, &mut err)?;
-    Ok(disk.content().to_vec(alloc)?)
-}
 
 /// Puts bytes over those from a place on.
 fn put(content: &mut Vec<u8>, at: usize, bytes: &[u8]) {
@@ -68,13 +30,11 @@ fn shown(
     content: &[u8],
 ) -> Result<(u8, Vec<u8>, Vec<u8>), Fail> {
     let disk = MemDisk::new(content.to_vec(alloc)?);
-    let mut out = Vec::new(alloc);
-    let mut err = Vec::new(alloc);
-    let (status, disk) = perform_on(alloc, SHOW, board, disk, &mut out, &mut err)?;
-    if disk.content() != content {
+    let ended = performed(alloc, SHOW, board, "", disk)?;
+    if ended.disk.content() != content {
         return Err("the disk was written").map_err(Fail::from);
     }
-    Ok((status, out, err))
+    Ok((ended.status, ended.out, ended.err))
 }
 
 #[test]
@@ -94,13 +54,10 @@ fn makes_images_of_no_keys(rt: HostRuntime) -> Result<(), Fail> {
     ] {
         let board = board_of(alloc, capacities)?;
         let content = vec![in alloc; 0xee; Layout::of(&board).length() as usize]?;
-        let mut out = Vec::new(alloc);
-        let mut err = Vec::new(alloc);
-        let disk = MemDisk::new(content);
-        let (status, disk) = perform_on(alloc, FORMAT, &board, disk, &mut out, &mut err)?;
-        assert_eq!(rt; (status, err.len()), (0, 0), "at {length}");
-        assert_eq!(rt; out.as_slice(), length.as_bytes());
-        let (status, out, err) = shown(alloc, &board, disk.content())?;
+        let made = performed(alloc, FORMAT, &board, "", MemDisk::new(content))?;
+        assert_eq!(rt; (made.status, made.err.len()), (0, 0), "at {length}");
+        assert_eq!(rt; made.out.as_slice(), length.as_bytes());
+        let (status, out, err) = shown(alloc, &board, made.disk.content())?;
         assert_eq!(rt; (status, err.len()), (0, 0), "at {length}");
         assert_eq!(rt; out.as_slice(), listing.as_bytes());
     }
@@ -208,17 +165,16 @@ fn fails_at_each_call_in_turn(rt: HostRuntime) -> Result<(), Fail> {
         for k in 1..=calls + 1 {
             let mut disk = CutDisk::new(alloc, image.to_vec(alloc)?)?;
             disk.fail(k);
-            let mut out = Vec::new(alloc);
-            let mut err = Vec::new(alloc);
-            let (status, disk) = perform_on(alloc, command, &board, disk, &mut out, &mut err)?;
+            let ended = performed(alloc, command, &board, "", disk)?;
+            let seen = (ended.status, ended.disk.failures());
             if k <= calls {
-                assert_eq!(rt; (status, disk.failures(), out.len()), (1, 1, 0), "at {k}");
-                assert_eq!(rt; err.as_slice(), fault, "at {k}");
+                assert_eq!(rt; (seen, ended.out.len()), ((1, 1), 0), "at {k}");
+                assert_eq!(rt; ended.err.as_slice(), fault, "at {k}");
             } else {
-                assert_eq!(rt; (status, disk.failures(), err.len()), (0, 0, 0), "at {k}");
+                assert_eq!(rt; (seen, ended.err.len()), ((0, 0), 0), "at {k}");
             }
             if command == SHOW {
-                assert!(rt; disk.content() == image.as_slice(), "at {k}");
+                assert!(rt; ended.disk.content() == image.as_slice(), "at {k}");
             }
         }
     }
@@ -236,7 +192,7 @@ fn ends_where_output_fails(rt: HostRuntime) -> Result<(), Fail> {
             let disk = MemDisk::new(image.to_vec(alloc)?);
             let mut out = Narrow { room };
             let mut err = Vec::new(alloc);
-            let (status, _) = perform_on(alloc, command, &board, disk, &mut out, &mut err)?;
+            let (status, _) = perform_on(alloc, command, &board, "", disk, &mut out, &mut err)?;
             assert_eq!(rt; (status, out.room), (1, 0), "at {room}");
             assert_eq!(rt;
                 err.as_slice(),
