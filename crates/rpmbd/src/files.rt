@@ -6,7 +6,7 @@ use commands::Fault;
 use disk::FileDisk;
 use rpmb_frame::BoardConfig;
 use std::alloc::Global;
-use std::fs::File;
+use std::fs::{File, OpenOptions};
 use std::os::unix::fs::OpenOptionsExt;
 use std::rt::Files;
 use std::{fs, io};
@@ -56,6 +56,14 @@ pub fn read_image_board<R: Files + AllocGlobal>(
     }
 }
 
+/// Opens the file of an image. Where standard output or error is closed, its number goes to the next file that
+/// is opened, and what is printed would be written into that file. So the file is kept under a number above
+/// theirs.
+fn open_above_streams(rt: &HostRuntime, path: &str, options: &OpenOptions) -> io::Result<File> {
+    let file = options.open(rt, path)?;
+    file.try_clone()
+}
+
 /// The file of an image that is to be made, cut or made longer to `len` bytes. It is made where it isn't
 /// there, for its owner alone, since keys will stand in it; a file that is there keeps its mode. `FileFault`
 /// where it can't be opened for reading and writing, and then its bytes stay; or where its length can't be
@@ -63,13 +71,9 @@ pub fn read_image_board<R: Files + AllocGlobal>(
 pub fn create_image(rt: &HostRuntime, path: &str, len: u64) -> Result<FileDisk, Fault>
     ensures { IfOk result (λ disk. disk.len ≡ len) }
 {
-    let opened = File::options()
-        .read(true)
-        .write(true)
-        .create(true)
-        .mode(0o600)
-        .open(rt, path);
-    let file = match opened {
+    let mut options = File::options();
+    options.read(true).write(true).create(true).mode(0o600);
+    let file = match open_above_streams(rt, path, &options) {
         Ok(file) => file,
         Err(error) => return Err(fault_of(&error)),
     };
@@ -82,8 +86,9 @@ pub fn create_image(rt: &HostRuntime, path: &str, len: u64) -> Result<FileDisk, 
 /// The file of an image that is there. `FileFault` where it can't be opened for reading and writing, or its
 /// length isn't told.
 pub fn open_image(rt: &HostRuntime, path: &str) -> Result<FileDisk, Fault> {
-    let opened = File::options().read(true).write(true).open(rt, path);
-    let file = match opened {
+    let mut options = File::options();
+    options.read(true).write(true);
+    let file = match open_above_streams(rt, path, &options) {
         Ok(file) => file,
         Err(error) => return Err(fault_of(&error)),
     };
