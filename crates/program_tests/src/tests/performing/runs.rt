@@ -64,8 +64,8 @@ fn goes_on_from_an_earlier_run(rt: HostRuntime) -> Result<(), Fail> {
     Ok(())
 }
 
-/// Whether a run of these lines ends with the fault, prints nothing, and leaves the disk's bytes. A bad line
-/// is told before a call of the disk is made, even one that fails.
+/// Whether a run, of which this call would fail, ends with the fault, prints nothing, makes no call that
+/// fails, and leaves the disk's bytes.
 fn refuses(
     alloc: Global,
     script: &str,
@@ -86,26 +86,29 @@ fn refuses(
     )
 }
 
+/// Whether a bad line is told before a call of the disk is made, even one that would fail.
+fn is_told_first(alloc: Global, script: &str, content: &[u8]) -> Result<bool, Fail> {
+    refuses(alloc, script, content, 1, "rpmbd: 20 BadScript line 3\n")
+}
+
 #[test]
 fn leaves_the_disk_where_a_line_is_bad(rt: HostRuntime) -> Result<(), Fail> {
     let alloc = rt.alloc();
     let image = fresh(alloc, &board_of(alloc, &[1])?)?;
     let mut script = script_of(alloc, &LINES[..2])?;
     script.push_str("chain 1 - 512\n")?;
-    for content in [image.as_slice(), &image.as_slice()[1..], b"".as_slice()] {
+    for length in [0, 5, image.len()] {
         assert!(rt;
-            refuses(
-                alloc,
-                script.as_str(),
-                content,
-                1,
-                "rpmbd: 20 BadScript line 3\n"
-            )?,
-            "at {}",
-            content.len()
+            is_told_first(alloc, script.as_str(), front(image.as_slice(), length))?,
+            "at {length}"
         );
     }
     Ok(())
+}
+
+/// So many bytes of a content's front, or all where there are fewer.
+fn front(content: &[u8], length: usize) -> &[u8] {
+    &content[..length.min(content.len())]
 }
 
 /// Whether a run over this content ends with the fault, and leaves the content.
@@ -123,7 +126,7 @@ fn refuses_what_is_no_image(rt: HostRuntime) -> Result<(), Fail> {
     assert!(rt; refuses_image(alloc, zeros.as_slice(), fault)?);
     for length in [0, 1023, 1024, image.len().saturating_sub(1)] {
         assert!(rt;
-            refuses_image(alloc, &image.as_slice()[..length], fault)?,
+            refuses_image(alloc, front(image.as_slice(), length), fault)?,
             "at {length}"
         );
     }
