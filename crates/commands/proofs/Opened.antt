@@ -273,7 +273,7 @@ unwritten shows makes board read disk d h0 start now opened = λ split within cl
 pub stopped_at : {D : Type 0} (shows : D → DiskState) (makes : D → DiskCall → D → Type 0) (board : List GuestConfig) (read : List Line) (disk d : D) (h0 h : HostState D) (f : Fault) (start now next : Option (List ℕ))
     → IsOpened shows makes board disk h0 → Moves shows makes h0.board h.board → h.board.store.broken ≡ is_broken h.board → d ≡ h.board.store.disk → IsOfRunning f
     → (is_broken h.board ≡ false → (guests : ℕ) → (t : Told) → IsAt 0 t (seen h0) → AreGuests guests t → AreWithin guests read → StoresNothing (map said read)
-        → PrintsFirstUnless f (transcript t) (map said read) start now)
+    → PrintsFirstUnless f (transcript t) (map said read) start now)
     → Keeps now next → OpenedPrints board read (shows disk) (shows d) f start next
 stopped_at shows makes board read disk d h0 h f start now next opened moves known is of stops kept = line_printed board read (shows disk) (shows d) f start next of (λ split within clean none.
     let whole = none_broken shows makes board disk h0 h opened moves known (subst (λ e. NoneFailed (shows disk) (shows e)) is none) in

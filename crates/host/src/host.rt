@@ -32,7 +32,7 @@ impl<D: Disk> Model for Host<D> {
     ghost use Rattle.std.specs.Prelude.{◌≡◌, length};
     ghost use Rattle.host.specs.Calm.{IsCalm};
     ghost use Rattle.host.specs.Finishing.{Finishes};
-ghost use Rattle.host.specs.Host.{HostState};
+    ghost use Rattle.host.specs.Host.{HostState};
 
     ghost Value = { HostState D };
 
