@@ -162,7 +162,7 @@ none_broken shows makes board disk h0 h opened moves known none = by (is_broken 
 
 -- 3. What was printed, and what is left
 
-found_core : (gs : List GuestState) (g : ℕ) (p : Partition) → slice_get (map (λ (c : GuestCore). c.partition) (map (λ (x : GuestState). x.core) gs)) g ≡ Some p
+pub found_core : (gs : List GuestState) (g : ℕ) (p : Partition) → slice_get (map (λ (c : GuestCore). c.partition) (map (λ (x : GuestState). x.core) gs)) g ≡ Some p
     → (x : GuestState) × (slice_get gs g ≡ Some x) × (x.core.partition ≡ p)
 found_core [] g p at = absurd (cc)
 found_core (x ∷ gs) zero p at = (x, refl, (let same : x.core.partition ≡ p = cc in same))

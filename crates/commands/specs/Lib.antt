@@ -4,3 +4,4 @@ pub mod Transcript
 pub mod Running
 pub mod Listing
 pub mod Ending
+pub mod Moments

@@ -1,5 +1,5 @@
 //! What a command does, once its files are read.
-ghost use Rattle.std.specs.Prelude.{◌≡◌, ◌⊎◌, ℕ, true, List, IfSome, IsSome, OnOk, Some};
+ghost use Rattle.std.specs.Prelude.{◌≡◌, ◌⊎◌, ℕ, true, List, IfSome, IsSome, Ok, OnOk, Some};
 ghost use Rattle.std.specs.Io.KnownBytes.{Appends, Keeps};
 ghost use Rattle.disk.specs.Disk.{DiskState, Within};
 ghost use Rattle.intent_slots.specs.Layout.{capacities_of, image_length};
@@ -9,6 +9,7 @@ ghost use Rattle.script.specs.Line.{Said};
 ghost use Rattle.commands.specs.Ending.{Ends, Fails, IsFormat, IsReadAlone, IsRun, IsShow, Prints};
 ghost use Rattle.commands.specs.Image.{Ran};
 ghost use Rattle.commands.specs.Listing.{Lists, formatted_line};
+ghost use Rattle.commands.specs.Moments.{AnyMoment, FaultMoments};
 ghost use Rattle.commands.specs.Transcript.{AreSplit, IsBadAt, Says, StoresNothing};
 
 use crate::fault::Fault;
@@ -44,6 +45,11 @@ pub fn perform<D: Disk, W: Write, E: Write>(
     // leaves the partitions after them.
     ensures ran { IsRun command.entry → result.0 ≡ 0 → (lines : List Said) → Says board.now script.now lines → AreSplit board.now → StoresNothing lines
         → IfSome result.1 (λ d. Ran board.now (D.state disk) (D.state d) lines (W.contents out.old) (W.contents out.new)) }
+    // At each moment of a run every stop leaves, for each guest, the partition after a prefix of what its lines
+    // so far had accepted, with all that was accepted up to the last line that printed, until a call of the
+    // disk fails; from then on with all that no stop could lose before.
+    ensures moments { IsRun command.entry → result.0 ≡ 0 → (lines : List Said) → Says board.now script.now lines
+        → IfSome result.1 (λ d. AnyMoment D.state D.makes board.now lines disk (W.contents out.old) (Ok tt) d (W.contents out.new)) }
     // Of a script with a bad line nothing is printed, and the disk isn't called.
     ensures bad { IsRun command.entry → (n : ℕ) → IsBadAt board.now script.now n
         → (result.0 ≡ 1) × Keeps (W.contents out.old) (W.contents out.new) × (result.1 ≡ Some disk) }
@@ -66,7 +72,8 @@ pub fn perform<D: Disk, W: Write, E: Write>(
     // Then it is the line of a fault that may end the command. Only a run has printed something before it:
     // what a front of its lines prints, unless standard output took no more, or a call of the disk failed.
     ensures fault { result.0 ≡ 1 → IfSome result.1 (λ d. Fails
-        (λ f. Ends command.entry board.now script.now (D.state disk) (D.state d) f × Prints command.entry board.now script.now (D.state disk) (D.state d) f (W.contents out.old) (W.contents out.new))
+        (λ f. Ends command.entry board.now script.now (D.state disk) (D.state d) f × Prints command.entry board.now script.now (D.state disk) (D.state d) f (W.contents out.old) (W.contents out.new)
+            × FaultMoments D.state D.makes command.entry board.now script.now disk (W.contents out.old) f d (W.contents out.new))
         (E.contents err.old) (E.contents err.new)) }
 {
     let mut disk = disk;

@@ -7,11 +7,12 @@ ghost use Rattle.intent_slots.specs.Layout.{capacities_of};
 ghost use Rattle.recovery.specs.Opening.{Untouched};
 ghost use Rattle.script.specs.Line.{Said, chain, line_of, said};
 ghost use Rattle.script.specs.Script.{lines_of};
-ghost use Rattle.host.specs.Calm.{is_broken};
+ghost use Rattle.host.specs.Calm.{IsCalm, is_broken};
 ghost use Rattle.host.specs.Host.{seen};
 ghost use Rattle.host.specs.Moving.{Moves};
 ghost use Rattle.commands.specs.Ending.{IsOfOpening, IsOfReading, IsOfRunning, IsOfWriting, KeepsUnless, OpenedEnds, OpenedPrints, PrintsFirstUnless, RunEnds, RunPrints};
 ghost use Rattle.commands.specs.Image.{Finishes, IsOpened, Ran, Tells};
+ghost use Rattle.commands.specs.Moments.{AnyMoment, LinesCome, MovesTo, PrintsLine};
 ghost use Rattle.commands.specs.Running.{AreGuests, AreWithin, Fails, IsAt, IsSized, Runs};
 ghost use Rattle.commands.specs.Transcript.{AreSplit, IsBadAt, Says, StoresNothing, Told, shown};
 ghost use Rattle.commands.specs.Transcript.{stuck_line, transcript, used_line};
@@ -110,6 +111,8 @@ fn run_chain<D: Disk, W: Write>(
     ensures ends { IfErr result IsOfRunning }
     ensures fails { IfErr result (Fails (is_broken host.new.board) (seen host.old) (chain guest readable.now writable)) }
     ensures silent { IfErr result (λ fault. KeepsUnless fault (W.contents out.old) (W.contents out.new)) }
+    ensures prints { OnOk result (PrintsLine (chain guest readable.now writable) (W.contents out.old) (W.contents out.new)) }
+    ensures calm { IsCalm D.state host.new.board }
 {
     match host.chain(guest, readable, writable) {
         Ok(Answer::Used(reply)) => write_reply(alloc, guest, reply.as_slice(), out),
@@ -132,6 +135,8 @@ fn run_line<D: Disk, W: Write>(
     ensures ends { IfErr result IsOfRunning }
     ensures fails { IfErr result (Fails (is_broken host.new.board) (seen host.old) (said line)) }
     ensures silent { IfErr result (λ fault. KeepsUnless fault (W.contents out.old) (W.contents out.new)) }
+    ensures prints { OnOk result (PrintsLine (said line) (W.contents out.old) (W.contents out.new)) }
+    ensures calm { IsCalm D.state host.old.board → IsCalm D.state host.new.board }
 {
     match line {
         Line::Nothing => Ok(()),
@@ -164,6 +169,7 @@ fn run_lines<D: Disk, W: Write>(
     ensures keeps { is_broken host.new.board ≡ false → is_broken host.old.board ≡ false }
     ensures moves { Moves D.state D.makes host.old.board host.new.board }
     ensures ends { IfErr result IsOfRunning }
+    ensures moments { LinesCome D.state D.makes (map said lines.items) host.old.board (seen host.old) (W.contents out.old) result host.new.board (W.contents out.new) }
     ensures stopped { IfErr result (λ fault. is_broken host.new.board ≡ false → (guests : ℕ) → (t : Told) → IsAt 0 t (seen host.old) → AreGuests guests t
         → AreWithin guests lines.items → StoresNothing (map said lines.items)
         → PrintsFirstUnless fault (transcript t) (map said lines.items) (W.contents out.old) (W.contents out.new)) }
@@ -177,6 +183,7 @@ fn run_lines<D: Disk, W: Write>(
 /// The guests of an image, each in its first session. The disk is given back with a fault.
 fn open_host<D: Disk>(alloc: Global, disk: D, board: &BoardConfig) -> Result<Host<D>, (D, Fault)>
     ensures opened { IfOk result (IsOpened D.state D.makes board.now disk) }
+    ensures calm { IfOk result (λ h. IsCalm D.state h.board) }
     ensures ends { IfErr result (λ e. IsOfOpening (capacities_of board.now) (D.state disk) (D.state e.0) e.1) }
     ensures untouched { IfErr result (λ e. Within D.state D.makes (Untouched (D.state disk)) disk e.0) }
 {
@@ -191,7 +198,8 @@ fn open_host<D: Disk>(alloc: Global, disk: D, board: &BoardConfig) -> Result<Hos
 
 /// Makes the calls of the disk that are left, once all lines are at their end.
 fn finish<D: Disk>(host: Host<D>) -> (Result<(), Fault>, D)
-    ensures { Finishes D.state D.makes host result.0 result.1 }
+    ensures ended { Finishes D.state D.makes host result.0 result.1 }
+    ensures moves { MovesTo D.state D.makes host.board result.1 }
 {
     match host.finish() {
         (disk, Ok(())) => (Ok(()), disk),
@@ -211,6 +219,7 @@ fn run_on<D: Disk, W: Write>(
     ensures ran { OnOk result.0 (AreSplit board.now → StoresNothing (map said lines.items)
         → Ran board.now (D.state disk) (D.state result.1) (map said lines.items) (W.contents out.old) (W.contents out.new)) }
     ensures ends { IfErr result.0 (OpenedEnds (capacities_of board.now) (D.state disk) (D.state result.1)) }
+    ensures moments { AnyMoment D.state D.makes board.now (map said lines.items) disk (W.contents out.old) result.0 result.1 (W.contents out.new) }
     ensures stopped { IfErr result.0 (λ fault. OpenedPrints board.now lines.items (D.state disk) (D.state result.1) fault (W.contents out.old) (W.contents out.new)) }
 {
     let mut host = match open_host(alloc, disk, board) {
@@ -241,6 +250,8 @@ pub fn run<D: Disk, W: Write>(
     ensures bad { (n : ℕ) → IsBadAt board.now script.now n
         → IsErr result.0 × Keeps (W.contents out.old) (W.contents out.new) × (result.1 ≡ disk) }
     ensures ends { IfErr result.0 (RunEnds board.now script.now (D.state disk) (D.state result.1)) }
+    ensures moments { (lines : List Said) → Says board.now script.now lines
+        → AnyMoment D.state D.makes board.now lines disk (W.contents out.old) result.0 result.1 (W.contents out.new) }
     ensures stopped { IfErr result.0 (λ fault. RunPrints board.now script.now (D.state disk) (D.state result.1) fault (W.contents out.old) (W.contents out.new)) }
 {
     match read_lines(alloc, script, board) {

@@ -6,6 +6,8 @@ use Rattle.commands.specs.Image.{Ran}
 use Rattle.commands.specs.Transcript.{StoresNothing}
 use Rattle.commands.proofs.Ended.{all_run_ends, all_run_prints, none_ends, none_run}
 use Rattle.commands.proofs.Printing.{none_bad, not_bad, says_same}
+use Rattle.commands.specs.Moments.{AnyMoment}
+use Rattle.commands.proofs.Walking.{run_unread}
 use Rattle.commands.proofs.running.run.Goals as goal
 
 pub returns-in-Ok-clause-ran : goal.returns-in-Ok-clause-ran
@@ -38,3 +40,11 @@ returns-in-Err-clause-stopped g c = none_run c.args.board.now c.args.script.now 
 
 pub returns-in-Err-clause-ends : goal.returns-in-Err-clause-ends
 returns-in-Err-clause-ends g c = none_ends c.args.board.now c.args.script.now (g.D.Disk.state c.args.disk) c.in-Err.fault (λ n is. c.in-Err.ensures.bad n (ap Err is)) c.in-Err.ensures.reads
+
+pub returns-in-Ok-clause-moments : goal.returns-in-Ok-clause-moments
+returns-in-Ok-clause-moments g c lines is =
+    subst (λ (x : List Said). AnyMoment g.D.Disk.state g.D.Disk.makes c.args.board.now x c.args.disk (g.W.Write.contents c.args.out.now) c.run_on.result.0 c.run_on.result.1 (g.W.Write.contents c.run_on.new.out))
+    (sym (says_same lines c.in-Ok.lines.items _ is c.in-Ok.ensures.ok)) c.run_on.ensures.moments
+
+pub returns-in-Err-clause-moments : goal.returns-in-Err-clause-moments
+returns-in-Err-clause-moments g c lines is = run_unread g.D.Disk.state g.D.Disk.makes c.args.board.now lines c.args.disk c.in-Err.fault (g.W.Write.contents c.args.out.now)

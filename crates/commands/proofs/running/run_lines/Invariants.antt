@@ -1,10 +1,13 @@
-use Rattle.std.proofs.Common.{◌≡◌, ℕ, false, map}
+use Rattle.std.proofs.Common.{◌≡◌, ℕ, false, List, [], map}
 use Rattle.std.specs.Prelude.{All}
 use Rattle.script.specs.Line.{said}
-use Rattle.host.specs.Calm.{is_broken}
+use Rattle.rpmb_frame.specs.Partition.{Partition}
+use Rattle.rpmb_frame.specs.declared.config.GuestConfig.{GuestConfig}
+use Rattle.host.specs.Calm.{IsCalm, is_broken}
 use Rattle.host.specs.Host.{seen}
 use Rattle.host.specs.Moving.{Moves}
 use Rattle.commands.specs.Transcript.{StoresNothing, Told}
+use Rattle.commands.specs.Moments.{Starts, Walked, moment_of}
 use Rattle.commands.specs.Running.{AreWithin, IsAt, IsSized}
 use Rattle.commands.proofs.Printing.{Going}
 use Rattle.commands.proofs.running.run_lines.Given as goal
@@ -17,3 +20,6 @@ invariant-loop-line g l =
     × Moves g.D.Disk.state g.D.Disk.makes l.fn.host.board l.host.board
     × (is_broken l.host.board ≡ false → (t : Told) → IsAt 0 t (seen l.fn.host) → StoresNothing (map said l.fn.lines.items)
     → Going (g.W.Write.contents l.fn.out) (g.W.Write.contents l.out) t (seen l.host) (map said l.fn.lines.items) (map said l.line-iterator.rest.items))
+    × (IsCalm g.D.Disk.state l.fn.host.board → IsCalm g.D.Disk.state l.host.board)
+    × ((board : List GuestConfig) (partitions : List Partition) → Starts g.D.Disk.state board partitions l.fn.host.board (seen l.fn.host)
+    → Walked g.D.Disk.state g.D.Disk.makes board partitions (map said l.fn.lines.items) (g.W.Write.contents l.fn.out) (moment_of (λ k. []) l.fn.host.board (g.W.Write.contents l.fn.out)) (map said l.line-iterator.rest.items) l.host.board (g.W.Write.contents l.out))

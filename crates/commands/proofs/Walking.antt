@@ -1,0 +1,210 @@
+-- The moments of a run, line by line.
+use Rattle.std.proofs.Common.{◌≡◌, ◌⊎◌, ◌≤◌, ◌<◌, ◌+◌, ⊎_elim, inl, inr, ℕ, Bool, true, false, List, [], ◌∷◌, ◌++◌, Option, Some, Result, Ok, Err, length, map, refl, ap, sym, subst, ◌∙◌, arith}
+use Rattle.std.specs.Prelude.{get_or, slice_get}
+use Rattle.std.proofs.lemmas.List.{append_assoc, append_cancel_right, append-nil}
+use Rattle.std.proofs.lemmas.Option.{get_or_from_slice_get, slice_get-get_or}
+use Rattle.std.proofs.KnownBytes.{Appends-kept, Appends-nil, Keeps-refl, Keeps-trans}
+use Rattle.std.specs.Io.KnownBytes.{Appends, Keeps}
+use Rattle.rpmb_frame.specs.Partition.{Partition, sequence}
+use Rattle.rpmb_frame.specs.Request.{Request}
+use Rattle.rpmb_frame.specs.declared.config.GuestConfig.{GuestConfig}
+use Rattle.rpmb_core.specs.Requests.{partition_after_all}
+use Rattle.rpmb_core.proofs.Following.{sequence_of_all}
+use Rattle.disk.specs.Disk.{DiskCall, DiskState, HasRisen, Still, Within}
+use Rattle.recovery.specs.Opening.{Untouched}
+use Rattle.recovery.proofs.Ways.{untouched_here}
+use Rattle.flusher.specs.Marks.{marks_of}
+use Rattle.flusher.specs.Slot.{mark_of}
+use Rattle.rpmb_book.specs.Guest.{GuestCore, GuestState}
+use Rattle.script.specs.Line.{Said, said}
+use Rattle.script.specs.declared.line.Line.{Line}
+use Rattle.board.specs.Board.{StaysLinked, marks_in}
+use Rattle.board.specs.Opening.{bases_of}
+use Rattle.board.specs.State.{BoardState, guests}
+use Rattle.board.proofs.Stays.{marks_at}
+use Rattle.host.specs.Calm.{IsCalm, is_broken}
+use Rattle.host.specs.Host.{HostState, HostView, seen}
+use Rattle.host.specs.Moving.{Moves}
+use Rattle.host.proofs.Moving.{moves_none, moves_twice}
+use Rattle.host.proofs.Settled.{below}
+use Rattle.commands.specs.Ending.{IsOfRunning, KeepsUnless}
+use Rattle.commands.specs.Image.{Finishes, IsOpened}
+use Rattle.commands.specs.Moments.{AnyMoment, Begun, Comes, IsDone, IsRefused, IsTold, Leads, LinesCome, MayEnd, Moment, MovesTo, PrintsLine, Runs, Starts, Stopped, Trail, Walked, Went, moment_of}
+use Rattle.commands.specs.Running.{IsAt}
+use Rattle.commands.specs.Transcript.{AreSplit, StoresNothing, Told, first_told, partitions_after, told_after, transcript}
+use Rattle.commands.specs.declared.fault.Fault.{Fault}
+use Rattle.commands.specs.declared.fault.Fault.TheVariants as fault
+use Rattle.commands.proofs.Opened.{found_core}
+use Rattle.commands.proofs.Printing.{Going}
+
+-- what a board's calls lead to
+pub leads_by : {D : Type 0} (shows : D → DiskState) (makes : D → DiskCall → D → Type 0) (board : List GuestConfig) (partitions : List Partition) (accepted : ℕ → List Request) (b c : BoardState D) (start now : Option (List ℕ))
+    → StaysLinked shows board (bases_of partitions) accepted b → (moves : Moves shows makes b c)
+    → (n : ℕ → List Request) × Leads shows makes board partitions (moment_of accepted b start) (moment_of n c now) × StaysLinked shows board (bases_of partitions) n c
+leads_by shows makes board partitions accepted b c start now linked moves =
+    let r = moves.reaches board (bases_of partitions) accepted linked in (
+      r.now,
+      record { more = r.more; moments = r.moments; faithful = moves.faithful; kept = moves.marks; whole = moves.whole; cause = moves.cause },
+      r.linked,
+    )
+
+-- While no call has failed, a calm board's marks count all that was accepted.
+all_kept : {D : Type 0} (shows : D → DiskState) (board : List GuestConfig) (bases : ℕ → Partition) (accepted : ℕ → List Request) (b : BoardState D) → IsCalm shows b → StaysLinked shows board bases accepted b → b.store.broken ≡ false
+    → (g : ℕ) → g < length board → sequence (bases g) + length (accepted g) ≤ marks_in b g
+all_kept shows board bases accepted b calm linked whole g there =
+    let l = linked.linked in
+    let many = l.many in
+    let x = guest_at (guests b) g (omega (arith, there, many)) in
+    let t = l.each g x.0 x.1 in
+    let settled : x.0.settled ≡ sequence x.0.core.partition = (calm.quiet g x.0 x.1).settled (sym calm.broken ∙ whole) in
+    let s = below shows b g x.0 calm.sound x.1 in
+    let least = s.settled in
+    let marked : marks_in b g ≡ mark_of s.stored = get_or_from_slice_get (marks_of b.store.guests) g (mark_of s.stored) 0 (marks_at b.store.guests g s.stored s.at) in
+    let all : sequence x.0.core.partition ≡ sequence (bases g) + length (accepted g) = ap sequence t.link.partition ∙ sequence_of_all (bases g) (accepted g) t.link.in_turn in
+    omega (arith, settled, least, marked, all)
+  where
+    guest_at : (xs : List GuestState) (g : ℕ) → g < length xs → (x : GuestState) × (slice_get xs g ≡ Some x)
+    guest_at [] g inside = absurd (omega (arith, inside))
+    guest_at (x ∷ xs) g inside = (_, slice_get-get_or (x ∷ xs) g x inside)
+
+-- what the lines done have printed, where a run stands
+told_at : {D : Type 0} (shows : D → DiskState) (board : List GuestConfig) (partitions : List Partition) (accepted : ℕ → List Request) (h : HostState D) (all done rest : List Said) (start now : Option (List ℕ))
+    → StaysLinked shows board (bases_of partitions) accepted h.board → all ≡ done ++ rest → Going start now (first_told board partitions) (seen h) all rest
+    → IsTold board partitions start done (moment_of accepted h.board now)
+told_at shows board partitions accepted h all done rest start now linked parts going =
+    let same : going.done ≡ done = append_cancel_right going.done done rest (sym going.parts ∙ parts) in
+    let told = first_told board partitions in
+    record {
+      printed = subst (Appends start now) (going.those ∙ ap (transcript told) same) going.so_far;
+      after = λ g p at.
+          let cores : map (λ (x : GuestState). x.core) (guests h.board) ≡ (told_after told done).cores = going.at.cores ∙ ap (λ t. t.cores) (going.after ∙ ap (told_after told) same) in
+          let x = found_core (guests h.board) g p (ap (λ cs. slice_get (map (λ (c : GuestCore). c.partition) cs) g) cores ∙ at) in
+          sym x.2 ∙ (linked.linked.each g x.0 x.1).link.partition;
+    }
+
+-- Before the first line.
+pub walk_begins : {D : Type 0} (shows : D → DiskState) (makes : D → DiskCall → D → Type 0) (board : List GuestConfig) (partitions : List Partition) (h : HostState D) (all : List Said) (start : Option (List ℕ))
+    → Starts shows board partitions h.board (seen h)
+    → (is_broken h.board ≡ false → AreSplit board → StoresNothing all → Going start start (first_told board partitions) (seen h) all all)
+    → Walked shows makes board partitions all start (moment_of (λ g. []) h.board start) all h.board start
+walk_begins shows makes board partitions h all start starts going = record {
+  accepted = λ g. [];
+  linked = starts.linked;
+  done = [];
+  parts = refl;
+  trail = Begun (record {
+    kept = all_kept shows board (bases_of partitions) (λ g. []) h.board starts.calm starts.linked;
+    told = λ whole split clean. told_at shows board partitions (λ g. []) h all [] all start start starts.linked refl (going (sym starts.calm.broken ∙ whole) split clean);
+  });
+}
+
+-- A line more.
+pub walk_on : {D : Type 0} (shows : D → DiskState) (makes : D → DiskCall → D → Type 0) (board : List GuestConfig) (partitions : List Partition) (all : List Said) (start : Option (List ℕ)) (first : Moment D) (line : Said) (rest : List Said)
+    (b : BoardState D) (h : HostState D) (now next : Option (List ℕ))
+    → Walked shows makes board partitions all start first (line ∷ rest) b now → Moves shows makes b h.board → IsCalm shows h.board → PrintsLine line now next
+    → (is_broken h.board ≡ false → AreSplit board → StoresNothing all → Going start next (first_told board partitions) (seen h) all rest)
+    → Walked shows makes board partitions all start first rest h.board next
+walk_on shows makes board partitions all start first line rest b h now next walked moves calm prints going =
+    let l = leads_by shows makes board partitions walked.accepted b h.board now next walked.linked moves in
+    let parts : all ≡ (walked.done ++ line ∷ []) ++ rest = walked.parts ∙ sym (append_assoc walked.done (line ∷ []) rest) in
+    record {
+      accepted = l.0;
+      linked = l.2;
+      done = walked.done ++ line ∷ [];
+      parts = parts;
+      trail = Went walked.done line (moment_of walked.accepted b now) (moment_of l.0 h.board next) walked.trail l.1 prints (record {
+        kept = all_kept shows board (bases_of partitions) l.0 h.board calm l.2;
+        told = λ whole split clean. told_at shows board partitions l.0 h all (walked.done ++ line ∷ []) rest start next l.2 parts (going (sym calm.broken ∙ whole) split clean);
+      });
+    }
+
+-- 1. A whole run
+
+-- how lines that ended so may end a run
+may_end : (f : Fault) (rest : List Said) (last now next : Option (List ℕ)) → (f ≡ fault.DiskFault → ⊥) → KeepsUnless f last now → Keeps now next → MayEnd (Err f) rest last next
+may_end fault.FileFault rest last now next other kept more = tt
+may_end fault.DiskFault rest last now next other kept more = absurd (other refl)
+may_end (fault.BadScript line) rest last now next other kept more = Keeps-trans last now next kept more
+may_end fault.OutOfRange rest last now next other kept more = Keeps-trans last now next kept more
+may_end fault.NoMemory rest last now next other kept more = Keeps-trans last now next kept more
+may_end fault.NotFormatted rest last now next other kept more = Keeps-trans last now next kept more
+may_end fault.OtherConfig rest last now next other kept more = Keeps-trans last now next kept more
+may_end fault.Busy rest last now next other kept more = Keeps-trans last now next kept more
+may_end fault.HistoryFull rest last now next other kept more = Keeps-trans last now next kept more
+may_end fault.NoRoom rest last now next other kept more = Keeps-trans last now next kept more
+may_end fault.Foreign rest last now next other kept more = Keeps-trans last now next kept more
+may_end fault.BadBoard rest last now next other kept more = Keeps-trans last now next kept more
+
+module _ {D : Type 0} (shows : D → DiskState) (makes : D → DiskCall → D → Type 0) (board : List GuestConfig) (disk : D) (h : HostState D) (all : List Said) (start : Option (List ℕ)) (opened : IsOpened shows makes board disk h) where
+  abbrev first_of : Moment D
+  first_of = moment_of (λ g. []) h.board start
+
+  -- the lines are done, or one came to a fault, and calls came after them
+  whole_run : (ended : Result (Unit {0}) Fault) (rest : List Said) (b c : BoardState D) (printed now : Option (List ℕ)) (new : D) → Walked shows makes board opened.partitions all start first_of rest b printed
+      → Moves shows makes b c → new ≡ c.store.disk → MayEnd ended rest printed now → AnyMoment shows makes board all disk start ended new now
+  whole_run ended rest b c printed now new walked moves is ends =
+      let l = leads_by shows makes board opened.partitions walked.accepted b c printed now walked.linked moves in
+      inr (record {
+        partitions = opened.partitions;
+        of_image = opened.of_image;
+        first = first_of;
+        opening = opened.untouched;
+        none = λ g. refl;
+        whole = opened.whole;
+        silent = refl;
+        done = walked.done;
+        rest = rest;
+        parts = walked.parts;
+        last = moment_of walked.accepted b printed;
+        trail = walked.trail;
+        after = moment_of l.0 c now;
+        leads = l.1;
+        disk = is;
+        ends = ends;
+      })
+
+  starts : IsCalm shows h.board → Starts shows board opened.partitions h.board (seen h)
+  starts calm = record { calm = calm; linked = opened.linked; ready = opened.ready }
+
+  -- all lines came to their end, and the calls after them
+  pub run_finished : (h' : HostState D) (r : Result (Unit {0}) Fault) (now next : Option (List ℕ)) (new : D) → IsCalm shows h.board → LinesCome shows makes all h.board (seen h) start (Ok tt) h'.board now
+      → Keeps now next → MovesTo shows makes h'.board new → ((f : Fault) → r ≡ Err f → f ≡ fault.DiskFault) → AnyMoment shows makes board all disk start r new next
+  run_finished h' r now next new calm come kept to only = whole_run r [] h'.board to.last now next new (come board opened.partitions (starts calm)) to.moves to.disk (ends r only)
+    where
+      ends : (r : Result (Unit {0}) Fault) → ((f : Fault) → r ≡ Err f → f ≡ fault.DiskFault) → MayEnd r [] now next
+      ends (Ok x) only = (refl, kept)
+      ends (Err f) only = subst (λ e. MayEnd (Err e) [] now next) (sym (only f refl)) (refl, kept)
+
+  -- a line came to a fault
+  pub run_stopped : (h' : HostState D) (f : Fault) (now next : Option (List ℕ)) (new : D) → IsCalm shows h.board → LinesCome shows makes all h.board (seen h) start (Err f) h'.board now
+      → Keeps now next → new ≡ h'.board.store.disk → (f ≡ fault.DiskFault → ⊥) → AnyMoment shows makes board all disk start (Err f) new next
+  run_stopped h' f now next new calm come kept is other =
+      let s = come board opened.partitions (starts calm) in
+      whole_run (Err f) s.rest s.before h'.board s.printed next new s.walked s.moves is (may_end f s.rest s.printed now next other s.silent kept)
+
+  -- standard output took no more
+  pub run_unwritten : (h' : HostState D) (r : Result (Unit {0}) Fault) (now next : Option (List ℕ)) (new : D) → IsCalm shows h.board → LinesCome shows makes all h.board (seen h) start r h'.board now
+      → new ≡ h'.board.store.disk → AnyMoment shows makes board all disk start (Err fault.FileFault) new next
+  run_unwritten h' (Ok x) now next new calm come is =
+      whole_run (Err fault.FileFault) [] h'.board h'.board now next new (come board opened.partitions (starts calm)) (moves_none shows makes h'.board) is tt
+  run_unwritten h' (Err f) now next new calm come is =
+      let s = come board opened.partitions (starts calm) in
+      whole_run (Err fault.FileFault) s.rest s.before h'.board s.printed next new s.walked s.moves is tt
+
+-- what the calls at the end may come to
+pub finish_only : {D : Type 0} (shows : D → DiskState) (makes : D → DiskCall → D → Type 0) (h : HostState D) (r : Result (Unit {0}) Fault) (d : D) → Finishes shows makes h r d → (f : Fault) → r ≡ Err f → f ≡ fault.DiskFault
+finish_only shows makes h (Ok x) d ended f is = absurd (cc)
+finish_only shows makes h (Err e) d ended f is = (let same : e ≡ f = cc in sym same ∙ ended.0)
+
+-- a line comes to no failed call
+pub line_only : (f : Fault) → IsOfRunning f → f ≡ fault.DiskFault → ⊥
+line_only f of is = subst IsOfRunning is of
+
+-- an image that wasn't opened
+pub run_refused : {D : Type 0} (shows : D → DiskState) (makes : D → DiskCall → D → Type 0) (board : List GuestConfig) (all : List Said) (disk new : D) (f : Fault) (start : Option (List ℕ))
+    → Within shows makes (Untouched (shows disk)) disk new → AnyMoment shows makes board all disk start (Err f) new start
+run_refused shows makes board all disk new f start moments = inl (record { fault = f; is = refl; moments = moments; silent = Keeps-refl start })
+
+-- lines that weren't read
+pub run_unread : {D : Type 0} (shows : D → DiskState) (makes : D → DiskCall → D → Type 0) (board : List GuestConfig) (all : List Said) (disk : D) (f : Fault) (start : Option (List ℕ)) → AnyMoment shows makes board all disk start (Err f) disk start
+run_unread shows makes board all disk f start = run_refused shows makes board all disk disk f start (Still disk (untouched_here (shows disk)))
