@@ -108,3 +108,8 @@ none_ends board script old fault.HistoryFull bad of = absurd of
 none_ends board script old fault.NoRoom bad of = absurd of
 none_ends board script old fault.Foreign bad of = absurd of
 none_ends board script old fault.BadBoard bad of = absurd of
+
+-- what is known of a fault that a result holds
+pub known_of : (P : Fault → Type 0) (r : Result (Unit {0}) Fault) → IfErr r P → (f : Fault) → r ≡ Err f → P f
+known_of P (Ok x) of f is = absurd (cc)
+known_of P (Err e) of f is = (let same : e ≡ f = cc in subst P same of)

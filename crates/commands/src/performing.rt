@@ -73,7 +73,7 @@ pub fn perform<D: Disk, W: Write, E: Write>(
     // what a front of its lines prints, unless standard output took no more, or a call of the disk failed.
     ensures fault { result.0 ≡ 1 → IfSome result.1 (λ d. Fails
         (λ f. Ends command.entry board.now script.now (D.state disk) (D.state d) f × Prints command.entry board.now script.now (D.state disk) (D.state d) f (W.contents out.old) (W.contents out.new)
-            × FaultMoments D.state D.makes command.entry board.now script.now disk (W.contents out.old) f d (W.contents out.new))
+        × FaultMoments D.state D.makes command.entry board.now script.now disk (W.contents out.old) f d (W.contents out.new))
         (E.contents err.old) (E.contents err.new)) }
 {
     let mut disk = disk;

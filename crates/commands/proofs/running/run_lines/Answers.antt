@@ -57,9 +57,9 @@ loop-line-preserved g c =
           walk_on g.D.Disk.state g.D.Disk.makes board partitions all start first (said c.in-Some.line) left now.host.board c.run_line.new.host here next walked c.run_line.ensures.moves
           (c.run_line.ensures.calm (now.invariant.5 starts.calm)) ran.prints
           (λ whole split clean.
-              let t = first_told board partitions in
-              let going = subst (Going start here t (seen now.host) all) (ap (map said) rest) (now.invariant.4 (c.run_line.ensures.keeps whole) t (starts.ready split) clean) in
-              step (is_broken c.run_line.new.host.board) start here next t (seen now.host) (seen c.run_line.new.host) all left (said c.in-Some.line) few whole going ran.runs)),
+          let t = first_told board partitions in
+          let going = subst (Going start here t (seen now.host) all) (ap (map said) rest) (now.invariant.4 (c.run_line.ensures.keeps whole) t (starts.ready split) clean) in
+          step (is_broken c.run_line.new.host.board) start here next t (seen now.host) (seen c.run_line.new.host) all left (said c.in-Some.line) few whole going ran.runs)),
     )
 
 pub returns-clause-told : goal.returns-clause-told
