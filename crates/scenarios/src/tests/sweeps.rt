@@ -101,16 +101,29 @@ fn check_guest(alloc: Global, world: &World, guest: u16) -> Result<(), Fail> {
     check(holds(world, guest), "a need")
 }
 
-fn stopped(alloc: Global, left: u32, filler: u8) -> Result<(), Fail> {
-    let mut world = world_of(alloc, 3)?;
-    let mut acts = Acts::new(alloc, Some(left), filler);
-    mixed(&mut acts)?;
-    check(world.run(&acts.events).is_none(), "a refusal")?;
+/// No guest lost anything by the stop.
+fn check_guests(alloc: Global, world: &World) -> Result<(), Fail> {
     check(world.openings() == 2, "an opening")?;
     for guest in 0..3 {
-        check_guest(alloc, &world, guest)?;
+        check_guest(alloc, world, guest)?;
     }
     Ok(())
+}
+
+fn all_happens(world: &mut World, events: &[Event]) -> bool {
+    world.run(events).is_none()
+}
+
+fn check_run(alloc: Global, events: &[Event]) -> Result<(), Fail> {
+    let mut world = world_of(alloc, 3)?;
+    check(all_happens(&mut world, events), "a refusal")?;
+    check_guests(alloc, &world)
+}
+
+fn stopped(alloc: Global, left: u32, filler: u8) -> Result<(), Fail> {
+    let mut acts = Acts::new(alloc, Some(left), filler);
+    mixed(&mut acts)?;
+    check_run(alloc, &acts.events)
 }
 
 #[test]
