@@ -4,3 +4,4 @@ pub mod Telling
 pub mod Listed
 pub mod Ended
 pub mod Opened
+pub mod Until

@@ -4,3 +4,5 @@ pub mod Transcript
 pub mod Running
 pub mod Listing
 pub mod Ending
+pub mod Since
+pub mod Failing
