@@ -5,3 +5,4 @@ pub mod Listed
 pub mod Ended
 pub mod Opened
 pub mod Until
+pub mod Stopped
