@@ -3,7 +3,7 @@ ghost use Rattle.std.specs.Prelude.{◌≡◌, ◌≤◌, ◌<◌, ◌+◌, ℕ,
 ghost use Rattle.rpmb_frame.specs.Request.{Request};
 ghost use Rattle.rpmb_frame.specs.Partition.{Partition};
 ghost use Rattle.board.specs.Board.{StaysLinked};
-ghost use Rattle.host.specs.Calm.{is_broken};
+ghost use Rattle.host.specs.Calm.{IsCalm, is_broken};
 ghost use Rattle.host.specs.Finishing.{Finishes};
 ghost use Rattle.host.specs.Host.{HostAnswers, HostChains, HostResets, HostResetsGuest, HostStores, seen};
 ghost use Rattle.host.specs.Moving.{Moves};
@@ -49,6 +49,7 @@ impl<D: Disk> Host<D> {
         ensures first { IfOk result (IsFirstHost config.now board) }
         ensures refused { IfErr result (λ disk. disk ≡ board.store.disk) }
         ensures moves { IfOk result (λ h. Moves D.state D.makes board h.board) }
+        ensures calm { IfOk result (λ h. IsCalm D.state h.board) }
         // It is tied to what the board was tied to.
         ensures linked { IfOk result (λ h. (bases : ℕ → Partition) (accepted : ℕ → List Request) → StaysLinked D.state config.now bases accepted board
             → StaysLinked D.state config.now bases accepted h.board) }
@@ -86,6 +87,7 @@ impl<D: Disk> Host<D> {
         ensures answer { is_broken self.new.board ≡ false → HostAnswers (seen self.old) guest readable.now writable result (seen self.new) }
         ensures guest { HostChains (is_broken self.new.board) (seen self.old) guest readable.now writable result (seen self.new) }
         ensures keeps { is_broken self.new.board ≡ false → is_broken self.old.board ≡ false }
+        ensures calm { IsCalm D.state self.new.board }
         ensures moves { Moves D.state D.makes self.old.board self.new.board }
         ensures others { Spares guest (most_at (slice_get self.old.fronts guest)) self.old.board self.new.board }
     {
@@ -102,6 +104,7 @@ impl<D: Disk> Host<D> {
     pub fn store(&mut self, guest: u16, at: u64, bytes: &[u8]) -> Result<(), HostFault>
         ensures guest { HostStores (seen self.old) guest at bytes.now result (seen self.new) }
         ensures keeps { is_broken self.new.board ≡ false → is_broken self.old.board ≡ false }
+        ensures calm { IsCalm D.state self.new.board }
         ensures moves { Moves D.state D.makes self.old.board self.new.board }
     {
         if usize::from(guest) >= self.fronts.len() {
@@ -117,6 +120,7 @@ impl<D: Disk> Host<D> {
         ensures guest { HostResetsGuest (seen self.old) guest result (seen self.new) }
         ensures ready { HostResets (seen self.old) guest result (seen self.new) }
         ensures keeps { is_broken self.new.board ≡ false → is_broken self.old.board ≡ false }
+        ensures calm { IsCalm D.state self.new.board }
         ensures moves { Moves D.state D.makes self.old.board self.new.board }
     {
         let at = usize::from(guest);

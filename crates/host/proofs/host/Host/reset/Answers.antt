@@ -93,3 +93,6 @@ returns-then-at-len-clause-moves g c = subst (λ h. Moves g.D.Disk.state g.D.Dis
 
 pub returns-clause-moves : goal.returns-clause-moves
 returns-clause-moves g c = subst (λ h. Moves g.D.Disk.state g.D.Disk.makes h.board c.reset.new.board) c.self.view_is c.reset.ensures.moves
+
+pub returns-clause-calm : goal.returns-clause-calm
+returns-clause-calm g c = (invariant_of-self g c).0
