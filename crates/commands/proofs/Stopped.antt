@@ -1,5 +1,5 @@
 -- How a run ends where a call of the disk has failed in one of its lines.
-use Rattle.std.proofs.Common.{◌≡◌, ℕ, zero, suc, ◌+◌, ◌<◌, ◌≤◌, Bool, true, false, List, [], ◌∷◌, ◌++◌, Option, Some, None, Ok, get_or, length, refl, ap, ap₂, subst, sym, ◌∙◌, arith}
+use Rattle.std.proofs.Common.{◌≡◌, ℕ, zero, suc, ◌+◌, ◌<◌, ◌≤◌, Bool, true, false, List, [], ◌∷◌, ◌++◌, Option, Some, None, Ok, get_or, length, map, refl, ap, ap₂, subst, sym, ◌∙◌, arith}
 use Rattle.std.proofs.KnownBytes.{Appends-kept, Appends-nil}
 use Rattle.std.proofs.lemmas.List.{length-map, length-replicate, length-set}
 use Rattle.std.specs.Io.KnownBytes.{Appends, Keeps}
@@ -9,20 +9,21 @@ use Rattle.rpmb_frame.specs.Partition.{Partition}
 use Rattle.rpmb_frame.specs.declared.config.GuestConfig.{GuestConfig}
 use Rattle.disk.specs.Disk.{DiskState, HasRisen}
 use Rattle.rpmb_book.specs.Guest.{GuestCore, core_after}
-use Rattle.script.specs.Line.{IsWithin, Said, nothing, chain, store, reset}
+use Rattle.script.specs.Line.{Said, line_of, nothing, chain, said, store, reset}
+use Rattle.script.specs.Script.{lines_of}
+use Rattle.script.specs.declared.line.Line.{Line}
 use Rattle.host.specs.Host.{HostResets, HostView}
 use Rattle.host.specs.Ready.{job_of}
-use Rattle.host.specs.Runner.{cores_after, since}
+use Rattle.host.specs.Runner.{cores_after, cores_when, since}
 use Rattle.host.proofs.Hosts.{all_later}
-use Rattle.commands.specs.Ending.{KeepsUnless, PrintsFirst, PrintsFirstUnless, StopsFor}
-use Rattle.commands.specs.Failing.{HasFailed, IsChainAt, IsFailedIn, PrintsAllOn, PrintsFirstOn, RunsSince, WroteAll, WroteFirst, text_when, told_broken, told_since, told_until, told_when}
+use Rattle.commands.specs.Ending.{KeepsUnless, NoneFailed, PrintsAllOn, PrintsFirst, PrintsFirstOn, PrintsFirstUnless, PrintsFront, PrintsFrontOf, PrintsOn, PrintsWhole, StopsFor, WroteFirst}
+use Rattle.commands.specs.Failing.{HasFailed, IsChainAt, IsFailedIn, RunsSince, WroteAll, text_when, told_broken, told_since, told_until, told_when}
 use Rattle.commands.specs.Image.{AreOf}
 use Rattle.commands.specs.Running.{AreGuests, IsAt, MayFail}
-use Rattle.commands.specs.Since.{cores_when}
-use Rattle.commands.specs.Transcript.{StoresNothing, Told, first_told, told_after, told_by}
+use Rattle.commands.specs.Transcript.{AreSplit, StoresNothing, Told, first_told, output_of, told_after, told_by}
 use Rattle.commands.specs.declared.fault.Fault.{Fault}
 use Rattle.commands.specs.declared.fault.Fault.TheVariants as fault
-use Rattle.commands.proofs.Printing.{guests_after, refused, same_cores, still, still_guests}
+use Rattle.commands.proofs.Printing.{guests_after, refused, same_cores, says_same, still, still_guests}
 use Rattle.commands.proofs.Until.{Stood, still_chain}
 
 -- 1. As many guests as there were
@@ -131,3 +132,28 @@ first_on board partitions old new broke f lines start now next of rises wrote ke
   has_failed = noted_of broke wrote.failed lines old new wrote.known rises;
   prints = still (text_when wrote.failed (first_told board partitions)) lines start now next f wrote.prints kept;
 }
+
+-- while no call has failed, it is what a front of the transcript says
+as_before : (board : List GuestConfig) (old new : DiskState) (f : Fault) (lines : List Said) (start now : Option (List ℕ)) → PrintsFirstOn board old new f lines start now → NoneFailed old new
+    → PrintsOn board old f lines start now
+as_before board old new f lines start now p none = record { partitions = p.partitions; of_image = p.of_image; prints = by p.failed p.has_failed p.prints }
+  where
+    by : (failed : Option ℕ) → HasFailed failed lines old new → PrintsFirstUnless f (text_when failed (first_told board p.partitions)) lines start now
+        → PrintsFirstUnless f (output_of board p.partitions) lines start now
+    by None has prints = prints
+    by (Some n) has prints = absurd (none has.1)
+
+pub front_as_before : (board : List GuestConfig) (script : List ℕ) (old new : DiskState) (f : Fault) (start now : Option (List ℕ)) → PrintsFrontOf board script old new f start now
+    → PrintsFront board script old new f start now
+front_as_before board script old new f start now prints = λ lines says split clean none. as_before board old new f lines start now (prints lines says split clean) none
+
+-- what the lines that were read printed is what the script printed
+pub whole_of_script : (board : List GuestConfig) (script : List ℕ) (read : List Line) (old new : DiskState) (start now : Option (List ℕ)) → map (λ line. Some (said line)) read ≡ map (line_of (length board)) (lines_of script)
+    → (AreSplit board → StoresNothing (map said read) → PrintsAllOn board old new (map said read) start now) → PrintsWhole board script old new start now
+whole_of_script board script read old new start now is prints = λ lines says.
+    subst (λ ls. AreSplit board → StoresNothing ls → PrintsAllOn board old new ls start now) (sym (says_same lines read _ says is)) prints
+
+pub front_of_script : (board : List GuestConfig) (script : List ℕ) (read : List Line) (old new : DiskState) (f : Fault) (start now : Option (List ℕ)) → map (λ line. Some (said line)) read ≡ map (line_of (length board)) (lines_of script)
+    → (AreSplit board → StoresNothing (map said read) → PrintsFirstOn board old new f (map said read) start now) → PrintsFrontOf board script old new f start now
+front_of_script board script read old new f start now is prints = λ lines says.
+    subst (λ ls. AreSplit board → StoresNothing ls → PrintsFirstOn board old new f ls start now) (sym (says_same lines read _ says is)) prints

@@ -10,10 +10,9 @@ use Rattle.rpmb_book.specs.Guest.{GuestCore}
 use Rattle.script.specs.Line.{Said, nothing, chain, store, reset}
 use Rattle.host.specs.Host.{HostView}
 use Rattle.host.specs.Ready.{job_of}
-use Rattle.host.specs.Runner.{answer_at, cores_after, reply_of}
+use Rattle.host.specs.Runner.{answer_at, answer_since_at, cores_when, reply_of, reply_when}
 use Rattle.commands.specs.Failing.{Breaks, HasRunSince, IsChainAt, IsFailedIn, RunsSince, WroteAll, failures, printed_since, text_when, told_broken, told_since, told_until, told_when, transcript_until}
 use Rattle.commands.specs.Running.{IsAt, IsChain}
-use Rattle.commands.specs.Since.{answer_since_at, cores_when, reply_when}
 use Rattle.commands.specs.Transcript.{StoresNothing, Told, printed_by, told_after, told_by, transcript, used_line}
 use Rattle.commands.proofs.Printing.{told_after-append, transcript-append}
 

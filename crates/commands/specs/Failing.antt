@@ -2,18 +2,13 @@
 use Rattle.std.specs.Prelude.{◌≡◌, ℕ, zero, suc, ◌+◌, ◌<◌, Bool, true, false, List, [], ◌∷◌, ◌++◌, Option, Some, None, get_or}
 use Rattle.std.specs.Io.KnownBytes.{Appends}
 use Rattle.mmio_transport.specs.Device.{last_count}
-use Rattle.rpmb_frame.specs.Partition.{Partition}
-use Rattle.rpmb_frame.specs.declared.config.GuestConfig.{GuestConfig}
 use Rattle.disk.specs.Disk.{DiskState, HasRisen}
 use Rattle.script.specs.Line.{Said, nothing, chain, store, reset}
 use Rattle.host.specs.Host.{HostView, sessions_after}
 use Rattle.host.specs.Ready.{job_of}
-use Rattle.commands.specs.Ending.{PrintsFirstUnless}
-use Rattle.commands.specs.Image.{AreOf}
 use Rattle.commands.specs.Running.{IsAt, IsChain}
-use Rattle.commands.specs.Since.{cores_when, reply_when}
-use Rattle.commands.specs.Transcript.{Told, first_told, printed_by, told_by, transcript, told_after, used_line}
-use Rattle.commands.specs.declared.fault.Fault.{Fault}
+use Rattle.host.specs.Runner.{cores_when, reply_when}
+use Rattle.commands.specs.Transcript.{Told, printed_by, told_by, transcript, told_after, used_line}
 
 -- 1. The text
 
@@ -105,27 +100,3 @@ pub record WroteAll (broke : Bool) (t : Told) (lines : List Said) (start now : O
   pub known : IsFailedIn broke failed lines
   pub printed : Appends start now (text_when failed t lines)
   pub cores : h.runner.cores ≡ (told_when failed t lines).cores
-
--- the first lines of a run are printed, by the line in which a call failed first; the next is what it stopped for
-pub record WroteFirst (f : Fault) (broke : Bool) (t : Told) (lines : List Said) (start now : Option (List ℕ)) : Type 0 where
-  pub failed : Option ℕ
-  pub known : (n : ℕ) → failed ≡ Some n → (broke ≡ true) × IsChainAt n lines
-  pub prints : PrintsFirstUnless f (text_when failed t) lines start now
-
--- 4. Of a script, on the partitions that an image stood for
-
--- all lines have printed what they print
-pub record PrintsAllOn (board : List GuestConfig) (old new : DiskState) (lines : List Said) (start now : Option (List ℕ)) : Type 0 where
-  pub partitions : List Partition
-  pub of_image : AreOf board old partitions
-  pub failed : Option ℕ
-  pub has_failed : HasFailed failed lines old new
-  pub printed : Appends start now (text_when failed (first_told board partitions) lines)
-
--- a front of them has, unless standard output took no more
-pub record PrintsFirstOn (board : List GuestConfig) (old new : DiskState) (f : Fault) (lines : List Said) (start now : Option (List ℕ)) : Type 0 where
-  pub partitions : List Partition
-  pub of_image : AreOf board old partitions
-  pub failed : Option ℕ
-  pub has_failed : HasFailed failed lines old new
-  pub prints : PrintsFirstUnless f (text_when failed (first_told board partitions)) lines start now

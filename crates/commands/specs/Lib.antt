@@ -4,5 +4,4 @@ pub mod Transcript
 pub mod Running
 pub mod Listing
 pub mod Ending
-pub mod Since
 pub mod Failing
