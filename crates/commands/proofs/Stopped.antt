@@ -1,9 +1,8 @@
 -- How a run ends where a call of the disk has failed in one of its lines.
-use Rattle.std.proofs.Common.{◌≡◌, ℕ, zero, suc, ◌+◌, ◌<◌, ◌≤◌, Bool, true, false, List, [], ◌∷◌, ◌++◌, Option, Some, None, Ok, get_or, length, map, refl, ap, ap₂, subst, sym, ◌∙◌, arith}
+use Rattle.std.proofs.Common.{◌≡◌, ℕ, zero, suc, ◌+◌, Bool, true, false, List, [], ◌∷◌, ◌++◌, Option, Some, None, Ok, get_or, length, map, refl, ap, subst, sym, ◌∙◌}
 use Rattle.std.proofs.KnownBytes.{Appends-kept, Appends-nil}
-use Rattle.std.proofs.lemmas.List.{length-map, length-replicate, length-set}
-use Rattle.std.specs.Io.KnownBytes.{Appends, Keeps}
-use Rattle.mmio_transport.specs.Device.{last_count}
+use Rattle.std.proofs.lemmas.List.{length-map, length-set}
+use Rattle.std.specs.Io.KnownBytes.{Keeps}
 use Rattle.mmio_transport.specs.Job.{Job}
 use Rattle.rpmb_frame.specs.Partition.{Partition}
 use Rattle.rpmb_frame.specs.declared.config.GuestConfig.{GuestConfig}
@@ -19,8 +18,8 @@ use Rattle.host.proofs.Hosts.{all_later}
 use Rattle.commands.specs.Ending.{KeepsUnless, NoneFailed, PrintsAllOn, PrintsFirst, PrintsFirstOn, PrintsFirstUnless, PrintsFront, PrintsFrontOf, PrintsOn, PrintsWhole, StopsFor, WroteFirst}
 use Rattle.commands.specs.Failing.{HasFailed, IsChainAt, IsFailedIn, RunsSince, WroteAll, text_when, told_broken, told_since, told_until, told_when}
 use Rattle.commands.specs.Image.{AreOf}
-use Rattle.commands.specs.Running.{AreGuests, IsAt, MayFail}
-use Rattle.commands.specs.Transcript.{AreSplit, StoresNothing, Told, first_told, output_of, told_after, told_by}
+use Rattle.commands.specs.Running.{AreGuests, MayFail}
+use Rattle.commands.specs.Transcript.{AreSplit, StoresNothing, Told, first_told, output_of, told_by}
 use Rattle.commands.specs.declared.fault.Fault.{Fault}
 use Rattle.commands.specs.declared.fault.Fault.TheVariants as fault
 use Rattle.commands.proofs.Printing.{guests_after, refused, same_cores, says_same, still, still_guests}
@@ -114,7 +113,9 @@ pub all_on : (board : List GuestConfig) (partitions : List Partition) (old new :
     → AreOf board old partitions → (broke ≡ true → HasRisen old.failures new.failures) → WroteAll broke (first_told board partitions) lines start now h → Keeps now next
     → PrintsAllOn board old new lines start next
 all_on board partitions old new broke lines start now next h of rises wrote kept = record {
-  partitions = partitions; of_image = of; failed = wrote.failed;
+  partitions = partitions;
+  of_image = of;
+  failed = wrote.failed;
   has_failed = failed_of broke wrote.failed lines old new wrote.known rises;
   printed = Appends-kept start now next (text_when wrote.failed (first_told board partitions) lines) wrote.printed kept;
 }
@@ -128,7 +129,9 @@ pub first_on : (board : List GuestConfig) (partitions : List Partition) (old new
     → AreOf board old partitions → (broke ≡ true → HasRisen old.failures new.failures) → WroteFirst f broke (first_told board partitions) lines start now → Keeps now next
     → PrintsFirstOn board old new f lines start next
 first_on board partitions old new broke f lines start now next of rises wrote kept = record {
-  partitions = partitions; of_image = of; failed = wrote.failed;
+  partitions = partitions;
+  of_image = of;
+  failed = wrote.failed;
   has_failed = noted_of broke wrote.failed lines old new wrote.known rises;
   prints = still (text_when wrote.failed (first_told board partitions)) lines start now next f wrote.prints kept;
 }

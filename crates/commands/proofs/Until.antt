@@ -1,5 +1,5 @@
 -- What lines print where a call of the disk fails in one of them.
-use Rattle.std.proofs.Common.{◌≡◌, ℕ, zero, suc, ◌+◌, ◌<◌, ◌≤◌, Bool, true, false, List, [], ◌∷◌, ◌++◌, Option, Some, None, get_or, length, refl, ap, ap₂, subst, sym, ◌∙◌, arith}
+use Rattle.std.proofs.Common.{◌≡◌, ℕ, zero, suc, ◌+◌, ◌<◌, Bool, true, false, List, [], ◌∷◌, ◌++◌, Option, Some, None, get_or, length, refl, ap, subst, sym, ◌∙◌, arith}
 use Rattle.std.proofs.KnownBytes.{Appends-nil, Appends-trans}
 use Rattle.std.proofs.lemmas.List.{append_assoc, append-nil}
 use Rattle.std.specs.Prelude.{slice_get}
@@ -11,7 +11,7 @@ use Rattle.script.specs.Line.{Said, nothing, chain, store, reset}
 use Rattle.host.specs.Host.{HostView}
 use Rattle.host.specs.Ready.{job_of}
 use Rattle.host.specs.Runner.{answer_at, answer_since_at, cores_when, reply_of, reply_when}
-use Rattle.commands.specs.Failing.{Breaks, HasRunSince, IsChainAt, IsFailedIn, RunsSince, WroteAll, failures, printed_since, text_when, told_broken, told_since, told_until, told_when, transcript_until}
+use Rattle.commands.specs.Failing.{Breaks, IsChainAt, IsFailedIn, RunsSince, WroteAll, failures, printed_since, text_when, told_broken, told_since, told_until, told_when, transcript_until}
 use Rattle.commands.specs.Running.{IsAt, IsChain}
 use Rattle.commands.specs.Transcript.{StoresNothing, Told, printed_by, told_after, told_by, transcript, used_line}
 use Rattle.commands.proofs.Printing.{told_after-append, transcript-append}
@@ -120,10 +120,15 @@ told_none t = refl
 
 pub begin_whole : (start : Option (List ℕ)) (h : HostView) (all : List Said) (t : Told) → IsAt 0 t h → StoresNothing all → Stood false start start t h all all
 begin_whole start h all t at clean = record {
-  failed = None; done = []; steps = 0; known = tt; parts = refl;
+  failed = None;
+  done = [];
+  steps = 0;
+  known = tt;
+  parts = refl;
   so_far = subst (Appends start start) (text_none t) (Appends-nil start);
   at = subst (λ x. IsAt 0 x h) (told_none t) at;
-  clean = clean; counted = omega arith;
+  clean = clean;
+  counted = omega arith;
 }
 
 -- the line that failed first once one more line was run, what is printed with it, and what it makes of the guests
@@ -135,17 +140,20 @@ pub record Failing (was broke : Bool) (failed : Option ℕ) (first : Told) (done
 
 fails_on : (was broke : Bool) (failed : Option ℕ) (first : Told) (done : List Said) (line : Said) → IsFailedIn was failed done → Breaks was broke line → Failing was broke failed first done line
 fails_on false false None first done line known breaks = record {
-  next = None; known = tt;
+  next = None;
+  known = tt;
   text = transcript-append first done line ∙ ap (λ b. transcript first done ++ b) (sym (printed_whole (told_after first done) line));
   told = told_after-append first done line ∙ sym (told_whole (told_after first done) line);
 }
 fails_on false true None first done line known breaks = record {
-  next = Some (length done); known = chain_here done line breaks;
+  next = Some (length done);
+  known = chain_here done line breaks;
   text = until-here first done line;
   told = told_until-here first done line;
 }
 fails_on true true (Some n) first done line known breaks = record {
-  next = Some n; known = still_chain n done (line ∷ []) known;
+  next = Some n;
+  known = still_chain n done (line ∷ []) known;
   text = until-append n first done line (inside_of n done known);
   told = told_until-append n first done line (inside_of n done known);
 }

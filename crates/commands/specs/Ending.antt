@@ -163,7 +163,7 @@ pub record PrintsOn (board : List GuestConfig) (s : DiskState) (f : Fault) (line
   pub of_image : AreOf board s partitions
   pub prints : PrintsFirstUnless f (output_of board partitions) lines start now
 
--- Once a call of the disk may have failed (specs/Failing.antt).
+-- Once a call of the disk may have failed (specs/Failing.antt); no contract says so yet.
 
 -- the first lines of a run are printed, by the line in which a call failed first; the next is what it stopped for
 pub record WroteFirst (f : Fault) (broke : Bool) (t : Told) (lines : List Said) (start now : Option (List ℕ)) : Type 0 where

@@ -1,4 +1,5 @@
--- What a script prints where a call of the disk fails while it runs.
+-- What a script prints where a call of the disk fails while it runs. No contract says so yet: what a host tells its guests
+-- is known only while none has failed.
 use Rattle.std.specs.Prelude.{◌≡◌, ℕ, zero, suc, ◌+◌, ◌<◌, Bool, true, false, List, [], ◌∷◌, ◌++◌, Option, Some, None, get_or}
 use Rattle.std.specs.Io.KnownBytes.{Appends}
 use Rattle.mmio_transport.specs.Device.{last_count}

@@ -1,4 +1,3 @@
-use Rattle.commands.proofs.Stopped.{first_on}
 use Rattle.std.proofs.Common.{◌≡◌, ◌+◌, ◌<◌, List, ap, length, map, subst, sym, arith}
 use Rattle.std.proofs.lemmas.Result.{err_from_is_err_and}
 use Rattle.std.specs.Prelude.{All}
