@@ -5,3 +5,5 @@ pub mod Listed
 pub mod Ended
 pub mod Opened
 pub mod Walking
+pub mod Until
+pub mod Stopped

@@ -22,24 +22,24 @@ use Rattle.commands.specs.declared.fault.Fault.{Fault}
 use Rattle.commands.specs.declared.fault.Fault.TheVariants as fault
 
 -- a line more at the end
-told_after-append : (t : Told) (lines : List Said) (line : Said) → told_after t (lines ++ line ∷ []) ≡ told_by (told_after t lines) line
+pub told_after-append : (t : Told) (lines : List Said) (line : Said) → told_after t (lines ++ line ∷ []) ≡ told_by (told_after t lines) line
 unfolding told_after
 told_after-append t [] line = refl
 told_after-append t (first ∷ lines) line = told_after-append (told_by t first) lines line
 
-transcript-append : (t : Told) (lines : List Said) (line : Said) → transcript t (lines ++ line ∷ []) ≡ transcript t lines ++ printed_by (told_after t lines) line
+pub transcript-append : (t : Told) (lines : List Said) (line : Said) → transcript t (lines ++ line ∷ []) ≡ transcript t lines ++ printed_by (told_after t lines) line
 unfolding transcript told_after
 transcript-append t [] line = append-nil (printed_by t line)
 transcript-append t (first ∷ lines) line = ap (λ bytes. printed_by t first ++ bytes) (transcript-append (told_by t first) lines line)
     ∙ sym (append_assoc (printed_by t first) (transcript (told_by t first) lines) (printed_by (told_after (told_by t first) lines) line))
 
 -- a line leaves as many guests as there were
-same_cores : (cores : List GuestCore) (guest : ℕ) (f : GuestCore → GuestCore) → length (update cores guest f) ≡ length cores
+pub same_cores : (cores : List GuestCore) (guest : ℕ) (f : GuestCore → GuestCore) → length (update cores guest f) ≡ length cores
 same_cores [] guest f = refl
 same_cores (c ∷ cores) zero f = refl
 same_cores (c ∷ cores) (suc guest) f = ap suc (same_cores cores guest f)
 
-still_guests : (guests : ℕ) (t : Told) (line : Said) → AreGuests guests t → AreGuests guests (told_by t line)
+pub still_guests : (guests : ℕ) (t : Told) (line : Said) → AreGuests guests t → AreGuests guests (told_by t line)
 unfolding cores_after job_of
 still_guests guests t nothing are = are
 still_guests guests t (chain guest readable writable) are =
@@ -47,7 +47,7 @@ still_guests guests t (chain guest readable writable) are =
 still_guests guests t (store guest at bytes) are = are
 still_guests guests t (reset guest) are = record { cores = are.cores; sessions = length-set t.sessions guest (get_or t.sessions guest 0 + 1) ∙ are.sessions }
 
-guests_after : (guests : ℕ) (t : Told) (lines : List Said) → AreGuests guests t → AreGuests guests (told_after t lines)
+pub guests_after : (guests : ℕ) (t : Told) (lines : List Said) → AreGuests guests t → AreGuests guests (told_after t lines)
 unfolding told_after
 guests_after guests t [] are = are
 guests_after guests t (line ∷ lines) are = guests_after guests (told_by t line) lines (still_guests guests t line are)
@@ -128,7 +128,7 @@ stopped start now next first h all rest f going kept reason =
     record { first = going.done; rest = rest; parts = going.parts; printed = subst (Appends start next) going.those printed; reason = reason }
 
 -- a chain that memory was refused for
-refused : (line : Said) (done rest : List Said) → IsChain line → StopsFor fault.NoMemory done (line ∷ rest)
+pub refused : (line : Said) (done rest : List Said) → IsChain line → StopsFor fault.NoMemory done (line ∷ rest)
 refused line [] rest is = tt
 refused line (before ∷ done) rest is = is
 
@@ -169,7 +169,7 @@ stop broken start now next first h all rest line f guests few going kept are wit
     stops start now next first h all rest line f going kept (line_fails broken start now first h all rest line f guests few going are within whole fails)
 
 -- what the first lines printed stays through a flush
-first_still : (f : Fault) (text : List Said → List ℕ) (lines : List Said) (start now next : Option (List ℕ)) → PrintsFirst f text lines start now → Keeps now next → PrintsFirst f text lines start next
+pub first_still : (f : Fault) (text : List Said → List ℕ) (lines : List Said) (start now next : Option (List ℕ)) → PrintsFirst f text lines start now → Keeps now next → PrintsFirst f text lines start next
 first_still f text lines start now next printed kept =
     record { first = printed.first; rest = printed.rest; parts = printed.parts; printed = Appends-kept start now next _ printed.printed kept; reason = printed.reason }
 

@@ -1,5 +1,5 @@
 -- Why a command ends with a fault, and what it has printed then.
-use Rattle.std.specs.Prelude.{◌≡◌, ◌⊎◌, ℕ, ◌++◌, ◌∷◌, [], List, Option, None, length, map, true}
+use Rattle.std.specs.Prelude.{◌≡◌, ◌⊎◌, ℕ, ◌++◌, ◌∷◌, [], List, Option, None, length, map, true, Bool, Some}
 use Rattle.std.specs.Io.KnownBytes.{Appends, Keeps}
 use Rattle.command_line.specs.declared.command.Command.{Command}
 use Rattle.command_line.specs.declared.command.Command.TheVariants as command
@@ -17,7 +17,8 @@ use Rattle.script.specs.declared.line.Line.{Line}
 use Rattle.rpmb_frame.specs.Partition.{Partition}
 use Rattle.commands.specs.Image.{AreOf}
 use Rattle.commands.specs.Running.{AreWithin, IsChain}
-use Rattle.commands.specs.Transcript.{AreSplit, IsBadAt, Says, StoresNothing, output_of}
+use Rattle.commands.specs.Transcript.{AreSplit, IsBadAt, Says, StoresNothing, Told, first_told, output_of}
+use Rattle.commands.specs.Failing.{HasFailed, IsChainAt, text_when}
 
 abbrev pub IsRun : Command → Type 0
 IsRun (command.Run board script) = Unit {0}
@@ -161,6 +162,40 @@ pub record PrintsOn (board : List GuestConfig) (s : DiskState) (f : Fault) (line
   pub partitions : List Partition
   pub of_image : AreOf board s partitions
   pub prints : PrintsFirstUnless f (output_of board partitions) lines start now
+
+-- Once a call of the disk may have failed (specs/Failing.antt); no contract says so yet.
+
+-- the first lines of a run are printed, by the line in which a call failed first; the next is what it stopped for
+pub record WroteFirst (f : Fault) (broke : Bool) (t : Told) (lines : List Said) (start now : Option (List ℕ)) : Type 0 where
+  pub failed : Option ℕ
+  pub known : (n : ℕ) → failed ≡ Some n → (broke ≡ true) × IsChainAt n lines
+  pub prints : PrintsFirstUnless f (text_when failed t) lines start now
+
+-- all lines have printed what they print
+pub record PrintsAllOn (board : List GuestConfig) (old new : DiskState) (lines : List Said) (start now : Option (List ℕ)) : Type 0 where
+  pub partitions : List Partition
+  pub of_image : AreOf board old partitions
+  pub failed : Option ℕ
+  pub has_failed : HasFailed failed lines old new
+  pub printed : Appends start now (text_when failed (first_told board partitions) lines)
+
+-- a front of them has, unless standard output took no more
+pub record PrintsFirstOn (board : List GuestConfig) (old new : DiskState) (f : Fault) (lines : List Said) (start now : Option (List ℕ)) : Type 0 where
+  pub partitions : List Partition
+  pub of_image : AreOf board old partitions
+  pub failed : Option ℕ
+  pub has_failed : HasFailed failed lines old new
+  pub prints : PrintsFirstUnless f (text_when failed (first_told board partitions)) lines start now
+
+-- What a script has printed where each of its lines came to its end, whether a call of the disk failed or not: all of it.
+abbrev pub PrintsWhole : List GuestConfig → List ℕ → DiskState → DiskState → Option (List ℕ) → Option (List ℕ) → Type 0
+PrintsWhole board script old new start now = (lines : List Said) → Says board script lines → AreSplit board → StoresNothing lines
+    → PrintsAllOn board old new lines start now
+
+-- And where one of them ended the run: a front of the same text.
+abbrev pub PrintsFrontOf : List GuestConfig → List ℕ → DiskState → DiskState → Fault → Option (List ℕ) → Option (List ℕ) → Type 0
+PrintsFrontOf board script old new f start now = (lines : List Said) → Says board script lines → AreSplit board → StoresNothing lines
+    → PrintsFirstOn board old new f lines start now
 
 -- no call of the disk has failed between the two
 abbrev pub NoneFailed : DiskState → DiskState → Type 0

@@ -5,3 +5,4 @@ pub mod Running
 pub mod Listing
 pub mod Ending
 pub mod Moments
+pub mod Failing

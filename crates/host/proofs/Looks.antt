@@ -1,5 +1,5 @@
 -- What one look at a guest's queue comes to, by the way it ended.
-use Rattle.std.proofs.Common.{◌≡◌, ◌<◌, inl, inr, ℕ, true, false, [], Option, Some, None, Ok, Err, length, unwrap_or, refl, ap, sym, subst, ◌∙◌, arith, length-set}
+use Rattle.std.proofs.Common.{◌≡◌, ◌<◌, inl, inr, ℕ, true, false, [], Option, Some, None, Ok, Err, length, unwrap_or, refl, ap, ap₂, sym, subst, ◌∙◌, arith, length-set}
 use Rattle.std.specs.Prelude.{◌==◌, nat_lt, slice_get, slice_set}
 use Rattle.std.proofs.lemmas.Bool.Decides.{nat_tests}
 use Rattle.std.proofs.lemmas.List.{length-map}
@@ -7,10 +7,11 @@ use Rattle.std.proofs.lemmas.Option.{slice_get_cases, slice_get_within}
 use Rattle.disk.specs.Disk.{DiskState}
 use Rattle.flusher.proofs.Guests.{get_set_same, get_set_other}
 use Rattle.mmio_transport.specs.Device.{DeviceState}
-use Rattle.mmio_transport.specs.Job.{Job, Done, done_of}
+use Rattle.mmio_transport.specs.Job.{Job, done_of}
 use Rattle.mmio_transport.specs.Popping.{GivesJob}
 use Rattle.mmio_transport.specs.declared.fault.DeviceFault.{DeviceFault}
 use Rattle.rpmb_book.specs.Book.{guest_of, refusal}
+use Rattle.rpmb_book.specs.Guest.{Held}
 use Rattle.rpmb_book.specs.Job.{Tally}
 use Rattle.rpmb_book.specs.declared.refused.Refused.{Refused}
 use Rattle.rpmb_book.specs.declared.refused.Refused.TheVariants as refused
@@ -22,15 +23,15 @@ use Rattle.board.specs.declared.step.Seen.TheVariants.{Did}
 use Rattle.board.specs.declared.step.StepFault.TheVariants as fault
 use Rattle.host.specs.Calm.{IsCalm, is_broken}
 use Rattle.host.specs.Fault.{fault_of}
-use Rattle.host.specs.Runner.{RunnerView, after_job, need_of, refusal_of, reply_of, runner_of}
+use Rattle.host.specs.Runner.{RunnerView, after_job, held_since, refusal_of, reply_of, reply_when, runner_of}
 use Rattle.host.specs.Serving.{ServesOne, Touches, Where}
 use Rattle.host.specs.Waiting.{Leaves, Waits}
 use Rattle.host.specs.declared.serving.Step.TheVariants as step
 use Rattle.mmio_transport.specs.Publishing.{Publishes}
 use Rattle.rpmb_book.specs.Book.{submit_of, with_turn}
 use Rattle.host.proofs.Same.{also_there, cores_in, state_of}
-use Rattle.host.proofs.Serves.{IsHandedOver, Submitted, changes_calm, leaves_calm, leaves_published, pop_changes, pop_failed, popped, put_place, reply_in, runner_after, submit_did, submit_refused, submit_waits}
-use Rattle.host.proofs.Since.{since_whole}
+use Rattle.host.proofs.Serves.{IsHandedOver, Submitted, changes_calm, leaves_calm, leaves_published, pop_changes, pop_failed, popped, put_place, reply_in, reply_left, runner_after, submit_did, submit_refused, submit_waits}
+use Rattle.host.proofs.Since.{reply_whole, since_whole}
 use Rattle.host.proofs.Steps.{answered_steps, left_steps, nothing_steps}
 
 module _ {D : Type 0} (shows : D → DiskState) (g : ℕ) where
@@ -146,7 +147,7 @@ module _ {D : Type 0} (shows : D → DiskState) (g : ℕ) where
     pub waits_then : Waits shows g b2 (reply_in b1 done.job) b2
     waits_then = submit_waits shows g b1 b2 calm1 done sound2
 
-    module _ (leaves : (reply : Done) → Waits shows g b2 reply b2 → Leaves shows g b2 reply b3) (sound4 : IsSound shows b4) (there : g < length b.devices) (many1 : length b1.devices ≡ length b.devices)
+    module _ (leaves : (reply : Held) → Waits shows g b2 reply b2 → Leaves shows g b2 reply b3) (sound4 : IsSound shows b4) (there : g < length b.devices) (many1 : length b1.devices ≡ length b.devices)
         (from : PublishesFrom g (in_place (slice_get b3.dones g)) (slice_get b3.devices g) answer b3 b4) where
       pub left : Leaves shows g b2 (reply_in b1 done.job) b3
       left = leaves (reply_in b1 done.job) waits_then
@@ -171,6 +172,15 @@ module _ {D : Type 0} (shows : D → DiskState) (g : ℕ) where
         where
           same_book : is_broken (record b1 { book = with_turn b1.book (submit_of b1.book done.job) }) ≡ is_broken b1
           same_book = ap (λ v. v.broken) (state_of b1.book (submit_of b1.book done.job))
+
+      -- the reply, whether a call of the disk failed or not
+      pub given_reply : left.done ≡ done_of done.job (reply_when (is_broken b1) (is_broken b3) (runner_of b1).cores done.job) left.done.need
+      unfolding reply_when
+      given_reply =
+          let held = held_since (is_broken b1) (is_broken b3) (reply_in b1 done.job) in
+          let is : left.done ≡ held.done = left.given ∙ ap (λ was. (held_since was (is_broken b3) (reply_in b1 done.job)).done) broken2 in
+          is ∙ reply_left (is_broken b1) (is_broken b3) done.job (slice_get (runner_of b1).cores done.job.guest)
+          ∙ ap (λ n. done_of done.job (reply_when (is_broken b1) (is_broken b3) (runner_of b1).cores done.job) n) (ap (λ d. d.need) (sym is))
 
       pub touches_answered : Touches shows g b1 b4
       touches_answered = record {
@@ -199,15 +209,15 @@ module _ {D : Type 0} (shows : D → DiskState) (g : ℕ) where
           let whole2 : is_broken b2 ≡ false = left.stays.whole whole3 in
           let whole1 : is_broken b1 ≡ false = sym broken2 ∙ whole2 in
           let seen : runner_of b1 ≡ runner_of b = ap runner_of p.is in
-          let reply : left.done ≡ reply_in b1 done.job = left.given whole3 in
-          let answers : left.done ≡ done_of done.job (reply_of (runner_of b).cores done.job) (need_of (runner_of b1).cores done.job) =
-          reply ∙ ap (λ r. done_of done.job (reply_of r.cores done.job) (need_of (runner_of b1).cores done.job)) seen in
+          let answers : left.done ≡ done_of done.job (reply_of (runner_of b).cores done.job) left.done.need =
+          given_reply ∙ ap₂ (λ was now. done_of done.job (reply_when was now (runner_of b1).cores done.job) left.done.need) whole1 whole3
+          ∙ ap (λ r. done_of done.job r left.done.need) (reply_whole (runner_of b1).cores done.job) ∙ ap (λ r. done_of done.job (reply_of r.cores done.job) left.done.need) seen in
           let after : runner_of b4 ≡ after_job (runner_of b) done.job =
           ap runner_of over.is ∙ left.stays.runner ∙ since_whole (is_broken b2) (is_broken b3) (runner_of b2) whole3 ∙ runner_after shows g b1 b2 calm1 done whole1 ∙ ap (λ r. after_job r done.job) seen in
           record {
             device = over.device;
             there = ap (λ v. slice_get v.devices g) over.is ∙ get_set_same b3.devices g over.before over.device over.at;
-            holds = answered_steps g d p.device over.device (runner_of b) (runner_of b4) done.job left.done (need_of (runner_of b1).cores done.job) over.published
+            holds = answered_steps g d p.device over.device (runner_of b) (runner_of b4) done.job left.done left.done.need over.published
                 (subst (λ j. GivesJob d (Ok j) p.device) job p.gives) answers over.fits (subst (λ v. Publishes v left.done over.published over.device) before over.publishes) after;
           }
 

@@ -9,9 +9,8 @@ use Rattle.flusher.specs.Slot.{mark_of, with_intent}
 use Rattle.flusher.specs.Store.{given, given_of}
 use Rattle.flusher.proofs.Guests.{get_set_same, get_set_other}
 use Rattle.intent_slots.specs.Payload.{Intent}
-use Rattle.mmio_transport.specs.Job.{Done}
 use Rattle.rpmb_book.specs.Book.{BookView, next_intent, share_moved, state, submits_in, with_turn}
-use Rattle.rpmb_book.specs.Guest.{GuestCore, GuestState, took}
+use Rattle.rpmb_book.specs.Guest.{GuestCore, GuestState, Held, took}
 use Rattle.rpmb_book.specs.Job.{Submission}
 use Rattle.rpmb_book.specs.Turn.{Turn, Submit, Take, after_turn, is_submit, update}
 use Rattle.rpmb_book.proofs.Replay.{replay-push}
@@ -21,7 +20,7 @@ use Rattle.board.specs.Steps.{Answer, TakesInto, GivesWhere}
 use Rattle.board.proofs.Linked.{as_many, at_each, turned}
 use Rattle.rpmb_frame.specs.Partition.{sequence}
 use Rattle.host.specs.Calm.{is_broken}
-use Rattle.host.specs.Runner.{RunnerView, runner_of, runner_since}
+use Rattle.host.specs.Runner.{RunnerView, held_since, runner_of, runner_since}
 use Rattle.host.specs.Waiting.{Stays, Waits}
 
 pub record IsSameGuest (x x' : GuestState) : Type 0 where
@@ -74,7 +73,7 @@ same_stays start b b' s st = record {
   whole = λ whole. st.whole (sym s.broken ∙ whole);
 }
 
-pub same_waits : {D : Type 0} (shows : D → DiskState) (g : ℕ) (start : BoardState D) (reply : Done) (b b' : BoardState D)
+pub same_waits : {D : Type 0} (shows : D → DiskState) (g : ℕ) (start : BoardState D) (reply : Held) (b b' : BoardState D)
     → Waits shows g start reply b → Same b b' → IsSound shows b' → Waits shows g start reply b'
 same_waits shows g start reply b b' w s sound =
     let y = also_there (guests b) (guests b') g w.guest w.there s.count in
@@ -88,7 +87,7 @@ same_waits shows g start reply b b' w s sound =
       there = y.1;
       held = w.held;
       holds = x.2.held ∙ ap (λ v. v.held) is ∙ w.holds;
-      same = λ whole. w.same (sym s.broken ∙ whole);
+      same = w.same ∙ ap (λ k. held_since (is_broken start) k reply) (sym s.broken);
       need = λ whole. w.need (sym s.broken ∙ whole) ∙ ap (λ c. sequence c.partition) (sym core);
       late = λ broken. (let le = w.late (sym s.broken ∙ broken) in omega (arith, le, settled));
       others = λ k v other at. (let u = s.each k v at in let calm = w.others k u.0 other u.1 in record {

@@ -13,7 +13,7 @@ use Rattle.mmio_transport.specs.Publishing.{Publishes}
 use Rattle.mmio_transport.specs.declared.done.Published.{Published}
 use Rattle.mmio_transport.specs.declared.fault.DeviceFault.{DeviceFault}
 use Rattle.rpmb_book.specs.Book.{guest_of, refusal, state, submit_of, submits_in, with_turn}
-use Rattle.rpmb_book.specs.Guest.{GuestState, answer, core_after, held_when, need, submitted}
+use Rattle.rpmb_book.specs.Guest.{GuestCore, GuestState, Held, core_after, held_when, submitted}
 use Rattle.rpmb_book.specs.Job.{Tally}
 use Rattle.rpmb_book.specs.Turn.{update}
 use Rattle.rpmb_book.specs.declared.refused.Refused.{Refused}
@@ -27,7 +27,7 @@ use Rattle.board.specs.declared.step.StepFault.{StepFault}
 use Rattle.board.specs.declared.step.StepFault.TheVariants as fault
 use Rattle.board.proofs.Linked.{as_many, at_each, of_guest, other_guest, own, turned}
 use Rattle.host.specs.Calm.{IsCalm, is_broken}
-use Rattle.host.specs.Runner.{RunnerView, after_job, cores_after, need_of, reply_of, runner_of}
+use Rattle.host.specs.Runner.{RunnerView, after_job, answer_since_at, cores_after, held_since, runner_of}
 use Rattle.host.specs.Waiting.{Leaves, Waits}
 use Rattle.host.proofs.Same.{also_there, cores_in, count_submit, state_of}
 use Rattle.host.proofs.Settled.{below}
@@ -198,9 +198,27 @@ submit_seen g (Some job) (Some t) s b b' (inr left) = absurd (let no = left.0 in
 
 -- 3. From a Submit to the reply that the guest waits for
 
--- the reply to a job, as the definitions say it
-abbrev pub reply_in : {D : Type 0} → BoardState D → Job → Done
-reply_in b job = done_of job (reply_of (runner_of b).cores job) (need_of (runner_of b).cores job)
+-- the reply that is held for a job
+abbrev pub held_at : Bool → Job → Option GuestCore → Held
+held_at broken job None = record { done = done_of job [] 0; kind = 0 }
+held_at broken job (Some c) = held_when broken c job
+
+abbrev pub reply_in : {D : Type 0} → BoardState D → Job → Held
+reply_in b job = held_at (is_broken b) job (slice_get (runner_of b).cores job.guest)
+
+held_still : (was : Bool) (h : Held) → held_since was was h ≡ h
+held_still true h = refl
+held_still false h = refl
+
+-- what leaves of it says the reply in each case
+pub reply_left : (was now : Bool) (job : Job) (o : Option GuestCore)
+    → (held_since was now (held_at was job o)).done ≡ done_of job (answer_since_at was now job o) (held_since was now (held_at was job o)).done.need
+reply_left true now job None = refl
+reply_left true now job (Some c) = refl
+reply_left false false job None = refl
+reply_left false false job (Some c) = refl
+reply_left false true job None = refl
+reply_left false true job (Some c) = refl
 
 module _ {D : Type 0} (shows : D → DiskState) (g : ℕ) (b b' : BoardState D) (calm : IsCalm shows b) (s : Submitted g b b') where
   -- the guest of the job, in the book
@@ -249,9 +267,8 @@ module _ {D : Type 0} (shows : D → DiskState) (g : ℕ) (b b' : BoardState D) 
   core_here : slice_get (runner_of b).cores s.job.guest ≡ Some x.0.core
   core_here = get-map (λ v. v.core) (guests b) s.job.guest ∙ ap (option_map (λ v. v.core)) here
 
-  reply_here : reply_in b s.job ≡ done_of s.job (answer x.0.core s.job) (need x.0.core s.job)
-  unfolding reply_of need_of
-  reply_here = rw core_here refl
+  reply_here : reply_in b s.job ≡ held_when (is_broken b) x.0.core s.job
+  reply_here = ap (held_at (is_broken b) s.job) core_here
 
   pub submit_waits : IsSound shows b' → Waits shows g b' (reply_in b s.job) b'
   unfolding answered
@@ -292,7 +309,7 @@ module _ {D : Type 0} (shows : D → DiskState) (g : ℕ) (b b' : BoardState D) 
         there = y.1;
         held = held_when (is_broken b) x.0.core s.job;
         holds = ap (λ v. v.held) y_is ∙ ap (λ h. h ++ held_when (is_broken b) x.0.core s.job ∷ []) none;
-        same = λ whole. ap (λ c. (held_when c x.0.core s.job).done) (sym broken_is ∙ whole) ∙ sym reply_here;
+        same = sym reply_here ∙ sym (held_still (is_broken answered) (reply_in b s.job));
         need = λ whole. (let w : is_broken b ≡ false = sym broken_is ∙ whole in
             ap (λ c. (held_when c x.0.core s.job).done.need) w ∙ sym (ap (λ v. sequence v.core.partition) (y_is ∙ ap (λ c. submitted c s.job x.0) w)));
         late = λ broken. (let w : is_broken b ≡ true = sym broken_is ∙ broken in
@@ -328,7 +345,7 @@ pub record IsHandedOver {D : Type 0} (g : ℕ) (done : Done) (b b' : BoardState 
 pub publishes : {D : Type 0} (g : ℕ) (d : DeviceState) (done : Done) (answer : Answer) (b b' : BoardState D) → slice_get b.devices g ≡ Some d → PublishesReply g d done answer b b' → IsHandedOver g done b b'
 publishes g d done answer b b' at p = record { before = d; at = at; published = p.published; device = p.device; publishes = p.publishes; fits = p.fits; is = p.after }
 
-module _ {D : Type 0} (shows : D → DiskState) (g : ℕ) (start : BoardState D) (reply : Done) (b b' : BoardState D) (l : Leaves shows g start reply b) where
+module _ {D : Type 0} (shows : D → DiskState) (g : ℕ) (start : BoardState D) (reply : Held) (b b' : BoardState D) (l : Leaves shows g start reply b) where
   place : (d : DeviceState) → slice_get b.devices g ≡ Some d → slice_get b.dones g ≡ Some (Some l.done)
   place d at =
       let p = l.sound.linked.places in

@@ -1,5 +1,5 @@
 -- What the store's next call, and the book's hearing of it, make of a board one guest of which waits.
-use Rattle.std.proofs.Common.{◌≡◌, ◌≤◌, inl, inr, ℕ, zero, suc, ◌+◌, Bool, true, false, ◌||◌, List, [], ◌∷◌, Some, None, Result, Ok, length, map, max, refl, ap, ap₂, sym, subst, ◌∙◌, arith}
+use Rattle.std.proofs.Common.{◌≡◌, ◌≤◌, ◌<◌, inl, inr, ℕ, zero, suc, ◌+◌, Bool, true, false, ◌||◌, List, [], ◌∷◌, Some, None, Result, Ok, length, map, max, refl, ap, ap₂, sym, subst, ◌∙◌, arith}
 use Rattle.std.specs.Prelude.{if◌then◌else◌, nat_le, nat_lt, slice_get}
 use Rattle.std.proofs.lemmas.Bool.Decides.{nat_tests}
 use Rattle.std.proofs.lemmas.List.{length-map}
@@ -14,7 +14,6 @@ use Rattle.flusher.specs.Marks.{marks_of}
 use Rattle.flusher.specs.Round.{Moves, MovedBy, settles}
 use Rattle.flusher.specs.Slot.{mark_of}
 use Rattle.flusher.specs.Store.{StoreState}
-use Rattle.mmio_transport.specs.Job.{Done}
 use Rattle.rpmb_book.specs.Book.{BookView, after_settle, may_settle, state, submits_in, waiting_of, with_turn}
 use Rattle.rpmb_book.specs.Guest.{GuestState, Held, broken_off, failed_held, kept_or_failed, settled_at}
 use Rattle.rpmb_book.specs.Marks.{marks_for}
@@ -26,8 +25,8 @@ use Rattle.board.specs.declared.step.Report.TheVariants.{Marks, Fault}
 use Rattle.board.proofs.Linked.{as_many, turned}
 use Rattle.board.proofs.Stays.{marks_at, may_settle_them}
 use Rattle.host.specs.Calm.{is_broken}
-use Rattle.host.specs.Runner.{RunnerView, runner_of, runner_since, since}
-use Rattle.host.specs.Waiting.{Waits}
+use Rattle.host.specs.Runner.{RunnerView, held_since, runner_of, runner_since, since}
+use Rattle.host.specs.Waiting.{IsLate, Waits}
 use Rattle.host.proofs.Since.{since_whole}
 use Rattle.host.proofs.Same.{Same, also_there, cores_in, count_same, same_guest, state_of}
 
@@ -151,7 +150,7 @@ pub record IsHeard {D : Type 0} (waits : BoardState D → Type 0) (b : BoardStat
   pub intents : b'.intents ≡ b.intents
   pub known : guests b' ≡ now
 
-pub synced_waits : {D : Type 0} (shows : D → DiskState) (g : ℕ) (start : BoardState D) (reply : Done) (b b1 b2 : BoardState D) (store : StoreState D) (told : List ℕ) (answer : Answer)
+pub synced_waits : {D : Type 0} (shows : D → DiskState) (g : ℕ) (start : BoardState D) (reply : Held) (b b1 b2 : BoardState D) (store : StoreState D) (told : List ℕ) (answer : Answer)
     → Waits shows g start reply b → is_broken b ≡ false → IsSound shows b1 → IsSound shows b2
     → Moves (Ok (Synced told)) b.store.guests store.guests → store.broken ≡ false → b1 ≡ record b { store = store; report = Some (Marks told) } → SettlesBy b1.report answer b1 b2
     → IsHeard (Waits shows g start reply) b store (settled_all (guests b) told) b2
@@ -218,7 +217,7 @@ synced_waits {D = D} shows g start reply b b1 b2 store told answer w whole sound
           there = y.1;
           held = w.held;
           holds = ap (λ v. v.held) x.2 ∙ ap (λ v. v.held) same ∙ w.holds;
-          same = λ is. w.same whole;
+          same = w.same ∙ ap (λ k. held_since (is_broken start) k reply) (sym book.broken);
           need = λ is. w.need whole ∙ ap (λ c. sequence c.partition) (sym core);
           late = λ broke. absurd (let no = whole' in cc);
           others = λ k v other at. (let s = of_store k v at in let u = each k v s.stored at s.at in let calm = w.others k u.0 other u.1 in record {
@@ -249,6 +248,10 @@ synced_waits {D = D} shows g start reply b b1 b2 store told answer w whole sound
 
 -- 3. A call that failed, of which the book hears
 
+-- a reply that is late is not kept
+failed_late : (settled : ℕ) (h : Held) → settled < h.done.need → kept_or_failed settled h ≡ failed_held h
+failed_late settled h late = (let is : nat_le h.done.need settled ≡ false = grind (arith, nat_tests) in rw is refl)
+
 kept_need : (settled : ℕ) (h : Held) → (kept_or_failed settled h).done.need ≤ settled
 kept_need settled h = by (nat_le h.done.need settled) refl
   where
@@ -260,11 +263,11 @@ cores_broken_off : (gs : List GuestState) → cores_in (map broken_off gs) ≡ m
 cores_broken_off [] = refl
 cores_broken_off (g ∷ gs) = ap (λ cs. since false true g.core ∷ cs) (cores_broken_off gs)
 
-pub broken_waits : {D : Type 0} (shows : D → DiskState) (g : ℕ) (start : BoardState D) (reply : Done) (b b1 b2 : BoardState D) (store : StoreState D) (answer : Answer)
-    → Waits shows g start reply b → is_broken b ≡ false → IsSound shows b2
+pub broken_waits : {D : Type 0} (shows : D → DiskState) (g : ℕ) (start : BoardState D) (reply : Held) (b b1 b2 : BoardState D) (store : StoreState D) (answer : Answer)
+    → Waits shows g start reply b → is_broken b ≡ false → IsLate g b → IsSound shows b2
     → store.broken ≡ true → b1 ≡ record b { store = store; report = Some Fault } → SettlesBy b1.report answer b1 b2
     → Waits shows g start reply b2 × (b2.store ≡ store)
-broken_waits {D = D} shows g start reply b b1 b2 store answer w whole sound2 broken is settles = (made (sym is2), ap (λ v. v.store) is2)
+broken_waits {D = D} shows g start reply b b1 b2 store answer w whole late sound2 broken is settles = (made (sym is2), ap (λ v. v.store) is2)
   where
     is2 : b2 ≡ (broken_of b store)
     is2 = (subst (λ v. SettlesBy v.report answer v b2) is settles).1 ∙ rw whole refl
@@ -277,6 +280,13 @@ broken_waits {D = D} shows g start reply b b1 b2 store answer w whole sound2 bro
 
     each : (k : ℕ) (x' : GuestState) → slice_get (guests (broken_of b store)) k ≡ Some x' → (x : GuestState) × (slice_get (guests b) k ≡ Some x) × (x' ≡ broken_off x)
     each k x' at = (let x = turned b.book Break k x' at in (x.0, x.1, x.2 ∙ rw whole refl))
+
+    due : w.guest.settled < w.held.done.need
+    due = (let less = late.late w.guest w.there in let need = w.need whole in omega (arith, less, need))
+
+    -- as it was made, until now
+    was_held : w.held ≡ reply
+    was_held = w.same ∙ ap₂ (λ was now. held_since was now reply) (w.stays.whole whole) whole
 
     made : (broken_of b store) ≡ b2 → Waits shows g start reply b2
     made to =
@@ -291,7 +301,7 @@ broken_waits {D = D} shows g start reply b b1 b2 store answer w whole sound2 bro
           there = y.1;
           held = kept_or_failed w.guest.settled w.held;
           holds = ap (λ v. v.held) x.2 ∙ ap (λ v. map (kept_or_failed v.settled) v.held) same ∙ ap (map (kept_or_failed w.guest.settled)) w.holds;
-          same = λ no. absurd (let yes = broke in cc);
+          same = failed_late w.guest.settled w.held due ∙ ap failed_held was_held ∙ ap₂ (λ was now. held_since was now reply) (sym (w.stays.whole whole)) (sym broke);
           need = λ no. absurd (let yes = broke in cc);
           late = λ yes. omega (arith, le, settled);
           others = λ k v other at. (let u = each k v at in record {

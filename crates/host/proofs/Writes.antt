@@ -14,9 +14,8 @@ use Rattle.flusher.specs.CallsLeft.{called, left_of}
 use Rattle.flusher.specs.Round.{AllEmpty, Moves, Round, planned}
 use Rattle.flusher.specs.Store.{is_free}
 use Rattle.flusher.proofs.Countdown.{round_lowers}
-use Rattle.mmio_transport.specs.Job.{Done}
 use Rattle.rpmb_book.specs.Book.{waiting_of}
-use Rattle.rpmb_book.specs.Guest.{GuestState}
+use Rattle.rpmb_book.specs.Guest.{GuestState, Held}
 use Rattle.board.specs.Board.{IsLinkedBoard, IsSound, StaysLinked}
 use Rattle.board.specs.State.{BoardState, guests, in_place}
 use Rattle.board.specs.Steps.{Advances, AdvancesUnder, Answer, GivesWhere, SettlesBy, TakesInto, report_of}
@@ -50,7 +49,7 @@ late_still g b b' s late = record {
       omega (arith, less, settled, core));
 }
 
-module _ {D : Type 0} (shows : D → DiskState) (makes : D → DiskCall → D → Type 0) (g : ℕ) (start : BoardState D) (reply : Done) where
+module _ {D : Type 0} (shows : D → DiskState) (makes : D → DiskCall → D → Type 0) (g : ℕ) (start : BoardState D) (reply : Held) where
   abbrev W : BoardState D → Type 0
   W b = Waits shows g start reply b
 
@@ -73,8 +72,8 @@ module _ {D : Type 0} (shows : D → DiskState) (makes : D → DiskCall → D �
       by true is mine other = (let none : work_of g b' ≡ 0 = rw is refl in omega (arith, mine, none))
       by false is mine other = (let now : work_of g b' ≡ suc (left_of b'.store.guests + (between_calls (in_place (slice_get b'.intents g)) + waiting_calls (waiting_of (slice_get (guests b') g)))) = rw is refl in omega (arith, mine, now, other, less))
 
-  pub advance_moves : (b b1 b2 : BoardState D) (a1 a2 : Answer) → W b → IsSound shows b1 → IsSound shows b2 → AdvancesUnder shows makes b.report a1 b b1 → SettlesBy b1.report a2 b1 b2 → Moved b b2
-  advance_moves b b1 b2 a1 a2 w sound1 sound2 under told_so = from (is_broken b) refl
+  pub advance_moves : (b b1 b2 : BoardState D) (a1 a2 : Answer) → W b → IsLate g b → IsSound shows b1 → IsSound shows b2 → AdvancesUnder shows makes b.report a1 b b1 → SettlesBy b1.report a2 b1 b2 → Moved b b2
+  advance_moves b b1 b2 a1 a2 w late sound1 sound2 under told_so = from (is_broken b) refl
     where
       a : Advances shows makes a1 b b1
       a = subst (λ r. AdvancesUnder shows makes r a1 b b1) w.report under
@@ -141,7 +140,7 @@ module _ {D : Type 0} (shows : D → DiskState) (makes : D → DiskCall → D �
               }
           by (Err e) is =
               let bad = round_badly makes b.store.disk a.store.disk b.store.guests a.store.guests e a.store.broken (subst At is round) in
-              let heard = broken_waits shows g start reply b b1 b2 a.store a2 w whole sound2 bad.0 (after (Err e) is) told_so in
+              let heard = broken_waits shows g start reply b b1 b2 a.store a2 w whole late sound2 bad.0 (after (Err e) is) told_so in
               let broke : is_broken b2 ≡ true = sym heard.0.broken ∙ ap (λ s. s.broken) heard.1 ∙ bad.0 in
               let none : work_of g b2 ≡ 0 = rw broke refl in
               let some : work_of g b ≡ suc (left_of b.store.guests + (between_calls (in_place (slice_get b.intents g)) + waiting_calls (waiting_of (slice_get (guests b) g)))) = rw whole refl in
@@ -156,12 +155,13 @@ module _ {D : Type 0} (shows : D → DiskState) (makes : D → DiskCall → D �
       let w1 = same_waits shows g start reply b0 b1 w same1 s1 in
       let same2 = give_same g (is_free b1.store.guests g) (in_place (slice_get b1.intents g)) a2 b1 b2 gives in
       let w2 = same_waits shows g start reply b1 b2 w1 same2 s2 in
-      let moved = advance_moves b2 b3 b4 a3 a4 w2 s3 s4 advances settles in
+      let late_then = λ (late : IsLate g b0). late_still g b1 b2 same2 (late_still g b0 b1 same1 late) in
+      let moved = λ (late : IsLate g b0). advance_moves b2 b3 b4 a3 a4 w2 (late_then late) s3 s4 advances settles in
       let taken = take_work shows g w.guest (slice_get b0.intents g) a1 b0 b1 w.sound w.there refl takes in
       let t = s1.linked.each g w1.guest w1.there in
       let given = give_work shows g (is_free b1.store.guests g) (in_place (slice_get b1.intents g)) a2 b1 b2 s1 (slice_get_within b1.store.guests g t.stored t.in_store) refl refl gives in
       record {
-        waits = moved.waits;
+        waits = λ late. (moved late).waits;
         less = λ late.
             let late1 = late_still g b0 b1 same1 late in
             let late2 = late_still g b1 b2 same2 late1 in
@@ -175,7 +175,7 @@ module _ {D : Type 0} (shows : D → DiskState) (makes : D → DiskCall → D �
             let less = late1.late w1.guest w1.there in
             let full = z.2 in
             omega (arith, marked, less, full)) in
-            let less = moved.less late2.whole busy in
+            let less = (moved late).less late2.whole busy in
             let first = taken.work in
             let second = given.work in
             omega (arith, less, first, second);

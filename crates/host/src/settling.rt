@@ -1,5 +1,5 @@
 //! Takes what a guest had accepted to the disk, until its reply may leave.
-ghost use Rattle.mmio_transport.specs.Job.{Done};
+ghost use Rattle.rpmb_book.specs.Guest.{Held};
 ghost use Rattle.board.specs.Board.{IsSound};
 ghost use Rattle.board.specs.State.{BoardState};
 ghost use Rattle.host.specs.Moving.{Moves};
@@ -12,7 +12,7 @@ use disk::Disk;
 fn collect<D: Disk>(board: &mut Board<D>, guest: u16) -> bool
     requires waits { WaitsForSome D.state guest board.old }
     ensures moves { Moves D.state D.makes board.old board.new }
-    ensures found { (start : BoardState D) (reply : Done) → Waits D.state guest start reply board.old
+    ensures found { (start : BoardState D) (reply : Held) → Waits D.state guest start reply board.old
         → Collected result D.state guest start reply board.old board.new }
 {
     match board.step(&Step::Collect(guest)) {
@@ -27,7 +27,7 @@ fn collect<D: Disk>(board: &mut Board<D>, guest: u16) -> bool
 /// Brings what the guest had accepted one call of the disk nearer to being settled, and tells the book.
 fn write_on<D: Disk>(board: &mut Board<D>, guest: u16)
     ensures moves { IsSound D.state board.old → Moves D.state D.makes board.old board.new }
-    ensures writes { (start : BoardState D) (reply : Done) → Waits D.state guest start reply board.old
+    ensures writes { (start : BoardState D) (reply : Held) → Waits D.state guest start reply board.old
         → WritesOn D.state guest start reply board.old board.new }
 {
     // What these steps come to shows in what the next Collect gives.
@@ -42,7 +42,7 @@ fn write_on<D: Disk>(board: &mut Board<D>, guest: u16)
 pub(crate) fn settle_reply<D: Disk>(board: &mut Board<D>, guest: u16)
     requires waits { WaitsForSome D.state guest board.old }
     ensures moves { Moves D.state D.makes board.old board.new }
-    ensures leaves { (reply : Done) → Waits D.state guest board.old reply board.old → Leaves D.state guest board.old reply board.new }
+    ensures leaves { (reply : Held) → Waits D.state guest board.old reply board.old → Leaves D.state guest board.old reply board.new }
 {
     while !collect(board, guest) {
         write_on(board, guest);

@@ -1,0 +1,193 @@
+-- What lines print where a call of the disk fails in one of them.
+use Rattle.std.proofs.Common.{◌≡◌, ℕ, zero, suc, ◌+◌, ◌<◌, Bool, true, false, List, [], ◌∷◌, ◌++◌, Option, Some, None, get_or, length, refl, ap, subst, sym, ◌∙◌, arith}
+use Rattle.std.proofs.KnownBytes.{Appends-nil, Appends-trans}
+use Rattle.std.proofs.lemmas.List.{append_assoc, append-nil}
+use Rattle.std.specs.Prelude.{slice_get}
+use Rattle.std.specs.Io.KnownBytes.{Appends}
+use Rattle.mmio_transport.specs.Device.{last_count}
+use Rattle.mmio_transport.specs.Job.{Job}
+use Rattle.rpmb_book.specs.Guest.{GuestCore}
+use Rattle.script.specs.Line.{Said, nothing, chain, store, reset}
+use Rattle.host.specs.Host.{HostView}
+use Rattle.host.specs.Ready.{job_of}
+use Rattle.host.specs.Runner.{answer_at, answer_since_at, cores_when, reply_of, reply_when}
+use Rattle.commands.specs.Failing.{Breaks, IsChainAt, IsFailedIn, RunsSince, WroteAll, failures, printed_since, text_when, told_broken, told_since, told_until, told_when, transcript_until}
+use Rattle.commands.specs.Running.{IsAt, IsChain}
+use Rattle.commands.specs.Transcript.{StoresNothing, Told, printed_by, told_after, told_by, transcript, used_line}
+use Rattle.commands.proofs.Printing.{told_after-append, transcript-append}
+
+-- 1. While no call fails, a line prints what the transcript says
+
+same_answer : (job : Job) (c : Option GuestCore) → answer_since_at false false job c ≡ answer_at job c
+same_answer job None = refl
+same_answer job (Some c) = refl
+
+same_reply : (cores : List GuestCore) (job : Job) → reply_when false false cores job ≡ reply_of cores job
+unfolding reply_when reply_of
+same_reply cores job = same_answer job (slice_get cores job.guest)
+
+pub printed_whole : (t : Told) (line : Said) → printed_since false false t line ≡ printed_by t line
+printed_whole t nothing = refl
+printed_whole t (chain guest readable writable) = ap (used_line guest) (same_reply t.cores (job_of guest (get_or t.sessions guest 0) readable writable))
+printed_whole t (store guest at bytes) = refl
+printed_whole t (reset guest) = refl
+
+pub told_whole : (t : Told) (line : Said) → told_since false false t line ≡ told_by t line
+unfolding cores_when
+told_whole t nothing = refl
+told_whole t (chain guest readable writable) = refl
+told_whole t (store guest at bytes) = refl
+told_whole t (reset guest) = refl
+
+-- 2. A line more at the end
+
+told_broken-append : (t : Told) (lines : List Said) (line : Said) → told_broken t (lines ++ line ∷ []) ≡ told_since true true (told_broken t lines) line
+unfolding told_broken
+told_broken-append t [] line = refl
+told_broken-append t (first ∷ lines) line = told_broken-append (told_since true true t first) lines line
+
+failures-append : (t : Told) (lines : List Said) (line : Said) → failures t (lines ++ line ∷ []) ≡ failures t lines ++ printed_since true true (told_broken t lines) line
+unfolding failures told_broken
+failures-append t [] line = append-nil (printed_since true true t line)
+failures-append t (first ∷ lines) line = ap (λ bytes. printed_since true true t first ++ bytes) (failures-append (told_since true true t first) lines line)
+    ∙ sym (append_assoc (printed_since true true t first) (failures (told_since true true t first) lines) (printed_since true true (told_broken (told_since true true t first) lines) line))
+
+-- after the line in which a call failed
+told_until-append : (n : ℕ) (t : Told) (lines : List Said) (line : Said) → n < length lines → told_until n t (lines ++ line ∷ []) ≡ told_since true true (told_until n t lines) line
+unfolding told_until
+told_until-append n t [] line inside = absurd (omega (arith, inside))
+told_until-append zero t (first ∷ lines) line inside = told_broken-append (told_since false true t first) lines line
+told_until-append (suc n) t (first ∷ lines) line inside = told_until-append n (told_by t first) lines line (omega (arith, inside))
+
+until-append : (n : ℕ) (t : Told) (lines : List Said) (line : Said) → n < length lines
+    → transcript_until n t (lines ++ line ∷ []) ≡ transcript_until n t lines ++ printed_since true true (told_until n t lines) line
+unfolding transcript_until told_until
+until-append n t [] line inside = absurd (omega (arith, inside))
+until-append zero t (first ∷ lines) line inside = ap (λ bytes. printed_since false true t first ++ bytes) (failures-append (told_since false true t first) lines line)
+    ∙ sym (append_assoc (printed_since false true t first) (failures (told_since false true t first) lines) (printed_since true true (told_broken (told_since false true t first) lines) line))
+until-append (suc n) t (first ∷ lines) line inside = ap (λ bytes. printed_by t first ++ bytes) (until-append n (told_by t first) lines line (omega (arith, inside)))
+    ∙ sym (append_assoc (printed_by t first) (transcript_until n (told_by t first) lines) (printed_since true true (told_until n (told_by t first) lines) line))
+
+-- the line itself
+told_until-here : (t : Told) (lines : List Said) (line : Said) → told_until (length lines) t (lines ++ line ∷ []) ≡ told_since false true (told_after t lines) line
+unfolding told_until told_after told_broken
+told_until-here t [] line = refl
+told_until-here t (first ∷ lines) line = told_until-here (told_by t first) lines line
+
+until-here : (t : Told) (lines : List Said) (line : Said) → transcript_until (length lines) t (lines ++ line ∷ []) ≡ transcript t lines ++ printed_since false true (told_after t lines) line
+unfolding transcript_until transcript told_after failures
+until-here t [] line = append-nil (printed_since false true t line)
+until-here t (first ∷ lines) line = ap (λ bytes. printed_by t first ++ bytes) (until-here (told_by t first) lines line)
+    ∙ sym (append_assoc (printed_by t first) (transcript (told_by t first) lines) (printed_since false true (told_after (told_by t first) lines) line))
+
+-- 3. The line in which a call failed
+
+inside_of : (n : ℕ) (lines : List Said) → IsChainAt n lines → n < length lines
+inside_of n [] is = absurd is
+inside_of zero (line ∷ lines) is = omega arith
+inside_of (suc n) (line ∷ lines) is = let less = inside_of n lines is in omega (arith, less)
+
+pub still_chain : (n : ℕ) (lines more : List Said) → IsChainAt n lines → IsChainAt n (lines ++ more)
+still_chain n [] more is = absurd is
+still_chain zero (line ∷ lines) more is = is
+still_chain (suc n) (line ∷ lines) more is = still_chain n lines more is
+
+chain_here : (lines : List Said) (line : Said) → IsChain line → IsChainAt (length lines) (lines ++ line ∷ [])
+chain_here [] line is = is
+chain_here (first ∷ lines) line is = chain_here lines line is
+
+-- 4. Where a run stands
+
+-- what was printed so far is what those lines print that are done, by the line in which a call failed first
+pub record Stood (broke : Bool) (start here : Option (List ℕ)) (first : Told) (h : HostView) (all rest : List Said) : Type 0 where
+  pub failed : Option ℕ
+  pub done : List Said
+  pub steps : ℕ
+  pub known : IsFailedIn broke failed done
+  pub parts : all ≡ done ++ rest
+  pub so_far : Appends start here (text_when failed first done)
+  pub at : IsAt steps (told_when failed first done) h
+  pub clean : StoresNothing rest
+  pub counted : steps + length rest ≡ length all
+
+text_none : (t : Told) → [] ≡ transcript t []
+unfolding transcript
+text_none t = refl
+
+told_none : (t : Told) → t ≡ told_after t []
+unfolding told_after
+told_none t = refl
+
+pub begin_whole : (start : Option (List ℕ)) (h : HostView) (all : List Said) (t : Told) → IsAt 0 t h → StoresNothing all → Stood false start start t h all all
+begin_whole start h all t at clean = record {
+  failed = None;
+  done = [];
+  steps = 0;
+  known = tt;
+  parts = refl;
+  so_far = subst (Appends start start) (text_none t) (Appends-nil start);
+  at = subst (λ x. IsAt 0 x h) (told_none t) at;
+  clean = clean;
+  counted = omega arith;
+}
+
+-- the line that failed first once one more line was run, what is printed with it, and what it makes of the guests
+pub record Failing (was broke : Bool) (failed : Option ℕ) (first : Told) (done : List Said) (line : Said) : Type 0 where
+  pub next : Option ℕ
+  pub known : IsFailedIn broke next (done ++ line ∷ [])
+  pub text : text_when next first (done ++ line ∷ []) ≡ text_when failed first done ++ printed_since was broke (told_when failed first done) line
+  pub told : told_when next first (done ++ line ∷ []) ≡ told_since was broke (told_when failed first done) line
+
+fails_on : (was broke : Bool) (failed : Option ℕ) (first : Told) (done : List Said) (line : Said) → IsFailedIn was failed done → Breaks was broke line → Failing was broke failed first done line
+fails_on false false None first done line known breaks = record {
+  next = None;
+  known = tt;
+  text = transcript-append first done line ∙ ap (λ b. transcript first done ++ b) (sym (printed_whole (told_after first done) line));
+  told = told_after-append first done line ∙ sym (told_whole (told_after first done) line);
+}
+fails_on false true None first done line known breaks = record {
+  next = Some (length done);
+  known = chain_here done line breaks;
+  text = until-here first done line;
+  told = told_until-here first done line;
+}
+fails_on true true (Some n) first done line known breaks = record {
+  next = Some n;
+  known = still_chain n done (line ∷ []) known;
+  text = until-append n first done line (inside_of n done known);
+  told = told_until-append n first done line (inside_of n done known);
+}
+fails_on true false (Some n) first done line known breaks = absurd (cc)
+fails_on false broke (Some n) first done line known breaks = absurd known
+fails_on true broke None first done line known breaks = absurd known
+
+-- a line was run
+pub stood_on : (was broke : Bool) (start here next : Option (List ℕ)) (first : Told) (h h' : HostView) (all rest : List Said) (line : Said) → length all + 2 < last_count
+    → Breaks was broke line → StoresNothing rest → Stood was start here first h all (line ∷ rest) → RunsSince was broke h line here next h' → Stood broke start next first h' all rest
+stood_on was broke start here next first h h' all rest line few breaks clean stood runs =
+    let counted = stood.counted in
+    let told = told_when stood.failed first stood.done in
+    let ran = runs stood.steps told (omega (arith, counted, few)) stood.at in
+    let on = fails_on was broke stood.failed first stood.done line stood.known breaks in
+    record {
+      failed = on.next;
+      done = stood.done ++ line ∷ [];
+      steps = stood.steps + 1;
+      known = on.known;
+      parts = stood.parts ∙ sym (append_assoc stood.done (line ∷ []) rest);
+      so_far = subst (Appends start next) (sym on.text) (Appends-trans start here next (text_when stood.failed first stood.done) (printed_since was broke told line) stood.so_far ran.printed);
+      at = subst (λ x. IsAt (stood.steps + 1) x h') (sym on.told) ran.after;
+      clean = clean;
+      counted = omega (arith, counted);
+    }
+
+-- all lines were run
+pub stood_all : (broke : Bool) (start here : Option (List ℕ)) (first : Told) (h : HostView) (all : List Said) → Stood broke start here first h all [] → WroteAll broke first all start here h
+stood_all broke start here first h all stood =
+    let whole : stood.done ≡ all = sym (append-nil stood.done) ∙ sym stood.parts in
+    record {
+      failed = stood.failed;
+      known = subst (IsFailedIn broke stood.failed) whole stood.known;
+      printed = subst (λ ls. Appends start here (text_when stood.failed first ls)) whole stood.so_far;
+      cores = subst (λ ls. h.runner.cores ≡ (told_when stood.failed first ls).cores) whole stood.at.cores;
+    }
