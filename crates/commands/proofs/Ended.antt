@@ -10,10 +10,10 @@ use Rattle.recovery.specs.declared.fault.OpenFault.TheVariants as image
 use Rattle.recovery.specs.Opening.{AnswersFault, CallsFault}
 use Rattle.commands.specs.Fault.{fault_of_image}
 use Rattle.intent_slots.specs.Layout.{capacities_of}
-use Rattle.commands.specs.Ending.{IsOfReading, IsReadAlone, IsReadable, LinesPrint, NoneFailed, OpenedEnds, OpenedPrints, PrintsFront, PrintsOn, RunEnds, RunPrints, ShowEnds, Synced, Uncalled}
+use Rattle.commands.specs.Ending.{IsOfReading, IsReadAlone, IsReadable, LinesPrint, OpenedEnds, OpenedPrints, PrintsFront, RunEnds, RunPrints, ShowEnds, Synced, Uncalled}
 use Rattle.commands.specs.Running.{AreWithin}
-use Rattle.commands.specs.Transcript.{AreSplit, IsBadAt, StoresNothing}
-use Rattle.commands.proofs.Printing.{says_same}
+use Rattle.commands.specs.Transcript.{IsBadAt}
+use Rattle.commands.proofs.Stopped.{front_of_script, whole_of_script}
 use Rattle.script.specs.Line.{line_of, said}
 use Rattle.script.specs.Script.{lines_of}
 use Rattle.script.specs.declared.line.Line.{Line}
@@ -56,8 +56,7 @@ all_run_ends board script old new (Err f) good of = run_ends board script old ne
 -- what the lines printed is what the script printed
 of_script : (board : List GuestConfig) (script : List ℕ) (read : List Line) (old new : DiskState) (f : Fault) (start now : Option (List ℕ)) → map (λ line. Some (said line)) read ≡ map (line_of (length board)) (lines_of script)
     → AreWithin (length board) read → LinesPrint board read old new f start now → PrintsFront board script old new f start now
-of_script board script read old new f start now is within prints = λ lines says.
-    subst (λ ls. AreSplit board → StoresNothing ls → NoneFailed old new → PrintsOn board old f ls start now) (sym (says_same lines read _ says is)) (λ split. prints split within)
+of_script board script read old new f start now is within prints = front_of_script board script read old new f start now is (λ split. prints split within)
 
 run_prints : (board : List GuestConfig) (script : List ℕ) (read : List Line) (old new : DiskState) (f : Fault) (start now : Option (List ℕ)) → map (λ line. Some (said line)) read ≡ map (line_of (length board)) (lines_of script)
     → AreWithin (length board) read → OpenedEnds (capacities_of board) old new f → OpenedPrints board read old new f start now → RunPrints board script old new f start now
@@ -70,7 +69,8 @@ run_prints board script read old new fault.HistoryFull start now is within of pr
 run_prints board script read old new fault.NoRoom start now is within of prints = of_script board script read old new fault.NoRoom start now is within prints
 run_prints board script read old new fault.Foreign start now is within of prints = of_script board script read old new fault.Foreign start now is within prints
 run_prints board script read old new fault.FileFault start now is within of prints = of_script board script read old new fault.FileFault start now is within prints
-run_prints board script read old new fault.DiskFault start now is within of prints = tt
+run_prints board script read old new fault.DiskFault start now is within of (inl kept) = inl kept
+run_prints board script read old new fault.DiskFault start now is within of (inr prints) = inr (whole_of_script board script read old new start now is prints)
 run_prints board script read old new fault.NotFormatted start now is within of prints = prints
 run_prints board script read old new fault.OtherConfig start now is within of prints = prints
 run_prints board script read old new fault.BadBoard start now is within of prints = absurd of

@@ -1,6 +1,6 @@
 -- A run over an image: how it begins and how it ends.
-use Rattle.std.proofs.Common.{◌≡◌, ◌≤◌, ◌⊎◌, ⊎_elim, inl, inr, ℕ, zero, suc, Bool, true, false, List, [], ◌∷◌, Option, Some, Result, Ok, Err, length, map, refl, ap, ap₂, sym, subst, ◌∙◌, arith}
-use Rattle.std.specs.Prelude.{OnOk, is_ok, not, slice_get}
+use Rattle.std.proofs.Common.{◌≡◌, ◌≤◌, ◌⊎◌, ⊎_elim, inl, inr, ℕ, zero, suc, Bool, true, false, List, [], ◌∷◌, Option, Some, None, Result, Ok, Err, length, map, refl, ap, ap₂, sym, subst, ◌∙◌, arith}
+use Rattle.std.specs.Prelude.{IfErr, OnOk, is_ok, not, slice_get}
 use Rattle.std.specs.Io.KnownBytes.{Keeps}
 use Rattle.std.proofs.KnownBytes.{Appends-kept, Keeps-refl}
 use Rattle.std.proofs.lemmas.Bool.{cases_lt}
@@ -30,14 +30,15 @@ use Rattle.host.specs.Host.{HostState, seen}
 use Rattle.host.specs.Moving.{Moves}
 use Rattle.host.specs.Opening.{IsFirstHost}
 use Rattle.host.specs.Runner.{runner_of}
-use Rattle.commands.specs.Ending.{IsOfOpening, IsOfRunning, LinesPrint, NoneFailed, OpenedEnds, OpenedPrints, PrintsFirstUnless}
+use Rattle.commands.specs.Ending.{IsOfOpening, IsOfRunning, LinesPrint, OpenedEnds, OpenedPrints, WroteFirst}
+use Rattle.commands.specs.Failing.{WroteAll}
 use Rattle.commands.specs.Fault.{fault_of_image}
 use Rattle.commands.specs.Image.{Fails, Finishes, IsLastOf, IsOpened, Ran, Tells}
 use Rattle.commands.specs.Running.{AreGuests, AreWithin, IsAt}
 use Rattle.commands.specs.Transcript.{AreSplit, StoresNothing, Told, first_cores, first_told, partitions_after, told_after, transcript}
 use Rattle.commands.specs.declared.fault.Fault.{Fault}
 use Rattle.commands.specs.declared.fault.Fault.TheVariants as fault
-use Rattle.commands.proofs.Printing.{still}
+use Rattle.commands.proofs.Stopped.{all_on, first_on}
 
 -- 1. The opening
 
@@ -152,14 +153,6 @@ end_risen shows makes board disk d h0 h opened moves fails = by fails.cause
         (λ past. inr (let no = past in omega (arith, end, later, same, no)))
         (cases_lt (shows h0.board.store.disk).failures (shows h.board.store.disk).failures)
 
-pub none_broken : {D : Type 0} (shows : D → DiskState) (makes : D → DiskCall → D → Type 0) (board : List GuestConfig) (disk : D) (h0 h : HostState D) → IsOpened shows makes board disk h0 → Moves shows makes h0.board h.board
-    → h.board.store.broken ≡ is_broken h.board → NoneFailed (shows disk) (shows h.board.store.disk) → is_broken h.board ≡ false
-none_broken shows makes board disk h0 h opened moves known none = by (is_broken h.board) refl
-  where
-    by : (k : Bool) → is_broken h.board ≡ k → is_broken h.board ≡ false
-    by true broke = absurd (none (risen shows makes board disk h0 h opened moves (known ∙ broke)))
-    by false whole = whole
-
 -- 3. What was printed, and what is left
 
 pub found_core : (gs : List GuestState) (g : ℕ) (p : Partition) → slice_get (map (λ (c : GuestCore). c.partition) (map (λ (x : GuestState). x.core) gs)) g ≡ Some p
@@ -224,7 +217,7 @@ pub not_opened_prints : (board : List GuestConfig) (read : List Line) (capacitie
     → OpenedPrints board read old new f start start
 not_opened_prints board read capacities old new (fault.BadScript line) start of = absurd of
 not_opened_prints board read capacities old new fault.NoMemory start of = inl (Keeps-refl start)
-not_opened_prints board read capacities old new fault.DiskFault start of = tt
+not_opened_prints board read capacities old new fault.DiskFault start of = inl (Keeps-refl start)
 not_opened_prints board read capacities old new fault.NotFormatted start of = Keeps-refl start
 not_opened_prints board read capacities old new fault.OtherConfig start of = Keeps-refl start
 not_opened_prints board read capacities old new fault.OutOfRange start of = absurd of
@@ -268,19 +261,27 @@ line_printed board read old new fault.FileFault start now of prints = prints
 -- standard output took no more
 pub unwritten : {D : Type 0} (shows : D → DiskState) (makes : D → DiskCall → D → Type 0) (board : List GuestConfig) (read : List Line) (disk d : D) (h0 : HostState D) (start now : Option (List ℕ))
     → IsOpened shows makes board disk h0 → OpenedPrints board read (shows disk) (shows d) fault.FileFault start now
-unwritten shows makes board read disk d h0 start now opened = λ split within clean none. record { partitions = opened.partitions; of_image = opened.of_image; prints = tt }
+unwritten shows makes board read disk d h0 start now opened = λ split within clean. record { partitions = opened.partitions; of_image = opened.of_image; failed = None; has_failed = tt; prints = tt }
 
 pub stopped_at : {D : Type 0} (shows : D → DiskState) (makes : D → DiskCall → D → Type 0) (board : List GuestConfig) (read : List Line) (disk d : D) (h0 h : HostState D) (f : Fault) (start now next : Option (List ℕ))
     → IsOpened shows makes board disk h0 → Moves shows makes h0.board h.board → h.board.store.broken ≡ is_broken h.board → d ≡ h.board.store.disk → IsOfRunning f
-    → (is_broken h.board ≡ false → (guests : ℕ) → (t : Told) → IsAt 0 t (seen h0) → AreGuests guests t → AreWithin guests read → StoresNothing (map said read)
-    → PrintsFirstUnless f (transcript t) (map said read) start now)
+    → ((guests : ℕ) → (t : Told) → IsAt 0 t (seen h0) → AreGuests guests t → AreWithin guests read → StoresNothing (map said read) → WroteFirst f (is_broken h.board) t (map said read) start now)
     → Keeps now next → OpenedPrints board read (shows disk) (shows d) f start next
-stopped_at shows makes board read disk d h0 h f start now next opened moves known is of stops kept = line_printed board read (shows disk) (shows d) f start next of (λ split within clean none.
-    let whole = none_broken shows makes board disk h0 h opened moves known (subst (λ e. NoneFailed (shows disk) (shows e)) is none) in
+stopped_at shows makes board read disk d h0 h f start now next opened moves known is of stops kept = line_printed board read (shows disk) (shows d) f start next of (λ split within clean.
     let told = first_told board opened.partitions in
     let are : AreGuests (length board) told = record { cores = as_many_cores board opened.partitions opened.of_image.count; sessions = length-replicate (length board) 1 } in
-    record {
-      partitions = opened.partitions;
-      of_image = opened.of_image;
-      prints = still (transcript told) (map said read) start now next f (stops whole (length board) told (opened.ready split) are within clean) kept;
-    })
+    first_on board opened.partitions (shows disk) (shows d) (is_broken h.board) f (map said read) start now next opened.of_image rises (stops (length board) told (opened.ready split) are within clean) kept)
+  where
+    rises : is_broken h.board ≡ true → HasRisen (shows disk).failures (shows d).failures
+    rises broke = subst (λ e. HasRisen (shows disk).failures (shows e).failures) (sym is) (risen shows makes board disk h0 h opened moves (known ∙ broke))
+
+-- all lines came to their end, and a call failed in them or after them
+pub finished_at : {D : Type 0} (shows : D → DiskState) (makes : D → DiskCall → D → Type 0) (board : List GuestConfig) (read : List Line) (disk d : D) (h0 h : HostState D) (r : Result (Unit {0}) Fault) (start now next : Option (List ℕ))
+    → IsOpened shows makes board disk h0 → Moves shows makes h0.board h.board
+    → ((t : Told) → IsAt 0 t (seen h0) → StoresNothing (map said read) → WroteAll (is_broken h.board) t (map said read) start now (seen h))
+    → Keeps now next → Finishes shows makes h r d → IfErr r (λ f. OpenedPrints board read (shows disk) (shows d) f start next)
+finished_at shows makes board read disk d h0 h (Ok x) start now next opened moves wrote kept ended = tt
+finished_at shows makes board read disk d h0 h (Err f) start now next opened moves wrote kept ended =
+    subst (λ e. OpenedPrints board read (shows disk) (shows d) e start next) (sym ended.0) (inr (λ split clean.
+    all_on board opened.partitions (shows disk) (shows d) (is_broken h.board) (map said read) start now next (seen h) opened.of_image
+    (λ broke. end_risen shows makes board disk d h0 h opened moves ended.1) (wrote (first_told board opened.partitions) (opened.ready split) clean) kept))

@@ -1,25 +1,25 @@
 -- How a run ends where a call of the disk has failed in one of its lines.
-use Rattle.std.proofs.Common.{◌≡◌, ℕ, zero, suc, ◌+◌, Bool, true, false, List, [], ◌∷◌, ◌++◌, Option, Some, None, Ok, get_or, length, map, refl, ap, subst, sym, ◌∙◌}
-use Rattle.std.proofs.KnownBytes.{Appends-kept, Appends-nil}
+use Rattle.std.proofs.Common.{◌≡◌, ℕ, zero, suc, ◌+◌, ◌<◌, arith, Bool, true, false, List, [], ◌∷◌, ◌++◌, Option, Some, None, get_or, length, map, refl, ap, subst, sym, ◌∙◌}
+use Rattle.std.proofs.KnownBytes.{Appends-kept}
 use Rattle.std.proofs.lemmas.List.{length-map, length-set}
 use Rattle.std.specs.Io.KnownBytes.{Keeps}
+use Rattle.mmio_transport.specs.Device.{last_count}
 use Rattle.mmio_transport.specs.Job.{Job}
 use Rattle.rpmb_frame.specs.Partition.{Partition}
 use Rattle.rpmb_frame.specs.declared.config.GuestConfig.{GuestConfig}
 use Rattle.disk.specs.Disk.{DiskState, HasRisen}
 use Rattle.rpmb_book.specs.Guest.{GuestCore, core_after}
-use Rattle.script.specs.Line.{Said, line_of, nothing, chain, said, store, reset}
+use Rattle.script.specs.Line.{IsWithin, Said, line_of, nothing, chain, said, store, reset}
 use Rattle.script.specs.Script.{lines_of}
 use Rattle.script.specs.declared.line.Line.{Line}
-use Rattle.host.specs.Host.{HostResets, HostView}
+use Rattle.host.specs.Host.{HostView}
 use Rattle.host.specs.Ready.{job_of}
 use Rattle.host.specs.Runner.{cores_after, cores_when, since}
-use Rattle.host.proofs.Hosts.{all_later}
-use Rattle.commands.specs.Ending.{KeepsUnless, NoneFailed, PrintsAllOn, PrintsFirst, PrintsFirstOn, PrintsFirstUnless, PrintsFront, PrintsFrontOf, PrintsOn, PrintsWhole, StopsFor, WroteFirst}
-use Rattle.commands.specs.Failing.{HasFailed, IsChainAt, IsFailedIn, RunsSince, WroteAll, text_when, told_broken, told_since, told_until, told_when}
+use Rattle.commands.specs.Ending.{KeepsUnless, PrintsAllOn, PrintsFirst, PrintsFirstOn, PrintsFirstUnless, PrintsFront, PrintsWhole, StopsFor, WroteFirst}
+use Rattle.commands.specs.Failing.{HasFailed, IsChainAt, IsFailedIn, WroteAll, text_when, told_broken, told_since, told_until, told_when}
 use Rattle.commands.specs.Image.{AreOf}
-use Rattle.commands.specs.Running.{AreGuests, MayFail}
-use Rattle.commands.specs.Transcript.{AreSplit, StoresNothing, Told, first_told, output_of, told_by}
+use Rattle.commands.specs.Running.{AreGuests, Fails, MayFail}
+use Rattle.commands.specs.Transcript.{AreSplit, StoresNothing, Told, first_told, told_by}
 use Rattle.commands.specs.declared.fault.Fault.{Fault}
 use Rattle.commands.specs.declared.fault.Fault.TheVariants as fault
 use Rattle.commands.proofs.Printing.{guests_after, refused, same_cores, says_same, still, still_guests}
@@ -55,17 +55,7 @@ pub guests_when : (failed : Option ℕ) (guests : ℕ) (t : Told) (lines : List 
 guests_when None guests t lines are = guests_after guests t lines are
 guests_when (Some n) guests t lines are = guests_until n guests t lines are
 
--- 2. Lines that make no call of the disk
-
-pub nothing_since : (was : Bool) (h : HostView) (start : Option (List ℕ)) → RunsSince was was h nothing start start h
-nothing_since was h start = λ steps t few at. record { printed = Appends-nil start; after = record { cores = at.cores; ready = all_later steps t.sessions h.guests at.ready } }
-
-pub reset_since : (was broke : Bool) (h h' : HostView) (guest : ℕ) (start : Option (List ℕ)) → HostResets h guest (Ok tt) h' → RunsSince was broke h (reset guest) start start h'
-reset_since was broke h h' guest start resets = λ steps t few at.
-    let r = resets steps t.sessions few at.ready in
-    record { printed = Appends-nil start; after = record { cores = ap (λ x. x.cores) r.runner ∙ at.cores; ready = r.ready } }
-
--- 3. A line that ended the run
+-- 2. A line that ended the run
 
 stood_at : (broke : Bool) (start now next : Option (List ℕ)) (first : Told) (h : HostView) (all rest : List Said) (f : Fault) → (stood : Stood broke start now first h all rest) → Keeps now next
     → StopsFor f stood.done rest → PrintsFirst f (text_when stood.failed first) all start next
@@ -102,7 +92,30 @@ stood_stops was broke start now next first h all rest line f later stood kept ma
   prints = prints was start now next first h all rest line f stood kept may;
 }
 
--- 4. On the partitions of an image
+-- how the next line fails, where the run stands
+line_fails : (was : Bool) (start now : Option (List ℕ)) (first : Told) (h : HostView) (all rest : List Said) (line : Said) (f : Fault) (guests : ℕ) → length all + 2 < last_count
+    → Stood was start now first h all (line ∷ rest) → AreGuests guests first → IsWithin guests line → Fails h line f → MayFail f line
+line_fails was start now first h all rest nothing f guests few stood are within fails =
+    let counted = stood.counted in
+    fails stood.steps guests (told_when stood.failed first stood.done) (omega (arith, counted, few)) stood.at (guests_when stood.failed guests first stood.done are) within
+line_fails was start now first h all rest (chain guest readable writable) f guests few stood are within fails =
+    let counted = stood.counted in
+    fails stood.steps guests (told_when stood.failed first stood.done) (omega (arith, counted, few)) stood.at (guests_when stood.failed guests first stood.done are) within
+line_fails was start now first h all rest (store guest at bytes) f guests few stood are within fails = absurd stood.clean
+line_fails was start now first h all rest (reset guest) f guests few stood are within fails =
+    let counted = stood.counted in
+    fails stood.steps guests (told_when stood.failed first stood.done) (omega (arith, counted, few)) stood.at (guests_when stood.failed guests first stood.done are) within
+
+pub stop : (was broke : Bool) (start now next : Option (List ℕ)) (first : Told) (h : HostView) (all rest : List Said) (line : Said) (f : Fault) (guests : ℕ) → length all + 2 < last_count → (broke ≡ false → was ≡ false)
+    → Stood was start now first h all (line ∷ rest) → KeepsUnless f now next → AreGuests guests first → IsWithin guests line → Fails h line f → WroteFirst f broke first all start next
+stop was broke start now next first h all rest line f guests few keeps stood kept are within fails =
+    stood_stops was broke start now next first h all rest line f (later was broke keeps) stood kept (line_fails was start now first h all rest line f guests few stood are within fails)
+  where
+    later : (was broke : Bool) → (broke ≡ false → was ≡ false) → was ≡ true → broke ≡ true
+    later was true keeps is = refl
+    later was false keeps is = absurd (let no = keeps refl in cc)
+
+-- 3. On the partitions of an image
 
 failed_of : (broke : Bool) (failed : Option ℕ) (lines : List Said) (old new : DiskState) → IsFailedIn broke failed lines → (broke ≡ true → HasRisen old.failures new.failures) → HasFailed failed lines old new
 failed_of broke None lines old new known rises = tt
@@ -136,20 +149,6 @@ first_on board partitions old new broke f lines start now next of rises wrote ke
   prints = still (text_when wrote.failed (first_told board partitions)) lines start now next f wrote.prints kept;
 }
 
--- while no call has failed, it is what a front of the transcript says
-as_before : (board : List GuestConfig) (old new : DiskState) (f : Fault) (lines : List Said) (start now : Option (List ℕ)) → PrintsFirstOn board old new f lines start now → NoneFailed old new
-    → PrintsOn board old f lines start now
-as_before board old new f lines start now p none = record { partitions = p.partitions; of_image = p.of_image; prints = by p.failed p.has_failed p.prints }
-  where
-    by : (failed : Option ℕ) → HasFailed failed lines old new → PrintsFirstUnless f (text_when failed (first_told board p.partitions)) lines start now
-        → PrintsFirstUnless f (output_of board p.partitions) lines start now
-    by None has prints = prints
-    by (Some n) has prints = absurd (none has.1)
-
-pub front_as_before : (board : List GuestConfig) (script : List ℕ) (old new : DiskState) (f : Fault) (start now : Option (List ℕ)) → PrintsFrontOf board script old new f start now
-    → PrintsFront board script old new f start now
-front_as_before board script old new f start now prints = λ lines says split clean none. as_before board old new f lines start now (prints lines says split clean) none
-
 -- what the lines that were read printed is what the script printed
 pub whole_of_script : (board : List GuestConfig) (script : List ℕ) (read : List Line) (old new : DiskState) (start now : Option (List ℕ)) → map (λ line. Some (said line)) read ≡ map (line_of (length board)) (lines_of script)
     → (AreSplit board → StoresNothing (map said read) → PrintsAllOn board old new (map said read) start now) → PrintsWhole board script old new start now
@@ -157,6 +156,6 @@ whole_of_script board script read old new start now is prints = λ lines says.
     subst (λ ls. AreSplit board → StoresNothing ls → PrintsAllOn board old new ls start now) (sym (says_same lines read _ says is)) prints
 
 pub front_of_script : (board : List GuestConfig) (script : List ℕ) (read : List Line) (old new : DiskState) (f : Fault) (start now : Option (List ℕ)) → map (λ line. Some (said line)) read ≡ map (line_of (length board)) (lines_of script)
-    → (AreSplit board → StoresNothing (map said read) → PrintsFirstOn board old new f (map said read) start now) → PrintsFrontOf board script old new f start now
+    → (AreSplit board → StoresNothing (map said read) → PrintsFirstOn board old new f (map said read) start now) → PrintsFront board script old new f start now
 front_of_script board script read old new f start now is prints = λ lines says.
     subst (λ ls. AreSplit board → StoresNothing ls → PrintsFirstOn board old new f ls start now) (sym (says_same lines read _ says is)) prints

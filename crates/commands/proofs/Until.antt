@@ -11,7 +11,8 @@ use Rattle.script.specs.Line.{Said, nothing, chain, store, reset}
 use Rattle.host.specs.Host.{HostView}
 use Rattle.host.specs.Ready.{job_of}
 use Rattle.host.specs.Runner.{answer_at, answer_since_at, cores_when, reply_of, reply_when}
-use Rattle.commands.specs.Failing.{Breaks, IsChainAt, IsFailedIn, RunsSince, WroteAll, failures, printed_since, text_when, told_broken, told_since, told_until, told_when, transcript_until}
+use Rattle.commands.specs.Failing.{Breaks, IsChainAt, IsFailedIn, Runs, RunsSince, WroteAll, failures, printed_since, text_when, told_broken, told_since, told_until, told_when, transcript_until}
+use Rattle.commands.specs.Image.{Tells}
 use Rattle.commands.specs.Running.{IsAt, IsChain}
 use Rattle.commands.specs.Transcript.{StoresNothing, Told, printed_by, told_after, told_by, transcript, used_line}
 use Rattle.commands.proofs.Printing.{told_after-append, transcript-append}
@@ -191,3 +192,32 @@ stood_all broke start here first h all stood =
       printed = subst (λ ls. Appends start here (text_when stood.failed first ls)) whole stood.so_far;
       cores = subst (λ ls. h.runner.cores ≡ (told_when stood.failed first ls).cores) whole stood.at.cores;
     }
+
+-- a line was run, whatever it is
+pub step : (was broke : Bool) (start here next : Option (List ℕ)) (first : Told) (h h' : HostView) (all rest : List Said) (line : Said) → length all + 2 < last_count
+    → Breaks was broke line → Stood was start here first h all (line ∷ rest) → Runs was broke h line here next h' → Stood broke start next first h' all rest
+step was broke start here next first h h' all rest nothing few breaks stood runs = stood_on was broke start here next first h h' all rest nothing few breaks stood.clean stood runs
+step was broke start here next first h h' all rest (chain guest readable writable) few breaks stood runs =
+    stood_on was broke start here next first h h' all rest (chain guest readable writable) few breaks stood.clean stood runs
+step was broke start here next first h h' all rest (store guest at bytes) few breaks stood runs = absurd stood.clean
+step was broke start here next first h h' all rest (reset guest) few breaks stood runs = stood_on was broke start here next first h h' all rest (reset guest) few breaks stood.clean stood runs
+
+-- where no call has failed, lines have printed the transcript
+pub tells_of : (broke : Bool) (t : Told) (lines : List Said) (start now : Option (List ℕ)) (h : HostView) → broke ≡ false → WroteAll broke t lines start now h → Tells t lines start now h
+tells_of broke t lines start now h whole wrote = by wrote.failed (subst (λ b. IsFailedIn b wrote.failed lines) whole wrote.known) wrote.printed wrote.cores
+  where
+    by : (failed : Option ℕ) → IsFailedIn false failed lines → Appends start now (text_when failed t lines) → h.runner.cores ≡ (told_when failed t lines).cores → Tells t lines start now h
+    by None known printed cores = record { printed = printed; cores = cores }
+    by (Some n) known printed cores = absurd known
+
+-- which lines break a store
+pub breaks_chain : (was broke : Bool) (guest : ℕ) (readable : List ℕ) (writable : ℕ) → (broke ≡ false → was ≡ false) → Breaks was broke (chain guest readable writable)
+breaks_chain true true guest readable writable keeps = refl
+breaks_chain true false guest readable writable keeps = absurd (let no = keeps refl in cc)
+breaks_chain false true guest readable writable keeps = tt
+breaks_chain false false guest readable writable keeps = tt
+
+pub breaks_none : (was broke : Bool) (line : Said) → broke ≡ was → Breaks was broke line
+breaks_none true broke line same = same
+breaks_none false true line same = absurd (cc)
+breaks_none false false line same = tt

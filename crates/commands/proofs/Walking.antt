@@ -28,14 +28,15 @@ use Rattle.host.specs.Moving.{Moves}
 use Rattle.host.proofs.Moving.{moves_none, moves_twice}
 use Rattle.host.proofs.Settled.{below}
 use Rattle.commands.specs.Ending.{IsOfRunning, KeepsUnless}
+use Rattle.commands.specs.Failing.{IsFailedIn, text_when, told_when}
 use Rattle.commands.specs.Image.{Finishes, IsOpened}
 use Rattle.commands.specs.Moments.{AnyMoment, Begun, Comes, IsDone, IsRefused, IsTold, Leads, LinesCome, MayEnd, Moment, MovesTo, PrintsLine, Runs, Starts, Stopped, Trail, Walked, Went, moment_of}
 use Rattle.commands.specs.Running.{IsAt}
-use Rattle.commands.specs.Transcript.{AreSplit, StoresNothing, Told, first_told, partitions_after, told_after, transcript}
+use Rattle.commands.specs.Transcript.{AreSplit, StoresNothing, first_told}
 use Rattle.commands.specs.declared.fault.Fault.{Fault}
 use Rattle.commands.specs.declared.fault.Fault.TheVariants as fault
 use Rattle.commands.proofs.Opened.{found_core}
-use Rattle.commands.proofs.Printing.{Going}
+use Rattle.commands.proofs.Until.{Stood}
 
 -- what a board's calls lead to
 pub leads_by : {D : Type 0} (shows : D → DiskState) (makes : D → DiskCall → D → Type 0) (board : List GuestConfig) (partitions : List Partition) (accepted : ℕ → List Request) (b c : BoardState D) (start now : Option (List ℕ))
@@ -69,15 +70,17 @@ all_kept shows board bases accepted b calm linked whole g there =
 
 -- what the lines done have printed, where a run stands
 told_at : {D : Type 0} (shows : D → DiskState) (board : List GuestConfig) (partitions : List Partition) (accepted : ℕ → List Request) (h : HostState D) (all done rest : List Said) (start now : Option (List ℕ))
-    → StaysLinked shows board (bases_of partitions) accepted h.board → all ≡ done ++ rest → Going start now (first_told board partitions) (seen h) all rest
+    → h.board.store.broken ≡ is_broken h.board → StaysLinked shows board (bases_of partitions) accepted h.board → all ≡ done ++ rest → Stood (is_broken h.board) start now (first_told board partitions) (seen h) all rest
     → IsTold board partitions start done (moment_of accepted h.board now)
-told_at shows board partitions accepted h all done rest start now linked parts going =
-    let same : going.done ≡ done = append_cancel_right going.done done rest (sym going.parts ∙ parts) in
+told_at shows board partitions accepted h all done rest start now known linked parts stood =
+    let same : stood.done ≡ done = append_cancel_right stood.done done rest (sym stood.parts ∙ parts) in
     let told = first_told board partitions in
     record {
-      printed = subst (Appends start now) (going.those ∙ ap (transcript told) same) going.so_far;
+      failed = stood.failed;
+      known = subst (λ ls. IsFailedIn h.board.store.broken stood.failed ls) same (subst (λ b. IsFailedIn b stood.failed stood.done) (sym known) stood.known);
+      printed = subst (λ ls. Appends start now (text_when stood.failed told ls)) same stood.so_far;
       after = λ g p at.
-          let cores : map (λ (x : GuestState). x.core) (guests h.board) ≡ (told_after told done).cores = going.at.cores ∙ ap (λ t. t.cores) (going.after ∙ ap (told_after told) same) in
+          let cores : map (λ (x : GuestState). x.core) (guests h.board) ≡ (told_when stood.failed told done).cores = stood.at.cores ∙ ap (λ ls. (told_when stood.failed told ls).cores) same in
           let x = found_core (guests h.board) g p (ap (λ cs. slice_get (map (λ (c : GuestCore). c.partition) cs) g) cores ∙ at) in
           sym x.2 ∙ (linked.linked.each g x.0 x.1).link.partition;
     }
@@ -85,16 +88,16 @@ told_at shows board partitions accepted h all done rest start now linked parts g
 -- Before the first line.
 pub walk_begins : {D : Type 0} (shows : D → DiskState) (makes : D → DiskCall → D → Type 0) (board : List GuestConfig) (partitions : List Partition) (h : HostState D) (all : List Said) (start : Option (List ℕ))
     → Starts shows board partitions h.board (seen h)
-    → (is_broken h.board ≡ false → AreSplit board → StoresNothing all → Going start start (first_told board partitions) (seen h) all all)
+    → (AreSplit board → StoresNothing all → Stood (is_broken h.board) start start (first_told board partitions) (seen h) all all)
     → Walked shows makes board partitions all start (moment_of (λ g. []) h.board start) all h.board start
-walk_begins shows makes board partitions h all start starts going = record {
+walk_begins shows makes board partitions h all start starts stood = record {
   accepted = λ g. [];
   linked = starts.linked;
   done = [];
   parts = refl;
   trail = Begun (record {
     kept = all_kept shows board (bases_of partitions) (λ g. []) h.board starts.calm starts.linked;
-    told = λ whole split clean. told_at shows board partitions (λ g. []) h all [] all start start starts.linked refl (going (sym starts.calm.broken ∙ whole) split clean);
+    told = λ split clean. told_at shows board partitions (λ g. []) h all [] all start start starts.calm.broken starts.linked refl (stood split clean);
   });
 }
 
@@ -102,9 +105,9 @@ walk_begins shows makes board partitions h all start starts going = record {
 pub walk_on : {D : Type 0} (shows : D → DiskState) (makes : D → DiskCall → D → Type 0) (board : List GuestConfig) (partitions : List Partition) (all : List Said) (start : Option (List ℕ)) (first : Moment D) (line : Said) (rest : List Said)
     (b : BoardState D) (h : HostState D) (now next : Option (List ℕ))
     → Walked shows makes board partitions all start first (line ∷ rest) b now → Moves shows makes b h.board → IsCalm shows h.board → PrintsLine line now next
-    → (is_broken h.board ≡ false → AreSplit board → StoresNothing all → Going start next (first_told board partitions) (seen h) all rest)
+    → (AreSplit board → StoresNothing all → Stood (is_broken h.board) start next (first_told board partitions) (seen h) all rest)
     → Walked shows makes board partitions all start first rest h.board next
-walk_on shows makes board partitions all start first line rest b h now next walked moves calm prints going =
+walk_on shows makes board partitions all start first line rest b h now next walked moves calm prints stood =
     let l = leads_by shows makes board partitions walked.accepted b h.board now next walked.linked moves in
     let parts : all ≡ (walked.done ++ line ∷ []) ++ rest = walked.parts ∙ sym (append_assoc walked.done (line ∷ []) rest) in
     record {
@@ -114,7 +117,7 @@ walk_on shows makes board partitions all start first line rest b h now next walk
       parts = parts;
       trail = Went walked.done line (moment_of walked.accepted b now) (moment_of l.0 h.board next) walked.trail l.1 prints (record {
         kept = all_kept shows board (bases_of partitions) l.0 h.board calm l.2;
-        told = λ whole split clean. told_at shows board partitions l.0 h all (walked.done ++ line ∷ []) rest start next l.2 parts (going (sym calm.broken ∙ whole) split clean);
+        told = λ split clean. told_at shows board partitions l.0 h all (walked.done ++ line ∷ []) rest start next calm.broken l.2 parts (stood split clean);
       });
     }
 
@@ -164,7 +167,7 @@ module _ {D : Type 0} (shows : D → DiskState) (makes : D → DiskCall → D �
       })
 
   starts : IsCalm shows h.board → Starts shows board opened.partitions h.board (seen h)
-  starts calm = record { calm = calm; linked = opened.linked; ready = opened.ready }
+  starts calm = record { calm = calm; whole = opened.whole; linked = opened.linked; ready = opened.ready }
 
   -- all lines came to their end, and the calls after them
   pub run_finished : (h' : HostState D) (r : Result (Unit {0}) Fault) (now next : Option (List ℕ)) (new : D) → IsCalm shows h.board → LinesCome shows makes all h.board (seen h) start (Ok tt) h'.board now

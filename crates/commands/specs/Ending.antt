@@ -157,14 +157,6 @@ abbrev pub PrintsFirstUnless : Fault → (List Said → List ℕ) → List Said 
 PrintsFirstUnless fault.FileFault text lines start now = Unit {0}
 PrintsFirstUnless f text lines start now = PrintsFirst f text lines start now
 
--- The same, on the partitions that an image stood for.
-pub record PrintsOn (board : List GuestConfig) (s : DiskState) (f : Fault) (lines : List Said) (start now : Option (List ℕ)) : Type 0 where
-  pub partitions : List Partition
-  pub of_image : AreOf board s partitions
-  pub prints : PrintsFirstUnless f (output_of board partitions) lines start now
-
--- Once a call of the disk may have failed (specs/Failing.antt); no contract says so yet.
-
 -- the first lines of a run are printed, by the line in which a call failed first; the next is what it stopped for
 pub record WroteFirst (f : Fault) (broke : Bool) (t : Told) (lines : List Said) (start now : Option (List ℕ)) : Type 0 where
   pub failed : Option ℕ
@@ -193,18 +185,9 @@ PrintsWhole board script old new start now = (lines : List Said) → Says board 
     → PrintsAllOn board old new lines start now
 
 -- And where one of them ended the run: a front of the same text.
-abbrev pub PrintsFrontOf : List GuestConfig → List ℕ → DiskState → DiskState → Fault → Option (List ℕ) → Option (List ℕ) → Type 0
-PrintsFrontOf board script old new f start now = (lines : List Said) → Says board script lines → AreSplit board → StoresNothing lines
-    → PrintsFirstOn board old new f lines start now
-
--- no call of the disk has failed between the two
-abbrev pub NoneFailed : DiskState → DiskState → Type 0
-NoneFailed old new = ¬ HasRisen old.failures new.failures
-
--- where no line stores into guest memory, and no call of the disk fails
 abbrev pub PrintsFront : List GuestConfig → List ℕ → DiskState → DiskState → Fault → Option (List ℕ) → Option (List ℕ) → Type 0
-PrintsFront board script old new f start now = (lines : List Said) → Says board script lines → AreSplit board → StoresNothing lines → NoneFailed old new
-    → PrintsOn board old f lines start now
+PrintsFront board script old new f start now = (lines : List Said) → Says board script lines → AreSplit board → StoresNothing lines
+    → PrintsFirstOn board old new f lines start now
 
 -- 1. Of lines that were read
 
@@ -217,27 +200,32 @@ OpenedEnds capacities old new fault.NotFormatted = old.faithful ≡ true → IsU
 OpenedEnds capacities old new fault.OtherConfig = old.faithful ≡ true → IsOther capacities old.len old.seen
 OpenedEnds capacities old new f = IsOfRunning f
 
+-- what their front prints that came before a fault
 abbrev pub LinesPrint : List GuestConfig → List Line → DiskState → DiskState → Fault → Option (List ℕ) → Option (List ℕ) → Type 0
-LinesPrint board read old new f start now = AreSplit board → AreWithin (length board) read → StoresNothing (map said read) → NoneFailed old new
-    → PrintsOn board old f (map said read) start now
+LinesPrint board read old new f start now = AreSplit board → AreWithin (length board) read → StoresNothing (map said read)
+    → PrintsFirstOn board old new f (map said read) start now
+
+-- and what all of them print
+abbrev pub AllPrint : List GuestConfig → List Line → DiskState → DiskState → Option (List ℕ) → Option (List ℕ) → Type 0
+AllPrint board read old new start now = AreSplit board → StoresNothing (map said read) → PrintsAllOn board old new (map said read) start now
 
 -- and what it has printed
 abbrev pub OpenedPrints : List GuestConfig → List Line → DiskState → DiskState → Fault → Option (List ℕ) → Option (List ℕ) → Type 0
 OpenedPrints board read old new fault.NotFormatted start now = Keeps start now
 OpenedPrints board read old new fault.OtherConfig start now = Keeps start now
-OpenedPrints board read old new fault.DiskFault start now = Unit {0}
+OpenedPrints board read old new fault.DiskFault start now = Keeps start now ⊎ AllPrint board read old new start now
 OpenedPrints board read old new fault.NoMemory start now = Keeps start now ⊎ LinesPrint board read old new fault.NoMemory start now
 OpenedPrints board read old new f start now = LinesPrint board read old new f start now
 
 -- 2. Of a script
 
--- What a run that ends with a fault has printed: nothing, where a line is bad or the image isn't opened; else what a
--- front of its lines prints. Of a run that a call of the disk failed in, nothing is said yet.
+-- What a run that ends with a fault has printed: nothing, where a line is bad or the image isn't opened; all that its lines
+-- print, where a call of the disk failed; else what a front of them prints.
 abbrev pub RunPrints : List GuestConfig → List ℕ → DiskState → DiskState → Fault → Option (List ℕ) → Option (List ℕ) → Type 0
 RunPrints board script old new (fault.BadScript line) start now = Keeps start now
 RunPrints board script old new fault.NotFormatted start now = Keeps start now
 RunPrints board script old new fault.OtherConfig start now = Keeps start now
-RunPrints board script old new fault.DiskFault start now = Unit {0}
+RunPrints board script old new fault.DiskFault start now = Keeps start now ⊎ PrintsWhole board script old new start now
 RunPrints board script old new fault.NoMemory start now = Keeps start now ⊎ PrintsFront board script old new fault.NoMemory start now
 RunPrints board script old new f start now = PrintsFront board script old new f start now
 

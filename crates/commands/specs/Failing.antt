@@ -1,5 +1,4 @@
--- What a script prints where a call of the disk fails while it runs. No contract says so yet: what a host tells its guests
--- is known only while none has failed.
+-- What a script prints where a call of the disk fails while it runs.
 use Rattle.std.specs.Prelude.{◌≡◌, ℕ, zero, suc, ◌+◌, ◌<◌, Bool, true, false, List, [], ◌∷◌, ◌++◌, Option, Some, None, get_or}
 use Rattle.std.specs.Io.KnownBytes.{Appends}
 use Rattle.mmio_transport.specs.Device.{last_count}
@@ -94,6 +93,13 @@ pub record HasRunSince (was broke : Bool) (steps : ℕ) (t : Told) (line : Said)
 -- what a line does to a host that stands there, whether a call failed or not
 abbrev pub RunsSince : Bool → Bool → HostView → Said → Option (List ℕ) → Option (List ℕ) → HostView → Type 0
 RunsSince was broke h line start next h' = (steps : ℕ) → (t : Told) → steps + 2 < last_count → IsAt steps t h → HasRunSince was broke steps t line start next h'
+
+-- the same of each kind of line; a store promises nothing
+abbrev pub Runs : Bool → Bool → HostView → Said → Option (List ℕ) → Option (List ℕ) → HostView → Type 0
+Runs was broke h nothing start next h' = RunsSince was broke h nothing start next h'
+Runs was broke h (chain guest readable writable) start next h' = RunsSince was broke h (chain guest readable writable) start next h'
+Runs was broke h (store guest at bytes) start next h' = Unit {0}
+Runs was broke h (reset guest) start next h' = RunsSince was broke h (reset guest) start next h'
 
 -- all lines are printed, by the line in which a call failed first
 pub record WroteAll (broke : Bool) (t : Told) (lines : List Said) (start now : Option (List ℕ)) (h : HostView) : Type 0 where

@@ -1,5 +1,5 @@
 -- What a run leaves at each moment: what its lines had accepted, what of it no stop loses any more, and what they printed.
-use Rattle.std.specs.Prelude.{◌≡◌, ◌⊎◌, ◌≤◌, ◌<◌, ◌+◌, ℕ, Bool, true, false, List, [], ◌∷◌, ◌++◌, Option, Some, Result, Ok, Err, length, slice_get}
+use Rattle.std.specs.Prelude.{◌≡◌, ◌⊎◌, ◌≤◌, ◌<◌, ◌+◌, ℕ, Bool, true, false, List, [], ◌∷◌, ◌++◌, Option, Some, Result, Ok, Err, length, map, slice_get}
 use Rattle.std.specs.Io.KnownBytes.{Appends, Keeps}
 use Rattle.rpmb_frame.specs.Partition.{Partition, sequence}
 use Rattle.rpmb_frame.specs.Request.{Request}
@@ -18,9 +18,10 @@ use Rattle.host.specs.Host.{HostView}
 use Rattle.host.specs.Moving.{GoOn, Moves}
 use Rattle.host.specs.declared.front.Stuck.{Stuck}
 use Rattle.commands.specs.Ending.{KeepsUnless}
+use Rattle.commands.specs.Failing.{IsFailedIn, text_when, told_when}
 use Rattle.commands.specs.Image.{AreOf}
 use Rattle.commands.specs.Running.{IsAt}
-use Rattle.commands.specs.Transcript.{AreSplit, Says, StoresNothing, first_told, output_of, partitions_after, stuck_line, used_line}
+use Rattle.commands.specs.Transcript.{AreSplit, Says, StoresNothing, first_told, stuck_line, used_line}
 use Rattle.commands.specs.declared.fault.Fault.{Fault}
 use Rattle.commands.specs.declared.fault.Fault.TheVariants as fault
 
@@ -62,16 +63,20 @@ pub record Leads {D : Type 0} (shows : D → DiskState) (makes : D → DiskCall 
   pub whole : n.broken ≡ false → m.broken ≡ false
   pub cause : n.broken ≡ true → (m.broken ≡ true) ⊎ HasRisen (shows m.disk).failures (shows n.disk).failures
 
--- what the lines done have printed, and what the accepted requests make of each partition, are what the script says
+-- What the lines done have printed, and what the accepted requests make of each partition, are what the script says, by
+-- the line in which a call of the disk failed first.
 pub record IsTold {D : Type 0} (board : List GuestConfig) (partitions : List Partition) (start : Option (List ℕ)) (done : List Said) (m : Moment D) : Type 0 where
-  pub printed : Appends start m.printed (output_of board partitions done)
-  pub after : (g : ℕ) (p : Partition) → slice_get (partitions_after board partitions done) g ≡ Some p → p ≡ partition_after_all (bases_of partitions g) (m.accepted g)
+  pub failed : Option ℕ
+  pub known : IsFailedIn m.broken failed done
+  pub printed : Appends start m.printed (text_when failed (first_told board partitions) done)
+  pub after : (g : ℕ) (p : Partition) → slice_get (map (λ c. c.partition) (told_when failed (first_told board partitions) done).cores) g ≡ Some p
+      → p ≡ partition_after_all (bases_of partitions g) (m.accepted g)
 
--- Between two lines, while no call of the disk has failed: no stop loses anything of what was accepted; and where no
--- line of the script stores into guest memory, all is as the script says.
+-- Between two lines: while no call of the disk has failed, no stop loses anything of what was accepted; and where no line
+-- of the script stores into guest memory, all is as the script says.
 pub record IsDone {D : Type 0} (board : List GuestConfig) (partitions : List Partition) (all : List Said) (start : Option (List ℕ)) (done : List Said) (m : Moment D) : Type 0 where
   pub kept : m.broken ≡ false → (g : ℕ) → g < length board → sequence (bases_of partitions g) + length (m.accepted g) ≤ m.kept g
-  pub told : m.broken ≡ false → AreSplit board → StoresNothing all → IsTold board partitions start done m
+  pub told : AreSplit board → StoresNothing all → IsTold board partitions start done m
 
 -- The lines of a script that are done, one after another: each made its calls of the disk, and then it printed.
 pub data Trail {D : Type 0} (shows : D → DiskState) (makes : D → DiskCall → D → Type 0) (board : List GuestConfig) (partitions : List Partition) (all : List Said) (start : Option (List ℕ)) (first : Moment D)
@@ -136,6 +141,7 @@ moment_of accepted b printed = record { accepted = accepted; kept = marks_in b; 
 -- a host of an image that was just opened, before the first line
 pub record Starts {D : Type 0} (shows : D → DiskState) (board : List GuestConfig) (partitions : List Partition) (b : BoardState D) (h : HostView) : Type 0 where
   pub calm : IsCalm shows b
+  pub whole : b.store.broken ≡ false
   pub linked : StaysLinked shows board (bases_of partitions) (λ g. []) b
   pub ready : AreSplit board → IsAt 0 (first_told board partitions) h
 

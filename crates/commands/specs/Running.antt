@@ -1,11 +1,10 @@
--- What a line does to a host whose guests are all ready.
-use Rattle.std.specs.Prelude.{◌≡◌, ℕ, ◌+◌, ◌<◌, ◌≤◌, All, Bool, false, List, length, Option}
-use Rattle.std.specs.Io.KnownBytes.{Appends}
+-- Where a run stands whose guests are all ready, and how a line may fail there.
+use Rattle.std.specs.Prelude.{◌≡◌, ℕ, ◌+◌, ◌<◌, ◌≤◌, All, List, length}
 use Rattle.mmio_transport.specs.Device.{last_count}
 use Rattle.script.specs.Line.{IsWithin, Said, nothing, chain, said, store, reset}
 use Rattle.script.specs.declared.line.Line.{Line}
 use Rattle.host.specs.Host.{HostView, AreReady}
-use Rattle.commands.specs.Transcript.{Told, printed_by, told_by}
+use Rattle.commands.specs.Transcript.{Told}
 use Rattle.commands.specs.declared.fault.Fault.{Fault}
 use Rattle.commands.specs.declared.fault.Fault.TheVariants as fault
 
@@ -20,21 +19,6 @@ IsSized (reset guest) = Unit {0}
 pub record IsAt (steps : ℕ) (t : Told) (h : HostView) : Type 0 where
   pub cores : h.runner.cores ≡ t.cores
   pub ready : AreReady steps t.sessions h.guests
-
--- a line printed what the transcript says, and brought the host on
-pub record HasRun (steps : ℕ) (t : Told) (line : Said) (start now : Option (List ℕ)) (h' : HostView) : Type 0 where
-  pub printed : Appends start now (printed_by t line)
-  pub after : IsAt (steps + 1) (told_by t line) h'
-
-abbrev pub RunsAs : Bool → HostView → Said → Option (List ℕ) → Option (List ℕ) → HostView → Type 0
-RunsAs broken h line start now h' = broken ≡ false → (steps : ℕ) → (t : Told) → steps + 2 < last_count → IsAt steps t h → HasRun steps t line start now h'
-
--- What a line does to a host that stands there, while no call of the disk has failed; a store promises nothing.
-abbrev pub Runs : Bool → HostView → Said → Option (List ℕ) → Option (List ℕ) → HostView → Type 0
-Runs broken h nothing start now h' = RunsAs broken h nothing start now h'
-Runs broken h (chain guest readable writable) start now h' = RunsAs broken h (chain guest readable writable) start now h'
-Runs broken h (store guest at bytes) start now h' = Unit {0}
-Runs broken h (reset guest) start now h' = RunsAs broken h (reset guest) start now h'
 
 abbrev pub IsChain : Said → Type 0
 IsChain nothing = ⊥
@@ -56,15 +40,15 @@ pub record AreGuests (guests : ℕ) (t : Told) : Type 0 where
   pub cores : length t.cores ≡ guests
   pub sessions : length t.sessions ≡ guests
 
-abbrev pub FailsAs : Bool → HostView → Said → Fault → Type 0
-FailsAs broken h line f = broken ≡ false → (steps guests : ℕ) → (t : Told) → steps + 2 < last_count → IsAt steps t h → AreGuests guests t → IsWithin guests line → MayFail f line
+abbrev pub FailsAs : HostView → Said → Fault → Type 0
+FailsAs h line f = (steps guests : ℕ) → (t : Told) → steps + 2 < last_count → IsAt steps t h → AreGuests guests t → IsWithin guests line → MayFail f line
 
--- How a line fails on a host that stands there, while no call of the disk has failed; a store promises nothing.
-abbrev pub Fails : Bool → HostView → Said → Fault → Type 0
-Fails broken h nothing f = FailsAs broken h nothing f
-Fails broken h (chain guest readable writable) f = FailsAs broken h (chain guest readable writable) f
-Fails broken h (store guest at bytes) f = Unit {0}
-Fails broken h (reset guest) f = FailsAs broken h (reset guest) f
+-- how a line fails on a host that stands there; a store promises nothing
+abbrev pub Fails : HostView → Said → Fault → Type 0
+Fails h nothing f = FailsAs h nothing f
+Fails h (chain guest readable writable) f = FailsAs h (chain guest readable writable) f
+Fails h (store guest at bytes) f = Unit {0}
+Fails h (reset guest) f = FailsAs h (reset guest) f
 
 -- the lines name guests of a board of so many
 abbrev pub AreWithin : ℕ → List Line → Type 0

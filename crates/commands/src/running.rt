@@ -10,12 +10,13 @@ ghost use Rattle.script.specs.Script.{lines_of};
 ghost use Rattle.host.specs.Calm.{IsCalm, is_broken};
 ghost use Rattle.host.specs.Host.{seen};
 ghost use Rattle.host.specs.Moving.{Moves};
-ghost use Rattle.commands.specs.Ending.{IsOfOpening, IsOfReading, IsOfRunning, IsOfWriting, KeepsUnless, OpenedEnds, OpenedPrints, PrintsFirstUnless, RunEnds, RunPrints};
-ghost use Rattle.commands.specs.Image.{Finishes, IsOpened, Ran, Tells};
+ghost use Rattle.commands.specs.Ending.{IsOfOpening, IsOfReading, IsOfRunning, IsOfWriting, KeepsUnless, OpenedEnds, OpenedPrints, RunEnds, RunPrints, WroteFirst};
+ghost use Rattle.commands.specs.Failing.{Breaks, Runs, WroteAll};
+ghost use Rattle.commands.specs.Image.{Finishes, IsOpened, Ran};
 ghost use Rattle.commands.specs.Moments.{AnyMoment, LinesCome, MovesTo, PrintsLine};
-ghost use Rattle.commands.specs.Running.{AreGuests, AreWithin, Fails, IsAt, IsSized, Runs};
+ghost use Rattle.commands.specs.Running.{AreGuests, AreWithin, Fails, IsAt, IsSized};
 ghost use Rattle.commands.specs.Transcript.{AreSplit, IsBadAt, Says, StoresNothing, Told, shown};
-ghost use Rattle.commands.specs.Transcript.{stuck_line, transcript, used_line};
+ghost use Rattle.commands.specs.Transcript.{stuck_line, used_line};
 
 use crate::fault::Fault;
 use board::Board;
@@ -105,11 +106,12 @@ fn run_chain<D: Disk, W: Write>(
     out: &mut W,
 ) -> Result<(), Fault>
     requires { IsSized (chain guest readable.now writable) }
-    ensures runs { OnOk result (Runs (is_broken host.new.board) (seen host.old) (chain guest readable.now writable) (W.contents out.old) (W.contents out.new) (seen host.new)) }
+    ensures runs { OnOk result (Runs (is_broken host.old.board) (is_broken host.new.board) (seen host.old) (chain guest readable.now writable) (W.contents out.old) (W.contents out.new) (seen host.new)) }
     ensures keeps { is_broken host.new.board ≡ false → is_broken host.old.board ≡ false }
     ensures moves { Moves D.state D.makes host.old.board host.new.board }
     ensures ends { IfErr result IsOfRunning }
-    ensures fails { IfErr result (Fails (is_broken host.new.board) (seen host.old) (chain guest readable.now writable)) }
+    ensures fails { IfErr result (Fails (seen host.old) (chain guest readable.now writable)) }
+    ensures breaks { Breaks (is_broken host.old.board) (is_broken host.new.board) (chain guest readable.now writable) }
     ensures silent { IfErr result (λ fault. KeepsUnless fault (W.contents out.old) (W.contents out.new)) }
     ensures prints { OnOk result (PrintsLine (chain guest readable.now writable) (W.contents out.old) (W.contents out.new)) }
     ensures calm { IsCalm D.state host.new.board }
@@ -129,11 +131,12 @@ fn run_line<D: Disk, W: Write>(
     out: &mut W,
 ) -> Result<(), Fault>
     requires { IsSized (said line) }
-    ensures runs { OnOk result (Runs (is_broken host.new.board) (seen host.old) (said line) (W.contents out.old) (W.contents out.new) (seen host.new)) }
+    ensures runs { OnOk result (Runs (is_broken host.old.board) (is_broken host.new.board) (seen host.old) (said line) (W.contents out.old) (W.contents out.new) (seen host.new)) }
     ensures keeps { is_broken host.new.board ≡ false → is_broken host.old.board ≡ false }
     ensures moves { Moves D.state D.makes host.old.board host.new.board }
     ensures ends { IfErr result IsOfRunning }
-    ensures fails { IfErr result (Fails (is_broken host.new.board) (seen host.old) (said line)) }
+    ensures fails { IfErr result (Fails (seen host.old) (said line)) }
+    ensures breaks { Breaks (is_broken host.old.board) (is_broken host.new.board) (said line) }
     ensures silent { IfErr result (λ fault. KeepsUnless fault (W.contents out.old) (W.contents out.new)) }
     ensures prints { OnOk result (PrintsLine (said line) (W.contents out.old) (W.contents out.new)) }
     ensures calm { IsCalm D.state host.old.board → IsCalm D.state host.new.board }
@@ -164,15 +167,15 @@ fn run_lines<D: Disk, W: Write>(
     out: &mut W,
 ) -> Result<(), Fault>
     requires { All (λ line. IsSized (said line)) lines.items }
-    ensures told { OnOk result (is_broken host.new.board ≡ false → (t : Told) → IsAt 0 t (seen host.old) → StoresNothing (map said lines.items)
-        → Tells t (map said lines.items) (W.contents out.old) (W.contents out.new) (seen host.new)) }
+    ensures told { OnOk result (is_broken host.old.board ≡ false → (t : Told) → IsAt 0 t (seen host.old) → StoresNothing (map said lines.items)
+        → WroteAll (is_broken host.new.board) t (map said lines.items) (W.contents out.old) (W.contents out.new) (seen host.new)) }
     ensures keeps { is_broken host.new.board ≡ false → is_broken host.old.board ≡ false }
     ensures moves { Moves D.state D.makes host.old.board host.new.board }
     ensures ends { IfErr result IsOfRunning }
     ensures moments { LinesCome D.state D.makes (map said lines.items) host.old.board (seen host.old) (W.contents out.old) result host.new.board (W.contents out.new) }
-    ensures stopped { IfErr result (λ fault. is_broken host.new.board ≡ false → (guests : ℕ) → (t : Told) → IsAt 0 t (seen host.old) → AreGuests guests t
+    ensures stopped { IfErr result (λ fault. is_broken host.old.board ≡ false → (guests : ℕ) → (t : Told) → IsAt 0 t (seen host.old) → AreGuests guests t
         → AreWithin guests lines.items → StoresNothing (map said lines.items)
-        → PrintsFirstUnless fault (transcript t) (map said lines.items) (W.contents out.old) (W.contents out.new)) }
+        → WroteFirst fault (is_broken host.new.board) t (map said lines.items) (W.contents out.old) (W.contents out.new)) }
 {
     for line in lines {
         run_line(alloc, host, line, out)?;

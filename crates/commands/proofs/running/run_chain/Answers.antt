@@ -1,4 +1,4 @@
-use Rattle.std.proofs.Common.{◌≡◌, false, Ok, subst, sym}
+use Rattle.std.proofs.Common.{◌≡◌, Ok, subst, sym}
 use Rattle.script.specs.Line.{chain}
 use Rattle.std.proofs.lemmas.Result.{on_ok_weaker}
 use Rattle.host.specs.Calm.{is_broken}
@@ -7,25 +7,39 @@ use Rattle.host.specs.declared.front.Answer.{Answer}
 use Rattle.host.specs.declared.front.Answer.TheVariants.{Used}
 use Rattle.commands.specs.Running.{Fails}
 use Rattle.commands.proofs.Lines.{chain_ends, stuck_runs, used_runs}
+use Rattle.commands.proofs.Until.{breaks_chain}
 use Rattle.commands.proofs.running.run_chain.Goals as goal
 
 pub returns-in-Ok-Used-clause-runs : goal.returns-in-Ok-Used-clause-runs
 returns-in-Ok-Used-clause-runs g c =
     let start = g.W.Write.contents c.args.out.now in
     let end = g.W.Write.contents c.write_reply.new.out in
-    let given : Answer → Type 0 = λ x. is_broken c.chain.new.self.board ≡ false → HostAnswers (seen c.args.host.now) c.args.guest c.args.readable.now c.args.writable (Ok x) (seen c.chain.new.self) in
-    on_ok_weaker c.write_reply.result (λ printed. used_runs (is_broken c.chain.new.self.board) (seen c.args.host.now) (seen c.chain.new.self) c.args.guest c.args.readable.now c.args.writable (Used c.in-Ok-Used.reply) c.as_slice.result.now start end
+    let was = is_broken c.args.host.now.board in
+    let broke = is_broken c.chain.new.self.board in
+    let given : Answer → Type 0 = λ x. HostAnswers was broke (seen c.args.host.now) c.args.guest c.args.readable.now c.args.writable (Ok x) (seen c.chain.new.self) in
+    on_ok_weaker c.write_reply.result (λ printed. used_runs was broke (seen c.args.host.now) (seen c.chain.new.self) c.args.guest c.args.readable.now c.args.writable (Used c.in-Ok-Used.reply) c.as_slice.result.now start end
     (subst given c.in-Ok-Used.field-0-is c.in-Ok-Used.ensures.answer) c.as_slice.ensures.value printed) c.write_reply.ensures.printed
 
 pub returns-in-Ok-Stuck-clause-runs : goal.returns-in-Ok-Stuck-clause-runs
 returns-in-Ok-Stuck-clause-runs g c =
     let start = g.W.Write.contents c.args.out.now in
     let end = g.W.Write.contents c.write_stuck.new.out in
-    let given : Answer → Type 0 = λ x. is_broken c.chain.new.self.board ≡ false → HostAnswers (seen c.args.host.now) c.args.guest c.args.readable.now c.args.writable (Ok x) (seen c.chain.new.self) in
-    on_ok_weaker c.write_stuck.result (λ printed. stuck_runs (is_broken c.chain.new.self.board) (seen c.args.host.now) (seen c.chain.new.self) c.args.guest c.args.readable.now c.args.writable c.in-Ok-Stuck.stuck start end
+    let was = is_broken c.args.host.now.board in
+    let broke = is_broken c.chain.new.self.board in
+    let given : Answer → Type 0 = λ x. HostAnswers was broke (seen c.args.host.now) c.args.guest c.args.readable.now c.args.writable (Ok x) (seen c.chain.new.self) in
+    on_ok_weaker c.write_stuck.result (λ printed. stuck_runs was broke (seen c.args.host.now) (seen c.chain.new.self) c.args.guest c.args.readable.now c.args.writable c.in-Ok-Stuck.stuck start end
     (subst given c.in-Ok-Stuck.field-0-is c.in-Ok-Stuck.ensures.answer)) c.write_stuck.ensures.printed
 
 pub returns-in-Err-clause-fails : goal.returns-in-Err-clause-fails
 returns-in-Err-clause-fails g c =
-    subst (Fails (is_broken c.chain.new.self.board) (seen c.args.host.now) (chain c.args.guest c.args.readable.now c.args.writable)) (sym c.of.ensures)
-    (chain_ends (is_broken c.chain.new.self.board) (seen c.args.host.now) (seen c.chain.new.self) c.args.guest c.args.readable.now c.args.writable c.in-Err.fault c.in-Err.ensures.guest)
+    subst (Fails (seen c.args.host.now) (chain c.args.guest c.args.readable.now c.args.writable)) (sym c.of.ensures)
+    (chain_ends (is_broken c.args.host.now.board) (is_broken c.chain.new.self.board) (seen c.args.host.now) (seen c.chain.new.self) c.args.guest c.args.readable.now c.args.writable c.in-Err.fault c.in-Err.ensures.guest)
+
+pub returns-in-Ok-Used-clause-breaks : goal.returns-in-Ok-Used-clause-breaks
+returns-in-Ok-Used-clause-breaks g c = breaks_chain (is_broken c.args.host.now.board) (is_broken c.chain.new.self.board) c.args.guest c.args.readable.now c.args.writable c.chain.ensures.keeps
+
+pub returns-in-Ok-Stuck-clause-breaks : goal.returns-in-Ok-Stuck-clause-breaks
+returns-in-Ok-Stuck-clause-breaks g c = breaks_chain (is_broken c.args.host.now.board) (is_broken c.chain.new.self.board) c.args.guest c.args.readable.now c.args.writable c.chain.ensures.keeps
+
+pub returns-in-Err-clause-breaks : goal.returns-in-Err-clause-breaks
+returns-in-Err-clause-breaks g c = breaks_chain (is_broken c.args.host.now.board) (is_broken c.chain.new.self.board) c.args.guest c.args.readable.now c.args.writable c.chain.ensures.keeps

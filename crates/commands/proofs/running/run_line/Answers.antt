@@ -1,39 +1,48 @@
-use Rattle.std.proofs.Common.{List, OnOk, subst, sym}
+use Rattle.std.proofs.Common.{List, OnOk, refl, subst, sym}
 use Rattle.script.specs.Line.{chain, reset, said}
 use Rattle.script.specs.declared.line.Line.{Line}
 use Rattle.host.specs.Calm.{is_broken}
 use Rattle.host.specs.Host.{seen}
-use Rattle.commands.specs.Running.{Fails, Runs}
+use Rattle.commands.specs.Failing.{Breaks, Runs}
+use Rattle.commands.specs.Running.{Fails}
 use Rattle.host.proofs.Moving.{moves_none}
 use Rattle.commands.proofs.Lines.{nothing_runs, reset_ends, reset_runs}
+use Rattle.commands.proofs.Until.{breaks_none}
 use Rattle.commands.proofs.running.run_line.Goals as goal
 
 pub returns-in-Nothing-clause-runs : goal.returns-in-Nothing-clause-runs
 returns-in-Nothing-clause-runs g c =
     let start = g.W.Write.contents c.args.out.now in
-    let of : Line → Type 0 = λ l. Runs (is_broken c.args.host.now.board) (seen c.args.host.now) (said l) start start (seen c.args.host.now) in
-    subst of (sym c.in-Nothing.is) (nothing_runs (is_broken c.args.host.now.board) (seen c.args.host.now) start)
+    let was = is_broken c.args.host.now.board in
+    let of : Line → Type 0 = λ l. Runs was was (seen c.args.host.now) (said l) start start (seen c.args.host.now) in
+    subst of (sym c.in-Nothing.is) (nothing_runs was (seen c.args.host.now) start)
 
 pub returns-in-Chain-clause-runs : goal.returns-in-Chain-clause-runs
 returns-in-Chain-clause-runs g c =
     let start = g.W.Write.contents c.args.out.now in
     let end = g.W.Write.contents c.run_chain.new.out in
-    let of : Line → Type 0 = λ l. OnOk c.run_chain.result (Runs (is_broken c.run_chain.new.host.board) (seen c.args.host.now) (said l) start end (seen c.run_chain.new.host)) in
-    let with : List _ → Type 0 = λ r. OnOk c.run_chain.result (Runs (is_broken c.run_chain.new.host.board) (seen c.args.host.now) (chain c.in-Chain.guest r c.in-Chain.writable) start end (seen c.run_chain.new.host)) in
+    let was = is_broken c.args.host.now.board in
+    let broke = is_broken c.run_chain.new.host.board in
+    let of : Line → Type 0 = λ l. OnOk c.run_chain.result (Runs was broke (seen c.args.host.now) (said l) start end (seen c.run_chain.new.host)) in
+    let with : List _ → Type 0 = λ r. OnOk c.run_chain.result (Runs was broke (seen c.args.host.now) (chain c.in-Chain.guest r c.in-Chain.writable) start end (seen c.run_chain.new.host)) in
     subst of (sym c.in-Chain.is) (subst with c.as_slice.ensures.value c.run_chain.ensures.runs)
 
 pub returns-in-Ok-reset-clause-runs : goal.returns-in-Ok-reset-clause-runs
 returns-in-Ok-reset-clause-runs g c =
     let start = g.W.Write.contents c.args.out.now in
-    let of : Line → Type 0 = λ l. Runs (is_broken c.reset.new.self.board) (seen c.args.host.now) (said l) start start (seen c.reset.new.self) in
-    subst of (sym c.in-Reset.is) (reset_runs (is_broken c.reset.new.self.board) (seen c.args.host.now) (seen c.reset.new.self) c.in-Reset.guest start c.in-Ok-reset.ensures.ready)
+    let was = is_broken c.args.host.now.board in
+    let broke = is_broken c.reset.new.self.board in
+    let of : Line → Type 0 = λ l. Runs was broke (seen c.args.host.now) (said l) start start (seen c.reset.new.self) in
+    subst of (sym c.in-Reset.is) (reset_runs was broke (seen c.args.host.now) (seen c.reset.new.self) c.in-Reset.guest start c.in-Ok-reset.ensures.ready)
 
 pub returns-in-Nothing-clause-moves : goal.returns-in-Nothing-clause-moves
 returns-in-Nothing-clause-moves g c = moves_none g.D.Disk.state g.D.Disk.makes c.args.host.now.board
 
+pub returns-in-Nothing-clause-breaks : goal.returns-in-Nothing-clause-breaks
+returns-in-Nothing-clause-breaks g c = breaks_none (is_broken c.args.host.now.board) (is_broken c.args.host.now.board) (said c.args.line) refl
+
 pub returns-clause-fails : goal.returns-clause-fails
 returns-clause-fails g c =
-    let broken = is_broken c.reset.new.self.board in
-    let of : Line → Type 0 = λ l. Fails broken (seen c.args.host.now) (said l) c.of-in-Err-reset.result in
-    subst of (sym c.in-Reset.is) (subst (Fails broken (seen c.args.host.now) (reset c.in-Reset.guest)) (sym c.of-in-Err-reset.ensures)
-    (reset_ends broken (seen c.args.host.now) (seen c.reset.new.self) c.in-Reset.guest c.in-Err-reset.fault c.in-Err-reset.ensures.guest))
+    let of : Line → Type 0 = λ l. Fails (seen c.args.host.now) (said l) c.of-in-Err-reset.result in
+    subst of (sym c.in-Reset.is) (subst (Fails (seen c.args.host.now) (reset c.in-Reset.guest)) (sym c.of-in-Err-reset.ensures)
+    (reset_ends (seen c.args.host.now) (seen c.reset.new.self) c.in-Reset.guest c.in-Err-reset.fault c.in-Err-reset.ensures.guest))

@@ -1,4 +1,4 @@
-use Rattle.std.proofs.Common.{◌≡◌, ◌+◌, ◌<◌, List, [], ap, length, map, subst, sym, arith}
+use Rattle.std.proofs.Common.{◌≡◌, ◌+◌, ◌<◌, ◌∙◌, Bool, false, List, [], ap, length, map, subst, sym, arith}
 use Rattle.std.proofs.lemmas.Result.{err_from_is_err_and}
 use Rattle.std.specs.Prelude.{All}
 use Rattle.std.proofs.lemmas.List.{length-map}
@@ -9,7 +9,9 @@ use Rattle.host.specs.Calm.{is_broken}
 use Rattle.host.specs.Host.{seen}
 use Rattle.host.proofs.Moving.{moves_none, moves_twice}
 use Rattle.commands.specs.Running.{AreWithin, IsSized}
-use Rattle.commands.proofs.Printing.{Going, begin, finish, head_within, none_left, rest_sized, rest_within, step, stop}
+use Rattle.commands.proofs.Printing.{head_within, none_left, rest_sized, rest_within}
+use Rattle.commands.proofs.Stopped.{stop}
+use Rattle.commands.proofs.Until.{Stood, begin_whole, step, stood_all}
 use Rattle.commands.specs.Moments.{Walked, moment_of}
 use Rattle.commands.specs.Transcript.{first_told}
 use Rattle.commands.proofs.Walking.{walk_begins, walk_on}
@@ -25,10 +27,12 @@ loop-line-init g c =
       (λ guests within. subst (AreWithin guests) same within),
       (λ whole. whole),
       moves_none g.D.Disk.state g.D.Disk.makes c.args.host.now.board,
-      (λ whole t at clean. subst (Going start start t (seen c.args.host.now) all) (ap (map said) same) (begin start (seen c.args.host.now) all t at clean)),
+      (λ whole t at clean. subst (Stood (is_broken c.args.host.now.board) start start t (seen c.args.host.now) all) (ap (map said) same)
+          (subst (λ b. Stood b start start t (seen c.args.host.now) all all) (sym whole) (begin_whole start (seen c.args.host.now) all t at clean))),
       (λ calm. calm),
       (λ board partitions starts. subst (λ ls. Walked g.D.Disk.state g.D.Disk.makes board partitions all start (moment_of (λ k. []) c.args.host.now.board start) ls c.args.host.now.board start) (ap (map said) same)
-          (walk_begins g.D.Disk.state g.D.Disk.makes board partitions c.args.host.now all start starts (λ whole split clean. begin start (seen c.args.host.now) all (first_told board partitions) (starts.ready split) clean))),
+          (walk_begins g.D.Disk.state g.D.Disk.makes board partitions c.args.host.now all start starts (λ split clean.
+          subst (λ b. Stood b start start (first_told board partitions) (seen c.args.host.now) all all) (sym (sym starts.calm.broken ∙ starts.whole)) (begin_whole start (seen c.args.host.now) all (first_told board partitions) (starts.ready split) clean)))),
     )
 
 pub loop-line-preserved : goal.loop-line-preserved
@@ -46,8 +50,9 @@ loop-line-preserved g c =
       (λ whole. now.invariant.2 (c.run_line.ensures.keeps whole)),
       moves_twice g.D.Disk.state g.D.Disk.makes c.args.host.now.board now.host.board c.run_line.new.host.board now.invariant.3 c.run_line.ensures.moves,
       (λ whole t at clean.
-          let going = subst (Going start here t (seen now.host) all) (ap (map said) rest) (now.invariant.4 (c.run_line.ensures.keeps whole) t at clean) in
-          step (is_broken c.run_line.new.host.board) start here (g.W.Write.contents c.run_line.new.out) t (seen now.host) (seen c.run_line.new.host) all (map said c.next.new.self.rest.items) (said c.in-Some.line) few whole going ran.runs),
+          let stood = subst (Stood (is_broken now.host.board) start here t (seen now.host) all) (ap (map said) rest) (now.invariant.4 whole t at clean) in
+          step (is_broken now.host.board) (is_broken c.run_line.new.host.board) start here (g.W.Write.contents c.run_line.new.out) t (seen now.host) (seen c.run_line.new.host) all (map said c.next.new.self.rest.items) (said c.in-Some.line) few
+          c.run_line.ensures.breaks stood ran.runs),
       (λ calm. c.run_line.ensures.calm (now.invariant.5 calm)),
       (λ board partitions starts.
           let first = moment_of (λ k. []) c.args.host.now.board start in
@@ -56,10 +61,10 @@ loop-line-preserved g c =
           let walked = subst (λ ls. Walked g.D.Disk.state g.D.Disk.makes board partitions all start first ls now.host.board here) (ap (map said) rest) (now.invariant.6 board partitions starts) in
           walk_on g.D.Disk.state g.D.Disk.makes board partitions all start first (said c.in-Some.line) left now.host.board c.run_line.new.host here next walked c.run_line.ensures.moves
           (c.run_line.ensures.calm (now.invariant.5 starts.calm)) ran.prints
-          (λ whole split clean.
+          (λ split clean.
           let t = first_told board partitions in
-          let going = subst (Going start here t (seen now.host) all) (ap (map said) rest) (now.invariant.4 (c.run_line.ensures.keeps whole) t (starts.ready split) clean) in
-          step (is_broken c.run_line.new.host.board) start here next t (seen now.host) (seen c.run_line.new.host) all left (said c.in-Some.line) few whole going ran.runs)),
+          let stood = subst (Stood (is_broken now.host.board) start here t (seen now.host) all) (ap (map said) rest) (now.invariant.4 (sym starts.calm.broken ∙ starts.whole) t (starts.ready split) clean) in
+          step (is_broken now.host.board) (is_broken c.run_line.new.host.board) start here next t (seen now.host) (seen c.run_line.new.host) all left (said c.in-Some.line) few c.run_line.ensures.breaks stood ran.runs)),
     )
 
 pub returns-clause-told : goal.returns-clause-told
@@ -72,7 +77,7 @@ returns-clause-told g c =
     let left = now.line-iterator.rest in
     let long : left.len ≡ length left.items = omega (arith, left.ok) in
     let rest = ap (map said) (none_left left.items left.len c.in-None.ensures.steps.0 long) in
-    finish start here t (seen now.host) all (subst (Going start here t (seen now.host) all) rest (now.invariant.4 whole t at clean))
+    stood_all (is_broken now.host.board) start here t (seen now.host) all (subst (Stood (is_broken now.host.board) start here t (seen now.host) all) rest (now.invariant.4 whole t at clean))
 
 pub returns-in_err-run_line-clause-keeps : goal.returns-in_err-run_line-clause-keeps
 returns-in_err-run_line-clause-keeps g c = λ whole. c.loop-line.invariant.2 (c.run_line.ensures.keeps whole)
@@ -93,9 +98,10 @@ returns-in_err-run_line-clause-stopped g c =
     let left = c.next.new.self.rest.items in
     let p = err_from_is_err_and c.from_residual.result c.from_residual.ensures.1 in
     rw (p.1, p.2) (λ whole guests t at are within clean.
-    let going = subst (Going start here t (seen now.host) all) (ap (map said) rest) (now.invariant.4 (c.run_line.ensures.keeps whole) t at clean) in
+    let stood = subst (Stood (is_broken now.host.board) start here t (seen now.host) all) (ap (map said) rest) (now.invariant.4 whole t at clean) in
     let one = head_within guests c.in-Some.line left (subst (AreWithin guests) rest (now.invariant.1 guests within)) in
-    stop (is_broken c.run_line.new.host.board) start here next t (seen now.host) all (map said left) (said c.in-Some.line) c.in_err-run_line.field-0.0 guests few going c.in_err-run_line.ensures.silent are one whole c.in_err-run_line.ensures.fails)
+    stop (is_broken now.host.board) (is_broken c.run_line.new.host.board) start here next t (seen now.host) all (map said left) (said c.in-Some.line) c.in_err-run_line.field-0.0 guests few c.run_line.ensures.keeps stood
+    c.in_err-run_line.ensures.silent are one c.in_err-run_line.ensures.fails)
 
 pub returns-clause-moments : goal.returns-clause-moments
 returns-clause-moments g c board partitions starts =

@@ -9,7 +9,7 @@ use Rattle.host.specs.Moving.{Moves}
 use Rattle.commands.specs.Transcript.{StoresNothing, Told}
 use Rattle.commands.specs.Moments.{Starts, Walked, moment_of}
 use Rattle.commands.specs.Running.{AreWithin, IsAt, IsSized}
-use Rattle.commands.proofs.Printing.{Going}
+use Rattle.commands.proofs.Until.{Stood}
 use Rattle.commands.proofs.running.run_lines.Given as goal
 
 abbrev pub invariant-loop-line : goal.invariant-loop-line
@@ -18,8 +18,8 @@ invariant-loop-line g l =
     × ((guests : ℕ) → AreWithin guests l.fn.lines.items → AreWithin guests l.line-iterator.rest.items)
     × (is_broken l.host.board ≡ false → is_broken l.fn.host.board ≡ false)
     × Moves g.D.Disk.state g.D.Disk.makes l.fn.host.board l.host.board
-    × (is_broken l.host.board ≡ false → (t : Told) → IsAt 0 t (seen l.fn.host) → StoresNothing (map said l.fn.lines.items)
-    → Going (g.W.Write.contents l.fn.out) (g.W.Write.contents l.out) t (seen l.host) (map said l.fn.lines.items) (map said l.line-iterator.rest.items))
+    × (is_broken l.fn.host.board ≡ false → (t : Told) → IsAt 0 t (seen l.fn.host) → StoresNothing (map said l.fn.lines.items)
+    → Stood (is_broken l.host.board) (g.W.Write.contents l.fn.out) (g.W.Write.contents l.out) t (seen l.host) (map said l.fn.lines.items) (map said l.line-iterator.rest.items))
     × (IsCalm g.D.Disk.state l.fn.host.board → IsCalm g.D.Disk.state l.host.board)
     × ((board : List GuestConfig) (partitions : List Partition) → Starts g.D.Disk.state board partitions l.fn.host.board (seen l.fn.host)
     → Walked g.D.Disk.state g.D.Disk.makes board partitions (map said l.fn.lines.items) (g.W.Write.contents l.fn.out) (moment_of (λ k. []) l.fn.host.board (g.W.Write.contents l.fn.out)) (map said l.line-iterator.rest.items) l.host.board (g.W.Write.contents l.out))
