@@ -21,8 +21,8 @@ use Rattle.rpmb_book.specs.declared.refused.Refused.{Refused}
 use Rattle.rpmb_book.specs.declared.refused.Refused.TheVariants as refused
 use Rattle.host.specs.Guest.{GuestView}
 use Rattle.host.specs.Fault.{told_of}
-use Rattle.host.specs.Runner.{RunnerView, after_job, cores_after, refusal_of, reply_of}
-use Rattle.host.specs.Ready.{IsReady, FailsBy, job_of, reply_ranges, ComesBack}
+use Rattle.host.specs.Runner.{RunnerView, after_when, refusal_of, reply_when}
+use Rattle.host.specs.Ready.{IsReady, IsUnanswered, IsUnfetched, FailsBy, job_of, reply_ranges, ComesBack}
 use Rattle.host.specs.Serving.{IsCounting, IsAnswered, IsLeft, Serves, ServedBy, job_of as popped_job}
 use Rattle.host.specs.declared.fault.HostFault.{HostFault}
 use Rattle.host.specs.declared.front.Answer.TheVariants.{Used}
@@ -35,12 +35,12 @@ abbrev pub guest_at : DeviceState → DriverState → ℕ → Option Stuck → G
 guest_at d driver places stuck = record { device = d; job = None; driver = driver; places = places; stuck = stuck }
 
 -- the offer of a ready guest is taken as ServedBy says
-pub taken : (d d1 d2 : DeviceState) (driver driver1 : DriverState) (r r2 : RunnerView) (readable : List ℕ) (writable head number session steps places : ℕ) (stuck : Option Stuck) (answer : Result Served HostFault)
+pub taken : (was now : Bool) (d d1 d2 : DeviceState) (driver driver1 : DriverState) (r r2 : RunnerView) (readable : List ℕ) (writable head number session steps places : ℕ) (stuck : Option Stuck) (answer : Result Served HostFault)
     → length readable ≤ 8704 → writable ≤ 8192 → 0 < length readable + writable → steps + 2 < last_count
     → IsReady number session steps (guest_at d driver places stuck)
-    → Offering d.memory driver readable writable (Ok head) d1.memory driver1 → ButForMemory d d1 → Serves number d1 r answer d2 r2
-    → (last : ℕ) × ServedBy d1 r driver1 (offer_of readable writable head last) answer d2 r2
-taken d d1 d2 driver driver1 r r2 readable writable head number session steps places stuck answer most room some few ready offering rest serves =
+    → Offering d.memory driver readable writable (Ok head) d1.memory driver1 → ButForMemory d d1 → Serves number was now d1 r answer d2 r2
+    → (last : ℕ) × ServedBy was now d1 r driver1 (offer_of readable writable head last) answer d2 r2
+taken was now d d1 d2 driver driver1 r r2 readable writable head number session steps places stuck answer most room some few ready offering rest serves =
     let joined = device_offer_joins d d1 driver driver1 [] [] [] readable writable (Ok head) most room some ready.served offering rest in
     let s : d1.session ≡ d.session = ap (λ (x : DeviceState). x.session) rest in
     let n : d1.readiness ≡ d.readiness = ap (λ (x : DeviceState). x.readiness) rest in
@@ -72,15 +72,15 @@ alike d kind size number session readable writable head last named current = rec
   room = room_of_chain number kind size (offer_of readable writable head last) ∙ sym (room_of_ranges writable);
 }
 
-pub came_back : (d d1 d2 : DeviceState) (driver driver1 driver2 : DriverState) (r r2 : RunnerView) (readable : List ℕ) (writable head last number session steps places : ℕ) (stuck : Option Stuck) (reaped : Reaped)
+pub came_back : (was now : Bool) (d d1 d2 : DeviceState) (driver driver1 driver2 : DriverState) (r r2 : RunnerView) (readable : List ℕ) (writable head last number session steps places : ℕ) (stuck : Option Stuck) (reaped : Reaped)
     → IsReady number session steps (guest_at d driver places stuck)
     → Offering d.memory driver readable writable (Ok head) d1.memory driver1 → ButForMemory d d1
-    → IsAnswered d1 r driver1 (offer_of readable writable head last) d2 r2 → Reaps d2.memory driver1 (Ok (Some reaped)) driver2
-    → ComesBack number session steps r readable writable (Used reaped.bytes) (guest_at d2 driver2 places stuck) r2
-unfolding after_job cores_after
-came_back d d1 d2 driver driver1 driver2 r r2 readable writable head last number session steps places stuck reaped ready offering rest answered reaps =
+    → IsAnswered was now d1 r driver1 (offer_of readable writable head last) d2 r2 → Reaps d2.memory driver1 (Ok (Some reaped)) driver2
+    → ComesBack was now number session steps r readable writable (Used reaped.bytes) (guest_at d2 driver2 places stuck) r2
+unfolding after_when
+came_back was now d d1 d2 driver driver1 driver2 r r2 readable writable head last number session steps places stuck reaped ready offering rest answered reaps =
     let c = offer_of readable writable head last in
-    let reply : Reply = record { offer = c; bytes = reply_of r.cores (popped_job d1 driver1.kind driver1.size c) } in
+    let reply : Reply = record { offer = c; bytes = reply_when was now r.cores (popped_job d1 driver1.kind driver1.size c) } in
     let back : IsBackFrom d2 [] [] reply [] reaped driver2 = device_reap_gives d2 driver1 driver2 [] [] (reply ∷ []) (Ok (Some reaped)) answered.served reaps in
     let g : d1.guest ≡ number = ap (λ (x : DeviceState). x.guest) rest ∙ ready.named in
     let s : d1.session ≡ session = ap (λ (x : DeviceState). x.session) rest ∙ ready.current in
@@ -96,7 +96,7 @@ came_back d d1 d2 driver driver1 driver2 r r2 readable writable head last number
     let readiness = ready.readiness in
     let pops = ready.pops in
     record {
-      used = back.bytes ∙ same_reply r.cores (popped_job d1 driver1.kind driver1.size c) (job_of number session readable writable) like;
+      used = back.bytes ∙ same_reply was now r.cores (popped_job d1 driver1.kind driver1.size c) (job_of number session readable writable) like;
       ready = record {
         served = back.rest;
         named = answered.same.guest ∙ g;
@@ -111,20 +111,21 @@ came_back d d1 d2 driver driver1 driver2 r r2 readable writable head last number
         readiness = omega (arith, n, readiness);
         pops = omega (arith, k, pops);
       };
-      cores = ap (λ (x : RunnerView). x.cores) answered.runner ∙ same_cores r.cores (popped_job d1 driver1.kind driver1.size c) (job_of number session readable writable) like;
+      cores = ap (λ (x : RunnerView). x.cores) answered.runner ∙ same_cores was now r.cores (popped_job d1 driver1.kind driver1.size c) (job_of number session readable writable) like;
+      answered = ap (λ (x : RunnerView). x.answered) answered.runner;
     }
 
 -- a reap gives nothing else
-pub none_back : (d1 d2 : DeviceState) (driver1 driver2 : DriverState) (r r2 : RunnerView) (readable : List ℕ) (writable head last : ℕ)
-    → IsAnswered d1 r driver1 (offer_of readable writable head last) d2 r2 → Reaps d2.memory driver1 (Ok None) driver2 → ⊥
-none_back d1 d2 driver1 driver2 r r2 readable writable head last answered reaps =
-    let reply : Reply = record { offer = offer_of readable writable head last; bytes = reply_of r.cores (popped_job d1 driver1.kind driver1.size (offer_of readable writable head last)) } in
+pub none_back : (was now : Bool) (d1 d2 : DeviceState) (driver1 driver2 : DriverState) (r r2 : RunnerView) (readable : List ℕ) (writable head last : ℕ)
+    → IsAnswered was now d1 r driver1 (offer_of readable writable head last) d2 r2 → Reaps d2.memory driver1 (Ok None) driver2 → ⊥
+none_back was now d1 d2 driver1 driver2 r r2 readable writable head last answered reaps =
+    let reply : Reply = record { offer = offer_of readable writable head last; bytes = reply_when was now r.cores (popped_job d1 driver1.kind driver1.size (offer_of readable writable head last)) } in
     device_reap_gives d2 driver1 driver2 [] [] (reply ∷ []) (Ok None) answered.served reaps
 
-pub bad_back : (d1 d2 : DeviceState) (driver1 driver2 : DriverState) (r r2 : RunnerView) (readable : List ℕ) (writable head last : ℕ)
-    → IsAnswered d1 r driver1 (offer_of readable writable head last) d2 r2 → Reaps d2.memory driver1 (Err BadUsed) driver2 → ⊥
-bad_back d1 d2 driver1 driver2 r r2 readable writable head last answered reaps =
-    let reply : Reply = record { offer = offer_of readable writable head last; bytes = reply_of r.cores (popped_job d1 driver1.kind driver1.size (offer_of readable writable head last)) } in
+pub bad_back : (was now : Bool) (d1 d2 : DeviceState) (driver1 driver2 : DriverState) (r r2 : RunnerView) (readable : List ℕ) (writable head last : ℕ)
+    → IsAnswered was now d1 r driver1 (offer_of readable writable head last) d2 r2 → Reaps d2.memory driver1 (Err BadUsed) driver2 → ⊥
+bad_back was now d1 d2 driver1 driver2 r r2 readable writable head last answered reaps =
+    let reply : Reply = record { offer = offer_of readable writable head last; bytes = reply_when was now r.cores (popped_job d1 driver1.kind driver1.size (offer_of readable writable head last)) } in
     device_reap_gives d2 driver1 driver2 [] [] (reply ∷ []) (Err BadUsed) answered.served reaps
 
 -- a refusal has one of three causes
@@ -148,36 +149,39 @@ same_refusal r a b is =
     ap (λ n. first_row ((not (nat_lt n (length r.cores)), Some refused.Foreign) ∷ (r.answered == 16384, Some refused.HistoryFull) ∷ []) None) is
 
 -- why a popped job was not answered
-pub fails : (fault : HostFault) (g : GuestView) (r r' : RunnerView) (readable : List ℕ) (writable : ℕ) (popped job : Job) → popped.guest ≡ job.guest
-    → IsLeft r popped fault r' → FailsBy fault g r readable writable job r'
-fails fault g r r' readable writable popped job named left =
-    let by : HostFault → Type 0 = λ f. FailsBy f g r readable writable job r' in
+pub fails : (was now : Bool) (fault : HostFault) (g : GuestView) (r r' : RunnerView) (readable : List ℕ) (writable : ℕ) (popped job : Job) → popped.guest ≡ job.guest
+    → IsLeft was now r popped fault r' → FailsBy was now fault g r readable writable job r'
+fails was now fault g r r' readable writable popped job named left =
+    let by : HostFault → Type 0 = λ f. FailsBy was now f g r readable writable job r' in
+    let none_made : IsUnanswered was now r r' = record { runner = left.runner; still = left.still } in
     let same = same_refusal r popped job named in
     let told = λ (why : Option Refused) (is : refusal_of r popped ≡ why) (cause : fault ≡ told_of (refusal_of r popped)). cause ∙ ap told_of is in
     elim left.cause [
-      | inl is ↦ subst by (sym is) (inl left.runner)
+      | inl is ↦ subst by (sym is) (inl none_made)
       | inr cause ↦ elim (refusal_is r popped) [
-        | inl none ↦ subst by (sym (told None none cause)) (inl left.runner)
+        | inl none ↦ subst by (sym (told None none cause)) (inl none_made)
         | inr some ↦ elim some [
-          | inl foreign ↦ subst by (sym (told (Some refused.Foreign) foreign cause)) (sym same ∙ foreign, left.runner)
-          | inr full ↦ subst by (sym (told (Some refused.HistoryFull) full cause)) (sym same ∙ full, left.runner)
+          | inl foreign ↦ subst by (sym (told (Some refused.Foreign) foreign cause)) (sym same ∙ foreign, none_made)
+          | inr full ↦ subst by (sym (told (Some refused.HistoryFull) full cause)) (sym same ∙ full, none_made)
         ]
       ]
     ]
 
 -- a reap without memory leaves the job answered
-pub unfetched : (d1 d2 : DeviceState) (driver1 : DriverState) (r r2 : RunnerView) (readable : List ℕ) (writable head last number session : ℕ)
-    → d1.guest ≡ number → d1.session ≡ session → IsAnswered d1 r driver1 (offer_of readable writable head last) d2 r2
-    → r2.cores ≡ cores_after r.cores (job_of number session readable writable)
-unfolding after_job cores_after
-unfetched d1 d2 driver1 r r2 readable writable head last number session named current answered =
-    ap (λ (x : RunnerView). x.cores) answered.runner
-    ∙ same_cores r.cores (popped_job d1 driver1.kind driver1.size (offer_of readable writable head last)) (job_of number session readable writable)
-    (alike d1 driver1.kind driver1.size number session readable writable head last named current)
+pub unfetched : (was now : Bool) (d1 d2 : DeviceState) (driver1 : DriverState) (r r2 : RunnerView) (readable : List ℕ) (writable head last number session : ℕ)
+    → d1.guest ≡ number → d1.session ≡ session → IsAnswered was now d1 r driver1 (offer_of readable writable head last) d2 r2
+    → IsUnfetched was now r (job_of number session readable writable) r2
+unfolding after_when
+unfetched was now d1 d2 driver1 r r2 readable writable head last number session named current answered = record {
+  cores = ap (λ (x : RunnerView). x.cores) answered.runner
+      ∙ same_cores was now r.cores (popped_job d1 driver1.kind driver1.size (offer_of readable writable head last)) (job_of number session readable writable)
+      (alike d1 driver1.kind driver1.size number session readable writable head last named current);
+  answered = ap (λ (x : RunnerView). x.answered) answered.runner;
+}
 
 -- and its memory has room for the driver's areas
-pub no_room_back : (d1 d2 : DeviceState) (driver1 driver2 : DriverState) (r r2 : RunnerView) (readable : List ℕ) (writable head last : ℕ)
-    → IsAnswered d1 r driver1 (offer_of readable writable head last) d2 r2 → Reaps d2.memory driver1 (Err OutOfRange) driver2 → ⊥
-no_room_back d1 d2 driver1 driver2 r r2 readable writable head last answered reaps =
-    let reply : Reply = record { offer = offer_of readable writable head last; bytes = reply_of r.cores (popped_job d1 driver1.kind driver1.size (offer_of readable writable head last)) } in
+pub no_room_back : (was now : Bool) (d1 d2 : DeviceState) (driver1 driver2 : DriverState) (r r2 : RunnerView) (readable : List ℕ) (writable head last : ℕ)
+    → IsAnswered was now d1 r driver1 (offer_of readable writable head last) d2 r2 → Reaps d2.memory driver1 (Err OutOfRange) driver2 → ⊥
+no_room_back was now d1 d2 driver1 driver2 r r2 readable writable head last answered reaps =
+    let reply : Reply = record { offer = offer_of readable writable head last; bytes = reply_when was now r.cores (popped_job d1 driver1.kind driver1.size (offer_of readable writable head last)) } in
     device_reap_gives d2 driver1 driver2 [] [] (reply ∷ []) (Err OutOfRange) answered.served reaps

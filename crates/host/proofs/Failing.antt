@@ -1,5 +1,5 @@
 -- Which faults a chain of a guest may end with, where all guests are ready.
-use Rattle.std.proofs.Common.{◌≡◌, ℕ, ◌+◌, ◌<◌, Bool, true, false, List, [], ◌∷◌, get_or, length, Option, Some, None, inl, inr, Err, refl, sym, ap, ◌∙◌, arith, subst}
+use Rattle.std.proofs.Common.{◌≡◌, ℕ, ◌+◌, ◌<◌, Bool, true, false, List, [], ◌∷◌, get_or, length, Option, Some, None, inl, inr, Err, arith, subst}
 use Rattle.std.specs.Prelude.{◌==◌, nat_lt, not, slice_get}
 use Rattle.std.proofs.lemmas.Option.{slice_get_cases}
 use Rattle.std.proofs.lemmas.Bool.Decides.{nat_tests}
@@ -37,18 +37,18 @@ not_foreign r job there is =
     ] in
     other (r.answered == 16384) (subst (λ k. rows (not k) (r.answered == 16384) ≡ Some refused.Foreign) known is)
 
-ready_fails : (f : HostFault) (g : GuestView) (r r' : RunnerView) (number session steps : ℕ) (readable : List ℕ) (writable : ℕ)
-    → IsReady number session steps g → number < length r.cores → FailsBy f g r readable writable (job_of number session readable writable) r' → IsOfChain f
+ready_fails : (was now : Bool) (f : HostFault) (g : GuestView) (r r' : RunnerView) (number session steps : ℕ) (readable : List ℕ) (writable : ℕ)
+    → IsReady number session steps g → number < length r.cores → FailsBy was now f g r readable writable (job_of number session readable writable) r' → IsOfChain f
 unfolding job_of
-ready_fails fault.OutOfRange g r r' number session steps readable writable ready there fails =
+ready_fails was now fault.OutOfRange g r r' number session steps readable writable ready there fails =
     let small = fails.0 in
     let inside = room_held g.driver.kind g.device.memory g.driver.size ready.served.offered.reaped ready.served.queue.ring.used ready.served.queue.ring.popped [] [] ready.served.offered.held in
     omega (arith, small, inside)
-ready_fails fault.NoMemory g r r' number session steps readable writable ready there fails = tt
-ready_fails fault.Busy g r r' number session steps readable writable ready there fails = fails
-ready_fails fault.HistoryFull g r r' number session steps readable writable ready there fails = tt
-ready_fails fault.NoRoom g r r' number session steps readable writable ready there fails = tt
-ready_fails fault.Foreign g r r' number session steps readable writable ready there fails = not_foreign r (job_of number session readable writable) there fails.0
+ready_fails was now fault.NoMemory g r r' number session steps readable writable ready there fails = tt
+ready_fails was now fault.Busy g r r' number session steps readable writable ready there fails = fails
+ready_fails was now fault.HistoryFull g r r' number session steps readable writable ready there fails = tt
+ready_fails was now fault.NoRoom g r r' number session steps readable writable ready there fails = tt
+ready_fails was now fault.Foreign g r r' number session steps readable writable ready there fails = not_foreign r (job_of number session readable writable) there fails.0
 
 -- a guest stands at the place
 found : (guests : List GuestView) (n : ℕ) → n < length guests → (g : GuestView) × (slice_get guests n ≡ Some g)
@@ -58,15 +58,15 @@ found guests n inside = elim (slice_get_cases guests n).1 [
 ]
 
 -- a chain of a guest of the board, where all guests are ready
-pub chain_fails : (broken : Bool) (f : HostFault) (h h' : HostView) (guest : ℕ) (readable : List ℕ) (writable : ℕ) (steps : ℕ) (sessions : List ℕ)
-    → HostChains broken h guest readable writable (Err f) h' → broken ≡ false → steps + 2 < last_count → AreReady steps sessions h.guests
+pub chain_fails : (was now : Bool) (f : HostFault) (h h' : HostView) (guest : ℕ) (readable : List ℕ) (writable : ℕ) (steps : ℕ) (sessions : List ℕ)
+    → HostChains was now h guest readable writable (Err f) h' → steps + 2 < last_count → AreReady steps sessions h.guests
     → guest < length sessions → guest < length h.runner.cores → IsOfChain f
-chain_fails broken f h h' guest readable writable steps sessions chains whole few are there known =
+chain_fails was now f h h' guest readable writable steps sessions chains few are there known =
     let count = are.count in
     let g = found h.guests guest (omega (arith, there, count)) in
     let session = get_or sessions guest 0 in
-    let chained = subst (λ o. ChainsAt broken o h guest readable writable (Err f) h') g.1 chains in
-    ready_fails f g.0 h.runner h'.runner guest session steps readable writable (are.each guest g.0 g.1) known (chained.answer whole session steps few (are.each guest g.0 g.1))
+    let chained = subst (λ o. ChainsAt was now o h guest readable writable (Err f) h') g.1 chains in
+    ready_fails was now f g.0 h.runner h'.runner guest session steps readable writable (are.each guest g.0 g.1) known (chained.answer session steps few (are.each guest g.0 g.1))
 
 -- a reset of one is refused nowhere
 pub reset_goes : (f : HostFault) (h h' : HostView) (guest : ℕ) → HostResetsGuest h guest (Err f) h' → guest < length h.guests → ⊥

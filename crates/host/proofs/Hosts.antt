@@ -156,10 +156,10 @@ ready_first number config guest split =
     (record { guest = guest; split = split; memory = omega (arith, holds, whole); registers = refl; none = refl }) refl refl refl (omega arith) (omega arith) (omega arith) (omega arith)
 
 -- a chain of one guest, where all are ready
-pub chain_of : (h : HostView) (guest : ℕ) (g g' : GuestView) (r' : RunnerView) (readable : List ℕ) (writable : ℕ) (answer : Result Answer HostFault)
-    → guest < length h.guests → slice_get h.guests guest ≡ Some g → Answers guest g h.runner readable writable answer g' r'
-    → HostAnswers h guest readable writable answer (record { runner = r'; guests = set h.guests guest g' })
-chain_of h guest g g' r' readable writable (Ok answer) inside there answers =
+pub chain_of : (was now : Bool) (h : HostView) (guest : ℕ) (g g' : GuestView) (r' : RunnerView) (readable : List ℕ) (writable : ℕ) (answer : Result Answer HostFault)
+    → guest < length h.guests → slice_get h.guests guest ≡ Some g → Answers was now guest g h.runner readable writable answer g' r'
+    → HostAnswers was now h guest readable writable answer (record { runner = r'; guests = set h.guests guest g' })
+chain_of was now h guest g g' r' readable writable (Ok answer) inside there answers =
     λ steps sessions few are.
     let session = get_or sessions guest 0 in
     let back = answers session steps few (are.each guest g there) in
@@ -167,8 +167,9 @@ chain_of h guest g g' r' readable writable (Ok answer) inside there answers =
       used = back.used;
       ready = subst (λ s. AreReady (steps + 1) s (set h.guests guest g')) (set-get_or sessions guest 0) (ready_after steps guest session sessions h.guests g' inside are back.ready);
       cores = back.cores;
+      answered = back.answered;
     }
-chain_of h guest g g' r' readable writable (Err fault) inside there answers = tt
+chain_of was now h guest g g' r' readable writable (Err fault) inside there answers = tt
 
 -- a reset of one guest, where all are ready
 pub reset_of : (h : HostView) (guest : ℕ) (g : GuestView) → guest < length h.guests → slice_get h.guests guest ≡ Some g

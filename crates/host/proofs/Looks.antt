@@ -1,5 +1,5 @@
 -- What one look at a guest's queue comes to, by the way it ended.
-use Rattle.std.proofs.Common.{◌≡◌, ◌<◌, inl, inr, ℕ, true, false, [], Option, Some, None, Ok, Err, length, unwrap_or, refl, ap, ap₂, sym, subst, ◌∙◌, arith, length-set}
+use Rattle.std.proofs.Common.{◌≡◌, ◌<◌, inl, inr, ℕ, Bool, true, [], Option, Some, None, Ok, Err, length, unwrap_or, refl, ap, ap₂, sym, subst, ◌∙◌, arith, length-set}
 use Rattle.std.specs.Prelude.{◌==◌, nat_lt, slice_get, slice_set}
 use Rattle.std.proofs.lemmas.Bool.Decides.{nat_tests}
 use Rattle.std.proofs.lemmas.List.{length-map}
@@ -23,7 +23,7 @@ use Rattle.board.specs.declared.step.Seen.TheVariants.{Did}
 use Rattle.board.specs.declared.step.StepFault.TheVariants as fault
 use Rattle.host.specs.Calm.{IsCalm, is_broken}
 use Rattle.host.specs.Fault.{fault_of}
-use Rattle.host.specs.Runner.{RunnerView, after_job, held_since, refusal_of, reply_of, reply_when, runner_of}
+use Rattle.host.specs.Runner.{RunnerView, after_when, held_since, refusal_of, reply_when, runner_of, runner_since}
 use Rattle.host.specs.Serving.{ServesOne, Touches, Where}
 use Rattle.host.specs.Waiting.{Leaves, Waits}
 use Rattle.host.specs.declared.serving.Step.TheVariants as step
@@ -31,7 +31,7 @@ use Rattle.mmio_transport.specs.Publishing.{Publishes}
 use Rattle.rpmb_book.specs.Book.{submit_of, with_turn}
 use Rattle.host.proofs.Same.{also_there, cores_in, state_of}
 use Rattle.host.proofs.Serves.{IsHandedOver, Submitted, changes_calm, leaves_calm, leaves_published, pop_changes, pop_failed, popped, put_place, reply_in, reply_left, runner_after, submit_did, submit_refused, submit_waits}
-use Rattle.host.proofs.Since.{reply_whole, since_whole}
+use Rattle.host.proofs.Since.{since_after}
 use Rattle.host.proofs.Steps.{answered_steps, left_steps, nothing_steps}
 
 module _ {D : Type 0} (shows : D → DiskState) (g : ℕ) where
@@ -65,15 +65,15 @@ module _ {D : Type 0} (shows : D → DiskState) (g : ℕ) where
 
   -- 2. The pop made a fault
 
-  pub comes_failed : (P : DeviceState → RunnerView → DeviceState → RunnerView → Type 0) (e : DeviceFault) (b b' : BoardState D) → PopsInto g (slice_get b.jobs g) (slice_get b.devices g) (Err (fault.Device e)) b b'
-      → ((d d' : DeviceState) → GivesJob d (Err e) d' → P d (runner_of b) d' (runner_of b)) → Where g P b b'
-  comes_failed P e b b' pops steps d at empty whole =
+  pub comes_failed : (P : Bool → Bool → DeviceState → RunnerView → DeviceState → RunnerView → Type 0) (e : DeviceFault) (b b' : BoardState D) → PopsInto g (slice_get b.jobs g) (slice_get b.devices g) (Err (fault.Device e)) b b'
+      → ((d d' : DeviceState) → GivesJob d (Err e) d' → P (is_broken b) (is_broken b) d (runner_of b) d' (runner_of b)) → Where g P b b'
+  comes_failed P e b b' pops steps d at empty =
       let f = pop_failed g (slice_get b.jobs g) (slice_get b.devices g) e b b' refl pops in
       let same : f.before ≡ d = (let a = f.at in cc) in
       record {
         device = f.device;
         there = ap (λ v. slice_get v.devices g) f.is ∙ get_set_same b.devices g d f.device at;
-        holds = subst (λ v. P d (runner_of b) f.device (runner_of v)) (sym f.is) (steps d f.device (subst (λ v. GivesJob v (Err e) f.device) same f.gives));
+        holds = subst (λ v. P (is_broken b) (is_broken v) d (runner_of b) f.device (runner_of v)) (sym f.is) (steps d f.device (subst (λ v. GivesJob v (Err e) f.device) same f.gives));
       }
 
   -- 3. Nothing was there
@@ -90,15 +90,15 @@ module _ {D : Type 0} (shows : D → DiskState) (g : ℕ) where
       ]
 
   pub comes_nothing : (s : Seen) (b b1 b2 : BoardState D) → PopsInto g (slice_get b.jobs g) (slice_get b.devices g) (Ok s) b b1 → b2 ≡ b1 → in_place (slice_get b1.jobs g) ≡ None
-      → Where g (λ d r d' r'. ServesOne g d r (Ok step.Nothing) d' r') b b2
-  comes_nothing s b b1 b2 pops is none d at empty whole =
+      → Where g (λ was now d r d' r'. ServesOne g was now d r (Ok step.Nothing) d' r') b b2
+  comes_nothing s b b1 b2 pops is none d at empty =
       let p = popped g (slice_get b.jobs g) (slice_get b.devices g) d s b b1 empty at pops in
       let left : p.job ≡ None = ap in_place (sym (put_place b.jobs g p.job empty)) ∙ ap (λ v. in_place (slice_get v.jobs g)) (sym p.is) ∙ none in
       let to : b2 ≡ record b { devices = slice_set b.devices g p.device; jobs = put b.jobs g p.job } = is ∙ p.is in
       record {
         device = p.device;
         there = ap (λ v. slice_get v.devices g) to ∙ get_set_same b.devices g d p.device at;
-        holds = subst (λ v. ServesOne g d (runner_of b) (Ok step.Nothing) p.device (runner_of v)) (sym to) (nothing_steps g d p.device (runner_of b) (subst (λ j. GivesJob d (Ok j) p.device) left p.gives));
+        holds = subst (λ v. ServesOne g (is_broken b) (is_broken v) d (runner_of b) (Ok step.Nothing) p.device (runner_of v)) (sym to) (nothing_steps g (is_broken b) d p.device (runner_of b) (subst (λ j. GivesJob d (Ok j) p.device) left p.gives));
       }
 
   -- 4. The book refused the job
@@ -122,8 +122,8 @@ module _ {D : Type 0} (shows : D → DiskState) (g : ℕ) where
       rw (tally_is, here, held, mine, equals x.0.submits, inside) refl
 
   pub comes_refused : (s : Seen) (why : Refused) (b b1 b2 : BoardState D) → PopsInto g (slice_get b.jobs g) (slice_get b.devices g) (Ok s) b b1 → IsCalm shows b1
-      → SubmitsFrom g (in_place (slice_get b1.jobs g)) (slice_get b1.tallies g) (Err (fault.Book why)) b1 b2 → Where g (λ d r d' r'. ServesOne g d r (Err (fault_of why)) d' r') b b2
-  comes_refused s why b b1 b2 pops calm submits d at empty whole =
+      → SubmitsFrom g (in_place (slice_get b1.jobs g)) (slice_get b1.tallies g) (Err (fault.Book why)) b1 b2 → Where g (λ was now d r d' r'. ServesOne g was now d r (Err (fault_of why)) d' r') b b2
+  comes_refused s why b b1 b2 pops calm submits d at empty =
       let p = popped g (slice_get b.jobs g) (slice_get b.devices g) d s b b1 empty at pops in
       let q = submit_refused g (in_place (slice_get b1.jobs g)) (slice_get b1.tallies g) why b1 b2 submits in
       let job : p.job ≡ Some q.job = ap in_place (sym (put_place b.jobs g p.job empty)) ∙ ap (λ v. in_place (slice_get v.jobs g)) (sym p.is) ∙ q.there in
@@ -132,9 +132,9 @@ module _ {D : Type 0} (shows : D → DiskState) (g : ℕ) where
       record {
         device = p.device;
         there = ap (λ v. slice_get v.devices g) to ∙ get_set_same b.devices g d p.device at;
-        holds = left_steps g d p.device (runner_of b) (runner_of b2) q.job why (subst (λ j. GivesJob d (Ok j) p.device) job p.gives)
+        holds = left_steps g (is_broken b) (is_broken b2) d p.device (runner_of b) (runner_of b2) q.job why (subst (λ j. GivesJob d (Ok j) p.device) job p.gives)
             (λ mine. q.cause ∙ ap (λ r. unwrap_or r refused.NoMemory) (same_refusal b1 q.tally q.job calm q.counted mine ∙ ap (λ r. refusal_of r q.job) seen))
-            (ap runner_of to);
+            (ap runner_of to) (ap is_broken to);
       }
 
   -- 5. The job was answered
@@ -199,25 +199,26 @@ module _ {D : Type 0} (shows : D → DiskState) (g : ℕ) where
           emptied_place None is full = absurd (cc)
           emptied_place (Some o) is full = get_set_same b1.jobs g o None is
 
-      pub comes_answered : Where g (λ d r d' r'. ServesOne g d r (Ok step.Answered) d' r') b b4
-      comes_answered d at empty whole =
+      pub comes_answered : Where g (λ was now d r d' r'. ServesOne g was now d r (Ok step.Answered) d' r') b b4
+      comes_answered d at empty =
           let p = popped g (slice_get b.jobs g) (slice_get b.devices g) d s b b1 empty at pops in
           let job : p.job ≡ Some done.job = ap in_place (sym (put_place b.jobs g p.job empty)) ∙ ap (λ v. in_place (slice_get v.jobs g)) (sym p.is) ∙ done.place in
           let at1 : slice_get b1.devices g ≡ Some p.device = ap (λ v. slice_get v.devices g) p.is ∙ get_set_same b.devices g d p.device at in
           let before : over.before ≡ p.device = (let a = over.at in let c = ap (λ v. slice_get v g) same_devices in cc) in
-          let whole3 : is_broken b3 ≡ false = sym broken4 ∙ whole in
-          let whole2 : is_broken b2 ≡ false = left.stays.whole whole3 in
-          let whole1 : is_broken b1 ≡ false = sym broken2 ∙ whole2 in
+          let was_is : is_broken b1 ≡ is_broken b = ap is_broken p.is in
+          let now_is : is_broken b3 ≡ is_broken b4 = sym broken4 in
           let seen : runner_of b1 ≡ runner_of b = ap runner_of p.is in
-          let answers : left.done ≡ done_of done.job (reply_of (runner_of b).cores done.job) left.done.need =
-          given_reply ∙ ap₂ (λ was now. done_of done.job (reply_when was now (runner_of b1).cores done.job) left.done.need) whole1 whole3
-          ∙ ap (λ r. done_of done.job r left.done.need) (reply_whole (runner_of b1).cores done.job) ∙ ap (λ r. done_of done.job (reply_of r.cores done.job) left.done.need) seen in
-          let after : runner_of b4 ≡ after_job (runner_of b) done.job =
-          ap runner_of over.is ∙ left.stays.runner ∙ since_whole (is_broken b2) (is_broken b3) (runner_of b2) whole3 ∙ runner_after shows g b1 b2 calm1 done whole1 ∙ ap (λ r. after_job r done.job) seen in
+          let answers : left.done ≡ done_of done.job (reply_when (is_broken b) (is_broken b4) (runner_of b).cores done.job) left.done.need =
+          given_reply ∙ ap₂ (λ was now. done_of done.job (reply_when was now (runner_of b1).cores done.job) left.done.need) was_is now_is
+          ∙ ap (λ r. done_of done.job (reply_when (is_broken b) (is_broken b4) r.cores done.job) left.done.need) seen in
+          let after : runner_of b4 ≡ after_when (is_broken b) (is_broken b4) (runner_of b) done.job =
+          ap runner_of over.is ∙ left.stays.runner ∙ ap₂ (λ was r. runner_since was (is_broken b3) r) broken2 (runner_after shows g b1 b2 calm1 done)
+          ∙ since_after (is_broken b1) (is_broken b3) (runner_of b1) done.job
+          ∙ ap₂ (λ was now. after_when was now (runner_of b1) done.job) was_is now_is ∙ ap (λ r. after_when (is_broken b) (is_broken b4) r done.job) seen in
           record {
             device = over.device;
             there = ap (λ v. slice_get v.devices g) over.is ∙ get_set_same b3.devices g over.before over.device over.at;
-            holds = answered_steps g d p.device over.device (runner_of b) (runner_of b4) done.job left.done left.done.need over.published
+            holds = answered_steps g (is_broken b) (is_broken b4) d p.device over.device (runner_of b) (runner_of b4) done.job left.done left.done.need over.published
                 (subst (λ j. GivesJob d (Ok j) p.device) job p.gives) answers over.fits (subst (λ v. Publishes v left.done over.published over.device) before over.publishes) after;
           }
 
@@ -230,14 +231,18 @@ module _ {D : Type 0} (shows : D → DiskState) (g : ℕ) where
   pub still_there : (b b' : BoardState D) → Touches shows g b b' → g < length b.devices → g < length b'.devices
   still_there b b' t there = (let many = t.many in omega (arith, many, there))
 
-  pub where_then : (P Q R : DeviceState → RunnerView → DeviceState → RunnerView → Type 0) (b b1 b2 : BoardState D) → Where g P b b1 → slice_get b1.jobs g ≡ Some None → Touches shows g b1 b2 → Where g Q b1 b2
-      → ((d d1 d2 : DeviceState) (r r1 r2 : RunnerView) → P d r d1 r1 → Q d1 r1 d2 r2 → R d r d2 r2) → Where g R b b2
-  where_then P Q R b b1 b2 first empty1 touches second both d at empty whole =
-      let p = first d at empty (touches.whole whole) in
-      let q = second p.device p.there empty1 whole in
-      record { device = q.device; there = q.there; holds = both d p.device q.device (runner_of b) (runner_of b1) (runner_of b2) p.holds q.holds }
+  pub where_then : (P Q R : Bool → Bool → DeviceState → RunnerView → DeviceState → RunnerView → Type 0) (b b1 b2 : BoardState D) → Where g P b b1 → slice_get b1.jobs g ≡ Some None → Where g Q b1 b2
+      → ((x y z : Bool) (d d1 d2 : DeviceState) (r r1 r2 : RunnerView) → P x y d r d1 r1 → Q y z d1 r1 d2 r2 → R x z d r d2 r2) → Where g R b b2
+  where_then P Q R b b1 b2 first empty1 second both d at empty =
+      let p = first d at empty in
+      let q = second p.device p.there empty1 in
+      record {
+        device = q.device;
+        there = q.there;
+        holds = both (is_broken b) (is_broken b1) (is_broken b2) d p.device q.device (runner_of b) (runner_of b1) (runner_of b2) p.holds q.holds;
+      }
 
-  pub where_weaker : (P R : DeviceState → RunnerView → DeviceState → RunnerView → Type 0) (b b' : BoardState D) → Where g P b b' → ((d d' : DeviceState) (r r' : RunnerView) → P d r d' r' → R d r d' r') → Where g R b b'
-  where_weaker P R b b' first weaker d at empty whole =
-      let p = first d at empty whole in
-      record { device = p.device; there = p.there; holds = weaker d p.device (runner_of b) (runner_of b') p.holds }
+  pub where_weaker : (P R : Bool → Bool → DeviceState → RunnerView → DeviceState → RunnerView → Type 0) (b b' : BoardState D) → Where g P b b' → ((x y : Bool) (d d' : DeviceState) (r r' : RunnerView) → P x y d r d' r' → R x y d r d' r') → Where g R b b'
+  where_weaker P R b b' first weaker d at empty =
+      let p = first d at empty in
+      record { device = p.device; there = p.there; holds = weaker (is_broken b) (is_broken b') d p.device (runner_of b) (runner_of b') p.holds }

@@ -1,5 +1,5 @@
 -- What a call of a host makes of what is seen of it.
-use Rattle.std.proofs.Common.{◌≡◌, ◌<◌, ◌≤◌, ◌+◌, ℕ, zero, suc, Bool, false, inl, inr, List, [], ◌∷◌, Option, Some, None, Result, Ok, Err, length, set, get_or, refl, ap, ap₂, sym, subst, ◌∙◌, arith}
+use Rattle.std.proofs.Common.{◌≡◌, ◌<◌, ◌≤◌, ◌+◌, ℕ, zero, suc, Bool, inl, inr, List, [], ◌∷◌, Option, Some, None, Result, Ok, Err, length, set, get_or, refl, ap, ap₂, sym, subst, ◌∙◌, arith}
 use Rattle.std.specs.Prelude.{slice_get}
 use Rattle.std.proofs.lemmas.Option.{slice_get-get_or, slice_get_cases}
 use Rattle.disk.specs.Disk.{DiskState}
@@ -37,8 +37,8 @@ module _ {D : Type 0} (h : HostState D) (n : ℕ) where
   pub no_guest : length h.fronts ≤ n → slice_get (seen h).guests n ≡ None
   no_guest out = views_out h.board.devices h.board.jobs h.fronts n out
 
-  pub no_chain : (broken : Bool) (readable : List ℕ) (writable : ℕ) → length h.fronts ≤ n → HostChains broken (seen h) n readable writable (Err Foreign) (seen h)
-  no_chain broken readable writable out = subst (λ o. ChainsAt broken o (seen h) n readable writable (Err Foreign) (seen h)) (sym (no_guest out)) (refl, refl)
+  pub no_chain : (still : Bool) (readable : List ℕ) (writable : ℕ) → length h.fronts ≤ n → HostChains still still (seen h) n readable writable (Err Foreign) (seen h)
+  no_chain still readable writable out = subst (λ o. ChainsAt still still o (seen h) n readable writable (Err Foreign) (seen h)) (sym (no_guest out)) (refl, refl, refl)
 
   pub no_store : (at : ℕ) (bytes : List ℕ) → length h.fronts ≤ n → HostStores (seen h) n at bytes (Err Foreign) (seen h)
   no_store at bytes out = subst (λ o. StoresAt o (seen h) n at bytes (Err Foreign) (seen h)) (sym (no_guest out)) (refl, refl)
@@ -89,24 +89,24 @@ module _ {D : Type 0} (shows : D → DiskState) (h : HostState D) (n : ℕ) (fro
     unfolding after
     others = seen_after b' front' a.device a.job t a.at a.place
 
-    pub chain_answers : is_broken b' ≡ false → n < length (seen h).guests → HostAnswers (seen h) n readable writable told (seen (record { board = b'; fronts = set h.fronts n front' }))
+    pub chain_answers : n < length (seen h).guests → HostAnswers (is_broken h.board) (is_broken b') (seen h) n readable writable told (seen (record { board = b'; fronts = set h.fronts n front' }))
     unfolding after
-    chain_answers whole inside =
-        subst (λ gs. HostAnswers (seen h) n readable writable told (record { runner = runner_of b'; guests = gs })) (sym others)
-        (chain_of (seen h) n (view_of s.device s.job front) (view_of a.device a.job front') (runner_of b') readable writable told inside seen_there (a.answers whole))
+    chain_answers inside =
+        subst (λ gs. HostAnswers (is_broken h.board) (is_broken b') (seen h) n readable writable told (record { runner = runner_of b'; guests = gs })) (sym others)
+        (chain_of (is_broken h.board) (is_broken b') (seen h) n (view_of s.device s.job front) (view_of a.device a.job front') (runner_of b') readable writable told inside seen_there a.answers)
 
-    stuck_by_front : (o : Option Stuck) → front.stuck ≡ o → StaysStuck o front'.stuck told front front' h.board b' → StuckBy o (view_of s.device s.job front) told (view_of a.device a.job front') (seen h) (seen after)
+    stuck_by_front : (o : Option Stuck) → front.stuck ≡ o → StaysStuck o front'.stuck told front front' h.board b' → StuckBy (is_broken h.board) (is_broken b') o (view_of s.device s.job front) told (view_of a.device a.job front') (seen h) (seen after)
     unfolding after
     stuck_by_front None is st = st
     stuck_by_front (Some why) is st =
         let device : a.device ≡ s.device = (let x = a.at in let y = s.at in let z = ap (λ v. slice_get v.devices n) st.2 in cc) in
         let job : a.job ≡ s.job = (let x = a.place in let y = s.place in let z = ap (λ v. slice_get v.jobs n) st.2 in cc) in
         let whole : after ≡ h = ap₂ (λ v f. (let r : HostState D = record { board = v; fronts = set h.fronts n f } in r)) st.2 st.1 ∙ ap (λ fs. record h { fronts = fs }) (set_there h.fronts n front s.front_at) in
-        (st.0, ap₂ (λ d j. view_of d j front') device job ∙ ap (view_of s.device s.job) st.1, ap seen whole)
+        (st.0, ap₂ (λ d j. view_of d j front') device job ∙ ap (view_of s.device s.job) st.1, ap seen whole, ap is_broken st.2)
 
-    pub chain_chains : StaysStuck front.stuck front'.stuck told front front' h.board b' → HostChains (is_broken b') (seen h) n readable writable told (seen (record { board = b'; fronts = set h.fronts n front' }))
+    pub chain_chains : StaysStuck front.stuck front'.stuck told front front' h.board b' → HostChains (is_broken h.board) (is_broken b') (seen h) n readable writable told (seen (record { board = b'; fronts = set h.fronts n front' }))
     unfolding after
-    chain_chains st = subst (λ o. ChainsAt (is_broken b') o (seen h) n readable writable told (seen after)) (sym seen_there) (record {
+    chain_chains st = subst (λ o. ChainsAt (is_broken h.board) (is_broken b') o (seen h) n readable writable told (seen after)) (sym seen_there) (record {
       after = view_of a.device a.job front';
       stuck = stuck_by_front front.stuck refl st;
       answer = a.answers;

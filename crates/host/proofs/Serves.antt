@@ -27,12 +27,12 @@ use Rattle.board.specs.declared.step.StepFault.{StepFault}
 use Rattle.board.specs.declared.step.StepFault.TheVariants as fault
 use Rattle.board.proofs.Linked.{as_many, at_each, of_guest, other_guest, own, turned}
 use Rattle.host.specs.Calm.{IsCalm, is_broken}
-use Rattle.host.specs.Runner.{RunnerView, after_job, answer_since_at, cores_after, held_since, runner_of}
+use Rattle.host.specs.Runner.{RunnerView, after_when, answer_since_at, cores_after, cores_when, held_since, runner_of}
 use Rattle.host.specs.Waiting.{Leaves, Waits}
 use Rattle.host.proofs.Same.{also_there, cores_in, count_submit, state_of}
 use Rattle.host.proofs.Settled.{below}
 use Rattle.host.proofs.Since.{since_still}
-use Rattle.host.proofs.Updates.{get-map, map-change, update-other}
+use Rattle.host.proofs.Updates.{get-map, map-change, update-nothing, update-other}
 
 -- 1. Pop
 
@@ -256,16 +256,21 @@ module _ {D : Type 0} (shows : D → DiskState) (g : ℕ) (b b' : BoardState D) 
   count_after = ap (λ v. (runner_of v).answered) s.is ∙ count_submit b.book _
 
   -- what answers depend on, after it
-  pub runner_after : is_broken b ≡ false → runner_of b' ≡ after_job (runner_of b) s.job
-  unfolding after_job cores_after
-  runner_after whole =
-      ap runner_of s.is
-      ∙ ap₂ (λ c k. (let r : RunnerView = record { cores = c; answered = k } in r))
-      (ap cores_in (after_broken false whole) ∙ map-change (λ v. v.core) (guests b) s.job.guest (submitted false s.job) (λ c. core_after c s.job) x.0 here refl)
-      (count_submit b.book _)
-
   core_here : slice_get (runner_of b).cores s.job.guest ≡ Some x.0.core
   core_here = get-map (λ v. v.core) (guests b) s.job.guest ∙ ap (option_map (λ v. v.core)) here
+
+  cores_made : (c : Bool) → is_broken b ≡ c → cores_in (guests answered) ≡ cores_when c c (cores_in (guests b)) s.job
+  unfolding answered cores_when cores_after
+  cores_made true is =
+      ap cores_in (after_broken true is) ∙ map-change (λ v. v.core) (guests b) s.job.guest (submitted true s.job) (λ c. c) x.0 here refl
+      ∙ update-nothing (cores_in (guests b)) s.job.guest (λ c. c) x.0.core core_here refl
+  cores_made false is = ap cores_in (after_broken false is) ∙ map-change (λ v. v.core) (guests b) s.job.guest (submitted false s.job) (λ c. core_after c s.job) x.0 here refl
+
+  pub runner_after : runner_of b' ≡ after_when (is_broken b) (is_broken b) (runner_of b) s.job
+  unfolding answered after_when
+  runner_after =
+      ap runner_of s.is
+      ∙ ap₂ (λ c k. (let r : RunnerView = record { cores = c; answered = k } in r)) (cores_made (is_broken b) refl) (count_submit b.book _)
 
   reply_here : reply_in b s.job ≡ held_when (is_broken b) x.0.core s.job
   reply_here = ap (held_at (is_broken b) s.job) core_here

@@ -21,8 +21,8 @@ use Rattle.guest_driver.proofs.DevicePublish.{device_publish_joins}
 use Rattle.rpmb_book.specs.declared.refused.Refused.{Refused}
 use Rattle.rpmb_book.specs.declared.refused.Refused.TheVariants as refused
 use Rattle.host.specs.Fault.{fault_of, told_of}
-use Rattle.host.specs.Runner.{RunnerView, after_job, refusal_of, reply_of}
-use Rattle.host.specs.Serving.{IsCounting, job_of, ServesOne, Drains, Serves}
+use Rattle.host.specs.Runner.{RunnerView, after_when, refusal_of, reply_when}
+use Rattle.host.specs.Serving.{IsAnswered, IsCounting, job_of, ServesOne, Drains, Serves}
 use Rattle.host.specs.declared.fault.HostFault.{HostFault}
 use Rattle.host.specs.declared.fault.HostFault.TheVariants.{NoMemory}
 use Rattle.host.specs.declared.serving.Step.TheVariants as step
@@ -30,23 +30,23 @@ use Rattle.host.specs.declared.serving.Served.TheVariants as served
 
 module _ (guest : ℕ) where
   -- memory was refused to the pop
-  pub starved_steps : (d d' : DeviceState) (r : RunnerView) → GivesJob d (Err Starved) d' → ServesOne guest d r (Err NoMemory) d' r
-  starved_steps d d' r gives = record {
-    one = λ driver c room counting served. record { cause = inl refl; runner = refl };
+  pub starved_steps : (still : Bool) (d d' : DeviceState) (r : RunnerView) → GivesJob d (Err Starved) d' → ServesOne guest still still d r (Err NoMemory) d' r
+  starved_steps still d d' r gives = record {
+    one = λ driver c room counting served. record { cause = inl refl; runner = refl; still = refl };
     none = λ driver published counting served. device_pop_gives d d' driver [] [] published (Err Starved) served gives;
   }
 
-  pub nothing_steps : (d d' : DeviceState) (r : RunnerView) → GivesJob d (Ok None) d' → ServesOne guest d r (Ok step.Nothing) d' r
-  nothing_steps d d' r gives = record {
+  pub nothing_steps : (still : Bool) (d d' : DeviceState) (r : RunnerView) → GivesJob d (Ok None) d' → ServesOne guest still still d r (Ok step.Nothing) d' r
+  nothing_steps still d d' r gives = record {
     one = λ driver c room counting served. device_pop_gives d d' driver (c ∷ []) [] [] (Ok None) served gives;
     none = λ driver published counting served.
         let p : IsPopped d driver [] [] published 0 d' = device_pop_gives d d' driver [] [] published (Ok None) served gives in
         let pops = p.pops in
-        record { served = p.served; same = p.same; pops = omega (arith, pops); runner = refl };
+        record { served = p.served; same = p.same; pops = omega (arith, pops); runner = refl; still = refl };
   }
 
-  pub refused_steps : (d d' : DeviceState) (r : RunnerView) (fault : ChainFault) → GivesJob d (Err (Spoiled fault)) d' → ServesOne guest d r (Ok step.Stopped) d' r
-  refused_steps d d' r fault gives = record {
+  pub refused_steps : (still : Bool) (d d' : DeviceState) (r : RunnerView) (fault : ChainFault) → GivesJob d (Err (Spoiled fault)) d' → ServesOne guest still still d r (Ok step.Stopped) d' r
+  refused_steps still d d' r fault gives = record {
     one = λ driver c room counting served. device_pop_gives d d' driver (c ∷ []) [] [] (Err (Spoiled fault)) served gives;
     none = λ driver published counting served. device_pop_gives d d' driver [] [] published (Err (Spoiled fault)) served gives;
   }
@@ -61,8 +61,8 @@ module _ (guest : ℕ) where
         | inr rest ↦ elim rest [ inl is ↦ omega (arith, readiness, is) | inr is ↦ omega (arith, pops, is) ]
       ]
 
-  pub reset_steps : (d d' : DeviceState) (r : RunnerView) → GivesJob d (Err NeedsReset) d' → ServesOne guest d r (Ok step.Stopped) d' r
-  reset_steps d d' r gives = record {
+  pub reset_steps : (still : Bool) (d d' : DeviceState) (r : RunnerView) → GivesJob d (Err NeedsReset) d' → ServesOne guest still still d r (Ok step.Stopped) d' r
+  reset_steps still d d' r gives = record {
     one = λ driver c room counting served. not_at_its_end d d' counting (device_pop_gives d d' driver (c ∷ []) [] [] (Err NeedsReset) served gives);
     none = λ driver published counting served. not_at_its_end d d' counting (device_pop_gives d d' driver [] [] published (Err NeedsReset) served gives);
   }
@@ -119,18 +119,18 @@ module _ (guest : ℕ) where
   published_so d1 d' driver c done (Wrote notify) p = p
   published_so d1 d' driver c done Dropped p = absurd p
 
-  pub answered_steps : (d d1 d' : DeviceState) (r r' : RunnerView) (job : Job) (done : Done) (need : ℕ) (answer : Published)
-      → GivesJob d (Ok (Some job)) d1 → done ≡ done_of job (reply_of r.cores job) need → length done.reply ≤ room_in done.writable
-      → Publishes d1 done answer d' → r' ≡ after_job r job → ServesOne guest d r (Ok step.Answered) d' r'
-  answered_steps d d1 d' r r' job done need answer gives answers fits publishes after = record {
+  pub answered_steps : (was now : Bool) (d d1 d' : DeviceState) (r r' : RunnerView) (job : Job) (done : Done) (need : ℕ) (answer : Published)
+      → GivesJob d (Ok (Some job)) d1 → done ≡ done_of job (reply_when was now r.cores job) need → length done.reply ≤ room_in done.writable
+      → Publishes d1 done answer d' → r' ≡ after_when was now r job → ServesOne guest was now d r (Ok step.Answered) d' r'
+  answered_steps was now d d1 d' r r' job done need answer gives answers fits publishes after = record {
     one = λ driver c room counting served.
         let p = device_pop_gives d d1 driver (c ∷ []) [] [] (Ok (Some job)) served gives in
-        let to = reply_to d d1 driver.kind driver.size c job done (reply_of r.cores job) need p.0 p.1.same answers fits in
+        let to = reply_to d d1 driver.kind driver.size c job done (reply_when was now r.cores job) need p.0 p.1.same answers fits in
         let N : ℕ → Type 0 = λ n. HasNumberIn d1.queue [] n in
         let named = subst N (sym (ap (λ (x : Done). x.number) answers)) p.2 in
         let q = published_so d1 d' driver c done answer (device_publish_joins d1 d' driver [] [] c [] [] done answer p.1.served to named publishes) in
         let same = same_job d driver.kind driver.size c job p.0 in
-        let bytes : done.reply ≡ reply_of r.cores (job_of d driver.kind driver.size c) = ap (λ x. x.reply) answers ∙ ap (reply_of r.cores) same in
+        let bytes : done.reply ≡ reply_when was now r.cores (job_of d driver.kind driver.size c) = ap (λ x. x.reply) answers ∙ ap (reply_when was now r.cores) same in
         record {
           served = subst (λ b. IsServed d' driver [] [] (record { offer = c; bytes = b } ∷ [])) bytes q.served;
           same = record {
@@ -140,7 +140,7 @@ module _ (guest : ℕ) where
             readiness = q.same.readiness ∙ p.1.same.readiness;
           };
           pops = q.pops ∙ p.1.pops;
-          runner = after ∙ ap (after_job r) same;
+          runner = after ∙ ap (after_when was now r) same;
         };
     none = λ driver published counting served. device_pop_gives d d1 driver [] [] published (Ok (Some job)) served gives;
   }
@@ -150,22 +150,23 @@ module _ (guest : ℕ) where
   told_so (Some e) = refl
 
   -- the book refused the job
-  pub left_steps : (d d' : DeviceState) (r r' : RunnerView) (job : Job) (e : Refused) → GivesJob d (Ok (Some job)) d'
-      → (job.guest ≡ guest → e ≡ unwrap_or (refusal_of r job) refused.NoMemory) → r' ≡ r → ServesOne guest d r (Err (fault_of e)) d' r'
-  left_steps d d' r r' job e gives why same = record {
+  pub left_steps : (was now : Bool) (d d' : DeviceState) (r r' : RunnerView) (job : Job) (e : Refused) → GivesJob d (Ok (Some job)) d'
+      → (job.guest ≡ guest → e ≡ unwrap_or (refusal_of r job) refused.NoMemory) → r' ≡ r → now ≡ was → ServesOne guest was now d r (Err (fault_of e)) d' r'
+  left_steps was now d d' r r' job e gives why same still = record {
     one = λ driver c room counting served.
         let p = device_pop_gives d d' driver (c ∷ []) [] [] (Ok (Some job)) served gives in
         record {
           cause = inr (ap fault_of (why (p.0.guest ∙ counting.named)) ∙ told_so (refusal_of r job) ∙ ap (λ j. told_of (refusal_of r j)) (same_job d driver.kind driver.size c job p.0));
           runner = same;
+          still = still;
         };
     none = λ driver published counting served. device_pop_gives d d' driver [] [] published (Ok (Some job)) served gives;
   }
 
   -- Looks at a queue where nothing is offered.
-  pub quiet_start : (d : DeviceState) (r : RunnerView) → Drains guest d r (Ok false) d r
-  quiet_start d r driver published counting served =
-      (refl, record { served = served; same = record { guest = refl; config = refl; session = refl; readiness = refl }; pops = refl; runner = refl })
+  pub quiet_start : (still : Bool) (d : DeviceState) (r : RunnerView) → Drains guest still still d r (Ok false) d r
+  quiet_start still d r driver published counting served =
+      (refl, record { served = served; same = record { guest = refl; config = refl; session = refl; readiness = refl }; pops = refl; runner = refl; still = refl })
 
   -- a device that stays quiet goes on counting
   still_counting : (d d' : DeviceState) → IsSameSession d d' → d'.pops ≡ d.pops → IsCounting guest d → IsCounting guest d'
@@ -185,19 +186,19 @@ module _ (guest : ℕ) where
     readiness = q.readiness ∙ p.readiness;
   }
 
-  pub quiet_more : (a d d' : DeviceState) (p r r' : RunnerView) → Drains guest a p (Ok false) d r → ServesOne guest d r (Ok step.Nothing) d' r' → Drains guest a p (Ok false) d' r'
-  quiet_more a d d' p r r' before serves driver published counting served =
+  pub quiet_more : (x y z : Bool) (a d d' : DeviceState) (p r r' : RunnerView) → Drains guest x y a p (Ok false) d r → ServesOne guest y z d r (Ok step.Nothing) d' r' → Drains guest x z a p (Ok false) d' r'
+  quiet_more x y z a d d' p r r' before serves driver published counting served =
       let q = (before driver published counting served).1 in
       let n = serves.none driver published (still_counting a d q.same q.pops counting) q.served in
-      (refl, record { served = n.served; same = same_twice a d d' q.same n.same; pops = n.pops ∙ q.pops; runner = n.runner ∙ q.runner })
+      (refl, record { served = n.served; same = same_twice a d d' q.same n.same; pops = n.pops ∙ q.pops; runner = n.runner ∙ q.runner; still = n.still ∙ q.still })
 
-  pub no_more_answered : (a d d' : DeviceState) (p r r' : RunnerView) (stopped : Bool) → Drains guest a p (Ok false) d r → ServesOne guest d r (Ok step.Answered) d' r' → Drains guest a p (Ok stopped) d' r'
-  no_more_answered a d d' p r r' stopped before serves driver published counting served =
+  pub no_more_answered : (x y z : Bool) (a d d' : DeviceState) (p r r' : RunnerView) (stopped : Bool) → Drains guest x y a p (Ok false) d r → ServesOne guest y z d r (Ok step.Answered) d' r' → Drains guest x z a p (Ok stopped) d' r'
+  no_more_answered x y z a d d' p r r' stopped before serves driver published counting served =
       let q = (before driver published counting served).1 in
       absurd (serves.none driver published (still_counting a d q.same q.pops counting) q.served)
 
-  pub no_more_stopped : (a d d' : DeviceState) (p r r' : RunnerView) (stopped : Bool) → Drains guest a p (Ok false) d r → ServesOne guest d r (Ok step.Stopped) d' r' → Drains guest a p (Ok stopped) d' r'
-  no_more_stopped a d d' p r r' stopped before serves driver published counting served =
+  pub no_more_stopped : (x y z : Bool) (a d d' : DeviceState) (p r r' : RunnerView) (stopped : Bool) → Drains guest x y a p (Ok false) d r → ServesOne guest y z d r (Ok step.Stopped) d' r' → Drains guest x z a p (Ok stopped) d' r'
+  no_more_stopped x y z a d d' p r r' stopped before serves driver published counting served =
       let q = (before driver published counting served).1 in
       absurd (serves.none driver published (still_counting a d q.same q.pops counting) q.served)
 
@@ -210,27 +211,27 @@ module _ (guest : ℕ) where
       let readiness = counting.readiness in
       record { named = same.guest ∙ counting.named; session = omega (arith, s, session); readiness = omega (arith, n, readiness); pops = omega (arith, k, more) }
 
-  pub no_more_failed : (a d d' : DeviceState) (p r r' : RunnerView) (fault : HostFault) → Drains guest a p (Ok false) d r → ServesOne guest d r (Err fault) d' r' → Drains guest a p (Err fault) d' r'
-  no_more_failed a d d' p r r' fault before serves driver published counting served =
+  pub no_more_failed : (x y z : Bool) (a d d' : DeviceState) (p r r' : RunnerView) (fault : HostFault) → Drains guest x y a p (Ok false) d r → ServesOne guest y z d r (Err fault) d' r' → Drains guest x z a p (Err fault) d' r'
+  no_more_failed x y z a d d' p r r' fault before serves driver published counting served =
       let q = (before driver published counting served).1 in
       serves.none driver published (still_counting a d q.same q.pops counting) q.served
 
   -- after one look that answers no other fails
-  pub answered_then_failed : (d d1 d' : DeviceState) (r r1 r' : RunnerView) (fault : HostFault) → ServesOne guest d r (Ok step.Answered) d1 r1 → Drains guest d1 r1 (Err fault) d' r' → Serves guest d r (Err fault) d' r'
-  answered_then_failed d d1 d' r r1 r' fault serves drains driver c room counting more there =
+  pub answered_then_failed : (x y z : Bool) (d d1 d' : DeviceState) (r r1 r' : RunnerView) (fault : HostFault) → ServesOne guest x y d r (Ok step.Answered) d1 r1 → Drains guest y z d1 r1 (Err fault) d' r' → Serves guest x z d r (Err fault) d' r'
+  answered_then_failed x y z d d1 d' r r1 r' fault serves drains driver c room counting more there =
       let a = serves.one driver c room counting there in
-      absurd (drains driver (record { offer = c; bytes = reply_of r.cores (job_of d driver.kind driver.size c) } ∷ []) (counting_on d d1 a.same a.pops counting more) a.served)
+      absurd (drains driver (record { offer = c; bytes = reply_when x y r.cores (job_of d driver.kind driver.size c) } ∷ []) (counting_on d d1 a.same a.pops counting more) a.served)
 
   -- one look that answers, and then looks that find nothing
-  pub answered_then_quiet : (d d1 d' : DeviceState) (r r1 r' : RunnerView) → ServesOne guest d r (Ok step.Answered) d1 r1 → Drains guest d1 r1 (Ok false) d' r' → Serves guest d r (Ok served.Answered) d' r'
-  answered_then_quiet d d1 d' r r1 r' serves drains driver c room counting more there =
+  pub answered_then_quiet : (x y z : Bool) (d d1 d' : DeviceState) (r r1 r' : RunnerView) → ServesOne guest x y d r (Ok step.Answered) d1 r1 → Drains guest y z d1 r1 (Ok false) d' r' → Serves guest x z d r (Ok served.Answered) d' r'
+  answered_then_quiet x y z d d1 d' r r1 r' serves drains driver c room counting more there =
       let a = serves.one driver c room counting there in
       let going = counting_on d d1 a.same a.pops counting more in
-      let q = (drains driver (record { offer = c; bytes = reply_of r.cores (job_of d driver.kind driver.size c) } ∷ []) going a.served).1 in
-      record { served = q.served; same = same_twice d d1 d' a.same q.same; pops = q.pops ∙ a.pops; runner = q.runner ∙ a.runner }
+      let q = (drains driver (record { offer = c; bytes = reply_when x y r.cores (job_of d driver.kind driver.size c) } ∷ []) going a.served).1 in
+      subst (λ now. IsAnswered x now d r driver c d' r') (sym q.still) (record { served = q.served; same = same_twice d d1 d' a.same q.same; pops = q.pops ∙ a.pops; runner = q.runner ∙ a.runner })
 
   -- after one look that answers no other asks for a reset
-  pub answered_then_stopped : (d d1 d' : DeviceState) (r r1 r' : RunnerView) → ServesOne guest d r (Ok step.Answered) d1 r1 → Drains guest d1 r1 (Ok true) d' r' → Serves guest d r (Ok served.Stopped) d' r'
-  answered_then_stopped d d1 d' r r1 r' serves drains driver c room counting more there =
+  pub answered_then_stopped : (x y z : Bool) (d d1 d' : DeviceState) (r r1 r' : RunnerView) → ServesOne guest x y d r (Ok step.Answered) d1 r1 → Drains guest y z d1 r1 (Ok true) d' r' → Serves guest x z d r (Ok served.Stopped) d' r'
+  answered_then_stopped x y z d d1 d' r r1 r' serves drains driver c room counting more there =
       let a = serves.one driver c room counting there in
-      let e = (drains driver (record { offer = c; bytes = reply_of r.cores (job_of d driver.kind driver.size c) } ∷ []) (counting_on d d1 a.same a.pops counting more) a.served).0 in absurd (cc)
+      let e = (drains driver (record { offer = c; bytes = reply_when x y r.cores (job_of d driver.kind driver.size c) } ∷ []) (counting_on d d1 a.same a.pops counting more) a.served).0 in absurd (cc)

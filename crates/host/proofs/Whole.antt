@@ -1,11 +1,9 @@
 -- What every stop leaves of a board all of whose requests are settled.
-use Rattle.std.proofs.Common.{◌≡◌, ◌≤◌, ◌<◌, ◌+◌, ℕ, true, false, List, Option, Some, length, take, map, refl, ap, sym, subst, ◌∙◌, arith}
+use Rattle.std.proofs.Common.{◌≡◌, ◌≤◌, ◌<◌, ◌+◌, ℕ, false, List, Some, length, take, ap, sym, subst, ◌∙◌, arith}
 use Rattle.std.specs.Prelude.{slice_get, option_map}
 use Rattle.std.proofs.lemmas.List.{length-map, take_all}
 use Rattle.std.proofs.lemmas.Option.{get_or_from_slice_get, slice_get_within, slice_get-map}
-use Rattle.rpmb_frame.specs.Request.{Request}
-use Rattle.rpmb_frame.specs.Partition.{Partition, sequence}
-use Rattle.rpmb_frame.specs.declared.config.GuestConfig.{GuestConfig}
+use Rattle.rpmb_frame.specs.Partition.{sequence}
 use Rattle.rpmb_core.specs.Requests.{partition_after_all}
 use Rattle.rpmb_core.proofs.Following.{sequence_of_all}
 use Rattle.disk.specs.Disk.{DiskCall, DiskState}
@@ -14,8 +12,8 @@ use Rattle.intent_slots.specs.declared.layout.Side.TheVariants.{A}
 use Rattle.intent_slots.specs.Recovered.{StandsFor, part_of}
 use Rattle.flusher.specs.Marks.{marks_of}
 use Rattle.flusher.specs.Slot.{mark_of}
-use Rattle.rpmb_book.specs.Guest.{GuestCore, GuestState}
-use Rattle.board.specs.Board.{StaysLinked, marks_in}
+use Rattle.rpmb_book.specs.Guest.{GuestState}
+use Rattle.board.specs.Board.{marks_in}
 use Rattle.board.specs.State.{BoardState, guests}
 use Rattle.board.proofs.Prefixes.{leaves_now}
 use Rattle.board.proofs.Stays.{marks_at}

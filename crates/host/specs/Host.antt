@@ -1,5 +1,5 @@
 -- All guests of a board, and the book that answers them.
-use Rattle.std.specs.Prelude.{◌≡◌, ℕ, ◌+◌, ◌<◌, Bool, false, List, length, get_or, replicate, All, Option, Some, None, slice_get, slice_set, Result, Ok, Err}
+use Rattle.std.specs.Prelude.{◌≡◌, ℕ, ◌+◌, ◌<◌, Bool, List, length, get_or, replicate, All, Option, Some, None, slice_get, slice_set, Result, Ok, Err}
 use Rattle.rpmb_frame.specs.declared.config.GuestConfig.{GuestConfig}
 use Rattle.rpmb_frame.specs.declared.config.RingKind.TheVariants.{Split}
 use Rattle.mmio_transport.specs.Device.{last_count}
@@ -8,7 +8,7 @@ use Rattle.host.specs.Guest.{GuestView, StoresInto, after_reset, stuck_by, views
 use Rattle.host.specs.declared.front.Stuck.{Stuck}
 use Rattle.host.specs.declared.front.Answer.TheVariants as answer
 use Rattle.host.specs.Ready.{IsReady, IsUsedWith, Answers, job_of}
-use Rattle.host.specs.Runner.{RunnerView, cores_after, fresh_view, reply_of, runner_of}
+use Rattle.host.specs.Runner.{RunnerView, cores_when, fresh_view, reply_when, runner_of}
 use Rattle.host.specs.declared.fault.HostFault.{HostFault}
 use Rattle.host.specs.declared.front.Front.{Front}
 use Rattle.host.specs.declared.fault.HostFault.TheVariants.{Foreign}
@@ -42,17 +42,19 @@ pub record IsFreshHost (board : List GuestConfig) (h : HostView) : Type 0 where
 abbrev pub sessions_after : List ℕ → ℕ → List ℕ
 sessions_after sessions guest = slice_set sessions guest (get_or sessions guest 0 + 1)
 
--- a chain came back with the reply to its request, and all guests are ready
-pub record IsServedBy (steps : ℕ) (sessions : List ℕ) (h : HostView) (guest : ℕ) (readable : List ℕ) (writable : ℕ) (answer : Answer) (h' : HostView) : Type 0 where
-  pub used : IsUsedWith (reply_of h.runner.cores (job_of guest (get_or sessions guest 0) readable writable)) answer
+-- A chain came back with the reply to its request, and all guests are ready; `was` and `now` say whether a call of the
+-- disk had failed before, and has by then.
+pub record IsServedBy (was now : Bool) (steps : ℕ) (sessions : List ℕ) (h : HostView) (guest : ℕ) (readable : List ℕ) (writable : ℕ) (answer : Answer) (h' : HostView) : Type 0 where
+  pub used : IsUsedWith (reply_when was now h.runner.cores (job_of guest (get_or sessions guest 0) readable writable)) answer
   pub ready : AreReady (steps + 1) sessions h'.guests
-  pub cores : h'.runner.cores ≡ cores_after h.runner.cores (job_of guest (get_or sessions guest 0) readable writable)
+  pub cores : h'.runner.cores ≡ cores_when was now h.runner.cores (job_of guest (get_or sessions guest 0) readable writable)
+  pub answered : h'.runner.answered ≡ h.runner.answered + 1
 
 -- what a chain comes to where all guests are ready; a fault promises nothing
-abbrev pub HostAnswers : HostView → ℕ → List ℕ → ℕ → Result Answer HostFault → HostView → Type 0
-HostAnswers h guest readable writable (Ok answer) h' = (steps : ℕ) → (sessions : List ℕ) → steps + 2 < last_count → AreReady steps sessions h.guests
-    → IsServedBy steps sessions h guest readable writable answer h'
-HostAnswers h guest readable writable (Err fault) h' = Unit {0}
+abbrev pub HostAnswers : Bool → Bool → HostView → ℕ → List ℕ → ℕ → Result Answer HostFault → HostView → Type 0
+HostAnswers was now h guest readable writable (Ok answer) h' = (steps : ℕ) → (sessions : List ℕ) → steps + 2 < last_count → AreReady steps sessions h.guests
+    → IsServedBy was now steps sessions h guest readable writable answer h'
+HostAnswers was now h guest readable writable (Err fault) h' = Unit {0}
 
 -- the guest is ready in its next session, and the others in theirs
 pub record IsReset (steps : ℕ) (sessions : List ℕ) (h : HostView) (guest : ℕ) (h' : HostView) : Type 0 where
@@ -78,26 +80,25 @@ HostStores h guest at bytes told h' = StoresAt (slice_get h.guests guest) h gues
 
 -- What a chain does to its own guest, whatever the other guests are; they stay as they are.
 -- A guest that is stuck is told why, and nothing changes; another is stuck from then on exactly where it was told so.
-abbrev pub StuckBy : Option Stuck → GuestView → Result Answer HostFault → GuestView → HostView → HostView → Type 0
-StuckBy None g told g' h h' = g'.stuck ≡ stuck_by told
-StuckBy (Some why) g told g' h h' = (told ≡ Ok (answer.Stuck why)) × (g' ≡ g) × (h' ≡ h)
+abbrev pub StuckBy : Bool → Bool → Option Stuck → GuestView → Result Answer HostFault → GuestView → HostView → HostView → Type 0
+StuckBy was now None g told g' h h' = g'.stuck ≡ stuck_by told
+StuckBy was now (Some why) g told g' h h' = (told ≡ Ok (answer.Stuck why)) × (g' ≡ g) × (h' ≡ h) × (now ≡ was)
 
-abbrev pub IsStuckAfter : GuestView → Result Answer HostFault → GuestView → HostView → HostView → Type 0
-IsStuckAfter g told g' h h' = StuckBy g.stuck g told g' h h'
+abbrev pub IsStuckAfter : Bool → Bool → GuestView → Result Answer HostFault → GuestView → HostView → HostView → Type 0
+IsStuckAfter was now g told g' h h' = StuckBy was now g.stuck g told g' h h'
 
-pub record ChainsOf (broken : Bool) (g : GuestView) (h : HostView) (guest : ℕ) (readable : List ℕ) (writable : ℕ) (told : Result Answer HostFault) (h' : HostView) : Type 0 where
+pub record ChainsOf (was now : Bool) (g : GuestView) (h : HostView) (guest : ℕ) (readable : List ℕ) (writable : ℕ) (told : Result Answer HostFault) (h' : HostView) : Type 0 where
   pub after : GuestView
-  pub stuck : IsStuckAfter g told after h h'
-  -- while no call of the disk has failed
-  pub answer : broken ≡ false → Answers guest g h.runner readable writable told after h'.runner
+  pub stuck : IsStuckAfter was now g told after h h'
+  pub answer : Answers was now guest g h.runner readable writable told after h'.runner
   pub others : h'.guests ≡ slice_set h.guests guest after
 
-abbrev pub ChainsAt : Bool → Option GuestView → HostView → ℕ → List ℕ → ℕ → Result Answer HostFault → HostView → Type 0
-ChainsAt broken None h guest readable writable told h' = (told ≡ Err Foreign) × (h' ≡ h)
-ChainsAt broken (Some g) h guest readable writable told h' = ChainsOf broken g h guest readable writable told h'
+abbrev pub ChainsAt : Bool → Bool → Option GuestView → HostView → ℕ → List ℕ → ℕ → Result Answer HostFault → HostView → Type 0
+ChainsAt was now None h guest readable writable told h' = (told ≡ Err Foreign) × (h' ≡ h) × (now ≡ was)
+ChainsAt was now (Some g) h guest readable writable told h' = ChainsOf was now g h guest readable writable told h'
 
-abbrev pub HostChains : Bool → HostView → ℕ → List ℕ → ℕ → Result Answer HostFault → HostView → Type 0
-HostChains broken h guest readable writable told h' = ChainsAt broken (slice_get h.guests guest) h guest readable writable told h'
+abbrev pub HostChains : Bool → Bool → HostView → ℕ → List ℕ → ℕ → Result Answer HostFault → HostView → Type 0
+HostChains was now h guest readable writable told h' = ChainsAt was now (slice_get h.guests guest) h guest readable writable told h'
 
 -- what a reset does, by the guest of that number
 abbrev pub ResetsAt : Option GuestView → HostView → ℕ → Result (Unit {0}) HostFault → HostView → Type 0

@@ -66,9 +66,12 @@ impl<D: Disk> Host<D> {
     /// taken to its end, and the driver reaps once.
     ///
     /// Where the guest is ready, whatever the others are, and no count of its device comes near
-    /// 2^64 - 1, an answer is the reply to its request, and the guest is ready again, unless a call of
-    /// the disk failed. A guest whose device stopped, or gave nothing or nonsense back, is stuck until
-    /// its reset. The device and the driver of every other guest stay as they are.
+    /// 2^64 - 1, an answer is the reply to its request, and the guest is ready again. A call of the disk
+    /// that fails before the reply leaves puts a failure in its place, and all guests forget what was
+    /// asked last. From then on each reply is a general failure, and changes no guest.
+    ///
+    /// A guest whose device stopped, or gave nothing or nonsense back, is stuck until its reset. The
+    /// device and the driver of every other guest stay as they are.
     ///
     /// Whatever the guests hold: at each moment a stop leaves, of each guest, the partition after a prefix
     /// of its accepted requests, with all that was settled before. What the book has of every other guest
@@ -79,13 +82,14 @@ impl<D: Disk> Host<D> {
     ///
     /// `Foreign` where there is no such guest; then nothing changes. Of a ready guest `HistoryFull`
     /// where 16,384 jobs were answered, `NoRoom` where too few descriptors are free, else `NoMemory`;
-    /// the book stays as it was, but that after `NoMemory` the request may have been answered.
+    /// the book stays as it was, and no call of the disk is made, but that after `NoMemory` the request
+    /// may have been answered.
     pub fn chain(&mut self, guest: u16, readable: &[u8], writable: u32) -> Result<Answer, HostFault>
         requires readable { length readable.now ≤ 8704 }
         requires writable { writable ≤ 8192 }
         requires some { 0 < length readable.now + writable }
-        ensures answer { is_broken self.new.board ≡ false → HostAnswers (seen self.old) guest readable.now writable result (seen self.new) }
-        ensures guest { HostChains (is_broken self.new.board) (seen self.old) guest readable.now writable result (seen self.new) }
+        ensures answer { HostAnswers (is_broken self.old.board) (is_broken self.new.board) (seen self.old) guest readable.now writable result (seen self.new) }
+        ensures guest { HostChains (is_broken self.old.board) (is_broken self.new.board) (seen self.old) guest readable.now writable result (seen self.new) }
         ensures keeps { is_broken self.new.board ≡ false → is_broken self.old.board ≡ false }
         ensures calm { IsCalm D.state self.new.board }
         ensures moves { Moves D.state D.makes self.old.board self.new.board }
@@ -103,6 +107,7 @@ impl<D: Disk> Host<D> {
     /// nothing changes.
     pub fn store(&mut self, guest: u16, at: u64, bytes: &[u8]) -> Result<(), HostFault>
         ensures guest { HostStores (seen self.old) guest at bytes.now result (seen self.new) }
+        ensures same { is_broken self.new.board ≡ is_broken self.old.board }
         ensures keeps { is_broken self.new.board ≡ false → is_broken self.old.board ≡ false }
         ensures calm { IsCalm D.state self.new.board }
         ensures moves { Moves D.state D.makes self.old.board self.new.board }
@@ -119,6 +124,7 @@ impl<D: Disk> Host<D> {
     pub fn reset(&mut self, guest: u16) -> Result<(), HostFault>
         ensures guest { HostResetsGuest (seen self.old) guest result (seen self.new) }
         ensures ready { HostResets (seen self.old) guest result (seen self.new) }
+        ensures same { is_broken self.new.board ≡ is_broken self.old.board }
         ensures keeps { is_broken self.new.board ≡ false → is_broken self.old.board ≡ false }
         ensures calm { IsCalm D.state self.new.board }
         ensures moves { Moves D.state D.makes self.old.board self.new.board }

@@ -40,7 +40,7 @@ fn serve_one<D: Disk>(board: &mut Board<D>, guest: u16) -> Result<Step, HostFaul
     ensures touches { Touches D.state guest board.old board.new }
     ensures passes { Passes D.state D.makes guest 1 board.old board.new }
     ensures empty { OnOk result (slice_get board.new.jobs guest ≡ Some None) }
-    ensures serves { Where guest (λ d r d' r'. ServesOne guest d r result d' r') board.old board.new }
+    ensures serves { Where guest (λ was now d r d' r'. ServesOne guest was now d r result d' r') board.old board.new }
 {
     match board.step(&BoardStep::Pop(guest)) {
         Ok(_) => {}
@@ -76,7 +76,7 @@ fn drain<D: Disk>(board: &mut Board<D>, guest: u16, times: u16) -> Result<bool, 
     ensures touches { Touches D.state guest board.old board.new }
     ensures passes { Passes D.state D.makes guest (times - 1) board.old board.new }
     ensures empty { OnOk result (slice_get board.new.jobs guest ≡ Some None) }
-    ensures drains { Where guest (λ d r d' r'. Drains guest d r result d' r') board.old board.new }
+    ensures drains { Where guest (λ was now d r d' r'. Drains guest was now d r result d' r') board.old board.new }
 {
     for _look in 1..times {
         match serve_one(board, guest) {
@@ -100,7 +100,7 @@ pub(crate) fn serve<D: Disk>(
     ensures touches { Touches D.state guest board.old board.new }
     ensures passes { Passes D.state D.makes guest (max 1 times) board.old board.new }
     ensures empty { OnOk result (slice_get board.new.jobs guest ≡ Some None) }
-    ensures serves { Where guest (λ d r d' r'. Serves guest d r result d' r') board.old board.new }
+    ensures serves { Where guest (λ was now d r d' r'. Serves guest was now d r result d' r') board.old board.new }
 {
     match serve_one(board, guest) {
         Ok(Step::Answered) => {}

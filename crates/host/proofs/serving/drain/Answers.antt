@@ -11,32 +11,32 @@ use Rattle.host.proofs.serving.drain.Goals as goal
 pub returns-in-Ok-Nothing-clause-drains : goal.returns-in-Ok-Nothing-clause-drains
 returns-in-Ok-Nothing-clause-drains g c =
     let n = c.args.guest in
-    let given : Step → Type 0 = λ x. Where n (λ d r d' r'. ServesOne n d r (Ok x) d' r') c.loop-look.board c.serve_one.new.board in
-    where_then g.D.Disk.state n (λ d r d' r'. Drains n d r (Ok false) d' r') (λ d r d' r'. ServesOne n d r (Ok step.Nothing) d' r') (λ d r d' r'. Drains n d r (Ok false) d' r')
-    c.args.board.now c.loop-look.board c.serve_one.new.board c.loop-look.invariant.2 c.loop-look.invariant.1 c.serve_one.ensures.touches (subst given c.in-Ok-Nothing.field-0-is c.in-Ok-Nothing.ensures.serves)
-    (λ d d1 d2 r r1 r2 before serves. quiet_more n d d1 d2 r r1 r2 before serves)
+    let given : Step → Type 0 = λ x. Where n (λ was now d r d' r'. ServesOne n was now d r (Ok x) d' r') c.loop-look.board c.serve_one.new.board in
+    where_then g.D.Disk.state n (λ was now d r d' r'. Drains n was now d r (Ok false) d' r') (λ was now d r d' r'. ServesOne n was now d r (Ok step.Nothing) d' r') (λ was now d r d' r'. Drains n was now d r (Ok false) d' r')
+    c.args.board.now c.loop-look.board c.serve_one.new.board c.loop-look.invariant.2 c.loop-look.invariant.1 (subst given c.in-Ok-Nothing.field-0-is c.in-Ok-Nothing.ensures.serves)
+    (λ x y z d d1 d2 r r1 r2 before serves. quiet_more n x y z d d1 d2 r r1 r2 before serves)
 
 pub returns-in-Ok-Stopped-clause-drains : goal.returns-in-Ok-Stopped-clause-drains
 returns-in-Ok-Stopped-clause-drains g c =
     let n = c.args.guest in
-    let given : Step → Type 0 = λ x. Where n (λ d r d' r'. ServesOne n d r (Ok x) d' r') c.loop-look.board c.serve_one.new.board in
-    where_then g.D.Disk.state n (λ d r d' r'. Drains n d r (Ok false) d' r') (λ d r d' r'. ServesOne n d r (Ok step.Stopped) d' r') (λ d r d' r'. Drains n d r (Ok true) d' r')
-    c.args.board.now c.loop-look.board c.serve_one.new.board c.loop-look.invariant.2 c.loop-look.invariant.1 c.serve_one.ensures.touches (subst given c.in-Ok-Stopped.field-0-is c.in-Ok-Stopped.ensures.serves)
-    (λ d d1 d2 r r1 r2 before serves. no_more_stopped n d d1 d2 r r1 r2 true before serves)
+    let given : Step → Type 0 = λ x. Where n (λ was now d r d' r'. ServesOne n was now d r (Ok x) d' r') c.loop-look.board c.serve_one.new.board in
+    where_then g.D.Disk.state n (λ was now d r d' r'. Drains n was now d r (Ok false) d' r') (λ was now d r d' r'. ServesOne n was now d r (Ok step.Stopped) d' r') (λ was now d r d' r'. Drains n was now d r (Ok true) d' r')
+    c.args.board.now c.loop-look.board c.serve_one.new.board c.loop-look.invariant.2 c.loop-look.invariant.1 (subst given c.in-Ok-Stopped.field-0-is c.in-Ok-Stopped.ensures.serves)
+    (λ x y z d d1 d2 r r1 r2 before serves. no_more_stopped n x y z d d1 d2 r r1 r2 true before serves)
 
 pub returns-in-Err-clause-drains : goal.returns-in-Err-clause-drains
 returns-in-Err-clause-drains g c =
     let n = c.args.guest in
-    let given : HostFault → Type 0 = λ x. Where n (λ d r d' r'. ServesOne n d r (Err x) d' r') c.loop-look.board c.serve_one.new.board in
-    where_then g.D.Disk.state n (λ d r d' r'. Drains n d r (Ok false) d' r') (λ d r d' r'. ServesOne n d r (Err c.in-Err.fault) d' r') (λ d r d' r'. Drains n d r (Err c.in-Err.fault) d' r')
-    c.args.board.now c.loop-look.board c.serve_one.new.board c.loop-look.invariant.2 c.loop-look.invariant.1 c.serve_one.ensures.touches (subst given c.in-Err.fault-is c.in-Err.ensures.serves)
-    (λ d d1 d2 r r1 r2 before serves. no_more_failed n d d1 d2 r r1 r2 c.in-Err.fault before serves)
+    let given : HostFault → Type 0 = λ x. Where n (λ was now d r d' r'. ServesOne n was now d r (Err x) d' r') c.loop-look.board c.serve_one.new.board in
+    where_then g.D.Disk.state n (λ was now d r d' r'. Drains n was now d r (Ok false) d' r') (λ was now d r d' r'. ServesOne n was now d r (Err c.in-Err.fault) d' r') (λ was now d r d' r'. Drains n was now d r (Err c.in-Err.fault) d' r')
+    c.args.board.now c.loop-look.board c.serve_one.new.board c.loop-look.invariant.2 c.loop-look.invariant.1 (subst given c.in-Err.fault-is c.in-Err.ensures.serves)
+    (λ x y z d d1 d2 r r1 r2 before serves. no_more_failed n x y z d d1 d2 r r1 r2 c.in-Err.fault before serves)
 
 pub loop-look-init : goal.loop-look-init
 loop-look-init g c = (
   touches_none g.D.Disk.state c.args.guest c.args.board.now c.requires.calm,
   c.requires.empty,
-  (λ d at empty whole. record { device = d; there = at; holds = λ driver published counting served. (refl, record { served = served; same = record { guest = refl; config = refl; session = refl; readiness = refl }; pops = refl; runner = refl }) }),
+  (λ d at empty. record { device = d; there = at; holds = λ driver published counting served. (refl, record { served = served; same = record { guest = refl; config = refl; session = refl; readiness = refl }; pops = refl; runner = refl; still = refl }) }),
   passes_none g.D.Disk.state g.D.Disk.makes c.args.guest c.args.board.now,
   omega arith,
 )
@@ -44,12 +44,12 @@ loop-look-init g c = (
 pub loop-look-preserved : goal.loop-look-preserved
 loop-look-preserved g c =
     let n = c.args.guest in
-    let given : Step → Type 0 = λ x. Where n (λ d r d' r'. ServesOne n d r (Ok x) d' r') c.loop-look.board c.serve_one.new.board in (
+    let given : Step → Type 0 = λ x. Where n (λ was now d r d' r'. ServesOne n was now d r (Ok x) d' r') c.loop-look.board c.serve_one.new.board in (
       touches_twice g.D.Disk.state n c.args.board.now c.loop-look.board c.serve_one.new.board c.loop-look.invariant.0 c.serve_one.ensures.touches,
       c.in-Ok-Answered.ensures.empty,
-      where_then g.D.Disk.state n (λ d r d' r'. Drains n d r (Ok false) d' r') (λ d r d' r'. ServesOne n d r (Ok step.Answered) d' r') (λ d r d' r'. Drains n d r (Ok false) d' r')
-          c.args.board.now c.loop-look.board c.serve_one.new.board c.loop-look.invariant.2 c.loop-look.invariant.1 c.serve_one.ensures.touches (subst given c.in-Ok-Answered.field-0-is c.in-Ok-Answered.ensures.serves)
-          (λ d d1 d2 r r1 r2 before serves. no_more_answered n d d1 d2 r r1 r2 false before serves),
+      where_then g.D.Disk.state n (λ was now d r d' r'. Drains n was now d r (Ok false) d' r') (λ was now d r d' r'. ServesOne n was now d r (Ok step.Answered) d' r') (λ was now d r d' r'. Drains n was now d r (Ok false) d' r')
+          c.args.board.now c.loop-look.board c.serve_one.new.board c.loop-look.invariant.2 c.loop-look.invariant.1 (subst given c.in-Ok-Answered.field-0-is c.in-Ok-Answered.ensures.serves)
+          (λ x y z d d1 d2 r r1 r2 before serves. no_more_answered n x y z d d1 d2 r r1 r2 false before serves),
       passes_more g.D.Disk.state g.D.Disk.makes n (c.loop-look._look - 1 + 1) (c.loop-look._look + 1 - 1) c.args.board.now c.serve_one.new.board (omega arith)
           (passes_twice g.D.Disk.state g.D.Disk.makes n (c.loop-look._look - 1) 1 c.args.board.now c.loop-look.board c.serve_one.new.board c.loop-look.invariant.3 c.serve_one.ensures.passes),
       omega (arith, c.loop-look-test.true),

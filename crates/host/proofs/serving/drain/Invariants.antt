@@ -9,6 +9,6 @@ abbrev pub invariant-loop-look : goal.invariant-loop-look
 invariant-loop-look g l =
     Touches g.D.Disk.state l.fn.guest l.fn.board l.board
     × (slice_get l.board.jobs l.fn.guest ≡ Some None)
-    × Where l.fn.guest (λ d r d' r'. Drains l.fn.guest d r (Ok false) d' r') l.fn.board l.board
+    × Where l.fn.guest (λ was now d r d' r'. Drains l.fn.guest was now d r (Ok false) d' r') l.fn.board l.board
     × Passes g.D.Disk.state g.D.Disk.makes l.fn.guest (l._look - 1) l.fn.board l.board
     × (l._look - 1 ≤ l.fn.times - 1)

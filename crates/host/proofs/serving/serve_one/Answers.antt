@@ -10,7 +10,7 @@ use Rattle.board.specs.Steps.{PopsInto, SubmitsFrom}
 use Rattle.board.specs.declared.step.Step.TheVariants as board_step
 use Rattle.board.specs.declared.step.Seen.TheVariants.{Nothing}
 use Rattle.board.specs.declared.step.StepFault.TheVariants as fault
-use Rattle.host.specs.Calm.{IsCalm}
+use Rattle.host.specs.Calm.{IsCalm, is_broken}
 use Rattle.host.specs.Runner.{runner_of}
 use Rattle.host.specs.Serving.{Where, ServesOne}
 use Rattle.host.specs.declared.fault.HostFault.{HostFault}
@@ -50,7 +50,7 @@ returns-in-Err-Device-NoMemory-clause-serves g c =
     let w = c.in-Err-Device-NoMemory in
     let is = w.is ∙ ap Err (w.field-0-is ∙ ap fault.Device w.field-0-0-is) in
     comes_failed g.D.Disk.state c.args.guest _ Starved b b1 (subst (λ r. PopsInto c.args.guest (slice_get b.jobs c.args.guest) (slice_get b.devices c.args.guest) r b b1) is c.step.ensures.does)
-    (λ d d' gives. starved_steps c.args.guest d d' (runner_of b) gives)
+    (λ d d' gives. starved_steps c.args.guest (is_broken b) d d' (runner_of b) gives)
 
 pub returns-in-Err-Device-Refused-clause-serves : goal.returns-in-Err-Device-Refused-clause-serves
 returns-in-Err-Device-Refused-clause-serves g c =
@@ -59,7 +59,7 @@ returns-in-Err-Device-Refused-clause-serves g c =
     let w = c.in-Err-Device-Refused in
     let is = w.is ∙ ap Err (w.field-0-is ∙ ap fault.Device w.field-0-0-is) in
     comes_failed g.D.Disk.state c.args.guest _ (Spoiled w.field-0-0-0) b b1 (subst (λ r. PopsInto c.args.guest (slice_get b.jobs c.args.guest) (slice_get b.devices c.args.guest) r b b1) is c.step.ensures.does)
-    (λ d d' gives. refused_steps c.args.guest d d' (runner_of b) w.field-0-0-0 gives)
+    (λ d d' gives. refused_steps c.args.guest (is_broken b) d d' (runner_of b) w.field-0-0-0 gives)
 
 pub returns-in-Err-Device-NeedsReset-clause-serves : goal.returns-in-Err-Device-NeedsReset-clause-serves
 returns-in-Err-Device-NeedsReset-clause-serves g c =
@@ -68,7 +68,7 @@ returns-in-Err-Device-NeedsReset-clause-serves g c =
     let w = c.in-Err-Device-NeedsReset in
     let is = w.is ∙ ap Err (w.field-0-is ∙ ap fault.Device w.field-0-0-is) in
     comes_failed g.D.Disk.state c.args.guest _ NeedsReset b b1 (subst (λ r. PopsInto c.args.guest (slice_get b.jobs c.args.guest) (slice_get b.devices c.args.guest) r b b1) is c.step.ensures.does)
-    (λ d d' gives. reset_steps c.args.guest d d' (runner_of b) gives)
+    (λ d d' gives. reset_steps c.args.guest (is_broken b) d d' (runner_of b) gives)
 
 -- 3. Nothing was there
 
@@ -138,7 +138,7 @@ returns-in-Err-Book-step-clause-serves g c =
     let n = c.args.guest in
     let t = touches_pop g.D.Disk.state n c.step.result b b1 c.requires.calm c.step.ensures.does (sound_next g.D.Disk.state b b1 (λ a k. a k) c.requires.calm.sound c.step.ensures.linked) in
     let is = c.in-Err-Book-step.is ∙ ap Err c.in-Err-Book-step.field-0-is in
-    let told : HostFault → Type 0 = λ f. Where n (λ d r d' r'. ServesOne n d r (Err f) d' r') b b2 in
+    let told : HostFault → Type 0 = λ f. Where n (λ was now d r d' r'. ServesOne n was now d r (Err f) d' r') b b2 in
     subst told (sym c.of.ensures) (comes_refused g.D.Disk.state n c.in-Ok.field-0 c.in-Err-Book-step.refused b b1 b2
     (subst (λ r. PopsInto n (slice_get b.jobs n) (slice_get b.devices n) r b b1) c.in-Ok.is c.step.ensures.does) t.calm
     (subst (λ r. SubmitsFrom n (in_place (slice_get b1.jobs n)) (slice_get b1.tallies n) r b1 b2) is c.step-2.ensures.does))

@@ -9,7 +9,7 @@ pub returns-in-Ok-Stuck-clause-answer : goal.returns-in-Ok-Stuck-clause-answer
 returns-in-Ok-Stuck-clause-answer g c d j at place =
     let given : Answer → Type 0 = λ x. AnswersAt c.args.guest c.args.self.now c.args.board.now c.args.readable.now c.args.writable (Ok x) c.offer_and_reap.new.self c.offer_and_reap.new.board in
     let a = subst given c.in-Ok-Stuck.field-0-is c.in-Ok-Stuck.ensures.answer d j at place in
-    record { device = a.device; job = a.job; at = a.at; place = a.place; answers = λ whole session steps few ready. absurd (a.answers whole session steps few ready).used }
+    record { device = a.device; job = a.job; at = a.at; place = a.place; answers = λ session steps few ready. absurd (a.answers session steps few ready).used }
 
 pub returns-in-Some-clause-passes : goal.returns-in-Some-clause-passes
 returns-in-Some-clause-passes g c =

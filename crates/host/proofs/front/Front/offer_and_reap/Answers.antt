@@ -5,6 +5,7 @@ use Rattle.guest_driver.specs.declared.reaping.Reaped.{Reaped}
 use Rattle.guest_driver.specs.declared.fault.DriverFault.{DriverFault}
 use Rattle.guest_driver.specs.Reap.{Reaps}
 use Rattle.guest_driver.specs.Driver.{offer_of}
+use Rattle.host.specs.Calm.{is_broken}
 use Rattle.host.specs.Guest.{view_of, with_device}
 use Rattle.flusher.proofs.Guests.{get_set_same}
 use Rattle.guest_driver.specs.Access.{ButForMemory}
@@ -48,8 +49,8 @@ returns-in-Err-OutOfRange-reap-clause-touches g c = touches_after g.D.Disk.state
 
 pub returns-in-Ok-Stopped-clause-answer : goal.returns-in-Ok-Stopped-clause-answer
 returns-in-Ok-Stopped-clause-answer g c d j at place =
-    let serving : Served → Type 0 = λ x. Where c.args.guest (λ y r y' r'. Serves c.args.guest y r (Ok x) y' r') (with_device c.args.board.now c.args.guest c.offer.new.device) c.serve.new.board in
-    answered_at g.D.Disk.state c.args.guest c.args.board.now c.serve.new.board d j c.args.self.now _ c.args.readable.now c.args.writable _ at place (touches_between g.D.Disk.state c.args.guest c.args.board.now c.serve.new.board c.offer.new.device c.requires.calm c.serve.ensures.touches) (λ d' j' at' place' whole session steps few ready.
+    let serving : Served → Type 0 = λ x. Where c.args.guest (λ was now y r y' r'. Serves c.args.guest was now y r (Ok x) y' r') (with_device c.args.board.now c.args.guest c.offer.new.device) c.serve.new.board in
+    answered_at g.D.Disk.state c.args.guest c.args.board.now c.serve.new.board d j c.args.self.now _ c.args.readable.now c.args.writable _ at place (touches_between g.D.Disk.state c.args.guest c.args.board.now c.serve.new.board c.offer.new.device c.requires.calm c.serve.ensures.touches) (λ d' j' at' place' session steps few ready.
     let n = c.args.guest in
     let b = c.args.board.now in
     let b2 = c.serve.new.board in
@@ -57,15 +58,15 @@ returns-in-Ok-Stopped-clause-answer g c d j at place =
     let there = subst (λ o. IsReady n session steps (view_of d o c.args.self.now)) none ready in
     let same : d ≡ c.device.result.now = same_there (slice_get b.devices n) d c.device.result.now at c.device.ensures.device in
     let came = comes g.D.Disk.state n b b2 d c.offer.new.device c.args.self.now.driver c.offer.new.self c.args.readable.now c.args.writable c.in-Ok.field-0 session steps c.args.self.now.places c.args.self.now.stuck (Ok served.Stopped)
-    at (place ∙ ap Some none) (subst serving c.in-Ok-Stopped.field-0-is c.in-Ok-Stopped.ensures.serves) (whole) c.requires.readable c.requires.writable c.requires.some few there
+    at (place ∙ ap Some none) (subst serving c.in-Ok-Stopped.field-0-is c.in-Ok-Stopped.ensures.serves) c.requires.readable c.requires.writable c.requires.some few there
     (subst (λ (x : DeviceState). Offering x.memory c.args.self.now.driver c.args.readable.now c.args.writable (Ok c.in-Ok.field-0) c.offer.new.device.memory c.offer.new.self) (sym same) c.in-Ok.ensures.offering)
     (subst (λ (x : DeviceState). ButForMemory x c.offer.new.device) (sym same) c.in-Ok.ensures.rest) in
     absurd came.by)
 
 pub returns-in-Ok-Nothing-clause-answer : goal.returns-in-Ok-Nothing-clause-answer
 returns-in-Ok-Nothing-clause-answer g c d j at place =
-    let serving : Served → Type 0 = λ x. Where c.args.guest (λ y r y' r'. Serves c.args.guest y r (Ok x) y' r') (with_device c.args.board.now c.args.guest c.offer.new.device) c.serve.new.board in
-    answered_at g.D.Disk.state c.args.guest c.args.board.now c.serve.new.board d j c.args.self.now _ c.args.readable.now c.args.writable _ at place (touches_between g.D.Disk.state c.args.guest c.args.board.now c.serve.new.board c.offer.new.device c.requires.calm c.serve.ensures.touches) (λ d' j' at' place' whole session steps few ready.
+    let serving : Served → Type 0 = λ x. Where c.args.guest (λ was now y r y' r'. Serves c.args.guest was now y r (Ok x) y' r') (with_device c.args.board.now c.args.guest c.offer.new.device) c.serve.new.board in
+    answered_at g.D.Disk.state c.args.guest c.args.board.now c.serve.new.board d j c.args.self.now _ c.args.readable.now c.args.writable _ at place (touches_between g.D.Disk.state c.args.guest c.args.board.now c.serve.new.board c.offer.new.device c.requires.calm c.serve.ensures.touches) (λ d' j' at' place' session steps few ready.
     let n = c.args.guest in
     let b = c.args.board.now in
     let b2 = c.serve.new.board in
@@ -73,7 +74,7 @@ returns-in-Ok-Nothing-clause-answer g c d j at place =
     let there = subst (λ o. IsReady n session steps (view_of d o c.args.self.now)) none ready in
     let same : d ≡ c.device.result.now = same_there (slice_get b.devices n) d c.device.result.now at c.device.ensures.device in
     let came = comes g.D.Disk.state n b b2 d c.offer.new.device c.args.self.now.driver c.offer.new.self c.args.readable.now c.args.writable c.in-Ok.field-0 session steps c.args.self.now.places c.args.self.now.stuck (Ok served.Nothing)
-    at (place ∙ ap Some none) (subst serving c.in-Ok-Nothing.field-0-is c.in-Ok-Nothing.ensures.serves) (whole) c.requires.readable c.requires.writable c.requires.some few there
+    at (place ∙ ap Some none) (subst serving c.in-Ok-Nothing.field-0-is c.in-Ok-Nothing.ensures.serves) c.requires.readable c.requires.writable c.requires.some few there
     (subst (λ (x : DeviceState). Offering x.memory c.args.self.now.driver c.args.readable.now c.args.writable (Ok c.in-Ok.field-0) c.offer.new.device.memory c.offer.new.self) (sym same) c.in-Ok.ensures.offering)
     (subst (λ (x : DeviceState). ButForMemory x c.offer.new.device) (sym same) c.in-Ok.ensures.rest) in
     absurd came.by)
@@ -81,8 +82,8 @@ returns-in-Ok-Nothing-clause-answer g c d j at place =
 pub returns-in-Err-clause-answer : goal.returns-in-Err-clause-answer
 unfolding job_of
 returns-in-Err-clause-answer g c d j at place =
-    let serving : HostFault → Type 0 = λ x. Where c.args.guest (λ y r y' r'. Serves c.args.guest y r (Err x) y' r') (with_device c.args.board.now c.args.guest c.offer.new.device) c.serve.new.board in
-    answered_at g.D.Disk.state c.args.guest c.args.board.now c.serve.new.board d j c.args.self.now _ c.args.readable.now c.args.writable _ at place (touches_between g.D.Disk.state c.args.guest c.args.board.now c.serve.new.board c.offer.new.device c.requires.calm c.serve.ensures.touches) (λ d' j' at' place' whole session steps few ready.
+    let serving : HostFault → Type 0 = λ x. Where c.args.guest (λ was now y r y' r'. Serves c.args.guest was now y r (Err x) y' r') (with_device c.args.board.now c.args.guest c.offer.new.device) c.serve.new.board in
+    answered_at g.D.Disk.state c.args.guest c.args.board.now c.serve.new.board d j c.args.self.now _ c.args.readable.now c.args.writable _ at place (touches_between g.D.Disk.state c.args.guest c.args.board.now c.serve.new.board c.offer.new.device c.requires.calm c.serve.ensures.touches) (λ d' j' at' place' session steps few ready.
     let n = c.args.guest in
     let b = c.args.board.now in
     let b2 = c.serve.new.board in
@@ -90,19 +91,19 @@ returns-in-Err-clause-answer g c d j at place =
     let there = subst (λ o. IsReady n session steps (view_of d o c.args.self.now)) none ready in
     let same : d ≡ c.device.result.now = same_there (slice_get b.devices n) d c.device.result.now at c.device.ensures.device in
     let came = comes g.D.Disk.state n b b2 d c.offer.new.device c.args.self.now.driver c.offer.new.self c.args.readable.now c.args.writable c.in-Ok.field-0 session steps c.args.self.now.places c.args.self.now.stuck (Err c.in-Err.fault)
-    at (place ∙ ap Some none) (subst serving c.in-Err.fault-is c.in-Err.ensures.serves) (whole) c.requires.readable c.requires.writable c.requires.some few there
+    at (place ∙ ap Some none) (subst serving c.in-Err.fault-is c.in-Err.ensures.serves) c.requires.readable c.requires.writable c.requires.some few there
     (subst (λ (x : DeviceState). Offering x.memory c.args.self.now.driver c.args.readable.now c.args.writable (Ok c.in-Ok.field-0) c.offer.new.device.memory c.offer.new.self) (sym same) c.in-Ok.ensures.offering)
     (subst (λ (x : DeviceState). ButForMemory x c.offer.new.device) (sym same) c.in-Ok.ensures.rest) in
-    fails c.in-Err.fault (view_of d j c.args.self.now) (runner_of b) (runner_of b2) c.args.readable.now c.args.writable
+    fails (is_broken b) (is_broken b2) c.in-Err.fault (view_of d j c.args.self.now) (runner_of b) (runner_of b2) c.args.readable.now c.args.writable
     (popped_job c.offer.new.device c.offer.new.self.kind c.offer.new.self.size (offer_of c.args.readable.now c.args.writable c.in-Ok.field-0 came.last)) (job_of n session c.args.readable.now c.args.writable)
     (ap (λ (x : DeviceState). x.guest) (subst (λ (x : DeviceState). ButForMemory x c.offer.new.device) (sym same) c.in-Ok.ensures.rest) ∙ there.named) came.by)
 
 pub returns-in-Ok-Some-clause-answer : goal.returns-in-Ok-Some-clause-answer
 returns-in-Ok-Some-clause-answer g c d j at place =
-    let serving : Served → Type 0 = λ x. Where c.args.guest (λ y r y' r'. Serves c.args.guest y r (Ok x) y' r') (with_device c.args.board.now c.args.guest c.offer.new.device) c.serve.new.board in
+    let serving : Served → Type 0 = λ x. Where c.args.guest (λ was now y r y' r'. Serves c.args.guest was now y r (Ok x) y' r') (with_device c.args.board.now c.args.guest c.offer.new.device) c.serve.new.board in
     let reaped : Option Reaped → Type 0 = λ x. Reaps c.device-2.result.now.memory c.offer.new.self (Ok x) c.reap.new.self in
     let refused : DriverFault → Type 0 = λ x. Reaps c.device-2.result.now.memory c.offer.new.self (Err x) c.reap.new.self in
-    answered_at g.D.Disk.state c.args.guest c.args.board.now (with_device c.serve.new.board c.args.guest c.device-2.result.now) d j c.args.self.now _ c.args.readable.now c.args.writable _ at place (touches_after g.D.Disk.state c.args.guest c.args.board.now c.serve.new.board c.offer.new.device c.device-2.result.now c.requires.calm c.serve.ensures.touches) (λ d' j' at' place' whole session steps few ready.
+    answered_at g.D.Disk.state c.args.guest c.args.board.now (with_device c.serve.new.board c.args.guest c.device-2.result.now) d j c.args.self.now _ c.args.readable.now c.args.writable _ at place (touches_after g.D.Disk.state c.args.guest c.args.board.now c.serve.new.board c.offer.new.device c.device-2.result.now c.requires.calm c.serve.ensures.touches) (λ d' j' at' place' session steps few ready.
     let n = c.args.guest in
     let b = c.args.board.now in
     let b2 = c.serve.new.board in
@@ -110,25 +111,25 @@ returns-in-Ok-Some-clause-answer g c d j at place =
     let there = subst (λ o. IsReady n session steps (view_of d o c.args.self.now)) none ready in
     let same : d ≡ c.device.result.now = same_there (slice_get b.devices n) d c.device.result.now at c.device.ensures.device in
     let came = comes g.D.Disk.state n b b2 d c.offer.new.device c.args.self.now.driver c.offer.new.self c.args.readable.now c.args.writable c.in-Ok.field-0 session steps c.args.self.now.places c.args.self.now.stuck (Ok served.Answered)
-    at (place ∙ ap Some none) (subst serving c.in-Ok-Answered.field-0-is c.in-Ok-Answered.ensures.serves) (whole) c.requires.readable c.requires.writable c.requires.some few there
+    at (place ∙ ap Some none) (subst serving c.in-Ok-Answered.field-0-is c.in-Ok-Answered.ensures.serves) c.requires.readable c.requires.writable c.requires.some few there
     (subst (λ (x : DeviceState). Offering x.memory c.args.self.now.driver c.args.readable.now c.args.writable (Ok c.in-Ok.field-0) c.offer.new.device.memory c.offer.new.self) (sym same) c.in-Ok.ensures.offering)
     (subst (λ (x : DeviceState). ButForMemory x c.offer.new.device) (sym same) c.in-Ok.ensures.rest) in
     let last_is : c.device-2.result.now ≡ came.device = same_there (slice_get b2.devices n) c.device-2.result.now came.device c.device-2.ensures.device came.there in
     let end : d' ≡ came.device = same_there (slice_get (slice_set b2.devices n c.device-2.result.now) n) d' c.device-2.result.now at' (get_set_same b2.devices n came.device c.device-2.result.now came.there) ∙ last_is in
     let free : j' ≡ None = same_there (slice_get b2.jobs n) j' None place' c.in-Ok-Answered.ensures.empty in
-    let back = came_back d c.offer.new.device came.device c.args.self.now.driver c.offer.new.self c.reap.new.self (runner_of b) (runner_of b2) c.args.readable.now c.args.writable c.in-Ok.field-0 came.last n session steps c.args.self.now.places c.args.self.now.stuck c.in-Ok-Some.reaped
+    let back = came_back (is_broken b) (is_broken b2) d c.offer.new.device came.device c.args.self.now.driver c.offer.new.self c.reap.new.self (runner_of b) (runner_of b2) c.args.readable.now c.args.writable c.in-Ok.field-0 came.last n session steps c.args.self.now.places c.args.self.now.stuck c.in-Ok-Some.reaped
     there (subst (λ (x : DeviceState). Offering x.memory c.args.self.now.driver c.args.readable.now c.args.writable (Ok c.in-Ok.field-0) c.offer.new.device.memory c.offer.new.self) (sym same) c.in-Ok.ensures.offering)
     (subst (λ (x : DeviceState). ButForMemory x c.offer.new.device) (sym same) c.in-Ok.ensures.rest) came.by
     (subst (λ (x : DeviceState). Reaps x.memory c.offer.new.self (Ok (Some c.in-Ok-Some.reaped)) c.reap.new.self) last_is (subst reaped c.in-Ok-Some.field-0-is c.in-Ok-Some.ensures.reaps)) in
-    subst (λ x. ComesBack n session steps (runner_of b) c.args.readable.now c.args.writable (Used c.in-Ok-Some.reaped.bytes) (view_of x j' (record { driver = c.reap.new.self; places = c.args.self.now.places; stuck = c.args.self.now.stuck })) (runner_of b2)) (sym end)
-    (subst (λ o. ComesBack n session steps (runner_of b) c.args.readable.now c.args.writable (Used c.in-Ok-Some.reaped.bytes) (view_of came.device o (record { driver = c.reap.new.self; places = c.args.self.now.places; stuck = c.args.self.now.stuck })) (runner_of b2)) (sym free) back))
+    subst (λ x. ComesBack (is_broken b) (is_broken b2) n session steps (runner_of b) c.args.readable.now c.args.writable (Used c.in-Ok-Some.reaped.bytes) (view_of x j' (record { driver = c.reap.new.self; places = c.args.self.now.places; stuck = c.args.self.now.stuck })) (runner_of b2)) (sym end)
+    (subst (λ o. ComesBack (is_broken b) (is_broken b2) n session steps (runner_of b) c.args.readable.now c.args.writable (Used c.in-Ok-Some.reaped.bytes) (view_of came.device o (record { driver = c.reap.new.self; places = c.args.self.now.places; stuck = c.args.self.now.stuck })) (runner_of b2)) (sym free) back))
 
 pub returns-in-Ok-None-clause-answer : goal.returns-in-Ok-None-clause-answer
 returns-in-Ok-None-clause-answer g c d j at place =
-    let serving : Served → Type 0 = λ x. Where c.args.guest (λ y r y' r'. Serves c.args.guest y r (Ok x) y' r') (with_device c.args.board.now c.args.guest c.offer.new.device) c.serve.new.board in
+    let serving : Served → Type 0 = λ x. Where c.args.guest (λ was now y r y' r'. Serves c.args.guest was now y r (Ok x) y' r') (with_device c.args.board.now c.args.guest c.offer.new.device) c.serve.new.board in
     let reaped : Option Reaped → Type 0 = λ x. Reaps c.device-2.result.now.memory c.offer.new.self (Ok x) c.reap.new.self in
     let refused : DriverFault → Type 0 = λ x. Reaps c.device-2.result.now.memory c.offer.new.self (Err x) c.reap.new.self in
-    answered_at g.D.Disk.state c.args.guest c.args.board.now (with_device c.serve.new.board c.args.guest c.device-2.result.now) d j c.args.self.now _ c.args.readable.now c.args.writable _ at place (touches_after g.D.Disk.state c.args.guest c.args.board.now c.serve.new.board c.offer.new.device c.device-2.result.now c.requires.calm c.serve.ensures.touches) (λ d' j' at' place' whole session steps few ready.
+    answered_at g.D.Disk.state c.args.guest c.args.board.now (with_device c.serve.new.board c.args.guest c.device-2.result.now) d j c.args.self.now _ c.args.readable.now c.args.writable _ at place (touches_after g.D.Disk.state c.args.guest c.args.board.now c.serve.new.board c.offer.new.device c.device-2.result.now c.requires.calm c.serve.ensures.touches) (λ d' j' at' place' session steps few ready.
     let n = c.args.guest in
     let b = c.args.board.now in
     let b2 = c.serve.new.board in
@@ -136,19 +137,19 @@ returns-in-Ok-None-clause-answer g c d j at place =
     let there = subst (λ o. IsReady n session steps (view_of d o c.args.self.now)) none ready in
     let same : d ≡ c.device.result.now = same_there (slice_get b.devices n) d c.device.result.now at c.device.ensures.device in
     let came = comes g.D.Disk.state n b b2 d c.offer.new.device c.args.self.now.driver c.offer.new.self c.args.readable.now c.args.writable c.in-Ok.field-0 session steps c.args.self.now.places c.args.self.now.stuck (Ok served.Answered)
-    at (place ∙ ap Some none) (subst serving c.in-Ok-Answered.field-0-is c.in-Ok-Answered.ensures.serves) (whole) c.requires.readable c.requires.writable c.requires.some few there
+    at (place ∙ ap Some none) (subst serving c.in-Ok-Answered.field-0-is c.in-Ok-Answered.ensures.serves) c.requires.readable c.requires.writable c.requires.some few there
     (subst (λ (x : DeviceState). Offering x.memory c.args.self.now.driver c.args.readable.now c.args.writable (Ok c.in-Ok.field-0) c.offer.new.device.memory c.offer.new.self) (sym same) c.in-Ok.ensures.offering)
     (subst (λ (x : DeviceState). ButForMemory x c.offer.new.device) (sym same) c.in-Ok.ensures.rest) in
     let last_is : c.device-2.result.now ≡ came.device = same_there (slice_get b2.devices n) c.device-2.result.now came.device c.device-2.ensures.device came.there in
-    absurd (none_back c.offer.new.device came.device c.offer.new.self c.reap.new.self (runner_of b) (runner_of b2) c.args.readable.now c.args.writable c.in-Ok.field-0 came.last came.by
+    absurd (none_back (is_broken b) (is_broken b2) c.offer.new.device came.device c.offer.new.self c.reap.new.self (runner_of b) (runner_of b2) c.args.readable.now c.args.writable c.in-Ok.field-0 came.last came.by
     (subst (λ (x : DeviceState). Reaps x.memory c.offer.new.self (Ok None) c.reap.new.self) last_is (subst reaped c.in-Ok-None.field-0-is c.in-Ok-None.ensures.reaps))))
 
 pub returns-in-Err-BadUsed-reap-clause-answer : goal.returns-in-Err-BadUsed-reap-clause-answer
 returns-in-Err-BadUsed-reap-clause-answer g c d j at place =
-    let serving : Served → Type 0 = λ x. Where c.args.guest (λ y r y' r'. Serves c.args.guest y r (Ok x) y' r') (with_device c.args.board.now c.args.guest c.offer.new.device) c.serve.new.board in
+    let serving : Served → Type 0 = λ x. Where c.args.guest (λ was now y r y' r'. Serves c.args.guest was now y r (Ok x) y' r') (with_device c.args.board.now c.args.guest c.offer.new.device) c.serve.new.board in
     let reaped : Option Reaped → Type 0 = λ x. Reaps c.device-2.result.now.memory c.offer.new.self (Ok x) c.reap.new.self in
     let refused : DriverFault → Type 0 = λ x. Reaps c.device-2.result.now.memory c.offer.new.self (Err x) c.reap.new.self in
-    answered_at g.D.Disk.state c.args.guest c.args.board.now (with_device c.serve.new.board c.args.guest c.device-2.result.now) d j c.args.self.now _ c.args.readable.now c.args.writable _ at place (touches_after g.D.Disk.state c.args.guest c.args.board.now c.serve.new.board c.offer.new.device c.device-2.result.now c.requires.calm c.serve.ensures.touches) (λ d' j' at' place' whole session steps few ready.
+    answered_at g.D.Disk.state c.args.guest c.args.board.now (with_device c.serve.new.board c.args.guest c.device-2.result.now) d j c.args.self.now _ c.args.readable.now c.args.writable _ at place (touches_after g.D.Disk.state c.args.guest c.args.board.now c.serve.new.board c.offer.new.device c.device-2.result.now c.requires.calm c.serve.ensures.touches) (λ d' j' at' place' session steps few ready.
     let n = c.args.guest in
     let b = c.args.board.now in
     let b2 = c.serve.new.board in
@@ -156,19 +157,19 @@ returns-in-Err-BadUsed-reap-clause-answer g c d j at place =
     let there = subst (λ o. IsReady n session steps (view_of d o c.args.self.now)) none ready in
     let same : d ≡ c.device.result.now = same_there (slice_get b.devices n) d c.device.result.now at c.device.ensures.device in
     let came = comes g.D.Disk.state n b b2 d c.offer.new.device c.args.self.now.driver c.offer.new.self c.args.readable.now c.args.writable c.in-Ok.field-0 session steps c.args.self.now.places c.args.self.now.stuck (Ok served.Answered)
-    at (place ∙ ap Some none) (subst serving c.in-Ok-Answered.field-0-is c.in-Ok-Answered.ensures.serves) (whole) c.requires.readable c.requires.writable c.requires.some few there
+    at (place ∙ ap Some none) (subst serving c.in-Ok-Answered.field-0-is c.in-Ok-Answered.ensures.serves) c.requires.readable c.requires.writable c.requires.some few there
     (subst (λ (x : DeviceState). Offering x.memory c.args.self.now.driver c.args.readable.now c.args.writable (Ok c.in-Ok.field-0) c.offer.new.device.memory c.offer.new.self) (sym same) c.in-Ok.ensures.offering)
     (subst (λ (x : DeviceState). ButForMemory x c.offer.new.device) (sym same) c.in-Ok.ensures.rest) in
     let last_is : c.device-2.result.now ≡ came.device = same_there (slice_get b2.devices n) c.device-2.result.now came.device c.device-2.ensures.device came.there in
-    absurd (bad_back c.offer.new.device came.device c.offer.new.self c.reap.new.self (runner_of b) (runner_of b2) c.args.readable.now c.args.writable c.in-Ok.field-0 came.last came.by
+    absurd (bad_back (is_broken b) (is_broken b2) c.offer.new.device came.device c.offer.new.self c.reap.new.self (runner_of b) (runner_of b2) c.args.readable.now c.args.writable c.in-Ok.field-0 came.last came.by
     (subst (λ (x : DeviceState). Reaps x.memory c.offer.new.self (Err driver_fault.BadUsed) c.reap.new.self) last_is (subst refused c.in-Err-BadUsed-reap.field-0-is c.in-Err-BadUsed-reap.ensures.reaps))))
 
 pub returns-in-Err-OutOfRange-reap-clause-answer : goal.returns-in-Err-OutOfRange-reap-clause-answer
 returns-in-Err-OutOfRange-reap-clause-answer g c d j at place =
-    let serving : Served → Type 0 = λ x. Where c.args.guest (λ y r y' r'. Serves c.args.guest y r (Ok x) y' r') (with_device c.args.board.now c.args.guest c.offer.new.device) c.serve.new.board in
+    let serving : Served → Type 0 = λ x. Where c.args.guest (λ was now y r y' r'. Serves c.args.guest was now y r (Ok x) y' r') (with_device c.args.board.now c.args.guest c.offer.new.device) c.serve.new.board in
     let reaped : Option Reaped → Type 0 = λ x. Reaps c.device-2.result.now.memory c.offer.new.self (Ok x) c.reap.new.self in
     let refused : DriverFault → Type 0 = λ x. Reaps c.device-2.result.now.memory c.offer.new.self (Err x) c.reap.new.self in
-    answered_at g.D.Disk.state c.args.guest c.args.board.now (with_device c.serve.new.board c.args.guest c.device-2.result.now) d j c.args.self.now _ c.args.readable.now c.args.writable _ at place (touches_after g.D.Disk.state c.args.guest c.args.board.now c.serve.new.board c.offer.new.device c.device-2.result.now c.requires.calm c.serve.ensures.touches) (λ d' j' at' place' whole session steps few ready.
+    answered_at g.D.Disk.state c.args.guest c.args.board.now (with_device c.serve.new.board c.args.guest c.device-2.result.now) d j c.args.self.now _ c.args.readable.now c.args.writable _ at place (touches_after g.D.Disk.state c.args.guest c.args.board.now c.serve.new.board c.offer.new.device c.device-2.result.now c.requires.calm c.serve.ensures.touches) (λ d' j' at' place' session steps few ready.
     let n = c.args.guest in
     let b = c.args.board.now in
     let b2 = c.serve.new.board in
@@ -176,19 +177,19 @@ returns-in-Err-OutOfRange-reap-clause-answer g c d j at place =
     let there = subst (λ o. IsReady n session steps (view_of d o c.args.self.now)) none ready in
     let same : d ≡ c.device.result.now = same_there (slice_get b.devices n) d c.device.result.now at c.device.ensures.device in
     let came = comes g.D.Disk.state n b b2 d c.offer.new.device c.args.self.now.driver c.offer.new.self c.args.readable.now c.args.writable c.in-Ok.field-0 session steps c.args.self.now.places c.args.self.now.stuck (Ok served.Answered)
-    at (place ∙ ap Some none) (subst serving c.in-Ok-Answered.field-0-is c.in-Ok-Answered.ensures.serves) (whole) c.requires.readable c.requires.writable c.requires.some few there
+    at (place ∙ ap Some none) (subst serving c.in-Ok-Answered.field-0-is c.in-Ok-Answered.ensures.serves) c.requires.readable c.requires.writable c.requires.some few there
     (subst (λ (x : DeviceState). Offering x.memory c.args.self.now.driver c.args.readable.now c.args.writable (Ok c.in-Ok.field-0) c.offer.new.device.memory c.offer.new.self) (sym same) c.in-Ok.ensures.offering)
     (subst (λ (x : DeviceState). ButForMemory x c.offer.new.device) (sym same) c.in-Ok.ensures.rest) in
     let last_is : c.device-2.result.now ≡ came.device = same_there (slice_get b2.devices n) c.device-2.result.now came.device c.device-2.ensures.device came.there in
-    absurd (no_room_back c.offer.new.device came.device c.offer.new.self c.reap.new.self (runner_of b) (runner_of b2) c.args.readable.now c.args.writable c.in-Ok.field-0 came.last came.by
+    absurd (no_room_back (is_broken b) (is_broken b2) c.offer.new.device came.device c.offer.new.self c.reap.new.self (runner_of b) (runner_of b2) c.args.readable.now c.args.writable c.in-Ok.field-0 came.last came.by
     (subst (λ (x : DeviceState). Reaps x.memory c.offer.new.self (Err driver_fault.OutOfRange) c.reap.new.self) last_is (subst refused c.in-Err-OutOfRange-reap.field-0-is c.in-Err-OutOfRange-reap.ensures.reaps))))
 
 pub returns-in-Err-NoMemory-reap-clause-answer : goal.returns-in-Err-NoMemory-reap-clause-answer
 returns-in-Err-NoMemory-reap-clause-answer g c d j at place =
-    let serving : Served → Type 0 = λ x. Where c.args.guest (λ y r y' r'. Serves c.args.guest y r (Ok x) y' r') (with_device c.args.board.now c.args.guest c.offer.new.device) c.serve.new.board in
+    let serving : Served → Type 0 = λ x. Where c.args.guest (λ was now y r y' r'. Serves c.args.guest was now y r (Ok x) y' r') (with_device c.args.board.now c.args.guest c.offer.new.device) c.serve.new.board in
     let reaped : Option Reaped → Type 0 = λ x. Reaps c.device-2.result.now.memory c.offer.new.self (Ok x) c.reap.new.self in
     let refused : DriverFault → Type 0 = λ x. Reaps c.device-2.result.now.memory c.offer.new.self (Err x) c.reap.new.self in
-    answered_at g.D.Disk.state c.args.guest c.args.board.now (with_device c.serve.new.board c.args.guest c.device-2.result.now) d j c.args.self.now _ c.args.readable.now c.args.writable _ at place (touches_after g.D.Disk.state c.args.guest c.args.board.now c.serve.new.board c.offer.new.device c.device-2.result.now c.requires.calm c.serve.ensures.touches) (λ d' j' at' place' whole session steps few ready.
+    answered_at g.D.Disk.state c.args.guest c.args.board.now (with_device c.serve.new.board c.args.guest c.device-2.result.now) d j c.args.self.now _ c.args.readable.now c.args.writable _ at place (touches_after g.D.Disk.state c.args.guest c.args.board.now c.serve.new.board c.offer.new.device c.device-2.result.now c.requires.calm c.serve.ensures.touches) (λ d' j' at' place' session steps few ready.
     let n = c.args.guest in
     let b = c.args.board.now in
     let b2 = c.serve.new.board in
@@ -196,11 +197,11 @@ returns-in-Err-NoMemory-reap-clause-answer g c d j at place =
     let there = subst (λ o. IsReady n session steps (view_of d o c.args.self.now)) none ready in
     let same : d ≡ c.device.result.now = same_there (slice_get b.devices n) d c.device.result.now at c.device.ensures.device in
     let came = comes g.D.Disk.state n b b2 d c.offer.new.device c.args.self.now.driver c.offer.new.self c.args.readable.now c.args.writable c.in-Ok.field-0 session steps c.args.self.now.places c.args.self.now.stuck (Ok served.Answered)
-    at (place ∙ ap Some none) (subst serving c.in-Ok-Answered.field-0-is c.in-Ok-Answered.ensures.serves) (whole) c.requires.readable c.requires.writable c.requires.some few there
+    at (place ∙ ap Some none) (subst serving c.in-Ok-Answered.field-0-is c.in-Ok-Answered.ensures.serves) c.requires.readable c.requires.writable c.requires.some few there
     (subst (λ (x : DeviceState). Offering x.memory c.args.self.now.driver c.args.readable.now c.args.writable (Ok c.in-Ok.field-0) c.offer.new.device.memory c.offer.new.self) (sym same) c.in-Ok.ensures.offering)
     (subst (λ (x : DeviceState). ButForMemory x c.offer.new.device) (sym same) c.in-Ok.ensures.rest) in
     let last_is : c.device-2.result.now ≡ came.device = same_there (slice_get b2.devices n) c.device-2.result.now came.device c.device-2.ensures.device came.there in
-    inr (unfetched c.offer.new.device came.device c.offer.new.self (runner_of b) (runner_of b2) c.args.readable.now c.args.writable c.in-Ok.field-0 came.last n session
+    inr (unfetched (is_broken b) (is_broken b2) c.offer.new.device came.device c.offer.new.self (runner_of b) (runner_of b2) c.args.readable.now c.args.writable c.in-Ok.field-0 came.last n session
     (ap (λ (x : DeviceState). x.guest) (subst (λ (x : DeviceState). ButForMemory x c.offer.new.device) (sym same) c.in-Ok.ensures.rest) ∙ there.named)
     (ap (λ (x : DeviceState). x.session) (subst (λ (x : DeviceState). ButForMemory x c.offer.new.device) (sym same) c.in-Ok.ensures.rest) ∙ there.current) came.by))
 

@@ -1,4 +1,4 @@
-use Rattle.std.proofs.Common.{◌≡◌, ◌<◌, false, Some, Err, length, set, refl, sym, subst, arith}
+use Rattle.std.proofs.Common.{◌≡◌, ◌<◌, Some, Err, length, set, refl, sym, subst, arith}
 use Rattle.std.specs.Prelude.{slice_get}
 use Rattle.host.specs.Calm.{is_broken}
 use Rattle.host.specs.Host.{HostAnswers, HostChains, HostState, seen}
@@ -15,7 +15,7 @@ pub returns-then-at-len-clause-guest : goal.returns-then-at-len-clause-guest
 returns-then-at-len-clause-guest g c =
     let i = c.self.inside in
     let before : HostState g.row.D.Denot = record { board = i.board; fronts = i.fronts.items } in
-    subst (λ h. HostChains (is_broken h.board) (seen h) c.args.guest c.args.readable.now c.args.writable (Err Foreign) (seen h)) c.self.view_is
+    subst (λ h. HostChains (is_broken h.board) (is_broken h.board) (seen h) c.args.guest c.args.readable.now c.args.writable (Err Foreign) (seen h)) c.self.view_is
     (no_chain before c.args.guest (is_broken i.board) c.args.readable.now c.args.writable (omega (arith, c.if-at-len.true, c.len.ensures, c.from-at.ensures, i.fronts.ok)))
 
 pub returns-clause-answer : goal.returns-clause-answer
@@ -32,9 +32,9 @@ returns-clause-answer g c =
     let wide = s.wide in
     let many = c.self.invariant.1 in
     let long = length_views i.board.devices i.board.jobs fs wide many in
-    subst (λ h. is_broken c.chain.new.board ≡ false → HostAnswers (seen h) n c.args.readable.now c.args.writable c.chain.result (seen (record { board = c.chain.new.board; fronts = set fs c.from-at.result c.chain.new.self }))) c.self.view_is
-    (subst (λ k. is_broken c.chain.new.board ≡ false → HostAnswers (seen before) n c.args.readable.now c.args.writable c.chain.result (seen (record { board = c.chain.new.board; fronts = set fs k c.chain.new.self }))) (sym at_is)
-    (λ whole. chain_answers g.D.Disk.state before n front s c.chain.new.board c.chain.new.self c.args.readable.now c.args.writable c.chain.result c.chain.ensures.touches c.chain.ensures.answer whole (omega (arith, long, many, inside, at_is))))
+    subst (λ h. HostAnswers (is_broken h.board) (is_broken c.chain.new.board) (seen h) n c.args.readable.now c.args.writable c.chain.result (seen (record { board = c.chain.new.board; fronts = set fs c.from-at.result c.chain.new.self }))) c.self.view_is
+    (subst (λ k. HostAnswers (is_broken i.board) (is_broken c.chain.new.board) (seen before) n c.args.readable.now c.args.writable c.chain.result (seen (record { board = c.chain.new.board; fronts = set fs k c.chain.new.self }))) (sym at_is)
+    (chain_answers g.D.Disk.state before n front s c.chain.new.board c.chain.new.self c.args.readable.now c.args.writable c.chain.result c.chain.ensures.touches c.chain.ensures.answer (omega (arith, long, many, inside, at_is))))
 
 pub returns-clause-guest : goal.returns-clause-guest
 returns-clause-guest g c =
@@ -47,8 +47,8 @@ returns-clause-guest g c =
     let inside : c.from-at.result < length fs = omega (arith, c.if-at-len.false, c.len.ensures, i.fronts.ok) in
     let there : slice_get fs n ≡ Some front = subst (λ k. slice_get fs k ≡ Some front) at_is (front_there fs c.from-at.result front inside c.index_mut.ensures.value) in
     let s = stands g.D.Disk.state before n front c.self.invariant.0 c.self.invariant.1 there in
-    subst (λ h. HostChains (is_broken c.chain.new.board) (seen h) n c.args.readable.now c.args.writable c.chain.result (seen (record { board = c.chain.new.board; fronts = set fs c.from-at.result c.chain.new.self }))) c.self.view_is
-    (subst (λ k. HostChains (is_broken c.chain.new.board) (seen before) n c.args.readable.now c.args.writable c.chain.result (seen (record { board = c.chain.new.board; fronts = set fs k c.chain.new.self }))) (sym at_is)
+    subst (λ h. HostChains (is_broken h.board) (is_broken c.chain.new.board) (seen h) n c.args.readable.now c.args.writable c.chain.result (seen (record { board = c.chain.new.board; fronts = set fs c.from-at.result c.chain.new.self }))) c.self.view_is
+    (subst (λ k. HostChains (is_broken i.board) (is_broken c.chain.new.board) (seen before) n c.args.readable.now c.args.writable c.chain.result (seen (record { board = c.chain.new.board; fronts = set fs k c.chain.new.self }))) (sym at_is)
     (chain_chains g.D.Disk.state before n front s c.chain.new.board c.chain.new.self c.args.readable.now c.args.writable c.chain.result c.chain.ensures.touches c.chain.ensures.answer c.chain.ensures.stuck))
 
 pub returns-then-at-len-clause-moves : goal.returns-then-at-len-clause-moves

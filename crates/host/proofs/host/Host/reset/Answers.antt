@@ -1,4 +1,4 @@
-use Rattle.std.proofs.Common.{◌≡◌, ◌<◌, false, Some, Ok, Err, length, set, sym, ap, ap₂, ◌∙◌, subst, arith, length-set}
+use Rattle.std.proofs.Common.{◌≡◌, ◌<◌, Some, Ok, Err, length, set, sym, ap, ap₂, ◌∙◌, subst, arith, length-set}
 use Rattle.std.specs.Prelude.{slice_get}
 use Rattle.host.specs.Calm.{IsCalm, is_broken}
 use Rattle.host.specs.Guest.{device_after_reset, front_after_reset, with_device}
@@ -74,8 +74,9 @@ returns-clause-ready g c steps sessions few are =
     subst (λ h. IsReset steps sessions (seen h) n (seen after)) c.self.view_is
     (subst (λ h. IsReset steps sessions (seen before) n (seen h)) is (reset_ready g.D.Disk.state before n front s steps sessions (omega (arith, long, many, inside, at_is)) few ready))
 
-pub returns-clause-keeps : goal.returns-clause-keeps
-returns-clause-keeps g c =
+-- the board's book stays
+pub returns-clause-same : goal.returns-clause-same
+returns-clause-same g c =
     let i = c.self.inside in
     let n = c.args.guest in
     let fs = i.fronts.items in
@@ -84,9 +85,10 @@ returns-clause-keeps g c =
     let inside : c.from-at.result < length fs = omega (arith, c.if-at-len.false, c.len.ensures, i.fronts.ok) in
     let there : slice_get fs n ≡ Some front = subst (λ k. slice_get fs k ≡ Some front) c.from-at.ensures (front_there fs c.from-at.result front inside c.index_mut.ensures.value) in
     let s = stands g.D.Disk.state before n front c.self.invariant.0 c.self.invariant.1 there in
-    let board = c.reset.ensures.board s.device s.at in
-    let same = ap is_broken board in
-    subst (λ h. is_broken c.reset.new.board ≡ false → is_broken h.board ≡ false) c.self.view_is (λ whole. sym same ∙ whole)
+    subst (λ h. is_broken c.reset.new.board ≡ is_broken h.board) c.self.view_is (ap is_broken (c.reset.ensures.board s.device s.at))
+
+pub returns-clause-keeps : goal.returns-clause-keeps
+returns-clause-keeps g c = λ whole. sym (returns-clause-same g c) ∙ whole
 
 pub returns-then-at-len-clause-moves : goal.returns-then-at-len-clause-moves
 returns-then-at-len-clause-moves g c = subst (λ h. Moves g.D.Disk.state g.D.Disk.makes h.board h.board) c.self.view_is (moves_none g.D.Disk.state g.D.Disk.makes c.self.inside.board)
