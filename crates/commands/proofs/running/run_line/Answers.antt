@@ -3,7 +3,7 @@ use Rattle.script.specs.Line.{chain, reset, said}
 use Rattle.script.specs.declared.line.Line.{Line}
 use Rattle.host.specs.Calm.{is_broken}
 use Rattle.host.specs.Host.{seen}
-use Rattle.commands.specs.Failing.{Breaks, Runs}
+use Rattle.commands.specs.Failing.{Runs}
 use Rattle.commands.specs.Running.{Fails}
 use Rattle.host.proofs.Moving.{moves_none}
 use Rattle.commands.proofs.Lines.{nothing_runs, reset_ends, reset_runs}
@@ -46,3 +46,15 @@ returns-clause-fails g c =
     let of : Line → Type 0 = λ l. Fails (seen c.args.host.now) (said l) c.of-in-Err-reset.result in
     subst of (sym c.in-Reset.is) (subst (Fails (seen c.args.host.now) (reset c.in-Reset.guest)) (sym c.of-in-Err-reset.ensures)
     (reset_ends (seen c.args.host.now) (seen c.reset.new.self) c.in-Reset.guest c.in-Err-reset.fault c.in-Err-reset.ensures.guest))
+
+pub returns-in-Ok-clause-breaks : goal.returns-in-Ok-clause-breaks
+returns-in-Ok-clause-breaks g c = breaks_none (is_broken c.args.host.now.board) (is_broken c.store.new.self.board) (said c.args.line) c.store.ensures.same
+
+pub returns-in-Store-clause-breaks : goal.returns-in-Store-clause-breaks
+returns-in-Store-clause-breaks g c = breaks_none (is_broken c.args.host.now.board) (is_broken c.store.new.self.board) (said c.args.line) c.store.ensures.same
+
+pub returns-in-Ok-reset-clause-breaks : goal.returns-in-Ok-reset-clause-breaks
+returns-in-Ok-reset-clause-breaks g c = breaks_none (is_broken c.args.host.now.board) (is_broken c.reset.new.self.board) (said c.args.line) c.reset.ensures.same
+
+pub returns-clause-breaks : goal.returns-clause-breaks
+returns-clause-breaks g c = breaks_none (is_broken c.args.host.now.board) (is_broken c.reset.new.self.board) (said c.args.line) c.reset.ensures.same
