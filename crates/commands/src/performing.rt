@@ -70,7 +70,8 @@ pub fn perform<D: Disk, W: Write, E: Write>(
     // Nothing is written on standard error unless the status says so.
     ensures quiet { result.0 ≡ 0 → Keeps (E.contents err.old) (E.contents err.new) }
     // Then it is the line of a fault that may end the command. Only a run has printed something before it:
-    // what a front of its lines prints, unless standard output took no more, or a call of the disk failed.
+    // what a front of its lines prints, unless standard output took no more; where a call of the disk failed,
+    // all that they print, with failures from then on. And each moment of it is as above.
     ensures fault { result.0 ≡ 1 → IfSome result.1 (λ d. Fails
         (λ f. Ends command.entry board.now script.now (D.state disk) (D.state d) f × Prints command.entry board.now script.now (D.state disk) (D.state d) f (W.contents out.old) (W.contents out.new)
         × FaultMoments D.state D.makes command.entry board.now script.now disk (W.contents out.old) f d (W.contents out.new))
