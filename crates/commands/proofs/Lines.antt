@@ -1,11 +1,18 @@
 -- What each line does to a host whose guests are all ready.
-use Rattle.std.proofs.Common.{◌≡◌, ℕ, Bool, List, Option, Ok, Err, ap, arith, get_or, length, subst, ◌∙◌}
+use Rattle.std.proofs.Common.{◌≡◌, ◌+◌, ◌<◌, ℕ, Bool, true, false, List, [], ◌∷◌, Option, Some, None, Ok, Err, ap, arith, get_or, length, refl, subst, ◌∙◌}
+use Rattle.std.specs.Prelude.{◌==◌, nat_lt, not, slice_get}
+use Rattle.std.proofs.lemmas.Option.{slice_get-get_or}
+use Rattle.std.proofs.lemmas.Bool.Decides.{nat_tests}
 use Rattle.std.proofs.KnownBytes.{Appends-nil}
 use Rattle.std.specs.Io.KnownBytes.{Appends}
 use Rattle.script.specs.Line.{nothing, chain, reset}
-use Rattle.host.specs.Runner.{cores_when, reply_when}
-use Rattle.host.specs.Ready.{job_of}
-use Rattle.host.specs.Host.{HostView, HostAnswers, HostChains, HostResets, HostResetsGuest}
+use Rattle.rpmb_frame.specs.Table.{first_row}
+use Rattle.mmio_transport.specs.Job.{Job}
+use Rattle.rpmb_book.specs.declared.refused.Refused.TheVariants as refused
+use Rattle.host.specs.Guest.{GuestView}
+use Rattle.host.specs.Runner.{RunnerView, cores_when, refusal_of, reply_when}
+use Rattle.host.specs.Ready.{FailsBy, job_of}
+use Rattle.host.specs.Host.{ChainsAt, HostView, HostAnswers, HostChains, HostResets, HostResetsGuest}
 use Rattle.host.specs.declared.fault.HostFault.{HostFault}
 use Rattle.host.specs.declared.fault.HostFault.TheVariants as host
 use Rattle.host.specs.declared.front.Answer.{Answer}
@@ -32,6 +39,7 @@ used_runs was broke h h' guest readable writable (Used bytes) reply start now an
     record {
       printed = subst (λ x. Appends start now (used_line guest x)) (same ∙ b.used ∙ ap (λ c. reply_when was broke c (job_of guest (get_or t.sessions guest 0) readable writable)) at.cores) printed;
       after = record { cores = b.cores ∙ ap (λ c. cores_when was broke c (job_of guest (get_or t.sessions guest 0) readable writable)) at.cores; ready = b.ready };
+      answered = b.answered;
     }
 used_runs was broke h h' guest readable writable (Stuck reason) reply start now answers same printed = absurd same
 
@@ -42,19 +50,35 @@ stuck_runs was broke h h' guest readable writable reason start now answers = λ 
 pub reset_runs : (was broke : Bool) (h h' : HostView) (guest : ℕ) (start : Option (List ℕ)) → HostResets h guest (Ok tt) h' → Runs was broke h (reset guest) start start h'
 reset_runs was broke h h' guest start resets = λ steps t few at.
     let r = resets steps t.sessions few at.ready in
-    record { printed = Appends-nil start; after = record { cores = ap (λ x. x.cores) r.runner ∙ at.cores; ready = r.ready } }
+    record { printed = Appends-nil start; after = record { cores = ap (λ x. x.cores) r.runner ∙ at.cores; ready = r.ready }; answered = (let same = ap (λ x. x.answered) r.runner in omega (arith, same)) }
 
 pub nothing_runs : (was : Bool) (h : HostView) (start : Option (List ℕ)) → Runs was was h nothing start start h
-nothing_runs was h start = λ steps t few at. record { printed = Appends-nil start; after = record { cores = at.cores; ready = all_later steps t.sessions h.guests at.ready } }
+nothing_runs was h start = λ steps t few at. record { printed = Appends-nil start; after = record { cores = at.cores; ready = all_later steps t.sessions h.guests at.ready }; answered = omega arith }
 
--- a host's fault of a chain
-host_fails : (f : HostFault) (guest : ℕ) (readable : List ℕ) (writable : ℕ) → IsOfChain f → MayFail (fault_of f) (chain guest readable writable)
-host_fails host.OutOfRange guest readable writable of = absurd of
-host_fails host.NoMemory guest readable writable of = tt
-host_fails host.Busy guest readable writable of = absurd of
-host_fails host.HistoryFull guest readable writable of = tt
-host_fails host.NoRoom guest readable writable of = tt
-host_fails host.Foreign guest readable writable of = absurd of
+-- the history is full where a job is refused for it
+full_history : (r : RunnerView) (job : Job) → refusal_of r job ≡ Some refused.HistoryFull → r.answered ≡ 16384
+unfolding refusal_of
+full_history r job is = by (nat_lt job.guest (length r.cores)) (r.answered == 16384) refl is
+  where
+    by : (known full : Bool) → (r.answered == 16384) ≡ full → first_row ((not known, Some refused.Foreign) ∷ (full, Some refused.HistoryFull) ∷ []) None ≡ Some refused.HistoryFull → r.answered ≡ 16384
+    by true true same e = grind (arith, nat_tests, same)
+    by true false same e = absurd (cc)
+    by false full same e = absurd (cc)
+
+-- why a ready guest's chain may be refused
+ready_ends : (was broke : Bool) (f : HostFault) (g : GuestView) (r r' : RunnerView) (guest session : ℕ) (readable : List ℕ) (writable : ℕ) → IsOfChain f
+    → FailsBy was broke f g r readable writable (job_of guest session readable writable) r' → MayFail r.answered (fault_of f) (chain guest readable writable)
+ready_ends was broke host.OutOfRange g r r' guest session readable writable of fails = absurd of
+ready_ends was broke host.NoMemory g r r' guest session readable writable of fails = tt
+ready_ends was broke host.Busy g r r' guest session readable writable of fails = absurd of
+ready_ends was broke host.HistoryFull g r r' guest session readable writable of fails = (tt, full_history r (job_of guest session readable writable) fails.0)
+ready_ends was broke host.NoRoom g r r' guest session readable writable of fails = tt
+ready_ends was broke host.Foreign g r r' guest session readable writable of fails = absurd of
+
+-- a guest stands at the place
+there_is : (guests : List GuestView) (n : ℕ) → n < length guests → (g : GuestView) × (slice_get guests n ≡ Some g)
+there_is [] n inside = absurd (omega (arith, inside))
+there_is (g ∷ guests) n inside = (_, slice_get-get_or (g ∷ guests) n g inside)
 
 pub chain_ends : (was broke : Bool) (h h' : HostView) (guest : ℕ) (readable : List ℕ) (writable : ℕ) (f : HostFault) → HostChains was broke h guest readable writable (Err f) h'
     → Fails h (chain guest readable writable) (fault_of f)
@@ -62,9 +86,12 @@ chain_ends was broke h h' guest readable writable f chains = λ steps guests t f
     let there = within.0 in
     let cores = are.cores in
     let sessions = are.sessions in
+    let count = at.ready.count in
     let same : length h.runner.cores ≡ length t.cores = ap length at.cores in
-    host_fails f guest readable writable
-    (chain_fails was broke f h h' guest readable writable steps t.sessions chains few at.ready (omega (arith, there, sessions)) (omega (arith, there, cores, same)))
+    let of = chain_fails was broke f h h' guest readable writable steps t.sessions chains few at.ready (omega (arith, there, sessions)) (omega (arith, there, cores, same)) in
+    let g = there_is h.guests guest (omega (arith, there, sessions, count)) in
+    let chained = subst (λ o. ChainsAt was broke o h guest readable writable (Err f) h') g.1 chains in
+    ready_ends was broke f g.0 h.runner h'.runner guest (get_or t.sessions guest 0) readable writable of (chained.answer (get_or t.sessions guest 0) steps few (at.ready.each guest g.0 g.1))
 
 pub reset_ends : (h h' : HostView) (guest : ℕ) (f : HostFault) → HostResetsGuest h guest (Err f) h' → Fails h (reset guest) (fault_of f)
 reset_ends h h' guest f resets = λ steps guests t few at are within.

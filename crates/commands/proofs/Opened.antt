@@ -75,6 +75,7 @@ opened_host {D = D} shows makes board disk b h life begins stand whole_image unt
   };
   cores = cores;
   ready = λ split. record { cores = cores; ready = first.ready split };
+  answered = ap (λ r. r.answered) first.runner ∙ ap (λ v. (runner_of v).answered) begins.is;
   linked = links (bases_of begins.partitions) (λ g. []) (record { parts = _; linked = begins.linked });
   whole = ap (λ s. s.broken) first.store ∙ ap (λ v. v.store.broken) begins.is ∙ begins.whole;
   untouched = subst (λ s. Within shows makes (Untouched (shows disk)) disk s.disk) (sym first.store) untouched;

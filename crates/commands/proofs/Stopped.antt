@@ -63,10 +63,10 @@ stood_at broke start now next first h all rest f stood kept reason =
     record { first = stood.done; rest = rest; parts = stood.parts; printed = Appends-kept start now next (text_when stood.failed first stood.done) stood.so_far kept; reason = reason }
 
 prints : (broke : Bool) (start now next : Option (List ℕ)) (first : Told) (h : HostView) (all rest : List Said) (line : Said) (f : Fault) → (stood : Stood broke start now first h all (line ∷ rest))
-    → KeepsUnless f now next → MayFail f line → PrintsFirstUnless f (text_when stood.failed first) all start next
+    → KeepsUnless f now next → MayFail h.runner.answered f line → PrintsFirstUnless f (text_when stood.failed first) all start next
 prints broke start now next first h all rest line fault.FileFault stood kept may = tt
 prints broke start now next first h all rest line fault.NoMemory stood kept may = stood_at broke start now next first h all (line ∷ rest) fault.NoMemory stood kept (refused line stood.done rest may)
-prints broke start now next first h all rest line fault.HistoryFull stood kept may = stood_at broke start now next first h all (line ∷ rest) fault.HistoryFull stood kept may
+prints broke start now next first h all rest line fault.HistoryFull stood kept may = stood_at broke start now next first h all (line ∷ rest) fault.HistoryFull stood kept (may.0, sym stood.answered ∙ may.1)
 prints broke start now next first h all rest line fault.NoRoom stood kept may = stood_at broke start now next first h all (line ∷ rest) fault.NoRoom stood kept may
 prints broke start now next first h all rest line fault.OutOfRange stood kept may = absurd may
 prints broke start now next first h all rest line fault.DiskFault stood kept may = absurd may
@@ -85,7 +85,7 @@ noted true None done rest n known is = absurd known
 noted true (Some k) done rest n known is = let same : k ≡ n = cc in (refl, subst (λ m. IsChainAt m (done ++ rest)) same (still_chain k done rest known))
 
 pub stood_stops : (was broke : Bool) (start now next : Option (List ℕ)) (first : Told) (h : HostView) (all rest : List Said) (line : Said) (f : Fault) → (was ≡ true → broke ≡ true)
-    → (stood : Stood was start now first h all (line ∷ rest)) → KeepsUnless f now next → MayFail f line → WroteFirst f broke first all start next
+    → (stood : Stood was start now first h all (line ∷ rest)) → KeepsUnless f now next → MayFail h.runner.answered f line → WroteFirst f broke first all start next
 stood_stops was broke start now next first h all rest line f later stood kept may = record {
   failed = stood.failed;
   known = λ n is. (let k = noted was stood.failed stood.done (line ∷ rest) n stood.known is in (later k.0, subst (IsChainAt n) (sym stood.parts) k.1));
@@ -94,7 +94,7 @@ stood_stops was broke start now next first h all rest line f later stood kept ma
 
 -- how the next line fails, where the run stands
 line_fails : (was : Bool) (start now : Option (List ℕ)) (first : Told) (h : HostView) (all rest : List Said) (line : Said) (f : Fault) (guests : ℕ) → length all + 2 < last_count
-    → Stood was start now first h all (line ∷ rest) → AreGuests guests first → IsWithin guests line → Fails h line f → MayFail f line
+    → Stood was start now first h all (line ∷ rest) → AreGuests guests first → IsWithin guests line → Fails h line f → MayFail h.runner.answered f line
 line_fails was start now first h all rest nothing f guests few stood are within fails =
     let counted = stood.counted in
     fails stood.steps guests (told_when stood.failed first stood.done) (omega (arith, counted, few)) stood.at (guests_when stood.failed guests first stood.done are) within

@@ -13,7 +13,7 @@ use Rattle.host.specs.Ready.{job_of}
 use Rattle.host.specs.Runner.{answer_at, answer_since_at, cores_when, reply_of, reply_when}
 use Rattle.commands.specs.Failing.{Breaks, IsChainAt, IsFailedIn, Runs, RunsSince, WroteAll, failures, printed_since, text_when, told_broken, told_since, told_until, told_when, transcript_until}
 use Rattle.commands.specs.Image.{Tells}
-use Rattle.commands.specs.Running.{IsAt, IsChain}
+use Rattle.commands.specs.Running.{IsAt, IsChain, answered_by, answered_in}
 use Rattle.commands.specs.Transcript.{StoresNothing, Told, printed_by, told_after, told_by, transcript, used_line}
 use Rattle.commands.proofs.Printing.{told_after-append, transcript-append}
 
@@ -110,6 +110,12 @@ pub record Stood (broke : Bool) (start here : Option (List ℕ)) (first : Told) 
   pub at : IsAt steps (told_when failed first done) h
   pub clean : StoresNothing rest
   pub counted : steps + length rest ≡ length all
+  pub answered : h.runner.answered ≡ answered_in done
+
+-- a line more
+answered_more : (lines : List Said) (line : Said) → answered_in (lines ++ line ∷ []) ≡ answered_in lines + answered_by line
+answered_more [] line = omega arith
+answered_more (first ∷ lines) line = (let more = answered_more lines line in omega (arith, more))
 
 text_none : (t : Told) → [] ≡ transcript t []
 unfolding transcript
@@ -119,8 +125,8 @@ told_none : (t : Told) → t ≡ told_after t []
 unfolding told_after
 told_none t = refl
 
-pub begin_whole : (start : Option (List ℕ)) (h : HostView) (all : List Said) (t : Told) → IsAt 0 t h → StoresNothing all → Stood false start start t h all all
-begin_whole start h all t at clean = record {
+pub begin_whole : (start : Option (List ℕ)) (h : HostView) (all : List Said) (t : Told) → IsAt 0 t h → h.runner.answered ≡ 0 → StoresNothing all → Stood false start start t h all all
+begin_whole start h all t at none clean = record {
   failed = None;
   done = [];
   steps = 0;
@@ -130,6 +136,7 @@ begin_whole start h all t at clean = record {
   at = subst (λ x. IsAt 0 x h) (told_none t) at;
   clean = clean;
   counted = omega arith;
+  answered = none;
 }
 
 -- the line that failed first once one more line was run, what is printed with it, and what it makes of the guests
@@ -180,6 +187,7 @@ stood_on was broke start here next first h h' all rest line few breaks clean sto
       at = subst (λ x. IsAt (stood.steps + 1) x h') (sym on.told) ran.after;
       clean = clean;
       counted = omega (arith, counted);
+      answered = (let before = stood.answered in let more = ran.answered in let added = answered_more stood.done line in omega (arith, before, more, added));
     }
 
 -- all lines were run

@@ -167,7 +167,7 @@ module _ {D : Type 0} (shows : D → DiskState) (makes : D → DiskCall → D �
       })
 
   starts : IsCalm shows h.board → Starts shows board opened.partitions h.board (seen h)
-  starts calm = record { calm = calm; whole = opened.whole; linked = opened.linked; ready = opened.ready }
+  starts calm = record { calm = calm; whole = opened.whole; linked = opened.linked; ready = opened.ready; answered = opened.answered }
 
   -- all lines came to their end, and the calls after them
   pub run_finished : (h' : HostState D) (r : Result (Unit {0}) Fault) (now next : Option (List ℕ)) (new : D) → IsCalm shows h.board → LinesCome shows makes all h.board (seen h) start (Ok tt) h'.board now

@@ -16,7 +16,7 @@ use Rattle.script.specs.Line.{Said, said}
 use Rattle.script.specs.declared.line.Line.{Line}
 use Rattle.rpmb_frame.specs.Partition.{Partition}
 use Rattle.commands.specs.Image.{AreOf}
-use Rattle.commands.specs.Running.{AreWithin, IsChain}
+use Rattle.commands.specs.Running.{AreWithin, IsChain, answered_in}
 use Rattle.commands.specs.Transcript.{AreSplit, IsBadAt, Says, StoresNothing, Told, first_told, output_of}
 use Rattle.commands.specs.Failing.{HasFailed, IsChainAt, text_when}
 
@@ -135,12 +135,12 @@ abbrev pub IsChainNext : List Said → Type 0
 IsChainNext [] = ⊥
 IsChainNext (line ∷ rest) = IsChain line
 
--- Why a run stops where these lines are done and those are left: at a chain, for which the history or its
--- guest's driver has no room, or memory was refused; memory may be refused before the first line, too.
+-- Why a run stops where these lines are done and those are left: at a chain, for which the history, of
+-- 16,384 requests, or its guest's driver has no room, or memory was refused; memory may be refused before the first line, too.
 abbrev pub StopsFor : Fault → List Said → List Said → Type 0
 StopsFor fault.NoMemory [] rest = Unit {0}
 StopsFor fault.NoMemory (line ∷ first) rest = IsChainNext rest
-StopsFor fault.HistoryFull first rest = IsChainNext rest
+StopsFor fault.HistoryFull first rest = IsChainNext rest × (answered_in first ≡ 16384)
 StopsFor fault.NoRoom first rest = IsChainNext rest
 StopsFor f first rest = ⊥
 

@@ -6,7 +6,7 @@ use Rattle.disk.specs.Disk.{DiskState, HasRisen}
 use Rattle.script.specs.Line.{Said, nothing, chain, store, reset}
 use Rattle.host.specs.Host.{HostView, sessions_after}
 use Rattle.host.specs.Ready.{job_of}
-use Rattle.commands.specs.Running.{IsAt, IsChain}
+use Rattle.commands.specs.Running.{IsAt, IsChain, answered_by}
 use Rattle.host.specs.Runner.{cores_when, reply_when}
 use Rattle.commands.specs.Transcript.{Told, printed_by, told_by, transcript, told_after, used_line}
 
@@ -86,13 +86,14 @@ Breaks false false line = Unit {0}
 -- 3. A line, and all lines
 
 -- a line printed what it prints there, and brought the host on
-pub record HasRunSince (was broke : Bool) (steps : ℕ) (t : Told) (line : Said) (start next : Option (List ℕ)) (h' : HostView) : Type 0 where
+pub record HasRunSince (was broke : Bool) (steps : ℕ) (t : Told) (line : Said) (start next : Option (List ℕ)) (h h' : HostView) : Type 0 where
   pub printed : Appends start next (printed_since was broke t line)
   pub after : IsAt (steps + 1) (told_since was broke t line) h'
+  pub answered : h'.runner.answered ≡ h.runner.answered + answered_by line
 
 -- what a line does to a host that stands there, whether a call failed or not
 abbrev pub RunsSince : Bool → Bool → HostView → Said → Option (List ℕ) → Option (List ℕ) → HostView → Type 0
-RunsSince was broke h line start next h' = (steps : ℕ) → (t : Told) → steps + 2 < last_count → IsAt steps t h → HasRunSince was broke steps t line start next h'
+RunsSince was broke h line start next h' = (steps : ℕ) → (t : Told) → steps + 2 < last_count → IsAt steps t h → HasRunSince was broke steps t line start next h h'
 
 -- the same of each kind of line; a store promises nothing
 abbrev pub Runs : Bool → Bool → HostView → Said → Option (List ℕ) → Option (List ℕ) → HostView → Type 0

@@ -45,6 +45,7 @@ pub record IsOpened {D : Type 0} (shows : D → DiskState) (makes : D → DiskCa
   pub of_image : AreOf board (shows disk) partitions
   pub cores : (runner_of h.board).cores ≡ first_cores board partitions
   pub ready : AreSplit board → IsAt 0 (first_told board partitions) (seen h)
+  pub answered : (runner_of h.board).answered ≡ 0
   pub linked : StaysLinked shows board (bases_of partitions) (λ g. []) h.board
   pub whole : h.board.store.broken ≡ false
   pub untouched : Within shows makes (Untouched (shows disk)) disk h.board.store.disk

@@ -144,6 +144,7 @@ pub record Starts {D : Type 0} (shows : D → DiskState) (board : List GuestConf
   pub whole : b.store.broken ≡ false
   pub linked : StaysLinked shows board (bases_of partitions) (λ g. []) b
   pub ready : AreSplit board → IsAt 0 (first_told board partitions) h
+  pub answered : h.runner.answered ≡ 0
 
 -- the lines before the rest are done
 pub record Walked {D : Type 0} (shows : D → DiskState) (makes : D → DiskCall → D → Type 0) (board : List GuestConfig) (partitions : List Partition) (all : List Said) (start : Option (List ℕ)) (first : Moment D)

@@ -1,5 +1,5 @@
 -- Where a run stands whose guests are all ready, and how a line may fail there.
-use Rattle.std.specs.Prelude.{◌≡◌, ℕ, ◌+◌, ◌<◌, ◌≤◌, All, List, length}
+use Rattle.std.specs.Prelude.{◌≡◌, ℕ, ◌+◌, ◌<◌, ◌≤◌, All, List, [], ◌∷◌, length}
 use Rattle.mmio_transport.specs.Device.{last_count}
 use Rattle.script.specs.Line.{IsWithin, Said, nothing, chain, said, store, reset}
 use Rattle.script.specs.declared.line.Line.{Line}
@@ -26,14 +26,27 @@ IsChain (chain guest readable writable) = Unit {0}
 IsChain (store guest at bytes) = ⊥
 IsChain (reset guest) = ⊥
 
--- The faults that a line may come to where each guest is ready: those of a chain alone, for want of memory,
--- of room in the history, or of descriptors; and that standard output took no more.
-abbrev pub MayFail : Fault → Said → Type 0
-MayFail fault.FileFault line = Unit {0}
-MayFail fault.NoMemory line = IsChain line
-MayFail fault.HistoryFull line = IsChain line
-MayFail fault.NoRoom line = IsChain line
-MayFail f line = ⊥
+-- how many requests a line adds to the history
+abbrev pub answered_by : Said → ℕ
+answered_by nothing = 0
+answered_by (chain guest readable writable) = 1
+answered_by (store guest at bytes) = 0
+answered_by (reset guest) = 0
+
+-- and lines
+abbrev pub answered_in : List Said → ℕ
+answered_in [] = 0
+answered_in (line ∷ lines) = answered_by line + answered_in lines
+
+-- The faults that a line may come to where each guest is ready and so many requests were answered: those of a chain alone,
+-- for want of memory, of room in the history, which is full at 16,384, or of descriptors; and that standard output took
+-- no more.
+abbrev pub MayFail : ℕ → Fault → Said → Type 0
+MayFail answered fault.FileFault line = Unit {0}
+MayFail answered fault.NoMemory line = IsChain line
+MayFail answered fault.HistoryFull line = IsChain line × (answered ≡ 16384)
+MayFail answered fault.NoRoom line = IsChain line
+MayFail answered f line = ⊥
 
 -- the guests that stand there are those that lines of so many guests may name
 pub record AreGuests (guests : ℕ) (t : Told) : Type 0 where
@@ -41,7 +54,7 @@ pub record AreGuests (guests : ℕ) (t : Told) : Type 0 where
   pub sessions : length t.sessions ≡ guests
 
 abbrev pub FailsAs : HostView → Said → Fault → Type 0
-FailsAs h line f = (steps guests : ℕ) → (t : Told) → steps + 2 < last_count → IsAt steps t h → AreGuests guests t → IsWithin guests line → MayFail f line
+FailsAs h line f = (steps guests : ℕ) → (t : Told) → steps + 2 < last_count → IsAt steps t h → AreGuests guests t → IsWithin guests line → MayFail h.runner.answered f line
 
 -- how a line fails on a host that stands there; a store promises nothing
 abbrev pub Fails : HostView → Said → Fault → Type 0

@@ -167,13 +167,13 @@ fn run_lines<D: Disk, W: Write>(
     out: &mut W,
 ) -> Result<(), Fault>
     requires { All (λ line. IsSized (said line)) lines.items }
-    ensures told { OnOk result (is_broken host.old.board ≡ false → (t : Told) → IsAt 0 t (seen host.old) → StoresNothing (map said lines.items)
+    ensures told { OnOk result (is_broken host.old.board ≡ false → (seen host.old).runner.answered ≡ 0 → (t : Told) → IsAt 0 t (seen host.old) → StoresNothing (map said lines.items)
         → WroteAll (is_broken host.new.board) t (map said lines.items) (W.contents out.old) (W.contents out.new) (seen host.new)) }
     ensures keeps { is_broken host.new.board ≡ false → is_broken host.old.board ≡ false }
     ensures moves { Moves D.state D.makes host.old.board host.new.board }
     ensures ends { IfErr result IsOfRunning }
     ensures moments { LinesCome D.state D.makes (map said lines.items) host.old.board (seen host.old) (W.contents out.old) result host.new.board (W.contents out.new) }
-    ensures stopped { IfErr result (λ fault. is_broken host.old.board ≡ false → (guests : ℕ) → (t : Told) → IsAt 0 t (seen host.old) → AreGuests guests t
+    ensures stopped { IfErr result (λ fault. is_broken host.old.board ≡ false → (seen host.old).runner.answered ≡ 0 → (guests : ℕ) → (t : Told) → IsAt 0 t (seen host.old) → AreGuests guests t
         → AreWithin guests lines.items → StoresNothing (map said lines.items)
         → WroteFirst fault (is_broken host.new.board) t (map said lines.items) (W.contents out.old) (W.contents out.new)) }
 {

@@ -27,12 +27,12 @@ loop-line-init g c =
       (λ guests within. subst (AreWithin guests) same within),
       (λ whole. whole),
       moves_none g.D.Disk.state g.D.Disk.makes c.args.host.now.board,
-      (λ whole t at clean. subst (Stood (is_broken c.args.host.now.board) start start t (seen c.args.host.now) all) (ap (map said) same)
-          (subst (λ b. Stood b start start t (seen c.args.host.now) all all) (sym whole) (begin_whole start (seen c.args.host.now) all t at clean))),
+      (λ whole none t at clean. subst (Stood (is_broken c.args.host.now.board) start start t (seen c.args.host.now) all) (ap (map said) same)
+          (subst (λ b. Stood b start start t (seen c.args.host.now) all all) (sym whole) (begin_whole start (seen c.args.host.now) all t at none clean))),
       (λ calm. calm),
       (λ board partitions starts. subst (λ ls. Walked g.D.Disk.state g.D.Disk.makes board partitions all start (moment_of (λ k. []) c.args.host.now.board start) ls c.args.host.now.board start) (ap (map said) same)
           (walk_begins g.D.Disk.state g.D.Disk.makes board partitions c.args.host.now all start starts (λ split clean.
-          subst (λ b. Stood b start start (first_told board partitions) (seen c.args.host.now) all all) (sym (sym starts.calm.broken ∙ starts.whole)) (begin_whole start (seen c.args.host.now) all (first_told board partitions) (starts.ready split) clean)))),
+          subst (λ b. Stood b start start (first_told board partitions) (seen c.args.host.now) all all) (sym (sym starts.calm.broken ∙ starts.whole)) (begin_whole start (seen c.args.host.now) all (first_told board partitions) (starts.ready split) starts.answered clean)))),
     )
 
 pub loop-line-preserved : goal.loop-line-preserved
@@ -49,8 +49,8 @@ loop-line-preserved g c =
       (λ guests within. rest_within guests c.in-Some.line c.next.new.self.rest.items (subst (AreWithin guests) rest (now.invariant.1 guests within))),
       (λ whole. now.invariant.2 (c.run_line.ensures.keeps whole)),
       moves_twice g.D.Disk.state g.D.Disk.makes c.args.host.now.board now.host.board c.run_line.new.host.board now.invariant.3 c.run_line.ensures.moves,
-      (λ whole t at clean.
-          let stood = subst (Stood (is_broken now.host.board) start here t (seen now.host) all) (ap (map said) rest) (now.invariant.4 whole t at clean) in
+      (λ whole none t at clean.
+          let stood = subst (Stood (is_broken now.host.board) start here t (seen now.host) all) (ap (map said) rest) (now.invariant.4 whole none t at clean) in
           step (is_broken now.host.board) (is_broken c.run_line.new.host.board) start here (g.W.Write.contents c.run_line.new.out) t (seen now.host) (seen c.run_line.new.host) all (map said c.next.new.self.rest.items) (said c.in-Some.line) few
           c.run_line.ensures.breaks stood ran.runs),
       (λ calm. c.run_line.ensures.calm (now.invariant.5 calm)),
@@ -63,13 +63,13 @@ loop-line-preserved g c =
           (c.run_line.ensures.calm (now.invariant.5 starts.calm)) ran.prints
           (λ split clean.
           let t = first_told board partitions in
-          let stood = subst (Stood (is_broken now.host.board) start here t (seen now.host) all) (ap (map said) rest) (now.invariant.4 (sym starts.calm.broken ∙ starts.whole) t (starts.ready split) clean) in
+          let stood = subst (Stood (is_broken now.host.board) start here t (seen now.host) all) (ap (map said) rest) (now.invariant.4 (sym starts.calm.broken ∙ starts.whole) starts.answered t (starts.ready split) clean) in
           step (is_broken now.host.board) (is_broken c.run_line.new.host.board) start here next t (seen now.host) (seen c.run_line.new.host) all left (said c.in-Some.line) few c.run_line.ensures.breaks stood ran.runs)),
     )
 
 pub returns-clause-told : goal.returns-clause-told
 returns-clause-told g c =
-    λ whole t at clean.
+    λ whole none t at clean.
     let now = c.loop-line in
     let all = map said c.args.lines.items in
     let start = g.W.Write.contents c.args.out.now in
@@ -77,7 +77,7 @@ returns-clause-told g c =
     let left = now.line-iterator.rest in
     let long : left.len ≡ length left.items = omega (arith, left.ok) in
     let rest = ap (map said) (none_left left.items left.len c.in-None.ensures.steps.0 long) in
-    stood_all (is_broken now.host.board) start here t (seen now.host) all (subst (Stood (is_broken now.host.board) start here t (seen now.host) all) rest (now.invariant.4 whole t at clean))
+    stood_all (is_broken now.host.board) start here t (seen now.host) all (subst (Stood (is_broken now.host.board) start here t (seen now.host) all) rest (now.invariant.4 whole none t at clean))
 
 pub returns-in_err-run_line-clause-keeps : goal.returns-in_err-run_line-clause-keeps
 returns-in_err-run_line-clause-keeps g c = λ whole. c.loop-line.invariant.2 (c.run_line.ensures.keeps whole)
@@ -97,8 +97,8 @@ returns-in_err-run_line-clause-stopped g c =
     let rest = c.in-Some.ensures.steps.0 in
     let left = c.next.new.self.rest.items in
     let p = err_from_is_err_and c.from_residual.result c.from_residual.ensures.1 in
-    rw (p.1, p.2) (λ whole guests t at are within clean.
-    let stood = subst (Stood (is_broken now.host.board) start here t (seen now.host) all) (ap (map said) rest) (now.invariant.4 whole t at clean) in
+    rw (p.1, p.2) (λ whole none guests t at are within clean.
+    let stood = subst (Stood (is_broken now.host.board) start here t (seen now.host) all) (ap (map said) rest) (now.invariant.4 whole none t at clean) in
     let one = head_within guests c.in-Some.line left (subst (AreWithin guests) rest (now.invariant.1 guests within)) in
     stop (is_broken now.host.board) (is_broken c.run_line.new.host.board) start here next t (seen now.host) all (map said left) (said c.in-Some.line) c.in_err-run_line.field-0.0 guests few c.run_line.ensures.keeps stood
     c.in_err-run_line.ensures.silent are one c.in_err-run_line.ensures.fails)

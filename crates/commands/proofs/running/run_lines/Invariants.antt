@@ -18,7 +18,7 @@ invariant-loop-line g l =
     × ((guests : ℕ) → AreWithin guests l.fn.lines.items → AreWithin guests l.line-iterator.rest.items)
     × (is_broken l.host.board ≡ false → is_broken l.fn.host.board ≡ false)
     × Moves g.D.Disk.state g.D.Disk.makes l.fn.host.board l.host.board
-    × (is_broken l.fn.host.board ≡ false → (t : Told) → IsAt 0 t (seen l.fn.host) → StoresNothing (map said l.fn.lines.items)
+    × (is_broken l.fn.host.board ≡ false → (seen l.fn.host).runner.answered ≡ 0 → (t : Told) → IsAt 0 t (seen l.fn.host) → StoresNothing (map said l.fn.lines.items)
     → Stood (is_broken l.host.board) (g.W.Write.contents l.fn.out) (g.W.Write.contents l.out) t (seen l.host) (map said l.fn.lines.items) (map said l.line-iterator.rest.items))
     × (IsCalm g.D.Disk.state l.fn.host.board → IsCalm g.D.Disk.state l.host.board)
     × ((board : List GuestConfig) (partitions : List Partition) → Starts g.D.Disk.state board partitions l.fn.host.board (seen l.fn.host)

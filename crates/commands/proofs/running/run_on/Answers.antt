@@ -16,7 +16,7 @@ returns-in-Ok-ran-clause-ran g c =
     let h = c.run_lines-ran.new.host in
     let whole = sym c.in-Ok.ensures.calm.broken ∙ c.in-Ok.ensures.opened.whole in
     ran_well g.D.Disk.state g.D.Disk.makes c.args.board.now c.args.disk c.finish.result.1 c.in-Ok.host h all start now next c.finish.result.0
-    c.in-Ok.ensures.opened c.run_lines-ran.ensures.moves (λ known t at clean. tells_of (is_broken h.board) t all start now (seen h) known (c.in-Ok-ran.ensures.told whole t at clean)) c.flush.ensures.bytes c.finish.ensures.ended
+    c.in-Ok.ensures.opened c.run_lines-ran.ensures.moves (λ known t at clean. tells_of (is_broken h.board) t all start now (seen h) known (c.in-Ok-ran.ensures.told whole c.in-Ok.ensures.opened.answered t at clean)) c.flush.ensures.bytes c.finish.ensures.ended
 
 pub returns-in-Ok-ran-clause-stopped : goal.returns-in-Ok-ran-clause-stopped
 returns-in-Ok-ran-clause-stopped g c =
@@ -25,7 +25,7 @@ returns-in-Ok-ran-clause-stopped g c =
     let next = g.W.Write.contents c.flush.new.self in
     let whole = sym c.in-Ok.ensures.calm.broken ∙ c.in-Ok.ensures.opened.whole in
     finished_at g.D.Disk.state g.D.Disk.makes c.args.board.now c.args.lines.items c.args.disk c.finish.result.1 c.in-Ok.host c.run_lines-ran.new.host c.finish.result.0 start now next
-    c.in-Ok.ensures.opened c.run_lines-ran.ensures.moves (λ t at clean. c.in-Ok-ran.ensures.told whole t at clean) c.flush.ensures.bytes c.finish.ensures.ended
+    c.in-Ok.ensures.opened c.run_lines-ran.ensures.moves (λ t at clean. c.in-Ok-ran.ensures.told whole c.in-Ok.ensures.opened.answered t at clean) c.flush.ensures.bytes c.finish.ensures.ended
 
 pub returns-in-Err-ran-clause-stopped : goal.returns-in-Err-ran-clause-stopped
 returns-in-Err-ran-clause-stopped g c =
@@ -35,7 +35,7 @@ returns-in-Err-ran-clause-stopped g c =
     let back = c.into_disk-in-Err-ran in
     let whole = sym c.in-Ok.ensures.calm.broken ∙ c.in-Ok.ensures.opened.whole in
     stopped_at g.D.Disk.state g.D.Disk.makes c.args.board.now c.args.lines.items c.args.disk back.result c.in-Ok.host c.run_lines-ran.new.host c.in-Err-ran.fault start now next
-    c.in-Ok.ensures.opened c.run_lines-ran.ensures.moves back.ensures.known back.ensures.disk c.in-Err-ran.ensures.ends (c.in-Err-ran.ensures.stopped whole) c.flush.ensures.bytes
+    c.in-Ok.ensures.opened c.run_lines-ran.ensures.moves back.ensures.known back.ensures.disk c.in-Err-ran.ensures.ends (c.in-Err-ran.ensures.stopped whole c.in-Ok.ensures.opened.answered) c.flush.ensures.bytes
 
 pub returns-then-is_err-clause-moments : goal.returns-then-is_err-clause-moments
 returns-then-is_err-clause-moments g c =
