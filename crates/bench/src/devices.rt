@@ -1,7 +1,7 @@
 //! Whole requests of one guest, from the offer to the reap.
 ghost use Rattle.std.specs.Prelude.{◌<◌, ◌≤◌};
 
-use crate::host::Host;
+use crate::books::Host;
 use crate::requests::{key, write};
 use anyhow::{Result, bail};
 use guest_driver::Driver;

@@ -7,32 +7,35 @@
 //! - of `store`: of writes of each of 64 guests;
 //! - of `open`: of openings;
 //! - of `board`: of writes of each of 64 guests, which a board's steps settle, its book and store, and its
-//!   store alone.
+//!   store alone;
+//! - of `run`: of writes of one guest by a script, which its store alone settles, too.
 //!
 //! Where a book answers (`requests`, `device`), the reply to a write leaves once its store has settled it on
 //! a disk in memory: the times have the calls of that store in them, and no sync of a real disk.
 #![tactic(auto)]
 
+mod books;
 mod devices;
-mod host;
 mod images;
 mod macs;
 mod requests;
 mod rings;
+mod runs;
 mod steps;
 mod ways;
 
 use anyhow::{Context, Result, bail};
+use books::Host;
 use devices::{Guest, Kind, new_guest, requests_of, whole};
 use disk::MemDisk;
 use flusher::Store;
-use host::Host;
 use images::{Calls, give_keys, give_writes, new_disk, new_store, put_writes, read_all, settle};
 use macs::{keyed_macs, plain_macs};
 use recovery::open;
 use requests::{counters, keyed, writes};
 use rings::{Queue, chains, copies, new_queue};
 use rpmb_frame::{BoardConfig, GuestConfig};
+use runs::{run, script_of, settle_each};
 use std::alloc::Global;
 use std::env;
 use std::time::{Duration, Instant};
@@ -279,6 +282,47 @@ fn time_board(rt: &HostRuntime, count: u32) -> Result<()> {
     Ok(())
 }
 
+/// A board of one guest.
+fn one_guest(alloc: Global) -> Result<BoardConfig> {
+    let guest = GuestConfig::of_capacity(1);
+    Ok(BoardConfig::new(vec![in alloc; guest; 1]?)?)
+}
+
+/// Times a script of a key and so many writes; answers the time, and how many bytes it printed.
+fn script_run(rt: &HostRuntime, board: &BoardConfig, count: u32) -> Result<(Duration, usize)> {
+    let script = script_of(rt.alloc(), count)?;
+    let disk = new_disk(rt.alloc(), board)?;
+    let start = Instant::now(rt)?;
+    let printed = run(rt.alloc(), board, script.as_str(), disk)?;
+    Ok((start.elapsed(rt)?, printed))
+}
+
+/// Times a key and as many writes by a store alone.
+fn stored(rt: &HostRuntime, board: &BoardConfig, count: u32) -> Result<Duration> {
+    let mut store = new_store(rt.alloc(), board)?;
+    let start = Instant::now(rt)?;
+    settle_each(rt.alloc(), &mut store, count)?;
+    Ok(start.elapsed(rt)?)
+}
+
+/// Times writes by a script, by the store alone, and the two MACs of each: of its frame, and of its reply. A
+/// history holds 16,384 requests, one programs the key, and so COUNT is at most 16,383.
+fn time_run(rt: &HostRuntime, count: u32) -> Result<()> {
+    let board = one_guest(rt.alloc())?;
+    let (took, printed) = script_run(rt, &board, count)?;
+    let store_took = stored(rt, &board, count)?;
+    let start = Instant::now(rt)?;
+    let macs = plain_macs(count.saturating_mul(2));
+    let own_took = start.elapsed(rt)?.saturating_add(store_took);
+    println!(rt;
+        "a write: by run {} ns, its store's calls and MACs {} ns, {} percent of that; {printed} {macs}",
+        each(took, count),
+        each(own_took, count),
+        took.as_nanos() * 100 / own_took.as_nanos().max(1)
+    )?;
+    Ok(())
+}
+
 /// The calls and syncs of 64 keys, and of 64 writes.
 fn few_calls(alloc: Global) -> Result<(Calls, Calls)> {
     let mut store = new_store(alloc, &board(alloc)?)?;
@@ -327,6 +371,13 @@ fn few_settled(rt: &HostRuntime) -> Result<[u64; 3]> {
     Ok(ways.settled())
 }
 
+/// A key and two writes by a script; answers how many bytes it printed.
+fn few_lines(rt: &HostRuntime) -> Result<usize> {
+    let board = one_guest(rt.alloc())?;
+    let (_, printed) = script_run(rt, &board, 2)?;
+    Ok(printed)
+}
+
 /// What the gate runs: a few of each, with no times.
 fn checksums(rt: &HostRuntime) -> Result<()> {
     let alloc = rt.alloc();
@@ -342,6 +393,7 @@ fn checksums(rt: &HostRuntime) -> Result<()> {
     )?;
     let [by_steps, by_calls, by_store] = few_settled(rt)?;
     println!(rt; "{by_steps} {by_calls} {by_store}")?;
+    println!(rt; "{}", few_lines(rt)?)?;
     Ok(())
 }
 
@@ -359,6 +411,7 @@ fn main(rt: HostRuntime) -> Result<()> {
         "store" => time_store(&rt, count),
         "open" => time_open(&rt, count),
         "board" => time_board(&rt, count),
+        "run" => time_run(&rt, count),
         _ => bail!("no such work"),
     }
 }

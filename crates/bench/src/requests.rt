@@ -1,5 +1,5 @@
 //! Requests of every guest of a board in turn.
-use crate::host::Host;
+use crate::books::Host;
 use anyhow::Result;
 use chains::Range;
 use hmac256::mac_of;

@@ -1,5 +1,5 @@
 //! A board whose guests act by steps alone: their drivers write registers and store chains.
-use crate::host::{CALLS, new_board};
+use crate::books::{CALLS, new_board};
 use crate::requests::key;
 use anyhow::{Result, bail};
 use board::{Act, Board, Seen, Step};

@@ -2,7 +2,7 @@
 //! and its store, and by its store alone. The ways take turns, so that what else the machine does falls on
 //! all of them. The clock runs from the first Take to the last Collect, over jobs that the book has answered.
 //! The last two ways test each intent before they give it (`Store::takes`), which a board needn't.
-use crate::host::Host;
+use crate::books::Host;
 use crate::images::{give, give_keys, new_store, settle, write_intent};
 use crate::requests::{job_of, keyed, write};
 use crate::steps::{Steps, new_steps};
