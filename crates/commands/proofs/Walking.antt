@@ -30,7 +30,7 @@ use Rattle.host.proofs.Settled.{below}
 use Rattle.commands.specs.Ending.{IsOfRunning, KeepsUnless}
 use Rattle.commands.specs.Failing.{IsFailedIn, text_when, told_when}
 use Rattle.commands.specs.Image.{Finishes, IsOpened}
-use Rattle.commands.specs.Moments.{AnyMoment, Begun, Comes, IsDone, IsRefused, IsTold, Leads, LinesCome, MayEnd, Moment, MovesTo, PrintsLine, Runs, Starts, Stopped, Trail, Walked, Went, moment_of}
+use Rattle.commands.specs.Moments.{AnyMoment, Begun, Comes, IsDone, IsRefused, IsTold, Leads, LinesCome, MayEnd, Moment, MovesTo, PrintsLine, WholeRun, Starts, Stopped, Trail, Walked, Went, moment_of}
 use Rattle.commands.specs.Running.{IsAt}
 use Rattle.commands.specs.Transcript.{AreSplit, StoresNothing, first_told}
 use Rattle.commands.specs.declared.fault.Fault.{Fault}

@@ -95,7 +95,7 @@ MayEnd (Err f) rest last now = KeepsUnless f last now
 
 -- The moments of a run over an image: those of its opening, which leaves all as it was; those of its lines; and those
 -- after the last line that was done.
-pub record Runs {D : Type 0} (shows : D → DiskState) (makes : D → DiskCall → D → Type 0) (board : List GuestConfig) (all : List Said) (old : D) (start : Option (List ℕ))
+pub record WholeRun {D : Type 0} (shows : D → DiskState) (makes : D → DiskCall → D → Type 0) (board : List GuestConfig) (all : List Said) (old : D) (start : Option (List ℕ))
     (ended : Result (Unit {0}) Fault) (new : D) (now : Option (List ℕ)) : Type 0 where
   pub partitions : List Partition
   pub of_image : AreOf board (shows old) partitions
@@ -124,7 +124,7 @@ pub record IsRefused {D : Type 0} (shows : D → DiskState) (makes : D → DiskC
 -- Each moment of a run, of lines that were read.
 abbrev pub AnyMoment : {D : Type 0} → (D → DiskState) → (D → DiskCall → D → Type 0) → List GuestConfig → List Said → D → Option (List ℕ) → Result (Unit {0}) Fault → D → Option (List ℕ) → Type 0
 AnyMoment shows makes board all old start ended new now =
-    IsRefused shows makes old start ended new now ⊎ Runs shows makes board all old start ended new now
+    IsRefused shows makes old start ended new now ⊎ WholeRun shows makes board all old start ended new now
 
 -- and of a command that a fault ended
 abbrev pub FaultMoments : {D : Type 0} → (D → DiskState) → (D → DiskCall → D → Type 0) → Command → List GuestConfig → List ℕ → D → Option (List ℕ) → Fault → D → Option (List ℕ) → Type 0
