@@ -1,4 +1,4 @@
-//! A disk, by what reads give and what a stop may leave, and three disks.
+//! A disk, by what reads give and what a stop may leave, and four disks.
 #![tactic(auto)]
 
 mod bytes;
@@ -7,6 +7,7 @@ mod disk;
 mod file_disk;
 mod filler;
 mod filling;
+mod hook_disk;
 pub mod laws;
 mod mem_disk;
 mod positioned_file;
@@ -15,5 +16,6 @@ pub use cut_disk::CutDisk;
 pub use disk::{Disk, DiskFault, NoMemory};
 pub use file_disk::FileDisk;
 pub use filler::Filler;
+pub use hook_disk::{Hook, HookDisk};
 pub use mem_disk::MemDisk;
 pub use positioned_file::PositionedFile;
