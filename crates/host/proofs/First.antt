@@ -18,9 +18,11 @@ use Rattle.host.specs.Guest.{first_front, first_guests, views_of}
 use Rattle.host.specs.Host.{AreReady}
 use Rattle.host.specs.Moving.{Moves}
 use Rattle.host.specs.Opening.{IsFirstHost, IsJustOpened, started}
+use Rattle.host.specs.Reasons.{AreClear, AreGuestsOf}
 use Rattle.host.specs.Runner.{runner_of}
 use Rattle.host.specs.declared.front.Front.{Front}
 use Rattle.host.proofs.Hosts.{ready_all}
+use Rattle.host.proofs.Keeping.{first_guests_clear, first_guests_own}
 use Rattle.host.proofs.Moving.{still_moves}
 use Rattle.host.proofs.Starting.{all_started, length_started, none_started}
 
@@ -87,16 +89,19 @@ module _ {D : Type 0} (shows : D → DiskState) (config : List GuestConfig) (b :
     pub many_started : length fronts ≡ length b'.devices
     many_started = ap length fronts_is ∙ length-map config first_front ∙ sym (ap (λ v. length v.devices) is ∙ length_started 0 (length config) config)
 
+    views : views_of b'.devices b'.jobs fronts ≡ first_guests 0 config
+    views =
+        ap (λ v. views_of v.devices v.jobs fronts) is
+        ∙ ap (λ js. views_of (started 0 (length config) config) js fronts) jobs_are
+        ∙ ap (views_of (started 0 (length config) config) (replicate (length config) None)) fronts_is ∙ all_started 0 config
+
     pub first_host : IsBoard config → IsFirstHost config b (record { board = b'; fronts = fronts })
     first_host in_range = record {
       runner = ap runner_of is;
       store = ap (λ v. v.store) is;
-      ready = λ split.
-          let views : views_of b'.devices b'.jobs fronts ≡ first_guests 0 config =
-          ap (λ v. views_of v.devices v.jobs fronts) is
-          ∙ ap (λ js. views_of (started 0 (length config) config) js fronts) jobs_are
-          ∙ ap (views_of (started 0 (length config) config) (replicate (length config) None)) fronts_is ∙ all_started 0 config in
-          subst (AreReady 0 (replicate (length config) 1)) (sym views) (ready_all config in_range split);
+      ready = λ split. subst (AreReady 0 (replicate (length config) 1)) (sym views) (ready_all config in_range split);
+      own = subst (AreGuestsOf config) (sym views) (first_guests_own config);
+      clear = subst AreClear (sym views) (first_guests_clear config);
     }
 
     -- nothing but the devices moved

@@ -183,11 +183,11 @@ reset_of h guest g inside there steps sessions few are =
     }
 
 -- the guests of a board, from this number on
-length_first : (n : ℕ) (configs : List GuestConfig) → length (first_guests n configs) ≡ length configs
+pub length_first : (n : ℕ) (configs : List GuestConfig) → length (first_guests n configs) ≡ length configs
 length_first n [] = refl
 length_first n (c ∷ cs) = ap suc (length_first (n + 1) cs)
 
-first_there : (n k : ℕ) (configs : List GuestConfig) (g : GuestView) → slice_get (first_guests n configs) k ≡ Some g
+pub first_there : (n k : ℕ) (configs : List GuestConfig) (g : GuestView) → slice_get (first_guests n configs) k ≡ Some g
     → (config : GuestConfig) × (slice_get configs k ≡ Some config) × (g ≡ first_guest (n + k) config)
 first_there n k [] g there = cc
 first_there n zero (c ∷ cs) g there = (c, refl, (let is : first_guest n c ≡ g = cc in sym is ∙ ap (λ x. first_guest x c) (omega arith)))

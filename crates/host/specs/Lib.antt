@@ -6,6 +6,7 @@ pub mod Host
 pub mod Moving
 pub mod Opening
 pub mod Ready
+pub mod Reasons
 pub mod Runner
 pub mod Serving
 pub mod Spares

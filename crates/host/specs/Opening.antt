@@ -8,6 +8,7 @@ use Rattle.guest_driver.specs.Negotiation.{negotiated}
 use Rattle.board.specs.Opening.{Begins, first_devices}
 use Rattle.board.specs.State.{BoardState}
 use Rattle.host.specs.Host.{AreReady, HostState, seen}
+use Rattle.host.specs.Reasons.{AreClear, AreGuestsOf}
 use Rattle.host.specs.Runner.{runner_of}
 
 -- the devices of a board from guest n on, of which the first k are in service
@@ -27,3 +28,6 @@ pub record IsFirstHost {D : Type 0} (config : List GuestConfig) (b : BoardState 
   pub runner : runner_of h.board ≡ runner_of b
   pub store : h.board.store ≡ b.store
   pub ready : All (λ g. g.ring ≡ Split) config → AreReady 0 (replicate (length config) 1) (seen h).guests
+  -- its guests are the board's, whatever their rings
+  pub own : AreGuestsOf config (seen h).guests
+  pub clear : AreClear (seen h).guests

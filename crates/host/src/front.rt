@@ -6,6 +6,7 @@ ghost use Rattle.host.specs.Calm.{IsCalm};
 ghost use Rattle.host.specs.Guest.{StaysStuck, StoresIn, device_after_reset, first_front, front_after_reset, with_device};
 ghost use Rattle.host.specs.Moving.{Moves};
 ghost use Rattle.host.specs.Ready.{AnswersAt};
+ghost use Rattle.host.specs.Reasons.{ExplainedAt, IsSameFront};
 ghost use Rattle.host.specs.Serving.{Touches};
 ghost use Rattle.host.specs.Spares.{Passes};
 
@@ -113,6 +114,8 @@ impl Front {
         ensures touches { Touches D.state guest board.old board.new }
         ensures passes { Passes D.state D.makes guest (max 1 self.old.places) board.old board.new }
         ensures answer { AnswersAt guest self.old board.old readable.now writable result self.new board.new }
+        ensures reasons { ExplainedAt guest self.old board.old readable.now writable result self.new board.new }
+        ensures front { IsSameFront self.old self.new }
         ensures stuck { self.new.stuck ≡ self.old.stuck }
     {
         match self.driver.offer(board.device(guest), readable, writable) {
@@ -155,6 +158,8 @@ impl Front {
         ensures touches { Touches D.state guest board.old board.new }
         ensures passes { Passes D.state D.makes guest (max 1 self.old.places) board.old board.new }
         ensures answer { AnswersAt guest self.old board.old readable.now writable result self.new board.new }
+        ensures reasons { ExplainedAt guest self.old board.old readable.now writable result self.new board.new }
+        ensures front { IsSameFront self.old self.new }
         ensures stuck { StaysStuck self.old.stuck self.new.stuck result self.old self.new board.old board.new }
     {
         if let Some(stuck) = self.stuck {

@@ -8,6 +8,7 @@ ghost use Rattle.host.specs.Finishing.{Finishes};
 ghost use Rattle.host.specs.Host.{HostAnswers, HostChains, HostResets, HostResetsGuest, HostStores, seen};
 ghost use Rattle.host.specs.Moving.{Moves};
 ghost use Rattle.host.specs.Opening.{IsFirstHost, IsJustOpened};
+ghost use Rattle.host.specs.Reasons.{HostExplains, HostKeeps};
 ghost use Rattle.host.specs.Spares.{Spares, most_at};
 
 use crate::fault::HostFault;
@@ -93,6 +94,7 @@ impl<D: Disk> Host<D> {
         ensures keeps { is_broken self.new.board ≡ false → is_broken self.old.board ≡ false }
         ensures calm { IsCalm D.state self.new.board }
         ensures moves { Moves D.state D.makes self.old.board self.new.board }
+        ensures reasons { HostExplains (seen self.old) guest readable.now writable result (seen self.new) }
         ensures others { Spares guest (most_at (slice_get self.old.fronts guest)) self.old.board self.new.board }
     {
         let at = usize::from(guest);
@@ -107,6 +109,7 @@ impl<D: Disk> Host<D> {
     /// nothing changes.
     pub fn store(&mut self, guest: u16, at: u64, bytes: &[u8]) -> Result<(), HostFault>
         ensures guest { HostStores (seen self.old) guest at bytes.now result (seen self.new) }
+        ensures own { HostKeeps (seen self.old) (seen self.new) }
         ensures same { is_broken self.new.board ≡ is_broken self.old.board }
         ensures keeps { is_broken self.new.board ≡ false → is_broken self.old.board ≡ false }
         ensures calm { IsCalm D.state self.new.board }
@@ -123,6 +126,7 @@ impl<D: Disk> Host<D> {
     /// `Foreign` where there is no such guest; then nothing changes.
     pub fn reset(&mut self, guest: u16) -> Result<(), HostFault>
         ensures guest { HostResetsGuest (seen self.old) guest result (seen self.new) }
+        ensures own { HostKeeps (seen self.old) (seen self.new) }
         ensures ready { HostResets (seen self.old) guest result (seen self.new) }
         ensures same { is_broken self.new.board ≡ is_broken self.old.board }
         ensures keeps { is_broken self.new.board ≡ false → is_broken self.old.board ≡ false }

@@ -11,11 +11,16 @@ use Rattle.board.specs.declared.step.Step.TheVariants as board_step
 use Rattle.board.specs.declared.step.Seen.TheVariants.{Nothing}
 use Rattle.board.specs.declared.step.StepFault.TheVariants as fault
 use Rattle.host.specs.Calm.{IsCalm, is_broken}
+use Rattle.host.specs.Reasons.{HasReason, StepReason}
 use Rattle.host.specs.Runner.{runner_of}
 use Rattle.host.specs.Serving.{Where, ServesOne}
 use Rattle.host.specs.declared.fault.HostFault.{HostFault}
+use Rattle.host.specs.declared.fault.HostFault.TheVariants.{NoMemory}
+use Rattle.host.specs.declared.serving.Step.TheVariants as look
 use Rattle.host.proofs.Spares.{answered_passes, looked_passes}
-use Rattle.host.proofs.Looks.{done, left as left_there, over, comes_answered, comes_failed, comes_nothing, comes_refused, place_answered, place_left, touches_answered, touches_pop, touches_same, touches_twice, waits_then}
+use Rattle.host.proofs.Looks.{done, left as left_there, over, comes_answered, comes_failed, comes_nothing, comes_refused, place_answered, place_left, still_there, touches_answered, touches_pop, touches_same, touches_twice, waits_then}
+use Rattle.host.proofs.Popped.{popped_reset, popped_spoiled, popped_starved}
+use Rattle.host.proofs.Reasons.{because_answered, because_failed, because_nothing, because_refused}
 use Rattle.host.proofs.Serves.{submit_nothing, submit_refused}
 use Rattle.host.proofs.Steps.{refused_steps, reset_steps, starved_steps}
 use Rattle.host.proofs.Writes.{sound_next}
@@ -274,3 +279,78 @@ returns-clause-passes g c =
     b2 b3 b4 c.step-2.result c.step-3.result t.calm (done g.D.Disk.state n c.in-Ok.field-0 b b1 b2 b3 b4 c.step-3.result pops t.calm submits sound2) c.step-2.ensures.does c.step-2.ensures.linked c.step-2.ensures.moments
     _ (left_there g.D.Disk.state n c.in-Ok.field-0 b b1 b2 b3 b4 c.step-3.result pops t.calm submits sound2 c.settle_reply.ensures.leaves sound4 c.requires.there t.many c.step-3.ensures.does) c.settle_reply.ensures.moves (over g.D.Disk.state n c.in-Ok.field-0 b b1 b2 b3 b4 c.step-3.result pops t.calm submits sound2 c.settle_reply.ensures.leaves sound4 c.requires.there t.many c.step-3.ensures.does)
     c.step-3.ensures.does c.step-3.ensures.linked c.step-3.ensures.moments
+
+-- 7. Why it came to that, whatever the guest's rings hold
+
+pub returns-in-Err-Device-NoMemory-clause-reasons : goal.returns-in-Err-Device-NoMemory-clause-reasons
+returns-in-Err-Device-NoMemory-clause-reasons g c =
+    let b = c.args.board.now in
+    let b1 = c.step.new.self in
+    let w = c.in-Err-Device-NoMemory in
+    let is = w.is ∙ ap Err (w.field-0-is ∙ ap fault.Device w.field-0-0-is) in
+    because_failed c.args.guest (λ o r d' r'. StepReason o r (Err NoMemory) d' r') Starved b b1 (subst (λ r. PopsInto c.args.guest (slice_get b.jobs c.args.guest) (slice_get b.devices c.args.guest) r b b1) is c.step.ensures.does)
+    (λ d d' gives. (popped_starved d d' gives, λ o r. (tt, refl)))
+
+pub returns-in-Err-Device-Refused-clause-reasons : goal.returns-in-Err-Device-Refused-clause-reasons
+returns-in-Err-Device-Refused-clause-reasons g c =
+    let b = c.args.board.now in
+    let b1 = c.step.new.self in
+    let w = c.in-Err-Device-Refused in
+    let is = w.is ∙ ap Err (w.field-0-is ∙ ap fault.Device w.field-0-0-is) in
+    because_failed c.args.guest (λ o r d' r'. StepReason o r (Ok look.Stopped) d' r') (Spoiled w.field-0-0-0) b b1 (subst (λ r. PopsInto c.args.guest (slice_get b.jobs c.args.guest) (slice_get b.devices c.args.guest) r b b1) is c.step.ensures.does)
+    (λ d d' gives. (let p = popped_spoiled d d' w.field-0-0-0 gives in (p.popped, λ o r. (p.stopped, refl))))
+
+pub returns-in-Err-Device-NeedsReset-clause-reasons : goal.returns-in-Err-Device-NeedsReset-clause-reasons
+returns-in-Err-Device-NeedsReset-clause-reasons g c =
+    let b = c.args.board.now in
+    let b1 = c.step.new.self in
+    let w = c.in-Err-Device-NeedsReset in
+    let is = w.is ∙ ap Err (w.field-0-is ∙ ap fault.Device w.field-0-0-is) in
+    because_failed c.args.guest (λ o r d' r'. StepReason o r (Ok look.Stopped) d' r') NeedsReset b b1 (subst (λ r. PopsInto c.args.guest (slice_get b.jobs c.args.guest) (slice_get b.devices c.args.guest) r b b1) is c.step.ensures.does)
+    (λ d d' gives. (let p = popped_reset d d' gives in (p.popped, λ o r. (p.stopped, refl))))
+
+pub returns-in-Ok-Nothing-clause-reasons : goal.returns-in-Ok-Nothing-clause-reasons
+returns-in-Ok-Nothing-clause-reasons g c =
+    let b = c.args.board.now in
+    let b1 = c.step.new.self in
+    let b2 = c.step-2.new.self in
+    let n = c.args.guest in
+    let t = touches_pop g.D.Disk.state n c.step.result b b1 c.requires.calm c.step.ensures.does (sound_next g.D.Disk.state b b1 (λ a k. a k) c.requires.calm.sound c.step.ensures.linked) in
+    let at = counted g.D.Disk.state b b1 n t.calm c.requires.there t.many in
+    let is = c.in-Ok-Nothing.is ∙ ap Ok c.in-Ok-Nothing.field-0-is in
+    let q = nothing b1 b2 n at.0 at.1 (subst (λ r. SubmitsFrom n (in_place (slice_get b1.jobs n)) (slice_get b1.tallies n) r b1 b2) is c.step-2.ensures.does) in
+    because_nothing n c.in-Ok.field-0 b b1 b2 (subst (λ r. PopsInto n (slice_get b.jobs n) (slice_get b.devices n) r b b1) c.in-Ok.is c.step.ensures.does) q.0 q.1
+
+pub returns-in-Err-Book-step-clause-reasons : goal.returns-in-Err-Book-step-clause-reasons
+returns-in-Err-Book-step-clause-reasons g c =
+    let b = c.args.board.now in
+    let b1 = c.step.new.self in
+    let b2 = c.step-2.new.self in
+    let n = c.args.guest in
+    let t = touches_pop g.D.Disk.state n c.step.result b b1 c.requires.calm c.step.ensures.does (sound_next g.D.Disk.state b b1 (λ a k. a k) c.requires.calm.sound c.step.ensures.linked) in
+    let is = c.in-Err-Book-step.is ∙ ap Err c.in-Err-Book-step.field-0-is in
+    let told : HostFault → Type 0 = λ f. HasReason n (λ o r d' r'. StepReason o r (Err f) d' r') b b2 in
+    subst told (sym c.of.ensures) (because_refused g.D.Disk.state n c.in-Ok.field-0 c.in-Err-Book-step.refused b b1 b2
+    (subst (λ r. PopsInto n (slice_get b.jobs n) (slice_get b.devices n) r b b1) c.in-Ok.is c.step.ensures.does) t.calm (still_there g.D.Disk.state n b b1 t c.requires.there)
+    (subst (λ r. SubmitsFrom n (in_place (slice_get b1.jobs n)) (slice_get b1.tallies n) r b1 b2) is c.step-2.ensures.does))
+
+pub returns-clause-reasons : goal.returns-clause-reasons
+returns-clause-reasons g c =
+    let b = c.args.board.now in
+    let b1 = c.step.new.self in
+    let b2 = c.step-2.new.self in
+    let b3 = c.settle_reply.new.board in
+    let b4 = c.step-3.new.self in
+    let n = c.args.guest in
+    let t = touches_pop g.D.Disk.state n c.step.result b b1 c.requires.calm c.step.ensures.does (sound_next g.D.Disk.state b b1 (λ a k. a k) c.requires.calm.sound c.step.ensures.linked) in
+    let is = c.in-Ok-Did.is ∙ ap Ok c.in-Ok-Did.field-0-is in
+    let sound2 = sound_next g.D.Disk.state b1 b2 (λ a. accepted_after (board_step.Submit n) c.step-2.result b1 a) t.calm.sound c.step-2.ensures.linked in
+    let pops = subst (λ r. PopsInto n (slice_get b.jobs n) (slice_get b.devices n) r b b1) c.in-Ok.is c.step.ensures.does in
+    let submits = subst (λ r. SubmitsFrom n (in_place (slice_get b1.jobs n)) (slice_get b1.tallies n) r b1 b2) is c.step-2.ensures.does in
+    let waits = waits_then g.D.Disk.state n c.in-Ok.field-0 b b1 b2 b3 b4 c.step-3.result pops t.calm submits sound2 in
+    let left = c.settle_reply.ensures.leaves _ waits in
+    let sound4 = sound_next g.D.Disk.state b3 b4 (λ a k. a k) left.sound c.step-3.ensures.linked in
+    because_answered g.D.Disk.state n c.in-Ok.field-0 b b1 b2 b3 b4 pops t.calm (done g.D.Disk.state n c.in-Ok.field-0 b b1 b2 b3 b4 c.step-3.result pops t.calm submits sound2) _
+    (left_there g.D.Disk.state n c.in-Ok.field-0 b b1 b2 b3 b4 c.step-3.result pops t.calm submits sound2 c.settle_reply.ensures.leaves sound4 c.requires.there t.many c.step-3.ensures.does)
+    (over g.D.Disk.state n c.in-Ok.field-0 b b1 b2 b3 b4 c.step-3.result pops t.calm submits sound2 c.settle_reply.ensures.leaves sound4 c.requires.there t.many c.step-3.ensures.does)
+    (place_answered g.D.Disk.state n c.in-Ok.field-0 b b1 b2 b3 b4 c.step-3.result pops t.calm submits sound2 c.settle_reply.ensures.leaves sound4 c.requires.there t.many c.step-3.ensures.does)
