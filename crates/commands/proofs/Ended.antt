@@ -38,10 +38,10 @@ run_ends : (board : List GuestConfig) (script : List ℕ) (old new : DiskState) 
 run_ends board script old new (fault.BadScript line) good of = absurd of
 run_ends board script old new fault.NoMemory good of = tt
 run_ends board script old new fault.OutOfRange good of = (good, tt)
-run_ends board script old new fault.Busy good of = (good, tt)
+run_ends board script old new fault.Busy good of = absurd of
 run_ends board script old new fault.HistoryFull good of = (good, tt)
-run_ends board script old new fault.NoRoom good of = (good, tt)
-run_ends board script old new fault.Foreign good of = (good, tt)
+run_ends board script old new fault.NoRoom good of = absurd of
+run_ends board script old new fault.Foreign good of = absurd of
 run_ends board script old new fault.FileFault good of = (good, tt)
 run_ends board script old new fault.DiskFault good of = (good, of)
 run_ends board script old new fault.NotFormatted good of = (good, of)

@@ -1,5 +1,6 @@
 pub mod Lines
 pub mod Printing
+pub mod Reasons
 pub mod Telling
 pub mod Listed
 pub mod Ended

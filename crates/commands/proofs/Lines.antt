@@ -76,7 +76,7 @@ ready_ends was broke host.NoRoom g r r' guest session readable writable of fails
 ready_ends was broke host.Foreign g r r' guest session readable writable of fails = absurd of
 
 -- a guest stands at the place
-there_is : (guests : List GuestView) (n : ℕ) → n < length guests → (g : GuestView) × (slice_get guests n ≡ Some g)
+pub there_is : (guests : List GuestView) (n : ℕ) → n < length guests → (g : GuestView) × (slice_get guests n ≡ Some g)
 there_is [] n inside = absurd (omega (arith, inside))
 there_is (g ∷ guests) n inside = (_, slice_get-get_or (g ∷ guests) n g inside)
 

@@ -34,6 +34,7 @@ use Rattle.commands.specs.Ending.{IsOfOpening, IsOfRunning, LinesPrint, OpenedEn
 use Rattle.commands.specs.Failing.{WroteAll}
 use Rattle.commands.specs.Fault.{fault_of_image}
 use Rattle.commands.specs.Image.{Fails, Finishes, IsLastOf, IsOpened, Ran, Tells}
+use Rattle.commands.specs.Moments.{MovesTo}
 use Rattle.commands.specs.Running.{AreGuests, AreWithin, IsAt}
 use Rattle.commands.specs.Transcript.{AreSplit, StoresNothing, Told, first_cores, first_told, partitions_after, told_after, transcript}
 use Rattle.commands.specs.declared.fault.Fault.{Fault}
@@ -80,6 +81,7 @@ opened_host {D = D} shows makes board disk b h life begins stand whole_image unt
   whole = ap (λ s. s.broken) first.store ∙ ap (λ v. v.store.broken) begins.is ∙ begins.whole;
   untouched = subst (λ s. Within shows makes (Untouched (shows disk)) disk s.disk) (sym first.store) untouched;
   unfailed = ap (λ s. (shows s.disk).failures) first.store ∙ unfailed;
+  host = λ in_range. record { in_range = in_range; own = first.own; clear = first.clear };
 }
   where
     many : length begins.partitions ≡ length board
@@ -124,6 +126,11 @@ host_ends_badly shows makes h ended disk f ok =
     negated : (b : Bool) → false ≡ not b → b ≡ true
     negated true is = refl
     negated false is = absurd (cc)
+
+-- the last board of a host, and whether its calls went well
+pub moves_to : {D : Type 0} (shows : D → DiskState) (makes : D → DiskCall → D → Type 0) (h : HostState D) (ended : Result (Unit {0}) DiskFault) (r : Result (Unit {0}) Fault) (disk : D) → HostFinishes shows makes h ended disk
+    → is_ok r ≡ is_ok ended → MovesTo shows makes h.board r disk
+moves_to shows makes h ended r disk f same = record { last = f.last; moves = f.moves; disk = f.disk; told = same ∙ f.told ∙ ap not (sym f.finished.rests.listened.broken) }
 
 later_risen : (a b c : ℕ) → HasRisen a b → b ≤ c → HasRisen a c
 later_risen a b c (inl less) le = inl (omega (arith, less, le))
@@ -237,10 +244,10 @@ line_ended capacities old new fault.DiskFault of = absurd of
 line_ended capacities old new fault.NotFormatted of = absurd of
 line_ended capacities old new fault.OtherConfig of = absurd of
 line_ended capacities old new fault.OutOfRange of = tt
-line_ended capacities old new fault.Busy of = tt
+line_ended capacities old new fault.Busy of = absurd of
 line_ended capacities old new fault.HistoryFull of = tt
-line_ended capacities old new fault.NoRoom of = tt
-line_ended capacities old new fault.Foreign of = tt
+line_ended capacities old new fault.NoRoom of = absurd of
+line_ended capacities old new fault.Foreign of = absurd of
 line_ended capacities old new fault.BadBoard of = absurd of
 line_ended capacities old new fault.FileFault of = tt
 
@@ -252,10 +259,10 @@ line_printed board read old new fault.DiskFault start now of prints = absurd of
 line_printed board read old new fault.NotFormatted start now of prints = absurd of
 line_printed board read old new fault.OtherConfig start now of prints = absurd of
 line_printed board read old new fault.OutOfRange start now of prints = prints
-line_printed board read old new fault.Busy start now of prints = prints
+line_printed board read old new fault.Busy start now of prints = absurd of
 line_printed board read old new fault.HistoryFull start now of prints = prints
-line_printed board read old new fault.NoRoom start now of prints = prints
-line_printed board read old new fault.Foreign start now of prints = prints
+line_printed board read old new fault.NoRoom start now of prints = absurd of
+line_printed board read old new fault.Foreign start now of prints = absurd of
 line_printed board read old new fault.BadBoard start now of prints = absurd of
 line_printed board read old new fault.FileFault start now of prints = prints
 

@@ -1,10 +1,11 @@
 -- The moments of a run, line by line.
 use Rattle.std.proofs.Common.{◌≡◌, ◌⊎◌, ◌≤◌, ◌<◌, ◌+◌, ⊎_elim, inl, inr, ℕ, Bool, true, false, List, [], ◌∷◌, ◌++◌, Option, Some, Result, Ok, Err, length, map, refl, ap, sym, subst, ◌∙◌, arith}
-use Rattle.std.specs.Prelude.{get_or, slice_get}
+use Rattle.std.specs.Prelude.{get_or, is_ok, not, slice_get}
 use Rattle.std.proofs.lemmas.List.{append_assoc, append_cancel_right, append-nil}
 use Rattle.std.proofs.lemmas.Option.{get_or_from_slice_get, slice_get-get_or}
 use Rattle.std.proofs.KnownBytes.{Appends-kept, Appends-nil, Keeps-refl, Keeps-trans}
 use Rattle.std.specs.Io.KnownBytes.{Appends, Keeps}
+use Rattle.rpmb_frame.specs.Config.{IsBoard}
 use Rattle.rpmb_frame.specs.Partition.{Partition, sequence}
 use Rattle.rpmb_frame.specs.Request.{Request}
 use Rattle.rpmb_frame.specs.declared.config.GuestConfig.{GuestConfig}
@@ -27,11 +28,12 @@ use Rattle.host.specs.Host.{HostState, HostView, seen}
 use Rattle.host.specs.Moving.{Moves}
 use Rattle.host.proofs.Moving.{moves_none, moves_twice}
 use Rattle.host.proofs.Settled.{below}
-use Rattle.commands.specs.Ending.{IsOfRunning, KeepsUnless}
+use Rattle.commands.specs.Ending.{IsOfBeginning, IsOfOpening, IsOfReading, KeepsUnless}
 use Rattle.commands.specs.Failing.{IsFailedIn, text_when, told_when}
 use Rattle.commands.specs.Image.{Finishes, IsOpened}
 use Rattle.commands.specs.Moments.{AnyMoment, Begun, Comes, IsDone, IsRefused, IsTold, Leads, LinesCome, MayEnd, Moment, MovesTo, PrintsLine, WholeRun, Starts, Stopped, Trail, Walked, Went, moment_of}
-use Rattle.commands.specs.Running.{IsAt}
+use Rattle.commands.specs.Reasons.{NextEnds}
+use Rattle.commands.specs.Running.{AreWithin, IsAt}
 use Rattle.commands.specs.Transcript.{AreSplit, StoresNothing, first_told}
 use Rattle.commands.specs.declared.fault.Fault.{Fault}
 use Rattle.commands.specs.declared.fault.Fault.TheVariants as fault
@@ -124,27 +126,31 @@ walk_on shows makes board partitions all start first line rest b h now next walk
 -- 1. A whole run
 
 -- how lines that ended so may end a run
-may_end : (f : Fault) (rest : List Said) (last now next : Option (List ℕ)) → (f ≡ fault.DiskFault → ⊥) → KeepsUnless f last now → Keeps now next → MayEnd (Err f) rest last next
-may_end fault.FileFault rest last now next other kept more = tt
-may_end fault.DiskFault rest last now next other kept more = absurd (other refl)
-may_end (fault.BadScript line) rest last now next other kept more = Keeps-trans last now next kept more
-may_end fault.OutOfRange rest last now next other kept more = Keeps-trans last now next kept more
-may_end fault.NoMemory rest last now next other kept more = Keeps-trans last now next kept more
-may_end fault.NotFormatted rest last now next other kept more = Keeps-trans last now next kept more
-may_end fault.OtherConfig rest last now next other kept more = Keeps-trans last now next kept more
-may_end fault.Busy rest last now next other kept more = Keeps-trans last now next kept more
-may_end fault.HistoryFull rest last now next other kept more = Keeps-trans last now next kept more
-may_end fault.NoRoom rest last now next other kept more = Keeps-trans last now next kept more
-may_end fault.Foreign rest last now next other kept more = Keeps-trans last now next kept more
-may_end fault.BadBoard rest last now next other kept more = Keeps-trans last now next kept more
+may_end : (board : List GuestConfig) (f : Fault) (rest : List Said) (last now next : Option (List ℕ)) (broken : Bool) → NextEnds board f rest → KeepsUnless f last now → Keeps now next → MayEnd board (Err f) rest last next broken
+may_end board f [] last now next broken reason kept more = absurd reason
+may_end board fault.FileFault (line ∷ rest) last now next broken reason kept more = tt
+may_end board fault.OutOfRange (line ∷ rest) last now next broken reason kept more = (reason, Keeps-trans last now next kept more)
+may_end board fault.NoMemory (line ∷ rest) last now next broken reason kept more = (reason, Keeps-trans last now next kept more)
+may_end board fault.HistoryFull (line ∷ rest) last now next broken reason kept more = (reason, Keeps-trans last now next kept more)
+may_end board fault.DiskFault (line ∷ rest) last now next broken reason kept more = absurd reason
+may_end board (fault.BadScript n) (line ∷ rest) last now next broken reason kept more = absurd reason
+may_end board fault.NotFormatted (line ∷ rest) last now next broken reason kept more = absurd reason
+may_end board fault.OtherConfig (line ∷ rest) last now next broken reason kept more = absurd reason
+may_end board fault.Busy (line ∷ rest) last now next broken reason kept more = absurd reason
+may_end board fault.NoRoom (line ∷ rest) last now next broken reason kept more = absurd reason
+may_end board fault.Foreign (line ∷ rest) last now next broken reason kept more = absurd reason
+may_end board fault.BadBoard (line ∷ rest) last now next broken reason kept more = absurd reason
 
-module _ {D : Type 0} (shows : D → DiskState) (makes : D → DiskCall → D → Type 0) (board : List GuestConfig) (disk : D) (h : HostState D) (all : List Said) (start : Option (List ℕ)) (opened : IsOpened shows makes board disk h) where
+module _ {D : Type 0} (shows : D → DiskState) (makes : D → DiskCall → D → Type 0) (board : List GuestConfig) (disk : D) (h : HostState D) (read : List Line) (start : Option (List ℕ)) (opened : IsOpened shows makes board disk h) (within : AreWithin (length board) read) (in_range : IsBoard board) where
+  abbrev every : List Said
+  every = map said read
+
   abbrev first_of : Moment D
   first_of = moment_of (λ g. []) h.board start
 
   -- the lines are done, or one came to a fault, and calls came after them
-  whole_run : (ended : Result (Unit {0}) Fault) (rest : List Said) (b c : BoardState D) (printed now : Option (List ℕ)) (new : D) → Walked shows makes board opened.partitions all start first_of rest b printed
-      → Moves shows makes b c → new ≡ c.store.disk → MayEnd ended rest printed now → AnyMoment shows makes board all disk start ended new now
+  whole_run : (ended : Result (Unit {0}) Fault) (rest : List Said) (b c : BoardState D) (printed now : Option (List ℕ)) (new : D) → Walked shows makes board opened.partitions every start first_of rest b printed
+      → Moves shows makes b c → new ≡ c.store.disk → MayEnd board ended rest printed now c.store.broken → AnyMoment shows makes board every disk start ended new now
   whole_run ended rest b c printed now new walked moves is ends =
       let l = leads_by shows makes board opened.partitions walked.accepted b c printed now walked.linked moves in
       inr (record {
@@ -167,31 +173,33 @@ module _ {D : Type 0} (shows : D → DiskState) (makes : D → DiskCall → D �
       })
 
   starts : IsCalm shows h.board → Starts shows board opened.partitions h.board (seen h)
-  starts calm = record { calm = calm; whole = opened.whole; linked = opened.linked; ready = opened.ready; answered = opened.answered }
+  starts calm = record { calm = calm; whole = opened.whole; linked = opened.linked; ready = opened.ready; answered = opened.answered; host = opened.host in_range }
 
   -- all lines came to their end, and the calls after them
-  pub run_finished : (h' : HostState D) (r : Result (Unit {0}) Fault) (now next : Option (List ℕ)) (new : D) → IsCalm shows h.board → LinesCome shows makes all h.board (seen h) start (Ok tt) h'.board now
-      → Keeps now next → MovesTo shows makes h'.board new → ((f : Fault) → r ≡ Err f → f ≡ fault.DiskFault) → AnyMoment shows makes board all disk start r new next
-  run_finished h' r now next new calm come kept to only = whole_run r [] h'.board to.last now next new (come board opened.partitions (starts calm)) to.moves to.disk (ends r only)
+  pub run_finished : (h' : HostState D) (r : Result (Unit {0}) Fault) (now next : Option (List ℕ)) (new : D) → IsCalm shows h.board → LinesCome shows makes read h.board (seen h) start (Ok tt) h'.board now
+      → Keeps now next → MovesTo shows makes h'.board r new → ((f : Fault) → r ≡ Err f → f ≡ fault.DiskFault) → AnyMoment shows makes board every disk start r new next
+  run_finished h' r now next new calm come kept to only = whole_run r [] h'.board to.last now next new (come board opened.partitions (starts calm) within) to.moves to.disk (ends r only to.last.store.broken to.told)
     where
-      ends : (r : Result (Unit {0}) Fault) → ((f : Fault) → r ≡ Err f → f ≡ fault.DiskFault) → MayEnd r [] now next
-      ends (Ok x) only = (refl, kept)
-      ends (Err f) only = subst (λ e. MayEnd (Err e) [] now next) (sym (only f refl)) (refl, kept)
+      ends : (r : Result (Unit {0}) Fault) → ((f : Fault) → r ≡ Err f → f ≡ fault.DiskFault) → (broken : Bool) → is_ok r ≡ not broken → MayEnd board r [] now next broken
+      ends (Ok x) only false told = (refl, kept, refl)
+      ends (Ok x) only true told = absurd (cc)
+      ends (Err f) only true told = subst (λ e. MayEnd board (Err e) [] now next true) (sym (only f refl)) (refl, kept, refl)
+      ends (Err f) only false told = absurd (cc)
 
   -- a line came to a fault
-  pub run_stopped : (h' : HostState D) (f : Fault) (now next : Option (List ℕ)) (new : D) → IsCalm shows h.board → LinesCome shows makes all h.board (seen h) start (Err f) h'.board now
-      → Keeps now next → new ≡ h'.board.store.disk → (f ≡ fault.DiskFault → ⊥) → AnyMoment shows makes board all disk start (Err f) new next
-  run_stopped h' f now next new calm come kept is other =
-      let s = come board opened.partitions (starts calm) in
-      whole_run (Err f) s.rest s.before h'.board s.printed next new s.walked s.moves is (may_end f s.rest s.printed now next other s.silent kept)
+  pub run_stopped : (h' : HostState D) (f : Fault) (now next : Option (List ℕ)) (new : D) → IsCalm shows h.board → LinesCome shows makes read h.board (seen h) start (Err f) h'.board now
+      → Keeps now next → new ≡ h'.board.store.disk → AnyMoment shows makes board every disk start (Err f) new next
+  run_stopped h' f now next new calm come kept is =
+      let s = come board opened.partitions (starts calm) within in
+      whole_run (Err f) s.rest s.before h'.board s.printed next new s.walked s.moves is (may_end board f s.rest s.printed now next h'.board.store.broken s.reason s.silent kept)
 
   -- standard output took no more
-  pub run_unwritten : (h' : HostState D) (r : Result (Unit {0}) Fault) (now next : Option (List ℕ)) (new : D) → IsCalm shows h.board → LinesCome shows makes all h.board (seen h) start r h'.board now
-      → new ≡ h'.board.store.disk → AnyMoment shows makes board all disk start (Err fault.FileFault) new next
+  pub run_unwritten : (h' : HostState D) (r : Result (Unit {0}) Fault) (now next : Option (List ℕ)) (new : D) → IsCalm shows h.board → LinesCome shows makes read h.board (seen h) start r h'.board now
+      → new ≡ h'.board.store.disk → AnyMoment shows makes board every disk start (Err fault.FileFault) new next
   run_unwritten h' (Ok x) now next new calm come is =
-      whole_run (Err fault.FileFault) [] h'.board h'.board now next new (come board opened.partitions (starts calm)) (moves_none shows makes h'.board) is tt
+      whole_run (Err fault.FileFault) [] h'.board h'.board now next new (come board opened.partitions (starts calm) within) (moves_none shows makes h'.board) is tt
   run_unwritten h' (Err f) now next new calm come is =
-      let s = come board opened.partitions (starts calm) in
+      let s = come board opened.partitions (starts calm) within in
       whole_run (Err fault.FileFault) s.rest s.before h'.board s.printed next new s.walked s.moves is tt
 
 -- what the calls at the end may come to
@@ -199,15 +207,40 @@ pub finish_only : {D : Type 0} (shows : D → DiskState) (makes : D → DiskCall
 finish_only shows makes h (Ok x) d ended f is = absurd (cc)
 finish_only shows makes h (Err e) d ended f is = (let same : e ≡ f = cc in sym same ∙ ended.0)
 
--- a line comes to no failed call
-pub line_only : (f : Fault) → IsOfRunning f → f ≡ fault.DiskFault → ⊥
-line_only f of is = subst IsOfRunning is of
+-- why no line was run
+pub of_opening : (capacities : List ℕ) (old new : DiskState) (f : Fault) → IsOfOpening capacities old new f → IsOfBeginning f
+of_opening capacities old new (fault.BadScript line) of = absurd of
+of_opening capacities old new fault.NoMemory of = tt
+of_opening capacities old new fault.DiskFault of = tt
+of_opening capacities old new fault.NotFormatted of = tt
+of_opening capacities old new fault.OtherConfig of = tt
+of_opening capacities old new fault.OutOfRange of = absurd of
+of_opening capacities old new fault.Busy of = absurd of
+of_opening capacities old new fault.HistoryFull of = absurd of
+of_opening capacities old new fault.NoRoom of = absurd of
+of_opening capacities old new fault.Foreign of = absurd of
+of_opening capacities old new fault.BadBoard of = absurd of
+of_opening capacities old new fault.FileFault of = absurd of
+
+pub of_reading : (f : Fault) → IsOfReading f → IsOfBeginning f
+of_reading (fault.BadScript line) of = tt
+of_reading fault.NoMemory of = tt
+of_reading fault.DiskFault of = absurd of
+of_reading fault.NotFormatted of = absurd of
+of_reading fault.OtherConfig of = absurd of
+of_reading fault.OutOfRange of = absurd of
+of_reading fault.Busy of = absurd of
+of_reading fault.HistoryFull of = absurd of
+of_reading fault.NoRoom of = absurd of
+of_reading fault.Foreign of = absurd of
+of_reading fault.BadBoard of = absurd of
+of_reading fault.FileFault of = absurd of
 
 -- an image that wasn't opened
 pub run_refused : {D : Type 0} (shows : D → DiskState) (makes : D → DiskCall → D → Type 0) (board : List GuestConfig) (all : List Said) (disk new : D) (f : Fault) (start : Option (List ℕ))
-    → Within shows makes (Untouched (shows disk)) disk new → AnyMoment shows makes board all disk start (Err f) new start
-run_refused shows makes board all disk new f start moments = inl (record { fault = f; is = refl; moments = moments; silent = Keeps-refl start })
+    → IsOfBeginning f → Within shows makes (Untouched (shows disk)) disk new → AnyMoment shows makes board all disk start (Err f) new start
+run_refused shows makes board all disk new f start of moments = inl (record { fault = f; is = refl; reason = of; moments = moments; silent = Keeps-refl start })
 
 -- lines that weren't read
-pub run_unread : {D : Type 0} (shows : D → DiskState) (makes : D → DiskCall → D → Type 0) (board : List GuestConfig) (all : List Said) (disk : D) (f : Fault) (start : Option (List ℕ)) → AnyMoment shows makes board all disk start (Err f) disk start
-run_unread shows makes board all disk f start = run_refused shows makes board all disk disk f start (Still disk (untouched_here (shows disk)))
+pub run_unread : {D : Type 0} (shows : D → DiskState) (makes : D → DiskCall → D → Type 0) (board : List GuestConfig) (all : List Said) (disk : D) (f : Fault) (start : Option (List ℕ)) → IsOfBeginning f → AnyMoment shows makes board all disk start (Err f) disk start
+run_unread shows makes board all disk f start of = run_refused shows makes board all disk disk f start of (Still disk (untouched_here (shows disk)))

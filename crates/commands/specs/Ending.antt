@@ -39,15 +39,16 @@ IsShow (command.Show board) = Unit {0}
 abbrev pub IsReadable : List GuestConfig → List ℕ → Type 0
 IsReadable board script = first_bad (length board) (lines_of script) ≡ None
 
--- what a line may come to: a fault of its guest's host, want of memory, or of room on standard output
+-- what a line may come to: a store outside its guest's memory, want of memory, of room in the history, or of room on
+-- standard output
 abbrev pub IsOfRunning : Fault → Type 0
 IsOfRunning (fault.BadScript line) = ⊥
 IsOfRunning fault.OutOfRange = Unit {0}
 IsOfRunning fault.NoMemory = Unit {0}
-IsOfRunning fault.Busy = Unit {0}
+IsOfRunning fault.Busy = ⊥
 IsOfRunning fault.HistoryFull = Unit {0}
-IsOfRunning fault.NoRoom = Unit {0}
-IsOfRunning fault.Foreign = Unit {0}
+IsOfRunning fault.NoRoom = ⊥
+IsOfRunning fault.Foreign = ⊥
 IsOfRunning fault.FileFault = Unit {0}
 IsOfRunning fault.DiskFault = ⊥
 IsOfRunning fault.NotFormatted = ⊥
@@ -64,6 +65,15 @@ abbrev pub IsOfReading : Fault → Type 0
 IsOfReading (fault.BadScript line) = Unit {0}
 IsOfReading fault.NoMemory = Unit {0}
 IsOfReading f = ⊥
+
+-- why no line of a script is run: one is bad, or the image isn't opened
+abbrev pub IsOfBeginning : Fault → Type 0
+IsOfBeginning (fault.BadScript line) = Unit {0}
+IsOfBeginning fault.NoMemory = Unit {0}
+IsOfBeginning fault.DiskFault = Unit {0}
+IsOfBeginning fault.NotFormatted = Unit {0}
+IsOfBeginning fault.OtherConfig = Unit {0}
+IsOfBeginning f = ⊥
 
 -- why an image isn't opened
 abbrev pub IsOfOpening : List ℕ → DiskState → DiskState → Fault → Type 0

@@ -1,6 +1,7 @@
 -- The image that a run works on: what it stood for, and what it stands for afterwards.
 use Rattle.std.specs.Prelude.{◌≡◌, ◌⊎◌, ◌≤◌, ℕ, Bool, List, [], Option, Result, Ok, Err, length, true, false}
 use Rattle.std.specs.Io.KnownBytes.{Appends}
+use Rattle.rpmb_frame.specs.Config.{IsBoard}
 use Rattle.rpmb_frame.specs.Partition.{Partition}
 use Rattle.rpmb_frame.specs.declared.config.GuestConfig.{GuestConfig}
 use Rattle.disk.specs.Content.{Content}
@@ -17,6 +18,7 @@ use Rattle.host.specs.Host.{HostState, HostView, seen}
 use Rattle.host.specs.Moving.{Moves}
 use Rattle.host.specs.Runner.{runner_of}
 use Rattle.commands.specs.Listing.{AreHeld}
+use Rattle.commands.specs.Reasons.{IsHostOf}
 use Rattle.commands.specs.Running.{IsAt}
 use Rattle.commands.specs.Transcript.{AreSplit, Told, first_cores, first_told, output_of, partitions_after, told_after, transcript}
 use Rattle.commands.specs.declared.fault.Fault.{Fault}
@@ -50,6 +52,7 @@ pub record IsOpened {D : Type 0} (shows : D → DiskState) (makes : D → DiskCa
   pub whole : h.board.store.broken ≡ false
   pub untouched : Within shows makes (Untouched (shows disk)) disk h.board.store.disk
   pub unfailed : (shows h.board.store.disk).failures ≡ (shows disk).failures
+  pub host : IsBoard board → IsHostOf board (seen h)
 
 -- lines printed what the transcript says, and brought the host to the guests after them
 pub record Tells (t : Told) (lines : List Said) (start now : Option (List ℕ)) (h : HostView) : Type 0 where

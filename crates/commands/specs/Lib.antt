@@ -1,6 +1,7 @@
 pub mod Fault
 pub mod Image
 pub mod Transcript
+pub mod Reasons
 pub mod Running
 pub mod Listing
 pub mod Ending

@@ -1,5 +1,5 @@
 -- What a run leaves at each moment: what its lines had accepted, what of it no stop loses any more, and what they printed.
-use Rattle.std.specs.Prelude.{◌≡◌, ◌⊎◌, ◌≤◌, ◌<◌, ◌+◌, ℕ, Bool, true, false, List, [], ◌∷◌, ◌++◌, Option, Some, Result, Ok, Err, length, map, slice_get}
+use Rattle.std.specs.Prelude.{◌≡◌, ◌⊎◌, ◌≤◌, ◌<◌, ◌+◌, ℕ, Bool, true, false, not, is_ok, List, [], ◌∷◌, ◌++◌, Option, Some, Result, Ok, Err, length, map, slice_get}
 use Rattle.std.specs.Io.KnownBytes.{Appends, Keeps}
 use Rattle.rpmb_frame.specs.Partition.{Partition, sequence}
 use Rattle.rpmb_frame.specs.Request.{Request}
@@ -7,7 +7,8 @@ use Rattle.rpmb_frame.specs.declared.config.GuestConfig.{GuestConfig}
 use Rattle.rpmb_core.specs.Requests.{partition_after_all}
 use Rattle.disk.specs.Disk.{DiskCall, DiskState, HasRisen, Within}
 use Rattle.recovery.specs.Opening.{Untouched}
-use Rattle.script.specs.Line.{Said, nothing, chain, store, reset}
+use Rattle.script.specs.Line.{Said, nothing, chain, said, store, reset}
+use Rattle.script.specs.declared.line.Line.{Line}
 use Rattle.command_line.specs.declared.command.Command.{Command}
 use Rattle.command_line.specs.declared.command.Command.TheVariants as command
 use Rattle.board.specs.Board.{LeavesPrefixes, StaysLinked, marks_in}
@@ -17,10 +18,11 @@ use Rattle.host.specs.Calm.{IsCalm}
 use Rattle.host.specs.Host.{HostView}
 use Rattle.host.specs.Moving.{GoOn, Moves}
 use Rattle.host.specs.declared.front.Stuck.{Stuck}
-use Rattle.commands.specs.Ending.{KeepsUnless}
+use Rattle.commands.specs.Ending.{IsOfBeginning, KeepsUnless}
 use Rattle.commands.specs.Failing.{IsFailedIn, text_when, told_when}
 use Rattle.commands.specs.Image.{AreOf}
-use Rattle.commands.specs.Running.{IsAt}
+use Rattle.commands.specs.Reasons.{IsHostOf, NextEnds}
+use Rattle.commands.specs.Running.{AreWithin, IsAt}
 use Rattle.commands.specs.Transcript.{AreSplit, Says, StoresNothing, first_told, stuck_line, used_line}
 use Rattle.commands.specs.declared.fault.Fault.{Fault}
 use Rattle.commands.specs.declared.fault.Fault.TheVariants as fault
@@ -86,12 +88,13 @@ pub data Trail {D : Type 0} (shows : D → DiskState) (makes : D → DiskCall �
       → Leads shows makes board partitions m n → PrintsLine line m.printed n.printed → IsDone board partitions all start (done ++ line ∷ []) n
       → Trail shows makes board partitions all start first (done ++ line ∷ []) n
 
--- How the lines of a run ended: with the last one, which may be followed by a call that failed; or with one that came
--- to a fault, and printed nothing, unless standard output took no more.
-abbrev pub MayEnd : Result (Unit {0}) Fault → List Said → Option (List ℕ) → Option (List ℕ) → Type 0
-MayEnd (Ok done) rest last now = (rest ≡ []) × Keeps last now
-MayEnd (Err fault.DiskFault) rest last now = (rest ≡ []) × Keeps last now
-MayEnd (Err f) rest last now = KeepsUnless f last now
+-- How the lines of a run ended: with the last one, and whether a call of the disk has failed by the end says which status
+-- the run has; or with one that came to a fault, for a reason, and printed nothing; or since standard output took no more.
+abbrev pub MayEnd : List GuestConfig → Result (Unit {0}) Fault → List Said → Option (List ℕ) → Option (List ℕ) → Bool → Type 0
+MayEnd board (Ok done) rest last now broken = (rest ≡ []) × Keeps last now × (broken ≡ false)
+MayEnd board (Err fault.DiskFault) rest last now broken = (rest ≡ []) × Keeps last now × (broken ≡ true)
+MayEnd board (Err fault.FileFault) rest last now broken = Unit {0}
+MayEnd board (Err f) rest last now broken = NextEnds board f rest × Keeps last now
 
 -- The moments of a run over an image: those of its opening, which leaves all as it was; those of its lines; and those
 -- after the last line that was done.
@@ -112,12 +115,13 @@ pub record WholeRun {D : Type 0} (shows : D → DiskState) (makes : D → DiskCa
   pub after : Moment D
   pub leads : Leads shows makes board partitions last after
   pub disk : new ≡ after.disk
-  pub ends : MayEnd ended rest last.printed now
+  pub ends : MayEnd board ended rest last.printed now after.broken
 
 -- what an image that isn't opened leaves
 pub record IsRefused {D : Type 0} (shows : D → DiskState) (makes : D → DiskCall → D → Type 0) (old : D) (start : Option (List ℕ)) (ended : Result (Unit {0}) Fault) (new : D) (now : Option (List ℕ)) : Type 0 where
   pub fault : Fault
   pub is : ended ≡ Err fault
+  pub reason : IsOfBeginning fault
   pub moments : Within shows makes (Untouched (shows old)) old new
   pub silent : Keeps start now
 
@@ -145,6 +149,7 @@ pub record Starts {D : Type 0} (shows : D → DiskState) (board : List GuestConf
   pub linked : StaysLinked shows board (bases_of partitions) (λ g. []) b
   pub ready : AreSplit board → IsAt 0 (first_told board partitions) h
   pub answered : h.runner.answered ≡ 0
+  pub host : IsHostOf board h
 
 -- the lines before the rest are done
 pub record Walked {D : Type 0} (shows : D → DiskState) (makes : D → DiskCall → D → Type 0) (board : List GuestConfig) (partitions : List Partition) (all : List Said) (start : Option (List ℕ)) (first : Moment D)
@@ -164,18 +169,20 @@ pub record Stopped {D : Type 0} (shows : D → DiskState) (makes : D → DiskCal
   pub walked : Walked shows makes board partitions all start first rest before printed
   pub moves : Moves shows makes before b
   pub silent : KeepsUnless f printed now
+  pub reason : NextEnds board f rest
 
 -- what lines come to
 abbrev pub Comes : {D : Type 0} → (D → DiskState) → (D → DiskCall → D → Type 0) → List GuestConfig → List Partition → List Said → Option (List ℕ) → Moment D → Result (Unit {0}) Fault → BoardState D → Option (List ℕ) → Type 0
 Comes shows makes board partitions all start first (Ok done) b now = Walked shows makes board partitions all start first [] b now
 Comes shows makes board partitions all start first (Err f) b now = Stopped shows makes board partitions all start first f b now
 
-abbrev pub LinesCome : {D : Type 0} → (D → DiskState) → (D → DiskCall → D → Type 0) → List Said → BoardState D → HostView → Option (List ℕ) → Result (Unit {0}) Fault → BoardState D → Option (List ℕ) → Type 0
-LinesCome shows makes all old h start ended new now = (board : List GuestConfig) (partitions : List Partition) → Starts shows board partitions old h
-    → Comes shows makes board partitions all start (moment_of (λ g. []) old start) ended new now
+abbrev pub LinesCome : {D : Type 0} → (D → DiskState) → (D → DiskCall → D → Type 0) → List Line → BoardState D → HostView → Option (List ℕ) → Result (Unit {0}) Fault → BoardState D → Option (List ℕ) → Type 0
+LinesCome shows makes read old h start ended new now = (board : List GuestConfig) (partitions : List Partition) → Starts shows board partitions old h → AreWithin (length board) read
+    → Comes shows makes board partitions (map said read) start (moment_of (λ g. []) old start) ended new now
 
--- a host's last board, and its disk
-pub record MovesTo {D : Type 0} (shows : D → DiskState) (makes : D → DiskCall → D → Type 0) (old : BoardState D) (back : D) : Type 0 where
+-- a host's last board, and its disk; the calls went well exactly where none has failed
+pub record MovesTo {D : Type 0} (shows : D → DiskState) (makes : D → DiskCall → D → Type 0) (old : BoardState D) (ended : Result (Unit {0}) Fault) (back : D) : Type 0 where
   pub last : BoardState D
   pub moves : Moves shows makes old last
   pub disk : back ≡ last.store.disk
+  pub told : is_ok ended ≡ not last.store.broken

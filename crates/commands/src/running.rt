@@ -2,10 +2,12 @@
 ghost use Rattle.std.specs.Prelude.{◌≡◌, ℕ, All, List, Err, IfErr, IfOk, IsErr, OnOk, Some, false, length, map};
 ghost use Rattle.std.specs.Prelude.{string_bytes};
 ghost use Rattle.std.specs.Io.KnownBytes.{Appends, Keeps};
+ghost use Rattle.rpmb_frame.specs.Config.{IsBoard};
+ghost use Rattle.rpmb_frame.specs.declared.config.GuestConfig.{GuestConfig as GuestSetup};
 ghost use Rattle.disk.specs.Disk.{Within};
 ghost use Rattle.intent_slots.specs.Layout.{capacities_of};
 ghost use Rattle.recovery.specs.Opening.{Untouched};
-ghost use Rattle.script.specs.Line.{Said, chain, line_of, said};
+ghost use Rattle.script.specs.Line.{IsWithin, Said, chain, line_of, said};
 ghost use Rattle.script.specs.Script.{lines_of};
 ghost use Rattle.host.specs.Calm.{IsCalm, is_broken};
 ghost use Rattle.host.specs.Host.{seen};
@@ -14,6 +16,7 @@ ghost use Rattle.commands.specs.Ending.{IsOfOpening, IsOfReading, IsOfRunning, I
 ghost use Rattle.commands.specs.Failing.{Breaks, Runs, WroteAll};
 ghost use Rattle.commands.specs.Image.{Finishes, IsOpened, Ran};
 ghost use Rattle.commands.specs.Moments.{AnyMoment, LinesCome, MovesTo, PrintsLine};
+ghost use Rattle.commands.specs.Reasons.{IsHostOf, LineEnds};
 ghost use Rattle.commands.specs.Running.{AreGuests, AreWithin, Fails, IsAt, IsSized};
 ghost use Rattle.commands.specs.Transcript.{AreSplit, IsBadAt, Says, StoresNothing, Told, shown};
 ghost use Rattle.commands.specs.Transcript.{stuck_line, used_line};
@@ -86,6 +89,7 @@ fn read_lines(alloc: Global, script: &str, board: &BoardConfig) -> Result<Vec<Li
         ≡ map (line_of (length board.now)) (lines_of script.now)) }
     ensures sized { IfOk result (λ lines. All (λ line. IsSized (said line)) lines.items) }
     ensures within { IfOk result (λ lines. AreWithin (length board.now) lines.items) }
+    ensures in_range { IsBoard board.now }
     ensures bad { (n : ℕ) → result ≡ Err (Fault.BadScript n) → IsBadAt board.now script.now n }
     ensures reads { IfErr result IsOfReading }
 {
@@ -109,7 +113,8 @@ fn run_chain<D: Disk, W: Write>(
     ensures runs { OnOk result (Runs (is_broken host.old.board) (is_broken host.new.board) (seen host.old) (chain guest readable.now writable) (W.contents out.old) (W.contents out.new) (seen host.new)) }
     ensures keeps { is_broken host.new.board ≡ false → is_broken host.old.board ≡ false }
     ensures moves { Moves D.state D.makes host.old.board host.new.board }
-    ensures ends { IfErr result IsOfRunning }
+    ensures ends { IfErr result (λ fault. (board : List GuestSetup) → IsHostOf board (seen host.old) → IsWithin (length board) (chain guest readable.now writable) → LineEnds board fault (chain guest readable.now writable)) }
+    ensures hosts { OnOk result ((board : List GuestSetup) → IsHostOf board (seen host.old) → IsHostOf board (seen host.new)) }
     ensures fails { IfErr result (Fails (seen host.old) (chain guest readable.now writable)) }
     ensures breaks { Breaks (is_broken host.old.board) (is_broken host.new.board) (chain guest readable.now writable) }
     ensures silent { IfErr result (λ fault. KeepsUnless fault (W.contents out.old) (W.contents out.new)) }
@@ -134,7 +139,8 @@ fn run_line<D: Disk, W: Write>(
     ensures runs { OnOk result (Runs (is_broken host.old.board) (is_broken host.new.board) (seen host.old) (said line) (W.contents out.old) (W.contents out.new) (seen host.new)) }
     ensures keeps { is_broken host.new.board ≡ false → is_broken host.old.board ≡ false }
     ensures moves { Moves D.state D.makes host.old.board host.new.board }
-    ensures ends { IfErr result IsOfRunning }
+    ensures ends { IfErr result (λ fault. (board : List GuestSetup) → IsHostOf board (seen host.old) → IsWithin (length board) (said line) → LineEnds board fault (said line)) }
+    ensures hosts { OnOk result ((board : List GuestSetup) → IsHostOf board (seen host.old) → IsHostOf board (seen host.new)) }
     ensures fails { IfErr result (Fails (seen host.old) (said line)) }
     ensures breaks { Breaks (is_broken host.old.board) (is_broken host.new.board) (said line) }
     ensures silent { IfErr result (λ fault. KeepsUnless fault (W.contents out.old) (W.contents out.new)) }
@@ -171,8 +177,8 @@ fn run_lines<D: Disk, W: Write>(
         → WroteAll (is_broken host.new.board) t (map said lines.items) (W.contents out.old) (W.contents out.new) (seen host.new)) }
     ensures keeps { is_broken host.new.board ≡ false → is_broken host.old.board ≡ false }
     ensures moves { Moves D.state D.makes host.old.board host.new.board }
-    ensures ends { IfErr result IsOfRunning }
-    ensures moments { LinesCome D.state D.makes (map said lines.items) host.old.board (seen host.old) (W.contents out.old) result host.new.board (W.contents out.new) }
+    ensures ends { IfErr result (λ fault. (board : List GuestSetup) → IsHostOf board (seen host.old) → AreWithin (length board) lines.items → IsOfRunning fault) }
+    ensures moments { LinesCome D.state D.makes lines.items host.old.board (seen host.old) (W.contents out.old) result host.new.board (W.contents out.new) }
     ensures stopped { IfErr result (λ fault. is_broken host.old.board ≡ false → (seen host.old).runner.answered ≡ 0 → (guests : ℕ) → (t : Told) → IsAt 0 t (seen host.old) → AreGuests guests t
         → AreWithin guests lines.items → StoresNothing (map said lines.items)
         → WroteFirst fault (is_broken host.new.board) t (map said lines.items) (W.contents out.old) (W.contents out.new)) }
@@ -202,7 +208,7 @@ fn open_host<D: Disk>(alloc: Global, disk: D, board: &BoardConfig) -> Result<Hos
 /// Makes the calls of the disk that are left, once all lines are at their end.
 fn finish<D: Disk>(host: Host<D>) -> (Result<(), Fault>, D)
     ensures ended { Finishes D.state D.makes host result.0 result.1 }
-    ensures moves { MovesTo D.state D.makes host.board result.1 }
+    ensures moves { MovesTo D.state D.makes host.board result.0 result.1 }
 {
     match host.finish() {
         (disk, Ok(())) => (Ok(()), disk),
@@ -218,7 +224,9 @@ fn run_on<D: Disk, W: Write>(
     disk: D,
     out: &mut W,
 ) -> (Result<(), Fault>, D)
-    requires { All (λ line. IsSized (said line)) lines.items }
+    requires sized { All (λ line. IsSized (said line)) lines.items }
+    requires within { AreWithin (length board.now) lines.items }
+    requires in_range { IsBoard board.now }
     ensures ran { OnOk result.0 (AreSplit board.now → StoresNothing (map said lines.items)
         → Ran board.now (D.state disk) (D.state result.1) (map said lines.items) (W.contents out.old) (W.contents out.new)) }
     ensures ends { IfErr result.0 (OpenedEnds (capacities_of board.now) (D.state disk) (D.state result.1)) }

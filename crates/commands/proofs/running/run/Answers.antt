@@ -7,7 +7,7 @@ use Rattle.commands.specs.Transcript.{StoresNothing}
 use Rattle.commands.proofs.Ended.{all_run_ends, all_run_prints, none_ends, none_run}
 use Rattle.commands.proofs.Printing.{none_bad, not_bad, says_same}
 use Rattle.commands.specs.Moments.{AnyMoment}
-use Rattle.commands.proofs.Walking.{run_unread}
+use Rattle.commands.proofs.Walking.{of_reading, run_unread}
 use Rattle.commands.proofs.running.run.Goals as goal
 
 pub returns-in-Ok-clause-ran : goal.returns-in-Ok-clause-ran
@@ -47,4 +47,4 @@ returns-in-Ok-clause-moments g c lines is =
     (sym (says_same lines c.in-Ok.lines.items _ is c.in-Ok.ensures.ok)) c.run_on.ensures.moments
 
 pub returns-in-Err-clause-moments : goal.returns-in-Err-clause-moments
-returns-in-Err-clause-moments g c lines is = run_unread g.D.Disk.state g.D.Disk.makes c.args.board.now lines c.args.disk c.in-Err.fault (g.W.Write.contents c.args.out.now)
+returns-in-Err-clause-moments g c lines is = run_unread g.D.Disk.state g.D.Disk.makes c.args.board.now lines c.args.disk c.in-Err.fault (g.W.Write.contents c.args.out.now) (of_reading c.in-Err.fault c.in-Err.ensures.reads)

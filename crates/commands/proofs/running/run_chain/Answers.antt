@@ -1,12 +1,17 @@
-use Rattle.std.proofs.Common.{◌≡◌, Ok, subst, sym}
-use Rattle.script.specs.Line.{chain}
-use Rattle.std.proofs.lemmas.Result.{on_ok_weaker}
+use Rattle.std.proofs.Common.{◌≡◌, List, Ok, length, subst, sym}
+use Rattle.rpmb_frame.specs.declared.config.GuestConfig.{GuestConfig}
+use Rattle.script.specs.Line.{IsWithin, chain}
+use Rattle.std.proofs.lemmas.Result.{IfErr-weaker, on_ok_weaker}
 use Rattle.host.specs.Calm.{is_broken}
 use Rattle.host.specs.Host.{HostAnswers, seen}
 use Rattle.host.specs.declared.front.Answer.{Answer}
-use Rattle.host.specs.declared.front.Answer.TheVariants.{Used}
+use Rattle.host.specs.Reasons.{HostExplains}
+use Rattle.host.specs.declared.front.Answer.TheVariants.{Stuck, Used}
+use Rattle.commands.specs.Ending.{IsOfWriting}
+use Rattle.commands.specs.Reasons.{IsHostOf, LineEnds}
 use Rattle.commands.specs.Running.{Fails}
 use Rattle.commands.proofs.Lines.{chain_ends, stuck_runs, used_runs}
+use Rattle.commands.proofs.Reasons.{chain_hosts, chain_stops, writing_ends}
 use Rattle.commands.proofs.Until.{breaks_chain}
 use Rattle.commands.proofs.running.run_chain.Goals as goal
 
@@ -43,3 +48,32 @@ returns-in-Ok-Stuck-clause-breaks g c = breaks_chain (is_broken c.args.host.now.
 
 pub returns-in-Err-clause-breaks : goal.returns-in-Err-clause-breaks
 returns-in-Err-clause-breaks g c = breaks_chain (is_broken c.args.host.now.board) (is_broken c.chain.new.self.board) c.args.guest c.args.readable.now c.args.writable c.chain.ensures.keeps
+
+pub returns-in-Err-clause-ends : goal.returns-in-Err-clause-ends
+returns-in-Err-clause-ends g c board is within =
+    let of : _ → Type 0 = λ f. LineEnds board f (chain c.args.guest c.args.readable.now c.args.writable) in
+    subst of (sym c.of.ensures)
+    (chain_stops (is_broken c.args.host.now.board) (is_broken c.chain.new.self.board) board (seen c.args.host.now) (seen c.chain.new.self) c.args.guest c.args.readable.now c.args.writable c.in-Err.fault
+    c.in-Err.ensures.reasons c.in-Err.ensures.guest is within)
+
+pub returns-in-Ok-Used-clause-ends : goal.returns-in-Ok-Used-clause-ends
+returns-in-Ok-Used-clause-ends g c =
+    IfErr-weaker c.write_reply.result IsOfWriting (λ f. (board : List GuestConfig) → IsHostOf board (seen c.args.host.now) → IsWithin (length board) (chain c.args.guest c.args.readable.now c.args.writable) → LineEnds board f (chain c.args.guest c.args.readable.now c.args.writable))
+    (λ f of board is within. writing_ends board f c.args.guest c.args.readable.now c.args.writable of) c.write_reply.ensures.ends
+
+pub returns-in-Ok-Stuck-clause-ends : goal.returns-in-Ok-Stuck-clause-ends
+returns-in-Ok-Stuck-clause-ends g c =
+    IfErr-weaker c.write_stuck.result IsOfWriting (λ f. (board : List GuestConfig) → IsHostOf board (seen c.args.host.now) → IsWithin (length board) (chain c.args.guest c.args.readable.now c.args.writable) → LineEnds board f (chain c.args.guest c.args.readable.now c.args.writable))
+    (λ f of board is within. writing_ends board f c.args.guest c.args.readable.now c.args.writable of) c.write_stuck.ensures.ends
+
+pub returns-in-Ok-Used-clause-hosts : goal.returns-in-Ok-Used-clause-hosts
+returns-in-Ok-Used-clause-hosts g c =
+    let given : Answer → Type 0 = λ x. HostExplains (seen c.args.host.now) c.args.guest c.args.readable.now c.args.writable (Ok x) (seen c.chain.new.self) in
+    on_ok_weaker c.write_reply.result (λ printed board is. chain_hosts board (seen c.args.host.now) (seen c.chain.new.self) c.args.guest c.args.readable.now c.args.writable (Used c.in-Ok-Used.reply)
+    (subst given c.in-Ok-Used.field-0-is c.in-Ok-Used.ensures.reasons) is) c.write_reply.ensures.printed
+
+pub returns-in-Ok-Stuck-clause-hosts : goal.returns-in-Ok-Stuck-clause-hosts
+returns-in-Ok-Stuck-clause-hosts g c =
+    let given : Answer → Type 0 = λ x. HostExplains (seen c.args.host.now) c.args.guest c.args.readable.now c.args.writable (Ok x) (seen c.chain.new.self) in
+    on_ok_weaker c.write_stuck.result (λ printed board is. chain_hosts board (seen c.args.host.now) (seen c.chain.new.self) c.args.guest c.args.readable.now c.args.writable (Stuck c.in-Ok-Stuck.stuck)
+    (subst given c.in-Ok-Stuck.field-0-is c.in-Ok-Stuck.ensures.reasons) is) c.write_stuck.ensures.printed

@@ -1,12 +1,17 @@
-use Rattle.std.proofs.Common.{List, OnOk, refl, subst, sym}
-use Rattle.script.specs.Line.{chain, reset, said}
+use Rattle.std.proofs.Common.{List, OnOk, length, refl, subst, sym}
+use Rattle.std.specs.Prelude.{IfErr}
+use Rattle.rpmb_frame.specs.declared.config.GuestConfig.{GuestConfig}
+use Rattle.script.specs.Line.{IsWithin, chain, reset, said, store}
 use Rattle.script.specs.declared.line.Line.{Line}
 use Rattle.host.specs.Calm.{is_broken}
 use Rattle.host.specs.Host.{seen}
+use Rattle.commands.specs.declared.fault.Fault.{Fault}
 use Rattle.commands.specs.Failing.{Runs}
+use Rattle.commands.specs.Reasons.{IsHostOf, LineEnds}
 use Rattle.commands.specs.Running.{Fails}
 use Rattle.host.proofs.Moving.{moves_none}
 use Rattle.commands.proofs.Lines.{nothing_runs, reset_ends, reset_runs}
+use Rattle.commands.proofs.Reasons.{kept_hosts, reset_stops, store_stops}
 use Rattle.commands.proofs.Until.{breaks_none}
 use Rattle.commands.proofs.running.run_line.Goals as goal
 
@@ -58,3 +63,22 @@ returns-in-Ok-reset-clause-breaks g c = breaks_none (is_broken c.args.host.now.b
 
 pub returns-clause-breaks : goal.returns-clause-breaks
 returns-clause-breaks g c = breaks_none (is_broken c.args.host.now.board) (is_broken c.reset.new.self.board) (said c.args.line) c.reset.ensures.same
+
+pub returns-in-Chain-clause-ends : goal.returns-in-Chain-clause-ends
+returns-in-Chain-clause-ends g c =
+    let with : List _ → Type 0 = λ r. IfErr c.run_chain.result (λ f. (board : List GuestConfig) → IsHostOf board (seen c.args.host.now) → IsWithin (length board) (chain c.in-Chain.guest r c.in-Chain.writable) → LineEnds board f (chain c.in-Chain.guest r c.in-Chain.writable)) in
+    let of : Line → Type 0 = λ l. IfErr c.run_chain.result (λ f. (board : List GuestConfig) → IsHostOf board (seen c.args.host.now) → IsWithin (length board) (said l) → LineEnds board f (said l)) in
+    subst of (sym c.in-Chain.is) (subst with c.as_slice.ensures.value c.run_chain.ensures.ends)
+
+pub returns-in-Ok-clause-hosts : goal.returns-in-Ok-clause-hosts
+returns-in-Ok-clause-hosts g c board is = kept_hosts board (seen c.args.host.now) (seen c.store.new.self) c.store.ensures.own is
+
+pub returns-in-Ok-reset-clause-hosts : goal.returns-in-Ok-reset-clause-hosts
+returns-in-Ok-reset-clause-hosts g c board is = kept_hosts board (seen c.args.host.now) (seen c.reset.new.self) c.reset.ensures.own is
+
+pub returns-clause-ends : goal.returns-clause-ends
+returns-clause-ends g c board is within =
+    let of : Line → Type 0 = λ l. IsWithin (length board) (said l) → LineEnds board c.of-in-Err-reset.result (said l) in
+    let told : Fault → Type 0 = λ f. LineEnds board f (reset c.in-Reset.guest) in
+    (subst of (sym c.in-Reset.is) (λ inside. subst told (sym c.of-in-Err-reset.ensures)
+    (reset_stops board (seen c.args.host.now) (seen c.reset.new.self) c.in-Reset.guest c.in-Err-reset.fault c.in-Err-reset.ensures.guest is inside))) within

@@ -8,8 +8,10 @@ use Rattle.script.specs.declared.line.Line.{Line}
 use Rattle.host.specs.Calm.{is_broken}
 use Rattle.host.specs.Host.{seen}
 use Rattle.host.proofs.Moving.{moves_none, moves_twice}
+use Rattle.commands.specs.Reasons.{NextEnds}
 use Rattle.commands.specs.Running.{AreWithin, IsSized}
 use Rattle.commands.proofs.Printing.{head_within, none_left, rest_sized, rest_within}
+use Rattle.commands.proofs.Reasons.{of_running}
 use Rattle.commands.proofs.Stopped.{stop}
 use Rattle.commands.proofs.Until.{Stood, begin_whole, step, stood_all}
 use Rattle.commands.specs.Moments.{Walked, moment_of}
@@ -33,6 +35,7 @@ loop-line-init g c =
       (λ board partitions starts. subst (λ ls. Walked g.D.Disk.state g.D.Disk.makes board partitions all start (moment_of (λ k. []) c.args.host.now.board start) ls c.args.host.now.board start) (ap (map said) same)
           (walk_begins g.D.Disk.state g.D.Disk.makes board partitions c.args.host.now all start starts (λ split clean.
           subst (λ b. Stood b start start (first_told board partitions) (seen c.args.host.now) all all) (sym (sym starts.calm.broken ∙ starts.whole)) (begin_whole start (seen c.args.host.now) all (first_told board partitions) (starts.ready split) starts.answered clean)))),
+      (λ board is. is),
     )
 
 pub loop-line-preserved : goal.loop-line-preserved
@@ -65,6 +68,7 @@ loop-line-preserved g c =
           let t = first_told board partitions in
           let stood = subst (Stood (is_broken now.host.board) start here t (seen now.host) all) (ap (map said) rest) (now.invariant.4 (sym starts.calm.broken ∙ starts.whole) starts.answered t (starts.ready split) clean) in
           step (is_broken now.host.board) (is_broken c.run_line.new.host.board) start here next t (seen now.host) (seen c.run_line.new.host) all left (said c.in-Some.line) few c.run_line.ensures.breaks stood ran.runs)),
+      (λ board is. ran.hosts board (now.invariant.7 board is)),
     )
 
 pub returns-clause-told : goal.returns-clause-told
@@ -104,7 +108,7 @@ returns-in_err-run_line-clause-stopped g c =
     c.in_err-run_line.ensures.silent are one c.in_err-run_line.ensures.fails)
 
 pub returns-clause-moments : goal.returns-clause-moments
-returns-clause-moments g c board partitions starts =
+returns-clause-moments g c board partitions starts within =
     let now = c.loop-line in
     let all = map said c.args.lines.items in
     let start = g.W.Write.contents c.args.out.now in
@@ -116,12 +120,26 @@ returns-clause-moments g c board partitions starts =
 pub returns-in_err-run_line-clause-moments : goal.returns-in_err-run_line-clause-moments
 returns-in_err-run_line-clause-moments g c =
     let now = c.loop-line in
+    let rest = c.in-Some.ensures.steps.0 in
+    let left = c.next.new.self.rest.items in
     let p = err_from_is_err_and c.from_residual.result c.from_residual.ensures.1 in
-    rw (p.1, p.2) (λ board partitions starts. record {
+    rw (p.1, p.2) (λ board partitions starts within. record {
       rest = map said now.line-iterator.rest.items;
       before = now.host.board;
       printed = g.W.Write.contents now.out;
       walked = now.invariant.6 board partitions starts;
       moves = c.run_line.ensures.moves;
       silent = c.in_err-run_line.ensures.silent;
+      reason = subst (NextEnds board c.in_err-run_line.field-0.0) (sym (ap (map said) rest))
+          (c.in_err-run_line.ensures.ends board (now.invariant.7 board starts.host) (head_within (length board) c.in-Some.line left (subst (AreWithin (length board)) rest (now.invariant.1 (length board) within))));
     })
+
+pub returns-in_err-run_line-clause-ends : goal.returns-in_err-run_line-clause-ends
+returns-in_err-run_line-clause-ends g c =
+    let now = c.loop-line in
+    let rest = c.in-Some.ensures.steps.0 in
+    let left = c.next.new.self.rest.items in
+    let p = err_from_is_err_and c.from_residual.result c.from_residual.ensures.1 in
+    rw (p.1, p.2) (λ board is within.
+    of_running board c.in_err-run_line.field-0.0 (said c.in-Some.line)
+    (c.in_err-run_line.ensures.ends board (now.invariant.7 board is) (head_within (length board) c.in-Some.line left (subst (AreWithin (length board)) rest (now.invariant.1 (length board) within)))))

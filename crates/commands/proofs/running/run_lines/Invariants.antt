@@ -8,6 +8,7 @@ use Rattle.host.specs.Host.{seen}
 use Rattle.host.specs.Moving.{Moves}
 use Rattle.commands.specs.Transcript.{StoresNothing, Told}
 use Rattle.commands.specs.Moments.{Starts, Walked, moment_of}
+use Rattle.commands.specs.Reasons.{IsHostOf}
 use Rattle.commands.specs.Running.{AreWithin, IsAt, IsSized}
 use Rattle.commands.proofs.Until.{Stood}
 use Rattle.commands.proofs.running.run_lines.Given as goal
@@ -23,3 +24,4 @@ invariant-loop-line g l =
     × (IsCalm g.D.Disk.state l.fn.host.board → IsCalm g.D.Disk.state l.host.board)
     × ((board : List GuestConfig) (partitions : List Partition) → Starts g.D.Disk.state board partitions l.fn.host.board (seen l.fn.host)
     → Walked g.D.Disk.state g.D.Disk.makes board partitions (map said l.fn.lines.items) (g.W.Write.contents l.fn.out) (moment_of (λ k. []) l.fn.host.board (g.W.Write.contents l.fn.out)) (map said l.line-iterator.rest.items) l.host.board (g.W.Write.contents l.out))
+    × ((board : List GuestConfig) → IsHostOf board (seen l.fn.host) → IsHostOf board (seen l.host))

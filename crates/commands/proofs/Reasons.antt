@@ -1,0 +1,151 @@
+-- Which faults a line may come to.
+use Rattle.std.proofs.Common.{◌≡◌, ◌+◌, ◌<◌, ◌≤◌, ℕ, Bool, true, false, List, [], ◌∷◌, Option, Some, None, Ok, Err, ap, arith, length, refl, subst, sym, ◌∙◌}
+use Rattle.std.specs.Prelude.{All, nat_lt, slice_get}
+use Rattle.std.proofs.lemmas.Bool.Decides.{nat_tests}
+use Rattle.std.proofs.lemmas.Option.{get_or_from_slice_get, slice_get_within}
+use Rattle.rpmb_frame.specs.Config.{IsGuest}
+use Rattle.rpmb_frame.specs.Layout.{layout}
+use Rattle.rpmb_frame.specs.declared.config.GuestConfig.{GuestConfig}
+use Rattle.rpmb_frame.specs.declared.config.RingKind.{RingKind}
+use Rattle.rpmb_frame.specs.declared.config.RingKind.TheVariants.{Split}
+use Rattle.guest_memory.specs.Memory.{IsInside}
+use Rattle.mmio_transport.specs.declared.queue.QueueKind.{QueueKind}
+use Rattle.mmio_transport.specs.declared.queue.QueueKind.TheVariants.{Split as SplitQueue}
+use Rattle.guest_driver.specs.Driver.{HasTooFew, owner}
+use Rattle.guest_driver.specs.Kinds.{needed}
+use Rattle.script.specs.Line.{IsWithin, nothing, chain, store, reset}
+use Rattle.host.specs.Guest.{GuestView, StoresInto}
+use Rattle.host.specs.Host.{ChainsAt, HostChains, HostResetsGuest, HostStores, HostView, ResetsAt, StoresAt, StuckBy}
+use Rattle.host.specs.Reasons.{ChainReason, HostExplains, HostKeeps, IsGuestOf, ReasonAt}
+use Rattle.host.specs.Runner.{RunnerView}
+use Rattle.host.specs.declared.fault.HostFault.{HostFault}
+use Rattle.host.specs.declared.fault.HostFault.TheVariants as host
+use Rattle.host.specs.declared.front.Answer.{Answer}
+use Rattle.host.specs.declared.front.Stuck.{Stuck}
+use Rattle.script.specs.Line.{Said}
+use Rattle.commands.specs.Ending.{IsOfRunning, IsOfWriting}
+use Rattle.commands.specs.Fault.{fault_of}
+use Rattle.commands.specs.Reasons.{IsHostOf, IsOutside, LineEnds}
+use Rattle.commands.specs.Transcript.{AreSplit}
+use Rattle.commands.specs.declared.fault.Fault.{Fault}
+use Rattle.commands.specs.declared.fault.Fault.TheVariants as fault
+use Rattle.commands.proofs.Lines.{there_is}
+
+-- two descriptors that are free are enough
+enough : (owners : List (Option ℕ)) (two : Bool) → 2 ≤ length owners → ((d : ℕ) → owner owners d ≡ None) → HasTooFew owners two → ⊥
+enough owners false many free few = few 0 (omega arith) (omega (arith, many)) (free 0)
+enough owners true many free few = few 0 (omega (arith, many)) (free 0) 1 (omega arith) (omega (arith, many)) (free 1)
+
+-- a driver of a split ring has room for its areas
+roomy : (g : GuestConfig) (kind : QueueKind) (size bytes : ℕ) → IsGuest g → g.ring ≡ Split → kind ≡ SplitQueue → size ≡ g.queue → bytes ≡ g.memory → bytes < needed kind size → ⊥
+roomy g kind size bytes guest split is sized whole small =
+    let holds = subst (λ (k : RingKind). (layout k g.queue).length ≤ g.memory) split guest.holds_layout in
+    let less : g.memory < needed SplitQueue g.queue = subst (λ b. b < needed SplitQueue g.queue) whole (subst (λ q. bytes < needed SplitQueue q) sized (subst (λ k. bytes < needed k size) is small)) in
+    omega (arith, holds, less)
+
+-- a chain of one of the board's guests, which wasn't stuck
+chain_reason : (board : List GuestConfig) (f : HostFault) (g g' : GuestView) (r r' : RunnerView) (guest : ℕ) (readable : List ℕ) (writable : ℕ) → IsGuest g.device.config → (AreSplit board → g.device.config.ring ≡ Split)
+    → IsGuestOf board guest g → ((d : ℕ) → owner g.driver.owners d ≡ None) → ChainReason g r readable writable (Err f) g' r' → LineEnds board (fault_of f) (chain guest readable writable)
+chain_reason board host.OutOfRange g g' r r' guest readable writable ok split own free reason =
+    λ all. absurd (roomy g.device.config g.driver.kind g.driver.size (length g.device.memory) ok (split all) own.kind own.size own.memory reason.0)
+chain_reason board host.NoMemory g g' r r' guest readable writable ok split own free reason = tt
+chain_reason board host.Busy g g' r r' guest readable writable ok split own free reason = absurd reason
+chain_reason board host.HistoryFull g g' r r' guest readable writable ok split own free reason = tt
+chain_reason board host.NoRoom g g' r r' guest readable writable ok split own free reason =
+    let many = ok.queue.0 in
+    let owners = own.owners in
+    let size = own.size in
+    absurd (enough g.driver.owners _ (omega (arith, many, owners, size)) free reason.0)
+chain_reason board host.Foreign g g' r r' guest readable writable ok split own free reason = absurd reason
+
+-- what holds of each guest of a board
+guest_of : (board : List GuestConfig) (number : ℕ) (c : GuestConfig) (P : GuestConfig → Type 0) → All P board → slice_get board number ≡ Some c → P c
+guest_of board number c P each at = subst P (get_or_from_slice_get board number c c at) (each number c (slice_get_within board number c at))
+
+pub chain_stops : (was now : Bool) (board : List GuestConfig) (h h' : HostView) (guest : ℕ) (readable : List ℕ) (writable : ℕ) (f : HostFault) → HostExplains h guest readable writable (Err f) h'
+    → HostChains was now h guest readable writable (Err f) h' → IsHostOf board h → IsWithin (length board) (chain guest readable writable) → LineEnds board (fault_of f) (chain guest readable writable)
+chain_stops was now board h h' guest readable writable f explains chains is within =
+    let inside = within.0 in
+    let count = is.own.count in
+    let g = there_is h.guests guest (omega (arith, inside, count)) in
+    let e = explains board is.in_range is.own in
+    let own = is.own.each guest g.0 g.1 in
+    let c = subst (λ o. ChainsAt was now o h guest readable writable (Err f) h') g.1 chains in
+    by g.0 (slice_get h'.guests guest) g.0.stuck refl own (is.clear guest g.0 g.1)
+    (subst (λ o. ReasonAt o (slice_get h'.guests guest) h.runner readable writable (Err f) h'.runner) g.1 e.reason)
+    c.after c.stuck
+  where
+    by : (g : GuestView) (after : Option GuestView) (why : Option Stuck) → g.stuck ≡ why → IsGuestOf board guest g → (g.stuck ≡ None → (d : ℕ) → owner g.driver.owners d ≡ None)
+        → ReasonAt (Some g) after h.runner readable writable (Err f) h'.runner → (x : GuestView) → StuckBy was now g.stuck g (Err f) x h h' → LineEnds board (fault_of f) (chain guest readable writable)
+    by g after (Some why) same own clear reason x stuck = (let told = (subst (λ s. StuckBy was now s g (Err f) x h h') same stuck).0 in absurd (cc))
+    by g None None same own clear reason x stuck = absurd reason
+    by g (Some g') None same own clear reason x stuck =
+        chain_reason board f g g' h.runner h'.runner guest readable writable (guest_of board guest g.device.config IsGuest is.in_range.each own.config) (λ all. guest_of board guest g.device.config (λ c. c.ring ≡ Split) all own.config)
+        own (clear same) (reason.0 same)
+
+-- a store of one of the board's guests
+store_reason : (board : List GuestConfig) (f : HostFault) (g g' : GuestView) (guest at : ℕ) (bytes : List ℕ) → IsGuestOf board guest g → StoresInto g at bytes (Err f) g' → LineEnds board (fault_of f) (store guest at bytes)
+store_reason board f g g' guest at bytes own stores =
+    subst (λ e. LineEnds board (fault_of e) (store guest at bytes)) (sym stores.0) (λ split. subst (λ o. IsOutside o at (length bytes)) (sym own.config) (subst (λ n. n < at + length bytes) own.memory (past (length g.device.memory) (at + length bytes) stores.1)))
+  where
+    past : (whole end : ℕ) → ¬ (end ≤ whole) → whole < end
+    past whole end within = by (nat_lt whole end) refl
+      where
+        by : (less : Bool) → nat_lt whole end ≡ less → whole < end
+        by true is = grind (arith, nat_tests, is)
+        by false is = absurd (within (grind (arith, nat_tests, is)))
+
+pub store_stops : (board : List GuestConfig) (h h' : HostView) (guest at : ℕ) (bytes : List ℕ) (f : HostFault) → HostStores h guest at bytes (Err f) h' → IsHostOf board h → IsWithin (length board) (store guest at bytes)
+    → LineEnds board (fault_of f) (store guest at bytes)
+store_stops board h h' guest at bytes f stores is within =
+    let inside = within.0 in
+    let count = is.own.count in
+    let g = there_is h.guests guest (omega (arith, inside, count)) in
+    let s = subst (λ o. StoresAt o h guest at bytes (Err f) h') g.1 stores in
+    store_reason board f g.0 s.0 guest at bytes (is.own.each guest g.0 g.1) s.1
+
+pub reset_stops : (board : List GuestConfig) (h h' : HostView) (guest : ℕ) (f : HostFault) → HostResetsGuest h guest (Err f) h' → IsHostOf board h → IsWithin (length board) (reset guest) → LineEnds board (fault_of f) (reset guest)
+reset_stops board h h' guest f resets is within =
+    let count = is.own.count in
+    let g = there_is h.guests guest (omega (arith, within, count)) in
+    let r = subst (λ o. ResetsAt o h guest (Err f) h') g.1 resets in
+    absurd (cc)
+
+-- the guests stay the board's
+pub chain_hosts : (board : List GuestConfig) (h h' : HostView) (guest : ℕ) (readable : List ℕ) (writable : ℕ) (answer : Answer) → HostExplains h guest readable writable (Ok answer) h' → IsHostOf board h → IsHostOf board h'
+chain_hosts board h h' guest readable writable answer explains is =
+    let e = explains board is.in_range is.own in
+    record { in_range = is.in_range; own = e.own; clear = e.clear answer refl is.clear }
+
+pub kept_hosts : (board : List GuestConfig) (h h' : HostView) → HostKeeps h h' → IsHostOf board h → IsHostOf board h'
+kept_hosts board h h' keeps is = (let k = keeps board is.own in record { in_range = is.in_range; own = k.0; clear = k.1 is.clear })
+
+-- what one line comes to, a run may
+pub of_running : (board : List GuestConfig) (f : Fault) (line : Said) → LineEnds board f line → IsOfRunning f
+of_running board fault.FileFault line ends = tt
+of_running board fault.NoMemory line ends = tt
+of_running board fault.HistoryFull line ends = tt
+of_running board fault.OutOfRange line ends = tt
+of_running board fault.DiskFault line ends = absurd ends
+of_running board (fault.BadScript n) line ends = absurd ends
+of_running board fault.NotFormatted line ends = absurd ends
+of_running board fault.OtherConfig line ends = absurd ends
+of_running board fault.Busy line ends = absurd ends
+of_running board fault.NoRoom line ends = absurd ends
+of_running board fault.Foreign line ends = absurd ends
+of_running board fault.BadBoard line ends = absurd ends
+
+-- the writing of a chain's line
+pub writing_ends : (board : List GuestConfig) (f : Fault) (guest : ℕ) (readable : List ℕ) (writable : ℕ) → IsOfWriting f → LineEnds board f (chain guest readable writable)
+writing_ends board fault.FileFault guest readable writable of = tt
+writing_ends board fault.NoMemory guest readable writable of = tt
+writing_ends board fault.HistoryFull guest readable writable of = absurd of
+writing_ends board fault.OutOfRange guest readable writable of = absurd of
+writing_ends board fault.DiskFault guest readable writable of = absurd of
+writing_ends board (fault.BadScript n) guest readable writable of = absurd of
+writing_ends board fault.NotFormatted guest readable writable of = absurd of
+writing_ends board fault.OtherConfig guest readable writable of = absurd of
+writing_ends board fault.Busy guest readable writable of = absurd of
+writing_ends board fault.NoRoom guest readable writable of = absurd of
+writing_ends board fault.Foreign guest readable writable of = absurd of
+writing_ends board fault.BadBoard guest readable writable of = absurd of
