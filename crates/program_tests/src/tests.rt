@@ -1,4 +1,5 @@
 mod boards;
 mod performing;
 mod scripts;
+mod texts;
 mod words;

@@ -78,11 +78,34 @@ fn is_read(
 
 #[test]
 fn reads_boards(rt: HostRuntime) -> Result<(), Fail> {
-    for (text, count, last, image) in BOARDS {
-        assert!(rt; is_read(rt.alloc(), text, count, last, image)?, "at {text}");
+    for (text, count, last, image) in &BOARDS {
+        assert!(rt;
+            is_read(rt.alloc(), text, *count, *last, *image)?,
+            "at {text}"
+        );
     }
-    let many = ONE_GUEST.repeat(rt.alloc(), 64)?;
-    assert!(rt; is_read(rt.alloc(), many.as_str(), 64, DEFAULTS, None)?);
+    Ok(())
+}
+
+/// The board file of so many guests.
+fn many_guests(alloc: Global, count: usize) -> Result<String, Fail> {
+    Ok(ONE_GUEST.repeat(alloc, count)?)
+}
+
+fn reads_many(alloc: Global, count: usize) -> Result<bool, Fail> {
+    let text = many_guests(alloc, count)?;
+    is_read(alloc, text.as_str(), count, DEFAULTS, None)
+}
+
+fn refuses_many(alloc: Global, count: usize) -> Result<bool, Fail> {
+    let text = many_guests(alloc, count)?;
+    Ok(is_refused(alloc, text.as_str()))
+}
+
+#[test]
+fn reads_no_more_guests_than_64(rt: HostRuntime) -> Result<(), Fail> {
+    let is_right = reads_many(rt.alloc(), 64)? && refuses_many(rt.alloc(), 65)?;
+    assert!(rt; is_right);
     Ok(())
 }
 
@@ -143,27 +166,31 @@ fn is_refused_with(alloc: Global, line: &str) -> Result<bool, Fail> {
 
 #[test]
 fn refuses_boards(rt: HostRuntime) -> Result<(), Fail> {
-    for text in NO_BOARDS {
+    for text in &NO_BOARDS {
         assert!(rt; is_refused(rt.alloc(), text), "at {text}");
     }
-    for line in NO_LINES {
+    Ok(())
+}
+
+#[test]
+fn refuses_lines_of_a_guest(rt: HostRuntime) -> Result<(), Fail> {
+    for line in &NO_LINES {
         assert!(rt; is_refused_with(rt.alloc(), line)?, "at {line}");
     }
-    let many = ONE_GUEST.repeat(rt.alloc(), 65)?;
-    assert!(rt; is_refused(rt.alloc(), many.as_str()));
     Ok(())
 }
 
 // A guest that names its capacity alone is the one that other tests take.
+fn reads_capacity(alloc: Global, capacity: u8) -> Result<bool, Fail> {
+    let text = format!(in alloc; "[[guest]]\ncapacity = {capacity}\n")?;
+    let guest = GuestConfig::of_capacity(capacity);
+    is_read(alloc, text.as_str(), 1, guest, None)
+}
+
 #[test]
 fn reads_capacities_alone(rt: HostRuntime) -> Result<(), Fail> {
     for capacity in [1, 2, 128] {
-        let text = format!(in rt.alloc(); "[[guest]]\ncapacity = {capacity}\n")?;
-        let guest = GuestConfig::of_capacity(capacity);
-        assert!(rt;
-            is_read(rt.alloc(), text.as_str(), 1, guest, None)?,
-            "at {capacity}"
-        );
+        assert!(rt; reads_capacity(rt.alloc(), capacity)?, "at {capacity}");
     }
     Ok(())
 }

@@ -3,9 +3,10 @@ mod images;
 mod lines;
 mod runs;
 
+use super::texts::text_of;
 use command_line::Command;
 use commands::perform;
-use disk::{Disk, MemDisk};
+use disk::{CutDisk, Disk, MemDisk};
 use intent_slots::Layout;
 use rpmb_frame::{BoardConfig, GuestConfig};
 use std::alloc::Global;
@@ -21,6 +22,13 @@ const RUN: Command<'static> = Command::Run {
 const FORMAT: Command<'static> = Command::Format { board: "" };
 
 const SHOW: Command<'static> = Command::Show { board: "" };
+
+/// One guest of capacity 1.
+const ONE: &[u8] = &[1];
+
+const DISK_FAULT: &str = "rpmbd: 10 DiskFault\n";
+
+const FILE_FAULT: &str = "rpmbd: 21 FileFault\n";
 
 /// Performs a command on a disk, and gives the status and the disk. An image is made only on a disk of its
 /// length.
@@ -44,53 +52,50 @@ fn perform_on<D: Disk, W: Write, E: Write>(
     }
 }
 
-/// What a command ended with: the status, what it wrote on standard output and on standard error, and the
-/// disk.
+/// What a command told: the status, and what it wrote on standard output and on standard error.
 #[derive(Drop)]
-struct Ended<D: Disk> {
+struct Told {
     status: u8,
     out: Vec<u8>,
     err: Vec<u8>,
-    disk: D,
 }
 
-/// Performs a command on a disk.
+impl Told {
+    fn is(&self, status: u8, out: &str, err: &str) -> bool {
+        self.status == status
+            && self.out.as_slice() == out.as_bytes()
+            && self.err.as_slice() == err.as_bytes()
+    }
+}
+
+/// Performs a command on a disk, and gives the disk.
 fn performed<D: Disk>(
     alloc: Global,
     command: Command<'_>,
     board: &BoardConfig,
     script: &str,
     disk: D,
-) -> Result<Ended<D>, Fail> {
+) -> Result<(Told, D), Fail> {
     let mut out = Vec::new(alloc);
     let mut err = Vec::new(alloc);
     let (status, disk) = perform_on(alloc, command, board, script, disk, &mut out, &mut err)?;
-    Ok(Ended {
-        status,
-        out,
-        err,
-        disk,
-    })
+    Ok((Told { status, out, err }, disk))
 }
 
-/// A fresh image, on a disk that held other bytes.
-fn fresh(alloc: Global, board: &BoardConfig) -> Result<Vec<u8>, Fail> {
-    let content = vec![in alloc; 0xee; Layout::of(board).length() as usize]?;
-    let ended = performed(alloc, FORMAT, board, "", MemDisk::new(content))?;
-    Ok(ended.disk.content().to_vec(alloc)?)
+/// What a command left: what it told, the bytes of the disk, and how many of its calls failed. A disk is held
+/// in few functions, since it is dear to prove that it goes; the tests compare this.
+#[derive(Drop)]
+struct Left {
+    told: Told,
+    content: Vec<u8>,
+    failures: u64,
 }
 
-/// Runs a script on a fresh image.
-fn run_on<W: Write, E: Write>(
-    alloc: Global,
-    board: &BoardConfig,
-    script: &str,
-    out: &mut W,
-    err: &mut E,
-) -> Result<u8, Fail> {
-    let disk = MemDisk::new(fresh(alloc, board)?);
-    let (status, _) = perform_on(alloc, RUN, board, script, disk, out, err)?;
-    Ok(status)
+impl Left {
+    /// Whether the disk has these bytes, and so many of its calls failed.
+    fn has(&self, content: &[u8], failures: u64) -> bool {
+        self.content.as_slice() == content && self.failures == failures
+    }
 }
 
 /// The board of guests of these capacities, with the defaults of a board file in all else.
@@ -100,6 +105,101 @@ fn board_of(alloc: Global, capacities: &[u8]) -> Result<BoardConfig, Fail> {
         guests.push(GuestConfig::of_capacity(*capacity))?;
     }
     Ok(BoardConfig::new(guests)?)
+}
+
+/// What a command on a disk in memory leaves.
+fn left_of(
+    alloc: Global,
+    command: Command<'_>,
+    board: &BoardConfig,
+    script: &str,
+    content: Vec<u8>,
+) -> Result<Left, Fail> {
+    let (told, disk) = performed(alloc, command, board, script, MemDisk::new(content))?;
+    Ok(Left {
+        told,
+        content: disk.content().to_vec(alloc)?,
+        failures: disk.failures(),
+    })
+}
+
+/// What a command for guests of these capacities leaves, on a disk in memory with this content.
+fn left_by(
+    alloc: Global,
+    command: Command<'_>,
+    capacities: &[u8],
+    script: &str,
+    content: Vec<u8>,
+) -> Result<Left, Fail> {
+    let board = board_of(alloc, capacities)?;
+    left_of(alloc, command, &board, script, content)
+}
+
+/// A disk of which a call will fail.
+fn failing_disk(alloc: Global, content: &[u8], call: u64) -> Result<CutDisk, Fail> {
+    let mut disk = CutDisk::new(alloc, content.to_vec(alloc)?)?;
+    disk.fail(call);
+    Ok(disk)
+}
+
+/// What a command for one guest leaves of such a disk.
+fn left_of_failing(
+    alloc: Global,
+    command: Command<'_>,
+    board: &BoardConfig,
+    script: &str,
+    disk: CutDisk,
+) -> Result<Left, Fail> {
+    let (told, disk) = performed(alloc, command, board, script, disk)?;
+    Ok(Left {
+        told,
+        content: disk.content().to_vec(alloc)?,
+        failures: disk.failures(),
+    })
+}
+
+/// What a command for one guest leaves, on a disk with this content, of which this call fails.
+fn left_failing(
+    alloc: Global,
+    command: Command<'_>,
+    script: &str,
+    content: &[u8],
+    call: u64,
+) -> Result<Left, Fail> {
+    let board = board_of(alloc, ONE)?;
+    let disk = failing_disk(alloc, content, call)?;
+    left_of_failing(alloc, command, &board, script, disk)
+}
+
+/// A disk of the length of an image, with other bytes.
+fn other_bytes(alloc: Global, capacities: &[u8]) -> Result<Vec<u8>, Fail> {
+    let board = board_of(alloc, capacities)?;
+    Ok(vec![in alloc; 0xee; Layout::of(&board).length() as usize]?)
+}
+
+/// What `format` leaves of a disk that held other bytes.
+fn formatted(alloc: Global, capacities: &[u8]) -> Result<Left, Fail> {
+    let content = other_bytes(alloc, capacities)?;
+    left_by(alloc, FORMAT, capacities, "", content)
+}
+
+/// A fresh image.
+fn fresh(alloc: Global, capacities: &[u8]) -> Result<Vec<u8>, Fail> {
+    let made = formatted(alloc, capacities)?;
+    Ok(made.content)
+}
+
+/// Whether a run over a fresh image prints this, and ends with this fault, or with none where it is empty.
+fn run_ends(
+    alloc: Global,
+    capacities: &[u8],
+    script: &str,
+    out: &str,
+    fault: &str,
+) -> Result<bool, Fail> {
+    let image = fresh(alloc, capacities)?;
+    let left = left_by(alloc, RUN, capacities, script, image)?;
+    Ok(left.told.is(u8::from(!fault.is_empty()), out, fault))
 }
 
 /// A writer that takes so many bytes and then fails.
@@ -126,82 +226,119 @@ impl Write for Narrow {
     }
 }
 
+/// The status of a command on a fresh image of one guest.
+fn status_of<W: Write, E: Write>(
+    alloc: Global,
+    command: Command<'_>,
+    script: &str,
+    out: &mut W,
+    err: &mut E,
+) -> Result<u8, Fail> {
+    let board = board_of(alloc, ONE)?;
+    let disk = MemDisk::new(fresh(alloc, ONE)?);
+    let (status, _) = perform_on(alloc, command, &board, script, disk, out, err)?;
+    Ok(status)
+}
+
+/// Whether a command that may print so many bytes ends with a fault, and how many more it could print.
+fn ends_narrow(
+    alloc: Global,
+    command: Command<'_>,
+    script: &str,
+    room: usize,
+    fault: &str,
+) -> Result<Option<usize>, Fail> {
+    let mut out = Narrow { room };
+    let mut err = Vec::new(alloc);
+    let status = status_of(alloc, command, script, &mut out, &mut err)?;
+    let is_told = status == 1 && err.as_slice() == fault.as_bytes();
+    Ok(is_told.then_some(out.room))
+}
+
+/// The status of a run of which neither standard output nor standard error takes all.
+fn ends_silent(alloc: Global, script: &str, room: usize) -> Result<u8, Fail> {
+    status_of(
+        alloc,
+        RUN,
+        script,
+        &mut Narrow { room },
+        &mut Narrow { room: 7 },
+    )
+}
+
+/// Whether such a run ends with the fault of its output, also where that can't be told.
+fn ends_without_room(alloc: Global, script: &str, room: usize) -> Result<bool, Fail> {
+    let more = ends_narrow(alloc, RUN, script, room, FILE_FAULT)?;
+    Ok(more == Some(0) && ends_silent(alloc, script, room)? == 1)
+}
+
+/// A line has 11 bytes, so that the last one fits and only the flush fails.
+static ROOMS: [usize; 6] = [0, 5, 10, 11, 15, 22];
+
 #[test]
 fn ends_where_output_fails(rt: HostRuntime) -> Result<(), Fail> {
-    let alloc = rt.alloc();
-    let board = board_of(alloc, &[1])?;
-    // A line has 11 bytes, so that the last one fits and only the flush fails.
-    for room in [0, 5, 10, 11, 15, 22] {
-        let mut out = Narrow { room };
-        let mut err = Vec::new(alloc);
-        let script = "chain 0 - 16\nchain 0 - 16\n";
-        let status = run_on(alloc, &board, script, &mut out, &mut err)?;
-        assert_eq!(rt; status, 1, "at {room}");
-        assert_eq!(rt;
-            err.as_slice(),
-            b"rpmbd: 21 FileFault\n".as_slice(),
-            "at {room}"
-        );
-        let mut err = Narrow { room: 7 };
-        let status = run_on(alloc, &board, script, &mut Narrow { room }, &mut err)?;
-        assert_eq!(rt; status, 1, "at {room}");
+    let script = "chain 0 - 16\nchain 0 - 16\n";
+    for room in &ROOMS {
+        assert!(rt; ends_without_room(rt.alloc(), script, *room)?, "at {room}");
     }
     Ok(())
 }
+
+/// Whether a run that may print so many bytes, and of which the second line is refused, ends with a fault.
+fn ends_refused(alloc: Global, room: usize, fault: &str) -> Result<bool, Fail> {
+    let script = "chain 0 - 16\nstore 0 1048576 00\n";
+    let more = ends_narrow(alloc, RUN, script, room, fault)?;
+    Ok(more.is_some())
+}
+
+/// With room for the first line's 11 bytes alone the flush fails.
+static FAULTS: [(usize, &str); 2] = [(11, FILE_FAULT), (12, "rpmbd: 1 OutOfRange\n")];
 
 #[test]
 fn tells_lost_lines_before_another_fault(rt: HostRuntime) -> Result<(), Fail> {
-    let alloc = rt.alloc();
-    let board = board_of(alloc, &[1])?;
-    // The second line is refused. With room for the first one's 11 bytes alone the flush fails.
-    for (room, fault) in [(11, "rpmbd: 21 FileFault\n"), (12, "rpmbd: 1 OutOfRange\n")] {
-        let mut out = Narrow { room };
-        let mut err = Vec::new(alloc);
-        let script = "chain 0 - 16\nstore 0 1048576 00\n";
-        let status = run_on(alloc, &board, script, &mut out, &mut err)?;
-        assert_eq!(rt; status, 1, "at {room}");
-        assert_eq!(rt; err.as_slice(), fault.as_bytes(), "at {room}");
+    for (room, fault) in &FAULTS {
+        assert!(rt; ends_refused(rt.alloc(), *room, fault)?, "at {room}");
     }
     Ok(())
 }
 
-#[test]
-fn answers_a_full_board_and_a_full_history(rt: HostRuntime) -> Result<(), Fail> {
-    let alloc = rt.alloc();
-    let mut zeros = String::new(alloc);
-    for _ in 0..509 {
-        zeros.push_str("00")?;
+/// A line for each of 64 guests, whose number stands between these texts.
+fn of_each_guest(alloc: Global, start: &str, end: &str) -> Result<String, Fail> {
+    let mut text = String::new(alloc);
+    for guest in 0..64 {
+        text.push_str(format!(in alloc; "{start}{guest}{end}")?.as_str())?;
     }
-    zeros.push_str("010000")?;
-    // One request for each of 64 guests; as many as a history holds; and one more.
-    for (guests, lines, writable, line, status, fault) in [
-        (64usize, 64usize, 512, "512 ", 0, ""),
-        (1, 16_384, 16, "0 -", 0, ""),
-        (1, 16_385, 16, "0 -", 1, "rpmbd: 15 HistoryFull\n"),
-    ] {
-        let board = board_of(alloc, &[1; 64][..guests])?;
-        let mut script = String::new(alloc);
-        let mut want = String::new(alloc);
-        for number in 0..lines {
-            let guest = number % guests;
-            script.push_str(format!(in alloc; "chain {guest} - {writable}\n")?.as_str())?;
-            if number < 16_384 {
-                want.push_str(format!(in alloc; "used {guest} {line}")?.as_str())?;
-                if writable == 512 {
-                    want.push_str(zeros.as_str())?;
-                }
-                want.push('\n')?;
-            }
-        }
-        let mut out = Vec::new(alloc);
-        let mut err = Vec::new(alloc);
-        let found = run_on(alloc, &board, script.as_str(), &mut out, &mut err)?;
-        assert_eq!(rt; found, status, "at {guests} and {lines}");
-        assert!(rt;
-            out.as_slice() == want.as_bytes(),
-            "at {guests} and {lines}"
-        );
-        assert_eq!(rt; err.as_slice(), fault.as_bytes(), "at {guests} and {lines}");
+    Ok(text)
+}
+
+/// Whether a request of each of 64 guests is answered.
+fn answers_each_guest(alloc: Global) -> Result<bool, Fail> {
+    let script = of_each_guest(alloc, "chain ", " - 512\n")?;
+    let end = text_of(alloc, &[(" 512 ", 1), ("00", 509), ("010000\n", 1)])?;
+    let out = of_each_guest(alloc, "used ", end.as_str())?;
+    run_ends(alloc, &[1; 64], script.as_str(), out.as_str(), "")
+}
+
+/// Whether so many requests of one guest are answered as far as a history goes, and the run ends so.
+fn answers_one_guest(alloc: Global, lines: usize, fault: &str) -> Result<bool, Fail> {
+    let script = text_of(alloc, &[("chain 0 - 16\n", lines)])?;
+    let out = text_of(alloc, &[("used 0 0 -\n", 16_384)])?;
+    run_ends(alloc, ONE, script.as_str(), out.as_str(), fault)
+}
+
+#[test]
+fn answers_a_full_board(rt: HostRuntime) -> Result<(), Fail> {
+    assert!(rt; answers_each_guest(rt.alloc())?);
+    Ok(())
+}
+
+/// As many requests as a history holds, and one more.
+static HISTORIES: [(usize, &str); 2] = [(16_384, ""), (16_385, "rpmbd: 15 HistoryFull\n")];
+
+#[test]
+fn answers_a_full_history(rt: HostRuntime) -> Result<(), Fail> {
+    for (lines, fault) in &HISTORIES {
+        assert!(rt; answers_one_guest(rt.alloc(), *lines, fault)?, "at {lines}");
     }
     Ok(())
 }

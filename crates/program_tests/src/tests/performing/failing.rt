@@ -1,7 +1,9 @@
 //! Runs over a disk of which one call fails, and what a stop after them leaves.
 
-use super::lines::{LINES, listing, script_of, told, told_failing};
-use super::{RUN, SHOW, board_of, fresh, performed};
+use super::lines::{LISTINGS, Part, WHOLE, script_of, told_by};
+use super::runs::refuses;
+use super::{DISK_FAULT, ONE, RUN, SHOW, Told, board_of, failing_disk, fresh, performed};
+use crate::tests::texts::is_text;
 use disk::{CutDisk, Disk, Filler};
 use rpmb_frame::BoardConfig;
 use std::alloc::Global;
@@ -24,17 +26,24 @@ static CALLS: [(u64, u64, usize, usize); 4] = [
     (27, 31, 7, 3),
 ];
 
-/// A disk with a fresh image, of which a call will fail.
-fn failing_disk(alloc: Global, board: &BoardConfig, call: u64) -> Result<CutDisk, Fail> {
-    let mut disk = CutDisk::new(alloc, fresh(alloc, board)?)?;
-    disk.fail(call);
-    Ok(disk)
+/// Lines that are run over a disk of which a call fails, and what is wanted of them.
+#[derive(Clone, Copy)]
+struct Failing {
+    part: Part,
+    /// What stands in the script after the lines.
+    more: &'static str,
+    call: u64,
+    /// What a stop leaves: a number that picks the filler.
+    stop: u64,
+    fault: &'static str,
+    failures: u64,
+    /// How many of the key and the writes are settled.
+    settled: usize,
 }
 
-/// What a stop leaves after this call: what the last sync left, what reads give, or bytes that shut gates or
-/// open them.
-fn filler_at(alloc: Global, call: u64) -> Result<Filler, Fail> {
-    match call % 4 {
+/// What a stop leaves: what the last sync left, what reads give, or bytes that shut gates or open them.
+fn filler_of(alloc: Global, stop: u64) -> Result<Filler, Fail> {
+    match stop % 4 {
         0 => Ok(Filler::Old),
         1 => Ok(Filler::New),
         2 => Ok(Filler::Fill(Vec::new(alloc))),
@@ -52,55 +61,99 @@ fn shown_after(
     let mut disk = disk;
     disk.cut(filler);
     disk.fail(0);
-    let shown = performed(alloc, SHOW, board, "", disk)?;
+    let (shown, _) = performed(alloc, SHOW, board, "", disk)?;
     if shown.status != 0 {
         return Err("refused").map_err(Fail::from);
     }
     Ok(shown.out)
 }
 
-/// Whether a stop of this disk leaves so many of the key and the writes, or one more.
-fn leaves(
+/// What a run told, how many calls of its disk failed, and what `show` prints after a stop.
+#[derive(Drop)]
+struct Stopped {
+    told: Told,
+    failures: u64,
+    shown: Vec<u8>,
+}
+
+/// Runs a script over a disk, and stops.
+fn run_and_stop(
     alloc: Global,
     board: &BoardConfig,
+    script: &str,
     disk: CutDisk,
     filler: &Filler,
-    settled: usize,
-) -> Result<bool, Fail> {
-    let shown = shown_after(alloc, board, disk, filler)?;
-    let least = listing(alloc, settled)?;
-    let next = listing(alloc, settled.saturating_add(1))?;
-    Ok(shown.as_slice() == least.as_bytes() || shown.as_slice() == next.as_bytes())
+) -> Result<Stopped, Fail> {
+    let (told, disk) = performed(alloc, RUN, board, script, disk)?;
+    Ok(Stopped {
+        told,
+        failures: disk.failures(),
+        shown: shown_after(alloc, board, disk, filler)?,
+    })
 }
 
-/// What is printed where a call fails after so many lines were told.
-fn wanted(alloc: Global, lines: usize) -> Result<String, Fail> {
-    let (before, after) = LINES.split_at(lines.min(LINES.len()));
-    let mut text = told(alloc, before)?;
-    text.push_str(told_failing(alloc, after)?.as_str())?;
-    Ok(text)
+/// The same over a fresh image, of which a call fails.
+fn stopped_at(alloc: Global, script: &str, call: u64, filler: &Filler) -> Result<Stopped, Fail> {
+    let board = board_of(alloc, ONE)?;
+    let disk = failing_disk(alloc, fresh(alloc, ONE)?.as_slice(), call)?;
+    run_and_stop(alloc, &board, script, disk, filler)
 }
 
-/// Whether a run of which this call fails prints what is wanted, tells the fault, and leaves, after a stop,
-/// what was settled.
-fn fails_at(alloc: Global, call: u64, lines: usize, settled: usize) -> Result<bool, Fail> {
-    let board = board_of(alloc, &[1])?;
-    let disk = failing_disk(alloc, &board, call)?;
-    let script = script_of(alloc, &LINES)?;
-    let ended = performed(alloc, RUN, &board, script.as_str(), disk)?;
-    let is_told = ended.status == 1
-        && ended.err.as_slice() == b"rpmbd: 10 DiskFault\n".as_slice()
-        && ended.out.as_slice() == wanted(alloc, lines)?.as_bytes()
-        && ended.disk.failures() == 1;
-    let filler = filler_at(alloc, call)?;
-    Ok(is_told && leaves(alloc, &board, ended.disk, &filler, settled)?)
+impl Failing {
+    fn stopped(self, alloc: Global) -> Result<Stopped, Fail> {
+        let script = script_of(alloc, self.part, self.more)?;
+        let filler = filler_of(alloc, self.stop)?;
+        stopped_at(alloc, script.as_str(), self.call, &filler)
+    }
+
+    /// Whether a stop leaves what is settled, or one more of the key and the writes.
+    fn may_leave(self, alloc: Global, shown: &[u8]) -> Result<bool, Fail> {
+        let next = self.settled.saturating_add(1);
+        Ok(lists(alloc, shown, self.settled)? || lists(alloc, shown, next)?)
+    }
+
+    /// Whether a run prints what is wanted, ends with its fault, or with none where that is empty, and leaves,
+    /// after a stop, what was settled.
+    fn ends(self, alloc: Global) -> Result<bool, Fail> {
+        let stopped = self.stopped(alloc)?;
+        let out = told_by(alloc, self.part)?;
+        let status = u8::from(!self.fault.is_empty());
+        let is_told = stopped.told.is(status, out.as_str(), self.fault);
+        Ok(
+            is_told
+                && stopped.failures == self.failures
+                && self.may_leave(alloc, stopped.shown.as_slice())?,
+        )
+    }
+}
+
+/// Whether `show` printed so many of the key and the writes, or all where there are fewer.
+fn lists(alloc: Global, shown: &[u8], count: usize) -> Result<bool, Fail> {
+    is_text(alloc, shown, LISTINGS[count.min(3)])
+}
+
+/// Whether a run of which this call fails ends so.
+fn fails_at(alloc: Global, call: u64, told: usize, settled: usize) -> Result<bool, Fail> {
+    let run = Failing {
+        part: Part {
+            held_at: told,
+            ..WHOLE
+        },
+        more: "",
+        call,
+        stop: call,
+        fault: DISK_FAULT,
+        failures: 1,
+        settled,
+    };
+    run.ends(alloc)
 }
 
 #[test]
 fn fails_at_each_call_in_turn(rt: HostRuntime) -> Result<(), Fail> {
-    for (first, last, lines, settled) in &CALLS {
+    for (first, last, told, settled) in &CALLS {
         for call in *first..=*last {
-            assert!(rt; fails_at(rt.alloc(), call, *lines, *settled)?, "at {call}");
+            assert!(rt; fails_at(rt.alloc(), call, *told, *settled)?, "at {call}");
         }
     }
     Ok(())
@@ -108,15 +161,15 @@ fn fails_at_each_call_in_turn(rt: HostRuntime) -> Result<(), Fail> {
 
 /// Whether a run of which this call of the opening fails prints nothing, and writes nothing.
 fn fails_to_open_at(alloc: Global, call: u64) -> Result<bool, Fail> {
-    let board = board_of(alloc, &[1])?;
-    let disk = failing_disk(alloc, &board, call)?;
-    let script = script_of(alloc, &LINES)?;
-    let ended = performed(alloc, RUN, &board, script.as_str(), disk)?;
-    Ok(
-        ended.status == 1
-            && ended.err.as_slice() == b"rpmbd: 10 DiskFault\n".as_slice()
-            && ended.out.is_empty()
-            && ended.disk.content() == fresh(alloc, &board)?.as_slice(),
+    let script = script_of(alloc, WHOLE, "")?;
+    let image = fresh(alloc, ONE)?;
+    refuses(
+        alloc,
+        script.as_str(),
+        image.as_slice(),
+        call,
+        DISK_FAULT,
+        1,
     )
 }
 
@@ -128,47 +181,54 @@ fn fails_within_the_opening(rt: HostRuntime) -> Result<(), Fail> {
     Ok(())
 }
 
-/// Whether a run succeeds that has no such call, and what it did is settled.
-fn ends_before(alloc: Global, call: u64) -> Result<bool, Fail> {
-    let board = board_of(alloc, &[1])?;
-    let disk = failing_disk(alloc, &board, call)?;
-    let script = script_of(alloc, &LINES)?;
-    let ended = performed(alloc, RUN, &board, script.as_str(), disk)?;
-    let is_told = ended.status == 0
-        && ended.err.is_empty()
-        && ended.out.as_slice() == told(alloc, &LINES)?.as_bytes()
-        && ended.disk.failures() == 0;
-    Ok(is_told && leaves(alloc, &board, ended.disk, &Filler::Old, 3)?)
-}
+/// A run that has no such call succeeds, and what it did is settled.
+const BEYOND: Failing = Failing {
+    part: WHOLE,
+    more: "",
+    call: LAST + 1,
+    stop: 0,
+    fault: "",
+    failures: 0,
+    settled: 3,
+};
 
 #[test]
 fn makes_no_call_beyond_the_last(rt: HostRuntime) -> Result<(), Fail> {
-    assert!(rt; ends_before(rt.alloc(), LAST + 1)?);
+    assert!(rt; BEYOND.ends(rt.alloc())?);
     Ok(())
 }
 
-/// Whether a run of which this call fails ends at a line that stores outside the memory, after it printed
-/// what is wanted, and leaves what was settled.
-fn is_ended_by_a_line(alloc: Global, call: u64, out: &str, settled: usize) -> Result<bool, Fail> {
-    let board = board_of(alloc, &[1])?;
-    let disk = failing_disk(alloc, &board, call)?;
-    let mut script = script_of(alloc, &LINES[..2])?;
-    script.push_str("store 0 1048576 00\nchain 0 - 16\n")?;
-    let ended = performed(alloc, RUN, &board, script.as_str(), disk)?;
-    let is_told = ended.status == 1
-        && ended.err.as_slice() == b"rpmbd: 1 OutOfRange\n".as_slice()
-        && ended.out.as_slice() == out.as_bytes();
-    Ok(is_told && leaves(alloc, &board, ended.disk, &Filler::Old, settled)?)
-}
+/// A run ends at a line that stores outside the memory, after it printed what is wanted, and leaves what was
+/// settled. A call that fails before is told by failure replies alone, since the run doesn't reach its end.
+static ENDED_BY_A_LINE: [Failing; 2] = [
+    Failing {
+        part: Part { to: 2, ..WHOLE },
+        more: "store 0 1048576 00\nchain 0 - 16\n",
+        call: 0,
+        stop: 0,
+        fault: "rpmbd: 1 OutOfRange\n",
+        failures: 0,
+        settled: 2,
+    },
+    Failing {
+        part: Part {
+            from: 0,
+            to: 2,
+            held_at: 1,
+        },
+        more: "store 0 1048576 00\nchain 0 - 16\n",
+        call: 10,
+        stop: 0,
+        fault: "rpmbd: 1 OutOfRange\n",
+        failures: 1,
+        settled: 1,
+    },
+];
 
 #[test]
 fn keeps_what_was_told_before_a_fault(rt: HostRuntime) -> Result<(), Fail> {
-    let alloc = rt.alloc();
-    let all = told(alloc, &LINES[..2])?;
-    assert!(rt; is_ended_by_a_line(alloc, 0, all.as_str(), 2)?);
-    // A call that fails before is told by failure replies alone, since the run doesn't reach its end.
-    let mut some = told(alloc, &LINES[..1])?;
-    some.push_str(told_failing(alloc, &LINES[1..2])?.as_str())?;
-    assert!(rt; is_ended_by_a_line(alloc, 10, some.as_str(), 1)?);
+    for run in &ENDED_BY_A_LINE {
+        assert!(rt; run.ends(rt.alloc())?, "at {}", run.call);
+    }
     Ok(())
 }

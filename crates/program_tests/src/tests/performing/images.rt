@@ -1,18 +1,76 @@
 //! Images that are made and shown, on disks in memory. What is wanted was written out by hand from the
 //! layout of an image (docs/FORMATS.md, "The image"), not by this program.
 
-use super::{FORMAT, Narrow, SHOW, board_of, fresh, perform_on, performed};
-use disk::{CutDisk, Disk, MemDisk};
-use intent_slots::Layout;
-use rpmb_frame::BoardConfig;
+use super::{
+    DISK_FAULT, FILE_FAULT, FORMAT, ONE, SHOW, ends_narrow, formatted, fresh, left_by, left_failing,
+};
+use crate::tests::texts::{Piece, text_of};
+use command_line::Command;
 use std::alloc::Global;
 use std::test::Fail;
 
-/// One guest of capacity 1: its home stands at 1,024, its blocks at 36,352.
-const ONE: &[u8] = &[1];
-
-/// Guests of capacities 1 and 2: the second one's home stands at 167,424, its blocks at 202,752.
+/// Guests of capacities 1 and 2. The first one's home stands at 1,024, its blocks at 36,352; the second one's
+/// home at 167,424, its blocks at 202,752.
 const TWO: &[u8] = &[1, 2];
+
+/// Whether `show` prints this, and ends with this fault, or with none where it is empty. It never writes.
+pub fn shows(
+    alloc: Global,
+    capacities: &[u8],
+    content: &[u8],
+    out: &str,
+    fault: &str,
+) -> Result<bool, Fail> {
+    let left = left_by(alloc, SHOW, capacities, "", content.to_vec(alloc)?)?;
+    Ok(left.told.is(u8::from(!fault.is_empty()), out, fault) && left.has(content, 0))
+}
+
+/// Whether `format` prints this, and `show` then this.
+fn makes(alloc: Global, capacities: &[u8], made: &str, shown: &str) -> Result<bool, Fail> {
+    let left = formatted(alloc, capacities)?;
+    let is_shown = shows(alloc, capacities, left.content.as_slice(), shown, "")?;
+    Ok(is_shown && left.told.is(0, made, ""))
+}
+
+/// The capacities of guests, and what `format` and then `show` print.
+static FRESH: [(&[u8], &str, &str); 2] = [
+    (
+        ONE,
+        "formatted 167424\n",
+        "guest 0 capacity 1 key no counter 0\n",
+    ),
+    (
+        TWO,
+        "formatted 464896\n",
+        "guest 0 capacity 1 key no counter 0\nguest 1 capacity 2 key no counter 0\n",
+    ),
+];
+
+#[test]
+fn makes_images_of_no_keys(rt: HostRuntime) -> Result<(), Fail> {
+    for (capacities, made, shown) in &FRESH {
+        assert!(rt; makes(rt.alloc(), capacities, made, shown)?, "at {made}");
+    }
+    Ok(())
+}
+
+/// Bytes that are put over those of an image from a place on.
+type Put = (usize, &'static [u8]);
+
+/// A home record: a key of 32 bytes 0x11, and the counter 7, so that the sequence is 8.
+const HOME: [u8; 45] = [
+    1, 0x11, 0x11, 0x11, 0x11, 0x11, 0x11, 0x11, 0x11, 0x11, 0x11, 0x11, 0x11, 0x11, 0x11, 0x11,
+    0x11, 0x11, 0x11, 0x11, 0x11, 0x11, 0x11, 0x11, 0x11, 0x11, 0x11, 0x11, 0x11, 0x11, 0x11, 0x11,
+    0x11, 0, 0, 0, 7, 0, 0, 0, 0, 0, 0, 0, 8,
+];
+
+/// The front of a payload: one entry, a write of two blocks at the address 3, after which the counter is 8;
+/// the key is 32 bytes 0x11.
+const PAYLOAD: [u8; 57] = [
+    1, 0, 0, 0, 0, 0, 0, 0, 0, 0, 0, 0, 0, 0, 0, 9, 3, 0x11, 0x11, 0x11, 0x11, 0x11, 0x11, 0x11,
+    0x11, 0x11, 0x11, 0x11, 0x11, 0x11, 0x11, 0x11, 0x11, 0x11, 0x11, 0x11, 0x11, 0x11, 0x11, 0x11,
+    0x11, 0x11, 0x11, 0x11, 0x11, 0x11, 0x11, 0x11, 0x11, 0, 0, 0, 8, 0, 3, 0, 2,
+];
 
 /// Puts bytes over those from a place on.
 fn put(content: &mut Vec<u8>, at: usize, bytes: &[u8]) {
@@ -23,183 +81,198 @@ fn put(content: &mut Vec<u8>, at: usize, bytes: &[u8]) {
     }
 }
 
-/// What `show` ends with, writes on standard output and on standard error.
-fn shown(
-    alloc: Global,
-    board: &BoardConfig,
-    content: &[u8],
-) -> Result<(u8, Vec<u8>, Vec<u8>), Fail> {
-    let disk = MemDisk::new(content.to_vec(alloc)?);
-    let ended = performed(alloc, SHOW, board, "", disk)?;
-    if ended.disk.content() != content {
-        return Err("the disk was written").map_err(Fail::from);
+/// A fresh image with these bytes.
+fn image_with(alloc: Global, capacities: &[u8], puts: &[Put]) -> Result<Vec<u8>, Fail> {
+    let mut content = fresh(alloc, capacities)?;
+    for (at, bytes) in puts {
+        put(&mut content, *at, bytes);
     }
-    Ok((ended.status, ended.out, ended.err))
+    Ok(content)
 }
 
-#[test]
-fn makes_images_of_no_keys(rt: HostRuntime) -> Result<(), Fail> {
-    let alloc = rt.alloc();
-    for (capacities, length, listing) in [
-        (
-            ONE,
-            "formatted 167424\n",
-            "guest 0 capacity 1 key no counter 0\n",
-        ),
-        (
-            TWO,
-            "formatted 464896\n",
-            "guest 0 capacity 1 key no counter 0\nguest 1 capacity 2 key no counter 0\n",
-        ),
-    ] {
-        let board = board_of(alloc, capacities)?;
-        let content = vec![in alloc; 0xee; Layout::of(&board).length() as usize]?;
-        let made = performed(alloc, FORMAT, &board, "", MemDisk::new(content))?;
-        assert_eq!(rt; (made.status, made.err.len()), (0, 0), "at {length}");
-        assert_eq!(rt; made.out.as_slice(), length.as_bytes());
-        let (status, out, err) = shown(alloc, &board, made.disk.content())?;
-        assert_eq!(rt; (status, err.len()), (0, 0), "at {length}");
-        assert_eq!(rt; out.as_slice(), listing.as_bytes());
-    }
-    Ok(())
+/// Whether `show` lists what these bytes mean in a fresh image.
+fn lists(alloc: Global, capacities: &[u8], puts: &[Put], listing: &[Piece]) -> Result<bool, Fail> {
+    let content = image_with(alloc, capacities, puts)?;
+    let out = text_of(alloc, listing)?;
+    shows(alloc, capacities, content.as_slice(), out.as_str(), "")
 }
 
-/// The line of a block of which all bytes are the same.
-fn block_line(alloc: Global, start: &str, byte: &str) -> Result<String, Fail> {
-    let mut line = String::from_str(alloc, start)?;
-    line.push_str(byte.repeat(alloc, 256)?.as_str())?;
-    line.push('\n')?;
-    Ok(line)
-}
+/// The second guest's home, its blocks 1 and 1,023, and the last byte of the first guest's block 511.
+static KEYED: [Put; 4] = [
+    (167_424, &HOME),
+    (203_008, &[0xab; 256]),
+    (464_640, &[0xcd; 256]),
+    (167_423, &[0x0f]),
+];
 
-/// A home record: a key of 32 bytes 0x11, and the counter 7, so that the sequence is 8.
-const HOME: [u8; 45] = [
-    1, 0x11, 0x11, 0x11, 0x11, 0x11, 0x11, 0x11, 0x11, 0x11, 0x11, 0x11, 0x11, 0x11, 0x11, 0x11,
-    0x11, 0x11, 0x11, 0x11, 0x11, 0x11, 0x11, 0x11, 0x11, 0x11, 0x11, 0x11, 0x11, 0x11, 0x11, 0x11,
-    0x11, 0, 0, 0, 7, 0, 0, 0, 0, 0, 0, 0, 8,
+static KEYED_LISTING: [Piece; 7] = [
+    ("guest 0 capacity 1 key no counter 0\nblock 0 511 ", 1),
+    ("00", 255),
+    ("0f\nguest 1 capacity 2 key yes counter 7\nblock 1 1 ", 1),
+    ("ab", 256),
+    ("\nblock 1 1023 ", 1),
+    ("cd", 256),
+    ("\n", 1),
 ];
 
 #[test]
 fn shows_keys_counters_and_blocks(rt: HostRuntime) -> Result<(), Fail> {
-    let alloc = rt.alloc();
-    let board = board_of(alloc, TWO)?;
-    let mut content = fresh(alloc, &board)?;
-    // The second guest's home, its blocks 1 and 1,023, and the last byte of the first guest's block 511.
-    put(&mut content, 167_424, &HOME);
-    put(&mut content, 203_008, &[0xab; 256]);
-    put(&mut content, 464_640, &[0xcd; 256]);
-    put(&mut content, 167_423, &[0x0f]);
-    let mut want = String::from_str(alloc, "guest 0 capacity 1 key no counter 0\nblock 0 511 ")?;
-    want.push_str("00".repeat(alloc, 255)?.as_str())?;
-    want.push_str("0f\nguest 1 capacity 2 key yes counter 7\n")?;
-    want.push_str(block_line(alloc, "block 1 1 ", "ab")?.as_str())?;
-    want.push_str(block_line(alloc, "block 1 1023 ", "cd")?.as_str())?;
-    let (status, out, err) = shown(alloc, &board, content.as_slice())?;
-    assert_eq!(rt; (status, err.len()), (0, 0));
-    assert!(rt; out.as_slice() == want.as_bytes());
+    assert!(rt; lists(rt.alloc(), TWO, &KEYED, &KEYED_LISTING)?);
     Ok(())
 }
 
-/// The front of a payload: one entry, a write of two blocks at the address 3, after which the counter is 8;
-/// the key is 32 bytes 0x11.
-const PAYLOAD: [u8; 57] = [
-    1, 0, 0, 0, 0, 0, 0, 0, 0, 0, 0, 0, 0, 0, 0, 9, 3, 0x11, 0x11, 0x11, 0x11, 0x11, 0x11, 0x11,
-    0x11, 0x11, 0x11, 0x11, 0x11, 0x11, 0x11, 0x11, 0x11, 0x11, 0x11, 0x11, 0x11, 0x11, 0x11, 0x11,
-    0x11, 0x11, 0x11, 0x11, 0x11, 0x11, 0x11, 0x11, 0x11, 0, 0, 0, 8, 0, 3, 0, 2,
+/// A home of the write before, the blocks 2 and 3 as they were, and a payload with its blocks, behind a gate
+/// that is open.
+const OPEN: &[Put] = &[
+    (1024, &HOME),
+    (36_864, &[0x22; 512]),
+    (2048, &PAYLOAD),
+    (2120, &[0x33; 512]),
+    (1536, &[0xa5]),
 ];
+
+const OPEN_LISTING: &[Piece] = &[
+    ("guest 0 capacity 1 key yes counter 8\nblock 0 2 ", 1),
+    ("22", 256),
+    ("\nblock 0 3 ", 1),
+    ("33", 256),
+    ("\nblock 0 4 ", 1),
+    ("33", 256),
+    ("\n", 1),
+];
+
+/// The same behind a gate that is shut.
+const SHUT: &[Put] = &[
+    (1024, &HOME),
+    (36_864, &[0x22; 512]),
+    (2048, &PAYLOAD),
+    (2120, &[0x33; 512]),
+    (1536, &[0]),
+];
+
+const SHUT_LISTING: &[Piece] = &[
+    ("guest 0 capacity 1 key yes counter 7\nblock 0 2 ", 1),
+    ("22", 256),
+    ("\nblock 0 3 ", 1),
+    ("22", 256),
+    ("\n", 1),
+];
+
+static GATES: [(&[Put], &[Piece]); 2] = [(OPEN, OPEN_LISTING), (SHUT, SHUT_LISTING)];
 
 #[test]
 fn shows_what_an_open_gate_leads_to(rt: HostRuntime) -> Result<(), Fail> {
-    let alloc = rt.alloc();
-    let board = board_of(alloc, ONE)?;
-    let mut content = fresh(alloc, &board)?;
-    // The home is of the write before, and the blocks 2 and 3 as they were.
-    put(&mut content, 1024, &HOME);
-    put(&mut content, 36_864, &[0x22; 512]);
-    put(&mut content, 2048, &PAYLOAD);
-    put(&mut content, 2120, &[0x33; 512]);
-    for (gate, counter, third, fourth) in [(0xa5, "8", "33", "33"), (0, "7", "22", "")] {
-        put(&mut content, 1536, &[gate]);
-        let mut want = format!(in alloc; "guest 0 capacity 1 key yes counter {counter}\n")?;
-        want.push_str(block_line(alloc, "block 0 2 ", "22")?.as_str())?;
-        want.push_str(block_line(alloc, "block 0 3 ", third)?.as_str())?;
-        if !fourth.is_empty() {
-            want.push_str(block_line(alloc, "block 0 4 ", fourth)?.as_str())?;
-        }
-        let (status, out, err) = shown(alloc, &board, content.as_slice())?;
-        assert_eq!(rt; (status, err.len()), (0, 0), "at {gate}");
-        assert!(rt; out.as_slice() == want.as_bytes(), "at {gate}");
+    for (puts, listing) in &GATES {
+        assert!(rt;
+            lists(rt.alloc(), ONE, puts, listing)?,
+            "at {} pieces",
+            listing.len()
+        );
     }
     Ok(())
 }
 
 /// What a byte in a fresh image of one guest leads to: one of the magic, one of the number of guests.
-const SPOILED: [(usize, u8, &str); 2] = [
-    (0, b'v', "rpmbd: 12 NotFormatted\n"),
-    (9, 2, "rpmbd: 13 OtherConfig\n"),
+static SPOILED: [(Put, &str); 2] = [
+    ((0, b"v"), "rpmbd: 12 NotFormatted\n"),
+    ((9, &[2]), "rpmbd: 13 OtherConfig\n"),
 ];
+
+/// Whether `show` refuses a fresh image with these bytes.
+fn refuses_with(alloc: Global, put: Put, fault: &str) -> Result<bool, Fail> {
+    let content = image_with(alloc, ONE, &[put])?;
+    shows(alloc, ONE, content.as_slice(), "", fault)
+}
 
 #[test]
 fn refuses_contents(rt: HostRuntime) -> Result<(), Fail> {
-    let alloc = rt.alloc();
-    let board = board_of(alloc, ONE)?;
-    for (at, byte, fault) in SPOILED {
-        let mut content = fresh(alloc, &board)?;
-        put(&mut content, at, &[byte]);
-        let (status, out, err) = shown(alloc, &board, content.as_slice())?;
-        assert_eq!(rt; (status, out.len()), (1, 0), "at {at}");
-        assert_eq!(rt; err.as_slice(), fault.as_bytes(), "at {at}");
+    for (put, fault) in &SPOILED {
+        assert!(rt; refuses_with(rt.alloc(), *put, fault)?, "at {fault}");
     }
     Ok(())
+}
+
+/// A command, how many calls of the disk it makes, and what it prints where none of them fails: eleven writes
+/// of zeros, a home and two gates, a sync, header and version byte, a sync; and a sync, then the reads of
+/// header, gate, home and blocks.
+static CALLS: [(Command<'static>, u64, &str); 2] = [
+    (FORMAT, 18, "formatted 167424\n"),
+    (SHOW, 5, "guest 0 capacity 1 key no counter 0\n"),
+];
+
+/// Whether a command ends with the fault of this call.
+fn fails_at(alloc: Global, command: Command<'_>, image: &[u8], call: u64) -> Result<bool, Fail> {
+    let left = left_failing(alloc, command, "", image, call)?;
+    let is_kept = command != SHOW || left.content.as_slice() == image;
+    Ok(left.told.is(1, "", DISK_FAULT) && left.failures == 1 && is_kept)
+}
+
+/// Whether a command makes no such call.
+fn ends_before(
+    alloc: Global,
+    command: Command<'_>,
+    image: &[u8],
+    call: u64,
+    out: &str,
+) -> Result<bool, Fail> {
+    let left = left_failing(alloc, command, "", image, call)?;
+    Ok(left.told.is(0, out, "") && left.has(image, 0))
+}
+
+/// Whether a command over a fresh image ends with the fault of each of its calls in turn, and of no other.
+fn fails_at_each(alloc: Global, command: Command<'_>, calls: u64, out: &str) -> Result<bool, Fail> {
+    let image = fresh(alloc, ONE)?;
+    for call in 1..=calls {
+        if !fails_at(alloc, command, image.as_slice(), call)? {
+            return Ok(false);
+        }
+    }
+    ends_before(
+        alloc,
+        command,
+        image.as_slice(),
+        calls.saturating_add(1),
+        out,
+    )
 }
 
 #[test]
 fn fails_at_each_call_in_turn(rt: HostRuntime) -> Result<(), Fail> {
-    let alloc = rt.alloc();
-    let board = board_of(alloc, ONE)?;
-    let image = fresh(alloc, &board)?;
-    let fault = b"rpmbd: 10 DiskFault\n".as_slice();
-    // Eleven writes of zeros, a home and two gates, a sync, header and version byte, a sync; and a sync,
-    // then the reads of header, gate, home and blocks.
-    for (command, calls) in [(FORMAT, 18), (SHOW, 5)] {
-        for k in 1..=calls + 1 {
-            let mut disk = CutDisk::new(alloc, image.to_vec(alloc)?)?;
-            disk.fail(k);
-            let ended = performed(alloc, command, &board, "", disk)?;
-            let seen = (ended.status, ended.disk.failures());
-            if k <= calls {
-                assert_eq!(rt; (seen, ended.out.len()), ((1, 1), 0), "at {k}");
-                assert_eq!(rt; ended.err.as_slice(), fault, "at {k}");
-            } else {
-                assert_eq!(rt; (seen, ended.err.len()), ((0, 0), 0), "at {k}");
-            }
-            if command == SHOW {
-                assert!(rt; ended.disk.content() == image.as_slice(), "at {k}");
-            }
-        }
+    for (command, calls, out) in &CALLS {
+        assert!(rt;
+            fails_at_each(rt.alloc(), *command, *calls, out)?,
+            "at {calls} calls"
+        );
     }
     Ok(())
 }
 
+/// The line of `format` has 17 bytes, that of `show` 36: with just as much room only the flush fails.
+static ROOMS: [(Command<'static>, usize); 10] = [
+    (FORMAT, 0),
+    (FORMAT, 1),
+    (FORMAT, 10),
+    (FORMAT, 16),
+    (FORMAT, 17),
+    (SHOW, 0),
+    (SHOW, 1),
+    (SHOW, 10),
+    (SHOW, 35),
+    (SHOW, 36),
+];
+
+fn ends_without_room(alloc: Global, command: Command<'_>, room: usize) -> Result<bool, Fail> {
+    let more = ends_narrow(alloc, command, "", room, FILE_FAULT)?;
+    Ok(more == Some(0))
+}
+
 #[test]
 fn ends_where_output_fails(rt: HostRuntime) -> Result<(), Fail> {
-    let alloc = rt.alloc();
-    let board = board_of(alloc, ONE)?;
-    let image = fresh(alloc, &board)?;
-    // The line of `format` has 17 bytes, that of `show` 36: with just as much room only the flush fails.
-    for (command, length) in [(FORMAT, 17), (SHOW, 36)] {
-        for room in [0, 1, 10, length - 1, length] {
-            let disk = MemDisk::new(image.to_vec(alloc)?);
-            let mut out = Narrow { room };
-            let mut err = Vec::new(alloc);
-            let (status, _) = perform_on(alloc, command, &board, "", disk, &mut out, &mut err)?;
-            assert_eq!(rt; (status, out.room), (1, 0), "at {room}");
-            assert_eq!(rt;
-                err.as_slice(),
-                b"rpmbd: 21 FileFault\n".as_slice(),
-                "at {room}"
-            );
-        }
+    for (command, room) in &ROOMS {
+        assert!(rt;
+            ends_without_room(rt.alloc(), *command, *room)?,
+            "at {room}"
+        );
     }
     Ok(())
 }
