@@ -1,0 +1,3 @@
+mod failing;
+mod scene;
+mod threads;

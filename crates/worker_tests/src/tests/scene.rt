@@ -1,0 +1,141 @@
+//! A board on a fresh disk, the requests that its guests make, and a run of their scripts.
+ghost use Rattle.std.specs.Prelude.{◌≡◌, All, IfOk};
+ghost use Rattle.rpmb_book.specs.Book.{submits_in};
+
+use board::{Board, Parts};
+use disk::{CutDisk, Disk};
+use host::HostFault;
+use intent_slots::Layout;
+use recovery::format;
+use rpmb_frame::{BoardConfig, Frame, GuestConfig};
+use std::alloc::Global;
+use std::sync::Wait;
+use std::test::Fail;
+use std::thread::Threads;
+use workers::{Chain, Ended, Gate, Open, Order, Script, parts_of, serve};
+
+pub const KEY: [u8; 32] = [0x11; 32];
+
+pub fn check(holds: bool, what: &'static str) -> Result<(), Fail> {
+    if holds { Ok(()) } else { Err(Fail::from(what)) }
+}
+
+/// A board of guests that are all alike.
+pub fn board_of(alloc: Global, guests: usize) -> Result<BoardConfig, Fail> {
+    let mut configs = Vec::with_capacity(alloc, guests)?;
+    for _ in 0..guests {
+        configs.push(GuestConfig::of_capacity(1))?;
+    }
+    Ok(BoardConfig::new(configs)?)
+}
+
+/// A fresh image of a board of so many guests.
+pub fn formatted(alloc: Global, guests: usize) -> Result<CutDisk, Fail> {
+    let board = board_of(alloc, guests)?;
+    let layout = Layout::of(&board);
+    let mut disk = CutDisk::new(alloc, vec![in alloc; 0xee; layout.length() as usize]?)?;
+    if disk.len() != layout.length() {
+        return Err(Fail::from("another length"));
+    }
+    format(&mut disk, &board)?;
+    Ok(disk)
+}
+
+/// The frames that program a key and ask for the result.
+pub fn program_key(key: &[u8; 32]) -> [[u8; 512]; 2] {
+    let frame = Frame::zeros()
+        .with_key_mac(key)
+        .with_block_count(1)
+        .with_req_resp(0x0001);
+    [
+        frame.to_bytes(),
+        Frame::zeros().with_req_resp(0x0005).to_bytes(),
+    ]
+}
+
+/// The frame that asks for the write counter under this nonce.
+pub fn get_write_counter(nonce: u128) -> [[u8; 512]; 1] {
+    let frame = Frame::zeros()
+        .with_nonce(&nonce.to_be_bytes())
+        .with_block_count(1)
+        .with_req_resp(0x0002);
+    [frame.to_bytes()]
+}
+
+/// A chain of these frames, with room for one frame.
+pub fn chain(alloc: Global, frames: &[[u8; 512]]) -> Result<Order, Fail> {
+    let readable = frames.as_flattened().to_vec(alloc)?;
+    if readable.is_empty() || readable.len() > 8704 {
+        return Err(Fail::from("no chain has this length"));
+    }
+    Ok(Order::Chain(Chain::new(readable, 512)))
+}
+
+/// A script that programs the key where that is wanted, and asks for the counter.
+pub fn script(alloc: Global, with_key: bool, with_counter: bool) -> Result<Script, Fail> {
+    let mut orders = Vec::new(alloc);
+    if with_key {
+        orders.push(chain(alloc, &program_key(&KEY))?)?;
+    }
+    if with_counter {
+        orders.push(chain(alloc, &get_write_counter(1))?)?;
+    }
+    Ok(Script::new(orders))
+}
+
+/// A script that programs the key, resets the device, and asks for the counter.
+pub fn script_with_reset(alloc: Global) -> Result<Script, Fail> {
+    let mut orders = Vec::with_capacity(alloc, 3)?;
+    orders.push(chain(alloc, &program_key(&KEY))?)?;
+    orders.push(Order::Reset)?;
+    orders.push(chain(alloc, &get_write_counter(1))?)?;
+    Ok(Script::new(orders))
+}
+
+/// The parts of a board that was just opened.
+fn opened<D: Disk>(alloc: Global, disk: D, board: &BoardConfig) -> Result<Parts<D>, Fail>
+    ensures new_book { IfOk result (λ p. submits_in p.book ≡ 0) }
+    ensures fresh { IfOk result (λ p. All (λ t. t.count ≡ 0) p.tallies.items) }
+{
+    match Board::open(alloc, disk, 1, board) {
+        Ok(opened) => Ok(parts_of(opened, board)),
+        Err((_, fault)) => Err(Fail::from(fault)),
+    }
+}
+
+/// A run of these scripts, one a guest, on an image of as many guests.
+pub fn run_on<D: Disk + Send + Drop, G: Gate + Sync, R: Threads + Wait + Sync>(
+    rt: &R,
+    alloc: Global,
+    disk: D,
+    scripts: &[Script],
+    gate: &G,
+) -> Result<Result<Ended<D>, HostFault>, Fail> {
+    let board = board_of(alloc, scripts.len())?;
+    let parts = opened(alloc, disk, &board)?;
+    if parts.tallies.len() != scripts.len() {
+        return Err(Fail::from("another number of guests"));
+    }
+    Ok(serve(rt, alloc, parts, &board, scripts, gate))
+}
+
+/// The same, on a fresh image whose k-th call after the opening fails.
+pub fn run_failing<R: Threads + Wait + Sync>(
+    rt: &R,
+    alloc: Global,
+    k: u64,
+    scripts: &[Script],
+) -> Result<Result<Ended<CutDisk>, HostFault>, Fail> {
+    let board = board_of(alloc, scripts.len())?;
+    let mut parts = opened(alloc, formatted(alloc, scripts.len())?, &board)?;
+    if parts.tallies.len() != scripts.len() {
+        return Err(Fail::from("another number of guests"));
+    }
+    parts.store.fail(k);
+    Ok(serve(rt, alloc, parts, &board, scripts, &Open))
+}
+
+/// The last twelve bytes of a reply: write counter, address, block count, result and type.
+pub fn tail_of(reply: &[u8]) -> &[u8] {
+    &reply[reply.len().saturating_sub(12)..]
+}

@@ -1,0 +1,328 @@
+//! The threads of a scope: started, run to their end, and joined.
+ghost use Rattle.std.specs.Prelude.{◌≡◌, ◌<◌, ℕ, [], IfOk, vec_len, slice_index_or, length};
+ghost use Rattle.workers.specs.Orders.{LeavesAll, Left, chain_orders};
+
+use crate::bell::Bell;
+use crate::desk::Desk;
+use crate::driver::{DriverEnd, drive};
+use crate::flushing::Flusher;
+use crate::gate::Gate;
+use crate::scripts::Script;
+use crate::seat::{Guest, Seat};
+use crate::worker::Worker;
+use disk::Disk;
+use host::HostFault;
+use std::alloc::Global;
+use std::sync::ledger::Ledger;
+use std::sync::{Mutex, Wait};
+use std::thread;
+use std::thread::{JoinHandle, Promise, PromisedHandle, Scope, Threads};
+
+/// What all threads share: a lock a guest, one for the book, and one for the bell. No thread holds two of
+/// them at once, nor one over a call of the disk.
+#[derive(Drop)]
+pub(crate) struct Hall<L: Ledger> {
+    pub guests: Vec<Mutex<Guest>>,
+    pub desk: Mutex<Desk<L>>,
+    pub bell: Bell,
+}
+
+impl<L: Ledger> Hall<L> {
+    /// What a guest's threads share with others.
+    fn seat(&self, guest: usize) -> Option<Seat<'_, L>> {
+        let guest = self.guests.get(guest)?;
+        Some(Seat {
+            guest,
+            desk: &self.desk,
+            bell: &self.bell,
+        })
+    }
+}
+
+/// A worker of this guest.
+#[derive(Clone, Copy)]
+pub(crate) struct OfGuest(u16);
+
+impl<L: Ledger> Promise<Worker<L>> for OfGuest {
+    ghost kept_by = { λ p w. w.tally.guest ≡ p.0 };
+}
+
+/// A driver of a script that offers so many chains.
+#[derive(Clone, Copy)]
+pub(crate) struct OfChains(usize);
+
+impl Promise<DriverEnd> for OfChains {
+    ghost kept_by = { λ p e. LeavesAll e.complete (vec_len e.answers) p.0 };
+}
+
+/// What the threads have left.
+#[derive(Drop)]
+pub(crate) struct Crew<L: Ledger, D: Disk> {
+    pub workers: Vec<Worker<L>>,
+    pub drivers: Vec<DriverEnd>,
+    pub flusher: Flusher<D>,
+}
+
+/// The threads under way.
+#[derive(Drop)]
+struct Started<L: Ledger, D: Disk> {
+    workers: Vec<PromisedHandle<Worker<L>, OfGuest>>,
+    drivers: Vec<PromisedHandle<DriverEnd, OfChains>>,
+    flusher: JoinHandle<Flusher<D>>,
+}
+
+/// Starts a worker.
+fn start_worker<'s, E, L: Ledger + Send + Sync, G: Gate + Sync, R: Wait + Sync>(
+    scope: &'s Scope<'s, E>,
+    rt: &'s R,
+    alloc: Global,
+    seat: Seat<'s, L>,
+    gate: &'s G,
+    worker: Worker<L>,
+) -> Result<PromisedHandle<Worker<L>, OfGuest>, HostFault>
+    ensures { IfOk result (λ h. h.promise.0 ≡ worker.tally.guest) }
+{
+    let promise = OfGuest(worker.number());
+    let started = scope.spawn_with(promise, move || worker.run(rt, alloc, &seat, gate));
+    match started {
+        Ok(handle) => Ok(handle),
+        Err(_) => Err(HostFault::NoMemory),
+    }
+}
+
+/// Starts a driver. What the thread borrows is captured as plain references: of a captured struct of
+/// references the checker would lose what the closure ensures.
+fn start_driver<'s, E, R: Wait + Sync>(
+    scope: &'s Scope<'s, E>,
+    rt: &'s R,
+    alloc: Global,
+    guest: &'s Mutex<Guest>,
+    bell: &'s Bell,
+    script: &'s Script,
+) -> Result<PromisedHandle<DriverEnd, OfChains>, HostFault>
+    ensures { IfOk result (λ h. h.promise.0 ≡ chain_orders script.now) }
+{
+    let chains = script.chains();
+    let orders = script.orders();
+    let started = scope.spawn_with(
+        OfChains(chains),
+        move || -> DriverEnd
+            requires { chains ≡ chain_orders orders.now }
+            ensures { LeavesAll result.complete (vec_len result.answers) chains }
+        { drive(rt, alloc, guest, bell, orders, chains) },
+    );
+    match started {
+        Ok(handle) => Ok(handle),
+        Err(_) => Err(HostFault::NoMemory),
+    }
+}
+
+/// Starts the flusher.
+fn start_flusher<
+    's,
+    E,
+    L: Ledger + Send + Sync,
+    D: Disk + Send + Drop + 's,
+    G: Gate + Sync,
+    R: Wait + Sync,
+>(
+    scope: &'s Scope<'s, E>,
+    rt: &'s R,
+    hall: &'s Hall<L>,
+    gate: &'s G,
+    flusher: Flusher<D>,
+) -> Result<JoinHandle<Flusher<D>>, HostFault> {
+    let started = scope.spawn(move || flusher.run(rt, &hall.desk, &hall.bell, gate));
+    match started {
+        Ok(handle) => Ok(handle),
+        Err(_) => Err(HostFault::NoMemory),
+    }
+}
+
+/// Starts a worker for each guest.
+fn start_workers<'s, E, L: Ledger + Send + Sync, G: Gate + Sync, R: Wait + Sync>(
+    scope: &'s Scope<'s, E>,
+    rt: &'s R,
+    alloc: Global,
+    hall: &'s Hall<L>,
+    gate: &'s G,
+    workers: Vec<Worker<L>>,
+) -> Result<Vec<PromisedHandle<Worker<L>, OfGuest>>, HostFault>
+    ensures { IfOk result (λ v. vec_len v ≡ vec_len workers) }
+{
+    let mut started = Vec::new(alloc);
+    for worker in workers {
+        let number = usize::from(worker.number());
+        let Some(seat) = hall.seat(number) else {
+            return Err(HostFault::Foreign);
+        };
+        let handle = match start_worker(scope, rt, alloc, seat, gate, worker) {
+            Ok(handle) => handle,
+            Err(fault) => return Err(fault),
+        };
+        if started.push(handle).is_err() {
+            return Err(HostFault::NoMemory);
+        }
+    }
+    Ok(started)
+}
+
+/// Starts a driver for each script.
+fn start_drivers<'s, E, L: Ledger + Send + Sync, R: Wait + Sync>(
+    scope: &'s Scope<'s, E>,
+    rt: &'s R,
+    alloc: Global,
+    hall: &'s Hall<L>,
+    scripts: &'s [Script],
+) -> Result<Vec<PromisedHandle<DriverEnd, OfChains>>, HostFault>
+    ensures len { IfOk result (λ v. vec_len v ≡ length scripts.now) }
+    ensures each { IfOk result (λ v. (i : ℕ) (d : _) → i < length scripts.now → chain_orders (slice_index_or scripts.now i []) ≡ (slice_index_or v.items i d).promise.0) }
+{
+    let mut started = Vec::new(alloc);
+    for i in 0..scripts.len() {
+        let Some(guest) = hall.guests.get(i) else {
+            return Err(HostFault::Foreign);
+        };
+        let handle = match start_driver(scope, rt, alloc, guest, &hall.bell, &scripts[i]) {
+            Ok(handle) => handle,
+            Err(fault) => return Err(fault),
+        };
+        if started.push(handle).is_err() {
+            return Err(HostFault::NoMemory);
+        }
+    }
+    Ok(started)
+}
+
+/// Starts all threads. Those that were started before a refusal are told to end.
+fn start_all<
+    's,
+    E,
+    L: Ledger + Send + Sync,
+    D: Disk + Send + Drop + 's,
+    G: Gate + Sync,
+    R: Wait + Sync,
+>(
+    scope: &'s Scope<'s, E>,
+    rt: &'s R,
+    alloc: Global,
+    hall: &'s Hall<L>,
+    gate: &'s G,
+    workers: Vec<Worker<L>>,
+    scripts: &'s [Script],
+    flusher: Flusher<D>,
+) -> Result<Started<L, D>, HostFault>
+    ensures workers { IfOk result (λ s. vec_len s.workers ≡ vec_len workers) }
+    ensures drivers { IfOk result (λ s. vec_len s.drivers ≡ length scripts.now) }
+    ensures each { IfOk result (λ s. (i : ℕ) (d : _) → i < length scripts.now → chain_orders (slice_index_or scripts.now i []) ≡ (slice_index_or s.drivers.items i d).promise.0) }
+{
+    let workers = match start_workers(scope, rt, alloc, hall, gate, workers) {
+        Ok(workers) => workers,
+        Err(fault) => return Err(fault),
+    };
+    let drivers = match start_drivers(scope, rt, alloc, hall, scripts) {
+        Ok(drivers) => drivers,
+        Err(fault) => return Err(fault),
+    };
+    let flusher = match start_flusher(scope, rt, hall, gate, flusher) {
+        Ok(flusher) => flusher,
+        Err(fault) => return Err(fault),
+    };
+    Ok(Started {
+        workers,
+        drivers,
+        flusher,
+    })
+}
+
+/// Joins all threads.
+fn join_all<L: Ledger, D: Disk + Drop, R: Threads>(
+    rt: &R,
+    started: Started<L, D>,
+    scripts: &[Script],
+) -> Result<Crew<L, D>, HostFault>
+    requires len { vec_len started.drivers ≡ length scripts.now }
+    requires each { (i : ℕ) (d : _) → i < length scripts.now → chain_orders (slice_index_or scripts.now i []) ≡ (slice_index_or started.drivers.items i d).promise.0 }
+    ensures workers { IfOk result (λ c. vec_len c.workers ≡ vec_len started.workers) }
+    ensures drivers { IfOk result (λ c. vec_len c.drivers ≡ length scripts.now) }
+    ensures each { IfOk result (λ c. Left c.drivers.items scripts.now) }
+{
+    let Started {
+        workers,
+        drivers,
+        flusher,
+    } = started;
+    let Ok(workers) = thread::join_promised(rt, workers) else {
+        return Err(HostFault::NoMemory);
+    };
+    let Ok(drivers) = thread::join_promised(rt, drivers) else {
+        return Err(HostFault::NoMemory);
+    };
+    let flusher = flusher.join(rt);
+    Ok(Crew {
+        workers,
+        drivers,
+        flusher,
+    })
+}
+
+/// Runs all threads of a scope to their end.
+fn run_in<
+    's,
+    E,
+    L: Ledger + Send + Sync,
+    D: Disk + Send + Drop + 's,
+    G: Gate + Sync,
+    R: Threads + Wait + Sync,
+>(
+    scope: &'s Scope<'s, E>,
+    rt: &'s R,
+    alloc: Global,
+    hall: &'s Hall<L>,
+    gate: &'s G,
+    workers: Vec<Worker<L>>,
+    scripts: &'s [Script],
+    flusher: Flusher<D>,
+) -> Result<Crew<L, D>, HostFault>
+    ensures workers { IfOk result (λ c. vec_len c.workers ≡ vec_len workers) }
+    ensures drivers { IfOk result (λ c. vec_len c.drivers ≡ length scripts.now) }
+    ensures each { IfOk result (λ c. Left c.drivers.items scripts.now) }
+{
+    match start_all(scope, rt, alloc, hall, gate, workers, scripts, flusher) {
+        Ok(started) => join_all(rt, started, scripts),
+        Err(fault) => {
+            hall.bell.stop(rt);
+            Err(fault)
+        }
+    }
+}
+
+/// Runs all threads to their end.
+pub(crate) fn run_all<
+    L: Ledger + Send + Sync,
+    D: Disk + Send + Drop,
+    G: Gate + Sync,
+    R: Threads + Wait + Sync,
+>(
+    rt: &R,
+    alloc: Global,
+    hall: &Hall<L>,
+    gate: &G,
+    workers: Vec<Worker<L>>,
+    scripts: &[Script],
+    flusher: Flusher<D>,
+) -> Result<Crew<L, D>, HostFault>
+    ensures workers { IfOk result (λ c. vec_len c.workers ≡ vec_len workers) }
+    ensures drivers { IfOk result (λ c. vec_len c.drivers ≡ length scripts.now) }
+    ensures each { IfOk result (λ c. Left c.drivers.items scripts.now) }
+{
+    thread::scope(
+        thread::scope_env(),
+        rt,
+        |scope| -> Result<Crew<L, D>, HostFault>
+            ensures workers { IfOk result (λ c. vec_len c.workers ≡ vec_len workers) }
+            ensures drivers { IfOk result (λ c. vec_len c.drivers ≡ length scripts.entry.now) }
+            ensures each { IfOk result (λ c. Left c.drivers.items scripts.entry.now) }
+        { run_in(scope, rt, alloc, hall, gate, workers, scripts, flusher) },
+    )
+}

@@ -1,0 +1,131 @@
+//! What lies under the book's lock.
+ghost use Rattle.std.specs.Prelude.{◌≡◌, ◌+◌, ◌<◌, IfErr, IfOk, OnErr, OnOk, None, length, option_map, unwrap_or};
+ghost use Rattle.rpmb_book.specs.Book.{BookView, after_break_off, after_collect, after_settle, after_take, due_of, found_by, next_intent, refusal, settle_answer, share_moved, state, submit_of, submits_in, take_answer, with_turn};
+ghost use Rattle.rpmb_book.specs.Receipt.{submission_seen, turn_seen};
+
+use flusher::Marks;
+use intent_slots::Intent;
+use mmio_transport::{Done, Job};
+use rpmb_book::{Book, Receipt, Refused, Shares, Tally, TurnView};
+use std::alloc::Global;
+use std::marker::Model;
+use std::sync::ledger;
+use std::sync::ledger::{Ledger, Share};
+
+/// The book, and a ledger's book whose total is the number of its Submit turns. All threads make their
+/// calls here, one at a time: each call is the book's, so the state is the replay of one history.
+///
+/// A contract sees the book.
+#[derive(Drop)]
+pub struct Desk<L: Ledger> {
+    book: Book,
+    submits: ledger::Book<L>,
+}
+
+impl<L: Ledger> Model for Desk<L> {
+    ghost use Rattle.std.specs.Prelude.{◌≡◌};
+    ghost use Rattle.rpmb_book.specs.Book.{BookView, submits_in};
+
+    ghost Value = { BookView };
+
+    ghost view = { λ d. d.book };
+
+    ghost invariant = { λ d. submits_in d.book ≡ d.submits.total };
+}
+
+impl<L: Ledger> Desk<L> {
+    /// A desk whose ledger counts what the book's history has.
+    pub fn new(book: Book, submits: ledger::Book<L>) -> Desk<L>
+        requires { submits_in book ≡ submits.total }
+        ensures { result ≡ book }
+    {
+        Desk { book, submits }
+    }
+
+    /// `Book::submit`, counted in the caller's share of the ledger where it succeeds.
+    pub fn submit(
+        &mut self,
+        alloc: Global,
+        tally: &mut Tally,
+        share: &mut Share<L>,
+        job: Job,
+    ) -> Result<Receipt, (Job, Refused)>
+        requires { 0 < share.old.parts }
+        ensures made { OnOk result (self.new ≡ with_turn self.old (submit_of self.old job)) }
+        ensures tally { OnOk result (tally.new ≡ record tally.old { count = tally.old.count + 1 }) }
+        ensures counted { OnOk result (share.new.amount ≡ share.old.amount + 1) }
+        ensures named { IfOk result (λ r. r ≡ record { life = self.old.life; guest = job.guest; number = length self.old.history }) }
+        ensures allowed { OnOk result (refusal self.old tally.old job ≡ None) }
+        ensures refused { IfErr result (λ e. e.1 ≡ unwrap_or (refusal self.old tally.old job) Refused.NoMemory) }
+        ensures given_back { IfErr result (λ e. e.0 ≡ job) }
+        ensures unchanged { OnErr result ((self.new ≡ self.old) × (tally.new ≡ tally.old) × (share.new.amount ≡ share.old.amount)) }
+        ensures parts { share.new.parts ≡ share.old.parts }
+    {
+        let receipt = self.book.submit(alloc, tally, job)?;
+        self.submits.add(share, 1);
+        Ok(receipt)
+    }
+
+    /// `Book::take`.
+    pub fn take(&mut self, shares: &mut Shares, guest: u16) -> Result<Option<Intent>, Refused>
+        ensures answer { result ≡ take_answer self.old shares.old guest }
+        ensures book { self.new ≡ after_take self.old shares.old guest }
+        ensures shares { shares.new ≡ share_moved shares.old guest (next_intent self.old shares.old guest) }
+    {
+        self.book.take(shares, guest)
+    }
+
+    /// `Book::settle`.
+    pub fn settle(&mut self, shares: &Shares, marks: Marks) -> Result<(), Refused>
+        ensures answer { result ≡ settle_answer self.old shares.now marks }
+        ensures book { self.new ≡ after_settle self.old shares.now marks }
+    {
+        self.book.settle(shares, marks)
+    }
+
+    /// `Book::collect`.
+    pub fn collect(&mut self, guest: u16) -> Option<Done>
+        ensures done { result ≡ due_of self.old guest }
+        ensures book { self.new ≡ after_collect self.old guest }
+    {
+        self.book.collect(guest)
+    }
+
+    /// `Book::break_off`.
+    pub fn break_off(&mut self)
+        ensures { self.new ≡ after_break_off self.old }
+    {
+        self.book.break_off();
+    }
+
+    /// `Book::is_broken`.
+    pub fn is_broken(&self) -> bool
+        ensures { result ≡ (state self.now).broken }
+    {
+        self.book.is_broken()
+    }
+
+    /// `Book::find`.
+    pub fn find(&self, receipt: &Receipt) -> Option<TurnView<'_>>
+        ensures { option_map turn_seen result ≡ option_map submission_seen (found_by self.now receipt.now) }
+    {
+        self.book.find(receipt)
+    }
+
+    /// Who holds the whole ledger knows the number of Submit turns.
+    pub fn audit(&mut self, all: &mut Share<L>)
+        requires { all.old.parts ≡ L.parts }
+        ensures total { submits_in self.old ≡ all.old.amount }
+        ensures same { (self.new ≡ self.old) × (all.new.amount ≡ all.old.amount) × (all.new.parts ≡ all.old.parts) }
+    {
+        self.submits.audit(all);
+    }
+
+    /// The book alone.
+    pub fn into_book(self) -> Book
+        ensures { result ≡ self }
+    {
+        let Desk { book, submits: _ } = self;
+        book
+    }
+}

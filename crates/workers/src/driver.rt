@@ -1,0 +1,268 @@
+//! A guest's driver: it offers the chains of a script, and keeps an answer to each.
+ghost use Rattle.std.specs.Prelude.{◌≡◌, ◌+◌, ◌≤◌, ◌<◌, true, length, take, vec_len, IsTrue, Some, slice_get};
+ghost use Rattle.std.specs.Option.{option_copied};
+ghost use Rattle.workers.specs.Orders.{LeavesAll, chain_orders, chains_in};
+
+use crate::bell::Bell;
+use crate::order::Order;
+use crate::seat::{Guest, Next, fault_of};
+use guest_driver::DriverFault;
+use host::{Answer, HostFault, Stuck};
+use std::alloc::Global;
+use std::sync::{Mutex, Wait};
+
+/// How many chains may be under way: a queue has at most 256 places.
+const PLACES: usize = 256;
+
+/// What a guest's driver keeps to itself: how far it is in its script, how many of its chains have no
+/// answer yet, and the answers to the others, in the order of the script.
+#[derive(Drop)]
+pub(crate) struct Driver<'a> {
+    script: &'a [Order],
+    next: usize,
+    outstanding: usize,
+    answers: Vec<Answer>,
+    /// Why it offers nothing until its reset.
+    stuck: Option<Stuck>,
+    fault: Option<HostFault>,
+    ghost within: { next ≤ length script.now },
+    ghost counted: { vec_len answers + outstanding ≡ chain_orders (take next script.now) },
+}
+
+/// What a driver leaves.
+#[derive(Drop)]
+pub struct DriverEnd {
+    /// What became of its chains, in the order of the script.
+    pub answers: Vec<Answer>,
+    /// Whether it came to the end of its script, with an answer to each chain.
+    pub complete: bool,
+    /// Why it ended before.
+    pub fault: Option<HostFault>,
+}
+
+impl<'a> Driver<'a> {
+    fn new(alloc: Global, script: &'a [Order]) -> Driver<'a>
+        ensures { result.script ≡ script.entry }
+    {
+        Driver {
+            script,
+            next: 0,
+            outstanding: 0,
+            answers: Vec::new(alloc),
+            stuck: None,
+            fault: None,
+        }
+    }
+
+    /// Whether the device came into service: if not, no chain has an answer until a reset.
+    fn renew(&mut self, in_service: bool)
+        ensures { self.new.script ≡ self.old.script }
+    {
+        self.stuck = if in_service {
+            None
+        } else {
+            Some(Stuck::NoAnswer)
+        };
+    }
+
+    fn stick(&mut self, stuck: Stuck)
+        ensures { self.new.script ≡ self.old.script }
+    {
+        self.stuck = Some(stuck);
+    }
+
+    /// The oldest chain without an answer has this one. Room was made for it.
+    fn answer(&mut self, answer: Answer) -> Result<bool, HostFault>
+        requires { 0 < self.old.outstanding }
+        ensures { self.new.script ≡ self.old.script }
+    {
+        if self.answers.reserve(1).is_err() {
+            return Err(HostFault::NoMemory);
+        }
+        self.answers.push_reserved(answer);
+        self.outstanding -= 1;
+        Ok(true)
+    }
+
+    /// Looks for the answer to the oldest chain that has none. Whether something came of it.
+    fn reap(&mut self, rt: &impl Wait, guest: &Mutex<Guest>) -> Result<bool, HostFault>
+        ensures { self.new.script ≡ self.old.script }
+    {
+        if self.outstanding == 0 {
+            return Ok(false);
+        }
+        if let Some(stuck) = self.stuck {
+            return self.answer(Answer::Stuck(stuck));
+        }
+        let look = guest.lock(rt).look();
+        match look.reaped {
+            Ok(Some(reaped)) => self.answer(Answer::Used(reaped.bytes)),
+            Ok(None) if look.stopped => {
+                self.stick(Stuck::NeedsReset);
+                Ok(true)
+            }
+            Ok(None) => Ok(false),
+            Err(DriverFault::BadUsed) => {
+                self.stick(Stuck::BadUsed);
+                Ok(true)
+            }
+            Err(fault) => Err(fault_of(fault)),
+        }
+    }
+
+    /// Goes on in the script, where the queue has room; before a reset each chain has to have its answer.
+    fn offer(&mut self, rt: &impl Wait, guest: &Mutex<Guest>) -> Result<bool, HostFault>
+        ensures { self.new.script ≡ self.old.script }
+    {
+        let Some(order) = self.order() else {
+            return Ok(false);
+        };
+        match order {
+            Order::Chain(chain) => {
+                if self.outstanding >= PLACES {
+                    return Ok(false);
+                }
+                if self.stuck.is_none() {
+                    let offered = guest.lock(rt).offer(chain.readable(), chain.writable());
+                    match offered {
+                        Ok(_) => {}
+                        Err(DriverFault::NoRoom) if self.outstanding > 0 => return Ok(false),
+                        Err(fault) => return Err(fault_of(fault)),
+                    }
+                }
+                self.count_chain(order);
+            }
+            Order::Reset => {
+                if self.outstanding != 0 {
+                    return Ok(false);
+                }
+                let in_service = guest.lock(rt).restart();
+                self.count_reset(order);
+                self.renew(in_service);
+            }
+        }
+        Ok(true)
+    }
+
+    /// The order that comes next.
+    fn order(&self) -> Option<&'a Order>
+        ensures { option_copied result ≡ slice_get self.now.script.now self.now.next }
+    {
+        self.script.get(self.next)
+    }
+
+    /// The next order's chain is under way.
+    #[tactic(auto, using(crate::proofs::Counting::counted))]
+    fn count_chain(&mut self, order: &Order)
+        requires here { slice_get self.old.script.now self.old.next ≡ Some order.now }
+        requires chain { chains_in order.now ≡ 1 }
+        requires room { self.old.outstanding < 256 }
+        ensures { self.new.script ≡ self.old.script }
+    {
+        self.outstanding += 1;
+        self.next += 1;
+    }
+
+    /// The next order was a reset.
+    #[tactic(auto, using(crate::proofs::Counting::counted))]
+    fn count_reset(&mut self, order: &Order)
+        requires here { slice_get self.old.script.now self.old.next ≡ Some order.now }
+        requires reset { chains_in order.now ≡ 0 }
+        ensures { self.new.script ≡ self.old.script }
+    {
+        let _ = order;
+        self.next += 1;
+    }
+
+    /// Whether the script is at its end, and each chain has its answer.
+    #[tactic(auto, using(crate::proofs::Counting::take_whole))]
+    fn is_complete(&self) -> bool
+        ensures { IsTrue result → vec_len self.now.answers ≡ chain_orders self.now.script.now }
+    {
+        self.next == self.script.len() && self.outstanding == 0
+    }
+
+    /// One look for work: one answer, and one order.
+    fn turn(&mut self, rt: &impl Wait, guest: &Mutex<Guest>) -> Result<Next, HostFault>
+        ensures { self.new.script ≡ self.old.script }
+    {
+        let reaped = self.reap(rt, guest)?;
+        let offered = self.offer(rt, guest)?;
+        if reaped || offered {
+            return Ok(Next::Again);
+        }
+        Ok(if self.is_complete() {
+            Next::End
+        } else {
+            Next::Rest
+        })
+    }
+
+    fn fail(&mut self, fault: HostFault)
+        ensures { self.new.script ≡ self.old.script }
+    {
+        self.fault = Some(fault);
+    }
+
+    fn into_end(self) -> DriverEnd
+        ensures { LeavesAll result.complete (vec_len result.answers) (chain_orders self.entry.script.now) }
+    {
+        let complete = self.is_complete();
+        let Driver {
+            script: _,
+            next: _,
+            outstanding: _,
+            answers,
+            stuck: _,
+            fault,
+        } = self;
+        DriverEnd {
+            answers,
+            complete,
+            fault,
+        }
+    }
+
+    /// Brings the device into service, and runs the script to its end, or until all are to end.
+    fn run<R: Wait>(mut self, rt: &R, guest: &Mutex<Guest>, bell: &Bell) -> DriverEnd
+        ensures { LeavesAll result.complete (vec_len result.answers) (chain_orders self.entry.script.now) }
+    {
+        let in_service = guest.lock(rt).begin();
+        self.renew(in_service);
+        for _ in rt.forever() {
+            let look = bell.look(rt);
+            if look.stopped {
+                break;
+            }
+            match self.turn(rt, guest) {
+                Ok(Next::Again) => bell.ring(rt),
+                Ok(Next::Rest) => bell.wait(rt, look.count),
+                Ok(Next::End) => break,
+                Err(fault) => {
+                    self.fail(fault);
+                    bell.stop(rt);
+                    break;
+                }
+            }
+        }
+        guest.lock(rt).finish();
+        bell.ring(rt);
+        self.into_end()
+    }
+}
+
+/// Runs the script, which offers so many chains, to its end, or until all are to end.
+pub(crate) fn drive<R: Wait>(
+    rt: &R,
+    alloc: Global,
+    guest: &Mutex<Guest>,
+    bell: &Bell,
+    script: &[Order],
+    chains: usize,
+) -> DriverEnd
+    requires { chains ≡ chain_orders script.now }
+    ensures { LeavesAll result.complete (vec_len result.answers) chains }
+{
+    let _ = chains;
+    Driver::new(alloc, script).run(rt, guest, bell)
+}

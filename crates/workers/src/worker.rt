@@ -1,0 +1,230 @@
+//! A guest's worker: it pops, submits, and publishes what may leave.
+ghost use Rattle.std.specs.Prelude.{◌≡◌, ◌+◌, ◌<◌, vec_len};
+
+use crate::desk::Desk;
+use crate::gate::{Gate, Place, Who};
+use crate::seat::{Guest, Next, Seat};
+use host::HostFault;
+use mmio_transport::{DeviceFault, Job};
+use rpmb_book::{Receipt, Refused, Tally};
+use std::alloc::Global;
+use std::sync::ledger::{Ledger, Share};
+use std::sync::{Mutex, Wait};
+
+/// What a guest's worker keeps to itself: its tally, a share of the ledger that counts the same, and a
+/// receipt for each job that the book answered.
+#[derive(Drop)]
+pub struct Worker<L: Ledger> {
+    tally: Tally,
+    share: Share<L>,
+    receipts: Vec<Receipt>,
+    /// A job that the book hasn't answered.
+    job: Option<Job>,
+    fault: Option<HostFault>,
+    ghost one_part: { share.parts ≡ 1 },
+    ghost counted: { tally.count ≡ share.amount },
+    ghost received: { vec_len receipts ≡ tally.count },
+}
+
+/// What a worker leaves.
+#[derive(Drop)]
+pub struct Served {
+    /// How many of its guest's jobs were answered.
+    pub tally: Tally,
+    /// A receipt for each of them, in their order.
+    pub receipts: Vec<Receipt>,
+    ghost received: { vec_len receipts ≡ tally.count },
+}
+
+impl<L: Ledger> Worker<L> {
+    /// A worker that has submitted nothing.
+    pub(crate) fn new(alloc: Global, tally: Tally, share: Share<L>) -> Worker<L>
+        requires part { share.parts ≡ 1 }
+        requires none { share.amount ≡ 0 }
+        requires fresh { tally.count ≡ 0 }
+        ensures { result.tally ≡ tally }
+    {
+        Worker {
+            tally,
+            share,
+            receipts: Vec::new(alloc),
+            job: None,
+            fault: None,
+        }
+    }
+
+    /// Pops a job where it has none. Whether it did.
+    fn pop(&mut self, rt: &impl Wait, guest: &Mutex<Guest>) -> Result<bool, HostFault>
+        ensures { self.new.tally ≡ self.old.tally }
+    {
+        if self.job.is_some() {
+            return Ok(false);
+        }
+        let popped = guest.lock(rt).pop();
+        match popped {
+            Ok(job) => {
+                self.job = job;
+                Ok(self.job.is_some())
+            }
+            Err(DeviceFault::NoMemory) => Err(HostFault::NoMemory),
+            // That the device stopped is the driver's to tell.
+            Err(DeviceFault::Refused(_)) => Ok(false),
+            Err(DeviceFault::NeedsReset) => Ok(false),
+        }
+    }
+
+    /// Submits the job under the desk's lock; room for its receipt is made before. Whether the book
+    /// answered it: where the guest is busy the worker keeps the job.
+    fn submit(
+        &mut self,
+        rt: &impl Wait,
+        desk: &Mutex<Desk<L>>,
+        alloc: Global,
+        job: Job,
+    ) -> Result<bool, HostFault>
+        ensures { self.new.tally.guest ≡ self.old.tally.guest }
+    {
+        if self.receipts.reserve(1).is_err() {
+            return Err(HostFault::NoMemory);
+        }
+        let Worker {
+            tally,
+            share,
+            receipts,
+            job: place,
+            fault: _,
+        } = self;
+        let answer = desk.lock(rt).submit(alloc, tally, share, job);
+        match answer {
+            Ok(receipt) => {
+                receipts.push_reserved(receipt);
+                Ok(true)
+            }
+            Err((job, Refused::Busy)) => {
+                *place = Some(job);
+                Ok(false)
+            }
+            Err((_, Refused::Foreign)) => Err(HostFault::Foreign),
+            Err((_, Refused::HistoryFull)) => Err(HostFault::HistoryFull),
+            Err((_, Refused::NoMemory)) => Err(HostFault::NoMemory),
+        }
+    }
+
+    /// Collects a reply that may leave, and publishes it. Whether there was one.
+    fn publish(&mut self, rt: &impl Wait, guest: &Mutex<Guest>, desk: &Mutex<Desk<L>>) -> bool
+        ensures { self.new.tally ≡ self.old.tally }
+    {
+        let number = self.tally.guest();
+        let due = desk.lock(rt).collect(number);
+        let Some(done) = due else {
+            return false;
+        };
+        // A reply of an earlier session is dropped.
+        let _ = guest.lock(rt).publish(done);
+        true
+    }
+
+    /// One look for work: a pop where it has no job, a submit where it has one, and one reply. No lock is
+    /// held where the gate is told.
+    pub(crate) fn turn<G: Gate>(
+        &mut self,
+        rt: &impl Wait,
+        alloc: Global,
+        seat: &Seat<'_, L>,
+        gate: &G,
+    ) -> Result<Next, HostFault>
+        ensures { self.new.tally.guest ≡ self.old.tally.guest }
+    {
+        let who = Who::Worker(self.tally.guest());
+        let finished = seat.guest.lock(rt).is_finished();
+        let stopped = seat.guest.lock(rt).is_stopped();
+        let mut moved = false;
+        if self.pop(rt, seat.guest)? {
+            gate.at(who, Place::Popped);
+            moved = true;
+        }
+        if let Some(job) = self.job.take() {
+            if self.submit(rt, seat.desk, alloc, job)? {
+                gate.at(who, Place::Submitted);
+                seat.bell.ring(rt);
+                moved = true;
+            }
+        }
+        if self.publish(rt, seat.guest, seat.desk) {
+            gate.at(who, Place::Published);
+            seat.bell.ring(rt);
+            moved = true;
+        }
+        if moved {
+            return Ok(Next::Again);
+        }
+        if !stopped && seat.guest.lock(rt).is_stopped() {
+            seat.bell.ring(rt);
+        }
+        Ok(if finished { Next::End } else { Next::Rest })
+    }
+
+    /// Looks for work until the guest's driver has ended and nothing is left, or all are to end.
+    pub(crate) fn run<G: Gate>(
+        mut self,
+        rt: &impl Wait,
+        alloc: Global,
+        seat: &Seat<'_, L>,
+        gate: &G,
+    ) -> Worker<L>
+        ensures { result.tally.guest ≡ self.tally.guest }
+    {
+        for _ in rt.forever() {
+            let look = seat.bell.look(rt);
+            if look.stopped {
+                break;
+            }
+            match self.turn(rt, alloc, seat, gate) {
+                Ok(Next::Again) => {}
+                Ok(Next::Rest) => seat.bell.wait(rt, look.count),
+                Ok(Next::End) => break,
+                Err(fault) => {
+                    self.fail(fault);
+                    seat.bell.stop(rt);
+                    break;
+                }
+            }
+        }
+        seat.bell.leave(rt);
+        self
+    }
+
+    fn fail(&mut self, fault: HostFault)
+        ensures { self.new.tally ≡ self.old.tally }
+    {
+        self.fault = Some(fault);
+    }
+
+    /// Its share, and what it leaves.
+    pub(crate) fn into_served(self) -> (Share<L>, Served)
+        ensures part { result.0.parts ≡ 1 }
+        ensures counted { result.0.amount ≡ result.1.tally.count }
+        ensures tally { result.1.tally ≡ self.tally }
+    {
+        let Worker {
+            tally,
+            share,
+            receipts,
+            job: _,
+            fault: _,
+        } = self;
+        (share, Served { tally, receipts })
+    }
+
+    /// The number of its guest.
+    pub(crate) fn number(&self) -> u16
+        ensures { result ≡ self.now.tally.guest }
+    {
+        self.tally.guest()
+    }
+
+    /// Why it ended before its guest's driver, where it did.
+    pub(crate) fn fault(&self) -> Option<HostFault> {
+        self.fault
+    }
+}
