@@ -1,7 +1,8 @@
 //! A guest's driver: it offers the chains of a script, and keeps an answer to each.
-ghost use Rattle.std.specs.Prelude.{◌≡◌, ◌+◌, ◌≤◌, ◌<◌, true, length, take, vec_len, IsTrue, Some, slice_get};
+ghost use Rattle.std.specs.Prelude.{◌≡◌, ◌+◌, ◌≤◌, ◌<◌, true, length, take, vec_len, IfOk, IsTrue, Some, slice_get};
 ghost use Rattle.std.specs.Option.{option_copied};
 ghost use Rattle.workers.specs.Orders.{LeavesAll, chain_orders, chains_in};
+ghost use Rattle.workers.specs.Turns.{Drives, Offers, Reaps};
 
 use crate::bell::Bell;
 use crate::order::Order;
@@ -56,7 +57,7 @@ impl<'a> Driver<'a> {
 
     /// Whether the device came into service: if not, no chain has an answer until a reset.
     fn renew(&mut self, in_service: bool)
-        ensures { self.new.script ≡ self.old.script }
+        ensures { (self.new.script ≡ self.old.script) × (self.new.next ≡ self.old.next) × (self.new.answers ≡ self.old.answers) }
     {
         self.stuck = if in_service {
             None
@@ -66,7 +67,7 @@ impl<'a> Driver<'a> {
     }
 
     fn stick(&mut self, stuck: Stuck)
-        ensures { self.new.script ≡ self.old.script }
+        ensures { (self.new.script ≡ self.old.script) × (self.new.next ≡ self.old.next) × (self.new.answers ≡ self.old.answers) }
     {
         self.stuck = Some(stuck);
     }
@@ -74,7 +75,8 @@ impl<'a> Driver<'a> {
     /// The oldest chain without an answer has this one. Room was made for it.
     fn answer(&mut self, answer: Answer) -> Result<bool, HostFault>
         requires { 0 < self.old.outstanding }
-        ensures { self.new.script ≡ self.old.script }
+        ensures script { (self.new.script ≡ self.old.script) × (self.new.next ≡ self.old.next) }
+        ensures answers { IfOk result (λ moved. Reaps (vec_len self.old.answers) moved (vec_len self.new.answers)) }
     {
         if self.answers.reserve(1).is_err() {
             return Err(HostFault::NoMemory);
@@ -86,7 +88,8 @@ impl<'a> Driver<'a> {
 
     /// Looks for the answer to the oldest chain that has none. Whether something came of it.
     fn reap(&mut self, rt: &impl Wait, guest: &Mutex<Guest>) -> Result<bool, HostFault>
-        ensures { self.new.script ≡ self.old.script }
+        ensures script { (self.new.script ≡ self.old.script) × (self.new.next ≡ self.old.next) }
+        ensures answers { IfOk result (λ moved. Reaps (vec_len self.old.answers) moved (vec_len self.new.answers)) }
     {
         if self.outstanding == 0 {
             return Ok(false);
@@ -112,7 +115,8 @@ impl<'a> Driver<'a> {
 
     /// Goes on in the script, where the queue has room; before a reset each chain has to have its answer.
     fn offer(&mut self, rt: &impl Wait, guest: &Mutex<Guest>) -> Result<bool, HostFault>
-        ensures { self.new.script ≡ self.old.script }
+        ensures script { (self.new.script ≡ self.old.script) × (self.new.answers ≡ self.old.answers) }
+        ensures next { IfOk result (λ moved. Offers self.old.next moved self.new.next) }
     {
         let Some(order) = self.order() else {
             return Ok(false);
@@ -157,7 +161,8 @@ impl<'a> Driver<'a> {
         requires here { slice_get self.old.script.now self.old.next ≡ Some order.now }
         requires chain { chains_in order.now ≡ 1 }
         requires room { self.old.outstanding < 256 }
-        ensures { self.new.script ≡ self.old.script }
+        ensures script { (self.new.script ≡ self.old.script) × (self.new.answers ≡ self.old.answers) }
+        ensures next { self.new.next ≡ self.old.next + 1 }
     {
         self.outstanding += 1;
         self.next += 1;
@@ -168,7 +173,8 @@ impl<'a> Driver<'a> {
     fn count_reset(&mut self, order: &Order)
         requires here { slice_get self.old.script.now self.old.next ≡ Some order.now }
         requires reset { chains_in order.now ≡ 0 }
-        ensures { self.new.script ≡ self.old.script }
+        ensures script { (self.new.script ≡ self.old.script) × (self.new.answers ≡ self.old.answers) }
+        ensures next { self.new.next ≡ self.old.next + 1 }
     {
         let _ = order;
         self.next += 1;
@@ -184,7 +190,8 @@ impl<'a> Driver<'a> {
 
     /// One look for work: one answer, and one order.
     fn turn(&mut self, rt: &impl Wait, guest: &Mutex<Guest>) -> Result<Next, HostFault>
-        ensures { self.new.script ≡ self.old.script }
+        ensures script { self.new.script ≡ self.old.script }
+        ensures drives { IfOk result (λ next. Drives (vec_len self.old.answers) self.old.next next (vec_len self.new.answers) self.new.next) }
     {
         let reaped = self.reap(rt, guest)?;
         let offered = self.offer(rt, guest)?;

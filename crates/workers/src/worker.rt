@@ -1,5 +1,6 @@
 //! A guest's worker: it pops, submits, and publishes what may leave.
-ghost use Rattle.std.specs.Prelude.{◌≡◌, ◌+◌, ◌<◌, vec_len};
+ghost use Rattle.std.specs.Prelude.{◌≡◌, ◌+◌, ◌<◌, IfOk, None, vec_len};
+ghost use Rattle.workers.specs.Turns.{HandsIn, Pops, Submits, TakesIn, Works};
 
 use crate::desk::Desk;
 use crate::gate::{Gate, Place, Who};
@@ -55,7 +56,8 @@ impl<L: Ledger> Worker<L> {
 
     /// Pops a job where it has none. Whether it did.
     fn pop(&mut self, rt: &impl Wait, guest: &Mutex<Guest>) -> Result<bool, HostFault>
-        ensures { self.new.tally ≡ self.old.tally }
+        ensures tally { self.new.tally ≡ self.old.tally }
+        ensures pops { IfOk result (λ popped. Pops self.old.job popped self.new.job) }
     {
         if self.job.is_some() {
             return Ok(false);
@@ -82,7 +84,9 @@ impl<L: Ledger> Worker<L> {
         alloc: Global,
         job: Job,
     ) -> Result<bool, HostFault>
-        ensures { self.new.tally.guest ≡ self.old.tally.guest }
+        requires empty { self.old.job ≡ None }
+        ensures guest { self.new.tally.guest ≡ self.old.tally.guest }
+        ensures submits { IfOk result (λ answered. Submits job self.old.tally.count answered self.new.tally.count self.new.job) }
     {
         if self.receipts.reserve(1).is_err() {
             return Err(HostFault::NoMemory);
@@ -112,7 +116,7 @@ impl<L: Ledger> Worker<L> {
 
     /// Collects a reply that may leave, and publishes it. Whether there was one.
     fn publish(&mut self, rt: &impl Wait, guest: &Mutex<Guest>, desk: &Mutex<Desk<L>>) -> bool
-        ensures { self.new.tally ≡ self.old.tally }
+        ensures { (self.new.tally ≡ self.old.tally) × (self.new.job ≡ self.old.job) }
     {
         let number = self.tally.guest();
         let due = desk.lock(rt).collect(number);
@@ -124,6 +128,47 @@ impl<L: Ledger> Worker<L> {
         true
     }
 
+    /// Submits the job that it has. Whether the book answered it.
+    fn hand_in<G: Gate>(
+        &mut self,
+        rt: &impl Wait,
+        alloc: Global,
+        seat: &Seat<'_, L>,
+        gate: &G,
+    ) -> Result<bool, HostFault>
+        ensures guest { self.new.tally.guest ≡ self.old.tally.guest }
+        ensures hands_in { IfOk result (λ answered. HandsIn self.old.tally.count self.old.job answered self.new.tally.count self.new.job) }
+    {
+        let Some(job) = self.job.take() else {
+            return Ok(false);
+        };
+        let answered = self.submit(rt, seat.desk, alloc, job)?;
+        if answered {
+            gate.at(Who::Worker(self.tally.guest()), Place::Submitted);
+            seat.bell.ring(rt);
+        }
+        Ok(answered)
+    }
+
+    /// Pops a job where it has none, and submits the one that it has. Whether something came of it.
+    fn take_in<G: Gate>(
+        &mut self,
+        rt: &impl Wait,
+        alloc: Global,
+        seat: &Seat<'_, L>,
+        gate: &G,
+    ) -> Result<bool, HostFault>
+        ensures guest { self.new.tally.guest ≡ self.old.tally.guest }
+        ensures takes { IfOk result (λ moved. TakesIn self.old.tally.count self.old.job moved self.new.tally.count self.new.job) }
+    {
+        let popped = self.pop(rt, seat.guest)?;
+        if popped {
+            gate.at(Who::Worker(self.tally.guest()), Place::Popped);
+        }
+        let answered = self.hand_in(rt, alloc, seat, gate)?;
+        Ok(popped || answered)
+    }
+
     /// One look for work: a pop where it has no job, a submit where it has one, and one reply. No lock is
     /// held where the gate is told.
     pub(crate) fn turn<G: Gate>(
@@ -133,31 +178,21 @@ impl<L: Ledger> Worker<L> {
         seat: &Seat<'_, L>,
         gate: &G,
     ) -> Result<Next, HostFault>
-        ensures { self.new.tally.guest ≡ self.old.tally.guest }
+        ensures guest { self.new.tally.guest ≡ self.old.tally.guest }
+        ensures works { IfOk result (λ next. Works self.old.tally.count self.old.job next self.new.tally.count self.new.job) }
     {
-        let who = Who::Worker(self.tally.guest());
         let finished = seat.guest.lock(rt).is_finished();
         let stopped = seat.guest.lock(rt).is_stopped();
-        let mut moved = false;
-        if self.pop(rt, seat.guest)? {
-            gate.at(who, Place::Popped);
-            moved = true;
-        }
-        if let Some(job) = self.job.take() {
-            if self.submit(rt, seat.desk, alloc, job)? {
-                gate.at(who, Place::Submitted);
-                seat.bell.ring(rt);
-                moved = true;
-            }
-        }
-        if self.publish(rt, seat.guest, seat.desk) {
-            gate.at(who, Place::Published);
+        let moved = self.take_in(rt, alloc, seat, gate)?;
+        let published = self.publish(rt, seat.guest, seat.desk);
+        if published {
+            gate.at(Who::Worker(self.tally.guest()), Place::Published);
             seat.bell.ring(rt);
-            moved = true;
         }
-        if moved {
+        if moved || published {
             return Ok(Next::Again);
         }
+        // That the device stopped since is the driver's to tell.
         if !stopped && seat.guest.lock(rt).is_stopped() {
             seat.bell.ring(rt);
         }
