@@ -1,3 +1,4 @@
+mod alone;
 mod failing;
 mod scene;
 mod threads;
