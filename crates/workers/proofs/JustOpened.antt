@@ -1,5 +1,5 @@
 -- A board that was just opened, in parts.
-use Rattle.std.proofs.Common.{◌≡◌, ◌+◌, ◌<◌, ℕ, zero, suc, List, [], ◌∷◌, Option, Some, None, length, get_or, replicate, refl, ap, subst, sym, ◌∙◌, arith}
+use Rattle.std.proofs.Common.{◌≡◌, ℕ, zero, suc, List, Option, None, length, replicate, refl, ap, subst, sym, ◌∙◌, arith}
 use Rattle.std.specs.Prelude.{All}
 use Rattle.disk.specs.Disk.{DiskState}
 use Rattle.rpmb_frame.specs.declared.config.GuestConfig.{GuestConfig}
