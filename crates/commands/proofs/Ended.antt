@@ -1,5 +1,5 @@
 -- Which faults end a command.
-use Rattle.std.proofs.Common.{◌≡◌, ℕ, List, Option, Some, Ok, Err, Result, inl, inr, length, map, refl, subst, sym, true}
+use Rattle.std.proofs.Common.{◌≡◌, ℕ, List, Option, Some, Ok, Err, Result, inl, inr, length, map, refl, subst, true}
 use Rattle.std.specs.Prelude.{IfErr}
 use Rattle.rpmb_frame.specs.declared.config.GuestConfig.{GuestConfig}
 use Rattle.commands.specs.declared.fault.Fault.{Fault}

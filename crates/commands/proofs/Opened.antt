@@ -36,7 +36,7 @@ use Rattle.commands.specs.Fault.{fault_of_image}
 use Rattle.commands.specs.Image.{Fails, Finishes, IsLastOf, IsOpened, Ran, Tells}
 use Rattle.commands.specs.Moments.{MovesTo}
 use Rattle.commands.specs.Running.{AreGuests, AreWithin, IsAt}
-use Rattle.commands.specs.Transcript.{AreSplit, StoresNothing, Told, first_cores, first_told, partitions_after, told_after, transcript}
+use Rattle.commands.specs.Transcript.{AreSplit, StoresNothing, Told, first_cores, first_told, partitions_after, told_after}
 use Rattle.commands.specs.declared.fault.Fault.{Fault}
 use Rattle.commands.specs.declared.fault.Fault.TheVariants as fault
 use Rattle.commands.proofs.Stopped.{all_on, first_on}

@@ -1,5 +1,5 @@
 -- Which faults a line may come to.
-use Rattle.std.proofs.Common.{◌≡◌, ◌+◌, ◌<◌, ◌≤◌, ℕ, Bool, true, false, List, [], ◌∷◌, Option, Some, None, Ok, Err, ap, arith, length, refl, subst, sym, ◌∙◌}
+use Rattle.std.proofs.Common.{◌≡◌, ◌+◌, ◌<◌, ◌≤◌, ℕ, Bool, true, false, List, Option, Some, None, Ok, Err, arith, length, refl, subst, sym}
 use Rattle.std.specs.Prelude.{All, nat_lt, slice_get}
 use Rattle.std.proofs.lemmas.Bool.Decides.{nat_tests}
 use Rattle.std.proofs.lemmas.Option.{get_or_from_slice_get, slice_get_within}
@@ -8,12 +8,11 @@ use Rattle.rpmb_frame.specs.Layout.{layout}
 use Rattle.rpmb_frame.specs.declared.config.GuestConfig.{GuestConfig}
 use Rattle.rpmb_frame.specs.declared.config.RingKind.{RingKind}
 use Rattle.rpmb_frame.specs.declared.config.RingKind.TheVariants.{Split}
-use Rattle.guest_memory.specs.Memory.{IsInside}
 use Rattle.mmio_transport.specs.declared.queue.QueueKind.{QueueKind}
 use Rattle.mmio_transport.specs.declared.queue.QueueKind.TheVariants.{Split as SplitQueue}
 use Rattle.guest_driver.specs.Driver.{HasTooFew, owner}
 use Rattle.guest_driver.specs.Kinds.{needed}
-use Rattle.script.specs.Line.{IsWithin, nothing, chain, store, reset}
+use Rattle.script.specs.Line.{IsWithin, chain, store, reset}
 use Rattle.host.specs.Guest.{GuestView, StoresInto}
 use Rattle.host.specs.Host.{ChainsAt, HostChains, HostResetsGuest, HostStores, HostView, ResetsAt, StoresAt, StuckBy}
 use Rattle.host.specs.Reasons.{ChainReason, HostExplains, HostKeeps, IsGuestOf, ReasonAt}

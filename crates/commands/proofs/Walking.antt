@@ -1,17 +1,16 @@
 -- The moments of a run, line by line.
-use Rattle.std.proofs.Common.{◌≡◌, ◌⊎◌, ◌≤◌, ◌<◌, ◌+◌, ⊎_elim, inl, inr, ℕ, Bool, true, false, List, [], ◌∷◌, ◌++◌, Option, Some, Result, Ok, Err, length, map, refl, ap, sym, subst, ◌∙◌, arith}
-use Rattle.std.specs.Prelude.{get_or, is_ok, not, slice_get}
-use Rattle.std.proofs.lemmas.List.{append_assoc, append_cancel_right, append-nil}
+use Rattle.std.proofs.Common.{◌≡◌, ◌≤◌, ◌<◌, ◌+◌, inl, inr, ℕ, Bool, true, false, List, [], ◌∷◌, ◌++◌, Option, Some, Result, Ok, Err, length, map, refl, ap, sym, subst, ◌∙◌, arith}
+use Rattle.std.specs.Prelude.{is_ok, not, slice_get}
+use Rattle.std.proofs.lemmas.List.{append_assoc, append_cancel_right}
 use Rattle.std.proofs.lemmas.Option.{get_or_from_slice_get, slice_get-get_or}
-use Rattle.std.proofs.KnownBytes.{Appends-kept, Appends-nil, Keeps-refl, Keeps-trans}
+use Rattle.std.proofs.KnownBytes.{Keeps-refl, Keeps-trans}
 use Rattle.std.specs.Io.KnownBytes.{Appends, Keeps}
 use Rattle.rpmb_frame.specs.Config.{IsBoard}
 use Rattle.rpmb_frame.specs.Partition.{Partition, sequence}
 use Rattle.rpmb_frame.specs.Request.{Request}
 use Rattle.rpmb_frame.specs.declared.config.GuestConfig.{GuestConfig}
-use Rattle.rpmb_core.specs.Requests.{partition_after_all}
 use Rattle.rpmb_core.proofs.Following.{sequence_of_all}
-use Rattle.disk.specs.Disk.{DiskCall, DiskState, HasRisen, Still, Within}
+use Rattle.disk.specs.Disk.{DiskCall, DiskState, Still, Within}
 use Rattle.recovery.specs.Opening.{Untouched}
 use Rattle.recovery.proofs.Ways.{untouched_here}
 use Rattle.flusher.specs.Marks.{marks_of}
@@ -24,16 +23,16 @@ use Rattle.board.specs.Opening.{bases_of}
 use Rattle.board.specs.State.{BoardState, guests}
 use Rattle.board.proofs.Stays.{marks_at}
 use Rattle.host.specs.Calm.{IsCalm, is_broken}
-use Rattle.host.specs.Host.{HostState, HostView, seen}
+use Rattle.host.specs.Host.{HostState, seen}
 use Rattle.host.specs.Moving.{Moves}
-use Rattle.host.proofs.Moving.{moves_none, moves_twice}
+use Rattle.host.proofs.Moving.{moves_none}
 use Rattle.host.proofs.Settled.{below}
 use Rattle.commands.specs.Ending.{IsOfBeginning, IsOfOpening, IsOfReading, KeepsUnless}
 use Rattle.commands.specs.Failing.{IsFailedIn, text_when, told_when}
 use Rattle.commands.specs.Image.{Finishes, IsOpened}
-use Rattle.commands.specs.Moments.{AnyMoment, Begun, Comes, IsDone, IsRefused, IsTold, Leads, LinesCome, MayEnd, Moment, MovesTo, PrintsLine, WholeRun, Starts, Stopped, Trail, Walked, Went, moment_of}
+use Rattle.commands.specs.Moments.{AnyMoment, Begun, IsTold, Leads, LinesCome, MayEnd, Moment, MovesTo, PrintsLine, Starts, Walked, Went, moment_of}
 use Rattle.commands.specs.Reasons.{NextEnds}
-use Rattle.commands.specs.Running.{AreWithin, IsAt}
+use Rattle.commands.specs.Running.{AreWithin}
 use Rattle.commands.specs.Transcript.{AreSplit, StoresNothing, first_told}
 use Rattle.commands.specs.declared.fault.Fault.{Fault}
 use Rattle.commands.specs.declared.fault.Fault.TheVariants as fault

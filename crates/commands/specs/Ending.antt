@@ -17,7 +17,7 @@ use Rattle.script.specs.declared.line.Line.{Line}
 use Rattle.rpmb_frame.specs.Partition.{Partition}
 use Rattle.commands.specs.Image.{AreOf}
 use Rattle.commands.specs.Running.{AreWithin, IsChain, answered_in}
-use Rattle.commands.specs.Transcript.{AreSplit, IsBadAt, Says, StoresNothing, Told, first_told, output_of}
+use Rattle.commands.specs.Transcript.{AreSplit, IsBadAt, Says, StoresNothing, Told, first_told}
 use Rattle.commands.specs.Failing.{HasFailed, IsChainAt, text_when}
 
 abbrev pub IsRun : Command → Type 0

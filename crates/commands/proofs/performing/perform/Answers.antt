@@ -1,4 +1,4 @@
-use Rattle.std.proofs.Common.{◌≡◌, List, ℕ, Option, Err, ap, subst, sym, ◌∙◌}
+use Rattle.std.proofs.Common.{List, ℕ, Option, ap, subst, sym, ◌∙◌}
 use Rattle.command_line.specs.declared.command.Command.{Command}
 use Rattle.commands.specs.Ending.{Ends, IsReadAlone, IsShow, Prints}
 use Rattle.commands.specs.Moments.{AnyMoment, FaultMoments}

@@ -1,4 +1,4 @@
-use Rattle.std.proofs.Common.{◌≡◌, List, Ok, length, subst, sym}
+use Rattle.std.proofs.Common.{List, Ok, length, subst, sym}
 use Rattle.rpmb_frame.specs.declared.config.GuestConfig.{GuestConfig}
 use Rattle.script.specs.Line.{IsWithin, chain}
 use Rattle.std.proofs.lemmas.Result.{IfErr-weaker, on_ok_weaker}

@@ -1,7 +1,7 @@
 use Rattle.std.proofs.Common.{List, OnOk, length, refl, subst, sym}
 use Rattle.std.specs.Prelude.{IfErr}
 use Rattle.rpmb_frame.specs.declared.config.GuestConfig.{GuestConfig}
-use Rattle.script.specs.Line.{IsWithin, chain, reset, said, store}
+use Rattle.script.specs.Line.{IsWithin, chain, reset, said}
 use Rattle.script.specs.declared.line.Line.{Line}
 use Rattle.host.specs.Calm.{is_broken}
 use Rattle.host.specs.Host.{seen}
@@ -11,7 +11,7 @@ use Rattle.commands.specs.Reasons.{IsHostOf, LineEnds}
 use Rattle.commands.specs.Running.{Fails}
 use Rattle.host.proofs.Moving.{moves_none}
 use Rattle.commands.proofs.Lines.{nothing_runs, reset_ends, reset_runs}
-use Rattle.commands.proofs.Reasons.{kept_hosts, reset_stops, store_stops}
+use Rattle.commands.proofs.Reasons.{kept_hosts, reset_stops}
 use Rattle.commands.proofs.Until.{breaks_none}
 use Rattle.commands.proofs.running.run_line.Goals as goal
 

@@ -5,7 +5,7 @@ use Rattle.host.specs.Calm.{is_broken}
 use Rattle.host.specs.Host.{seen}
 use Rattle.commands.proofs.Opened.{finished_at, line_ended, ran_well, stopped_at}
 use Rattle.commands.proofs.Until.{tells_of}
-use Rattle.commands.proofs.Walking.{finish_only, of_opening, run_finished, run_refused, run_stopped, run_unwritten}
+use Rattle.commands.proofs.Walking.{finish_only, run_finished, run_stopped, run_unwritten}
 use Rattle.commands.proofs.running.run_on.Goals as goal
 
 pub returns-in-Ok-ran-clause-ran : goal.returns-in-Ok-ran-clause-ran
