@@ -2,11 +2,12 @@
 //! what a board's steps are measured against.
 ghost use Rattle.std.specs.Prelude.{IfOk};
 ghost use Rattle.board.specs.State.{HasNothingBetween};
+ghost use Rattle.host.specs.Opening.{IsJustOpened};
 
 use crate::images::{give, new_disk};
 use anyhow::{Result, bail};
 use board::Board;
-use disk::MemDisk;
+use disk::{Disk, MemDisk};
 use flusher::{Progress, Store};
 use mmio_transport::{Done, Job};
 use rpmb_book::{Book, Shares, Tally};
@@ -28,11 +29,12 @@ pub struct Host {
     store: Store<MemDisk>,
 }
 
-/// A board over a fresh image of it, of which no step was made.
-pub fn new_board(alloc: Global, config: &BoardConfig) -> Result<Board<MemDisk>>
-    ensures { IfOk result HasNothingBetween }
+/// A board over a disk with a fresh image of it, of which no step was made.
+pub fn new_board<D: Disk>(alloc: Global, disk: D, config: &BoardConfig) -> Result<Board<D>>
+    ensures opened { IfOk result (λ b. IsJustOpened D.state config.now b) }
+    ensures between { IfOk result HasNothingBetween }
 {
-    match Board::open(alloc, new_disk(alloc, config)?, LIFE, config) {
+    match Board::open(alloc, disk, LIFE, config) {
         Ok(board) => Ok(board),
         Err((_disk, fault)) => bail!("{fault}"),
     }
@@ -41,7 +43,7 @@ pub fn new_board(alloc: Global, config: &BoardConfig) -> Result<Board<MemDisk>>
 impl Host {
     /// The host of a board's guests, of whom nothing was asked yet, over a fresh image. Their devices go.
     pub fn new(alloc: Global, config: &BoardConfig) -> Result<Host> {
-        let parts = new_board(alloc, config)?.into_parts();
+        let parts = new_board(alloc, new_disk(alloc, config)?, config)?.into_parts();
         Ok(Host {
             book: parts.book,
             tallies: parts.tallies,

@@ -2,15 +2,16 @@
 ghost use Rattle.std.specs.Prelude.{◌<◌, ◌≤◌};
 
 use crate::books::Host;
+use crate::images::board_of;
 use crate::requests::{key, write};
 use anyhow::{Result, bail};
 use guest_driver::Driver;
 use mmio_transport::{Device, Published};
-use rpmb_frame::{BoardConfig, DATA_READ, Frame, GET_WRITE_COUNTER, GuestConfig};
+use rpmb_frame::{DATA_READ, Frame, GET_WRITE_COUNTER, GuestConfig};
 use std::alloc::Global;
 
 /// The bytes of the longest request.
-const LONGEST: usize = 8704;
+pub const LONGEST: usize = 8704;
 
 /// What is asked for.
 #[derive(Clone, Copy)]
@@ -33,7 +34,7 @@ impl Kind {
     }
 
     /// The bytes of its reply.
-    fn writable(self) -> u32
+    pub fn writable(self) -> u32
         ensures some { 0 < result }
         ensures most { result ≤ 8192 }
     {
@@ -44,7 +45,7 @@ impl Kind {
     }
 
     /// Where a good reply to it ends: the result 0x0000 and its type.
-    fn end(self) -> [u8; 4] {
+    pub fn end(self) -> [u8; 4] {
         match self {
             Kind::Counter => [0, 0, 2, 0],
             Kind::Write => [0, 0, 3, 0],
@@ -84,7 +85,7 @@ pub struct Guest {
 /// A guest whose device is in service.
 fn guest_in_service(alloc: Global) -> Result<Guest> {
     let config = GuestConfig::of_capacity(1);
-    let board = BoardConfig::new(vec![in alloc; config; 1]?)?;
+    let board = board_of(alloc, 1)?;
     let (Ok(mut device), Ok(mut driver)) = (
         Device::new(alloc, 0, &config),
         Driver::new(alloc, &config),

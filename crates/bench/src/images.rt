@@ -7,7 +7,7 @@ use disk::{Disk, MemDisk};
 use flusher::{Progress, Store};
 use intent_slots::{Intent, Layout, Side};
 use recovery::{format, open};
-use rpmb_frame::BoardConfig;
+use rpmb_frame::{BoardConfig, GuestConfig};
 use std::alloc::Global;
 
 /// How many calls were made to a disk, and how many of them were syncs.
@@ -17,15 +17,31 @@ pub struct Calls {
     pub syncs: u32,
 }
 
-/// A disk with the fresh image of a board.
-pub fn new_disk(alloc: Global, board: &BoardConfig) -> Result<MemDisk> {
+/// A board of so many guests, all alike.
+pub fn board_of(alloc: Global, guests: u16) -> Result<BoardConfig> {
+    let guest = GuestConfig::of_capacity(1);
+    Ok(BoardConfig::new(vec![in alloc; guest; usize::from(guests)]?)?)
+}
+
+/// A disk in memory as long as the image of a board.
+pub fn blank_disk(alloc: Global, board: &BoardConfig) -> Result<MemDisk> {
     let length = Layout::of(board).length();
-    let mut disk = MemDisk::new(vec![in alloc; 0u8; length as usize]?);
-    if disk.len() != length {
+    Ok(MemDisk::new(vec![in alloc; 0u8; length as usize]?))
+}
+
+/// The disk, with the fresh image of a board on it.
+pub fn formatted<D: Disk>(disk: D, board: &BoardConfig) -> Result<D> {
+    let mut disk = disk;
+    if disk.len() != Layout::of(board).length() {
         bail!("a disk of another length than its image");
     }
     format(&mut disk, board)?;
     Ok(disk)
+}
+
+/// A disk in memory with the fresh image of a board.
+pub fn new_disk(alloc: Global, board: &BoardConfig) -> Result<MemDisk> {
+    formatted(blank_disk(alloc, board)?, board)
 }
 
 /// The store over the image of a board.

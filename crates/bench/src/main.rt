@@ -8,19 +8,24 @@
 //! - of `open`: of openings;
 //! - of `board`: of writes of each of 64 guests, which a board's steps settle, its book and store, and its
 //!   store alone;
-//! - of `run`: of writes of one guest by a script, which its store alone settles, too.
+//! - of `run`: of writes of one guest by a script, which its store alone settles, too;
+//! - of `serve`: of requests of each of 1, 2 and 4 guests, which threads serve at once, and one thread one
+//!   after another: for the counter, and writes that are settled on a disk in memory and in a file.
 //!
 //! Where a book answers (`requests`, `device`), the reply to a write leaves once its store has settled it on
 //! a disk in memory: the times have the calls of that store in them, and no sync of a real disk.
 #![tactic(auto)]
 
 mod books;
+mod desks;
 mod devices;
 mod images;
 mod macs;
 mod requests;
 mod rings;
 mod runs;
+mod serve_times;
+mod serving;
 mod steps;
 mod ways;
 
@@ -29,15 +34,20 @@ use books::Host;
 use devices::{Guest, Kind, new_guest, requests_of, whole};
 use disk::MemDisk;
 use flusher::Store;
-use images::{Calls, give_keys, give_writes, new_disk, new_store, put_writes, read_all, settle};
+use images::{
+    Calls, board_of, give_keys, give_writes, new_disk, new_store, put_writes, read_all, settle,
+};
 use macs::{keyed_macs, plain_macs};
 use recovery::open;
 use requests::{counters, keyed, writes};
 use rings::{Queue, chains, copies, new_queue};
-use rpmb_frame::{BoardConfig, GuestConfig};
+use rpmb_frame::BoardConfig;
 use runs::{run, script_of, settle_each};
+use serve_times::{few_served, time_serve};
 use std::alloc::Global;
 use std::env;
+use std::sync::Wait;
+use std::thread::Threads;
 use std::time::{Duration, Instant};
 use ways::new_ways;
 
@@ -46,8 +56,7 @@ const GUESTS: u16 = 64;
 const KINDS: [Kind; 3] = [Kind::Counter, Kind::Write, Kind::Read];
 
 fn board(alloc: Global) -> Result<BoardConfig> {
-    let guest = GuestConfig::of_capacity(1);
-    Ok(BoardConfig::new(vec![in alloc; guest; usize::from(GUESTS)]?)?)
+    board_of(alloc, GUESTS)
 }
 
 /// Nanoseconds for each of so many.
@@ -282,18 +291,17 @@ fn time_board(rt: &HostRuntime, count: u32) -> Result<()> {
     Ok(())
 }
 
-/// A board of one guest.
-fn one_guest(alloc: Global) -> Result<BoardConfig> {
-    let guest = GuestConfig::of_capacity(1);
-    Ok(BoardConfig::new(vec![in alloc; guest; 1]?)?)
-}
-
 /// Times a script of a key and so many writes; answers the time, and how many bytes it printed.
-fn script_run(rt: &HostRuntime, board: &BoardConfig, count: u32) -> Result<(Duration, usize)> {
+fn script_run<R: AllocGlobal + Threads + Wait + Sync>(
+    rt: &HostRuntime,
+    threads: &R,
+    board: &BoardConfig,
+    count: u32,
+) -> Result<(Duration, usize)> {
     let script = script_of(rt.alloc(), count)?;
     let disk = new_disk(rt.alloc(), board)?;
     let start = Instant::now(rt)?;
-    let printed = run(rt.alloc(), board, script.as_str(), disk)?;
+    let printed = run(threads, board, script.as_str(), disk)?;
     Ok((start.elapsed(rt)?, printed))
 }
 
@@ -307,9 +315,13 @@ fn stored(rt: &HostRuntime, board: &BoardConfig, count: u32) -> Result<Duration>
 
 /// Times writes by a script, by the store alone, and the two MACs of each: of its frame, and of its reply. A
 /// history holds 16,384 requests, one programs the key, and so COUNT is at most 16,383.
-fn time_run(rt: &HostRuntime, count: u32) -> Result<()> {
-    let board = one_guest(rt.alloc())?;
-    let (took, printed) = script_run(rt, &board, count)?;
+fn time_run<R: AllocGlobal + Threads + Wait + Sync>(
+    rt: &HostRuntime,
+    threads: &R,
+    count: u32,
+) -> Result<()> {
+    let board = board_of(rt.alloc(), 1)?;
+    let (took, printed) = script_run(rt, threads, &board, count)?;
     let store_took = stored(rt, &board, count)?;
     let start = Instant::now(rt)?;
     let macs = plain_macs(count.saturating_mul(2));
@@ -372,14 +384,17 @@ fn few_settled(rt: &HostRuntime) -> Result<[u64; 3]> {
 }
 
 /// A key and two writes by a script; answers how many bytes it printed.
-fn few_lines(rt: &HostRuntime) -> Result<usize> {
-    let board = one_guest(rt.alloc())?;
-    let (_, printed) = script_run(rt, &board, 2)?;
+fn few_lines<R: AllocGlobal + Threads + Wait + Sync>(
+    rt: &HostRuntime,
+    threads: &R,
+) -> Result<usize> {
+    let board = board_of(rt.alloc(), 1)?;
+    let (_, printed) = script_run(rt, threads, &board, 2)?;
     Ok(printed)
 }
 
 /// What the gate runs: a few of each, with no times.
-fn checksums(rt: &HostRuntime) -> Result<()> {
+fn checksums<R: AllocGlobal + Threads + Wait + Sync>(rt: &HostRuntime, threads: &R) -> Result<()> {
     let alloc = rt.alloc();
     let macs = plain_macs(3) ^ keyed_macs(4, 1);
     let (counter, write) = few_answers(alloc)?;
@@ -393,14 +408,16 @@ fn checksums(rt: &HostRuntime) -> Result<()> {
     )?;
     let [by_steps, by_calls, by_store] = few_settled(rt)?;
     println!(rt; "{by_steps} {by_calls} {by_store}")?;
-    println!(rt; "{}", few_lines(rt)?)?;
+    println!(rt; "{}", few_lines(rt, threads)?)?;
+    let (turns, told) = few_served(rt, threads)?;
+    println!(rt; "{turns} {told}")?;
     Ok(())
 }
 
 fn main(rt: HostRuntime) -> Result<()> {
     let words: Vec<String> = env::args(&rt)?.collect(rt.alloc())?;
     if words.len() != 3 {
-        return checksums(&rt);
+        return checksums(&rt, &rt);
     }
     let count = words[2].parse::<u32>().context("reading COUNT")?;
     match words[1].as_str() {
@@ -411,7 +428,8 @@ fn main(rt: HostRuntime) -> Result<()> {
         "store" => time_store(&rt, count),
         "open" => time_open(&rt, count),
         "board" => time_board(&rt, count),
-        "run" => time_run(&rt, count),
+        "run" => time_run(&rt, &rt, count),
+        "serve" => time_serve(&rt, &rt, count),
         _ => bail!("no such work"),
     }
 }

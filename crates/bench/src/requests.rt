@@ -9,7 +9,8 @@ use std::alloc::Global;
 
 pub const KEY: [u8; 32] = [0x11; 32];
 
-fn mixed(all: u32, byte: u8) -> u32 {
+/// What was mixed before, and one byte more.
+pub fn mixed(all: u32, byte: u8) -> u32 {
     all.wrapping_mul(31).wrapping_add(u32::from(byte))
 }
 

@@ -9,6 +9,8 @@ use disk::MemDisk;
 use flusher::Store;
 use rpmb_frame::BoardConfig;
 use std::alloc::Global;
+use std::sync::Wait;
+use std::thread::Threads;
 
 /// Appends the line of a chain of guest 0: a request, and room for a reply of 512 bytes.
 fn push_line(alloc: Global, script: &mut String, request: &[u8]) -> Result<()> {
@@ -30,14 +32,20 @@ pub fn script_of(alloc: Global, count: u32) -> Result<String> {
 }
 
 /// Runs a script over an image in memory; answers how many bytes it printed.
-pub fn run(alloc: Global, config: &BoardConfig, script: &str, disk: MemDisk) -> Result<usize> {
+pub fn run<R: AllocGlobal + Threads + Wait + Sync>(
+    threads: &R,
+    config: &BoardConfig,
+    script: &str,
+    disk: MemDisk,
+) -> Result<usize> {
+    let alloc = threads.alloc();
     let command = Command::Run {
         board: "",
         script: "",
     };
     let mut out = Vec::new(alloc);
     let mut err = Vec::new(alloc);
-    let (status, _) = perform(alloc, command, config, script, disk, &mut out, &mut err);
+    let (status, _) = perform(threads, command, config, script, disk, &mut out, &mut err);
     if status != 0 {
         bail!("a run that came to a fault");
     }

@@ -1,5 +1,6 @@
 //! A board whose guests act by steps alone: their drivers write registers and store chains.
 use crate::books::{CALLS, new_board};
+use crate::images::new_disk;
 use crate::requests::key;
 use anyhow::{Result, bail};
 use board::{Act, Board, Seen, Step};
@@ -46,7 +47,7 @@ pub struct Steps {
 pub fn new_steps(alloc: Global, config: &BoardConfig) -> Result<Steps> {
     let mut steps = Steps {
         alloc,
-        board: new_board(alloc, config)?,
+        board: new_board(alloc, new_disk(alloc, config)?, config)?,
         guests: config.guests().len() as u16,
         offered: 0,
     };

@@ -13,8 +13,15 @@ pub enum Command<'a> {
         /// The path of the board file.
         board: &'a str,
     },
-    /// Performs a script on the guests of a board.
+    /// Performs a script on the guests of a board, one line after another.
     Run {
+        /// The path of the board file.
+        board: &'a str,
+        /// The path of the script.
+        script: &'a str,
+    },
+    /// Performs a script on the guests of a board, each guest's lines beside the others'.
+    Serve {
         /// The path of the board file.
         board: &'a str,
         /// The path of the script.

@@ -50,11 +50,17 @@ pub fn program<'a>(alloc: Global) -> Result<Command<'a>, AllocError>
     let run = on_script(
         alloc,
         "run",
-        "Performs a script and prints a line for each chain",
+        "Performs a script, line by line, and prints a line for each chain",
+    )?;
+    let serve = on_script(
+        alloc,
+        "serve",
+        "Performs a script, all guests at once, and prints each guest's lines",
     )?;
     let command = bare(alloc)
         .subcommand(format)?
         .subcommand(show)?
-        .subcommand(run)?;
+        .subcommand(run)?
+        .subcommand(serve)?;
     Ok(command)
 }

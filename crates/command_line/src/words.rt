@@ -40,6 +40,7 @@ fn command_of<'a>(
         ("format", Some(board), _) => Some(Command::Format { board }),
         ("show", Some(board), _) => Some(Command::Show { board }),
         ("run", Some(board), Some(script)) => Some(Command::Run { board, script }),
+        ("serve", Some(board), Some(script)) => Some(Command::Serve { board, script }),
         _ => None,
     }
 }

@@ -1,6 +1,6 @@
 -- Which faults end a command.
-use Rattle.std.proofs.Common.{◌≡◌, ℕ, List, Option, Some, Ok, Err, Result, inl, inr, length, map, refl, subst, true}
-use Rattle.std.specs.Prelude.{IfErr}
+use Rattle.std.proofs.Common.{◌≡◌, ℕ, List, Option, None, Some, Ok, Err, Result, inl, inr, length, map, refl, subst, true}
+use Rattle.std.specs.Prelude.{IfErr, IfSome}
 use Rattle.rpmb_frame.specs.declared.config.GuestConfig.{GuestConfig}
 use Rattle.commands.specs.declared.fault.Fault.{Fault}
 use Rattle.commands.specs.declared.fault.Fault.TheVariants as fault
@@ -113,3 +113,7 @@ none_ends board script old fault.BadBoard bad of = absurd of
 pub known_of : (P : Fault → Type 0) (r : Result (Unit {0}) Fault) → IfErr r P → (f : Fault) → r ≡ Err f → P f
 known_of P (Ok x) of f is = absurd (cc)
 known_of P (Err e) of f is = (let same : e ≡ f = cc in subst P same of)
+
+pub if_any : {X : Type 0} (o : Option X) (P : X → Type 0) → ((x : X) → P x) → IfSome o P
+if_any None P any = tt
+if_any (Some x) P any = any x

@@ -8,3 +8,5 @@ pub mod Opened
 pub mod Walking
 pub mod Until
 pub mod Stopped
+pub mod EachTold
+pub mod Handed

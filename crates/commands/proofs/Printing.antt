@@ -3,8 +3,8 @@ use Rattle.std.proofs.Common.{◌≡◌, ℕ, zero, suc, ◌+◌, List, [], ◌�
 use Rattle.std.proofs.KnownBytes.{Appends-kept}
 use Rattle.std.proofs.lemmas.List.{append_assoc, append-nil, length-set}
 use Rattle.std.specs.Io.KnownBytes.{Keeps}
-use Rattle.script.specs.Line.{IsWithin, Said, line_of, said}
-use Rattle.script.specs.Script.{first_bad}
+use Rattle.script.specs.Line.{IsWithin, Said, said}
+use Rattle.script.specs.Script.{first_none}
 use Rattle.script.specs.declared.line.Line.{Line}
 use Rattle.std.specs.Prelude.{All}
 use Rattle.script.specs.Line.{nothing, chain, store, reset}
@@ -106,14 +106,14 @@ says_same lines read found is was = somes lines (map said read) (is ∙ sym was 
     somes (x ∷ xs) (y ∷ ys) same = let head : x ≡ y = cc in let tail : map Some xs ≡ map Some ys = cc in ap₂ (λ a b. a ∷ b) head (somes xs ys tail)
 
 -- and has no bad line
-pub none_bad : (guests : ℕ) (read : List Line) (texts : List (List ℕ)) → map (λ line. Some (said line)) read ≡ map (line_of guests) texts → first_bad guests texts ≡ None
-unfolding first_bad
-none_bad guests read [] was = refl
-none_bad guests [] (text ∷ texts) was = absurd (cc)
-none_bad guests (line ∷ read) (text ∷ texts) was =
-    let here : line_of guests text ≡ Some (said line) = cc in
-    let tail : map (λ line. Some (said line)) read ≡ map (line_of guests) texts = cc in
-    rw (here, none_bad guests read texts tail) refl
+pub none_bad : (reads : List ℕ → Option Said) (read : List Line) (texts : List (List ℕ)) → map (λ line. Some (said line)) read ≡ map reads texts → first_none reads texts ≡ None
+unfolding first_none
+none_bad reads read [] was = refl
+none_bad reads [] (text ∷ texts) was = absurd (cc)
+none_bad reads (line ∷ read) (text ∷ texts) was =
+    let here : reads text ≡ Some (said line) = cc in
+    let tail : map (λ line. Some (said line)) read ≡ map reads texts = cc in
+    rw (here, none_bad reads read texts tail) refl
 
 none_is_not : (n : ℕ) → None ≡ Some n → ⊥
 none_is_not n e = absurd (cc)

@@ -18,22 +18,32 @@ use Rattle.rpmb_frame.specs.Partition.{Partition}
 use Rattle.commands.specs.Image.{AreOf}
 use Rattle.commands.specs.Running.{AreWithin, IsChain, answered_in}
 use Rattle.commands.specs.Transcript.{AreSplit, IsBadAt, Says, StoresNothing, Told, first_told}
+use Rattle.commands.specs.Serving.{ServeEnds, ServePrints}
 use Rattle.commands.specs.Failing.{HasFailed, IsChainAt, text_when}
 
 abbrev pub IsRun : Command → Type 0
 IsRun (command.Run board script) = Unit {0}
 IsRun (command.Format board) = ⊥
 IsRun (command.Show board) = ⊥
+IsRun (command.Serve board script) = ⊥
 
 abbrev pub IsFormat : Command → Type 0
 IsFormat (command.Run board script) = ⊥
 IsFormat (command.Format board) = Unit {0}
 IsFormat (command.Show board) = ⊥
+IsFormat (command.Serve board script) = ⊥
 
 abbrev pub IsShow : Command → Type 0
 IsShow (command.Run board script) = ⊥
 IsShow (command.Format board) = ⊥
 IsShow (command.Show board) = Unit {0}
+IsShow (command.Serve board script) = ⊥
+
+abbrev pub IsServe : Command → Type 0
+IsServe (command.Run board script) = ⊥
+IsServe (command.Format board) = ⊥
+IsServe (command.Show board) = ⊥
+IsServe (command.Serve board script) = Unit {0}
 
 -- each line of the script says what a script may say
 abbrev pub IsReadable : List GuestConfig → List ℕ → Type 0
@@ -60,6 +70,11 @@ abbrev pub IsOfWriting : Fault → Type 0
 IsOfWriting fault.NoMemory = Unit {0}
 IsOfWriting fault.FileFault = Unit {0}
 IsOfWriting f = ⊥
+
+-- and the writing of all lines of a run whose store may be broken
+abbrev pub IsOfTelling : Fault → Type 0
+IsOfTelling fault.DiskFault = Unit {0}
+IsOfTelling f = IsOfWriting f
 
 abbrev pub IsOfReading : Fault → Type 0
 IsOfReading (fault.BadScript line) = Unit {0}
@@ -129,6 +144,7 @@ abbrev pub Ends : Command → List GuestConfig → List ℕ → DiskState → Di
 Ends (command.Run b s) board script old new f = RunEnds board script old new f
 Ends (command.Format b) board script old new f = FormatEnds (capacities_of board) old new f
 Ends (command.Show b) board script old new f = ShowEnds (capacities_of board) old new f
+Ends (command.Serve b s) board script old new f = ServeEnds board script old f
 
 -- The disk was not called at all, or synced and then only read.
 pub data IsReadAlone {D : Type 0} (makes : D → DiskCall → D → Type 0) (old new : D) : Type 0 where
@@ -244,6 +260,7 @@ abbrev pub Prints : Command → List GuestConfig → List ℕ → DiskState → 
 Prints (command.Run b s) board script old new f start now = RunPrints board script old new f start now
 Prints (command.Format b) board script old new f start now = KeepsUnless f start now
 Prints (command.Show b) board script old new f start now = KeepsUnless f start now
+Prints (command.Serve b s) board script old new f start now = ServePrints board script f start now
 
 -- A writer took the text, or a front of it and then no more.
 pub record Takes (start now : Option (List ℕ)) (text : List ℕ) : Type 0 where

@@ -7,3 +7,4 @@ pub mod Listing
 pub mod Ending
 pub mod Moments
 pub mod Failing
+pub mod Serving

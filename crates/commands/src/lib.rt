@@ -2,11 +2,14 @@
 //! standard output and standard error. The program's faults, and how it tells them, stand here too.
 #![tactic(auto)]
 
+mod answering;
 mod fault;
 mod formatting;
+mod parting;
 mod performing;
 mod reporting;
 mod running;
+mod serving;
 mod showing;
 
 pub use fault::Fault;

@@ -6,29 +6,34 @@ ghost use Rattle.intent_slots.specs.Layout.{capacities_of, image_length};
 ghost use Rattle.recovery.specs.Format.{IsFormatted};
 ghost use Rattle.recovery.specs.Opening.{IsImage, Untouched};
 ghost use Rattle.script.specs.Line.{Said};
-ghost use Rattle.commands.specs.Ending.{Ends, Fails, IsFormat, IsReadAlone, IsRun, IsShow, Prints};
+ghost use Rattle.commands.specs.Ending.{Ends, Fails, IsFormat, IsReadAlone, IsRun, IsServe, IsShow, Prints};
 ghost use Rattle.commands.specs.Image.{Ran};
 ghost use Rattle.commands.specs.Listing.{Lists, formatted_line};
 ghost use Rattle.commands.specs.Moments.{AnyMoment, FaultMoments};
+ghost use Rattle.commands.specs.Serving.{IsUnservedAt, ServeEnds, ServeLeaves, ServePrints, ServesAll};
 ghost use Rattle.commands.specs.Transcript.{AreSplit, IsBadAt, Says, StoresNothing};
 
 use crate::fault::Fault;
 use crate::formatting::make_image;
 use crate::reporting::report;
 use crate::running::run;
+use crate::serving::serve;
 use crate::showing::show_image;
 use command_line::Command;
 use disk::Disk;
 use rpmb_frame::BoardConfig;
-use std::alloc::Global;
 use std::io::Write;
+use std::sync::Wait;
+use std::thread::Threads;
 
 /// Performs the command, and gives the status that the program ends with, and the disk: 0, or 1 after the
 /// line of a fault on standard error. All work on the disk's content: `run` takes the script's lines to their
-/// end on the partitions of the image, one after another, and tells of each once it is settled. Only `run`
-/// looks at the script. What was printed is flushed before the status is decided.
-pub fn perform<D: Disk, W: Write, E: Write>(
-    alloc: Global,
+/// end on the partitions of the image, one after another, and tells of each once it is settled; `serve` takes
+/// those of each guest to their end beside the others', and tells of them at the end. Only these two look at
+/// the script. What was printed is flushed before the status is decided. The disk is lost where the threads
+/// of `serve` came to a fault.
+pub fn perform<R: AllocGlobal + Threads + Wait + Sync, D: Disk + Send + Drop, W: Write, E: Write>(
+    rt: &R,
     command: Command<'_>,
     board: &BoardConfig,
     script: &str,
@@ -39,7 +44,8 @@ pub fn perform<D: Disk, W: Write, E: Write>(
     // An image is made on a disk of its length.
     requires { IsFormat command → (D.state disk).len ≡ image_length (capacities_of board.now) }
     ensures status { (result.0 ≡ 0) ⊎ (result.0 ≡ 1) }
-    ensures back { IsSome result.1 }
+    ensures back { ¬ IsServe command.entry → IsSome result.1 }
+    ensures kept { result.0 ≡ 0 → IsSome result.1 }
     // A run that reached its end has printed the reply to each chain on the partitions of the image, and
     // nothing else, where each guest has a split ring and no line stored into guest memory; and every stop
     // leaves the partitions after them.
@@ -50,8 +56,12 @@ pub fn perform<D: Disk, W: Write, E: Write>(
     // disk fails; from then on with all that no stop could lose before.
     ensures moments { IsRun command.entry → result.0 ≡ 0 → (lines : List Said) → Says board.now script.now lines
         → IfSome result.1 (λ d. AnyMoment D.state D.makes board.now lines disk (W.contents out.old) (Ok tt) d (W.contents out.new)) }
+    // Guests that were served to their end have printed a line for each of their chains, guest by guest.
+    ensures served { IsServe command.entry → result.0 ≡ 0 → ServesAll board.now script.now (W.contents out.old) (W.contents out.new) }
     // Of a script with a bad line nothing is printed, and the disk isn't called.
     ensures bad { IsRun command.entry → (n : ℕ) → IsBadAt board.now script.now n
+        → (result.0 ≡ 1) × Keeps (W.contents out.old) (W.contents out.new) × (result.1 ≡ Some disk) }
+    ensures unserved { IsServe command.entry → (n : ℕ) → IsUnservedAt board.now script.now n
         → (result.0 ≡ 1) × Keeps (W.contents out.old) (W.contents out.new) × (result.1 ≡ Some disk) }
     // The disk holds a fresh image, and its length was printed.
     ensures formatted { IsFormat command.entry → result.0 ≡ 0 → (D.state disk).faithful ≡ true
@@ -76,15 +86,28 @@ pub fn perform<D: Disk, W: Write, E: Write>(
         (λ f. Ends command.entry board.now script.now (D.state disk) (D.state d) f × Prints command.entry board.now script.now (D.state disk) (D.state d) f (W.contents out.old) (W.contents out.new)
         × FaultMoments D.state D.makes command.entry board.now script.now disk (W.contents out.old) f d (W.contents out.new))
         (E.contents err.old) (E.contents err.new)) }
+    // Also where threads came to it, and the disk is lost.
+    ensures threads { IsServe command.entry → result.0 ≡ 1 → Fails
+        (λ f. ServeEnds board.now script.now (D.state disk) f × ServePrints board.now script.now f (W.contents out.old) (W.contents out.new)
+        × ServeLeaves D.state D.makes disk f result.1)
+        (E.contents err.old) (E.contents err.new) }
 {
+    let alloc = rt.alloc();
     let mut disk = disk;
     let (done, disk) = match command {
-        Command::Format { .. } => (make_image(&mut disk, board, out), disk),
-        Command::Show { .. } => show_image(alloc, disk, board, out),
-        Command::Run { .. } => run(alloc, board, script, disk, out),
+        Command::Format { .. } => (make_image(&mut disk, board, out), Some(disk)),
+        Command::Show { .. } => {
+            let (done, disk) = show_image(alloc, disk, board, out);
+            (done, Some(disk))
+        }
+        Command::Run { .. } => {
+            let (done, disk) = run(alloc, board, script, disk, out);
+            (done, Some(disk))
+        }
+        Command::Serve { .. } => serve(rt, alloc, board, script, disk, out),
     };
     match done {
-        Ok(()) => (0, Some(disk)),
-        Err(fault) => (report(fault, err), Some(disk)),
+        Ok(()) => (0, disk),
+        Err(fault) => (report(fault, err), disk),
     }
 }

@@ -1,6 +1,5 @@
 //! What `run` does: a script on the partitions of an image.
 ghost use Rattle.std.specs.Prelude.{◌≡◌, ℕ, All, List, Err, IfErr, IfOk, IsErr, OnOk, Some, false, length, map};
-ghost use Rattle.std.specs.Prelude.{string_bytes};
 ghost use Rattle.std.specs.Io.KnownBytes.{Appends, Keeps};
 ghost use Rattle.rpmb_frame.specs.Config.{IsBoard};
 ghost use Rattle.rpmb_frame.specs.declared.config.GuestConfig.{GuestConfig as GuestSetup};
@@ -12,19 +11,19 @@ ghost use Rattle.script.specs.Script.{lines_of};
 ghost use Rattle.host.specs.Calm.{IsCalm, is_broken};
 ghost use Rattle.host.specs.Host.{seen};
 ghost use Rattle.host.specs.Moving.{Moves};
-ghost use Rattle.commands.specs.Ending.{IsOfOpening, IsOfReading, IsOfRunning, IsOfWriting, KeepsUnless, OpenedEnds, OpenedPrints, RunEnds, RunPrints, WroteFirst};
+ghost use Rattle.commands.specs.Ending.{IsOfOpening, IsOfReading, IsOfRunning, KeepsUnless, OpenedEnds, OpenedPrints, RunEnds, RunPrints, WroteFirst};
 ghost use Rattle.commands.specs.Failing.{Breaks, Runs, WroteAll};
 ghost use Rattle.commands.specs.Image.{Finishes, IsOpened, Ran};
 ghost use Rattle.commands.specs.Moments.{AnyMoment, LinesCome, MovesTo, PrintsLine};
 ghost use Rattle.commands.specs.Reasons.{IsHostOf, LineEnds};
 ghost use Rattle.commands.specs.Running.{AreGuests, AreWithin, Fails, IsAt, IsSized};
-ghost use Rattle.commands.specs.Transcript.{AreSplit, IsBadAt, Says, StoresNothing, Told, shown};
-ghost use Rattle.commands.specs.Transcript.{stuck_line, used_line};
+ghost use Rattle.commands.specs.Transcript.{AreSplit, IsBadAt, Says, StoresNothing, Told};
 
+use crate::answering::{write_reply, write_stuck};
 use crate::fault::Fault;
 use board::Board;
 use disk::Disk;
-use host::{Answer, Host, Stuck};
+use host::{Answer, Host};
 use rpmb_frame::BoardConfig;
 use script::{Line, ScriptError, read_script};
 use std::alloc::Global;
@@ -32,57 +31,6 @@ use std::io::Write;
 
 /// The life of the board that a run opens. No job of it comes to another one.
 const LIFE: u64 = 1;
-
-/// The bytes in hex digits of lower case, or a dash where there are none.
-fn shown(alloc: Global, bytes: &[u8]) -> Result<String, Fault>
-    ensures memory { IfErr result (λ fault. fault ≡ Fault.NoMemory) }
-    ensures text { IfOk result (λ text. string_bytes text ≡ shown bytes.now) }
-{
-    let text = if bytes.is_empty() {
-        String::from_str(alloc, "-")
-    } else {
-        hex::encode(alloc, bytes)
-    };
-    match text {
-        Ok(text) => Ok(text),
-        Err(_) => Err(Fault::NoMemory),
-    }
-}
-
-/// Writes the line of a reply: `used G LEN HEX`.
-#[tactic(auto, unfolding(crate::specs::Transcript::used_line))]
-fn write_reply<W: Write>(alloc: Global, guest: u16, reply: &[u8], out: &mut W) -> Result<(), Fault>
-    ensures printed { OnOk result (Appends (W.contents out.old) (W.contents out.new) (used_line guest reply.now)) }
-    ensures ends { IfErr result IsOfWriting }
-    ensures silent { IfErr result (λ fault. KeepsUnless fault (W.contents out.old) (W.contents out.new)) }
-{
-    let text = match shown(alloc, reply) {
-        Ok(text) => text,
-        Err(fault) => return Err(fault),
-    };
-    match writeln!(out, "used {guest} {} {text}", reply.len()) {
-        Ok(()) => Ok(()),
-        Err(_) => Err(Fault::FileFault),
-    }
-}
-
-/// Writes the line of a guest that is stuck: the text and the guest's number.
-#[tactic(auto, unfolding(crate::specs::Transcript::stuck_line))]
-fn write_stuck<W: Write>(guest: u16, stuck: Stuck, out: &mut W) -> Result<(), Fault>
-    ensures printed { OnOk result (Appends (W.contents out.old) (W.contents out.new) (stuck_line guest stuck)) }
-    ensures ends { IfErr result IsOfWriting }
-    ensures silent { IfErr result (λ fault. KeepsUnless fault (W.contents out.old) (W.contents out.new)) }
-{
-    let text = match stuck {
-        Stuck::NeedsReset => "needs-reset",
-        Stuck::NoAnswer => "no-answer",
-        Stuck::BadUsed => "bad-used",
-    };
-    match writeln!(out, "{text} {guest}") {
-        Ok(()) => Ok(()),
-        Err(_) => Err(Fault::FileFault),
-    }
-}
 
 fn read_lines(alloc: Global, script: &str, board: &BoardConfig) -> Result<Vec<Line>, Fault>
     ensures ok { IfOk result (λ lines. map (λ line. Some (said line)) lines.items

@@ -3,7 +3,7 @@
 //!
 //! A folder with a `script.txt` is run on a fresh image: `expected.txt` on standard output, and `fault.txt`,
 //! where there is one, on standard error. One with a `story.txt` has a command in each line of it, `format`,
-//! `show` or `run SCRIPT`, and behind ` > ` the file of what it prints; all of them on one disk.
+//! `show`, `run SCRIPT` or `serve SCRIPT`, and behind ` > ` the file of what it prints; all of them on one disk.
 #![tactic(auto)]
 
 use anyhow::{Result, bail};
@@ -14,6 +14,9 @@ use disk::{Disk, MemDisk};
 use intent_slots::Layout;
 use rpmb_frame::BoardConfig;
 use std::alloc::Global;
+use std::rt::Files;
+use std::sync::Wait;
+use std::thread::Threads;
 use std::{env, fs};
 
 const FORMAT: Command<'static> = Command::Format { board: "" };
@@ -21,6 +24,11 @@ const FORMAT: Command<'static> = Command::Format { board: "" };
 const SHOW: Command<'static> = Command::Show { board: "" };
 
 const RUN: Command<'static> = Command::Run {
+    board: "",
+    script: "",
+};
+
+const SERVE: Command<'static> = Command::Serve {
     board: "",
     script: "",
 };
@@ -35,8 +43,8 @@ struct Ended {
 }
 
 /// Performs a command on a disk. An image is made only on a disk of its length.
-fn perform_on(
-    alloc: Global,
+fn perform_on<R: AllocGlobal + Threads + Wait + Sync>(
+    rt: &R,
     command: Command<'_>,
     board: &BoardConfig,
     script: &str,
@@ -45,9 +53,9 @@ fn perform_on(
     if disk.len() != Layout::of(board).length() {
         bail!("another length");
     }
-    let mut out = Vec::new(alloc);
-    let mut err = Vec::new(alloc);
-    match perform(alloc, command, board, script, disk, &mut out, &mut err) {
+    let mut out = Vec::new(rt.alloc());
+    let mut err = Vec::new(rt.alloc());
+    match perform(rt, command, board, script, disk, &mut out, &mut err) {
         (status, Some(disk)) => Ok(Ended {
             status,
             out,
@@ -65,7 +73,7 @@ fn blank(alloc: Global, board: &BoardConfig) -> Result<MemDisk> {
 }
 
 /// What a file of a folder holds, or nothing where it isn't there.
-fn text(rt: &HostRuntime, name: &str, file: &str) -> Result<String> {
+fn text<R: Files + AllocGlobal>(rt: &R, name: &str, file: &str) -> Result<String> {
     let alloc = rt.alloc();
     let path = format!(in alloc; "{name}/{file}")?;
     if !fs::exists(rt, path.as_str())? {
@@ -75,10 +83,14 @@ fn text(rt: &HostRuntime, name: &str, file: &str) -> Result<String> {
 }
 
 /// Whether a script on a fresh image ended as the folder expects.
-fn runs(rt: &HostRuntime, name: &str, board: &BoardConfig, script: &str) -> Result<bool> {
-    let alloc = rt.alloc();
-    let made = perform_on(alloc, FORMAT, board, "", blank(alloc, board)?)?;
-    let ended = perform_on(alloc, RUN, board, script, made.disk)?;
+fn runs<R: Files + AllocGlobal + Threads + Wait + Sync>(
+    rt: &R,
+    name: &str,
+    board: &BoardConfig,
+    script: &str,
+) -> Result<bool> {
+    let made = perform_on(rt, FORMAT, board, "", blank(rt.alloc(), board)?)?;
+    let ended = perform_on(rt, RUN, board, script, made.disk)?;
     let expected = text(rt, name, "expected.txt")?;
     let fault = text(rt, name, "fault.txt")?;
     let is_told = ended.out.as_slice() == expected.as_bytes()
@@ -87,28 +99,35 @@ fn runs(rt: &HostRuntime, name: &str, board: &BoardConfig, script: &str) -> Resu
 }
 
 /// Performs the command of a line of a story.
-fn step(
-    rt: &HostRuntime,
+fn step<R: Files + AllocGlobal + Threads + Wait + Sync>(
+    rt: &R,
     name: &str,
     board: &BoardConfig,
     words: &str,
     disk: MemDisk,
 ) -> Result<Ended> {
     if words == "format" {
-        return perform_on(rt.alloc(), FORMAT, board, "", disk);
+        return perform_on(rt, FORMAT, board, "", disk);
     }
     if words == "show" {
-        return perform_on(rt.alloc(), SHOW, board, "", disk);
+        return perform_on(rt, SHOW, board, "", disk);
     }
-    let Some(file) = words.strip_prefix("run ") else {
-        bail!("no command");
+    let (command, file) = match words.split_once(' ') {
+        Some(("run", file)) => (RUN, file),
+        Some(("serve", file)) => (SERVE, file),
+        _ => bail!("no command"),
     };
     let script = text(rt, name, file)?;
-    perform_on(rt.alloc(), RUN, board, script.as_str(), disk)
+    perform_on(rt, command, board, script.as_str(), disk)
 }
 
 /// Whether each command of a story ended as the folder expects.
-fn tells(rt: &HostRuntime, name: &str, board: &BoardConfig, story: &str) -> Result<bool> {
+fn tells<R: Files + AllocGlobal + Threads + Wait + Sync>(
+    rt: &R,
+    name: &str,
+    board: &BoardConfig,
+    story: &str,
+) -> Result<bool> {
     let mut disk = blank(rt.alloc(), board)?;
     for line in story.lines() {
         let Some((words, file)) = line.split_once(" > ") else {
@@ -125,7 +144,10 @@ fn tells(rt: &HostRuntime, name: &str, board: &BoardConfig, story: &str) -> Resu
 }
 
 /// Whether the example of a folder ended as its files expect.
-fn is_as_expected(rt: &HostRuntime, name: &str) -> Result<bool> {
+fn is_as_expected<R: Files + AllocGlobal + Threads + Wait + Sync>(
+    rt: &R,
+    name: &str,
+) -> Result<bool> {
     let board = text(rt, name, "board.toml")?;
     let (board, _) = read_board(rt.alloc(), board.as_str())?;
     let story = text(rt, name, "story.txt")?;

@@ -18,14 +18,18 @@ use intent_slots::Layout;
 use rpmb_frame::BoardConfig;
 use std::io::{BufWriter, Write};
 use std::process::ExitCode;
+use std::sync::Wait;
+use std::thread::Threads;
 use std::{env, io};
 
 /// The status of a command line that is refused.
 const REFUSED: u8 = 2;
 
-/// Performs a command on what its files hold.
-fn perform_on<D: Disk, W: Write>(
+/// Performs a command on what its files hold. Files and streams are the runtime's, and `threads` starts
+/// threads.
+fn perform_on<R: AllocGlobal + Threads + Wait + Sync, D: Disk + Send + Drop, W: Write>(
     rt: &HostRuntime,
+    threads: &R,
     command: Command<'_>,
     board: &BoardConfig,
     script: &str,
@@ -35,13 +39,14 @@ fn perform_on<D: Disk, W: Write>(
     requires { IsFormat command → (D.state disk).len ≡ image_length (capacities_of board.now) }
 {
     let mut err = rt.stderr();
-    let (status, _) = perform(rt.alloc(), command, board, script, disk, out, &mut err);
+    let (status, _) = perform(threads, command, board, script, disk, out, &mut err);
     status
 }
 
-/// Runs a script on the image in the file that the board names, or on a fresh one in memory.
-fn run_on_image<W: Write>(
+/// Performs a script on the image in the file that the board names, or on a fresh one in memory.
+fn perform_script<R: AllocGlobal + Threads + Wait + Sync, W: Write>(
     rt: &HostRuntime,
+    threads: &R,
     command: Command<'_>,
     board: &BoardConfig,
     script: &str,
@@ -53,17 +58,21 @@ fn run_on_image<W: Write>(
     match image {
         Some(path) => {
             let disk = open_image(rt, path.as_str())?;
-            Ok(perform_on(rt, command, board, script, disk, out))
+            Ok(perform_on(rt, threads, command, board, script, disk, out))
         }
         None => {
             let disk = fresh_disk(rt.alloc(), board)?;
-            Ok(perform_on(rt, command, board, script, disk, out))
+            Ok(perform_on(rt, threads, command, board, script, disk, out))
         }
     }
 }
 
 /// Reads the files that the command names, and performs it on them.
-fn perform_on_files(rt: &HostRuntime, command: Command<'_>) -> Result<u8, Fault> {
+fn perform_on_files<R: AllocGlobal + Threads + Wait + Sync>(
+    rt: &HostRuntime,
+    threads: &R,
+    command: Command<'_>,
+) -> Result<u8, Fault> {
     // Nothing is asked for after a file was cut to its length, but what the command itself needs.
     let Ok(mut out) = BufWriter::new(rt.alloc(), rt.stdout()) else {
         return Err(Fault::NoMemory);
@@ -72,17 +81,25 @@ fn perform_on_files(rt: &HostRuntime, command: Command<'_>) -> Result<u8, Fault>
         Command::Format { board } => {
             let (board, image) = read_image_board(rt, board)?;
             let disk = create_image(rt, image.as_str(), Layout::of(&board).length())?;
-            Ok(perform_on(rt, command, &board, "", disk, &mut out))
+            Ok(perform_on(rt, threads, command, &board, "", disk, &mut out))
         }
         Command::Show { board } => {
             let (board, image) = read_image_board(rt, board)?;
             let disk = open_image(rt, image.as_str())?;
-            Ok(perform_on(rt, command, &board, "", disk, &mut out))
+            Ok(perform_on(rt, threads, command, &board, "", disk, &mut out))
         }
-        Command::Run { board, script } => {
+        Command::Run { board, script } | Command::Serve { board, script } => {
             let (board, image) = read_board_file(rt, board)?;
             let script = read_text(rt, script)?;
-            run_on_image(rt, command, &board, script.as_str(), image, &mut out)
+            perform_script(
+                rt,
+                threads,
+                command,
+                &board,
+                script.as_str(),
+                image,
+                &mut out,
+            )
         }
     }
 }
@@ -124,9 +141,13 @@ fn refuse_words(rt: &HostRuntime, error: &io::Error) -> u8 {
     }
 }
 
-fn status_of(rt: &HostRuntime, words: &[String]) -> u8 {
+fn status_of<R: AllocGlobal + Threads + Wait + Sync>(
+    rt: &HostRuntime,
+    threads: &R,
+    words: &[String],
+) -> u8 {
     match read_words(rt.alloc(), words) {
-        Ok(command) => match perform_on_files(rt, command) {
+        Ok(command) => match perform_on_files(rt, threads, command) {
             Ok(status) => status,
             Err(fault) => report(fault, &mut rt.stderr()),
         },
@@ -136,7 +157,7 @@ fn status_of(rt: &HostRuntime, words: &[String]) -> u8 {
 
 fn main(rt: HostRuntime) -> ExitCode {
     let status = match words(&rt) {
-        Ok(words) => status_of(&rt, words.as_slice()),
+        Ok(words) => status_of(&rt, &rt, words.as_slice()),
         Err(error) => refuse_words(&rt, &error),
     };
     ExitCode::from(status)

@@ -1,8 +1,8 @@
 -- Lines that say nothing, and the first bad line of a script.
-use Rattle.std.proofs.Common.{◌≡◌, ◌≢◌, ◌∙◌, ◌<◌, ◌+◌, ℕ, zero, suc, Bor, List, [], ◌∷◌, length, map, take, get_or, Some, None, refl, ap, arith, sym}
+use Rattle.std.proofs.Common.{◌≡◌, ◌≢◌, ◌∙◌, ◌<◌, ◌+◌, ℕ, zero, suc, Bor, List, Option, [], ◌∷◌, length, map, take, get_or, Some, None, refl, ap, arith, sym}
 use Rattle.std.proofs.lemmas.List.{length-map}
-use Rattle.script.specs.Line.{line_of, line_of_words, said}
-use Rattle.script.specs.Script.{first_bad}
+use Rattle.script.specs.Line.{Said, line_of_words, said}
+use Rattle.script.specs.Script.{first_none}
 use Rattle.script.specs.declared.line.Line.{Line}
 
 -- a line that says something has two words or four
@@ -16,27 +16,27 @@ line_of_words-none g (a ∷ b ∷ c ∷ d ∷ []) two four = absurd (four refl)
 line_of_words-none g (a ∷ b ∷ c ∷ d ∷ e ∷ more) two four = refl
 
 -- the lines before it were read
-first_bad_at : (g : ℕ) (lines : List (List ℕ)) (k : ℕ) (d : List ℕ) (read : List Line)
-    → map (λ x. Some (said x)) read ≡ map (line_of g) (take k lines) → k < length lines
-    → line_of g (get_or lines k d) ≡ None → first_bad g lines ≡ Some (k + 1)
-unfolding first_bad
-first_bad_at g [] k d read done lt bad = absurd (omega (arith, lt))
-first_bad_at g (l ∷ ls) zero d read done lt bad = rw bad refl
-first_bad_at g (l ∷ ls) (suc k) d [] done lt bad = cc
-first_bad_at g (l ∷ ls) (suc k) d (x ∷ xs) done lt bad =
-    let here : Some (said x) ≡ line_of g l = cc in
-    let rest : map (λ x. Some (said x)) xs ≡ map (line_of g) (take k ls) = cc in
-    let later = first_bad_at g ls k d xs rest (omega (arith, lt)) bad in
+first_none_at : (reads : List ℕ → Option Said) (lines : List (List ℕ)) (k : ℕ) (d : List ℕ) (read : List Line)
+    → map (λ x. Some (said x)) read ≡ map reads (take k lines) → k < length lines
+    → reads (get_or lines k d) ≡ None → first_none reads lines ≡ Some (k + 1)
+unfolding first_none
+first_none_at reads [] k d read done lt bad = absurd (omega (arith, lt))
+first_none_at reads (l ∷ ls) zero d read done lt bad = rw bad refl
+first_none_at reads (l ∷ ls) (suc k) d [] done lt bad = cc
+first_none_at reads (l ∷ ls) (suc k) d (x ∷ xs) done lt bad =
+    let here : Some (said x) ≡ reads l = cc in
+    let rest : map (λ x. Some (said x)) xs ≡ map reads (take k ls) = cc in
+    let later = first_none_at reads ls k d xs rest (omega (arith, lt)) bad in
     rw (← here) (rw later (ap Some (omega arith)))
 
 -- the same, where an iterator has given the lines before it and then the line
-pub first_bad_next : (g : ℕ) (lines : List (List ℕ)) (given : List (Bor (List ℕ))) (line : List ℕ) (read : List Line)
-    → map (λ x. Some (said x)) read ≡ map (line_of g) (map (λ t. t.now) given)
+pub first_none_next : (reads : List ℕ → Option Said) (lines : List (List ℕ)) (given : List (Bor (List ℕ))) (line : List ℕ) (read : List Line)
+    → map (λ x. Some (said x)) read ≡ map reads (map (λ t. t.now) given)
     → map (λ t. t.now) given ≡ take (length given) lines → length given < length lines
-    → line ≡ get_or lines (length given) line → line_of g line ≡ None → first_bad g lines ≡ Some (length read + 1)
-first_bad_next g lines given line read done before lt is bad =
+    → line ≡ get_or lines (length given) line → reads line ≡ None → first_none reads lines ≡ Some (length read + 1)
+first_none_next reads lines given line read done before lt is bad =
     let as_many : length read ≡ length given =
-    sym (length-map read (λ x. Some (said x))) ∙ ap length done ∙ length-map (map (λ t. t.now) given) (line_of g)
+    sym (length-map read (λ x. Some (said x))) ∙ ap length done ∙ length-map (map (λ t. t.now) given) reads
     ∙ length-map given (λ t. t.now) in
-    first_bad_at g lines (length given) line read (done ∙ ap (map (line_of g)) before) lt (ap (line_of g) (sym is) ∙ bad)
+    first_none_at reads lines (length given) line read (done ∙ ap (map reads) before) lt (ap reads (sym is) ∙ bad)
     ∙ ap (λ n. Some (n + 1)) (sym as_many)

@@ -82,3 +82,23 @@ IsWithin guests (chain g bytes w) =
     (g < guests) × (length bytes ≤ 8704) × (w ≤ 8192) × (0 < length bytes + w)
 IsWithin guests (store g address bytes) = (g < guests) × (address < 2 ^ 64) × (0 < length bytes)
 IsWithin guests (reset g) = g < guests
+
+-- what a script may say whose guests are served at once: all but a store, since a guest's memory is its driver's then
+abbrev pub IsServed : Said → Type 0
+IsServed nothing = ⊤
+IsServed (chain g bytes w) = ⊤
+IsServed (store g address bytes) = ⊥
+IsServed (reset g) = ⊤
+
+abbrev pub unless_store : Said → Option Said
+unless_store nothing = Some nothing
+unless_store (chain g bytes w) = Some (chain g bytes w)
+unless_store (store g address bytes) = None
+unless_store (reset g) = Some (reset g)
+
+abbrev pub served_line_of : ℕ → List ℕ → Option Said
+served_line_of guests text = option_and_then unless_store (line_of guests text)
+
+-- what a line says in a script that is served, or in one that is run
+abbrev pub line_when : Bool → ℕ → List ℕ → Option Said
+line_when served guests = if served then served_line_of guests else line_of guests

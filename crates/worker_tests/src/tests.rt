@@ -1,4 +1,12 @@
 mod alone;
+mod asking;
+mod devices;
 mod failing;
+mod faults;
+mod full;
+mod gates;
+mod many;
 mod scene;
+mod stopped;
 mod threads;
+mod wrong;

@@ -1,3 +1,4 @@
 pub mod Counting
 pub mod Joined
 pub mod JustOpened
+pub mod Guests

@@ -1,6 +1,7 @@
 //! What a run of threads begins with.
 ghost use Rattle.std.specs.Prelude.{◌≡◌, All, length, vec_len};
 ghost use Rattle.rpmb_book.specs.Book.{submits_in};
+ghost use Rattle.rpmb_book.specs.Opening.{tallies_from};
 ghost use Rattle.host.specs.Opening.{IsJustOpened};
 
 use board::{Board, Parts};
@@ -14,6 +15,7 @@ pub fn parts_of<D: Disk>(board: Board<D>, config: &BoardConfig) -> Parts<D>
     ensures devices { result.devices.items ≡ board.devices }
     ensures book { result.book ≡ board.book }
     ensures store { result.store ≡ board.store }
+    ensures tallies { result.tallies.items ≡ tallies_from 0 (length config.now) }
     ensures many { vec_len result.tallies ≡ length config.now }
     ensures new_book { submits_in result.book ≡ 0 }
     ensures fresh { All (λ t. t.count ≡ 0) result.tallies.items }

@@ -1,5 +1,5 @@
 //! The threads of a scope: started, run to their end, and joined.
-ghost use Rattle.std.specs.Prelude.{◌≡◌, ◌<◌, ℕ, [], IfOk, vec_len, slice_index_or, length};
+ghost use Rattle.std.specs.Prelude.{◌≡◌, ◌<◌, ℕ, [], IfOk, vec_len, slice_index_or, length, map};
 ghost use Rattle.workers.specs.Orders.{LeavesAll, Left, chain_orders};
 
 use crate::bell::Bell;
@@ -148,7 +148,8 @@ fn start_workers<'s, E, L: Ledger + Send + Sync, G: Gate + Sync, R: Wait + Sync>
     gate: &'s G,
     workers: Vec<Worker<L>>,
 ) -> Result<Vec<PromisedHandle<Worker<L>, OfGuest>>, HostFault>
-    ensures { IfOk result (λ v. vec_len v ≡ vec_len workers) }
+    ensures len { IfOk result (λ v. vec_len v ≡ vec_len workers) }
+    ensures guests { IfOk result (λ v. map (λ h. h.promise.0) v.items ≡ map (λ w. w.tally.guest) workers.items) }
 {
     let mut started = Vec::new(alloc);
     for worker in workers {
@@ -213,6 +214,7 @@ fn start_all<
     flusher: Flusher<D>,
 ) -> Result<Started<L, D>, HostFault>
     ensures workers { IfOk result (λ s. vec_len s.workers ≡ vec_len workers) }
+    ensures guests { IfOk result (λ s. map (λ h. h.promise.0) s.workers.items ≡ map (λ w. w.tally.guest) workers.items) }
     ensures drivers { IfOk result (λ s. vec_len s.drivers ≡ length scripts.now) }
     ensures each { IfOk result (λ s. (i : ℕ) (d : _) → i < length scripts.now → chain_orders (slice_index_or scripts.now i []) ≡ (slice_index_or s.drivers.items i d).promise.0) }
 {
@@ -244,6 +246,7 @@ fn join_all<L: Ledger, D: Disk + Drop, R: Threads>(
     requires len { vec_len started.drivers ≡ length scripts.now }
     requires each { (i : ℕ) (d : _) → i < length scripts.now → chain_orders (slice_index_or scripts.now i []) ≡ (slice_index_or started.drivers.items i d).promise.0 }
     ensures workers { IfOk result (λ c. vec_len c.workers ≡ vec_len started.workers) }
+    ensures guests { IfOk result (λ c. map (λ w. w.tally.guest) c.workers.items ≡ map (λ h. h.promise.0) started.workers.items) }
     ensures drivers { IfOk result (λ c. vec_len c.drivers ≡ length scripts.now) }
     ensures each { IfOk result (λ c. Left c.drivers.items scripts.now) }
 {
@@ -285,6 +288,7 @@ fn run_in<
     flusher: Flusher<D>,
 ) -> Result<Crew<L, D>, HostFault>
     ensures workers { IfOk result (λ c. vec_len c.workers ≡ vec_len workers) }
+    ensures guests { IfOk result (λ c. map (λ w. w.tally.guest) c.workers.items ≡ map (λ w. w.tally.guest) workers.items) }
     ensures drivers { IfOk result (λ c. vec_len c.drivers ≡ length scripts.now) }
     ensures each { IfOk result (λ c. Left c.drivers.items scripts.now) }
 {
@@ -313,6 +317,7 @@ pub(crate) fn run_all<
     flusher: Flusher<D>,
 ) -> Result<Crew<L, D>, HostFault>
     ensures workers { IfOk result (λ c. vec_len c.workers ≡ vec_len workers) }
+    ensures guests { IfOk result (λ c. map (λ w. w.tally.guest) c.workers.items ≡ map (λ w. w.tally.guest) workers.items) }
     ensures drivers { IfOk result (λ c. vec_len c.drivers ≡ length scripts.now) }
     ensures each { IfOk result (λ c. Left c.drivers.items scripts.now) }
 {
@@ -321,6 +326,7 @@ pub(crate) fn run_all<
         rt,
         |scope| -> Result<Crew<L, D>, HostFault>
             ensures workers { IfOk result (λ c. vec_len c.workers ≡ vec_len workers) }
+            ensures guests { IfOk result (λ c. map (λ w. w.tally.guest) c.workers.items ≡ map (λ w. w.tally.guest) workers.items) }
             ensures drivers { IfOk result (λ c. vec_len c.drivers ≡ length scripts.entry.now) }
             ensures each { IfOk result (λ c. Left c.drivers.items scripts.entry.now) }
         { run_in(scope, rt, alloc, hall, gate, workers, scripts, flusher) },

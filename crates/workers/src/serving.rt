@@ -1,6 +1,6 @@
 //! A run of all threads to its end.
-ghost use Rattle.std.specs.Prelude.{◌≡◌, ◌+◌, ◌≤◌, ◌<◌, All, IfOk, OnOk, IsTrue, true, vec_len, length, sum_by};
-ghost use Rattle.rpmb_book.specs.Book.{submits_in};
+ghost use Rattle.std.specs.Prelude.{◌≡◌, ◌+◌, ◌≤◌, ◌<◌, All, IfOk, OnOk, IsTrue, true, vec_len, length, sum_by, map};
+ghost use Rattle.rpmb_book.specs.Book.{state, submits_in};
 ghost use Rattle.workers.specs.Orders.{HaveAll, Left};
 
 use crate::bell::Bell;
@@ -53,6 +53,7 @@ fn hire<L: Ledger>(
     requires none { all.old.amount ≡ 0 }
     requires fresh { All (λ t. t.count ≡ 0) tallies.items }
     ensures len { IfOk result (λ v. vec_len v ≡ vec_len tallies) }
+    ensures guests { IfOk result (λ v. map (λ w. w.tally.guest) v.items ≡ map (λ t. t.guest) tallies.items) }
     ensures parts { OnOk result (all.new.parts + vec_len tallies ≡ all.old.parts) }
     ensures amount { OnOk result (all.new.amount ≡ 0) }
 {
@@ -74,6 +75,7 @@ fn dismiss<L: Ledger>(
 ) -> Result<Vec<Served>, HostFault>
     requires none { all.old.amount ≡ 0 }
     ensures len { IfOk result (λ v. vec_len v ≡ vec_len workers) }
+    ensures guests { IfOk result (λ v. map (λ s. s.tally.guest) v.items ≡ map (λ w. w.tally.guest) workers.items) }
     ensures parts { OnOk result (all.new.parts ≡ all.old.parts + vec_len workers) }
     ensures amount { IfOk result (λ v. all.new.amount ≡ sum_by (λ s. s.tally.count) v.items) }
 {
@@ -149,10 +151,15 @@ fn finish<L: Ledger, D: Disk + Drop>(
 ) -> Result<Ended<D>, HostFault>
     requires parts { all.parts + vec_len crew.workers ≡ L.parts }
     requires none { all.amount ≡ 0 }
+    requires workers { vec_len crew.workers ≡ length scripts.now }
     requires len { vec_len crew.drivers ≡ length scripts.now }
     requires each { Left crew.drivers.items scripts.now }
+    ensures served { IfOk result (λ e. vec_len e.served ≡ length scripts.now) }
+    ensures guests { IfOk result (λ e. map (λ s. s.tally.guest) e.served.items ≡ map (λ w. w.tally.guest) crew.workers.items) }
+    ensures drivers { IfOk result (λ e. vec_len e.drivers ≡ length scripts.now) }
     ensures submits { IfOk result (λ e. submits_in e.book ≡ sum_by (λ s. s.tally.count) e.served.items) }
     ensures answers { IfOk result (λ e. HaveAll e.drivers.items scripts.now) }
+    ensures broken { IfOk result (λ e. e.broken ≡ (state e.book).broken) }
 {
     let Crew {
         workers,
@@ -203,10 +210,15 @@ fn serve_as<
     requires name { blank.name ≡ L.name }
     requires parts { blank.parts ≡ L.parts }
     requires one_each { vec_len parts.tallies ≡ blank.parts }
+    requires each { length scripts.now ≡ vec_len parts.tallies }
     requires new_book { submits_in parts.book ≡ 0 }
     requires fresh { All (λ t. t.count ≡ 0) parts.tallies.items }
+    ensures served { IfOk result (λ e. vec_len e.served ≡ length scripts.now) }
+    ensures guests { IfOk result (λ e. map (λ s. s.tally.guest) e.served.items ≡ map (λ t. t.guest) parts.tallies.items) }
+    ensures drivers { IfOk result (λ e. vec_len e.drivers ≡ length scripts.now) }
     ensures submits { IfOk result (λ e. submits_in e.book ≡ sum_by (λ s. s.tally.count) e.served.items) }
     ensures answers { IfOk result (λ e. HaveAll e.drivers.items scripts.now) }
+    ensures broken { IfOk result (λ e. e.broken ≡ (state e.book).broken) }
 {
     let Parts {
         devices,
@@ -245,8 +257,9 @@ fn serve_as<
 }
 
 /// Runs each guest's script to its end, at once: a driver and a worker for each guest, and one flusher for
-/// all, in threads of their own. The book's Submit turns are then as many as the tallies' sum, each guest
-/// has a receipt for each of its jobs, and an answer to each chain of its script.
+/// all, in threads of their own. The book's Submit turns are then as many as the tallies' sum; entry i of
+/// what is left is guest i's, which has a receipt for each of its jobs, and an answer to each chain of its
+/// script.
 ///
 /// A worker whose guest has 64 replies that have not left waits until one has left. Where a call of the
 /// disk fails the run goes on, with failures.
@@ -266,8 +279,12 @@ pub fn serve<D: Disk + Send + Drop, G: Gate + Sync, R: Threads + Wait + Sync>(
     requires each { length scripts.now ≡ vec_len parts.tallies }
     requires new_book { submits_in parts.book ≡ 0 }
     requires fresh { All (λ t. t.count ≡ 0) parts.tallies.items }
+    ensures served { IfOk result (λ e. vec_len e.served ≡ length scripts.now) }
+    ensures guests { IfOk result (λ e. map (λ s. s.tally.guest) e.served.items ≡ map (λ t. t.guest) parts.tallies.items) }
+    ensures drivers { IfOk result (λ e. vec_len e.drivers ≡ length scripts.now) }
     ensures submits { IfOk result (λ e. submits_in e.book ≡ sum_by (λ s. s.tally.count) e.served.items) }
     ensures answers { IfOk result (λ e. HaveAll e.drivers.items scripts.now) }
+    ensures broken { IfOk result (λ e. e.broken ≡ (state e.book).broken) }
 {
     let blank = Blank::new(parts.tallies.len() as u64);
     serve_as::<Brand, D, G, R>(rt, alloc, blank, parts, config, scripts, gate)

@@ -2,6 +2,7 @@ mod failing;
 mod images;
 mod lines;
 mod runs;
+mod served;
 
 use super::texts::text_of;
 use command_line::Command;
@@ -12,9 +13,21 @@ use rpmb_frame::{BoardConfig, GuestConfig};
 use std::alloc::Global;
 use std::io;
 use std::io::Write;
+use std::sync::Wait;
 use std::test::Fail;
+use std::thread::Threads;
+
+/// What a command needs that starts threads.
+trait Runtime: AllocGlobal + Threads + Wait + Sync {}
+
+impl<R: AllocGlobal + Threads + Wait + Sync> Runtime for R {}
 
 const RUN: Command<'static> = Command::Run {
+    board: "",
+    script: "",
+};
+
+const SERVE: Command<'static> = Command::Serve {
     board: "",
     script: "",
 };
@@ -32,8 +45,8 @@ const FILE_FAULT: &str = "rpmbd: 21 FileFault\n";
 
 /// Performs a command on a disk, and gives the status and the disk. An image is made only on a disk of its
 /// length.
-fn perform_on<D: Disk, W: Write, E: Write>(
-    alloc: Global,
+fn perform_on<D: Disk + Send + Drop, W: Write, E: Write>(
+    rt: &impl Runtime,
     command: Command<'_>,
     board: &BoardConfig,
     script: &str,
@@ -46,7 +59,7 @@ fn perform_on<D: Disk, W: Write, E: Write>(
             return Err("another length").map_err(Fail::from);
         }
     }
-    match perform(alloc, command, board, script, disk, out, err) {
+    match perform(rt, command, board, script, disk, out, err) {
         (status, Some(disk)) => Ok((status, disk)),
         (_, None) => Err("no disk").map_err(Fail::from),
     }
@@ -69,16 +82,16 @@ impl Told {
 }
 
 /// Performs a command on a disk, and gives the disk.
-fn performed<D: Disk>(
-    alloc: Global,
+fn performed<D: Disk + Send + Drop>(
+    rt: &impl Runtime,
     command: Command<'_>,
     board: &BoardConfig,
     script: &str,
     disk: D,
 ) -> Result<(Told, D), Fail> {
-    let mut out = Vec::new(alloc);
-    let mut err = Vec::new(alloc);
-    let (status, disk) = perform_on(alloc, command, board, script, disk, &mut out, &mut err)?;
+    let mut out = Vec::new(rt.alloc());
+    let mut err = Vec::new(rt.alloc());
+    let (status, disk) = perform_on(rt, command, board, script, disk, &mut out, &mut err)?;
     Ok((Told { status, out, err }, disk))
 }
 
@@ -109,30 +122,30 @@ fn board_of(alloc: Global, capacities: &[u8]) -> Result<BoardConfig, Fail> {
 
 /// What a command on a disk in memory leaves.
 fn left_of(
-    alloc: Global,
+    rt: &impl Runtime,
     command: Command<'_>,
     board: &BoardConfig,
     script: &str,
     content: Vec<u8>,
 ) -> Result<Left, Fail> {
-    let (told, disk) = performed(alloc, command, board, script, MemDisk::new(content))?;
+    let (told, disk) = performed(rt, command, board, script, MemDisk::new(content))?;
     Ok(Left {
         told,
-        content: disk.content().to_vec(alloc)?,
+        content: disk.content().to_vec(rt.alloc())?,
         failures: disk.failures(),
     })
 }
 
 /// What a command for guests of these capacities leaves, on a disk in memory with this content.
 fn left_by(
-    alloc: Global,
+    rt: &impl Runtime,
     command: Command<'_>,
     capacities: &[u8],
     script: &str,
     content: Vec<u8>,
 ) -> Result<Left, Fail> {
-    let board = board_of(alloc, capacities)?;
-    left_of(alloc, command, &board, script, content)
+    let board = board_of(rt.alloc(), capacities)?;
+    left_of(rt, command, &board, script, content)
 }
 
 /// A disk of which a call will fail.
@@ -144,31 +157,31 @@ fn failing_disk(alloc: Global, content: &[u8], call: u64) -> Result<CutDisk, Fai
 
 /// What a command for one guest leaves of such a disk.
 fn left_of_failing(
-    alloc: Global,
+    rt: &impl Runtime,
     command: Command<'_>,
     board: &BoardConfig,
     script: &str,
     disk: CutDisk,
 ) -> Result<Left, Fail> {
-    let (told, disk) = performed(alloc, command, board, script, disk)?;
+    let (told, disk) = performed(rt, command, board, script, disk)?;
     Ok(Left {
         told,
-        content: disk.content().to_vec(alloc)?,
+        content: disk.content().to_vec(rt.alloc())?,
         failures: disk.failures(),
     })
 }
 
 /// What a command for one guest leaves, on a disk with this content, of which this call fails.
 fn left_failing(
-    alloc: Global,
+    rt: &impl Runtime,
     command: Command<'_>,
     script: &str,
     content: &[u8],
     call: u64,
 ) -> Result<Left, Fail> {
-    let board = board_of(alloc, ONE)?;
-    let disk = failing_disk(alloc, content, call)?;
-    left_of_failing(alloc, command, &board, script, disk)
+    let board = board_of(rt.alloc(), ONE)?;
+    let disk = failing_disk(rt.alloc(), content, call)?;
+    left_of_failing(rt, command, &board, script, disk)
 }
 
 /// A disk of the length of an image, with other bytes.
@@ -178,27 +191,27 @@ fn other_bytes(alloc: Global, capacities: &[u8]) -> Result<Vec<u8>, Fail> {
 }
 
 /// What `format` leaves of a disk that held other bytes.
-fn formatted(alloc: Global, capacities: &[u8]) -> Result<Left, Fail> {
-    let content = other_bytes(alloc, capacities)?;
-    left_by(alloc, FORMAT, capacities, "", content)
+fn formatted(rt: &impl Runtime, capacities: &[u8]) -> Result<Left, Fail> {
+    let content = other_bytes(rt.alloc(), capacities)?;
+    left_by(rt, FORMAT, capacities, "", content)
 }
 
 /// A fresh image.
-fn fresh(alloc: Global, capacities: &[u8]) -> Result<Vec<u8>, Fail> {
-    let made = formatted(alloc, capacities)?;
+fn fresh(rt: &impl Runtime, capacities: &[u8]) -> Result<Vec<u8>, Fail> {
+    let made = formatted(rt, capacities)?;
     Ok(made.content)
 }
 
 /// Whether a run over a fresh image prints this, and ends with this fault, or with none where it is empty.
 fn run_ends(
-    alloc: Global,
+    rt: &impl Runtime,
     capacities: &[u8],
     script: &str,
     out: &str,
     fault: &str,
 ) -> Result<bool, Fail> {
-    let image = fresh(alloc, capacities)?;
-    let left = left_by(alloc, RUN, capacities, script, image)?;
+    let image = fresh(rt, capacities)?;
+    let left = left_by(rt, RUN, capacities, script, image)?;
     Ok(left.told.is(u8::from(!fault.is_empty()), out, fault))
 }
 
@@ -228,37 +241,37 @@ impl Write for Narrow {
 
 /// The status of a command on a fresh image of one guest.
 fn status_of<W: Write, E: Write>(
-    alloc: Global,
+    rt: &impl Runtime,
     command: Command<'_>,
     script: &str,
     out: &mut W,
     err: &mut E,
 ) -> Result<u8, Fail> {
-    let board = board_of(alloc, ONE)?;
-    let disk = MemDisk::new(fresh(alloc, ONE)?);
-    let (status, _) = perform_on(alloc, command, &board, script, disk, out, err)?;
+    let board = board_of(rt.alloc(), ONE)?;
+    let disk = MemDisk::new(fresh(rt, ONE)?);
+    let (status, _) = perform_on(rt, command, &board, script, disk, out, err)?;
     Ok(status)
 }
 
 /// Whether a command that may print so many bytes ends with a fault, and how many more it could print.
 fn ends_narrow(
-    alloc: Global,
+    rt: &impl Runtime,
     command: Command<'_>,
     script: &str,
     room: usize,
     fault: &str,
 ) -> Result<Option<usize>, Fail> {
     let mut out = Narrow { room };
-    let mut err = Vec::new(alloc);
-    let status = status_of(alloc, command, script, &mut out, &mut err)?;
+    let mut err = Vec::new(rt.alloc());
+    let status = status_of(rt, command, script, &mut out, &mut err)?;
     let is_told = status == 1 && err.as_slice() == fault.as_bytes();
     Ok(is_told.then_some(out.room))
 }
 
 /// The status of a run of which neither standard output nor standard error takes all.
-fn ends_silent(alloc: Global, script: &str, room: usize) -> Result<u8, Fail> {
+fn ends_silent(rt: &impl Runtime, script: &str, room: usize) -> Result<u8, Fail> {
     status_of(
-        alloc,
+        rt,
         RUN,
         script,
         &mut Narrow { room },
@@ -267,9 +280,9 @@ fn ends_silent(alloc: Global, script: &str, room: usize) -> Result<u8, Fail> {
 }
 
 /// Whether such a run ends with the fault of its output, also where that can't be told.
-fn ends_without_room(alloc: Global, script: &str, room: usize) -> Result<bool, Fail> {
-    let more = ends_narrow(alloc, RUN, script, room, FILE_FAULT)?;
-    Ok(more == Some(0) && ends_silent(alloc, script, room)? == 1)
+fn ends_without_room(rt: &impl Runtime, script: &str, room: usize) -> Result<bool, Fail> {
+    let more = ends_narrow(rt, RUN, script, room, FILE_FAULT)?;
+    Ok(more == Some(0) && ends_silent(rt, script, room)? == 1)
 }
 
 /// A line has 11 bytes, so that the last one fits and only the flush fails.
@@ -279,15 +292,15 @@ static ROOMS: [usize; 6] = [0, 5, 10, 11, 15, 22];
 fn ends_where_output_fails(rt: HostRuntime) -> Result<(), Fail> {
     let script = "chain 0 - 16\nchain 0 - 16\n";
     for room in &ROOMS {
-        assert!(rt; ends_without_room(rt.alloc(), script, *room)?, "at {room}");
+        assert!(rt; ends_without_room(&rt, script, *room)?, "at {room}");
     }
     Ok(())
 }
 
 /// Whether a run that may print so many bytes, and of which the second line is refused, ends with a fault.
-fn ends_refused(alloc: Global, room: usize, fault: &str) -> Result<bool, Fail> {
+fn ends_refused(rt: &impl Runtime, room: usize, fault: &str) -> Result<bool, Fail> {
     let script = "chain 0 - 16\nstore 0 1048576 00\n";
-    let more = ends_narrow(alloc, RUN, script, room, fault)?;
+    let more = ends_narrow(rt, RUN, script, room, fault)?;
     Ok(more.is_some())
 }
 
@@ -297,7 +310,7 @@ static FAULTS: [(usize, &str); 2] = [(11, FILE_FAULT), (12, "rpmbd: 1 OutOfRange
 #[test]
 fn tells_lost_lines_before_another_fault(rt: HostRuntime) -> Result<(), Fail> {
     for (room, fault) in &FAULTS {
-        assert!(rt; ends_refused(rt.alloc(), *room, fault)?, "at {room}");
+        assert!(rt; ends_refused(&rt, *room, fault)?, "at {room}");
     }
     Ok(())
 }
@@ -312,23 +325,23 @@ fn of_each_guest(alloc: Global, start: &str, end: &str) -> Result<String, Fail> 
 }
 
 /// Whether a request of each of 64 guests is answered.
-fn answers_each_guest(alloc: Global) -> Result<bool, Fail> {
-    let script = of_each_guest(alloc, "chain ", " - 512\n")?;
-    let end = text_of(alloc, &[(" 512 ", 1), ("00", 509), ("010000\n", 1)])?;
-    let out = of_each_guest(alloc, "used ", end.as_str())?;
-    run_ends(alloc, &[1; 64], script.as_str(), out.as_str(), "")
+fn answers_each_guest(rt: &impl Runtime) -> Result<bool, Fail> {
+    let script = of_each_guest(rt.alloc(), "chain ", " - 512\n")?;
+    let end = text_of(rt.alloc(), &[(" 512 ", 1), ("00", 509), ("010000\n", 1)])?;
+    let out = of_each_guest(rt.alloc(), "used ", end.as_str())?;
+    run_ends(rt, &[1; 64], script.as_str(), out.as_str(), "")
 }
 
 /// Whether so many requests of one guest are answered as far as a history goes, and the run ends so.
-fn answers_one_guest(alloc: Global, lines: usize, fault: &str) -> Result<bool, Fail> {
-    let script = text_of(alloc, &[("chain 0 - 16\n", lines)])?;
-    let out = text_of(alloc, &[("used 0 0 -\n", 16_384)])?;
-    run_ends(alloc, ONE, script.as_str(), out.as_str(), fault)
+fn answers_one_guest(rt: &impl Runtime, lines: usize, fault: &str) -> Result<bool, Fail> {
+    let script = text_of(rt.alloc(), &[("chain 0 - 16\n", lines)])?;
+    let out = text_of(rt.alloc(), &[("used 0 0 -\n", 16_384)])?;
+    run_ends(rt, ONE, script.as_str(), out.as_str(), fault)
 }
 
 #[test]
 fn answers_a_full_board(rt: HostRuntime) -> Result<(), Fail> {
-    assert!(rt; answers_each_guest(rt.alloc())?);
+    assert!(rt; answers_each_guest(&rt)?);
     Ok(())
 }
 
@@ -338,7 +351,7 @@ static HISTORIES: [(usize, &str); 2] = [(16_384, ""), (16_385, "rpmbd: 15 Histor
 #[test]
 fn answers_a_full_history(rt: HostRuntime) -> Result<(), Fail> {
     for (lines, fault) in &HISTORIES {
-        assert!(rt; answers_one_guest(rt.alloc(), *lines, fault)?, "at {lines}");
+        assert!(rt; answers_one_guest(&rt, *lines, fault)?, "at {lines}");
     }
     Ok(())
 }

@@ -9,14 +9,32 @@ fn reads(alloc: Global, words: &[&str], command: Command<'_>) -> bool {
     }
 }
 
+static ON_A_SCRIPT: [([&str; 4], Command<'static>); 2] = [
+    (
+        ["rpmbd", "run", "board.toml", "script.txt"],
+        Command::Run {
+            board: "board.toml",
+            script: "script.txt",
+        },
+    ),
+    (
+        ["rpmbd", "serve", "board.toml", "script.txt"],
+        Command::Serve {
+            board: "board.toml",
+            script: "script.txt",
+        },
+    ),
+];
+
 #[test]
-fn reads_run(rt: HostRuntime) -> Result<(), Fail> {
-    let words = ["rpmbd", "run", "board.toml", "script.txt"];
-    let command = Command::Run {
-        board: "board.toml",
-        script: "script.txt",
-    };
-    assert!(rt; reads(rt.alloc(), words.as_slice(), command));
+fn reads_commands_on_a_script(rt: HostRuntime) -> Result<(), Fail> {
+    for (words, command) in &ON_A_SCRIPT {
+        assert!(rt;
+            reads(rt.alloc(), words.as_slice(), *command),
+            "at {}",
+            words[1]
+        );
+    }
     Ok(())
 }
 
@@ -47,7 +65,7 @@ fn reads_commands_on_a_board(rt: HostRuntime) -> Result<(), Fail> {
     Ok(())
 }
 
-static REFUSED: [(&str, i32, &str); 26] = [
+static REFUSED: [(&str, i32, &str); 30] = [
     ("rpmbd", 2, "Usage: rpmbd <COMMAND>"),
     ("rpmbd run", 2, "<BOARD>"),
     ("rpmbd run board.toml", 2, "<SCRIPT>"),
@@ -58,7 +76,11 @@ static REFUSED: [(&str, i32, &str); 26] = [
     ("rpmbd show", 2, "<BOARD>"),
     ("rpmbd show board.toml script.txt", 2, "script.txt"),
     ("rpmbd show --help=board.toml", 2, "--help"),
-    ("rpmbd serve board.toml script.txt", 2, "serve"),
+    ("rpmbd serve", 2, "<BOARD>"),
+    ("rpmbd serve board.toml", 2, "<SCRIPT>"),
+    ("rpmbd serve board.toml script.txt more", 2, "more"),
+    ("rpmbd help serve", 0, "Usage: rpmbd serve <BOARD> <SCRIPT>"),
+    ("rpmbd serve -h", 0, "all guests at once"),
     ("rpmbd upgrade board.toml", 2, "upgrade"),
     ("rpmbd --version", 2, "--version"),
     ("rpmbd help walk", 2, "walk"),

@@ -10,13 +10,20 @@ use rpmb_frame::BoardConfig;
 use std::alloc::Global;
 use std::fs;
 use std::os::unix::fs::PermissionsExt;
+use std::sync::Wait;
 use std::test::Fail;
+use std::thread::Threads;
 
 const FORMAT: Command<'static> = Command::Format { board: "" };
 
 const SHOW: Command<'static> = Command::Show { board: "" };
 
 const RUN: Command<'static> = Command::Run {
+    board: "",
+    script: "",
+};
+
+const SERVE: Command<'static> = Command::Serve {
     board: "",
     script: "",
 };
@@ -36,8 +43,8 @@ fn board_of(alloc: Global, text: &str) -> Result<BoardConfig, Fail> {
 
 /// Performs a command on a file, and gives the status, and what it writes on standard output and on
 /// standard error. An image is made only in a file of its length.
-fn perform_on<D: Disk>(
-    alloc: Global,
+fn perform_on<R: AllocGlobal + Threads + Wait + Sync, D: Disk + Send + Drop>(
+    rt: &R,
     command: Command<'_>,
     board: &BoardConfig,
     disk: D,
@@ -47,29 +54,34 @@ fn perform_on<D: Disk>(
             return Err("another length").map_err(Fail::from);
         }
     }
-    let mut out = Vec::new(alloc);
-    let mut err = Vec::new(alloc);
-    let (status, _) = perform(alloc, command, board, "", disk, &mut out, &mut err);
+    let mut out = Vec::new(rt.alloc());
+    let mut err = Vec::new(rt.alloc());
+    let (status, _) = perform(rt, command, board, "", disk, &mut out, &mut err);
     Ok((status, out, err))
 }
 
 /// Performs a command on a file that is there.
-fn performed(
+fn performed<R: AllocGlobal + Threads + Wait + Sync>(
     rt: &HostRuntime,
+    threads: &R,
     command: Command<'_>,
     path: &str,
     text: &str,
 ) -> Result<(u8, Vec<u8>, Vec<u8>), Fail> {
     let board = board_of(rt.alloc(), text)?;
     let disk = open_image(rt, path)?;
-    perform_on(rt.alloc(), command, &board, disk)
+    perform_on(threads, command, &board, disk)
 }
 
 /// Makes a fresh image of one guest in a file, over what the file holds.
-fn formatted(rt: &HostRuntime, path: &str) -> Result<(u8, Vec<u8>, Vec<u8>), Fail> {
+fn formatted<R: AllocGlobal + Threads + Wait + Sync>(
+    rt: &HostRuntime,
+    threads: &R,
+    path: &str,
+) -> Result<(u8, Vec<u8>, Vec<u8>), Fail> {
     let board = board_of(rt.alloc(), ONE)?;
     let disk = create_image(rt, path, Layout::of(&board).length())?;
-    perform_on(rt.alloc(), FORMAT, &board, disk)
+    perform_on(threads, FORMAT, &board, disk)
 }
 
 /// Puts a byte in the place of another.
@@ -90,18 +102,19 @@ fn fresh(alloc: Global) -> Result<Vec<u8>, Fail> {
     Ok(content)
 }
 
-/// Whether `show` and `run` of a file with this content end with the fault, print nothing, and leave the
+/// Whether `show`, `run` and `serve` of a file with this content end with the fault, print nothing, and leave the
 /// file.
-fn refuses(
+fn refuses<R: AllocGlobal + Threads + Wait + Sync>(
     rt: &HostRuntime,
+    threads: &R,
     path: &str,
     content: &[u8],
     text: &str,
     fault: &str,
 ) -> Result<bool, Fail> {
     fs::write(rt, path, content)?;
-    for command in [SHOW, RUN] {
-        let (status, out, err) = performed(rt, command, path, text)?;
+    for command in [SHOW, RUN, SERVE] {
+        let (status, out, err) = performed(rt, threads, command, path, text)?;
         let is_told = status == 1 && out.is_empty() && err.as_slice() == fault.as_bytes();
         if !is_told || fs::read(rt, path)?.as_slice() != content {
             return Ok(false);
@@ -128,7 +141,7 @@ fn formats_a_file_and_shows_it(rt: HostRuntime) -> Result<(), Fail> {
         if length > 0 {
             fs::write(&rt, path, vec![in rt.alloc(); 0xee; length]?.as_slice())?;
         }
-        let (status, out, err) = formatted(&rt, path)?;
+        let (status, out, err) = formatted(&rt, &rt, path)?;
         assert_eq!(rt; (status, err.len()), (0, 0), "at {length}");
         assert_eq!(rt;
             out.as_slice(),
@@ -140,7 +153,7 @@ fn formats_a_file_and_shows_it(rt: HostRuntime) -> Result<(), Fail> {
             fs::read(&rt, path)?.as_slice() == wanted.as_slice(),
             "at {length}"
         );
-        let (status, out, err) = performed(&rt, SHOW, path, ONE)?;
+        let (status, out, err) = performed(&rt, &rt, SHOW, path, ONE)?;
         assert_eq!(rt; (status, err.len()), (0, 0), "at {length}");
         assert_eq!(rt; out.as_slice(), FRESH.as_bytes(), "at {length}");
     }
@@ -156,7 +169,7 @@ fn refuses_images(rt: HostRuntime) -> Result<(), Fail> {
         let mut content = image.as_slice().to_vec(rt.alloc())?;
         put(&mut content, at, byte);
         assert!(rt;
-            refuses(&rt, path, content.as_slice(), ONE, fault)?,
+            refuses(&rt, &rt, path, content.as_slice(), ONE, fault)?,
             "at {at}"
         );
     }
@@ -164,11 +177,14 @@ fn refuses_images(rt: HostRuntime) -> Result<(), Fail> {
     let fault = "rpmbd: 12 NotFormatted\n";
     for length in [image.len().saturating_sub(1), 0] {
         let content = &image.as_slice()[..length];
-        assert!(rt; refuses(&rt, path, content, ONE, fault)?, "at {length}");
+        assert!(rt;
+            refuses(&rt, &rt, path, content, ONE, fault)?,
+            "at {length}"
+        );
     }
     // The board has another guest beside.
     let fault = "rpmbd: 13 OtherConfig\n";
-    assert!(rt; refuses(&rt, path, image.as_slice(), TWO, fault)?);
+    assert!(rt; refuses(&rt, &rt, path, image.as_slice(), TWO, fault)?);
     fs::remove_file(&rt, path)?;
     Ok(())
 }

@@ -10,7 +10,7 @@ const BOARD: &str = "[[guest]]\ncapacity = 1\n";
 const IMAGE_BOARD: &str = "image = \"statuses.img\"\n[[guest]]\ncapacity = 1\n";
 
 // A file that lies there before the words are performed, beside boards and a good script.
-static FILES: [(&str, &str); 7] = [
+static FILES: [(&str, &str); 8] = [
     ("board.toml", BOARD),
     ("image.toml", IMAGE_BOARD),
     ("no_board.toml", "[[guest]]\n"),
@@ -24,23 +24,30 @@ static FILES: [(&str, &str); 7] = [
     ),
     ("script.txt", "chain 0 - 0512\nreset 0\n"),
     ("bad.txt", "chain 0 - 512\nchain 1 - 512\n"),
+    ("store.txt", "chain 0 - 512\nstore 0 0 00\n"),
 ];
 
 // The words, and the status that they end with: 2 for words that name no command, 1 for a fault, else 0. A
 // board is read before a script, and an image is opened only once both are.
-static WORDS: [(&str, u8); 29] = [
+static WORDS: [(&str, u8); 38] = [
     ("", 2),
     ("run", 2),
     ("run board.toml", 2),
     ("run board.toml script.txt more", 2),
     ("format", 2),
-    ("serve board.toml script.txt", 2),
+    ("serve", 2),
+    ("serve board.toml", 2),
+    ("serve board.toml script.txt more", 2),
     ("upgrade image.toml", 2),
     ("--version", 2),
     ("--help", 0),
     ("run --help", 0),
     ("run board.toml script.txt", 0),
     ("run board.toml bad.txt", 1),
+    ("serve --help", 0),
+    ("serve board.toml script.txt", 0),
+    ("serve board.toml bad.txt", 1),
+    ("serve image.toml script.txt", 1),
     ("run no_board.toml script.txt", 1),
     ("run missing.toml script.txt", 1),
     ("run board.toml missing.txt", 1),
@@ -54,6 +61,9 @@ static WORDS: [(&str, u8); 29] = [
     ("show other.toml", 1),
     ("show missing.toml", 1),
     ("run image.toml script.txt", 0),
+    ("serve image.toml script.txt", 0),
+    ("serve image.toml store.txt", 1),
+    ("run image.toml store.txt", 0),
     ("run image.toml bad.txt", 1),
     ("run other.toml script.txt", 1),
     ("run lost.toml script.txt", 1),
@@ -78,7 +88,7 @@ fn words_end_with_their_status(rt: HostRuntime) -> Result<(), Fail> {
     }
     for (line, status) in &WORDS {
         let words = words_of(rt.alloc(), *line)?;
-        assert_eq!(rt; status_of(&rt, words.as_slice()), *status, "{line}");
+        assert_eq!(rt; status_of(&rt, &rt, words.as_slice()), *status, "{line}");
     }
     // What was refused made no image, and what was made has its length.
     assert_eq!(rt; fs::metadata(&rt, "statuses.img")?.len(), 167_424);

@@ -1,10 +1,10 @@
 //! What guests are told that are served at once is what each is told by a host that serves one chain at a
 //! time.
 use crate::tests::scene::{
-    board_of, chain, check, formatted, get_write_counter, program_key, run_on,
+    board_of, chain, check, formatted, formatted_in_memory, get_write_counter, program_key, run_on,
 };
 use board::Board;
-use disk::Disk;
+use disk::{Disk, MemDisk};
 use host::{Answer, Host};
 use std::alloc::Global;
 use std::sync::Wait;
@@ -13,7 +13,7 @@ use std::thread::Threads;
 use workers::{Open, Order, Script};
 
 /// A script of a guest of this number: its own key, its counter under several nonces, a reset between.
-fn script_of(alloc: Global, guest: u8) -> Result<Script, Fail> {
+pub fn script_of(alloc: Global, guest: u8) -> Result<Script, Fail> {
     let mut orders = Vec::new(alloc);
     orders.push(chain(alloc, &get_write_counter(u128::from(guest)))?)?;
     orders.push(chain(alloc, &program_key(&[guest; 32]))?)?;
@@ -43,7 +43,7 @@ fn is_told(answer: Option<&Answer>, alone: &[u8]) -> bool {
 }
 
 /// The host tells the guest the same, one chain after another.
-fn check_alone<D: Disk>(
+pub fn check_alone<D: Disk>(
     host: &mut Host<D>,
     guest: u16,
     orders: &[Order],
@@ -66,15 +66,21 @@ fn check_alone<D: Disk>(
     check(told == answers.len(), "an answer too many")
 }
 
-/// A host on a fresh image of so many guests, each in turn.
-fn check_each(alloc: Global, scripts: &[Script], answers: &[&[Answer]]) -> Result<(), Fail> {
-    let board = board_of(alloc, scripts.len())?;
-    let Ok(opened) = Board::open(alloc, formatted(alloc, scripts.len())?, 1, &board) else {
+/// A host on a fresh image of so many guests.
+pub fn host_of(alloc: Global, guests: usize) -> Result<Host<MemDisk>, Fail> {
+    let board = board_of(alloc, guests)?;
+    let Ok(opened) = Board::open(alloc, formatted_in_memory(alloc, guests)?, 1, &board) else {
         return Err(Fail::from("an image that isn't opened"));
     };
-    let Ok(mut host) = Host::new(alloc, opened, &board) else {
-        return Err(Fail::from("no memory"));
-    };
+    match Host::new(alloc, opened, &board) {
+        Ok(host) => Ok(host),
+        Err(_) => Err(Fail::from("no memory")),
+    }
+}
+
+/// The same for each guest, each in turn.
+fn check_each(alloc: Global, scripts: &[Script], answers: &[&[Answer]]) -> Result<(), Fail> {
+    let mut host = host_of(alloc, scripts.len())?;
     for (guest, script) in scripts.iter().enumerate() {
         let Some(answers) = answers.get(guest) else {
             return Err(Fail::from("no such guest"));

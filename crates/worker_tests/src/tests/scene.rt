@@ -3,7 +3,7 @@ ghost use Rattle.std.specs.Prelude.{◌≡◌, All, IfOk};
 ghost use Rattle.rpmb_book.specs.Book.{submits_in};
 
 use board::{Board, Parts};
-use disk::{CutDisk, Disk};
+use disk::{CutDisk, Disk, MemDisk};
 use host::HostFault;
 use intent_slots::Layout;
 use recovery::format;
@@ -41,16 +41,30 @@ pub fn formatted(alloc: Global, guests: usize) -> Result<CutDisk, Fail> {
     Ok(disk)
 }
 
+/// The same on a disk that keeps no calls, for runs of many requests.
+pub fn formatted_in_memory(alloc: Global, guests: usize) -> Result<MemDisk, Fail> {
+    let board = board_of(alloc, guests)?;
+    let layout = Layout::of(&board);
+    let mut disk = MemDisk::new(vec![in alloc; 0xee; layout.length() as usize]?);
+    if disk.len() != layout.length() {
+        return Err(Fail::from("another length"));
+    }
+    format(&mut disk, &board)?;
+    Ok(disk)
+}
+
+/// The frame that asks for the result.
+pub fn result_read() -> [u8; 512] {
+    Frame::zeros().with_req_resp(0x0005).to_bytes()
+}
+
 /// The frames that program a key and ask for the result.
 pub fn program_key(key: &[u8; 32]) -> [[u8; 512]; 2] {
     let frame = Frame::zeros()
         .with_key_mac(key)
         .with_block_count(1)
         .with_req_resp(0x0001);
-    [
-        frame.to_bytes(),
-        Frame::zeros().with_req_resp(0x0005).to_bytes(),
-    ]
+    [frame.to_bytes(), result_read()]
 }
 
 /// The frame that asks for the write counter under this nonce.
@@ -93,7 +107,7 @@ pub fn script_with_reset(alloc: Global) -> Result<Script, Fail> {
 }
 
 /// The parts of a board that was just opened.
-fn opened<D: Disk>(alloc: Global, disk: D, board: &BoardConfig) -> Result<Parts<D>, Fail>
+pub fn opened<D: Disk>(alloc: Global, disk: D, board: &BoardConfig) -> Result<Parts<D>, Fail>
     ensures new_book { IfOk result (λ p. submits_in p.book ≡ 0) }
     ensures fresh { IfOk result (λ p. All (λ t. t.count ≡ 0) p.tallies.items) }
 {
@@ -133,6 +147,14 @@ pub fn run_failing<R: Threads + Wait + Sync>(
     }
     parts.store.fail(k);
     Ok(serve(rt, alloc, parts, &board, scripts, &Open))
+}
+
+/// The fault that a run ended with, where it did.
+pub fn fault_of<D: Disk + Drop>(outcome: Result<Ended<D>, HostFault>) -> Option<HostFault> {
+    match outcome {
+        Ok(_) => None,
+        Err(fault) => Some(fault),
+    }
 }
 
 /// The last twelve bytes of a reply: write counter, address, block count, result and type.

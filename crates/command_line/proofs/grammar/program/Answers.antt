@@ -11,5 +11,7 @@ returns c =
     ∙ ap₂ with_subcommand c.bare.ensures (ap top c.in_ok-format.ensures.shape) in
     let with_show = c.in_ok-subcommand-2.ensures.shape c.in_ok-show.ensures.local
     ∙ ap₂ with_subcommand with_format (ap top c.in_ok-show.ensures.shape) in
-    c.in_ok-command.ensures.shape c.in_ok-run.ensures.local
-    ∙ ap₂ with_subcommand with_show (ap top c.in_ok-run.ensures.shape)
+    let with_run = c.in_ok-subcommand-3.ensures.shape c.in_ok-run.ensures.local
+    ∙ ap₂ with_subcommand with_show (ap top c.in_ok-run.ensures.shape) in
+    c.in_ok-command.ensures.shape c.in_ok-serve.ensures.local
+    ∙ ap₂ with_subcommand with_run (ap top c.in_ok-serve.ensures.shape)

@@ -1,25 +1,28 @@
-use Rattle.std.proofs.Common.{List, ℕ, Option, ap, subst, sym, ◌∙◌}
+use Rattle.std.proofs.Common.{List, ℕ, Option, Some, ap, subst, sym, ◌∙◌}
+use Rattle.std.specs.Prelude.{IfSome}
 use Rattle.command_line.specs.declared.command.Command.{Command}
-use Rattle.commands.specs.Ending.{Ends, IsReadAlone, IsShow, Prints}
+use Rattle.commands.specs.Ending.{Ends, Fails, IsReadAlone, IsShow, Prints}
 use Rattle.commands.specs.Moments.{AnyMoment, FaultMoments}
-use Rattle.commands.proofs.Ended.{known_of}
-use Rattle.commands.proofs.performing.perform.Goals.{in-Format, in-Run, in-Show}
+use Rattle.commands.proofs.Ended.{if_any, known_of}
+use Rattle.commands.proofs.performing.perform.Goals.{in-Format, in-Run, in-Serve, in-Show}
 use Rattle.commands.proofs.performing.perform.Goals as goal
 
 pub returns-in-Ok-clause-read : goal.returns-in-Ok-clause-read
 returns-in-Ok-clause-read g c shown =
     elim c.match-command.branch [
       | in-Format w ↦ absurd (subst IsShow w.in-Format.is shown)
-      | in-Show w ↦ subst (λ d. IsReadAlone g.D.Disk.makes c.args.disk d.1) (sym w.done-is) w.show_image.ensures.calls
+      | in-Show w ↦ subst (λ d. IfSome d.1 (IsReadAlone g.D.Disk.makes c.args.disk)) (sym w.done-is) w.show_image-done.ensures.calls
       | in-Run w ↦ absurd (subst IsShow w.in-Run.is shown)
+      | in-Serve w ↦ absurd (subst IsShow w.in-Serve.is shown)
     ]
 
 pub returns-in-Err-clause-read : goal.returns-in-Err-clause-read
 returns-in-Err-clause-read g c shown =
     elim c.match-command.branch [
       | in-Format w ↦ absurd (subst IsShow w.in-Format.is shown)
-      | in-Show w ↦ subst (λ d. IsReadAlone g.D.Disk.makes c.args.disk d.1) (sym w.done-is) w.show_image.ensures.calls
+      | in-Show w ↦ subst (λ d. IfSome d.1 (IsReadAlone g.D.Disk.makes c.args.disk)) (sym w.done-is) w.show_image-done.ensures.calls
       | in-Run w ↦ absurd (subst IsShow w.in-Run.is shown)
+      | in-Serve w ↦ absurd (subst IsShow w.in-Serve.is shown)
     ]
 
 pub returns-in-Err-clause-fault : goal.returns-in-Err-clause-fault
@@ -29,32 +32,40 @@ returns-in-Err-clause-fault g c one =
     let script = c.args.script.now in
     let start = g.W.Write.contents c.args.out.now in
     let f = c.in-Err.fault in
-    let caused : Command → g.row.D.Denot → Option (List ℕ) → Type 0 =
-    λ k d now. Ends k board script (shows c.args.disk) (shows d) f × Prints k board script (shows c.args.disk) (shows d) f start now × FaultMoments shows g.D.Disk.makes k board script c.args.disk start f d now in
-    record {
-      fault = f;
-      told = c.report.ensures.told;
-      caused = elim c.match-command.branch [
-        | in-Format w ↦
-            let is = sym (ap (λ d. d.0) w.done-is) ∙ c.in-Err.is in
-            subst (λ d. caused c.args.command d.1 (g.W.Write.contents c.match-command.out)) (sym w.done-is)
-            (subst (λ o. caused c.args.command w.make_image.new.disk (g.W.Write.contents o)) (sym w.out-is)
-            (subst (λ k. caused k w.make_image.new.disk (g.W.Write.contents w.make_image.new.out)) (sym w.in-Format.is)
-            (known_of _ w.make_image.result w.make_image.ensures.ends f is, known_of _ w.make_image.result w.make_image.ensures.silent f is, tt)))
-        | in-Show w ↦
-            let is = sym (ap (λ d. d.0) w.done-is) ∙ c.in-Err.is in
-            subst (λ d. caused c.args.command d.1 (g.W.Write.contents c.match-command.out)) (sym w.done-is)
-            (subst (λ o. caused c.args.command w.show_image.result.1 (g.W.Write.contents o)) (sym w.out-is)
-            (subst (λ k. caused k w.show_image.result.1 (g.W.Write.contents w.show_image.new.out)) (sym w.in-Show.is)
-            (known_of _ w.show_image.result.0 w.show_image.ensures.ends f is, known_of _ w.show_image.result.0 w.show_image.ensures.silent f is, tt)))
-        | in-Run w ↦
-            let is = sym (ap (λ d. d.0) w.done-is) ∙ c.in-Err.is in
-            subst (λ d. caused c.args.command d.1 (g.W.Write.contents c.match-command.out)) (sym w.done-is)
-            (subst (λ o. caused c.args.command w.run.result.1 (g.W.Write.contents o)) (sym w.out-is)
-            (subst (λ k. caused k w.run.result.1 (g.W.Write.contents w.run.new.out)) (sym w.in-Run.is) (
-              known_of _ w.run.result.0 w.run.ensures.ends f is,
-              known_of _ w.run.result.0 w.run.ensures.stopped f is,
-              λ lines says. subst (λ r. AnyMoment shows g.D.Disk.makes board lines c.args.disk start r w.run.result.1 (g.W.Write.contents w.run.new.out)) is (w.run.ensures.moments lines says),
-            )))
-      ];
-    }
+    let told = c.report.ensures.told in
+    let whole : Command → Option g.row.D.Denot → Option (List ℕ) → Type 0 =
+    λ k o now. IfSome o (λ d. Fails (λ h. Ends k board script (shows c.args.disk) (shows d) h × Prints k board script (shows c.args.disk) (shows d) h start now × FaultMoments shows g.D.Disk.makes k board script c.args.disk start h d now)
+    (g.E.Write.contents c.args.err.now) (g.E.Write.contents c.report.new.err)) in
+    elim c.match-command.branch [
+      | in-Format w ↦
+          let is = sym (ap (λ d. d.0) w.done-is) ∙ c.in-Err.is in
+          subst (λ d. whole c.args.command d.1 (g.W.Write.contents c.match-command.out)) (sym w.done-is)
+          (subst (λ o. whole c.args.command (Some w.make_image.new.disk) (g.W.Write.contents o)) (sym w.out-is)
+          (subst (λ k. whole k (Some w.make_image.new.disk) (g.W.Write.contents w.make_image.new.out)) (sym w.in-Format.is)
+          (record { fault = f; told = told; caused = (known_of _ w.make_image.result w.make_image.ensures.ends f is, known_of _ w.make_image.result w.make_image.ensures.silent f is, tt) })))
+      | in-Show w ↦
+          let is = sym (ap (λ d. d.0) w.done-is) ∙ c.in-Err.is in
+          subst (λ d. whole c.args.command d.1 (g.W.Write.contents c.match-command.out)) (sym w.done-is)
+          (subst (λ o. whole c.args.command (Some w.show_image-done.result.1) (g.W.Write.contents o)) (sym w.out-is)
+          (subst (λ k. whole k (Some w.show_image-done.result.1) (g.W.Write.contents w.show_image-done.new.out)) (sym w.in-Show.is)
+          (record { fault = f; told = told; caused = (known_of _ w.show_image-done.result.0 w.show_image-done.ensures.ends f is, known_of _ w.show_image-done.result.0 w.show_image-done.ensures.silent f is, tt) })))
+      | in-Run w ↦
+          let is = sym (ap (λ d. d.0) w.done-is) ∙ c.in-Err.is in
+          subst (λ d. whole c.args.command d.1 (g.W.Write.contents c.match-command.out)) (sym w.done-is)
+          (subst (λ o. whole c.args.command (Some w.run-done.result.1) (g.W.Write.contents o)) (sym w.out-is)
+          (subst (λ k. whole k (Some w.run-done.result.1) (g.W.Write.contents w.run-done.new.out)) (sym w.in-Run.is) (record {
+            fault = f;
+            told = told;
+            caused = (
+              known_of _ w.run-done.result.0 w.run-done.ensures.ends f is,
+              known_of _ w.run-done.result.0 w.run-done.ensures.stopped f is,
+              λ lines says. subst (λ r. AnyMoment shows g.D.Disk.makes board lines c.args.disk start r w.run-done.result.1 (g.W.Write.contents w.run-done.new.out)) is (w.run-done.ensures.moments lines says),
+            );
+          })))
+      | in-Serve w ↦
+          let is = sym (ap (λ d. d.0) w.done-is) ∙ c.in-Err.is in
+          subst (λ d. whole c.args.command d.1 (g.W.Write.contents c.match-command.out)) (sym w.done-is)
+          (subst (λ o. whole c.args.command w.serve.result.1 (g.W.Write.contents o)) (sym w.out-is)
+          (subst (λ k. whole k w.serve.result.1 (g.W.Write.contents w.serve.new.out)) (sym w.in-Serve.is)
+          (if_any w.serve.result.1 _ (λ d. record { fault = f; told = told; caused = (known_of _ w.serve.result.0 w.serve.ensures.ends f is, known_of _ w.serve.result.0 w.serve.ensures.prints f is, tt) }))))
+    ]

@@ -1,6 +1,6 @@
 use Rattle.std.proofs.Common.{List, Err, ap, length, subst, sym}
 use Rattle.std.proofs.lemmas.Result.{on_ok_weaker}
-use Rattle.script.specs.Line.{Said}
+use Rattle.script.specs.Line.{Said, line_of}
 use Rattle.script.specs.Script.{lines_of}
 use Rattle.commands.specs.Image.{Ran}
 use Rattle.commands.specs.Transcript.{StoresNothing}
@@ -20,13 +20,13 @@ returns-in-Ok-clause-ran g c =
 
 pub returns-in-Ok-clause-bad : goal.returns-in-Ok-clause-bad
 returns-in-Ok-clause-bad g c n bad =
-    absurd (not_bad n _ (none_bad (length c.args.board.now) c.in-Ok.lines.items (lines_of c.args.script.now) c.in-Ok.ensures.ok) bad)
+    absurd (not_bad n _ (none_bad (line_of (length c.args.board.now)) c.in-Ok.lines.items (lines_of c.args.script.now) c.in-Ok.ensures.ok) bad)
 
 pub returns-in-Ok-clause-ends : goal.returns-in-Ok-clause-ends
 returns-in-Ok-clause-ends g c =
     let s = g.D.Disk.state in
     all_run_ends c.args.board.now c.args.script.now (s c.args.disk) (s c.run_on.result.1) c.run_on.result.0
-    (none_bad (length c.args.board.now) c.in-Ok.lines.items (lines_of c.args.script.now) c.in-Ok.ensures.ok) c.run_on.ensures.ends
+    (none_bad (line_of (length c.args.board.now)) c.in-Ok.lines.items (lines_of c.args.script.now) c.in-Ok.ensures.ok) c.run_on.ensures.ends
 
 pub returns-in-Ok-clause-stopped : goal.returns-in-Ok-clause-stopped
 returns-in-Ok-clause-stopped g c =

@@ -2,7 +2,7 @@
 
 use super::lines::{LISTINGS, Part, WHOLE, script_of, told_by};
 use super::runs::refuses;
-use super::{DISK_FAULT, ONE, RUN, SHOW, Told, board_of, failing_disk, fresh, performed};
+use super::{DISK_FAULT, ONE, RUN, Runtime, SHOW, Told, board_of, failing_disk, fresh, performed};
 use crate::tests::texts::is_text;
 use disk::{CutDisk, Disk, Filler};
 use rpmb_frame::BoardConfig;
@@ -53,7 +53,7 @@ fn filler_of(alloc: Global, stop: u64) -> Result<Filler, Fail> {
 
 /// What `show` prints after a stop of this disk.
 fn shown_after(
-    alloc: Global,
+    rt: &impl Runtime,
     board: &BoardConfig,
     disk: CutDisk,
     filler: &Filler,
@@ -61,7 +61,7 @@ fn shown_after(
     let mut disk = disk;
     disk.cut(filler);
     disk.fail(0);
-    let (shown, _) = performed(alloc, SHOW, board, "", disk)?;
+    let (shown, _) = performed(rt, SHOW, board, "", disk)?;
     if shown.status != 0 {
         return Err("refused").map_err(Fail::from);
     }
@@ -78,32 +78,37 @@ struct Stopped {
 
 /// Runs a script over a disk, and stops.
 fn run_and_stop(
-    alloc: Global,
+    rt: &impl Runtime,
     board: &BoardConfig,
     script: &str,
     disk: CutDisk,
     filler: &Filler,
 ) -> Result<Stopped, Fail> {
-    let (told, disk) = performed(alloc, RUN, board, script, disk)?;
+    let (told, disk) = performed(rt, RUN, board, script, disk)?;
     Ok(Stopped {
         told,
         failures: disk.failures(),
-        shown: shown_after(alloc, board, disk, filler)?,
+        shown: shown_after(rt, board, disk, filler)?,
     })
 }
 
 /// The same over a fresh image, of which a call fails.
-fn stopped_at(alloc: Global, script: &str, call: u64, filler: &Filler) -> Result<Stopped, Fail> {
-    let board = board_of(alloc, ONE)?;
-    let disk = failing_disk(alloc, fresh(alloc, ONE)?.as_slice(), call)?;
-    run_and_stop(alloc, &board, script, disk, filler)
+fn stopped_at(
+    rt: &impl Runtime,
+    script: &str,
+    call: u64,
+    filler: &Filler,
+) -> Result<Stopped, Fail> {
+    let board = board_of(rt.alloc(), ONE)?;
+    let disk = failing_disk(rt.alloc(), fresh(rt, ONE)?.as_slice(), call)?;
+    run_and_stop(rt, &board, script, disk, filler)
 }
 
 impl Failing {
-    fn stopped(self, alloc: Global) -> Result<Stopped, Fail> {
-        let script = script_of(alloc, self.part, self.more)?;
-        let filler = filler_of(alloc, self.stop)?;
-        stopped_at(alloc, script.as_str(), self.call, &filler)
+    fn stopped(self, rt: &impl Runtime) -> Result<Stopped, Fail> {
+        let script = script_of(rt.alloc(), self.part, self.more)?;
+        let filler = filler_of(rt.alloc(), self.stop)?;
+        stopped_at(rt, script.as_str(), self.call, &filler)
     }
 
     /// Whether a stop leaves what is settled, or one more of the key and the writes.
@@ -114,15 +119,15 @@ impl Failing {
 
     /// Whether a run prints what is wanted, ends with its fault, or with none where that is empty, and leaves,
     /// after a stop, what was settled.
-    fn ends(self, alloc: Global) -> Result<bool, Fail> {
-        let stopped = self.stopped(alloc)?;
-        let out = told_by(alloc, self.part)?;
+    fn ends(self, rt: &impl Runtime) -> Result<bool, Fail> {
+        let stopped = self.stopped(rt)?;
+        let out = told_by(rt.alloc(), self.part)?;
         let status = u8::from(!self.fault.is_empty());
         let is_told = stopped.told.is(status, out.as_str(), self.fault);
         Ok(
             is_told
                 && stopped.failures == self.failures
-                && self.may_leave(alloc, stopped.shown.as_slice())?,
+                && self.may_leave(rt.alloc(), stopped.shown.as_slice())?,
         )
     }
 }
@@ -133,7 +138,7 @@ fn lists(alloc: Global, shown: &[u8], count: usize) -> Result<bool, Fail> {
 }
 
 /// Whether a run of which this call fails ends so.
-fn fails_at(alloc: Global, call: u64, told: usize, settled: usize) -> Result<bool, Fail> {
+fn fails_at(rt: &impl Runtime, call: u64, told: usize, settled: usize) -> Result<bool, Fail> {
     let run = Failing {
         part: Part {
             held_at: told,
@@ -146,37 +151,30 @@ fn fails_at(alloc: Global, call: u64, told: usize, settled: usize) -> Result<boo
         failures: 1,
         settled,
     };
-    run.ends(alloc)
+    run.ends(rt)
 }
 
 #[test]
 fn fails_at_each_call_in_turn(rt: HostRuntime) -> Result<(), Fail> {
     for (first, last, told, settled) in &CALLS {
         for call in *first..=*last {
-            assert!(rt; fails_at(rt.alloc(), call, *told, *settled)?, "at {call}");
+            assert!(rt; fails_at(&rt, call, *told, *settled)?, "at {call}");
         }
     }
     Ok(())
 }
 
 /// Whether a run of which this call of the opening fails prints nothing, and writes nothing.
-fn fails_to_open_at(alloc: Global, call: u64) -> Result<bool, Fail> {
-    let script = script_of(alloc, WHOLE, "")?;
-    let image = fresh(alloc, ONE)?;
-    refuses(
-        alloc,
-        script.as_str(),
-        image.as_slice(),
-        call,
-        DISK_FAULT,
-        1,
-    )
+fn fails_to_open_at(rt: &impl Runtime, call: u64) -> Result<bool, Fail> {
+    let script = script_of(rt.alloc(), WHOLE, "")?;
+    let image = fresh(rt, ONE)?;
+    refuses(rt, script.as_str(), image.as_slice(), call, DISK_FAULT, 1)
 }
 
 #[test]
 fn fails_within_the_opening(rt: HostRuntime) -> Result<(), Fail> {
     for call in 1..=OPENED {
-        assert!(rt; fails_to_open_at(rt.alloc(), call)?, "at {call}");
+        assert!(rt; fails_to_open_at(&rt, call)?, "at {call}");
     }
     Ok(())
 }
@@ -194,7 +192,7 @@ const BEYOND: Failing = Failing {
 
 #[test]
 fn makes_no_call_beyond_the_last(rt: HostRuntime) -> Result<(), Fail> {
-    assert!(rt; BEYOND.ends(rt.alloc())?);
+    assert!(rt; BEYOND.ends(&rt)?);
     Ok(())
 }
 
@@ -228,7 +226,7 @@ static ENDED_BY_A_LINE: [Failing; 2] = [
 #[test]
 fn keeps_what_was_told_before_a_fault(rt: HostRuntime) -> Result<(), Fail> {
     for run in &ENDED_BY_A_LINE {
-        assert!(rt; run.ends(rt.alloc())?, "at {}", run.call);
+        assert!(rt; run.ends(&rt)?, "at {}", run.call);
     }
     Ok(())
 }

@@ -2,7 +2,8 @@
 //! layout of an image (docs/FORMATS.md, "The image"), not by this program.
 
 use super::{
-    DISK_FAULT, FILE_FAULT, FORMAT, ONE, SHOW, ends_narrow, formatted, fresh, left_by, left_failing,
+    DISK_FAULT, FILE_FAULT, FORMAT, ONE, Runtime, SHOW, ends_narrow, formatted, fresh, left_by,
+    left_failing,
 };
 use crate::tests::texts::{Piece, text_of};
 use command_line::Command;
@@ -15,20 +16,20 @@ const TWO: &[u8] = &[1, 2];
 
 /// Whether `show` prints this, and ends with this fault, or with none where it is empty. It never writes.
 pub fn shows(
-    alloc: Global,
+    rt: &impl Runtime,
     capacities: &[u8],
     content: &[u8],
     out: &str,
     fault: &str,
 ) -> Result<bool, Fail> {
-    let left = left_by(alloc, SHOW, capacities, "", content.to_vec(alloc)?)?;
+    let left = left_by(rt, SHOW, capacities, "", content.to_vec(rt.alloc())?)?;
     Ok(left.told.is(u8::from(!fault.is_empty()), out, fault) && left.has(content, 0))
 }
 
 /// Whether `format` prints this, and `show` then this.
-fn makes(alloc: Global, capacities: &[u8], made: &str, shown: &str) -> Result<bool, Fail> {
-    let left = formatted(alloc, capacities)?;
-    let is_shown = shows(alloc, capacities, left.content.as_slice(), shown, "")?;
+fn makes(rt: &impl Runtime, capacities: &[u8], made: &str, shown: &str) -> Result<bool, Fail> {
+    let left = formatted(rt, capacities)?;
+    let is_shown = shows(rt, capacities, left.content.as_slice(), shown, "")?;
     Ok(is_shown && left.told.is(0, made, ""))
 }
 
@@ -49,7 +50,7 @@ static FRESH: [(&[u8], &str, &str); 2] = [
 #[test]
 fn makes_images_of_no_keys(rt: HostRuntime) -> Result<(), Fail> {
     for (capacities, made, shown) in &FRESH {
-        assert!(rt; makes(rt.alloc(), capacities, made, shown)?, "at {made}");
+        assert!(rt; makes(&rt, capacities, made, shown)?, "at {made}");
     }
     Ok(())
 }
@@ -82,8 +83,8 @@ fn put(content: &mut Vec<u8>, at: usize, bytes: &[u8]) {
 }
 
 /// A fresh image with these bytes.
-fn image_with(alloc: Global, capacities: &[u8], puts: &[Put]) -> Result<Vec<u8>, Fail> {
-    let mut content = fresh(alloc, capacities)?;
+fn image_with(rt: &impl Runtime, capacities: &[u8], puts: &[Put]) -> Result<Vec<u8>, Fail> {
+    let mut content = fresh(rt, capacities)?;
     for (at, bytes) in puts {
         put(&mut content, *at, bytes);
     }
@@ -91,10 +92,15 @@ fn image_with(alloc: Global, capacities: &[u8], puts: &[Put]) -> Result<Vec<u8>,
 }
 
 /// Whether `show` lists what these bytes mean in a fresh image.
-fn lists(alloc: Global, capacities: &[u8], puts: &[Put], listing: &[Piece]) -> Result<bool, Fail> {
-    let content = image_with(alloc, capacities, puts)?;
-    let out = text_of(alloc, listing)?;
-    shows(alloc, capacities, content.as_slice(), out.as_str(), "")
+fn lists(
+    rt: &impl Runtime,
+    capacities: &[u8],
+    puts: &[Put],
+    listing: &[Piece],
+) -> Result<bool, Fail> {
+    let content = image_with(rt, capacities, puts)?;
+    let out = text_of(rt.alloc(), listing)?;
+    shows(rt, capacities, content.as_slice(), out.as_str(), "")
 }
 
 /// The second guest's home, its blocks 1 and 1,023, and the last byte of the first guest's block 511.
@@ -117,7 +123,7 @@ static KEYED_LISTING: [Piece; 7] = [
 
 #[test]
 fn shows_keys_counters_and_blocks(rt: HostRuntime) -> Result<(), Fail> {
-    assert!(rt; lists(rt.alloc(), TWO, &KEYED, &KEYED_LISTING)?);
+    assert!(rt; lists(&rt, TWO, &KEYED, &KEYED_LISTING)?);
     Ok(())
 }
 
@@ -164,7 +170,7 @@ static GATES: [(&[Put], &[Piece]); 2] = [(OPEN, OPEN_LISTING), (SHUT, SHUT_LISTI
 fn shows_what_an_open_gate_leads_to(rt: HostRuntime) -> Result<(), Fail> {
     for (puts, listing) in &GATES {
         assert!(rt;
-            lists(rt.alloc(), ONE, puts, listing)?,
+            lists(&rt, ONE, puts, listing)?,
             "at {} pieces",
             listing.len()
         );
@@ -179,15 +185,15 @@ static SPOILED: [(Put, &str); 2] = [
 ];
 
 /// Whether `show` refuses a fresh image with these bytes.
-fn refuses_with(alloc: Global, put: Put, fault: &str) -> Result<bool, Fail> {
-    let content = image_with(alloc, ONE, &[put])?;
-    shows(alloc, ONE, content.as_slice(), "", fault)
+fn refuses_with(rt: &impl Runtime, put: Put, fault: &str) -> Result<bool, Fail> {
+    let content = image_with(rt, ONE, &[put])?;
+    shows(rt, ONE, content.as_slice(), "", fault)
 }
 
 #[test]
 fn refuses_contents(rt: HostRuntime) -> Result<(), Fail> {
     for (put, fault) in &SPOILED {
-        assert!(rt; refuses_with(rt.alloc(), *put, fault)?, "at {fault}");
+        assert!(rt; refuses_with(&rt, *put, fault)?, "at {fault}");
     }
     Ok(())
 }
@@ -201,46 +207,50 @@ static CALLS: [(Command<'static>, u64, &str); 2] = [
 ];
 
 /// Whether a command ends with the fault of this call.
-fn fails_at(alloc: Global, command: Command<'_>, image: &[u8], call: u64) -> Result<bool, Fail> {
-    let left = left_failing(alloc, command, "", image, call)?;
+fn fails_at(
+    rt: &impl Runtime,
+    command: Command<'_>,
+    image: &[u8],
+    call: u64,
+) -> Result<bool, Fail> {
+    let left = left_failing(rt, command, "", image, call)?;
     let is_kept = command != SHOW || left.content.as_slice() == image;
     Ok(left.told.is(1, "", DISK_FAULT) && left.failures == 1 && is_kept)
 }
 
 /// Whether a command makes no such call.
 fn ends_before(
-    alloc: Global,
+    rt: &impl Runtime,
     command: Command<'_>,
     image: &[u8],
     call: u64,
     out: &str,
 ) -> Result<bool, Fail> {
-    let left = left_failing(alloc, command, "", image, call)?;
+    let left = left_failing(rt, command, "", image, call)?;
     Ok(left.told.is(0, out, "") && left.has(image, 0))
 }
 
 /// Whether a command over a fresh image ends with the fault of each of its calls in turn, and of no other.
-fn fails_at_each(alloc: Global, command: Command<'_>, calls: u64, out: &str) -> Result<bool, Fail> {
-    let image = fresh(alloc, ONE)?;
+fn fails_at_each(
+    rt: &impl Runtime,
+    command: Command<'_>,
+    calls: u64,
+    out: &str,
+) -> Result<bool, Fail> {
+    let image = fresh(rt, ONE)?;
     for call in 1..=calls {
-        if !fails_at(alloc, command, image.as_slice(), call)? {
+        if !fails_at(rt, command, image.as_slice(), call)? {
             return Ok(false);
         }
     }
-    ends_before(
-        alloc,
-        command,
-        image.as_slice(),
-        calls.saturating_add(1),
-        out,
-    )
+    ends_before(rt, command, image.as_slice(), calls.saturating_add(1), out)
 }
 
 #[test]
 fn fails_at_each_call_in_turn(rt: HostRuntime) -> Result<(), Fail> {
     for (command, calls, out) in &CALLS {
         assert!(rt;
-            fails_at_each(rt.alloc(), *command, *calls, out)?,
+            fails_at_each(&rt, *command, *calls, out)?,
             "at {calls} calls"
         );
     }
@@ -261,18 +271,15 @@ static ROOMS: [(Command<'static>, usize); 10] = [
     (SHOW, 36),
 ];
 
-fn ends_without_room(alloc: Global, command: Command<'_>, room: usize) -> Result<bool, Fail> {
-    let more = ends_narrow(alloc, command, "", room, FILE_FAULT)?;
+fn ends_without_room(rt: &impl Runtime, command: Command<'_>, room: usize) -> Result<bool, Fail> {
+    let more = ends_narrow(rt, command, "", room, FILE_FAULT)?;
     Ok(more == Some(0))
 }
 
 #[test]
 fn ends_where_output_fails(rt: HostRuntime) -> Result<(), Fail> {
     for (command, room) in &ROOMS {
-        assert!(rt;
-            ends_without_room(rt.alloc(), *command, *room)?,
-            "at {room}"
-        );
+        assert!(rt; ends_without_room(&rt, *command, *room)?, "at {room}");
     }
     Ok(())
 }

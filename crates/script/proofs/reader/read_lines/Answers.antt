@@ -1,22 +1,22 @@
 use Rattle.std.proofs.Common.{◌≡◌, ◌∙◌, ◌+◌, ap, rules, length, lit<, map, None, Some}
 use Rattle.std.proofs.lemmas.Iterator.Consumers.{YieldsList-at, YieldsList-end, YieldsList-so_far, YieldsList-turn}
 use Rattle.std.proofs.lemmas.Iterator.Splits.{YieldsList-from_str_split}
-use Rattle.script.specs.Line.{line_of}
+use Rattle.script.specs.Line.{line_when}
 use Rattle.script.specs.Script.{lines_of}
-use Rattle.script.proofs.LineLemmas.{first_bad_next}
-use Rattle.script.proofs.reader.read_script.Goals as goal
+use Rattle.script.proofs.LineLemmas.{first_none_next}
+use Rattle.script.proofs.reader.read_lines.Goals as goal
 
 pub returns-in-Err-BadScript-clause-bad : goal.returns-in-Err-BadScript-clause-bad
 unfolding lines_of
 returns-in-Err-BadScript-clause-bad c n is =
-    let bad : line_of c.args.guests c.in-Some.text.now ≡ None = c.in-Err-BadScript.ensures.bad (search rules) in
+    let bad : line_when c.args.served c.args.guests c.in-Some.text.now ≡ None = c.in-Err-BadScript.ensures.bad (search rules) in
     let number : length c.loop-text.lines.items + 1 ≡ n = search rules in
     let split = c.split-text-items in
     let road = YieldsList-at (cc)
     (YieldsList-from_str_split {s = split.result} 10 c.args.script.now (lit< tt) split.ensures.text split.ensures.has_more split.ensures.pattern) in
     let before = YieldsList-so_far road c.loop-text.yielded _ c.loop-text.yielded_by in
     let turn = YieldsList-turn road c.loop-text.yielded _ c.loop-text.yielded_by _ _ c.in-Some.text c.in-Some.is c.next.ensures.steps in
-    first_bad_next c.args.guests _ _ c.in-Some.text.now c.loop-text.lines.items c.loop-text.invariant.read before turn.0 turn.1 bad
+    first_none_next (line_when c.args.served c.args.guests) _ _ c.in-Some.text.now c.loop-text.lines.items c.loop-text.invariant.read before turn.0 turn.1 bad
     ∙ ap Some number
 
 pub returns-clause-ok : goal.returns-clause-ok
@@ -26,4 +26,4 @@ returns-clause-ok c =
     let road = YieldsList-at (cc)
     (YieldsList-from_str_split {s = split.result} 10 c.args.script.now (lit< tt) split.ensures.text split.ensures.has_more split.ensures.pattern) in
     let all = YieldsList-end road c.loop-text.yielded _ c.loop-text.yielded_by _ _ c.in-None.is c.next.ensures.steps in
-    c.loop-text.invariant.read ∙ ap (map (line_of c.args.guests)) all.0
+    c.loop-text.invariant.read ∙ ap (map (line_when c.args.served c.args.guests)) all.0

@@ -1,0 +1,167 @@
+-- Lines of guests that are written one after another, and what a script whose guests are served comes to.
+use Rattle.std.proofs.Common.{◌≡◌, ◌∙◌, ℕ, zero, suc, ◌+◌, ◌<◌, List, [], ◌∷◌, ◌++◌, Option, Some, Result, Ok, Err, take, length, map, get_or, refl, ap, subst, sym, arith, inr}
+use Rattle.std.proofs.KnownBytes.{Appends-nil, Appends-trans, Keeps-refl}
+use Rattle.std.proofs.lemmas.List.{append_assoc, append-nil, get_or-map, length-map}
+use Rattle.std.proofs.lemmas.Option.{slice_get_read}
+use Rattle.std.specs.Io.KnownBytes.{Appends}
+use Rattle.std.specs.Prelude.{IfErr, slice_get, slice_index_or, vec_len}
+use Rattle.rpmb_frame.specs.declared.config.GuestConfig.{GuestConfig}
+use Rattle.disk.specs.Disk.{DiskState}
+use Rattle.intent_slots.specs.Layout.{capacities_of}
+use Rattle.script.specs.Line.{Said, said, served_line_of}
+use Rattle.script.specs.Script.{lines_of}
+use Rattle.script.specs.declared.line.Line.{Line}
+use Rattle.host.specs.declared.front.Answer.{Answer}
+use Rattle.workers.specs.Orders.{HaveAll, chain_orders}
+use Rattle.workers.specs.declared.driver.DriverEnd.{DriverEnd}
+use Rattle.workers.specs.declared.order.Order.{Order}
+use Rattle.commands.specs.Ending.{IsOfOpening, IsOfReading, IsOfTelling}
+use Rattle.commands.specs.Serving.{IsServable, OpenedServeEnds, PrintsEach, ServeEnds, ServePrints, ServedPrint, answer_line, answer_lines, chains_of, guests_lines}
+use Rattle.commands.specs.declared.fault.Fault.{Fault}
+use Rattle.commands.specs.declared.fault.Fault.TheVariants as fault
+use Rattle.commands.proofs.Printing.{says_same}
+
+answers_take : (guest : ℕ) (xs : List Answer) (i : ℕ) (x : Answer) → slice_get xs i ≡ Some x
+    → answer_lines guest (take (suc i) xs) ≡ answer_lines guest (take i xs) ++ answer_line guest x
+unfolding answer_lines
+answers_take guest [] i x is = absurd (cc)
+answers_take guest (y ∷ xs) zero x is =
+    let same : y ≡ x = cc in append-nil (answer_line guest y) ∙ ap (answer_line guest) same
+answers_take guest (y ∷ xs) (suc i) x is =
+    ap (λ t. answer_line guest y ++ t) (answers_take guest xs i x is) ∙ sym (append_assoc (answer_line guest y) (answer_lines guest (take i xs)) (answer_line guest x))
+
+pub no_answer : (start : Option (List ℕ)) (guest : ℕ) (xs : List Answer) → Appends start start (answer_lines guest (take 0 xs))
+unfolding answer_lines
+no_answer start guest xs = Appends-nil start
+
+pub one_answer : (start now next : Option (List ℕ)) (guest : ℕ) (xs : List Answer) (i : ℕ) (x : Answer) → Appends start now (answer_lines guest (take i xs))
+    → i < length xs → x ≡ get_or xs i x → Appends now next (answer_line guest x) → Appends start next (answer_lines guest (take (i + 1) xs))
+one_answer start now next guest xs i x before inside at line =
+    let same : i + 1 ≡ suc i = omega arith in
+    let more = answers_take guest xs i x (slice_get_read xs (length xs) i x refl inside at) in
+    rw same (subst (Appends start next) (sym more) (Appends-trans start now next (answer_lines guest (take i xs)) (answer_line guest x) before line))
+
+guests_take : (n : ℕ) (xs : List DriverEnd) (i : ℕ) (x : DriverEnd) → slice_get xs i ≡ Some x
+    → guests_lines n (map (λ e. e.answers.items) (take (suc i) xs)) ≡ guests_lines n (map (λ e. e.answers.items) (take i xs)) ++ answer_lines (n + i) x.answers.items
+unfolding guests_lines
+guests_take n [] i x is = absurd (cc)
+guests_take n (y ∷ xs) zero x is =
+    let same : y ≡ x = cc in
+    let here : n ≡ n + 0 = omega arith in
+    append-nil (answer_lines n y.answers.items) ∙ ap (λ e. answer_lines n e.answers.items) same ∙ ap (λ k. answer_lines k x.answers.items) here
+guests_take n (y ∷ xs) (suc i) x is =
+    let here : n + 1 + i ≡ n + suc i = omega arith in
+    let more = guests_take (n + 1) xs i x is ∙ ap (λ k. guests_lines (n + 1) (map (λ e. e.answers.items) (take i xs)) ++ answer_lines k x.answers.items) here in
+    ap (λ t. answer_lines n y.answers.items ++ t) more
+    ∙ sym (append_assoc (answer_lines n y.answers.items) (guests_lines (n + 1) (map (λ e. e.answers.items) (take i xs))) (answer_lines (n + suc i) x.answers.items))
+
+pub no_guest : (start : Option (List ℕ)) (xs : List DriverEnd) → Appends start start (guests_lines 0 (map (λ e. e.answers.items) (take 0 xs)))
+unfolding guests_lines
+no_guest start xs = Appends-nil start
+
+pub one_guest : (start now next : Option (List ℕ)) (xs : List DriverEnd) (i : ℕ) (x : DriverEnd) → Appends start now (guests_lines 0 (map (λ e. e.answers.items) (take i xs)))
+    → i < length xs → x ≡ get_or xs i x → Appends now next (answer_lines i x.answers.items) → Appends start next (guests_lines 0 (map (λ e. e.answers.items) (take (i + 1) xs)))
+one_guest start now next xs i x before inside at line =
+    let same : i + 1 ≡ suc i = omega arith in
+    let here : 0 + i ≡ i = omega arith in
+    let more = guests_take 0 xs i x (slice_get_read xs (length xs) i x refl inside at) ∙ ap (λ k. guests_lines 0 (map (λ e. e.answers.items) (take i xs)) ++ answer_lines k x.answers.items) here in
+    rw same (subst (Appends start next) (sym more) (Appends-trans start now next (guests_lines 0 (map (λ e. e.answers.items) (take i xs))) (answer_lines i x.answers.items) before line))
+
+pub take_all : {X : Type 0} (xs : List X) (n : ℕ) → n ≡ length xs → take n xs ≡ xs
+take_all [] n is = rw is refl
+take_all (x ∷ xs) zero is = absurd (omega (arith, is))
+take_all (x ∷ xs) (suc n) is = ap (λ t. x ∷ t) (take_all xs n (omega (arith, is)))
+
+-- What guests have answers to is what the lines offer of each.
+pub told_each : (drivers : List DriverEnd) (scripts : List (List Order)) (lines : List Said) (n : ℕ) → length drivers ≡ n → length scripts ≡ n → HaveAll drivers scripts
+    → ((g : ℕ) → g < n → chain_orders (slice_index_or scripts g []) ≡ chains_of g lines)
+    → (g : ℕ) → g < n → length (get_or (map (λ e. e.answers.items) drivers) g []) ≡ chains_of g lines
+told_each [] scripts lines n many as_many all each g below = absurd (omega (arith, many, below))
+told_each (d ∷ drivers) scripts lines n many as_many all each g below =
+    let inside : g < length (d ∷ drivers) = omega (arith, many, below) in
+    let here = get_or (d ∷ drivers) g d in
+    let answered : vec_len here.answers ≡ chain_orders (slice_index_or scripts g []) = all g d (omega (arith, as_many, below)) in
+    let shown : length (get_or (map (λ e. e.answers.items) (d ∷ drivers)) g []) ≡ length here.answers.items = ap length (get_or-map (λ (e : DriverEnd). e.answers.items) (d ∷ drivers) g d [] inside) in
+    let long = here.answers.ok in
+    let offers = each g below in
+    omega (arith, answered, shown, long, offers)
+
+-- what they print where they end well
+pub prints_each : (drivers : List DriverEnd) (scripts : List (List Order)) (lines : List Said) (n : ℕ) (start now : Option (List ℕ)) → length drivers ≡ n → length scripts ≡ n → HaveAll drivers scripts
+    → ((g : ℕ) → g < n → chain_orders (slice_index_or scripts g []) ≡ chains_of g lines)
+    → Appends start now (guests_lines 0 (map (λ e. e.answers.items) drivers)) → PrintsEach n lines start now
+prints_each drivers scripts lines n start now many as_many all each printed = record {
+  answers = map (λ e. e.answers.items) drivers;
+  many = length-map drivers (λ (e : DriverEnd). e.answers.items) ∙ many;
+  each = told_each drivers scripts lines n many as_many all each;
+  printed = printed;
+}
+
+-- and where they don't
+pub served_print : (n : ℕ) (lines : List Said) (start now : Option (List ℕ)) (r : Result (Unit {0}) Fault) → IfErr r IsOfTelling → (r ≡ Err fault.DiskFault → PrintsEach n lines start now)
+    → IfErr r (λ f. ServedPrint n lines f start now)
+served_print n lines start now (Ok done) of told = tt
+served_print n lines start now (Err fault.DiskFault) of told = inr (told refl)
+served_print n lines start now (Err fault.NoMemory) of told = tt
+served_print n lines start now (Err fault.FileFault) of told = tt
+served_print n lines start now (Err fault.OutOfRange) of told = absurd of
+served_print n lines start now (Err fault.NotFormatted) of told = absurd of
+served_print n lines start now (Err fault.OtherConfig) of told = absurd of
+served_print n lines start now (Err fault.Busy) of told = absurd of
+served_print n lines start now (Err fault.HistoryFull) of told = absurd of
+served_print n lines start now (Err fault.NoRoom) of told = absurd of
+served_print n lines start now (Err fault.Foreign) of told = absurd of
+served_print n lines start now (Err fault.BadBoard) of told = absurd of
+served_print n lines start now (Err (fault.BadScript line)) of told = absurd of
+
+-- why an image isn't opened
+pub of_opening : (capacities : List ℕ) (old new : DiskState) (f : Fault) → IsOfOpening capacities old new f → OpenedServeEnds capacities old f
+of_opening capacities old new fault.NoMemory of = tt
+of_opening capacities old new fault.DiskFault of = tt
+of_opening capacities old new fault.NotFormatted of = of
+of_opening capacities old new fault.OtherConfig of = of
+of_opening capacities old new fault.OutOfRange of = absurd of
+of_opening capacities old new fault.Busy of = absurd of
+of_opening capacities old new fault.HistoryFull of = absurd of
+of_opening capacities old new fault.NoRoom of = absurd of
+of_opening capacities old new fault.Foreign of = absurd of
+of_opening capacities old new fault.BadBoard of = absurd of
+of_opening capacities old new fault.FileFault of = absurd of
+of_opening capacities old new (fault.BadScript line) of = absurd of
+
+-- of a script whose lines are read
+pub serve_ends : (board : List GuestConfig) (script : List ℕ) (old : DiskState) (r : Result (Unit {0}) Fault) → IsServable board script → IfErr r (OpenedServeEnds (capacities_of board) old) → IfErr r (ServeEnds board script old)
+serve_ends board script old (Ok done) servable of = tt
+serve_ends board script old (Err fault.NoMemory) servable of = tt
+serve_ends board script old (Err fault.DiskFault) servable of = (servable, of)
+serve_ends board script old (Err fault.NotFormatted) servable of = (servable, of)
+serve_ends board script old (Err fault.OtherConfig) servable of = (servable, of)
+serve_ends board script old (Err fault.OutOfRange) servable of = (servable, of)
+serve_ends board script old (Err fault.Busy) servable of = (servable, of)
+serve_ends board script old (Err fault.HistoryFull) servable of = (servable, of)
+serve_ends board script old (Err fault.NoRoom) servable of = (servable, of)
+serve_ends board script old (Err fault.Foreign) servable of = (servable, of)
+serve_ends board script old (Err fault.BadBoard) servable of = absurd of
+serve_ends board script old (Err fault.FileFault) servable of = (servable, of)
+serve_ends board script old (Err (fault.BadScript line)) servable of = absurd of
+
+pub serve_prints : (board : List GuestConfig) (script : List ℕ) (read : List Line) (start now : Option (List ℕ)) (r : Result (Unit {0}) Fault)
+    → map (λ line. Some (said line)) read ≡ map (served_line_of (length board)) (lines_of script)
+    → IfErr r (λ f. ServedPrint (length board) (map said read) f start now) → IfErr r (λ f. ServePrints board script f start now)
+serve_prints board script read start now (Ok done) was prints = tt
+serve_prints board script read start now (Err f) was prints = λ lines is. subst (λ x. ServedPrint (length board) x f start now) (sym (says_same lines read _ is was)) prints
+
+-- of a script that isn't read, nothing
+pub unread_prints : (board : List GuestConfig) (script : List ℕ) (f : Fault) (start : Option (List ℕ)) → IsOfReading f → ServePrints board script f start start
+unread_prints board script fault.NoMemory start of lines is = tt
+unread_prints board script (fault.BadScript line) start of lines is = Keeps-refl start
+unread_prints board script fault.OutOfRange start of lines is = absurd of
+unread_prints board script fault.DiskFault start of lines is = absurd of
+unread_prints board script fault.NotFormatted start of lines is = absurd of
+unread_prints board script fault.OtherConfig start of lines is = absurd of
+unread_prints board script fault.Busy start of lines is = absurd of
+unread_prints board script fault.HistoryFull start of lines is = absurd of
+unread_prints board script fault.NoRoom start of lines is = absurd of
+unread_prints board script fault.Foreign start of lines is = absurd of
+unread_prints board script fault.BadBoard start of lines is = absurd of
+unread_prints board script fault.FileFault start of lines is = absurd of

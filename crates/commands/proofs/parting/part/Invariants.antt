@@ -1,0 +1,14 @@
+use Rattle.std.proofs.Common.{◌≡◌, ◌+◌, ◌<◌, ℕ, [], map, vec_len}
+use Rattle.std.specs.Prelude.{All, slice_index_or}
+use Rattle.std.specs.Vec.Iter.{into_iter_items}
+use Rattle.script.specs.Line.{IsServed, IsWithin, said}
+use Rattle.workers.specs.Orders.{chain_orders}
+use Rattle.commands.specs.Serving.{chains_of}
+use Rattle.commands.proofs.parting.part.Given as goal
+
+abbrev pub invariant-loop-line : goal.invariant-loop-line
+invariant-loop-line l =
+    All (λ line. IsWithin l.guests (said line)) (into_iter_items l.line-iterator)
+    × All (λ line. IsServed (said line)) (into_iter_items l.line-iterator)
+    × (vec_len l.scripts ≡ l.guests)
+    × ((g : ℕ) → g < l.guests → chain_orders (slice_index_or l.scripts.items g []) + chains_of g (map said (into_iter_items l.line-iterator)) ≡ chains_of g (map said l.fn.lines.items))

@@ -1,0 +1,30 @@
+use Rattle.std.proofs.Common.{length, subst, sym}
+use Rattle.std.proofs.lemmas.Result.{on_ok_weaker}
+use Rattle.script.specs.Line.{served_line_of}
+use Rattle.script.specs.Script.{lines_of}
+use Rattle.commands.specs.Serving.{PrintsEach}
+use Rattle.commands.proofs.EachTold.{serve_ends, serve_prints, unread_prints}
+use Rattle.commands.proofs.Printing.{none_bad, not_bad, says_same}
+use Rattle.commands.proofs.serving.serve.Goals as goal
+
+pub returns-in-Ok-clause-printed : goal.returns-in-Ok-clause-printed
+returns-in-Ok-clause-printed g c =
+    on_ok_weaker c.serve_on.result.0 (λ printed lines is.
+    subst (λ x. PrintsEach (length c.args.board.now) x (g.W.Write.contents c.args.out.now) (g.W.Write.contents c.serve_on.new.out)) (sym (says_same lines c.in-Ok.lines.items _ is c.in-Ok.ensures.ok)) printed)
+    c.serve_on.ensures.printed
+
+pub returns-in-Ok-clause-ends : goal.returns-in-Ok-clause-ends
+returns-in-Ok-clause-ends g c =
+    serve_ends c.args.board.now c.args.script.now (g.D.Disk.state c.args.disk) c.serve_on.result.0
+    (none_bad (served_line_of (length c.args.board.now)) c.in-Ok.lines.items (lines_of c.args.script.now) c.in-Ok.ensures.ok) c.serve_on.ensures.ends
+
+pub returns-in-Ok-clause-prints : goal.returns-in-Ok-clause-prints
+returns-in-Ok-clause-prints g c =
+    serve_prints c.args.board.now c.args.script.now c.in-Ok.lines.items (g.W.Write.contents c.args.out.now) (g.W.Write.contents c.serve_on.new.out) c.serve_on.result.0 c.in-Ok.ensures.ok c.serve_on.ensures.prints
+
+pub returns-in-Ok-clause-bad : goal.returns-in-Ok-clause-bad
+returns-in-Ok-clause-bad g c n bad =
+    absurd (not_bad n _ (none_bad (served_line_of (length c.args.board.now)) c.in-Ok.lines.items (lines_of c.args.script.now) c.in-Ok.ensures.ok) bad)
+
+pub returns-in-Err-clause-prints : goal.returns-in-Err-clause-prints
+returns-in-Err-clause-prints g c = unread_prints c.args.board.now c.args.script.now c.in-Err.fault (g.W.Write.contents c.args.out.now) c.in-Err.ensures.reads

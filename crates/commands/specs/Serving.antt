@@ -1,0 +1,97 @@
+-- What a script prints whose guests are served at once, and why that ends with a fault.
+use Rattle.std.specs.Prelude.{◌≡◌, ◌⊎◌, ◌<◌, ◌+◌, ◌==◌, ℕ, if◌then◌else◌, List, [], ◌∷◌, ◌++◌, Option, Some, None, IfSome, get_or, length, map, true}
+use Rattle.std.specs.Io.KnownBytes.{Appends, Keeps}
+use Rattle.rpmb_frame.specs.declared.config.GuestConfig.{GuestConfig}
+use Rattle.disk.specs.Disk.{DiskCall, DiskState, Within}
+use Rattle.intent_slots.specs.Layout.{capacities_of}
+use Rattle.recovery.specs.Opening.{IsOther, IsUnformatted, Untouched}
+use Rattle.script.specs.Line.{Said, nothing, chain, store, reset, served_line_of}
+use Rattle.script.specs.Script.{first_unserved, lines_of}
+use Rattle.host.specs.declared.front.Answer.{Answer}
+use Rattle.host.specs.declared.front.Answer.TheVariants as answer
+use Rattle.commands.specs.Transcript.{stuck_line, used_line}
+use Rattle.commands.specs.declared.fault.Fault.{Fault}
+use Rattle.commands.specs.declared.fault.Fault.TheVariants as fault
+
+-- the script says these lines to the board, none of which stores
+abbrev pub SaysServed : List GuestConfig → List ℕ → List Said → Type 0
+SaysServed board script lines = map Some lines ≡ map (served_line_of (length board)) (lines_of script)
+
+-- its line n, counted from 1, is the first that stores, or says nothing a script may say
+abbrev pub IsUnservedAt : List GuestConfig → List ℕ → ℕ → Type 0
+IsUnservedAt board script n = first_unserved (length board) (lines_of script) ≡ Some n
+
+-- no line of it is such a line
+abbrev pub IsServable : List GuestConfig → List ℕ → Type 0
+IsServable board script = first_unserved (length board) (lines_of script) ≡ None
+
+-- how many chains of a guest a line offers
+abbrev pub chains_by : ℕ → Said → ℕ
+chains_by g nothing = 0
+chains_by g (chain guest readable writable) = if g == guest then 1 else 0
+chains_by g (store guest at bytes) = 0
+chains_by g (reset guest) = 0
+
+-- and all lines
+abbrev pub chains_of : ℕ → List Said → ℕ
+chains_of g [] = 0
+chains_of g (line ∷ lines) = chains_by g line + chains_of g lines
+
+-- the line of what a guest's chain came to
+abbrev pub answer_line : ℕ → Answer → List ℕ
+answer_line guest (answer.Used reply) = used_line guest reply.items
+answer_line guest (answer.Stuck why) = stuck_line guest why
+
+-- the lines of a guest
+unfoldable pub answer_lines : ℕ → List Answer → List ℕ
+answer_lines guest [] = []
+answer_lines guest (a ∷ answers) = answer_line guest a ++ answer_lines guest answers
+
+-- the lines of this guest, then those of the next, and so on
+unfoldable pub guests_lines : ℕ → List (List Answer) → List ℕ
+guests_lines guest [] = []
+guests_lines guest (answers ∷ rest) = answer_lines guest answers ++ guests_lines (guest + 1) rest
+
+-- What lines print whose guests are served at once: guest by guest, a line for each chain that they offer of it.
+pub record PrintsEach (guests : ℕ) (lines : List Said) (start now : Option (List ℕ)) : Type 0 where
+  pub answers : List (List Answer)
+  pub many : length answers ≡ guests
+  pub each : (g : ℕ) → g < guests → length (get_or answers g []) ≡ chains_of g lines
+  pub printed : Appends start now (guests_lines 0 answers)
+
+-- and a script
+abbrev pub ServesAll : List GuestConfig → List ℕ → Option (List ℕ) → Option (List ℕ) → Type 0
+ServesAll board script start now = (lines : List Said) → SaysServed board script lines → PrintsEach (length board) lines start now
+
+-- Which faults end it once its lines are read: why the image isn't opened, what its threads come to, or standard output.
+abbrev pub OpenedServeEnds : List ℕ → DiskState → Fault → Type 0
+OpenedServeEnds capacities old (fault.BadScript line) = ⊥
+OpenedServeEnds capacities old fault.BadBoard = ⊥
+OpenedServeEnds capacities old fault.NotFormatted = old.faithful ≡ true → IsUnformatted capacities old.len old.seen
+OpenedServeEnds capacities old fault.OtherConfig = old.faithful ≡ true → IsOther capacities old.len old.seen
+OpenedServeEnds capacities old f = Unit {0}
+
+-- and before: the first line that it may not say, and want of memory
+abbrev pub ServeEnds : List GuestConfig → List ℕ → DiskState → Fault → Type 0
+ServeEnds board script old (fault.BadScript line) = IsUnservedAt board script line
+ServeEnds board script old fault.NoMemory = Unit {0}
+ServeEnds board script old f = IsServable board script × OpenedServeEnds (capacities_of board) old f
+
+-- What lines have printed then: all of it where a call of the disk failed while they ran; nothing, unless memory for it or
+-- standard output itself was wanting.
+abbrev pub ServedPrint : ℕ → List Said → Fault → Option (List ℕ) → Option (List ℕ) → Type 0
+ServedPrint guests lines fault.FileFault start now = Unit {0}
+ServedPrint guests lines fault.NoMemory start now = Unit {0}
+ServedPrint guests lines fault.DiskFault start now = Keeps start now ⊎ PrintsEach guests lines start now
+ServedPrint guests lines f start now = Keeps start now
+
+-- and what a script has
+abbrev pub ServePrints : List GuestConfig → List ℕ → Fault → Option (List ℕ) → Option (List ℕ) → Type 0
+ServePrints board script f start now = (lines : List Said) → SaysServed board script lines → ServedPrint (length board) lines f start now
+
+-- And of the disk: it wasn't called where a line is bad, and is as it was where it holds no image of the board.
+abbrev pub ServeLeaves : {D : Type 0} → (D → DiskState) → (D → DiskCall → D → Type 0) → D → Fault → Option D → Type 0
+ServeLeaves shows makes disk (fault.BadScript line) back = back ≡ Some disk
+ServeLeaves shows makes disk fault.NotFormatted back = IfSome back (Within shows makes (Untouched (shows disk)) disk)
+ServeLeaves shows makes disk fault.OtherConfig back = IfSome back (Within shows makes (Untouched (shows disk)) disk)
+ServeLeaves shows makes disk f back = Unit {0}

@@ -1,0 +1,144 @@
+//! What `serve` does: a script on the partitions of an image, its guests at once.
+ghost use Rattle.std.specs.Prelude.{◌≡◌, ◌≤◌, ℕ, All, Err, IfErr, IsErr, IsSome, OnOk, Some, false, length, map, vec_len};
+ghost use Rattle.std.specs.Io.KnownBytes.{Appends, Keeps};
+ghost use Rattle.rpmb_frame.specs.Config.{IsBoard};
+ghost use Rattle.script.specs.Line.{IsServed, IsWithin, said};
+ghost use Rattle.disk.specs.Disk.{DiskState};
+ghost use Rattle.intent_slots.specs.Layout.{capacities_of};
+ghost use Rattle.commands.specs.Ending.{IsOfTelling, IsOfWriting};
+ghost use Rattle.commands.specs.Serving.{IsUnservedAt, OpenedServeEnds, PrintsEach, ServeEnds, ServeLeaves, ServePrints, ServedPrint, ServesAll, answer_lines, guests_lines};
+
+use crate::answering::write_answer;
+use crate::fault::Fault;
+use crate::parting::{part, read_served};
+use board::Board;
+use disk::Disk;
+use host::Answer;
+use rpmb_frame::BoardConfig;
+use script::Line;
+use std::alloc::Global;
+use std::io::Write;
+use std::sync::Wait;
+use std::thread::Threads;
+use workers::{DriverEnd, Ended, Open, parts_of};
+
+/// The life of the board that a run opens. No job of it comes to another one.
+const LIFE: u64 = 1;
+
+/// Writes the lines of a guest.
+fn write_answers<W: Write>(
+    alloc: Global,
+    guest: u16,
+    answers: &[Answer],
+    out: &mut W,
+) -> Result<(), Fault>
+    ensures printed { OnOk result (Appends (W.contents out.old) (W.contents out.new) (answer_lines guest answers.now)) }
+    ensures ends { IfErr result IsOfWriting }
+{
+    for i in 0..answers.len() {
+        write_answer(alloc, guest, &answers[i], out)?;
+    }
+    Ok(())
+}
+
+/// Writes the lines of all guests, one guest after another, and all that is still held back.
+fn write_drivers<W: Write>(alloc: Global, drivers: &[DriverEnd], out: &mut W) -> Result<(), Fault>
+    requires { length drivers.now ≤ 64 }
+    ensures printed { OnOk result (Appends (W.contents out.old) (W.contents out.new) (guests_lines 0 (map (λ e. e.answers.items) drivers.now))) }
+    ensures ends { IfErr result IsOfWriting }
+{
+    for guest in 0..drivers.len() {
+        write_answers(alloc, guest as u16, drivers[guest].answers.as_slice(), out)?;
+    }
+    match out.flush() {
+        Ok(()) => Ok(()),
+        Err(_) => Err(Fault::FileFault),
+    }
+}
+
+/// Writes what threads have left, and gives the disk back.
+fn tell<D: Disk + Drop, W: Write>(
+    alloc: Global,
+    ended: Ended<D>,
+    out: &mut W,
+) -> (Result<(), Fault>, Option<D>)
+    requires { vec_len ended.drivers ≤ 64 }
+    ensures printed { OnOk result.0 (Appends (W.contents out.old) (W.contents out.new) (guests_lines 0 (map (λ e. e.answers.items) ended.drivers.items))) }
+    ensures whole { OnOk result.0 (ended.broken ≡ false) }
+    ensures failed { result.0 ≡ Err Fault.DiskFault → Appends (W.contents out.old) (W.contents out.new) (guests_lines 0 (map (λ e. e.answers.items) ended.drivers.items)) }
+    ensures ends { IfErr result.0 IsOfTelling }
+    ensures back { IsSome result.1 }
+{
+    let Ended {
+        book: _,
+        served: _,
+        drivers,
+        shares: _,
+        store,
+        broken,
+    } = ended;
+    let told = write_drivers(alloc, drivers.as_slice(), out);
+    let disk = store.into_disk();
+    match told {
+        Ok(()) if broken => (Err(Fault::DiskFault), Some(disk)),
+        told => (told, Some(disk)),
+    }
+}
+
+/// Serves all guests on the partitions of an image.
+fn serve_on<D: Disk + Send + Drop, W: Write, R: Threads + Wait + Sync>(
+    rt: &R,
+    alloc: Global,
+    board: &BoardConfig,
+    lines: Vec<Line>,
+    disk: D,
+    out: &mut W,
+) -> (Result<(), Fault>, Option<D>)
+    requires within { All (λ line. IsWithin (length board.now) (said line)) lines.items }
+    requires served { All (λ line. IsServed (said line)) lines.items }
+    requires in_range { IsBoard board.now }
+    ensures printed { OnOk result.0 (PrintsEach (length board.now) (map said lines.items) (W.contents out.old) (W.contents out.new)) }
+    ensures back { OnOk result.0 (IsSome result.1) }
+    ensures ends { IfErr result.0 (OpenedServeEnds (capacities_of board.now) (D.state disk)) }
+    ensures prints { IfErr result.0 (λ fault. ServedPrint (length board.now) (map said lines.items) fault (W.contents out.old) (W.contents out.new)) }
+    ensures leaves { IfErr result.0 (λ fault. ServeLeaves D.state D.makes disk fault result.1) }
+{
+    let scripts = match part(alloc, lines, board.guests().len()) {
+        Ok(scripts) => scripts,
+        Err(fault) => return (Err(fault), Some(disk)),
+    };
+    let opened = match Board::open(alloc, disk, LIFE, board) {
+        Ok(opened) => opened,
+        Err((disk, fault)) => return (Err(Fault::of_image(fault)), Some(disk)),
+    };
+    let parts = parts_of(opened, board);
+    match workers::serve(rt, alloc, parts, board, scripts.as_slice(), &Open) {
+        Ok(ended) => tell(alloc, ended, out),
+        Err(fault) => (Err(Fault::of(fault)), None),
+    }
+}
+
+/// Performs a script on the partitions of an image, all guests at once: each guest's lines in their order,
+/// but beside the lines of the others. At the end it writes guest 0's lines, then guest 1's, and so on. All
+/// lines are read before the image is opened, and none of them may store.
+pub fn serve<D: Disk + Send + Drop, W: Write, R: Threads + Wait + Sync>(
+    rt: &R,
+    alloc: Global,
+    board: &BoardConfig,
+    script: &str,
+    disk: D,
+    out: &mut W,
+) -> (Result<(), Fault>, Option<D>)
+    ensures printed { OnOk result.0 (ServesAll board.now script.now (W.contents out.old) (W.contents out.new)) }
+    ensures back { OnOk result.0 (IsSome result.1) }
+    ensures ends { IfErr result.0 (ServeEnds board.now script.now (D.state disk)) }
+    ensures prints { IfErr result.0 (λ fault. ServePrints board.now script.now fault (W.contents out.old) (W.contents out.new)) }
+    ensures leaves { IfErr result.0 (λ fault. ServeLeaves D.state D.makes disk fault result.1) }
+    ensures bad { (n : ℕ) → IsUnservedAt board.now script.now n
+        → IsErr result.0 × Keeps (W.contents out.old) (W.contents out.new) × (result.1 ≡ Some disk) }
+{
+    match read_served(alloc, script, board) {
+        Ok(lines) => serve_on(rt, alloc, board, lines, disk, out),
+        Err(fault) => (Err(fault), Some(disk)),
+    }
+}

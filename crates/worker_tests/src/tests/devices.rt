@@ -1,0 +1,106 @@
+//! Devices that stand in the place of a board's own: with less memory, with another guest's number, or with a queue
+//! that somebody else has made ready.
+ghost use Rattle.std.specs.Prelude.{◌≡◌};
+
+use crate::tests::scene::{board_of, formatted, opened};
+use board::Parts;
+use disk::CutDisk;
+use host::HostFault;
+use mmio_transport::Device;
+use mmio_transport::feature::VERSION_1;
+use mmio_transport::register::{
+    DRIVER_FEATURES, DRIVER_FEATURES_SEL, QUEUE_DESC_LOW, QUEUE_DEVICE_LOW, QUEUE_DRIVER_LOW,
+    QUEUE_NUM, QUEUE_READY, STATUS,
+};
+use rpmb_frame::GuestConfig;
+use std::alloc::Global;
+use std::sync::Wait;
+use std::test::Fail;
+use std::thread::Threads;
+use workers::{Ended, Gate, Script, serve};
+
+/// A descriptor (`struct virtq_desc`, VIRTIO 1.2, 2.7.5).
+pub fn descriptor(addr: u64, len: u32, flags: u16, next: u16) -> [u8; 16] {
+    let mut bytes = [0; 16];
+    bytes[0..8].copy_from_slice(&addr.to_le_bytes());
+    bytes[8..12].copy_from_slice(&len.to_le_bytes());
+    bytes[12..14].copy_from_slice(&flags.to_le_bytes());
+    bytes[14..16].copy_from_slice(&next.to_le_bytes());
+    bytes
+}
+
+/// A device of this number that has accepted its features, and has a ready queue of four places: the descriptors at
+/// `base`, the available ring 256 bytes behind it, the used ring 512. A driver that doesn't reset it leaves the queue
+/// as it is. What the available ring holds at first is a chain that begins with the first of these descriptors.
+pub fn with_queue(
+    alloc: Global,
+    number: u16,
+    config: &GuestConfig,
+    base: u32,
+    descriptors: &[[u8; 16]],
+) -> Result<Device, Fail> {
+    let mut device = Device::new(alloc, number, config)?;
+    device.store(u64::from(base), descriptors.as_flattened())?;
+    // flags, the index 1, and the head 0
+    device.store(u64::from(base) + 256, &[0, 0, 1, 0, 0, 0])?;
+    for (register, value) in [
+        (STATUS, 3),
+        (DRIVER_FEATURES_SEL, 1),
+        (DRIVER_FEATURES, VERSION_1),
+        (STATUS, 11),
+        (QUEUE_NUM, 4),
+        (QUEUE_DESC_LOW, base),
+        (QUEUE_DRIVER_LOW, base.wrapping_add(256)),
+        (QUEUE_DEVICE_LOW, base.wrapping_add(512)),
+        (QUEUE_READY, 1),
+    ] {
+        device.write(register, 4, value);
+    }
+    Ok(device)
+}
+
+/// The devices of a board, but those that others stand for.
+fn replaced(
+    alloc: Global,
+    devices: Vec<Device>,
+    others: Vec<Option<Device>>,
+) -> Result<Vec<Device>, Fail> {
+    let mut all = Vec::with_capacity(alloc, devices.len())?;
+    for (device, other) in devices.into_iter().zip(others.into_iter()) {
+        all.push(other.unwrap_or(device))?;
+    }
+    Ok(all)
+}
+
+/// A run of these scripts on a fresh image, with these devices in the place of the board's own. Of the disk the k-th
+/// call after the opening fails.
+pub fn run_beside<G: Gate + Sync, R: Threads + Wait + Sync>(
+    rt: &R,
+    alloc: Global,
+    others: Vec<Option<Device>>,
+    scripts: &[Script],
+    gate: &G,
+    k: u64,
+) -> Result<Result<Ended<CutDisk>, HostFault>, Fail> {
+    let board = board_of(alloc, scripts.len())?;
+    let parts = opened(alloc, formatted(alloc, scripts.len())?, &board)?;
+    let Parts {
+        devices,
+        book,
+        tallies,
+        shares,
+        mut store,
+    } = parts;
+    if tallies.len() != scripts.len() {
+        return Err(Fail::from("another number of guests"));
+    }
+    store.fail(k);
+    let parts = Parts {
+        devices: replaced(alloc, devices, others)?,
+        book,
+        tallies,
+        shares,
+        store,
+    };
+    Ok(serve(rt, alloc, parts, &board, scripts, gate))
+}

@@ -1,0 +1,264 @@
+//! Faults of several threads at once: the lowest-numbered guest's is answered.
+use crate::tests::devices::run_beside;
+use crate::tests::full::script_of_reads;
+use crate::tests::scene::{chain, check, fault_of, result_read, script};
+use host::HostFault;
+use mmio_transport::Device;
+use rpmb_frame::GuestConfig;
+use std::alloc::Global;
+use std::sync::Wait;
+use std::sync::atomic::{AtomicBool, AtomicU64, Ordering};
+use std::test::Fail;
+use std::thread;
+use std::thread::Threads;
+use std::time::{Clock, Duration};
+use workers::{Gate, Open, Order, Place, Script, Who};
+
+/// How many requests a history holds.
+const SUBMITS: u16 = 16_384;
+
+/// A device whose jobs are another guest's: at the first the worker comes to `Foreign`.
+fn foreign(alloc: Global) -> Result<Device, Fail> {
+    Ok(Device::new(alloc, 63, &GuestConfig::of_capacity(1))?)
+}
+
+/// A device with too little memory for its driver, which comes to `OutOfRange` with its first chain.
+fn narrow(alloc: Global, number: u16) -> Result<Device, Fail> {
+    let mut config = GuestConfig::of_capacity(1);
+    config.memory = 65_536;
+    Ok(Device::new(alloc, number, &config)?)
+}
+
+/// Scripts of two guests with a chain each.
+fn two_scripts(alloc: Global) -> Result<[Script; 2], Fail> {
+    Ok([script(alloc, true, false)?, script(alloc, true, false)?])
+}
+
+#[test]
+fn each_fault_alone_ends_a_run(rt: HostRuntime) -> Result<(), Fail> {
+    let alloc = rt.alloc();
+    let scripts = two_scripts(alloc)?;
+    let devices = Vec::from_array(alloc, [None, Some(foreign(alloc)?)])?;
+    let fault = fault_of(run_beside(&rt, alloc, devices, &scripts, &Open, 0)?);
+    check(fault == Some(HostFault::Foreign), "no foreign job")?;
+    let devices = Vec::from_array(alloc, [None, Some(narrow(alloc, 1)?)])?;
+    let fault = fault_of(run_beside(&rt, alloc, devices, &scripts, &Open, 0)?);
+    check(fault == Some(HostFault::OutOfRange), "no narrow memory")
+}
+
+/// Holds the worker of one guest at `Popped`, so long that the other's driver has come to its fault by then.
+#[derive(Drop)]
+struct HoldsAWhile<'a, C: Clock> {
+    clock: &'a C,
+    held: u16,
+    popped: AtomicBool,
+}
+
+impl<'a, C: Clock> Gate for HoldsAWhile<'a, C> {
+    fn at(&self, who: Who, place: Place) {
+        if who == Who::Worker(self.held) && place == Place::Popped {
+            self.popped.store(true, Ordering::SeqCst);
+            thread::sleep(self.clock, Duration::from_secs(8));
+        }
+    }
+}
+
+/// A script with one chain behind many resets, so that the other guest's worker has popped before.
+fn late_script(alloc: Global) -> Result<Script, Fail> {
+    let mut orders = Vec::new(alloc);
+    for _ in 0..1_000 {
+        orders.push(Order::Reset)?;
+    }
+    orders.push(chain(alloc, &[result_read()])?)?;
+    Ok(Script::new(orders))
+}
+
+/// A run of two guests, of which this one's driver comes to a fault, and the other's worker, which is held. The
+/// fault that it ends with, and whether the worker had come so far before the driver ended all.
+fn run_late<R: Threads + Wait + Clock + Sync>(
+    rt: &R,
+    alloc: Global,
+    driver: u16,
+) -> Result<(Option<HostFault>, bool), Fail> {
+    let gate = HoldsAWhile {
+        clock: rt,
+        held: 1 - driver % 2,
+        popped: AtomicBool::new(false),
+    };
+    let late = late_script(alloc)?;
+    let one = script_of_reads(alloc, 1)?;
+    let narrow = narrow(alloc, driver)?;
+    let stranger = foreign(alloc)?;
+    let (scripts, devices) = if driver == 0 {
+        ([late, one], [Some(narrow), Some(stranger)])
+    } else {
+        ([one, late], [Some(stranger), Some(narrow)])
+    };
+    let devices = Vec::from_array(alloc, devices)?;
+    let fault = fault_of(run_beside(rt, alloc, devices, &scripts, &gate, 0)?);
+    Ok((fault, gate.popped.load(Ordering::SeqCst)))
+}
+
+/// Such runs, until in one both came to a fault: that one ends with this.
+fn ends_with<R: Threads + Wait + Clock + Sync>(
+    rt: &R,
+    alloc: Global,
+    driver: u16,
+    fault: HostFault,
+) -> Result<(), Fail> {
+    for _ in 0..100 {
+        let (found, both) = run_late(rt, alloc, driver)?;
+        if both {
+            return check(found == Some(fault), "another fault");
+        }
+    }
+    Err(Fail::from("no two faults at once"))
+}
+
+#[test]
+fn a_driver_of_a_lower_guest_comes_before_a_worker(rt: HostRuntime) -> Result<(), Fail> {
+    ends_with(&rt, rt.alloc(), 0, HostFault::OutOfRange)
+}
+
+#[test]
+fn a_worker_of_a_lower_guest_comes_before_a_driver(rt: HostRuntime) -> Result<(), Fail> {
+    ends_with(&rt, rt.alloc(), 1, HostFault::Foreign)
+}
+
+/// Holds guest 1's worker at `Popped` until guest 0's has published.
+#[derive(Drop)]
+struct HoldsTillPublished<'a, C: Clock> {
+    clock: &'a C,
+    called: AtomicBool,
+    published: AtomicBool,
+}
+
+impl<'a, C: Clock> Gate for HoldsTillPublished<'a, C> {
+    fn at(&self, who: Who, place: Place) {
+        match (who, place) {
+            (Who::Flusher, _) => self.called.store(true, Ordering::SeqCst),
+            (Who::Worker(0), Place::Published) => self.published.store(true, Ordering::SeqCst),
+            (Who::Worker(1), Place::Popped) => {
+                let _ = slept_till(self.clock, &self.published);
+            }
+            _ => {}
+        }
+    }
+}
+
+/// Sleeps until the flag stands, for fifty seconds at most.
+fn slept_till(clock: &impl Clock, flag: &AtomicBool) -> bool {
+    for _ in 0..50_000 {
+        if flag.load(Ordering::SeqCst) {
+            return true;
+        }
+        thread::sleep(clock, Duration::from_millis(1));
+    }
+    false
+}
+
+// The one call of the disk that the key leads to fails, and guest 0 is told so before guest 1's worker goes on.
+#[test]
+fn a_fault_is_answered_where_a_call_of_the_disk_has_failed(rt: HostRuntime) -> Result<(), Fail> {
+    let alloc = rt.alloc();
+    let gate = HoldsTillPublished {
+        clock: &rt,
+        called: AtomicBool::new(false),
+        published: AtomicBool::new(false),
+    };
+    let scripts = two_scripts(alloc)?;
+    let devices = Vec::from_array(alloc, [None, Some(foreign(alloc)?)])?;
+    let fault = fault_of(run_beside(&rt, alloc, devices, &scripts, &gate, 1)?);
+    check(fault == Some(HostFault::Foreign), "another fault")?;
+    check(gate.called.load(Ordering::SeqCst), "no call")?;
+    check(gate.published.load(Ordering::SeqCst), "no reply before")
+}
+
+/// Holds two workers at `Popped`, until one stands there with the request that the history has no room for, and the
+/// other with a foreign job. Guest 0's is held longer, so that it is the later to come to its fault.
+#[derive(Drop)]
+struct HoldsBoth<'a, C: Clock> {
+    clock: &'a C,
+    full: u16,
+    pops: AtomicU64,
+    is_full: AtomicBool,
+    is_foreign: AtomicBool,
+    late: AtomicBool,
+}
+
+impl<'a, C: Clock> HoldsBoth<'a, C> {
+    fn wait(&self, flag: &AtomicBool) {
+        if !slept_till(self.clock, flag) {
+            self.late.store(true, Ordering::SeqCst);
+        }
+    }
+
+    /// The worker of this guest has popped.
+    fn popped(&self, guest: u16) {
+        if guest == self.full {
+            if self.pops.fetch_add(1, Ordering::SeqCst) < u64::from(SUBMITS) {
+                return;
+            }
+            self.is_full.store(true, Ordering::SeqCst);
+            self.wait(&self.is_foreign);
+        } else {
+            self.is_foreign.store(true, Ordering::SeqCst);
+            self.wait(&self.is_full);
+        }
+        if guest == 0 {
+            thread::sleep(self.clock, Duration::from_millis(200));
+        }
+    }
+}
+
+impl<'a, C: Clock> Gate for HoldsBoth<'a, C> {
+    fn at(&self, who: Who, place: Place) {
+        if let (Who::Worker(guest), Place::Popped) = (who, place) {
+            self.popped(guest);
+        }
+    }
+}
+
+/// The fault of a run in which one of two guests fills the history, and the other's job is foreign; both have passed
+/// their last look at what others do before either comes to its fault.
+fn fault_of_both<R: Threads + Wait + Clock + Sync>(
+    rt: &R,
+    alloc: Global,
+    full: u16,
+) -> Result<Option<HostFault>, Fail> {
+    let gate = HoldsBoth {
+        clock: rt,
+        full,
+        pops: AtomicU64::new(0),
+        is_full: AtomicBool::new(false),
+        is_foreign: AtomicBool::new(false),
+        late: AtomicBool::new(false),
+    };
+    let fills = script_of_reads(alloc, SUBMITS + 1)?;
+    let one = script_of_reads(alloc, 1)?;
+    let stranger = foreign(alloc)?;
+    let (scripts, devices) = if full == 0 {
+        ([fills, one], [None, Some(stranger)])
+    } else {
+        ([one, fills], [Some(stranger), None])
+    };
+    let devices = Vec::from_array(alloc, devices)?;
+    let fault = fault_of(run_beside(rt, alloc, devices, &scripts, &gate, 0)?);
+    check(
+        !gate.late.load(Ordering::SeqCst),
+        "a worker was held in vain",
+    )?;
+    Ok(fault)
+}
+
+#[test]
+fn a_full_history_of_the_lower_guest_is_answered(rt: HostRuntime) -> Result<(), Fail> {
+    let fault = fault_of_both(&rt, rt.alloc(), 0)?;
+    check(fault == Some(HostFault::HistoryFull), "another fault")
+}
+
+#[test]
+fn a_foreign_job_of_the_lower_guest_is_answered(rt: HostRuntime) -> Result<(), Fail> {
+    let fault = fault_of_both(&rt, rt.alloc(), 1)?;
+    check(fault == Some(HostFault::Foreign), "another fault")
+}

@@ -1,0 +1,141 @@
+//! A guest whose device has stopped, beside others that go on.
+use crate::tests::alone::{check_alone, host_of, script_of};
+use crate::tests::devices::{descriptor, run_beside, with_queue};
+use crate::tests::scene::{KEY, chain, check, get_write_counter, program_key};
+use disk::CutDisk;
+use host::{Answer, Stuck};
+use mmio_transport::Device;
+use mmio_transport::register::STATUS;
+use rpmb_frame::GuestConfig;
+use std::alloc::Global;
+use std::sync::Wait;
+use std::test::Fail;
+use std::thread::Threads;
+use workers::{Ended, Open, Order, Script};
+
+/// Where the device finds its queue: behind all that the driver uses.
+const BASE: u32 = 0x8_0000;
+
+/// Where the request lies that the queue holds at first, and where its reply goes but for the last 28 bytes.
+const REQUEST: u64 = 0x9_0000;
+
+const REPLY: u64 = 0x9_1000;
+
+/// Where the driver's used ring has its index, for a queue of 16 places.
+const USED_INDEX: u64 = 306;
+
+/// A device whose queue holds a chain that leaves guest memory, at which it will stop.
+fn refusing(alloc: Global) -> Result<Device, Fail> {
+    let outside = descriptor(0xffff_0000_0000, 16, 0, 0);
+    with_queue(alloc, 1, &GuestConfig::of_capacity(1), BASE, &[outside])
+}
+
+/// A device that has stopped at that chain.
+fn refused(alloc: Global) -> Result<Device, Fail> {
+    let mut device = refusing(alloc)?;
+    device.write(STATUS, 4, 15);
+    check(device.pop().is_err(), "a chain that wasn't refused")?;
+    Ok(device)
+}
+
+/// A device whose queue holds a request whose reply ends in the driver's used ring, with a nonce of ones.
+fn overwriting(alloc: Global) -> Result<Device, Fail> {
+    let chain = [
+        descriptor(REQUEST, 512, 1, 1),
+        descriptor(REPLY, 484, 3, 2),
+        descriptor(USED_INDEX, 28, 2, 0),
+    ];
+    let config = GuestConfig::of_capacity(1);
+    let mut device = with_queue(alloc, 1, &config, BASE, &chain)?;
+    let request = get_write_counter(u128::MAX);
+    device.store(REQUEST, request.as_flattened())?;
+    Ok(device)
+}
+
+/// A script of three chains, a reset, and two chains.
+fn script_with_reset(alloc: Global) -> Result<Script, Fail> {
+    let mut orders = Vec::with_capacity(alloc, 6)?;
+    orders.push(chain(alloc, &get_write_counter(1))?)?;
+    orders.push(chain(alloc, &program_key(&KEY))?)?;
+    orders.push(chain(alloc, &get_write_counter(2))?)?;
+    orders.push(Order::Reset)?;
+    orders.push(chain(alloc, &program_key(&KEY))?)?;
+    orders.push(chain(alloc, &get_write_counter(3))?)?;
+    Ok(Script::new(orders))
+}
+
+/// The first three chains have no reply, for this reason, and there are five.
+fn check_stuck(answers: &[Answer], stuck: Stuck) -> Result<(), Fail> {
+    for answer in answers.iter().take(3) {
+        match answer {
+            Answer::Stuck(why) if *why == stuck => {}
+            _ => return Err(Fail::from("an answer that isn't stuck so")),
+        }
+    }
+    check(answers.len() == 5, "another number of answers")
+}
+
+/// Guest 1 is stuck until its reset; all else is what each guest is told alone.
+fn check_told(
+    alloc: Global,
+    ended: &Ended<CutDisk>,
+    scripts: &[Script; 3],
+    stuck: Stuck,
+) -> Result<(), Fail> {
+    let [first, second, third] = ended.drivers.as_slice() else {
+        return Err(Fail::from("another number of guests"));
+    };
+    let mut host = host_of(alloc, 3)?;
+    check_alone(&mut host, 0, scripts[0].orders(), &first.answers)?;
+    check_alone(&mut host, 2, scripts[2].orders(), &third.answers)?;
+    check_stuck(&second.answers, stuck)?;
+    let (Some(orders), Some(answers)) = (scripts[1].orders().get(4..), second.answers.get(3..))
+    else {
+        return Err(Fail::from("nothing behind the reset"));
+    };
+    check_alone(&mut host, 1, orders, answers)
+}
+
+/// A run of three guests, of which guest 1 has this device, and is stuck for this reason. So many of its requests
+/// were answered.
+fn is_stuck<R: Threads + Wait + Sync>(
+    rt: &R,
+    alloc: Global,
+    device: Device,
+    stuck: Stuck,
+    submits: u64,
+) -> Result<(), Fail> {
+    let scripts = [
+        script_of(alloc, 0)?,
+        script_with_reset(alloc)?,
+        script_of(alloc, 2)?,
+    ];
+    let others = Vec::from_array(alloc, [None, Some(device), None])?;
+    let Ok(ended) = run_beside(rt, alloc, others, &scripts, &Open, 0)? else {
+        return Err(Fail::from("a fault"));
+    };
+    check(
+        ended.book.submit_turns() == submits.saturating_add(14),
+        "another number of turns",
+    )?;
+    check_told(alloc, &ended, &scripts, stuck)
+}
+
+#[test]
+fn a_device_that_stops_leaves_the_others_alone(rt: HostRuntime) -> Result<(), Fail> {
+    let alloc = rt.alloc();
+    is_stuck(&rt, alloc, refusing(alloc)?, Stuck::NeedsReset, 2)
+}
+
+#[test]
+fn a_device_that_isnt_in_service_leaves_the_others_alone(rt: HostRuntime) -> Result<(), Fail> {
+    let alloc = rt.alloc();
+    is_stuck(&rt, alloc, refused(alloc)?, Stuck::NoAnswer, 2)
+}
+
+// The request that its queue held at first is answered too.
+#[test]
+fn a_device_that_answers_nonsense_leaves_the_others_alone(rt: HostRuntime) -> Result<(), Fail> {
+    let alloc = rt.alloc();
+    is_stuck(&rt, alloc, overwriting(alloc)?, Stuck::BadUsed, 3)
+}
