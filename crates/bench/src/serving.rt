@@ -2,6 +2,7 @@
 //! thread.
 ghost use Rattle.std.specs.Prelude.{◌≡◌, All, IfOk};
 ghost use Rattle.rpmb_book.specs.Book.{submits_in};
+ghost use Rattle.workers.specs.Following.{Follow};
 ghost use Rattle.host.specs.Opening.{IsJustOpened};
 
 use crate::books::new_board;
@@ -186,6 +187,7 @@ fn serve_all<D: Disk + Send + Drop, R: Threads + Wait + Sync>(
 ) -> Result<Ended<D>>
     requires new_book { submits_in parts.book ≡ 0 }
     requires fresh { All (λ t. t.count ≡ 0) parts.tallies.items }
+    requires follows { Follow parts.shares parts.store.guests }
 {
     if parts.tallies.len() != load.scripts.len() {
         bail!("another number of guests");
@@ -200,6 +202,7 @@ fn serve_all<D: Disk + Send + Drop, R: Threads + Wait + Sync>(
 fn fresh_parts<D: Disk>(alloc: Global, load: &Load, disk: D) -> Result<Parts<D>>
     ensures new_book { IfOk result (λ p. submits_in p.book ≡ 0) }
     ensures fresh { IfOk result (λ p. All (λ t. t.count ≡ 0) p.tallies.items) }
+    ensures follows { IfOk result (λ p. Follow p.shares p.store.guests) }
 {
     let disk = formatted(disk, &load.config)?;
     let board = new_board(alloc, disk, &load.config)?;
@@ -215,6 +218,7 @@ fn timed<D: Disk + Send + Drop, R: Threads + Wait + Sync>(
 ) -> Result<Run>
     requires new_book { submits_in parts.book ≡ 0 }
     requires fresh { All (λ t. t.count ≡ 0) parts.tallies.items }
+    requires follows { Follow parts.shares parts.store.guests }
 {
     let start = Instant::now(rt);
     let ended = serve_all(threads, rt.alloc(), parts, load)?;

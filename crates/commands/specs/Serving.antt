@@ -1,5 +1,5 @@
 -- What a script prints whose guests are served at once, and why that ends with a fault.
-use Rattle.std.specs.Prelude.{◌≡◌, ◌⊎◌, ◌<◌, ◌+◌, ◌==◌, ℕ, if◌then◌else◌, List, [], ◌∷◌, ◌++◌, Option, Some, None, IfSome, get_or, length, map, true}
+use Rattle.std.specs.Prelude.{◌≡◌, ◌⊎◌, ◌<◌, ◌+◌, ◌==◌, ℕ, if◌then◌else◌, List, [], ◌∷◌, ◌++◌, Option, Some, None, get_or, length, map, true}
 use Rattle.std.specs.Io.KnownBytes.{Appends, Keeps}
 use Rattle.rpmb_frame.specs.declared.config.GuestConfig.{GuestConfig}
 use Rattle.disk.specs.Disk.{DiskCall, DiskState, Within}
@@ -89,9 +89,14 @@ ServedPrint guests lines f start now = Keeps start now
 abbrev pub ServePrints : List GuestConfig → List ℕ → Fault → Option (List ℕ) → Option (List ℕ) → Type 0
 ServePrints board script f start now = (lines : List Said) → SaysServed board script lines → ServedPrint (length board) lines f start now
 
+-- the disk comes back, of which no moment has left another content
+abbrev pub ComesBack : {D : Type 0} → (D → DiskState) → (D → DiskCall → D → Type 0) → D → Option D → Type 0
+ComesBack shows makes disk None = ⊥
+ComesBack shows makes disk (Some back) = Within shows makes (Untouched (shows disk)) disk back
+
 -- And of the disk: it wasn't called where a line is bad, and is as it was where it holds no image of the board.
 abbrev pub ServeLeaves : {D : Type 0} → (D → DiskState) → (D → DiskCall → D → Type 0) → D → Fault → Option D → Type 0
 ServeLeaves shows makes disk (fault.BadScript line) back = back ≡ Some disk
-ServeLeaves shows makes disk fault.NotFormatted back = IfSome back (Within shows makes (Untouched (shows disk)) disk)
-ServeLeaves shows makes disk fault.OtherConfig back = IfSome back (Within shows makes (Untouched (shows disk)) disk)
+ServeLeaves shows makes disk fault.NotFormatted back = ComesBack shows makes disk back
+ServeLeaves shows makes disk fault.OtherConfig back = ComesBack shows makes disk back
 ServeLeaves shows makes disk f back = Unit {0}

@@ -29,7 +29,7 @@ pub enum HostFault {
 
 impl HostFault {
     /// The fault of a job that the book refused.
-    pub(crate) fn of(refused: Refused) -> HostFault
+    pub fn of(refused: Refused) -> HostFault
         ensures { result ≡ fault_of refused }
     {
         match refused {

@@ -1,2 +1,4 @@
+pub mod Following
+pub mod Looks
 pub mod Orders
 pub mod Turns

@@ -3,6 +3,7 @@ ghost use Rattle.std.specs.Prelude.{◌≡◌, All, length, vec_len};
 ghost use Rattle.rpmb_book.specs.Book.{submits_in};
 ghost use Rattle.rpmb_book.specs.Opening.{tallies_from};
 ghost use Rattle.host.specs.Opening.{IsJustOpened};
+ghost use Rattle.workers.specs.Following.{Follow};
 
 use board::{Board, Parts};
 use disk::Disk;
@@ -19,6 +20,7 @@ pub fn parts_of<D: Disk>(board: Board<D>, config: &BoardConfig) -> Parts<D>
     ensures many { vec_len result.tallies ≡ length config.now }
     ensures new_book { submits_in result.book ≡ 0 }
     ensures fresh { All (λ t. t.count ≡ 0) result.tallies.items }
+    ensures follows { Follow result.shares result.store.guests }
 {
     let _ = config;
     board.into_parts()

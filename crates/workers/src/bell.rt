@@ -59,6 +59,17 @@ impl Bell {
         self.rung.notify_all();
     }
 
+    /// What a thread does that found no work: it rings where it changed something since it last did so, and
+    /// else waits until another has rung since that look. So who is waited for rings once for all that it
+    /// did, and not for each of its turns, where each ring wakes all.
+    pub fn rest<R: Wait>(&self, rt: &R, moved: bool, seen: u64) {
+        if moved {
+            self.ring(rt);
+        } else {
+            self.wait(rt, seen);
+        }
+    }
+
     /// Waits until it has rung since that look.
     pub fn wait<R: Wait>(&self, rt: &R, seen: u64) {
         let _rings = self

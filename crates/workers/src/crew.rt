@@ -1,11 +1,12 @@
 //! The threads of a scope: started, run to their end, and joined.
 ghost use Rattle.std.specs.Prelude.{◌≡◌, ◌<◌, ℕ, [], IfOk, vec_len, slice_index_or, length, map};
+ghost use Rattle.workers.specs.Following.{Follow};
 ghost use Rattle.workers.specs.Orders.{LeavesAll, Left, chain_orders};
 
 use crate::bell::Bell;
 use crate::desk::Desk;
 use crate::driver::{DriverEnd, drive};
-use crate::flushing::Flusher;
+use crate::flushing::{Flusher, FlusherEnd};
 use crate::gate::Gate;
 use crate::scripts::Script;
 use crate::seat::{Guest, Seat};
@@ -60,7 +61,7 @@ impl Promise<DriverEnd> for OfChains {
 pub(crate) struct Crew<L: Ledger, D: Disk> {
     pub workers: Vec<Worker<L>>,
     pub drivers: Vec<DriverEnd>,
-    pub flusher: Flusher<D>,
+    pub flusher: FlusherEnd<D>,
 }
 
 /// The threads under way.
@@ -68,7 +69,7 @@ pub(crate) struct Crew<L: Ledger, D: Disk> {
 struct Started<L: Ledger, D: Disk> {
     workers: Vec<PromisedHandle<Worker<L>, OfGuest>>,
     drivers: Vec<PromisedHandle<DriverEnd, OfChains>>,
-    flusher: JoinHandle<Flusher<D>>,
+    flusher: JoinHandle<FlusherEnd<D>>,
 }
 
 /// Starts a worker.
@@ -131,8 +132,14 @@ fn start_flusher<
     hall: &'s Hall<L>,
     gate: &'s G,
     flusher: Flusher<D>,
-) -> Result<JoinHandle<Flusher<D>>, HostFault> {
-    let started = scope.spawn(move || flusher.run(rt, &hall.desk, &hall.bell, gate));
+) -> Result<JoinHandle<FlusherEnd<D>>, HostFault>
+    requires { Follow flusher.shares flusher.store.guests }
+{
+    let started = scope.spawn(
+        move || -> FlusherEnd<D>
+            requires { Follow flusher.shares flusher.store.guests }
+        { flusher.run(rt, &hall.desk, &hall.bell, gate) },
+    );
     match started {
         Ok(handle) => Ok(handle),
         Err(_) => Err(HostFault::NoMemory),
@@ -213,6 +220,7 @@ fn start_all<
     scripts: &'s [Script],
     flusher: Flusher<D>,
 ) -> Result<Started<L, D>, HostFault>
+    requires { Follow flusher.shares flusher.store.guests }
     ensures workers { IfOk result (λ s. vec_len s.workers ≡ vec_len workers) }
     ensures guests { IfOk result (λ s. map (λ h. h.promise.0) s.workers.items ≡ map (λ w. w.tally.guest) workers.items) }
     ensures drivers { IfOk result (λ s. vec_len s.drivers ≡ length scripts.now) }
@@ -287,6 +295,7 @@ fn run_in<
     scripts: &'s [Script],
     flusher: Flusher<D>,
 ) -> Result<Crew<L, D>, HostFault>
+    requires { Follow flusher.shares flusher.store.guests }
     ensures workers { IfOk result (λ c. vec_len c.workers ≡ vec_len workers) }
     ensures guests { IfOk result (λ c. map (λ w. w.tally.guest) c.workers.items ≡ map (λ w. w.tally.guest) workers.items) }
     ensures drivers { IfOk result (λ c. vec_len c.drivers ≡ length scripts.now) }
@@ -316,6 +325,7 @@ pub(crate) fn run_all<
     scripts: &[Script],
     flusher: Flusher<D>,
 ) -> Result<Crew<L, D>, HostFault>
+    requires { Follow flusher.shares flusher.store.guests }
     ensures workers { IfOk result (λ c. vec_len c.workers ≡ vec_len workers) }
     ensures guests { IfOk result (λ c. map (λ w. w.tally.guest) c.workers.items ≡ map (λ w. w.tally.guest) workers.items) }
     ensures drivers { IfOk result (λ c. vec_len c.drivers ≡ length scripts.now) }
@@ -325,6 +335,7 @@ pub(crate) fn run_all<
         thread::scope_env(),
         rt,
         |scope| -> Result<Crew<L, D>, HostFault>
+            requires { Follow flusher.shares flusher.store.guests }
             ensures workers { IfOk result (λ c. vec_len c.workers ≡ vec_len workers) }
             ensures guests { IfOk result (λ c. map (λ w. w.tally.guest) c.workers.items ≡ map (λ w. w.tally.guest) workers.items) }
             ensures drivers { IfOk result (λ c. vec_len c.drivers ≡ length scripts.entry.now) }

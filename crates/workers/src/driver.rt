@@ -6,7 +6,7 @@ ghost use Rattle.workers.specs.Turns.{Drives, Offers, Reaps};
 
 use crate::bell::Bell;
 use crate::order::Order;
-use crate::seat::{Guest, Next, fault_of};
+use crate::seat::{Guest, News, Next, fault_of};
 use guest_driver::DriverFault;
 use host::{Answer, HostFault, Stuck};
 use std::alloc::Global;
@@ -98,18 +98,14 @@ impl<'a> Driver<'a> {
             return self.answer(Answer::Stuck(stuck));
         }
         let look = guest.lock(rt).look();
-        match look.reaped {
-            Ok(Some(reaped)) => self.answer(Answer::Used(reaped.bytes)),
-            Ok(None) if look.stopped => {
-                self.stick(Stuck::NeedsReset);
+        match look.told() {
+            Ok(News::Reply(bytes)) => self.answer(Answer::Used(bytes)),
+            Ok(News::NoReply(stuck)) => {
+                self.stick(stuck);
                 Ok(true)
             }
-            Ok(None) => Ok(false),
-            Err(DriverFault::BadUsed) => {
-                self.stick(Stuck::BadUsed);
-                Ok(true)
-            }
-            Err(fault) => Err(fault_of(fault)),
+            Ok(News::Nothing) => Ok(false),
+            Err(fault) => Err(fault),
         }
     }
 
@@ -236,14 +232,18 @@ impl<'a> Driver<'a> {
     {
         let in_service = guest.lock(rt).begin();
         self.renew(in_service);
+        let mut moved = false;
         for _ in rt.forever() {
             let look = bell.look(rt);
             if look.stopped {
                 break;
             }
             match self.turn(rt, guest) {
-                Ok(Next::Again) => bell.ring(rt),
-                Ok(Next::Rest) => bell.wait(rt, look.count),
+                Ok(Next::Again) => moved = true,
+                Ok(Next::Rest) => {
+                    bell.rest(rt, moved, look.count);
+                    moved = false;
+                }
                 Ok(Next::End) => break,
                 Err(fault) => {
                     self.fail(fault);

@@ -1,16 +1,20 @@
 //! The flusher: it takes what the book accepted, gives it to the store, and tells the book what is settled.
+ghost use Rattle.std.specs.Prelude.{◌≡◌, None, Ok, OnOk, true};
+ghost use Rattle.workers.specs.Following.{Follow, IsAtRest};
+
 use crate::bell::Bell;
 use crate::desk::Desk;
 use crate::gate::{Gate, Place, Who};
 use crate::seat::Next;
 use disk::Disk;
-use flusher::{Call, Progress, Store};
+use flusher::{Call, Progress, Store, StoreFault};
 use host::HostFault;
 use rpmb_book::Shares;
 use std::sync::ledger::Ledger;
 use std::sync::{Mutex, Wait};
 
-/// What the flusher keeps to itself: the store, and what it has taken of each guest.
+/// What the flusher keeps to itself: the store, and what it has taken of each guest, which is what it last
+/// gave to the store.
 #[derive(Drop)]
 pub(crate) struct Flusher<D: Disk> {
     store: Store<D>,
@@ -18,27 +22,46 @@ pub(crate) struct Flusher<D: Disk> {
     guests: u16,
     /// Whether a call of the disk has failed, and the book was told.
     broken: bool,
-    fault: Option<HostFault>,
+}
+
+/// What the flusher leaves.
+#[derive(Drop)]
+pub(crate) struct FlusherEnd<D: Disk> {
+    /// The store, to which nothing more is given.
+    pub store: Store<D>,
+    /// What was taken of each guest.
+    pub shares: Shares,
+    /// Whether it ended with no call of the disk left.
+    pub complete: bool,
+    /// Why it ended before.
+    pub fault: Option<HostFault>,
+    ghost follows: { fault ≡ None → Follow shares store.guests },
+    ghost rests: { complete ≡ true → IsAtRest store.broken store.guests },
 }
 
 impl<D: Disk> Flusher<D> {
-    pub fn new(store: Store<D>, shares: Shares, guests: u16, broken: bool) -> Flusher<D> {
+    pub fn new(store: Store<D>, shares: Shares, guests: u16, broken: bool) -> Flusher<D>
+        ensures { (result.shares ≡ shares) × (result.store ≡ store) }
+    {
         Flusher {
             store,
             shares,
             guests,
             broken,
-            fault: None,
         }
     }
 
     /// Takes what waits for one guest, and gives it to the store where its slot is free. Whether it did.
+    #[tactic(auto, using(crate::proofs::Following::follow_given))]
     fn take<L: Ledger>(
         &mut self,
         rt: &impl Wait,
         desk: &Mutex<Desk<L>>,
         guest: u16,
-    ) -> Result<bool, HostFault> {
+    ) -> Result<bool, HostFault>
+        requires { Follow self.old.shares self.old.store.guests }
+        ensures { OnOk result (Follow self.new.shares self.new.store.guests) }
+    {
         if !self.store.is_free(guest) {
             return Ok(false);
         }
@@ -47,7 +70,7 @@ impl<D: Disk> Flusher<D> {
             Err(_) => Err(HostFault::Foreign),
             Ok(None) => Ok(false),
             Ok(Some(intent)) => {
-                if !self.store.takes(&intent) {
+                if intent.guest() != guest || !self.store.takes(&intent) {
                     return Err(HostFault::Foreign);
                 }
                 self.store.give(intent);
@@ -60,7 +83,10 @@ impl<D: Disk> Flusher<D> {
         &mut self,
         rt: &impl Wait,
         desk: &Mutex<Desk<L>>,
-    ) -> Result<bool, HostFault> {
+    ) -> Result<bool, HostFault>
+        requires { Follow self.old.shares self.old.store.guests }
+        ensures { OnOk result (Follow self.new.shares self.new.store.guests) }
+    {
         let mut moved = false;
         for guest in 0..self.guests {
             if self.take(rt, desk, guest)? {
@@ -70,54 +96,76 @@ impl<D: Disk> Flusher<D> {
         Ok(moved)
     }
 
-    /// Makes the next call of the disk, with no lock held, and tells the book what came of it.
+    /// Makes the next call of the disk, with no lock held.
+    fn call<G: Gate>(&mut self, gate: &G) -> Result<Progress, StoreFault>
+        requires { Follow self.old.shares self.old.store.guests }
+        ensures { Follow self.new.shares self.new.store.guests }
+    {
+        gate.at(Who::Flusher, Place::BeforeCall);
+        self.store.advance()
+    }
+
+    /// Makes the next call of the disk, and tells the book what came of it. It rings where replies may
+    /// leave since.
     fn advance<L: Ledger, G: Gate>(
         &mut self,
         rt: &impl Wait,
         desk: &Mutex<Desk<L>>,
+        bell: &Bell,
         gate: &G,
-    ) -> Result<(), HostFault> {
-        gate.at(Who::Flusher, Place::BeforeCall);
-        let progress = self.store.advance();
-        match progress {
+    ) -> Result<(), HostFault>
+        requires { Follow self.old.shares self.old.store.guests }
+        ensures { Follow self.new.shares self.new.store.guests }
+    {
+        match self.call(gate) {
             Ok(Progress::Synced(marks)) => {
                 let settled = desk.lock(rt).settle(&self.shares, marks);
                 if settled.is_err() {
                     return Err(HostFault::Foreign);
                 }
+                bell.ring(rt);
             }
             Ok(Progress::Wrote) => {}
             Ok(Progress::Idle) => {}
             Err(_) => {
                 desk.lock(rt).break_off();
                 self.broken = true;
+                bell.ring(rt);
             }
         }
         Ok(())
     }
 
-    /// One look for work: what waits is taken, and one call made.
+    /// One look for work: what waits is taken, unless the store broke, and one call made.
     pub(crate) fn turn<L: Ledger, G: Gate>(
         &mut self,
         rt: &impl Wait,
         desk: &Mutex<Desk<L>>,
+        bell: &Bell,
         gate: &G,
         workers_ended: usize,
-    ) -> Result<Next, HostFault> {
-        let last = if workers_ended >= usize::from(self.guests) {
+    ) -> Result<Next, HostFault>
+        requires { Follow self.old.shares self.old.store.guests }
+        ensures follows { OnOk result (Follow self.new.shares self.new.store.guests) }
+        ensures rests { result ≡ Ok Next.End → IsAtRest self.new.store.broken self.new.store.guests }
+    {
+        let taken = if self.broken {
+            false
+        } else {
+            self.take_all(rt, desk)?
+        };
+        if self.store.next_call() != Call::None {
+            self.advance(rt, desk, bell, gate)?;
+            return Ok(Next::Again);
+        }
+        if taken {
+            return Ok(Next::Again);
+        }
+        Ok(if workers_ended >= usize::from(self.guests) {
             Next::End
         } else {
             Next::Rest
-        };
-        if self.broken {
-            return Ok(last);
-        }
-        let taken = self.take_all(rt, desk)?;
-        if self.store.next_call() == Call::None {
-            return Ok(if taken { Next::Again } else { last });
-        }
-        self.advance(rt, desk, gate)?;
-        Ok(Next::Again)
+        })
     }
 
     /// Writes and syncs what the workers submit, until all of them have ended and nothing is left.
@@ -127,39 +175,42 @@ impl<D: Disk> Flusher<D> {
         desk: &Mutex<Desk<L>>,
         bell: &Bell,
         gate: &G,
-    ) -> Flusher<D> {
+    ) -> FlusherEnd<D>
+        requires { Follow self.shares self.store.guests }
+    {
         for _ in rt.forever() {
             let look = bell.look(rt);
             if look.stopped {
                 break;
             }
-            match self.turn(rt, desk, gate, look.workers_ended) {
-                Ok(Next::Again) => bell.ring(rt),
+            match self.turn(rt, desk, bell, gate, look.workers_ended) {
+                Ok(Next::Again) => {}
                 Ok(Next::Rest) => bell.wait(rt, look.count),
-                Ok(Next::End) => break,
+                Ok(Next::End) => return self.into_end(true, None),
                 Err(fault) => {
-                    self.fault = Some(fault);
                     bell.stop(rt);
-                    break;
+                    return self.into_end(false, Some(fault));
                 }
             }
         }
-        self
+        self.into_end(false, None)
     }
 
-    pub(crate) fn fault(&self) -> Option<HostFault> {
-        self.fault
-    }
-
-    /// The store and the shares alone.
-    pub(crate) fn into_parts(self) -> (Store<D>, Shares) {
+    fn into_end(self, complete: bool, fault: Option<HostFault>) -> FlusherEnd<D>
+        requires follows { fault ≡ None → Follow self.shares self.store.guests }
+        requires rests { complete ≡ true → IsAtRest self.store.broken self.store.guests }
+    {
         let Flusher {
             store,
             shares,
             guests: _,
             broken: _,
-            fault: _,
         } = self;
-        (store, shares)
+        FlusherEnd {
+            store,
+            shares,
+            complete,
+            fault,
+        }
     }
 }

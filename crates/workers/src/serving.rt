@@ -1,13 +1,16 @@
 //! A run of all threads to its end.
-ghost use Rattle.std.specs.Prelude.{◌≡◌, ◌+◌, ◌≤◌, ◌<◌, All, IfOk, OnOk, IsTrue, true, vec_len, length, sum_by, map};
+ghost use Rattle.std.specs.Prelude.{◌≡◌, ◌+◌, ◌≤◌, ◌<◌, All, Err, IfOk, OnOk, IsTrue, None, Some, true, vec_len, length, sum_by, map};
+ghost use Rattle.std.specs.Option.{option_or};
 ghost use Rattle.rpmb_book.specs.Book.{state, submits_in};
+ghost use Rattle.workers.specs.Following.{Follow, IsAtRest};
+ghost use Rattle.workers.specs.Looks.{first_fault};
 ghost use Rattle.workers.specs.Orders.{HaveAll, Left};
 
 use crate::bell::Bell;
 use crate::crew::{Crew, Hall, run_all};
 use crate::desk::Desk;
 use crate::driver::DriverEnd;
-use crate::flushing::Flusher;
+use crate::flushing::{Flusher, FlusherEnd};
 use crate::gate::Gate;
 use crate::scripts::Script;
 use crate::seat::Guest;
@@ -41,6 +44,10 @@ pub struct Ended<D: Disk> {
     pub store: Store<D>,
     /// Whether a call of the disk has failed, and the book was told.
     pub broken: bool,
+    // What was taken of the book was given to the store.
+    ghost follows: { Follow shares store.guests },
+    // No call of the disk is left, unless one has failed.
+    ghost rests: { IsAtRest store.broken store.guests },
 }
 
 /// A worker for each tally, with a share of the ledger.
@@ -113,16 +120,16 @@ fn guests(
     Ok(guests)
 }
 
-/// The fault of the lowest-numbered guest that has one.
-fn fault_of<L: Ledger>(workers: &[Worker<L>], drivers: &[DriverEnd]) -> Option<HostFault> {
+/// The fault of the lowest-numbered guest that has one: its worker's before its driver's.
+#[tactic(auto, using(crate::proofs::Faults::next_fault, crate::proofs::Faults::no_fault))]
+fn fault_of<L: Ledger>(workers: &[Worker<L>], drivers: &[DriverEnd]) -> Option<HostFault>
+    requires { length workers.now ≡ length drivers.now }
+    ensures { result ≡ first_fault (map (λ w. w.fault) workers.now) (map (λ d. d.fault) drivers.now) }
+{
     for i in 0..workers.len() {
-        if let Some(fault) = workers[i].fault() {
-            return Some(fault);
-        }
-        if i < drivers.len() {
-            if let Some(fault) = drivers[i].fault {
-                return Some(fault);
-            }
+        let fault = workers[i].fault().or(drivers[i].fault);
+        if fault.is_some() {
+            return fault;
         }
     }
     None
@@ -160,19 +167,23 @@ fn finish<L: Ledger, D: Disk + Drop>(
     ensures submits { IfOk result (λ e. submits_in e.book ≡ sum_by (λ s. s.tally.count) e.served.items) }
     ensures answers { IfOk result (λ e. HaveAll e.drivers.items scripts.now) }
     ensures broken { IfOk result (λ e. e.broken ≡ (state e.book).broken) }
+    ensures fault { (f : HostFault) → option_or (first_fault (map (λ w. w.fault) crew.workers.items) (map (λ d. d.fault) crew.drivers.items)) crew.flusher.fault ≡ Some f → result ≡ Err f }
 {
     let Crew {
         workers,
         drivers,
         flusher,
     } = crew;
-    if let Some(fault) = fault_of(&workers, &drivers) {
+    let FlusherEnd {
+        store,
+        shares,
+        complete,
+        fault,
+    } = flusher;
+    if let Some(fault) = fault_of(&workers, &drivers).or(fault) {
         return Err(fault);
     }
-    if let Some(fault) = flusher.fault() {
-        return Err(fault);
-    }
-    if !are_complete(&drivers) {
+    if !complete || !are_complete(&drivers) {
         return Err(HostFault::NoMemory);
     }
     let served = match dismiss(alloc, &mut all, workers) {
@@ -180,7 +191,6 @@ fn finish<L: Ledger, D: Disk + Drop>(
         Err(fault) => return Err(fault),
     };
     desk.audit(&mut all);
-    let (store, shares) = flusher.into_parts();
     let broken = desk.is_broken();
     Ok(Ended {
         book: desk.into_book(),
@@ -213,6 +223,7 @@ fn serve_as<
     requires each { length scripts.now ≡ vec_len parts.tallies }
     requires new_book { submits_in parts.book ≡ 0 }
     requires fresh { All (λ t. t.count ≡ 0) parts.tallies.items }
+    requires follows { Follow parts.shares parts.store.guests }
     ensures served { IfOk result (λ e. vec_len e.served ≡ length scripts.now) }
     ensures guests { IfOk result (λ e. map (λ s. s.tally.guest) e.served.items ≡ map (λ t. t.guest) parts.tallies.items) }
     ensures drivers { IfOk result (λ e. vec_len e.drivers ≡ length scripts.now) }
@@ -279,6 +290,7 @@ pub fn serve<D: Disk + Send + Drop, G: Gate + Sync, R: Threads + Wait + Sync>(
     requires each { length scripts.now ≡ vec_len parts.tallies }
     requires new_book { submits_in parts.book ≡ 0 }
     requires fresh { All (λ t. t.count ≡ 0) parts.tallies.items }
+    requires follows { Follow parts.shares parts.store.guests }
     ensures served { IfOk result (λ e. vec_len e.served ≡ length scripts.now) }
     ensures guests { IfOk result (λ e. map (λ s. s.tally.guest) e.served.items ≡ map (λ t. t.guest) parts.tallies.items) }
     ensures drivers { IfOk result (λ e. vec_len e.drivers ≡ length scripts.now) }

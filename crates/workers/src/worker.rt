@@ -1,5 +1,5 @@
 //! A guest's worker: it pops, submits, and publishes what may leave.
-ghost use Rattle.std.specs.Prelude.{◌≡◌, ◌+◌, ◌<◌, IfOk, None, vec_len};
+ghost use Rattle.std.specs.Prelude.{◌≡◌, ◌+◌, ◌<◌, All, IfOk, None, vec_len};
 ghost use Rattle.workers.specs.Turns.{HandsIn, Pops, Submits, TakesIn, Works};
 
 use crate::desk::Desk;
@@ -25,6 +25,7 @@ pub struct Worker<L: Ledger> {
     ghost one_part: { share.parts ≡ 1 },
     ghost counted: { tally.count ≡ share.amount },
     ghost received: { vec_len receipts ≡ tally.count },
+    ghost own: { All (λ r. r.guest ≡ tally.guest) receipts.items },
 }
 
 /// What a worker leaves.
@@ -35,6 +36,7 @@ pub struct Served {
     /// A receipt for each of them, in their order.
     pub receipts: Vec<Receipt>,
     ghost received: { vec_len receipts ≡ tally.count },
+    ghost own: { All (λ r. r.guest ≡ tally.guest) receipts.items },
 }
 
 impl<L: Ledger> Worker<L> {
@@ -108,9 +110,7 @@ impl<L: Ledger> Worker<L> {
                 *place = Some(job);
                 Ok(false)
             }
-            Err((_, Refused::Foreign)) => Err(HostFault::Foreign),
-            Err((_, Refused::HistoryFull)) => Err(HostFault::HistoryFull),
-            Err((_, Refused::NoMemory)) => Err(HostFault::NoMemory),
+            Err((_, refused)) => Err(HostFault::of(refused)),
         }
     }
 
@@ -145,7 +145,6 @@ impl<L: Ledger> Worker<L> {
         let answered = self.submit(rt, seat.desk, alloc, job)?;
         if answered {
             gate.at(Who::Worker(self.tally.guest()), Place::Submitted);
-            seat.bell.ring(rt);
         }
         Ok(answered)
     }
@@ -187,7 +186,6 @@ impl<L: Ledger> Worker<L> {
         let published = self.publish(rt, seat.guest, seat.desk);
         if published {
             gate.at(Who::Worker(self.tally.guest()), Place::Published);
-            seat.bell.ring(rt);
         }
         if moved || published {
             return Ok(Next::Again);
@@ -209,14 +207,18 @@ impl<L: Ledger> Worker<L> {
     ) -> Worker<L>
         ensures { result.tally.guest ≡ self.tally.guest }
     {
+        let mut moved = false;
         for _ in rt.forever() {
             let look = seat.bell.look(rt);
             if look.stopped {
                 break;
             }
             match self.turn(rt, alloc, seat, gate) {
-                Ok(Next::Again) => {}
-                Ok(Next::Rest) => seat.bell.wait(rt, look.count),
+                Ok(Next::Again) => moved = true,
+                Ok(Next::Rest) => {
+                    seat.bell.rest(rt, moved, look.count);
+                    moved = false;
+                }
                 Ok(Next::End) => break,
                 Err(fault) => {
                     self.fail(fault);
@@ -259,7 +261,9 @@ impl<L: Ledger> Worker<L> {
     }
 
     /// Why it ended before its guest's driver, where it did.
-    pub(crate) fn fault(&self) -> Option<HostFault> {
+    pub(crate) fn fault(&self) -> Option<HostFault>
+        ensures { result ≡ self.now.fault }
+    {
         self.fault
     }
 }

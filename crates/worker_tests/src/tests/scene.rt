@@ -1,6 +1,7 @@
 //! A board on a fresh disk, the requests that its guests make, and a run of their scripts.
 ghost use Rattle.std.specs.Prelude.{◌≡◌, All, IfOk};
 ghost use Rattle.rpmb_book.specs.Book.{submits_in};
+ghost use Rattle.workers.specs.Following.{Follow};
 
 use board::{Board, Parts};
 use disk::{CutDisk, Disk, MemDisk};
@@ -20,11 +21,25 @@ pub fn check(holds: bool, what: &'static str) -> Result<(), Fail> {
     if holds { Ok(()) } else { Err(Fail::from(what)) }
 }
 
-/// A board of guests that are all alike.
+/// A guest of one unit; every third one has a queue of 32 places and no event index.
+fn guest_of(number: usize) -> GuestConfig {
+    let usual = GuestConfig::of_capacity(1);
+    if number % 3 == 2 {
+        GuestConfig {
+            queue: 32,
+            event_idx: false,
+            ..usual
+        }
+    } else {
+        usual
+    }
+}
+
+/// A board of guests that aren't all alike.
 pub fn board_of(alloc: Global, guests: usize) -> Result<BoardConfig, Fail> {
     let mut configs = Vec::with_capacity(alloc, guests)?;
-    for _ in 0..guests {
-        configs.push(GuestConfig::of_capacity(1))?;
+    for number in 0..guests {
+        configs.push(guest_of(number))?;
     }
     Ok(BoardConfig::new(configs)?)
 }
@@ -110,6 +125,7 @@ pub fn script_with_reset(alloc: Global) -> Result<Script, Fail> {
 pub fn opened<D: Disk>(alloc: Global, disk: D, board: &BoardConfig) -> Result<Parts<D>, Fail>
     ensures new_book { IfOk result (λ p. submits_in p.book ≡ 0) }
     ensures fresh { IfOk result (λ p. All (λ t. t.count ≡ 0) p.tallies.items) }
+    ensures follows { IfOk result (λ p. Follow p.shares p.store.guests) }
 {
     match Board::open(alloc, disk, 1, board) {
         Ok(opened) => Ok(parts_of(opened, board)),

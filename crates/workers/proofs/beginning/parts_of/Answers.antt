@@ -1,6 +1,8 @@
 use Rattle.std.proofs.Common.{◌≡◌, length, subst, sym, ap, ◌∙◌, arith}
 use Rattle.std.specs.Prelude.{All}
 use Rattle.rpmb_book.specs.Book.{submits_in}
+use Rattle.workers.specs.Following.{Follow}
+use Rattle.workers.proofs.Following.{opened_follows}
 use Rattle.workers.proofs.JustOpened.{fresh_tallies, many_tallies, new_book, nothing_between}
 use Rattle.workers.proofs.beginning.parts_of.Goals as goal
 
@@ -18,3 +20,9 @@ returns-clause-new_book g c = subst (λ b. submits_in b ≡ 0) (sym c.into_parts
 
 pub returns-clause-fresh : goal.returns-clause-fresh
 returns-clause-fresh g c = subst (λ ts. All (λ t. t.count ≡ 0) ts) (sym c.into_parts.ensures.tallies) (fresh_tallies g.D.Disk.state c.args.config.now c.args.board c.requires)
+
+pub returns-clause-follows : goal.returns-clause-follows
+returns-clause-follows g c =
+    let follows = opened_follows g.D.Disk.state c.args.config.now c.args.board c.requires in
+    subst (λ ns. Follow ns c.into_parts.result.store.guests) (sym c.into_parts.ensures.shares)
+    (subst (λ s. Follow c.args.board.shares s.guests) (sym c.into_parts.ensures.store) follows)
