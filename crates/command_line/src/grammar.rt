@@ -1,19 +1,25 @@
 //! The commands as `clap` reads them, with the texts of their help.
 ghost use Rattle.std.specs.Prelude.{◌≡◌, IfOk, false};
-ghost use Rattle.clap.specs.Words.{app_of};
+ghost use Rattle.clap.specs.Words.{App, app_of, rule_of, with_subcommand};
 ghost use Rattle.clap.specs.declared.builder.command.Command.TheViews.{out-Command as fields_of};
-ghost use Rattle.command_line.specs.Program.{bare, on_board, on_script, program};
+ghost use Rattle.command_line.specs.Program.{bare, on_board, on_script, program, required};
 
 use clap::{Arg, Command};
 use std::alloc::{AllocError, Global};
+
+/// An argument that has to be given.
+fn required<'a>(alloc: Global, id: &'a str, help: &'a str) -> Arg<'a>
+    ensures rule { rule_of result ≡ required id.entry.now }
+    ensures local { result.global ≡ false }
+{
+    Arg::new(alloc, id).required(true).help(help)
+}
 
 fn on_board<'a>(alloc: Global, name: &'a str, about: &'a str) -> Result<Command<'a>, AllocError>
     ensures shape { IfOk result (λ c. app_of c ≡ on_board name.entry.now) }
     ensures local { IfOk result (λ c. (fields_of c).has_globals ≡ false) }
 {
-    let board = Arg::new(alloc, "BOARD")
-        .required(true)
-        .help("The board file (TOML): what the guests are");
+    let board = required(alloc, "BOARD", "The board file (TOML): what the guests are");
     Command::new(alloc, name).about(about).arg(board)
 }
 
@@ -21,10 +27,13 @@ fn on_script<'a>(alloc: Global, name: &'a str, about: &'a str) -> Result<Command
     ensures shape { IfOk result (λ c. app_of c ≡ on_script name.entry.now) }
     ensures local { IfOk result (λ c. (fields_of c).has_globals ≡ false) }
 {
-    let script = Arg::new(alloc, "SCRIPT")
-        .required(true)
-        .help("The script: what the guests do, one step a line");
-    on_board(alloc, name, about)?.arg(script)
+    let command = on_board(alloc, name, about)?;
+    let script = required(
+        alloc,
+        "SCRIPT",
+        "The script: what the guests do, one step a line",
+    );
+    command.arg(script)
 }
 
 fn bare<'a>(alloc: Global) -> Command<'a>
@@ -37,6 +46,21 @@ fn bare<'a>(alloc: Global) -> Command<'a>
         .subcommand_required(true)
 }
 
+/// `program` with one command more, if there was memory to make that.
+fn with_command<'a>(
+    program: Command<'a>,
+    command: Result<Command<'a>, AllocError>,
+) -> Result<Command<'a>, AllocError>
+    requires local { IfOk command (λ c. (fields_of c).has_globals ≡ false) }
+    ensures { (shape : App) → IfOk command.entry (λ c. app_of c ≡ shape)
+        → IfOk result (λ c. app_of c ≡ with_subcommand (app_of program.entry) shape.top) }
+{
+    match command {
+        Ok(command) => program.subcommand(command),
+        Err(error) => Err(error),
+    }
+}
+
 /// The program with all its commands.
 pub fn program<'a>(alloc: Global) -> Result<Command<'a>, AllocError>
     ensures { IfOk result (λ c. app_of c ≡ program) }
@@ -45,22 +69,20 @@ pub fn program<'a>(alloc: Global) -> Result<Command<'a>, AllocError>
         alloc,
         "format",
         "Makes a fresh image of the board, over what its file holds",
-    )?;
-    let show = on_board(alloc, "show", "Prints what the image of the board holds")?;
+    );
+    let program = with_command(bare(alloc), format)?;
+    let show = on_board(alloc, "show", "Prints what the image of the board holds");
+    let program = with_command(program, show)?;
     let run = on_script(
         alloc,
         "run",
         "Performs a script, line by line, and prints a line for each chain",
-    )?;
+    );
+    let program = with_command(program, run)?;
     let serve = on_script(
         alloc,
         "serve",
         "Performs a script, all guests at once, and prints each guest's lines",
-    )?;
-    let command = bare(alloc)
-        .subcommand(format)?
-        .subcommand(show)?
-        .subcommand(run)?
-        .subcommand(serve)?;
-    Ok(command)
+    );
+    with_command(program, serve)
 }

@@ -1,17 +1,17 @@
-use Rattle.std.proofs.Common.{◌∙◌, ap, ap₂}
-use Rattle.clap.specs.Words.{App, with_subcommand}
-use Rattle.command_line.specs.Program.{program}
+use Rattle.std.proofs.Common.{◌≡◌, ◌∙◌, ap, codes, subst}
+use Rattle.std.specs.Prelude.{IfOk}
+use Rattle.clap.specs.Words.{App, app_of, with_subcommand}
+use Rattle.command_line.specs.Program.{on_board, on_script, program}
 use Rattle.command_line.proofs.grammar.program.Goals as goal
+
+abbrev with_command : App → App → App
+with_command command a = with_subcommand a command.top
 
 pub returns : goal.returns
 unfolding program
 returns c =
-    let top = λ (a : App). a.top in
-    let with_format = c.in_ok-subcommand.ensures.shape c.in_ok-format.ensures.local
-    ∙ ap₂ with_subcommand c.bare.ensures (ap top c.in_ok-format.ensures.shape) in
-    let with_show = c.in_ok-subcommand-2.ensures.shape c.in_ok-show.ensures.local
-    ∙ ap₂ with_subcommand with_format (ap top c.in_ok-show.ensures.shape) in
-    let with_run = c.in_ok-subcommand-3.ensures.shape c.in_ok-run.ensures.local
-    ∙ ap₂ with_subcommand with_show (ap top c.in_ok-run.ensures.shape) in
-    c.in_ok-command.ensures.shape c.in_ok-serve.ensures.local
-    ∙ ap₂ with_subcommand with_run (ap top c.in_ok-serve.ensures.shape)
+    let formats = c.in_ok-program.ensures _ c.on_board-format.ensures.shape ∙ ap (with_command (on_board (codes "format"))) c.bare.ensures in
+    let shows = c.in_ok-program-2.ensures _ c.on_board-show.ensures.shape ∙ ap (with_command (on_board (codes "show"))) formats in
+    let runs = c.in_ok-program-3.ensures _ c.on_script-run.ensures.shape ∙ ap (with_command (on_script (codes "run"))) shows in
+    subst (λ (a : App). IfOk c.with_command-4.result (λ p. app_of p ≡ with_command (on_script (codes "serve")) a)) runs
+    (c.with_command-4.ensures _ c.on_script-serve.ensures.shape)
