@@ -163,19 +163,23 @@ impl Acts {
         }
     }
 
-    /// A guest offers a chain of these frames with room for one.
-    fn offer(&mut self, guest: u16, frames: &[[u8; 512]]) -> Result<(), Fail> {
-        let number = self.next_chain(guest);
+    /// Puts a chain of these frames, with room for one, before the device.
+    fn place(&mut self, guest: u16, frames: &[[u8; 512]]) -> Result<(), Fail> {
         self.store(guest, 0x4000, frames.as_flattened())?;
-        self.store(guest, 0x1000, &descriptors(frames.len()))?;
+        self.store(guest, 0x1000, &descriptors(frames.len()))
+    }
+
+    /// Makes it available.
+    fn offer(&mut self, guest: u16) -> Result<(), Fail> {
+        let number = self.next_chain(guest);
         self.store(guest, 0x2004 + 2 * u64::from(number % 16), &[0, 0])?;
         self.store(guest, 0x2002, &number.wrapping_add(1).to_le_bytes())
     }
 
     /// The guest offers a chain of this request, and its job is answered.
     pub fn submit(&mut self, guest: u16, asked: Asked) -> Result<(), Fail> {
-        let frames = frames_of(self.alloc, asked)?;
-        self.offer(guest, &frames)?;
+        self.place(guest, &frames_of(self.alloc, asked)?)?;
+        self.offer(guest)?;
         self.step(Step::Pop(guest))?;
         self.step(Step::Submit(guest))
     }

@@ -112,26 +112,31 @@ fn one_taken(alloc: Global) -> Result<Scene, Fail> {
     Ok(other)
 }
 
-#[test]
-fn strangers_are_foreign(rt: HostRuntime) -> Result<(), Fail> {
-    let alloc = rt.alloc();
-    let mut scene = scene_of(alloc, 2)?;
-    foreign(alloc, &mut scene, 2)?;
-    let job = foreign(alloc, &mut scene, 1)?;
-    check(knows_no_guest_2(&mut scene), "no guest 2")?;
+fn offer_to_strangers(alloc: Global, scene: &mut Scene) -> Result<(), Fail> {
+    foreign(alloc, scene, 2)?;
+    check(knows_no_guest_2(scene), "no guest 2")?;
+    let job = foreign(alloc, scene, 1)?;
     // With its own guest's tally the same job is answered.
     accepted(scene.offer(alloc, job))?;
     Ok(())
 }
 
 #[test]
+fn strangers_are_foreign(rt: HostRuntime) -> Result<(), Fail> {
+    offer_to_strangers(rt.alloc(), &mut scene_of(rt.alloc(), 2)?)
+}
+
+fn refuse_shares_of(alloc: Global, other: &mut Scene) -> Result<(), Fail> {
+    // No mark is above what either book took.
+    let marks = fresh_store(alloc, 2)?.marks();
+    let refused = refuses_shares_of(&mut scene_of(alloc, 2)?, other, marks);
+    check(refused, "the shares")
+}
+
+#[test]
 fn shares_of_another_book_are_foreign(rt: HostRuntime) -> Result<(), Fail> {
     let mut other = one_taken(rt.alloc())?;
-    let mut scene = scene_of(rt.alloc(), 2)?;
-    // No mark is above what either book took.
-    let marks = fresh_store(rt.alloc(), 2)?.marks();
-    let refused = refuses_shares_of(&mut scene, &mut other, marks);
-    check(refused, "the shares")
+    refuse_shares_of(rt.alloc(), &mut other)
 }
 
 fn answer_one(alloc: Global, scene: &mut Scene, number: u32) -> Result<(), Fail> {

@@ -106,16 +106,20 @@ fn writes_of(alloc: Global, address: u16, count: u8) -> Result<Vec<[u8; 512]>, A
     Ok(frames)
 }
 
+fn listed(alloc: Global, frames: &[[u8; 512]]) -> Result<Vec<[u8; 512]>, AllocError> {
+    Vec::from_slice(alloc, frames)
+}
+
 /// The frames of a request.
 pub fn frames_of(alloc: Global, asked: Asked) -> Result<Vec<[u8; 512]>, AllocError> {
     match asked {
-        Asked::Key(byte) => Vec::from_slice(alloc, &program_key(&[byte; 32])),
-        Asked::Write(byte, counter) => Vec::from_slice(alloc, &write_of(byte, counter)),
+        Asked::Key(byte) => listed(alloc, &program_key(&[byte; 32])),
+        Asked::Write(byte, counter) => listed(alloc, &write_of(byte, counter)),
         Asked::Blocks(address, count) => writes_of(alloc, address, count),
-        Asked::Counter(nonce) => Vec::from_slice(alloc, &get_write_counter(u128::from(nonce))),
-        Asked::Block => Vec::from_slice(alloc, &[data_read()]),
-        Asked::LastResult => Vec::from_slice(alloc, &[result_read()]),
-        Asked::Zeros => Vec::from_slice(alloc, &[[0; 512]]),
+        Asked::Counter(nonce) => listed(alloc, &get_write_counter(u128::from(nonce))),
+        Asked::Block => listed(alloc, &[data_read()]),
+        Asked::LastResult => listed(alloc, &[result_read()]),
+        Asked::Zeros => listed(alloc, &[[0; 512]]),
     }
 }
 
@@ -301,9 +305,11 @@ pub fn play(
     Ok(lines.len())
 }
 
+fn play_on(alloc: Global, guests: usize, scene: &mut Scene, lines: &[Line]) -> Result<usize, Fail> {
+    play(alloc, scene, &mut fresh_store(alloc, guests)?, lines)
+}
+
 /// The same of a scene of its own, with so many guests.
 pub fn played(alloc: Global, guests: usize, lines: &[Line]) -> Result<usize, Fail> {
-    let mut store = fresh_store(alloc, guests)?;
-    let mut scene = scene_of(alloc, guests)?;
-    play(alloc, &mut scene, &mut store, lines)
+    play_on(alloc, guests, &mut scene_of(alloc, guests)?, lines)
 }

@@ -132,10 +132,13 @@ fn all_happens(world: &mut World, events: &[Event]) -> bool {
     world.run(events).is_none()
 }
 
+fn check_world(alloc: Global, world: &mut World, events: &[Event]) -> Result<(), Fail> {
+    check(all_happens(world, events), "a refusal")?;
+    check_guests(alloc, world)
+}
+
 fn check_run(alloc: Global, events: &[Event]) -> Result<(), Fail> {
-    let mut world = world_of(alloc, 3)?;
-    check(all_happens(&mut world, events), "a refusal")?;
-    check_guests(alloc, &world)
+    check_world(alloc, &mut world_of(alloc, 3)?, events)
 }
 
 fn stopped(alloc: Global, left: u32, filler: u8) -> Result<(), Fail> {

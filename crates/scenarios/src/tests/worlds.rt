@@ -7,14 +7,18 @@ use crate::tests::scene::{board_of, check};
 use board::{Event, Refusal, StepFault, World};
 use flusher::StoreFault;
 use rpmb_core::Partition;
+use rpmb_frame::BoardConfig;
 use std::alloc::Global;
 use std::test::Fail;
 
-/// A world over a fresh image of so many guests.
-pub fn world_of(alloc: Global, guests: usize) -> Result<World, Fail> {
-    let board = board_of(alloc, guests)?;
+fn world_over(alloc: Global, board: BoardConfig) -> Result<World, Fail> {
     let disk = formatted(alloc, &board)?;
     Ok(World::new(alloc, disk, board))
+}
+
+/// A world over a fresh image of so many guests.
+pub fn world_of(alloc: Global, guests: usize) -> Result<World, Fail> {
+    world_over(alloc, board_of(alloc, guests)?)
 }
 
 /// What a list of events left of a world of one guest.
