@@ -213,7 +213,7 @@ impl Acts {
 
     /// Makes one move of a guest after another.
     pub fn play(&mut self, guest: u16, moves: &[Move]) -> Result<(), Fail> {
-        for next in moves {
+        for next in moves.iter() {
             self.make(guest, *next)?;
         }
         Ok(())

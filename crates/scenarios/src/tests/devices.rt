@@ -28,10 +28,17 @@ struct Guest {
     store: Store<CutDisk>,
 }
 
-fn device_and_driver(alloc: Global, config: &GuestConfig) -> Result<(Device, Driver), Fail> {
-    let device = Device::new(alloc, 0, config)?;
-    let driver = Driver::new(alloc, config)?;
-    Ok((device, driver))
+fn new_device(alloc: Global) -> Result<Device, Fail> {
+    Ok(Device::new(alloc, 0, &GuestConfig::of_capacity(1))?)
+}
+
+fn new_driver(alloc: Global) -> Result<Driver, Fail> {
+    Ok(Driver::new(alloc, &GuestConfig::of_capacity(1))?)
+}
+
+fn device_and_driver(alloc: Global) -> Result<(Device, Driver), Fail> {
+    let driver = new_driver(alloc)?;
+    Ok((new_device(alloc)?, driver))
 }
 
 fn book_and_store(alloc: Global) -> Result<(Scene, Store<CutDisk>), Fail> {
@@ -41,7 +48,7 @@ fn book_and_store(alloc: Global) -> Result<(Scene, Store<CutDisk>), Fail> {
 }
 
 fn new_guest(alloc: Global) -> Result<Guest, Fail> {
-    let (device, driver) = device_and_driver(alloc, &GuestConfig::of_capacity(1))?;
+    let (device, driver) = device_and_driver(alloc)?;
     let (scene, store) = book_and_store(alloc)?;
     Ok(Guest {
         device,

@@ -27,11 +27,15 @@ static KEPT: [Line; 13] = [
     Line::Mark(1, 3),
 ];
 
+fn keep(alloc: Global, store: &mut Store<CutDisk>) -> Result<(), Fail> {
+    let lines = play(alloc, &mut scene_of(alloc, 2)?, store, &KEPT)?;
+    check(lines == KEPT.len(), "what is kept")
+}
+
 /// The store of that scene.
 fn kept(alloc: Global) -> Result<Store<CutDisk>, Fail> {
     let mut store = fresh_store(alloc, 2)?;
-    let lines = play(alloc, &mut scene_of(alloc, 2)?, &mut store, &KEPT)?;
-    check(lines == KEPT.len(), "what is kept")?;
+    keep(alloc, &mut store)?;
     Ok(store)
 }
 

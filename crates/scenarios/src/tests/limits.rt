@@ -103,13 +103,11 @@ fn refuses_shares_of(scene: &mut Scene, other: &mut Scene, marks: Marks) -> bool
         && scene.book.settle(&other.shares, marks) == Err(Refused::Foreign)
 }
 
-/// A book of two guests that took an intent of guest 1.
-fn one_taken(alloc: Global) -> Result<Scene, Fail> {
-    let mut other = scene_of(alloc, 2)?;
+/// An intent of guest 1 is taken.
+fn take_one(alloc: Global, other: &mut Scene) -> Result<(), Fail> {
     other.submit(alloc, 1, &program_key(&KEY))?;
     let taken = other.book.take(&mut other.shares, 1).is_ok();
-    check(taken, "a take")?;
-    Ok(other)
+    check(taken, "a take")
 }
 
 fn offer_to_strangers(alloc: Global, scene: &mut Scene) -> Result<(), Fail> {
@@ -127,6 +125,7 @@ fn strangers_are_foreign(rt: HostRuntime) -> Result<(), Fail> {
 }
 
 fn refuse_shares_of(alloc: Global, other: &mut Scene) -> Result<(), Fail> {
+    take_one(alloc, other)?;
     // No mark is above what either book took.
     let marks = fresh_store(alloc, 2)?.marks();
     let refused = refuses_shares_of(&mut scene_of(alloc, 2)?, other, marks);
@@ -135,8 +134,7 @@ fn refuse_shares_of(alloc: Global, other: &mut Scene) -> Result<(), Fail> {
 
 #[test]
 fn shares_of_another_book_are_foreign(rt: HostRuntime) -> Result<(), Fail> {
-    let mut other = one_taken(rt.alloc())?;
-    refuse_shares_of(rt.alloc(), &mut other)
+    refuse_shares_of(rt.alloc(), &mut scene_of(rt.alloc(), 2)?)
 }
 
 fn answer_one(alloc: Global, scene: &mut Scene, number: u32) -> Result<(), Fail> {

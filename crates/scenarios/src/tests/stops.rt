@@ -74,12 +74,19 @@ fn no_tally() -> Tally {
     }
 }
 
-fn sequences_of(partitions: &[Partition]) -> [u64; 3] {
-    let mut sequences = [0; 3];
-    for (guest, partition) in partitions.iter().take(3).enumerate() {
-        sequences[guest] = partition.sequence();
+fn sequence_of(partition: Option<&Partition>) -> u64 {
+    match partition {
+        Some(partition) => partition.sequence(),
+        None => 0,
     }
-    sequences
+}
+
+fn sequences_of(partitions: &[Partition]) -> [u64; 3] {
+    [
+        sequence_of(partitions.first()),
+        sequence_of(partitions.get(1)),
+        sequence_of(partitions.get(2)),
+    ]
 }
 
 /// What an opening gives. Each guest goes on behind the requests that its partition has.
@@ -315,6 +322,16 @@ fn stop_at(
     Ok(())
 }
 
+/// What is compared at so many places in turn.
+fn stopped_at_each(alloc: Global, places: u32, within: bool) -> Result<Tally, Fail> {
+    let scene = new_scene(alloc)?;
+    let mut tally = no_tally();
+    for calls in 0..places {
+        stop_at(alloc, &scene, calls, within, &mut tally)?;
+    }
+    Ok(tally)
+}
+
 /// Runs to the end, and says how many calls it took.
 fn calls_of(alloc: Global, run: &mut Run) -> Result<u32, Fail> {
     for calls in 0..1000 {
@@ -351,12 +368,7 @@ fn undisturbed(rt: HostRuntime) -> Result<(), Fail> {
 /// fillers leave the last gate shut.
 #[test]
 fn stopped_between_calls(rt: HostRuntime) -> Result<(), Fail> {
-    let alloc = rt.alloc();
-    let scene = new_scene(alloc)?;
-    let mut tally = no_tally();
-    for calls in 0..CALLS + 1 {
-        stop_at(alloc, &scene, calls, false, &mut tally)?;
-    }
+    let tally = stopped_at_each(rt.alloc(), CALLS + 1, false)?;
     check(tally.partitions == 76 * 4 * 9, "all were compared")?;
     check(tally.calls == 76 * 4 * 2 - 14, "calls after openings")?;
     check(tally.has_both(), "before and after")
@@ -366,12 +378,7 @@ fn stopped_between_calls(rt: HostRuntime) -> Result<(), Fail> {
 /// in the last sync, and 2 in the last write, which what reads give then lacks.
 #[test]
 fn stopped_within_calls(rt: HostRuntime) -> Result<(), Fail> {
-    let alloc = rt.alloc();
-    let scene = new_scene(alloc)?;
-    let mut tally = no_tally();
-    for calls in 0..CALLS {
-        stop_at(alloc, &scene, calls, true, &mut tally)?;
-    }
+    let tally = stopped_at_each(rt.alloc(), CALLS, true)?;
     check(tally.partitions == 75 * 4 * 9, "all were compared")?;
     check(tally.calls == 75 * 4 * 2 - 10, "calls after openings")?;
     check(tally.has_both(), "before and after")
