@@ -31,14 +31,21 @@ fn fresh(alloc: Global, board: &BoardConfig) -> Result<CutDisk, Fail> {
     Ok(disk)
 }
 
-/// The store and the partitions, or the disk and the fault.
-type Opened = Result<(Store<CutDisk>, Vec<Partition>), (CutDisk, OpenFault)>;
-
-fn opened(alloc: Global, disk: CutDisk, board: &BoardConfig) -> Result<Store<CutDisk>, Fail> {
+/// What a disk opens to: the store, and the guests' partitions.
+fn opened<D: Disk>(
+    alloc: Global,
+    disk: D,
+    board: &BoardConfig,
+) -> Result<(Store<D>, Vec<Partition>), Fail> {
     match open(alloc, disk, board) {
-        Ok((store, _)) => Ok(store),
+        Ok(opened) => Ok(opened),
         Err((_, fault)) => Err(fault.into()),
     }
+}
+
+fn store_of(alloc: Global, disk: CutDisk, board: &BoardConfig) -> Result<Store<CutDisk>, Fail> {
+    let (store, _) = opened(alloc, disk, board)?;
+    Ok(store)
 }
 
 /// Whether there is a key, the counter, and the first byte of the blocks 0, 7 and 8.
@@ -69,10 +76,8 @@ fn finds(
     board: &BoardConfig,
     wanted: &[Found],
 ) -> Result<bool, Fail> {
-    match open(alloc, disk, board) {
-        Ok((_, partitions)) => Ok(are_found(&partitions, wanted)),
-        Err((_, fault)) => Err(fault.into()),
-    }
+    let (_, partitions) = opened(alloc, disk, board)?;
+    Ok(are_found(&partitions, wanted))
 }
 
 fn fault_of(alloc: Global, disk: CutDisk, board: &BoardConfig) -> Option<OpenFault> {
@@ -85,7 +90,7 @@ fn fault_of(alloc: Global, disk: CutDisk, board: &BoardConfig) -> Option<OpenFau
 /// The store over a formatted disk.
 fn begun(alloc: Global, board: &BoardConfig) -> Result<Store<CutDisk>, Fail> {
     let disk = fresh(alloc, board)?;
-    opened(alloc, disk, board)
+    store_of(alloc, disk, board)
 }
 
 /// Gives an intent where the store takes it.
@@ -257,7 +262,7 @@ fn gate_unsynced(alloc: Global, board: &BoardConfig) -> Result<CutDisk, Fail> {
 
 /// The disk after an opening, which finds the mark 2.
 fn opened_once(alloc: Global, disk: CutDisk, board: &BoardConfig) -> Result<CutDisk, Fail> {
-    let store = opened(alloc, disk, board)?;
+    let store = store_of(alloc, disk, board)?;
     if store.marks().get(0) != 2 {
         return Err("another mark".into());
     }
@@ -286,9 +291,13 @@ fn opened_before_a_stop(rt: HostRuntime) -> Result<(), Fail> {
     Ok(())
 }
 
+fn overwrite(disk: &mut CutDisk, at: u64, bytes: &[u8]) -> Result<(), Fail> {
+    Ok(write(disk, at, bytes)?)
+}
+
 fn written(alloc: Global, board: &BoardConfig, at: u64, bytes: &[u8]) -> Result<CutDisk, Fail> {
     let mut disk = fresh(alloc, board)?;
-    write(&mut disk, at, bytes)?;
+    overwrite(&mut disk, at, bytes)?;
     Ok(disk)
 }
 
@@ -306,7 +315,7 @@ fn write_last(alloc: Global, store: &mut Store<CutDisk>) -> Result<(), Fail> {
 fn last_store(alloc: Global, board: &BoardConfig, writes: bool) -> Result<Store<CutDisk>, Fail> {
     let home = Home::with_key(KEY, 0xffff_fffe).encode();
     let disk = written(alloc, board, 1024, &home)?;
-    let mut store = opened(alloc, disk, board)?;
+    let mut store = store_of(alloc, disk, board)?;
     if writes {
         write_last(alloc, &mut store)?;
     }
@@ -412,8 +421,8 @@ fn opened_after(
 ) -> Result<Store<CutDisk>, Fail> {
     let mut disk = disk;
     match fault {
-        OpenFault::DiskFault => opened(alloc, disk, board),
-        OpenFault::NoMemory if fails_second(&mut disk) => opened(alloc, disk, board),
+        OpenFault::DiskFault => store_of(alloc, disk, board),
+        OpenFault::NoMemory if fails_second(&mut disk) => store_of(alloc, disk, board),
         fault => Err(fault.into()),
     }
 }

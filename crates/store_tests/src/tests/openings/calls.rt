@@ -7,7 +7,6 @@ use arrayvec::ArrayVec;
 use disk::{Disk, DiskFault, MemDisk};
 use flusher::{Progress, Store};
 use intent_slots::Intent;
-use recovery::open;
 use rpmb_frame::BoardConfig;
 use std::alloc::Global;
 use std::test::Fail;
@@ -79,10 +78,8 @@ fn opened(
     board: &BoardConfig,
 ) -> Result<Store<LogDisk<MemDisk>>, Fail> {
     let calls = ArrayVec::new();
-    match open(alloc, LogDisk { inner, calls }, board) {
-        Ok((store, _)) => Ok(store),
-        Err((_, fault)) => Err(fault.into()),
-    }
+    let (store, _) = super::opened(alloc, LogDisk { inner, calls }, board)?;
+    Ok(store)
 }
 
 /// The store over a fresh image of guests of these capacities, and the calls of its opening.

@@ -1,10 +1,9 @@
 //! Openings of many guests, and of the largest partition.
-use super::{KEY, format_all};
+use super::{KEY, format_all, opened};
 use crate::tests::boards::board;
 use disk::{Disk, MemDisk};
 use flusher::Store;
 use intent_slots::{Home, Layout};
-use recovery::open;
 use rpmb_core::Partition;
 use rpmb_frame::BoardConfig;
 use std::alloc::Global;
@@ -16,17 +15,6 @@ pub fn formatted(alloc: Global, board: &BoardConfig) -> Result<MemDisk, Fail> {
     let mut disk = MemDisk::new(vec![in alloc; 0xee; length as usize]?);
     format_all(&mut disk, board)?;
     Ok(disk)
-}
-
-fn opened(
-    alloc: Global,
-    disk: MemDisk,
-    board: &BoardConfig,
-) -> Result<(Store<MemDisk>, Vec<Partition>), Fail> {
-    match open(alloc, disk, board) {
-        Ok(opened) => Ok(opened),
-        Err((_, fault)) => Err(fault.into()),
-    }
 }
 
 /// A fresh image, but for the last guest's home record: it has a key, and the counter 5.
