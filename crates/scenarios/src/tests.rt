@@ -7,6 +7,7 @@ mod intents;
 mod kept;
 mod last_counter;
 mod limits;
+mod lines;
 mod memory;
 mod receipts;
 mod scene;

@@ -1,3 +1,4 @@
+mod boards;
 mod disks;
 mod layouts;
 mod openings;

@@ -1,6 +1,7 @@
 //! What happens to a world: a driver that sets its device up and offers chains, and the steps that take
 //! requests to their replies.
 
+use crate::tests::lines::{Asked, frames_of};
 use board::{Act, Event, Step};
 use disk::Filler;
 use mmio_transport::register as reg;
@@ -10,7 +11,7 @@ use std::test::Fail;
 /// What a driver writes into the registers: a reset, VIRTIO_F_VERSION_1 alone, a queue of 16 with its
 /// descriptors at 0x1000, its available ring at 0x2000 and its used ring at 0x3000, and DRIVER_OK
 /// (VIRTIO 1.2, 3.1.1 and 4.2.3.2).
-const SETUP: [(u32, u32); 14] = [
+static SETUP: [(u32, u32); 14] = [
     (reg::STATUS, 0),
     (reg::STATUS, 3),
     (reg::DRIVER_FEATURES_SEL, 0),
@@ -39,6 +40,27 @@ fn descriptors(frames: usize) -> [u8; 32] {
     bytes[25] = 2;
     bytes[28] = 2;
     bytes
+}
+
+/// What happens in a world to one of its guests.
+#[derive(Clone, Copy)]
+pub enum Move {
+    /// The image is opened.
+    Open,
+    /// The guest's driver sets its device up.
+    SetUp,
+    /// The guest offers a chain of this request, and its job is answered.
+    Submit(Asked),
+    /// The guest's next intent goes to the store.
+    HandOver,
+    /// The store makes so many calls, and the book takes its marks after each.
+    Advances(u32),
+    /// The guest's next reply leaves, where it may.
+    Reply,
+    /// The next call of the disk fails.
+    FailNext,
+    /// A stop, with the filler of this number.
+    Stop(u8),
 }
 
 /// Events in their order, up to one that is to come in place of the store's n-th advance.
@@ -76,29 +98,28 @@ impl Acts {
     }
 
     /// One more event, unless the stop has come.
-    pub fn add(&mut self, event: Event) -> Result<(), Fail> {
+    fn add(&mut self, event: Event) -> Result<(), Fail> {
         if let Some(Event::StopIn(_)) = self.events.last() {
             return Ok(());
         }
         Ok(self.events.push(event)?)
     }
 
-    pub fn step(&mut self, step: Step) -> Result<(), Fail> {
+    fn step(&mut self, step: Step) -> Result<(), Fail> {
         self.add(Event::Do(step))
     }
 
     /// The store's next call, or the stop in its place; and what it means to the book.
-    pub fn advance(&mut self) -> Result<(), Fail> {
+    fn advance(&mut self) -> Result<(), Fail> {
         if self.left == Some(0) {
-            let filler = filler_of(self.alloc, self.filler)?;
-            return self.add(Event::StopIn(filler));
+            return self.add(Event::StopIn(filler_of(self.alloc, self.filler)?));
         }
         self.left = self.left.map(|left| left.saturating_sub(1));
         self.step(Step::Advance)?;
         self.step(Step::Settle)
     }
 
-    pub fn advances(&mut self, times: u32) -> Result<(), Fail> {
+    fn advances(&mut self, times: u32) -> Result<(), Fail> {
         for _ in 0..times {
             self.advance()?;
         }
@@ -106,19 +127,23 @@ impl Acts {
     }
 
     /// Sets a guest's device up.
-    pub fn set_up(&mut self, guest: u16) -> Result<(), Fail> {
-        for (offset, value) in SETUP.iter() {
-            let act = Act::Write {
-                offset: *offset,
-                width: 4,
-                value: *value,
-            };
-            self.step(Step::Drive(guest, act))?;
-        }
+    fn set_up(&mut self, guest: u16) -> Result<(), Fail> {
         if let Some(offered) = self.offered.get_mut(usize::from(guest)) {
             *offered = 0;
         }
+        for (offset, value) in &SETUP {
+            self.write(guest, *offset, *value)?;
+        }
         Ok(())
+    }
+
+    fn write(&mut self, guest: u16, offset: u32, value: u32) -> Result<(), Fail> {
+        let act = Act::Write {
+            offset,
+            width: 4,
+            value,
+        };
+        self.step(Step::Drive(guest, act))
     }
 
     fn store(&mut self, guest: u16, at: u64, bytes: &[u8]) -> Result<(), Fail> {
@@ -126,31 +151,71 @@ impl Acts {
         self.step(Step::Drive(guest, Act::Store { at, bytes }))
     }
 
-    /// A guest offers a chain of these frames with room for one, and its job is answered.
-    pub fn submit(&mut self, guest: u16, frames: &[[u8; 512]]) -> Result<(), Fail> {
-        let Some(offered) = self.offered.get_mut(usize::from(guest)) else {
-            return Err(Fail::from("no such guest"));
-        };
-        let place = *offered % 16;
-        *offered = offered.wrapping_add(1);
-        let index = offered.to_le_bytes();
+    /// The number of the guest's next chain.
+    fn next_chain(&mut self, guest: u16) -> u16 {
+        match self.offered.get_mut(usize::from(guest)) {
+            Some(offered) => {
+                let number = *offered;
+                *offered = number.wrapping_add(1);
+                number
+            }
+            None => 0,
+        }
+    }
+
+    /// Puts a chain of these frames, with room for one, before the device.
+    fn place(&mut self, guest: u16, frames: &[[u8; 512]]) -> Result<(), Fail> {
         self.store(guest, 0x4000, frames.as_flattened())?;
-        self.store(guest, 0x1000, &descriptors(frames.len()))?;
-        self.store(guest, 0x2004 + 2 * u64::from(place), &[0, 0])?;
-        self.store(guest, 0x2002, &index)?;
+        self.store(guest, 0x1000, &descriptors(frames.len()))
+    }
+
+    /// Makes it available.
+    fn offer(&mut self, guest: u16) -> Result<(), Fail> {
+        let number = self.next_chain(guest);
+        self.store(guest, 0x2004 + 2 * u64::from(number % 16), &[0, 0])?;
+        self.store(guest, 0x2002, &number.wrapping_add(1).to_le_bytes())
+    }
+
+    /// The guest offers a chain of this request, and its job is answered.
+    pub fn submit(&mut self, guest: u16, asked: Asked) -> Result<(), Fail> {
+        self.place(guest, &frames_of(self.alloc, asked)?)?;
+        self.offer(guest)?;
         self.step(Step::Pop(guest))?;
         self.step(Step::Submit(guest))
     }
 
-    /// The guest's next intent goes to the store.
-    pub fn hand_over(&mut self, guest: u16) -> Result<(), Fail> {
+    fn hand_over(&mut self, guest: u16) -> Result<(), Fail> {
         self.step(Step::Take(guest))?;
         self.step(Step::Give(guest))
     }
 
-    /// The guest's next reply leaves, where it may.
-    pub fn reply(&mut self, guest: u16) -> Result<(), Fail> {
+    fn reply(&mut self, guest: u16) -> Result<(), Fail> {
         self.step(Step::Collect(guest))?;
         self.step(Step::Publish(guest))
+    }
+
+    fn stop(&mut self, filler: u8) -> Result<(), Fail> {
+        self.add(Event::Stop(filler_of(self.alloc, filler)?))
+    }
+
+    fn make(&mut self, guest: u16, next: Move) -> Result<(), Fail> {
+        match next {
+            Move::Open => self.add(Event::Open),
+            Move::SetUp => self.set_up(guest),
+            Move::Submit(asked) => self.submit(guest, asked),
+            Move::HandOver => self.hand_over(guest),
+            Move::Advances(times) => self.advances(times),
+            Move::Reply => self.reply(guest),
+            Move::FailNext => self.add(Event::Fail(1)),
+            Move::Stop(filler) => self.stop(filler),
+        }
+    }
+
+    /// Makes one move of a guest after another.
+    pub fn play(&mut self, guest: u16, moves: &[Move]) -> Result<(), Fail> {
+        for next in moves.iter() {
+            self.make(guest, *next)?;
+        }
+        Ok(())
     }
 }

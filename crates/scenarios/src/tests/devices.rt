@@ -3,14 +3,15 @@
 
 use super::image::{fresh_store, keep_next};
 use super::scene::{
-    Scene, accepted, board_of, check, get_write_counter, has_tail, program_key, result_read,
-    scene_of, write_of,
+    Scene, accepted, check, get_write_counter, has_tail, program_key, result_read, scene_of,
+    write_of,
 };
 use disk::CutDisk;
 use flusher::Store;
 use guest_driver::Driver;
 use mmio_transport::register::STATUS;
 use mmio_transport::{Device, Done, Job, Published};
+use rpmb_frame::GuestConfig;
 use std::alloc::Global;
 use std::test::Fail;
 
@@ -27,19 +28,34 @@ struct Guest {
     store: Store<CutDisk>,
 }
 
-fn guest_in_service(alloc: Global) -> Result<Guest, Fail> {
-    let board = board_of(alloc, 1)?;
-    let Some(config) = board.guests().first() else {
-        return Err(Fail::from("no guest"));
-    };
-    let mut guest = Guest {
-        device: Device::new(alloc, 0, config)?,
-        driver: Driver::new(alloc, config)?,
-        scene: scene_of(alloc, 1)?,
-        store: fresh_store(alloc, 1)?,
-    };
-    guest.negotiate()?;
-    Ok(guest)
+fn new_device(alloc: Global) -> Result<Device, Fail> {
+    Ok(Device::new(alloc, 0, &GuestConfig::of_capacity(1))?)
+}
+
+fn new_driver(alloc: Global) -> Result<Driver, Fail> {
+    Ok(Driver::new(alloc, &GuestConfig::of_capacity(1))?)
+}
+
+fn device_and_driver(alloc: Global) -> Result<(Device, Driver), Fail> {
+    let driver = new_driver(alloc)?;
+    Ok((new_device(alloc)?, driver))
+}
+
+fn book_and_store(alloc: Global) -> Result<(Scene, Store<CutDisk>), Fail> {
+    let scene = scene_of(alloc, 1)?;
+    let store = fresh_store(alloc, 1)?;
+    Ok((scene, store))
+}
+
+fn new_guest(alloc: Global) -> Result<Guest, Fail> {
+    let (device, driver) = device_and_driver(alloc)?;
+    let (scene, store) = book_and_store(alloc)?;
+    Ok(Guest {
+        device,
+        driver,
+        scene,
+        store,
+    })
 }
 
 impl Guest {
@@ -120,11 +136,11 @@ fn ask_for(
     check(has_tail(reply.as_slice(), &tail), "the reply")
 }
 
-fn guest_with_a_key(alloc: Global) -> Result<Guest, Fail> {
-    let mut guest = guest_in_service(alloc)?;
+/// Comes into service, and programs its key.
+fn begin(alloc: Global, guest: &mut Guest) -> Result<(), Fail> {
+    guest.negotiate()?;
     let programmed = [0, 0, 0, 0, 0, 0, 0, 1, 0, 0, 1, 0];
-    ask_for(alloc, &mut guest, &program_key(&[0x11; 32]), programmed)?;
-    Ok(guest)
+    ask_for(alloc, guest, &program_key(&[0x11; 32]), programmed)
 }
 
 /// The write was accepted, whatever became of its reply; what its session could ask for is gone.
@@ -135,13 +151,16 @@ fn ask_after_the_reset(alloc: Global, guest: &mut Guest) -> Result<(), Fail> {
     ask_for(alloc, guest, &[result_read()], no_result)
 }
 
+fn go_on_after_a_reset(alloc: Global, guest: &mut Guest) -> Result<(), Fail> {
+    begin(alloc, guest)?;
+    drop_a_reply(alloc, guest)?;
+    guest.negotiate()?;
+    ask_after_the_reset(alloc, guest)
+}
+
 #[test]
 fn a_reset_drops_the_reply_and_keeps_the_write(rt: HostRuntime) -> Result<(), Fail> {
-    let alloc = rt.alloc();
-    let mut guest = guest_with_a_key(alloc)?;
-    drop_a_reply(alloc, &mut guest)?;
-    guest.negotiate()?;
-    ask_after_the_reset(alloc, &mut guest)
+    go_on_after_a_reset(rt.alloc(), &mut new_guest(rt.alloc())?)
 }
 
 /// The chain's frame, its two descriptors, and the available ring: where each stands in the driver's layout,
@@ -195,11 +214,15 @@ fn answer_late(alloc: Global, guest: &mut Guest, request: &[[u8; 512]; 1]) -> Re
     check(published != Published::Dropped, "published")
 }
 
+fn overwrite_what_was_popped(alloc: Global, guest: &mut Guest) -> Result<(), Fail> {
+    begin(alloc, guest)?;
+    let request = get_write_counter(0x0001_0203_0405_0607_0809_0a0b_0c0d_0e0f);
+    answer_late(alloc, guest, &request)?;
+    look_at_the_reply(guest, &request[0])?;
+    look_at_the_id(guest)
+}
+
 #[test]
 fn a_job_is_what_was_popped(rt: HostRuntime) -> Result<(), Fail> {
-    let mut guest = guest_with_a_key(rt.alloc())?;
-    let request = get_write_counter(0x0001_0203_0405_0607_0809_0a0b_0c0d_0e0f);
-    answer_late(rt.alloc(), &mut guest, &request)?;
-    look_at_the_reply(&guest, &request[0])?;
-    look_at_the_id(&guest)
+    overwrite_what_was_popped(rt.alloc(), &mut new_guest(rt.alloc())?)
 }

@@ -1,9 +1,9 @@
 //! How many replies a guest may have held, how many requests a book answers, and whom it knows.
 
-use crate::tests::image::{fresh_store, keep_next};
+use crate::tests::image::fresh_store;
+use crate::tests::lines::{Asked, Line, played};
 use crate::tests::scene::{
-    KEY, Scene, accepted, check, get_write_counter, has_tail, job_of, nonce_of, program_key,
-    result_read, scene_of,
+    KEY, Scene, accepted, check, get_write_counter, job_of, nonce_of, program_key, scene_of,
 };
 use flusher::Marks;
 use mmio_transport::{Done, Job};
@@ -38,11 +38,21 @@ fn given_back(
     Ok(job)
 }
 
-fn hold_64(alloc: Global, scene: &mut Scene) -> Result<(), Fail> {
+/// A guest reads its counter 64 times, under the nonces 0, 1, .. 63, and takes no reply.
+pub fn hold_64(alloc: Global, scene: &mut Scene, guest: u16) -> Result<(), Fail> {
     for nonce in 0..64_u8 {
-        scene.submit(alloc, 1, &get_write_counter(u128::from(nonce)))?;
+        scene.submit(alloc, guest, &get_write_counter(u128::from(nonce)))?;
     }
     Ok(())
+}
+
+/// Whether a guest that reads its counter once more is refused as one that is busy.
+pub fn is_busy(alloc: Global, scene: &mut Scene, guest: u16) -> Result<bool, Fail> {
+    let job = job_of(alloc, guest, 1, &get_write_counter(64))?;
+    match scene.offer(alloc, job) {
+        Err((_, refused)) => Ok(refused == Refused::Busy),
+        Ok(_) => Ok(false),
+    }
 }
 
 fn is_of_nonce_0(collected: Option<Done>) -> bool {
@@ -67,7 +77,7 @@ fn offer_the_65th(alloc: Global, scene: &mut Scene) -> Result<(), Fail> {
 fn the_65th_held_reply_is_refused(rt: HostRuntime) -> Result<(), Fail> {
     let alloc = rt.alloc();
     let mut scene = scene_of(alloc, 2)?;
-    hold_64(alloc, &mut scene)?;
+    hold_64(alloc, &mut scene, 1)?;
     offer_the_65th(alloc, &mut scene)
 }
 
@@ -93,35 +103,38 @@ fn refuses_shares_of(scene: &mut Scene, other: &mut Scene, marks: Marks) -> bool
         && scene.book.settle(&other.shares, marks) == Err(Refused::Foreign)
 }
 
-/// A book of two guests that took an intent of guest 1.
-fn one_taken(alloc: Global) -> Result<Scene, Fail> {
-    let mut other = scene_of(alloc, 2)?;
+/// An intent of guest 1 is taken.
+fn take_one(alloc: Global, other: &mut Scene) -> Result<(), Fail> {
     other.submit(alloc, 1, &program_key(&KEY))?;
     let taken = other.book.take(&mut other.shares, 1).is_ok();
-    check(taken, "a take")?;
-    Ok(other)
+    check(taken, "a take")
 }
 
-#[test]
-fn strangers_are_foreign(rt: HostRuntime) -> Result<(), Fail> {
-    let alloc = rt.alloc();
-    let mut scene = scene_of(alloc, 2)?;
-    foreign(alloc, &mut scene, 2)?;
-    let job = foreign(alloc, &mut scene, 1)?;
-    check(knows_no_guest_2(&mut scene), "no guest 2")?;
+fn offer_to_strangers(alloc: Global, scene: &mut Scene) -> Result<(), Fail> {
+    foreign(alloc, scene, 2)?;
+    check(knows_no_guest_2(scene), "no guest 2")?;
+    let job = foreign(alloc, scene, 1)?;
     // With its own guest's tally the same job is answered.
     accepted(scene.offer(alloc, job))?;
     Ok(())
 }
 
 #[test]
-fn shares_of_another_book_are_foreign(rt: HostRuntime) -> Result<(), Fail> {
-    let mut other = one_taken(rt.alloc())?;
-    let mut scene = scene_of(rt.alloc(), 2)?;
+fn strangers_are_foreign(rt: HostRuntime) -> Result<(), Fail> {
+    offer_to_strangers(rt.alloc(), &mut scene_of(rt.alloc(), 2)?)
+}
+
+fn refuse_shares_of(alloc: Global, other: &mut Scene) -> Result<(), Fail> {
+    take_one(alloc, other)?;
     // No mark is above what either book took.
-    let marks = fresh_store(rt.alloc(), 2)?.marks();
-    let refused = refuses_shares_of(&mut scene, &mut other, marks);
+    let marks = fresh_store(alloc, 2)?.marks();
+    let refused = refuses_shares_of(&mut scene_of(alloc, 2)?, other, marks);
     check(refused, "the shares")
+}
+
+#[test]
+fn shares_of_another_book_are_foreign(rt: HostRuntime) -> Result<(), Fail> {
+    refuse_shares_of(rt.alloc(), &mut scene_of(rt.alloc(), 2)?)
 }
 
 fn answer_one(alloc: Global, scene: &mut Scene, number: u32) -> Result<(), Fail> {
@@ -146,51 +159,24 @@ fn the_book_answers_16384_requests(rt: HostRuntime) -> Result<(), Fail> {
     refuse_one_more(alloc, &mut scene)
 }
 
-/// A key that guest 0 programs, and who asks for the result then: guest 1, and guest 0 in this session
-/// and in the next.
-fn ask_for_the_result(alloc: Global, scene: &mut Scene) -> Result<(), Fail> {
-    let asked = [result_read()];
-    scene.submit(alloc, 0, &program_key(&[0x22; 32]))?;
-    scene.submit(alloc, 1, &asked)?;
-    scene.submit(alloc, 0, &asked)?;
-    accepted(scene.offer(alloc, job_of(alloc, 0, 2, &asked)?))?;
-    Ok(())
-}
-
-fn settle_one(alloc: Global, scene: &mut Scene) -> Result<(), Fail> {
-    let mut store = fresh_store(alloc, 2)?;
-    check(keep_next(scene, &mut store, 0)?, "something waits")?;
-    check(scene.settles(store.marks()), "the key is settled")
-}
-
-fn leaves(scene: &mut Scene, guest: u16, tail: &[u8; 12]) -> bool {
-    match scene.book.collect(guest) {
-        Some(done) => has_tail(done.reply(), tail),
-        None => false,
-    }
-}
-
-/// Whose reply leaves, and its write counter, address, block count, result and type.
-static RESULTS: [(u16, [u8; 12]); 4] = [
-    (0, [0, 0, 0, 0, 0, 0, 0, 1, 0, 0, 1, 0]),
-    (0, [0, 0, 0, 0, 0, 0, 0, 1, 0, 0, 1, 0]),
-    (0, [0, 0, 0, 0, 0, 0, 0, 0, 0, 1, 0, 0]),
-    (1, [0, 0, 0, 0, 0, 0, 0, 0, 0, 1, 0, 0]),
+/// Guest 0 programs a key, and the result is asked for by guest 1, and by guest 0 in this session and in
+/// the next. Each reply has write counter, address, block count, result and type.
+static RESULTS: [Line; 11] = [
+    Line::Ask(0, Asked::Key(0x22)),
+    Line::Ask(1, Asked::LastResult),
+    Line::Ask(0, Asked::LastResult),
+    Line::AskNext(0, Asked::LastResult),
+    Line::Give(0),
+    Line::Run,
+    Line::Settle,
+    Line::Reply(0, 1, 1, [0, 0, 0, 0, 0, 0, 0, 1, 0, 0, 1, 0]),
+    Line::Reply(0, 1, 1, [0, 0, 0, 0, 0, 0, 0, 1, 0, 0, 1, 0]),
+    Line::Reply(0, 2, 1, [0, 0, 0, 0, 0, 0, 0, 0, 0, 1, 0, 0]),
+    Line::Reply(1, 1, 0, [0, 0, 0, 0, 0, 0, 0, 0, 0, 1, 0, 0]),
 ];
-
-fn results_leave(scene: &mut Scene) -> bool {
-    for (guest, tail) in &RESULTS {
-        if !leaves(scene, *guest, tail) {
-            return false;
-        }
-    }
-    true
-}
 
 #[test]
 fn another_session_forgets_the_outcome(rt: HostRuntime) -> Result<(), Fail> {
-    let mut scene = scene_of(rt.alloc(), 2)?;
-    ask_for_the_result(rt.alloc(), &mut scene)?;
-    settle_one(rt.alloc(), &mut scene)?;
-    check(results_leave(&mut scene), "the results")
+    assert_eq!(rt; played(rt.alloc(), 2, &RESULTS)?, RESULTS.len());
+    Ok(())
 }

@@ -34,15 +34,21 @@ fn is_found(book: &Book, receipt: &Receipt, number: usize) -> bool {
     }
 }
 
+fn are_found(book: &Book, receipts: &[Receipt]) -> bool {
+    for (number, receipt) in receipts.iter().enumerate() {
+        if !is_found(book, receipt, number) {
+            return false;
+        }
+    }
+    true
+}
+
 #[test]
 fn each_of_64_held_replies_of_64_guests_is_found(rt: HostRuntime) -> Result<(), Fail> {
     let mut scene = scene_of(rt.alloc(), 64)?;
     let receipts = submit_4096(rt.alloc(), &mut scene)?;
     check(receipts.len() == 4_096, "all receipts")?;
-    for (number, receipt) in receipts.iter().enumerate() {
-        check(is_found(&scene.book, receipt, number), "a receipt")?;
-    }
-    Ok(())
+    check(are_found(&scene.book, &receipts), "a receipt")
 }
 
 /// Receipts of another life, of other guests, of the turn that collected the reply, and of turns that
@@ -89,11 +95,14 @@ fn finds_its_own(book: &mut Book, receipt: &Receipt) -> bool {
     book.collect(0).is_some() && book.find(receipt).is_some()
 }
 
-#[test]
-fn receipts_of_no_request_find_nothing(rt: HostRuntime) -> Result<(), Fail> {
-    let mut scene = scene_of(rt.alloc(), 2)?;
-    let receipt = scene.submit(rt.alloc(), 0, &get_write_counter(1))?;
+fn find_only_its_own(alloc: Global, scene: &mut Scene) -> Result<(), Fail> {
+    let receipt = scene.submit(alloc, 0, &get_write_counter(1))?;
     let finds_it = finds_its_own(&mut scene.book, &receipt);
     check(finds_it, "a reply, and its own receipt")?;
     check(finds_none(&scene.book, &strangers(receipt)), "a stranger")
+}
+
+#[test]
+fn receipts_of_no_request_find_nothing(rt: HostRuntime) -> Result<(), Fail> {
+    find_only_its_own(rt.alloc(), &mut scene_of(rt.alloc(), 2)?)
 }

@@ -44,16 +44,19 @@ fn fresh_partitions(alloc: Global, board: &BoardConfig) -> Result<Vec<Partition>
     Ok(partitions)
 }
 
-/// The scene at its opening, with so many guests.
-pub fn scene_of(alloc: Global, guests: usize) -> Result<Scene, Fail> {
-    let board = board_of(alloc, guests)?;
-    let partitions = fresh_partitions(alloc, &board)?;
-    let (book, tallies, shares) = Book::open(alloc, LIFE, &board, partitions)?;
+fn scene_on(alloc: Global, board: &BoardConfig) -> Result<Scene, Fail> {
+    let partitions = fresh_partitions(alloc, board)?;
+    let (book, tallies, shares) = Book::open(alloc, LIFE, board, partitions)?;
     Ok(Scene {
         book,
         tallies,
         shares,
     })
+}
+
+/// The scene at its opening, with so many guests.
+pub fn scene_of(alloc: Global, guests: usize) -> Result<Scene, Fail> {
+    scene_on(alloc, &board_of(alloc, guests)?)
 }
 
 impl Scene {

@@ -74,20 +74,37 @@ fn no_tally() -> Tally {
     }
 }
 
+fn sequence_of(partition: Option<&Partition>) -> u64 {
+    match partition {
+        Some(partition) => partition.sequence(),
+        None => 0,
+    }
+}
+
+fn sequences_of(partitions: &[Partition]) -> [u64; 3] {
+    [
+        sequence_of(partitions.first()),
+        sequence_of(partitions.get(1)),
+        sequence_of(partitions.get(2)),
+    ]
+}
+
 /// What an opening gives. Each guest goes on behind the requests that its partition has.
 fn run_from(alloc: Global, scene: &Scene, disk: CutDisk) -> Result<(Run, Vec<Partition>), Fail> {
     let (store, partitions) = opened(alloc, disk, &scene.board)?;
-    let mut given = [0; 3];
-    for (guest, partition) in partitions.iter().take(3).enumerate() {
-        given[guest] = partition.sequence();
-    }
+    let given = sequences_of(&partitions);
     Ok((Run { store, given }, partitions))
 }
 
-fn begun(alloc: Global, scene: &Scene) -> Result<Run, Fail> {
-    let disk = CutDisk::new(alloc, scene.image.to_vec(alloc)?)?;
+/// A run on an image.
+fn run_on(alloc: Global, scene: &Scene, image: &[u8]) -> Result<Run, Fail> {
+    let disk = CutDisk::new(alloc, image.to_vec(alloc)?)?;
     let (run, _) = run_from(alloc, scene, disk)?;
     Ok(run)
+}
+
+fn begun(alloc: Global, scene: &Scene) -> Result<Run, Fail> {
+    run_on(alloc, scene, &scene.image)
 }
 
 impl Run {
@@ -125,6 +142,15 @@ impl Run {
         Ok(())
     }
 
+    /// Makes the next call, or has it fail.
+    fn call(&mut self, fails: bool) -> Result<(), Fail> {
+        if fails {
+            return self.fail();
+        }
+        self.store.advance()?;
+        Ok(())
+    }
+
     /// Makes the next call fail.
     fn fail(&mut self) -> Result<(), Fail> {
         self.store.fail(1);
@@ -132,6 +158,29 @@ impl Run {
             Err(StoreFault::DiskFault) => Ok(()),
             _ => Err(Fail::from("no call failed")),
         }
+    }
+}
+
+impl Run {
+    /// Whether this guest's partition is that after its requests, and the mark too.
+    fn is_at(&self, histories: &Histories, guest: u16, partition: &Partition) -> bool {
+        match self.given.get(usize::from(guest)) {
+            Some(given) => {
+                self.store.marks().get(guest) == *given
+                    && histories.is_after(partition, guest, *given)
+            }
+            None => false,
+        }
+    }
+
+    /// Compares the partitions that an opening gave.
+    fn compare(&self, histories: &Histories, partitions: &[Partition]) -> Result<(), Fail> {
+        check(partitions.len() == 3, "three partitions")?;
+        for (guest, partition) in partitions.iter().take(3).enumerate() {
+            let same = self.is_at(histories, guest as u16, partition);
+            check(same, "the partition and the mark")?;
+        }
+        Ok(())
     }
 }
 
@@ -180,6 +229,14 @@ impl Tally {
         Ok(())
     }
 
+    /// Counts the partitions of all guests.
+    fn count_all(&mut self, least: [u64; 3], found: [u64; 3], most: [u64; 3]) -> Result<(), Fail> {
+        for guest in 0..3 {
+            self.count(guest, least[guest], found[guest], most[guest])?;
+        }
+        Ok(())
+    }
+
     /// Whether each request was found undone and done while it wasn't settled.
     fn has_both(&self) -> bool {
         self.before.as_flattened().iter().all(|count| *count > 0)
@@ -191,17 +248,8 @@ impl Stopped {
     /// Opens the disk and compares each partition.
     fn open(self, alloc: Global, scene: &Scene, tally: &mut Tally) -> Result<Run, Fail> {
         let (run, partitions) = run_from(alloc, scene, self.disk)?;
-        check(partitions.len() == 3, "three partitions")?;
-        let marks = run.store.marks();
-        for (guest, partition) in partitions.iter().take(3).enumerate() {
-            let found = run.given[guest];
-            tally.count(guest, self.least[guest], found, self.most[guest])?;
-            check(marks.get(guest as u16) == found, "the mark")?;
-            check(
-                scene.histories.is_after(partition, guest as u16, found),
-                "the partition",
-            )?;
-        }
+        tally.count_all(self.least, run.given, self.most)?;
+        run.compare(&scene.histories, &partitions)?;
         Ok(run)
     }
 }
@@ -215,16 +263,11 @@ fn stop_again(
     filler: &Filler,
     tally: &mut Tally,
 ) -> Result<(), Fail> {
-    let disk = CutDisk::new(alloc, image.to_vec(alloc)?)?;
-    let (mut run, _) = run_from(alloc, scene, disk)?;
+    let mut run = run_on(alloc, scene, image)?;
     run.give_all(alloc, CALLS)?;
     if run.store.next_call() != Call::None {
         tally.calls = tally.calls.wrapping_add(1);
-        if within {
-            run.fail()?;
-        } else {
-            run.store.advance()?;
-        }
+        run.call(within)?;
     }
     run.stopped(filler).open(alloc, scene, tally)?;
     Ok(())
@@ -279,6 +322,16 @@ fn stop_at(
     Ok(())
 }
 
+/// What is compared at so many places in turn.
+fn stopped_at_each(alloc: Global, places: u32, within: bool) -> Result<Tally, Fail> {
+    let scene = new_scene(alloc)?;
+    let mut tally = no_tally();
+    for calls in 0..places {
+        stop_at(alloc, &scene, calls, within, &mut tally)?;
+    }
+    Ok(tally)
+}
+
 /// Runs to the end, and says how many calls it took.
 fn calls_of(alloc: Global, run: &mut Run) -> Result<u32, Fail> {
     for calls in 0..1000 {
@@ -315,12 +368,7 @@ fn undisturbed(rt: HostRuntime) -> Result<(), Fail> {
 /// fillers leave the last gate shut.
 #[test]
 fn stopped_between_calls(rt: HostRuntime) -> Result<(), Fail> {
-    let alloc = rt.alloc();
-    let scene = new_scene(alloc)?;
-    let mut tally = no_tally();
-    for calls in 0..CALLS + 1 {
-        stop_at(alloc, &scene, calls, false, &mut tally)?;
-    }
+    let tally = stopped_at_each(rt.alloc(), CALLS + 1, false)?;
     check(tally.partitions == 76 * 4 * 9, "all were compared")?;
     check(tally.calls == 76 * 4 * 2 - 14, "calls after openings")?;
     check(tally.has_both(), "before and after")
@@ -330,12 +378,7 @@ fn stopped_between_calls(rt: HostRuntime) -> Result<(), Fail> {
 /// in the last sync, and 2 in the last write, which what reads give then lacks.
 #[test]
 fn stopped_within_calls(rt: HostRuntime) -> Result<(), Fail> {
-    let alloc = rt.alloc();
-    let scene = new_scene(alloc)?;
-    let mut tally = no_tally();
-    for calls in 0..CALLS {
-        stop_at(alloc, &scene, calls, true, &mut tally)?;
-    }
+    let tally = stopped_at_each(rt.alloc(), CALLS, true)?;
     check(tally.partitions == 75 * 4 * 9, "all were compared")?;
     check(tally.calls == 75 * 4 * 2 - 10, "calls after openings")?;
     check(tally.has_both(), "before and after")

@@ -1,7 +1,8 @@
 //! Three guests side by side, stopped within each of the store's advances in turn, with each filler.
 
-use crate::tests::acts::Acts;
-use crate::tests::scene::{KEY, board_of, check, get_write_counter, program_key, write_of};
+use crate::tests::acts::{Acts, Move};
+use crate::tests::lines::Asked;
+use crate::tests::scene::{board_of, check};
 use crate::tests::worlds::world_of;
 use board::{Event, World};
 use rpmb_core::{OK, Partition, is_change};
@@ -12,33 +13,50 @@ use std::test::Fail;
 /// How many advances the list has.
 const ADVANCES: u32 = 64;
 
-/// Each guest programs its key, writes twice and reads after each write.
-fn mixed(acts: &mut Acts) -> Result<(), Fail> {
-    acts.add(Event::Open)?;
-    for guest in 0..3 {
-        acts.set_up(guest)?;
-        acts.submit(guest, &program_key(&KEY))?;
-        acts.hand_over(guest)?;
-        acts.advances(2)?;
-    }
-    for place in 0..6_u16 {
-        serve(acts, place % 3, u32::from(place / 3))?;
-    }
-    acts.advances(40)?;
-    for place in 0..15_u16 {
-        acts.reply(place % 3)?;
+/// A guest programs its key.
+static KEYED: [Move; 4] = [
+    Move::SetUp,
+    Move::Submit(Asked::Key(0x11)),
+    Move::HandOver,
+    Move::Advances(2),
+];
+
+/// The store goes on with what a guest wrote, while the guest is answered.
+static SERVED: [Move; 4] = [Move::HandOver, Move::Advances(3), Move::Reply, Move::Reply];
+
+/// A guest's next write and a read after it.
+fn serve(acts: &mut Acts, guest: u16, counter: u8) -> Result<(), Fail> {
+    let byte = 0x40 + (guest % 64) as u8;
+    acts.submit(guest, Asked::Write(byte, u32::from(counter)))?;
+    acts.submit(guest, Asked::Counter(counter))?;
+    acts.play(guest, &SERVED)
+}
+
+/// The writes of the guests in turn, two of each.
+fn serve_all(acts: &mut Acts) -> Result<(), Fail> {
+    for place in 0..6_u8 {
+        serve(acts, u16::from(place % 3), place / 3)?;
     }
     Ok(())
 }
 
-/// A guest's next write and a read after it, while the store goes on.
-fn serve(acts: &mut Acts, guest: u16, counter: u32) -> Result<(), Fail> {
-    acts.submit(guest, &write_of(0x40 + (guest % 64) as u8, counter))?;
-    acts.submit(guest, &get_write_counter(u128::from(counter)))?;
-    acts.hand_over(guest)?;
-    acts.advances(3)?;
-    acts.reply(guest)?;
-    acts.reply(guest)
+/// The replies that are left leave in turn.
+fn reply_to_all(acts: &mut Acts) -> Result<(), Fail> {
+    for place in 0..15_u16 {
+        acts.play(place % 3, &[Move::Reply])?;
+    }
+    Ok(())
+}
+
+/// Each guest programs its key, writes twice and reads after each write.
+fn mixed(acts: &mut Acts) -> Result<(), Fail> {
+    acts.play(0, &[Move::Open])?;
+    for guest in 0..3 {
+        acts.play(guest, &KEYED)?;
+    }
+    serve_all(acts)?;
+    acts.play(0, &[Move::Advances(40)])?;
+    reply_to_all(acts)
 }
 
 /// The limits of each guest.
@@ -114,10 +132,13 @@ fn all_happens(world: &mut World, events: &[Event]) -> bool {
     world.run(events).is_none()
 }
 
+fn check_world(alloc: Global, world: &mut World, events: &[Event]) -> Result<(), Fail> {
+    check(all_happens(world, events), "a refusal")?;
+    check_guests(alloc, world)
+}
+
 fn check_run(alloc: Global, events: &[Event]) -> Result<(), Fail> {
-    let mut world = world_of(alloc, 3)?;
-    check(all_happens(&mut world, events), "a refusal")?;
-    check_guests(alloc, &world)
+    check_world(alloc, &mut world_of(alloc, 3)?, events)
 }
 
 fn stopped(alloc: Global, left: u32, filler: u8) -> Result<(), Fail> {

@@ -1,24 +1,24 @@
 //! Worlds: boards through steps, stops and openings.
 
-use crate::tests::acts::Acts;
+use crate::tests::acts::{Acts, Move};
 use crate::tests::image::formatted;
-use crate::tests::scene::{
-    KEY, board_of, check, get_write_counter, program_key, result_read, write_of,
-};
+use crate::tests::lines::Asked;
+use crate::tests::scene::{board_of, check};
 use board::{Event, Refusal, StepFault, World};
-use disk::Filler;
 use flusher::StoreFault;
-use hmac256::mac_of;
 use rpmb_core::Partition;
-use rpmb_frame::Frame;
+use rpmb_frame::BoardConfig;
 use std::alloc::Global;
 use std::test::Fail;
 
-/// A world over a fresh image of so many guests.
-pub fn world_of(alloc: Global, guests: usize) -> Result<World, Fail> {
-    let board = board_of(alloc, guests)?;
+fn world_over(alloc: Global, board: BoardConfig) -> Result<World, Fail> {
     let disk = formatted(alloc, &board)?;
     Ok(World::new(alloc, disk, board))
+}
+
+/// A world over a fresh image of so many guests.
+pub fn world_of(alloc: Global, guests: usize) -> Result<World, Fail> {
+    world_over(alloc, board_of(alloc, guests)?)
 }
 
 /// What a list of events left of a world of one guest.
@@ -77,65 +77,39 @@ impl Left {
     }
 }
 
-/// The lists of events.
-#[derive(Clone, Copy)]
-enum Tale {
-    StoppedOld,
-    StoppedNew,
-    Failed,
-    Asked,
-    ThreeWrites,
-    EightBlocks,
-}
-
-fn tell(acts: &mut Acts, tale: Tale) -> Result<(), Fail> {
-    match tale {
-        Tale::StoppedOld => stopped(acts, Filler::Old),
-        Tale::StoppedNew => stopped(acts, Filler::New),
-        Tale::Failed => failed(acts),
-        Tale::Asked => asked(acts),
-        Tale::ThreeWrites => three_writes(acts),
-        Tale::EightBlocks => eight_written(acts),
-    }
-}
-
-/// What a list leaves where the store's advance after `left` others is stopped.
-fn left_of(alloc: Global, tale: Tale, left: Option<u32>, filler: u8) -> Result<Left, Fail> {
+/// What lists of moves of guest 0 leave, one behind the other, where the store's advance after `left`
+/// others is stopped.
+fn left_of(alloc: Global, lists: &[&[Move]], left: Option<u32>, filler: u8) -> Result<Left, Fail> {
     let mut acts = Acts::new(alloc, left, filler);
-    tell(&mut acts, tale)?;
+    for moves in lists {
+        acts.play(0, *moves)?;
+    }
     left_by(alloc, &acts.events)
 }
 
-/// Guest 0 has its key, and the reply to it; the store is idle.
-fn keyed(acts: &mut Acts) -> Result<(), Fail> {
-    acts.add(Event::Open)?;
-    acts.set_up(0)?;
-    acts.submit(0, &program_key(&KEY))?;
-    acts.hand_over(0)?;
-    acts.advances(8)?;
-    acts.reply(0)
-}
+/// The guest has its key, and the reply to it; the store is idle.
+static KEYED: [Move; 6] = [
+    Move::Open,
+    Move::SetUp,
+    Move::Submit(Asked::Key(0x11)),
+    Move::HandOver,
+    Move::Advances(8),
+    Move::Reply,
+];
 
 /// Then a write and two reads are answered, the write's payload is synced and its gate is written.
-fn under_way(acts: &mut Acts) -> Result<(), Fail> {
-    keyed(acts)?;
-    acts.submit(0, &write_of(0xa5, 0))?;
-    acts.submit(0, &get_write_counter(1))?;
-    acts.submit(0, &get_write_counter(2))?;
-    acts.hand_over(0)?;
-    acts.advances(3)?;
-    acts.reply(0)
-}
+static UNDER_WAY: [Move; 6] = [
+    Move::Submit(Asked::Write(0xa5, 0)),
+    Move::Submit(Asked::Counter(1)),
+    Move::Submit(Asked::Counter(2)),
+    Move::HandOver,
+    Move::Advances(3),
+    Move::Reply,
+];
 
-/// A stop of that with this filler.
-fn stopped(acts: &mut Acts, filler: Filler) -> Result<(), Fail> {
-    under_way(acts)?;
-    acts.add(Event::Stop(filler))
-}
-
-/// What guest 0 has after that stop.
-fn seen_after(alloc: Global, tale: Tale) -> Result<Option<(u32, usize, u64)>, Fail> {
-    let left = left_of(alloc, tale, None, 0)?;
+/// What the guest has after a stop of that with this filler.
+fn seen_after(alloc: Global, filler: u8) -> Result<Option<(u32, usize, u64)>, Fail> {
+    let left = left_of(alloc, &[&KEYED, &UNDER_WAY, &[Move::Stop(filler)]], None, 0)?;
     check(left.refusal.is_none(), "a refusal")?;
     check(left.replies == 1, "replies")?;
     Ok(left.seen())
@@ -143,24 +117,18 @@ fn seen_after(alloc: Global, tale: Tale) -> Result<Option<(u32, usize, u64)>, Fa
 
 #[test]
 fn a_gate_that_is_written_may_be_open(rt: HostRuntime) -> Result<(), Fail> {
-    let old = seen_after(rt.alloc(), Tale::StoppedOld)?;
+    let old = seen_after(rt.alloc(), 0)?;
     check(old == Some((0, 1, 1)), "the old")?;
-    let new = seen_after(rt.alloc(), Tale::StoppedNew)?;
+    let new = seen_after(rt.alloc(), 1)?;
     check(new == Some((1, 2, 1)), "the new")
 }
 
 /// The sync of that gate fails, the disk is opened again, and the host stops once more.
-fn failed(acts: &mut Acts) -> Result<(), Fail> {
-    under_way(acts)?;
-    acts.add(Event::Fail(1))?;
-    acts.advance()?;
-    acts.add(Event::Open)?;
-    acts.add(Event::Stop(Filler::Old))
-}
+static FAILED: [Move; 4] = [Move::FailNext, Move::Advances(1), Move::Open, Move::Stop(0)];
 
 #[test]
 fn an_opening_syncs_what_a_failed_sync_left(rt: HostRuntime) -> Result<(), Fail> {
-    let left = left_of(rt.alloc(), Tale::Failed, None, 0)?;
+    let left = left_of(rt.alloc(), &[&KEYED, &UNDER_WAY, &FAILED], None, 0)?;
     let fault = StepFault::Store(StoreFault::DiskFault);
     check(left.refusal == Some(Refusal::Step(fault)), "the refusal")?;
     check(left.seen() == Some((1, 2, 1)), "the counter")?;
@@ -176,33 +144,29 @@ fn needs(world: &World) -> u64 {
     digits
 }
 
-/// A read, the key, a read, a write and a read.
-fn requests_made(acts: &mut Acts) -> Result<(), Fail> {
-    acts.submit(0, &get_write_counter(1))?;
-    acts.submit(0, &program_key(&KEY))?;
-    acts.submit(0, &get_write_counter(2))?;
-    acts.submit(0, &write_of(0xa5, 0))?;
-    acts.submit(0, &get_write_counter(3))
-}
-
-/// Guest 0 makes those, and each reply leaves once the store is idle.
-fn asked(acts: &mut Acts) -> Result<(), Fail> {
-    acts.add(Event::Open)?;
-    acts.set_up(0)?;
-    requests_made(acts)?;
-    for _ in 0..2 {
-        acts.hand_over(0)?;
-        acts.advances(9)?;
-    }
-    for _ in 0..5 {
-        acts.reply(0)?;
-    }
-    Ok(())
-}
+/// A read, the key, a read, a write and a read, and each reply leaves once the store is idle.
+static ASKED: [Move; 16] = [
+    Move::Open,
+    Move::SetUp,
+    Move::Submit(Asked::Counter(1)),
+    Move::Submit(Asked::Key(0x11)),
+    Move::Submit(Asked::Counter(2)),
+    Move::Submit(Asked::Write(0xa5, 0)),
+    Move::Submit(Asked::Counter(3)),
+    Move::HandOver,
+    Move::Advances(9),
+    Move::HandOver,
+    Move::Advances(9),
+    Move::Reply,
+    Move::Reply,
+    Move::Reply,
+    Move::Reply,
+    Move::Reply,
+];
 
 #[test]
 fn each_reply_needs_what_was_accepted_before_it(rt: HostRuntime) -> Result<(), Fail> {
-    let left = left_of(rt.alloc(), Tale::Asked, None, 0)?;
+    let left = left_of(rt.alloc(), &[&ASKED], None, 0)?;
     check(left.refusal.is_none(), "a refusal")?;
     check(left.replies == 5, "replies")?;
     check(left.needs == 1122, "needs 0, 1, 1, 2, 2")?;
@@ -210,21 +174,21 @@ fn each_reply_needs_what_was_accepted_before_it(rt: HostRuntime) -> Result<(), F
 }
 
 /// Three writes are answered before any sync, and go to the store one after another.
-fn three_writes(acts: &mut Acts) -> Result<(), Fail> {
-    keyed(acts)?;
-    for counter in 0..3 {
-        acts.submit(0, &write_of(0xa0 + counter, u32::from(counter)))?;
-    }
-    for _ in 0..3 {
-        acts.hand_over(0)?;
-        acts.advances(9)?;
-    }
-    Ok(())
-}
+static THREE_WRITES: [Move; 9] = [
+    Move::Submit(Asked::Write(0xa0, 0)),
+    Move::Submit(Asked::Write(0xa1, 1)),
+    Move::Submit(Asked::Write(0xa2, 2)),
+    Move::HandOver,
+    Move::Advances(9),
+    Move::HandOver,
+    Move::Advances(9),
+    Move::HandOver,
+    Move::Advances(9),
+];
 
 /// What is there after such a stop: the counter, and the first byte of the block that all three write.
 fn after_stop(alloc: Global, left: u32, filler: u8) -> Result<Option<(u32, u8)>, Fail> {
-    let left = left_of(alloc, Tale::ThreeWrites, Some(left), filler)?;
+    let left = left_of(alloc, &[&KEYED, &THREE_WRITES], Some(left), filler)?;
     check(left.refusal.is_none(), "a refusal")?;
     Ok(left.found)
 }
@@ -243,45 +207,26 @@ fn what_is_settled_of_three_writes_stays(rt: HostRuntime) -> Result<(), Fail> {
     Ok(())
 }
 
-fn eighth(place: u8) -> Frame {
-    Frame::zeros()
-        .with_block_data(&[place; 256])
-        .with_block_count(8)
-        .with_req_resp(0x0003)
-}
-
-/// The frames that write blocks of 0, 1, .. 7 at address 0 and ask for the result.
-fn eight_blocks() -> [[u8; 512]; 9] {
-    let mut frames = [result_read(); 9];
-    for place in 0..8_u8 {
-        frames[usize::from(place)] = eighth(place).to_bytes();
-    }
-    let mac = mac_of(&KEY, &frames[..8]);
-    frames[7] = eighth(7).with_key_mac(&mac).to_bytes();
-    frames
-}
-
-/// Whether the first eight blocks are those, and the counter is 1.
+/// Whether the first eight blocks are of bytes 1, 2, .. 8, and the counter is 1.
 fn has_eight(partition: &Partition) -> bool {
     for place in 0..8_u8 {
-        if partition.block(u16::from(place)) != [place; 256] {
+        if partition.block(u16::from(place)) != [place + 1; 256] {
             return false;
         }
     }
     partition.counter() == 1
 }
 
-fn eight_written(acts: &mut Acts) -> Result<(), Fail> {
-    keyed(acts)?;
-    acts.submit(0, &eight_blocks())?;
-    acts.hand_over(0)?;
-    acts.advances(5)
-}
+static EIGHT_BLOCKS: [Move; 3] = [
+    Move::Submit(Asked::Blocks(0, 8)),
+    Move::HandOver,
+    Move::Advances(5),
+];
 
 #[test]
 fn no_write_of_eight_blocks_is_half_there(rt: HostRuntime) -> Result<(), Fail> {
     // Stopped within the write of the blocks: after the key's 8 advances, and four of its own.
-    let left = left_of(rt.alloc(), Tale::EightBlocks, Some(12), 3)?;
+    let left = left_of(rt.alloc(), &[&KEYED, &EIGHT_BLOCKS], Some(12), 3)?;
     check(left.refusal.is_none(), "a refusal")?;
     check(left.has_eight, "the blocks")
 }

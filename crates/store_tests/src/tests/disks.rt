@@ -4,7 +4,7 @@ use disk::{CutDisk, Disk, DiskFault, Filler, MemDisk};
 use std::alloc::Global;
 use std::test::Fail;
 
-const START: [u8; 8] = [10, 11, 12, 13, 14, 15, 16, 17];
+static START: [u8; 8] = [10, 11, 12, 13, 14, 15, 16, 17];
 
 // A filler, by its bytes.
 enum Left {
@@ -32,37 +32,39 @@ fn filler(alloc: Global, left: &Left) -> Result<Filler, Fail> {
 }
 
 fn cut_disk(alloc: Global) -> Result<CutDisk, Fail> {
-    Ok(CutDisk::new(alloc, START.to_vec(alloc)?)?)
+    let content = Vec::from_slice(alloc, &START)?;
+    Ok(CutDisk::new(alloc, content)?)
 }
 
-fn write(disk: &mut impl Disk, at: u64, bytes: &[u8]) -> Result<(), DiskFault> {
-    if at > disk.len() || bytes.len() as u64 > disk.len() - at {
-        return Err(DiskFault);
+/// Writes where the range lies on the disk.
+pub fn write(disk: &mut impl Disk, at: u64, bytes: &[u8]) -> Result<(), DiskFault> {
+    let len = disk.len();
+    if at <= len && bytes.len() as u64 <= len - at {
+        disk.write_at(at, bytes)
+    } else {
+        Err(DiskFault)
     }
-    disk.write_at(at, bytes)
 }
 
 fn read(disk: &mut impl Disk, at: u64, out: &mut [u8]) -> Result<(), DiskFault> {
-    if at > disk.len() || out.len() as u64 > disk.len() - at {
-        return Err(DiskFault);
+    let len = disk.len();
+    if at <= len && out.len() as u64 <= len - at {
+        disk.read_at(at, out)
+    } else {
+        Err(DiskFault)
     }
-    disk.read_at(at, out)
 }
 
-// A disk on which both writes went well.
-fn written(alloc: Global) -> Result<CutDisk, Fail> {
-    let mut disk = cut_disk(alloc)?;
-    if write(&mut disk, 1, &[21, 22]).is_err() || write(&mut disk, 5, &[25]).is_err() {
-        return Err(Fail::from("a write failed"));
-    }
-    Ok(disk)
+// Whether both writes go well.
+fn writes_both(disk: &mut CutDisk) -> bool {
+    write(disk, 1, &[21, 22]).is_ok() && write(disk, 5, &[25]).is_ok()
 }
 
 fn is_left(alloc: Global, left: &Left, wanted: &[u8]) -> Result<bool, Fail> {
-    let mut disk = written(alloc)?;
-    let filler = filler(alloc, left)?;
-    disk.cut(&filler);
-    Ok(disk.content() == wanted)
+    let mut disk = cut_disk(alloc)?;
+    let written = writes_both(&mut disk);
+    disk.cut(&filler(alloc, left)?);
+    Ok(written && disk.content() == wanted)
 }
 
 #[test]

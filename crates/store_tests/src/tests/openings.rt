@@ -2,66 +2,71 @@
 mod calls;
 mod many;
 
+use crate::tests::boards::board;
+use crate::tests::disks::write;
 use disk::{CutDisk, Disk, Filler};
 use flusher::{Call, Store};
 use intent_slots::{Home, Intent, Layout};
 use recovery::{OpenFault, format, open};
 use rpmb_core::Partition;
-use rpmb_frame::{BoardConfig, GuestConfig};
+use rpmb_frame::BoardConfig;
 use std::alloc::Global;
 use std::test::Fail;
 
 const KEY: [u8; 32] = [0x4b; 32];
 
-fn board(alloc: Global, capacities: &[u8]) -> Result<BoardConfig, Fail> {
-    let mut guests = Vec::new(alloc);
-    for capacity in capacities {
-        guests.push(GuestConfig::of_capacity(*capacity))?;
+/// Formats a disk of the image's length.
+fn format_all(disk: &mut impl Disk, board: &BoardConfig) -> Result<(), Fail> {
+    if disk.len() != Layout::of(board).length() {
+        return Err(Fail::from("another length"));
     }
-    Ok(BoardConfig::new(guests)?)
+    Ok(format(disk, board)?)
 }
 
 /// A formatted disk, on which other bytes stood.
 fn fresh(alloc: Global, board: &BoardConfig) -> Result<CutDisk, Fail> {
-    let layout = Layout::of(board);
-    let content = vec![in alloc; 0xee; layout.length() as usize]?;
-    let mut disk = CutDisk::new(alloc, content)?;
-    if disk.len() == layout.length() {
-        format(&mut disk, board)?;
-    }
+    let length = Layout::of(board).length();
+    let mut disk = CutDisk::new(alloc, vec![in alloc; 0xee; length as usize]?)?;
+    format_all(&mut disk, board)?;
     Ok(disk)
 }
 
-/// The store and the partitions, or the disk and the fault.
-type Opened = Result<(Store<CutDisk>, Vec<Partition>), (CutDisk, OpenFault)>;
-
-fn opened(alloc: Global, disk: CutDisk, board: &BoardConfig) -> Result<Store<CutDisk>, Fail> {
+/// What a disk opens to: the store, and the guests' partitions.
+fn opened<D: Disk>(
+    alloc: Global,
+    disk: D,
+    board: &BoardConfig,
+) -> Result<(Store<D>, Vec<Partition>), Fail> {
     match open(alloc, disk, board) {
-        Ok((store, _)) => Ok(store),
+        Ok(opened) => Ok(opened),
         Err((_, fault)) => Err(fault.into()),
     }
 }
 
-/// Whether there is a key, the counter, and the first byte of the blocks 0, 7 and 8, of each partition.
-fn found(
-    alloc: Global,
-    disk: CutDisk,
-    board: &BoardConfig,
-) -> Result<Vec<(bool, u32, [u8; 3])>, Fail> {
-    let (_, partitions) = match open(alloc, disk, board) {
-        Ok(opened) => opened,
-        Err((_, fault)) => return Err(fault.into()),
-    };
-    let mut told = Vec::new(alloc);
-    for partition in &partitions {
-        let firsts = [
-            partition.block(0)[0],
-            partition.block(7)[0],
-            partition.block(8)[0],
-        ];
-        told.push((partition.key() == Some(KEY), partition.counter(), firsts))?;
+fn store_of(alloc: Global, disk: CutDisk, board: &BoardConfig) -> Result<Store<CutDisk>, Fail> {
+    let (store, _) = opened(alloc, disk, board)?;
+    Ok(store)
+}
+
+/// Whether there is a key, the counter, and the first byte of the blocks 0, 7 and 8.
+type Found = (bool, u32, [u8; 3]);
+
+fn found(partition: &Partition) -> Found {
+    let firsts = [
+        partition.block(0)[0],
+        partition.block(7)[0],
+        partition.block(8)[0],
+    ];
+    (partition.key() == Some(KEY), partition.counter(), firsts)
+}
+
+fn are_found(partitions: &[Partition], wanted: &[Found]) -> bool {
+    for (partition, wanted) in partitions.iter().zip(wanted) {
+        if found(partition) != *wanted {
+            return false;
+        }
     }
-    Ok(told)
+    partitions.len() == wanted.len()
 }
 
 /// Whether an opening finds these partitions.
@@ -69,10 +74,10 @@ fn finds(
     alloc: Global,
     disk: CutDisk,
     board: &BoardConfig,
-    wanted: &[(bool, u32, [u8; 3])],
+    wanted: &[Found],
 ) -> Result<bool, Fail> {
-    let told = found(alloc, disk, board)?;
-    Ok(told.as_slice() == wanted)
+    let (_, partitions) = opened(alloc, disk, board)?;
+    Ok(are_found(&partitions, wanted))
 }
 
 fn fault_of(alloc: Global, disk: CutDisk, board: &BoardConfig) -> Option<OpenFault> {
@@ -85,18 +90,12 @@ fn fault_of(alloc: Global, disk: CutDisk, board: &BoardConfig) -> Option<OpenFau
 /// The store over a formatted disk.
 fn begun(alloc: Global, board: &BoardConfig) -> Result<Store<CutDisk>, Fail> {
     let disk = fresh(alloc, board)?;
-    opened(alloc, disk, board)
+    store_of(alloc, disk, board)
 }
 
 /// Gives an intent where the store takes it.
 fn give(store: &mut Store<CutDisk>, intent: Intent) {
-    if !store.fits(&intent) {
-        return;
-    }
-    if store.next(intent.guest()) != intent.first_sequence() {
-        return;
-    }
-    if store.is_free(intent.guest()) {
+    if store.takes(&intent) {
         store.give(intent);
     }
 }
@@ -110,9 +109,9 @@ fn advance(store: &mut Store<CutDisk>, times: usize) {
     }
 }
 
-const NOTHING: (bool, u32, [u8; 3]) = (false, 0, [0; 3]);
+const NOTHING: Found = (false, 0, [0; 3]);
 
-const KEYED: (bool, u32, [u8; 3]) = (true, 0, [0; 3]);
+const KEYED: Found = (true, 0, [0; 3]);
 
 fn is_at_rest(store: &Store<CutDisk>) -> bool {
     (store.next(0), store.next(1), store.next(2)) == (1, 1, 0) && store.next_call() == Call::None
@@ -128,33 +127,57 @@ fn formatted(rt: HostRuntime) -> Result<(), Fail> {
     Ok(())
 }
 
+/// How many calls follow the key request of each guest.
+static BEGINNINGS: [usize; 3] = [2, 3, 0];
+
+/// A guest programs its key, and the store makes these calls.
+fn begin(store: &mut Store<CutDisk>, guest: u16) {
+    give(store, Intent::program_key(guest, KEY));
+    if let Some(calls) = BEGINNINGS.get(usize::from(guest)) {
+        advance(store, *calls);
+    }
+}
+
+/// Makes the writes that come before the next sync.
+fn write_all(store: &mut Store<CutDisk>) {
+    for _ in 0..8 {
+        if store.next_call() == Call::Write {
+            advance(store, 1);
+        }
+    }
+}
+
 /// The disk of three guests, whose key requests stand before a sync, in Applying, Opening and Written.
 fn three_guests(alloc: Global, board: &BoardConfig, more: usize) -> Result<CutDisk, Fail> {
     let mut store = begun(alloc, board)?;
-    for (guest, calls) in [2, 3, 0].iter().enumerate() {
-        give(&mut store, Intent::program_key(guest as u16, KEY));
-        advance(&mut store, *calls);
+    for guest in 0..3 {
+        begin(&mut store, guest);
     }
-    for _ in 0..8_usize {
-        if store.next_call() == Call::Write {
-            advance(&mut store, 1);
-        }
-    }
+    write_all(&mut store);
     advance(&mut store, more);
     Ok(store.into_disk())
+}
+
+/// What a stop before the sync leaves, and what one after it.
+static SYNCED: [[Found; 3]; 2] = [[KEYED, NOTHING, NOTHING], [KEYED, KEYED, NOTHING]];
+
+fn finds_three(
+    alloc: Global,
+    board: &BoardConfig,
+    more: usize,
+    wanted: &[Found; 3],
+) -> Result<bool, Fail> {
+    let mut disk = three_guests(alloc, board, more)?;
+    disk.cut(&Filler::Old);
+    finds(alloc, disk, board, wanted)
 }
 
 #[test]
 fn stopped_at_a_sync(rt: HostRuntime) -> Result<(), Fail> {
     let alloc = rt.alloc();
     let board = board(alloc, &[1, 1, 1])?;
-    for (more, wanted) in [[KEYED, NOTHING, NOTHING], [KEYED, KEYED, NOTHING]]
-        .iter()
-        .enumerate()
-    {
-        let mut disk = three_guests(alloc, &board, more)?;
-        disk.cut(&Filler::Old);
-        assert!(rt; finds(alloc, disk, &board, wanted)?, "{more}");
+    for (more, wanted) in SYNCED.iter().enumerate() {
+        assert!(rt; finds_three(alloc, &board, more, wanted)?, "{more}");
     }
     Ok(())
 }
@@ -178,20 +201,23 @@ fn eight_blocks(alloc: Global, board: &BoardConfig) -> Result<CutDisk, Fail> {
     Ok(store.into_disk())
 }
 
-/// A stop that leaves this byte in each place that wasn't synced.
-fn fill(alloc: Global, disk: &mut CutDisk, byte: u8) -> Result<(), Fail> {
-    let bytes = [byte].to_vec(alloc)?;
-    disk.cut(&Filler::Fill(bytes));
-    Ok(())
+/// What a stop leaves that puts this byte into each place that wasn't synced.
+fn filled(alloc: Global, disk: CutDisk, byte: u8) -> Result<CutDisk, Fail> {
+    let mut disk = disk;
+    disk.cut(&Filler::Fill(vec![in alloc; byte; 1]?));
+    Ok(disk)
+}
+
+/// Whether an opening after a stop in the write of eight blocks finds them.
+fn finds_eight(alloc: Global, board: &BoardConfig) -> Result<bool, Fail> {
+    let disk = filled(alloc, eight_blocks(alloc, board)?, 0xff)?;
+    finds(alloc, disk, board, &[(true, 1, [0x77, 0x77, 0])])
 }
 
 #[test]
 fn stopped_in_a_write(rt: HostRuntime) -> Result<(), Fail> {
-    let alloc = rt.alloc();
-    let board = board(alloc, &[1])?;
-    let mut disk = eight_blocks(alloc, &board)?;
-    fill(alloc, &mut disk, 0xff)?;
-    assert!(rt; finds(alloc, disk, &board, &[(true, 1, [0x77, 0x77, 0])])?);
+    let board = board(rt.alloc(), &[1])?;
+    assert!(rt; finds_eight(rt.alloc(), &board)?);
     Ok(())
 }
 
@@ -212,8 +238,7 @@ fn finds_after(alloc: Global, board: &BoardConfig, k: u64) -> Result<bool, Fail>
 
 /// The same after the third, and a stop that leaves the byte of an open gate.
 fn finds_after_a_stop(alloc: Global, board: &BoardConfig) -> Result<bool, Fail> {
-    let mut disk = failed(alloc, board, 3)?;
-    fill(alloc, &mut disk, 0xa5)?;
+    let disk = filled(alloc, failed(alloc, board, 3)?, 0xa5)?;
     finds(alloc, disk, board, &[KEYED])
 }
 
@@ -237,7 +262,7 @@ fn gate_unsynced(alloc: Global, board: &BoardConfig) -> Result<CutDisk, Fail> {
 
 /// The disk after an opening, which finds the mark 2.
 fn opened_once(alloc: Global, disk: CutDisk, board: &BoardConfig) -> Result<CutDisk, Fail> {
-    let store = opened(alloc, disk, board)?;
+    let store = store_of(alloc, disk, board)?;
     if store.marks().get(0) != 2 {
         return Err("another mark".into());
     }
@@ -266,11 +291,13 @@ fn opened_before_a_stop(rt: HostRuntime) -> Result<(), Fail> {
     Ok(())
 }
 
+fn overwrite(disk: &mut CutDisk, at: u64, bytes: &[u8]) -> Result<(), Fail> {
+    Ok(write(disk, at, bytes)?)
+}
+
 fn written(alloc: Global, board: &BoardConfig, at: u64, bytes: &[u8]) -> Result<CutDisk, Fail> {
     let mut disk = fresh(alloc, board)?;
-    if at <= disk.len() && bytes.len() as u64 <= disk.len() - at {
-        disk.write_at(at, bytes)?;
-    }
+    overwrite(&mut disk, at, bytes)?;
     Ok(disk)
 }
 
@@ -288,7 +315,7 @@ fn write_last(alloc: Global, store: &mut Store<CutDisk>) -> Result<(), Fail> {
 fn last_store(alloc: Global, board: &BoardConfig, writes: bool) -> Result<Store<CutDisk>, Fail> {
     let home = Home::with_key(KEY, 0xffff_fffe).encode();
     let disk = written(alloc, board, 1024, &home)?;
-    let mut store = opened(alloc, disk, board)?;
+    let mut store = store_of(alloc, disk, board)?;
     if writes {
         write_last(alloc, &mut store)?;
     }
@@ -296,7 +323,7 @@ fn last_store(alloc: Global, board: &BoardConfig, writes: bool) -> Result<Store<
 }
 
 /// Whether the last write is made, the mark, and what an opening finds.
-const LAST_COUNTERS: [(bool, u64, (bool, u32, [u8; 3])); 2] = [
+static LAST_COUNTERS: [(bool, u64, Found); 2] = [
     (false, 0xffff_ffff, (true, 0xffff_fffe, [0; 3])),
     (true, 0x1_0000_0000, (true, 0xffff_ffff, [0, 0, 0x77])),
 ];
@@ -305,16 +332,16 @@ const LAST_COUNTERS: [(bool, u64, (bool, u32, [u8; 3])); 2] = [
 fn last_counter(rt: HostRuntime) -> Result<(), Fail> {
     let alloc = rt.alloc();
     let board = board(alloc, &[1])?;
-    for (writes, mark, wanted) in LAST_COUNTERS {
-        let store = last_store(alloc, &board, writes)?;
-        assert!(rt; store.marks().get(0) == mark);
-        assert!(rt; finds(alloc, store.into_disk(), &board, &[wanted])?);
+    for (writes, mark, wanted) in &LAST_COUNTERS {
+        let store = last_store(alloc, &board, *writes)?;
+        assert!(rt; store.marks().get(0) == *mark);
+        assert!(rt; finds(alloc, store.into_disk(), &board, &[*wanted])?);
     }
     Ok(())
 }
 
 /// Bytes that are written over a fresh image of two guests, of capacities 1 and 1, and the fault.
-const FAULTS: [(u64, u8, OpenFault); 6] = [
+static FAULTS: [(u64, u8, OpenFault); 6] = [
     (7, b'g', OpenFault::NotFormatted),
     (9, 1, OpenFault::OtherConfig),
     (10, 2, OpenFault::OtherConfig),
@@ -323,29 +350,42 @@ const FAULTS: [(u64, u8, OpenFault); 6] = [
     (1536, 0xa5, OpenFault::NotFormatted),
 ];
 
+fn refuses(
+    alloc: Global,
+    board: &BoardConfig,
+    change: (u64, u8),
+    fault: OpenFault,
+) -> Result<bool, Fail> {
+    let disk = written(alloc, board, change.0, &[change.1])?;
+    Ok(fault_of(alloc, disk, board) == Some(fault))
+}
+
 #[test]
 fn refused(rt: HostRuntime) -> Result<(), Fail> {
     let alloc = rt.alloc();
     let board = board(alloc, &[1, 1])?;
-    for (at, byte, fault) in FAULTS {
-        let disk = written(alloc, &board, at, &[byte])?;
-        assert!(rt; fault_of(alloc, disk, &board) == Some(fault), "{at}");
+    for (at, byte, fault) in &FAULTS {
+        assert!(rt; refuses(alloc, &board, (*at, *byte), *fault)?, "{at}");
     }
     let short = CutDisk::new(alloc, vec![in alloc; 0; 1000]?)?;
     assert!(rt; fault_of(alloc, short, &board) == Some(OpenFault::NotFormatted));
     Ok(())
 }
 
+fn image(alloc: Global, board: &BoardConfig) -> Result<Vec<u8>, Fail> {
+    Ok(fresh(alloc, board)?.content().to_vec(alloc)?)
+}
+
 /// A fresh image of one guest but for its length.
 fn resized(alloc: Global, board: &BoardConfig, length: usize) -> Result<CutDisk, Fail> {
-    let mut content = fresh(alloc, board)?.content().to_vec(alloc)?;
+    let mut content = image(alloc, board)?;
     content.resize(length, 0)?;
     Ok(CutDisk::new(alloc, content)?)
 }
 
 /// Lengths in bytes of such images, the call that would fail, and the fault. The first call is the
 /// sync, the second reads the header, and the third would read a gate.
-const LENGTHS: [(usize, u64, OpenFault); 7] = [
+static LENGTHS: [(usize, u64, OpenFault); 7] = [
     (167_425, 3, OpenFault::NotFormatted),
     (167_423, 3, OpenFault::NotFormatted),
     (1_024, 3, OpenFault::NotFormatted),
@@ -359,25 +399,32 @@ const LENGTHS: [(usize, u64, OpenFault); 7] = [
 fn other_lengths(rt: HostRuntime) -> Result<(), Fail> {
     let alloc = rt.alloc();
     let board = board(alloc, &[1])?;
-    for (length, failing, fault) in LENGTHS {
-        let mut disk = resized(alloc, &board, length)?;
-        disk.fail(failing);
-        assert!(rt; fault_of(alloc, disk, &board) == Some(fault), "{length}");
+    for (length, failing, fault) in &LENGTHS {
+        let mut disk = resized(alloc, &board, *length)?;
+        disk.fail(*failing);
+        assert!(rt; fault_of(alloc, disk, &board) == Some(*fault), "{length}");
     }
     Ok(())
 }
 
-#[test]
-fn faults_print_their_names(rt: HostRuntime) -> Result<(), Fail> {
-    for (fault, name) in [
-        (OpenFault::DiskFault, "DiskFault"),
-        (OpenFault::NoMemory, "NoMemory"),
-        (OpenFault::NotFormatted, "NotFormatted"),
-        (OpenFault::OtherConfig, "OtherConfig"),
-    ] {
-        assert_eq!(rt; format!(in rt.alloc(); "{fault}")?.as_str(), name);
+/// Whether of two calls the first succeeds and the second fails.
+fn fails_second(disk: &mut CutDisk) -> bool {
+    disk.sync().is_ok() && disk.sync().is_err()
+}
+
+/// Opens a disk that an opening gave back with this fault.
+fn opened_after(
+    alloc: Global,
+    disk: CutDisk,
+    fault: OpenFault,
+    board: &BoardConfig,
+) -> Result<Store<CutDisk>, Fail> {
+    let mut disk = disk;
+    match fault {
+        OpenFault::DiskFault => store_of(alloc, disk, board),
+        OpenFault::NoMemory if fails_second(&mut disk) => store_of(alloc, disk, board),
+        fault => Err(fault.into()),
     }
-    Ok(())
 }
 
 /// Opens once more what an opening refused, each time on the disk that it gave back. Where memory was
@@ -387,15 +434,7 @@ fn retried(alloc: Global, disk: CutDisk, board: &BoardConfig) -> Result<Store<Cu
     disk.fail(2);
     match open(alloc, disk, board) {
         Ok(_) => Err("a call fails".into()),
-        Err((disk, OpenFault::DiskFault)) => opened(alloc, disk, board),
-        Err((disk, OpenFault::NoMemory)) => {
-            let mut disk = disk;
-            if disk.sync().is_err() || disk.sync().is_ok() {
-                return Err("a call was made".into());
-            }
-            opened(alloc, disk, board)
-        }
-        Err((_, fault)) => Err(fault.into()),
+        Err((disk, fault)) => opened_after(alloc, disk, fault, board),
     }
 }
 

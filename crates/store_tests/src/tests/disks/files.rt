@@ -15,7 +15,7 @@ enum End {
 }
 
 // The calls that were made of a file, the last one's offset in bytes and how many it was to move.
-#[derive(Clone, Copy, PartialEq, Eq, Debug)]
+#[derive(Clone, Copy, PartialEq)]
 struct Calls {
     reads: u64,
     writes: u64,
@@ -120,15 +120,17 @@ fn ended(end: End, call: u8, calls: &mut Calls) -> (bool, u64) {
     (outcome.is_ok(), disk.failures())
 }
 
+// Whether the call succeeds as told, and was made of the file once.
+fn ends_so(end: End, call: u8, whole: bool) -> bool {
+    let mut calls = NONE;
+    ended(end, call, &mut calls) == (whole, u64::from(!whole)) && calls == made_of(call)
+}
+
 #[test]
-fn one_call_of_the_file(rt: HostRuntime) -> Result<(), Fail> {
+fn one_call_of_the_file(rt: HostRuntime) {
     for (end, call, whole) in &ENDS {
-        let mut calls = NONE;
-        let (done, failures) = ended(*end, *call, &mut calls);
-        assert_eq!(rt; (done, failures), (*whole, u64::from(!*whole)), "{call}");
-        assert_eq!(rt; calls, made_of(*call), "{call}");
+        assert!(rt; ends_so(*end, *call, *whole), "{call}");
     }
-    Ok(())
 }
 
 const PATH: &str = "disk_test_file";
@@ -168,19 +170,33 @@ fn is_kept(file: File, len: u64) -> Result<bool, Fail> {
     Ok(reads_as(&mut disk, end_of(len), [0, 66, 67]) && disk.len() == len)
 }
 
+// A file of this path, to be read and written.
+fn opened(rt: &HostRuntime, path: &str, is_new: bool) -> Result<File, Fail> {
+    let file = File::options()
+        .read(true)
+        .write(true)
+        .create(is_new)
+        .open(rt, path)?;
+    Ok(file)
+}
+
+fn is_written_anew(rt: &HostRuntime, len: u64) -> Result<bool, Fail> {
+    let file = opened(rt, PATH, true)?;
+    file.set_len(len)?;
+    is_written(file, len)
+}
+
+// Whether what is written stays when the file is opened again.
+fn is_stored(rt: &HostRuntime, len: u64) -> Result<bool, Fail> {
+    let written = is_written_anew(rt, len)?;
+    let kept = is_kept(opened(rt, PATH, false)?, len)?;
+    Ok(written && kept)
+}
+
 #[test]
 fn over_files(rt: HostRuntime) -> Result<(), Fail> {
     for len in &LENGTHS {
-        let file = File::options()
-            .read(true)
-            .write(true)
-            .create(true)
-            .open(&rt, PATH)?;
-        file.set_len(*len)?;
-        assert!(rt; is_written(file, *len)?, "{len}");
-        // It stays when the file is opened again.
-        let file = File::options().read(true).write(true).open(&rt, PATH)?;
-        assert!(rt; is_kept(file, *len)?, "{len}");
+        assert!(rt; is_stored(&rt, *len)?, "{len}");
         fs::remove_file(&rt, PATH)?;
     }
     Ok(())
@@ -210,10 +226,6 @@ fn fails_to_sync(file: File) -> bool {
 // What can't be synced isn't told as synced: Linux refuses an fsync of this device.
 #[test]
 fn over_what_has_no_sync(rt: HostRuntime) -> Result<(), Fail> {
-    let file = File::options()
-        .read(true)
-        .write(true)
-        .open(&rt, "/dev/null")?;
-    assert!(rt; fails_to_sync(file));
+    assert!(rt; fails_to_sync(opened(&rt, "/dev/null", false)?));
     Ok(())
 }

@@ -1,7 +1,7 @@
 ghost use Rattle.std.specs.Prelude.{◌<◌, length};
 
+use crate::tests::boards::board;
 use intent_slots::{HeaderFault, Home, Layout, Side};
-use rpmb_frame::{BoardConfig, GuestConfig};
 use std::alloc::Global;
 use std::test::Fail;
 
@@ -29,17 +29,16 @@ static HEADERS: [(usize, u8, Option<HeaderFault>); 6] = [
 ];
 
 fn layout_of(alloc: Global, capacities: &[u8]) -> Result<Layout, Fail> {
-    let mut guests = Vec::new(alloc);
-    for capacity in capacities {
-        guests.push(GuestConfig::of_capacity(*capacity))?;
-    }
-    Ok(Layout::of(&BoardConfig::new(guests)?))
+    Ok(Layout::of(&board(alloc, capacities)?))
 }
 
 #[test]
 fn lengths(rt: HostRuntime) -> Result<(), Fail> {
-    for (capacities, length) in LENGTHS {
-        assert_eq!(rt; layout_of(rt.alloc(), capacities)?.length(), length);
+    for (capacities, length) in &LENGTHS {
+        assert!(rt;
+            layout_of(rt.alloc(), *capacities)?.length() == *length,
+            "{length}"
+        );
     }
     Ok(())
 }

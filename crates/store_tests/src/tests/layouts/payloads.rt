@@ -90,33 +90,49 @@ fn program_key(rt: HostRuntime) -> Result<(), Fail> {
     Ok(())
 }
 
+/// The write of one block at address 511.
+fn last_block(alloc: Global) -> Result<Intent, Fail> {
+    Ok(Intent::write(3, KEY, 1, 511, block(alloc)?))
+}
+
+fn is_last_block(alloc: Global, intent: &Intent) -> Result<bool, Fail> {
+    let inside = intent.lies_inside(&Extent::new(1024, 1));
+    Ok(inside && is_encoded(alloc, intent, 328, &BEFORE_KEY, &BEHIND_KEY)?)
+}
+
 #[test]
 fn write_of_the_last_block(rt: HostRuntime) -> Result<(), Fail> {
-    let intent = Intent::write(3, KEY, 1, 511, block(rt.alloc())?);
-    assert!(rt; is_encoded(rt.alloc(), &intent, 328, &BEFORE_KEY, &BEHIND_KEY)?);
-    assert!(rt; intent.lies_inside(&Extent::new(1024, 1)));
+    let intent = last_block(rt.alloc())?;
+    assert!(rt; is_last_block(rt.alloc(), &intent)?);
     Ok(())
 }
 
 /// A PROGRAM_KEY, and the write of one block at address 511 behind it.
-fn two(alloc: Global) -> Result<Intent, Fail>
-    ensures { IfOk result (λ intent. length intent.group.entries ≡ 2) }
-{
+fn two(alloc: Global) -> Result<Intent, Fail> {
     let mut intent = Intent::program_key(3, KEY);
     intent.push(Entry::write(511, block(alloc)?));
     Ok(intent)
 }
 
+/// The counter and the sequence after the first request of an intent, and after the last one.
+fn counters(intent: &Intent) -> [(u32, u64); 2] {
+    [
+        (intent.first_counter(), intent.first_sequence()),
+        (intent.last_counter(), intent.last_sequence()),
+    ]
+}
+
+/// Whether an intent is of a PROGRAM_KEY and a write at address 511.
+fn has_both(intent: &Intent) -> bool {
+    intent.entries() == 2 && intent.entry(0).blocks().is_empty() && intent.entry(1).address() == 511
+}
+
 #[test]
 fn getters(rt: HostRuntime) -> Result<(), Fail> {
     let intent = two(rt.alloc())?;
-    assert_eq!(rt; intent.guest(), 3);
-    assert!(rt; *intent.key() == KEY);
-    assert_eq!(rt; intent.entries(), 2);
-    assert_eq!(rt; intent.entry(1).address(), 511);
-    assert!(rt; intent.entry(0).blocks().is_empty());
-    assert_eq!(rt; (intent.first_counter(), intent.first_sequence()), (0, 1));
-    assert_eq!(rt; (intent.last_counter(), intent.last_sequence()), (1, 2));
+    assert!(rt; intent.guest() == 3 && *intent.key() == KEY);
+    assert!(rt; has_both(&intent));
+    assert!(rt; counters(&intent) == [(0, 1), (1, 2)]);
     Ok(())
 }
 
@@ -160,8 +176,10 @@ fn changed_payloads(rt: HostRuntime) -> Result<(), Fail> {
 
 /// Whether the intent is of guest 3, and its payload is this one.
 fn is_payload_of(alloc: Global, payload: &[u8], intent: &Intent) -> Result<bool, Fail> {
-    let encoded = encoded(alloc, intent)?;
-    Ok(intent.guest() == 3 && encoded.as_slice() == payload)
+    if intent.guest() != 3 {
+        return Ok(false);
+    }
+    Ok(encoded(alloc, intent)?.as_slice() == payload)
 }
 
 fn decodes_to_itself(alloc: Global, payload: &[u8]) -> Result<bool, Fail> {

@@ -1,13 +1,12 @@
 //! The calls that an opening and a store make, by a disk that writes them down.
 ghost use Rattle.std.specs.Prelude.{◌≡◌};
 
-use super::board;
 use super::many::formatted;
+use crate::tests::boards::board;
 use arrayvec::ArrayVec;
 use disk::{Disk, DiskFault, MemDisk};
-use flusher::{Marks, Progress, Store};
+use flusher::{Progress, Store};
 use intent_slots::Intent;
-use recovery::open;
 use rpmb_frame::BoardConfig;
 use std::alloc::Global;
 use std::test::Fail;
@@ -79,10 +78,8 @@ fn opened(
     board: &BoardConfig,
 ) -> Result<Store<LogDisk<MemDisk>>, Fail> {
     let calls = ArrayVec::new();
-    match open(alloc, LogDisk { inner, calls }, board) {
-        Ok((store, _)) => Ok(store),
-        Err((_, fault)) => Err(fault.into()),
-    }
+    let (store, _) = super::opened(alloc, LogDisk { inner, calls }, board)?;
+    Ok(store)
 }
 
 /// The store over a fresh image of guests of these capacities, and the calls of its opening.
@@ -94,23 +91,23 @@ fn fresh(alloc: Global, capacities: &[u8]) -> Result<Store<LogDisk<MemDisk>>, Fa
 /// Gives the request that programs a guest's key; answers whether it could be given.
 fn give_key(store: &mut Store<LogDisk<MemDisk>>, number: u16) -> bool {
     let intent = Intent::program_key(number, [0x11; 32]);
-    if !store.is_free(number) || !store.fits(&intent) || store.next(number) != 1 {
+    if store.next(number) != 1 || !store.takes(&intent) {
         return false;
     }
     store.give(intent);
     true
 }
 
-/// Makes so many calls; answers the marks of the last sync, where none was refused or idle.
-fn advance(store: &mut Store<LogDisk<MemDisk>>, times: u32) -> Option<Marks> {
+/// Makes so many calls; answers whether none was refused or idle.
+fn advance(store: &mut Store<LogDisk<MemDisk>>, times: u32) -> bool {
     for _ in 0..times {
         match store.advance() {
-            Ok(Progress::Idle) => return None,
+            Ok(Progress::Idle) => return false,
             Ok(_) => {}
-            Err(_) => return None,
+            Err(_) => return false,
         }
     }
-    Some(store.marks())
+    true
 }
 
 /// The calls of an opening of one guest, a sync and then reads of header, gate, home record and blocks;
@@ -138,9 +135,8 @@ fn is_idle(store: &mut Store<LogDisk<MemDisk>>) -> bool {
 /// Whether one call after another leaves these marks of guest 0.
 fn marks_one(store: &mut Store<LogDisk<MemDisk>>, settled: &[u64]) -> bool {
     for mark in settled {
-        match advance(store, 1) {
-            Some(marks) if marks.get(0) == *mark => {}
-            _ => return false,
+        if !advance(store, 1) || store.marks().get(0) != *mark {
+            return false;
         }
     }
     true
@@ -164,17 +160,18 @@ fn a_key_takes_eight_calls(rt: HostRuntime) -> Result<(), Fail> {
     Ok(())
 }
 
-/// Whether these are the marks of three guests.
-fn marks_three(marks: Option<Marks>, wanted: [u64; 3]) -> bool {
-    match marks {
-        Some(marks) => [marks.get(0), marks.get(1), marks.get(2)] == wanted,
-        None => false,
+/// Whether so many calls leave these marks of three guests.
+fn marks_three(store: &mut Store<LogDisk<MemDisk>>, times: u32, wanted: [u64; 3]) -> bool {
+    if !advance(store, times) {
+        return false;
     }
+    let marks = store.marks();
+    [marks.get(0), marks.get(1), marks.get(2)] == wanted
 }
 
 /// Gives the key request of a guest, and makes so many calls.
 fn goes_on(store: &mut Store<LogDisk<MemDisk>>, guest: u16, times: u32) -> bool {
-    give_key(store, guest) && advance(store, times).is_some()
+    give_key(store, guest) && advance(store, times)
 }
 
 #[test]
@@ -182,8 +179,8 @@ fn one_sync_serves_every_phase(rt: HostRuntime) -> Result<(), Fail> {
     let mut store = fresh(rt.alloc(), &[1, 1, 1])?;
     assert!(rt; goes_on(&mut store, 0, 2) && goes_on(&mut store, 1, 3) && give_key(&mut store, 2));
     // Guest 0 is at its home record, guest 1 at its gate, guest 2 at its payload.
-    assert!(rt; marks_three(advance(&mut store, 3), [1, 0, 0]));
-    assert!(rt; marks_three(advance(&mut store, 1), [1, 1, 0]));
+    assert!(rt; marks_three(&mut store, 3, [1, 0, 0]));
+    assert!(rt; marks_three(&mut store, 1, [1, 1, 0]));
     Ok(())
 }
 

@@ -1,9 +1,9 @@
 //! Openings of many guests, and of the largest partition.
-use super::{KEY, board};
+use super::{KEY, format_all, opened};
+use crate::tests::boards::board;
 use disk::{Disk, MemDisk};
 use flusher::Store;
 use intent_slots::{Home, Layout};
-use recovery::{format, open};
 use rpmb_core::Partition;
 use rpmb_frame::BoardConfig;
 use std::alloc::Global;
@@ -11,23 +11,10 @@ use std::test::Fail;
 
 /// A formatted disk, on which other bytes stood.
 pub fn formatted(alloc: Global, board: &BoardConfig) -> Result<MemDisk, Fail> {
-    let layout = Layout::of(board);
-    let mut disk = MemDisk::new(vec![in alloc; 0xee; layout.length() as usize]?);
-    if disk.len() == layout.length() {
-        format(&mut disk, board)?;
-    }
+    let length = Layout::of(board).length();
+    let mut disk = MemDisk::new(vec![in alloc; 0xee; length as usize]?);
+    format_all(&mut disk, board)?;
     Ok(disk)
-}
-
-fn opened(
-    alloc: Global,
-    disk: MemDisk,
-    board: &BoardConfig,
-) -> Result<(Store<MemDisk>, Vec<Partition>), Fail> {
-    match open(alloc, disk, board) {
-        Ok(opened) => Ok(opened),
-        Err((_, fault)) => Err(fault.into()),
-    }
 }
 
 /// A fresh image, but for the last guest's home record: it has a key, and the counter 5.
@@ -85,17 +72,23 @@ fn many_guests(rt: HostRuntime) -> Result<(), Fail> {
     Ok(())
 }
 
+/// Whether a partition is fresh, and has 65,536 blocks.
+fn is_largest(partition: Option<&Partition>) -> bool {
+    match partition {
+        Some(partition) => {
+            partition.capacity() == 128
+                && partition.key().is_none()
+                && partition.block(65_535) == [0; 256]
+        }
+        None => false,
+    }
+}
+
 #[test]
 fn the_largest_partition(rt: HostRuntime) -> Result<(), Fail> {
     let alloc = rt.alloc();
     let board = board(alloc, &[1, 128])?;
     let (_, partitions) = opened(alloc, formatted(alloc, &board)?, &board)?;
-    let partition = partitions.get(1).ok_or("no partition")?;
-    assert_eq!(rt;
-        (partition.capacity(), partition.key().is_none()),
-        (128, true)
-    );
-    // The last one of 65,536 blocks.
-    assert!(rt; partition.block(65_535) == [0; 256]);
+    assert!(rt; is_largest(partitions.get(1)));
     Ok(())
 }

@@ -1,0 +1,315 @@
+//! Scenes as tables: what is asked of a book and its store, line by line, and what is seen then.
+
+use crate::tests::image::{fresh_store, settle};
+use crate::tests::scene::{
+    KEY, Scene, accepted, get_write_counter, has_tail, job_of, program_key, result_read, scene_of,
+    write_of,
+};
+use disk::CutDisk;
+use flusher::Store;
+use hmac256::mac_of;
+use intent_slots::Intent;
+use mmio_transport::{Done, Job};
+use rpmb_frame::Frame;
+use std::alloc::{AllocError, Global};
+use std::test::Fail;
+
+/// A request, in a chain with room for one frame.
+#[derive(Clone, Copy)]
+pub enum Asked {
+    /// A key of 32 such bytes is programmed.
+    Key(u8),
+    /// Block 0 is written, with bytes of this kind, under this write counter.
+    Write(u8, u32),
+    /// So many blocks are written from this address on, the first with bytes 1, the next with bytes 2,
+    /// and so on, under the write counter 0.
+    Blocks(u16, u8),
+    /// The write counter is read, under this nonce.
+    Counter(u8),
+    /// Block 0 is read.
+    Block,
+    /// The result of the request before it is read.
+    LastResult,
+    /// A frame of zeros, which is of no kind.
+    Zeros,
+}
+
+/// How many requests an intent has, the sequence and the counter that it leaves, its address, and the
+/// length and the first and last byte of its blocks.
+pub type Told = (usize, u64, u32, u16, usize, Option<u8>, Option<u8>);
+
+/// A line of a scene.
+#[derive(Clone, Copy)]
+pub enum Line {
+    /// The book accepts a request of a guest, in its first session.
+    Ask(u16, Asked),
+    /// The same in its second session.
+    AskNext(u16, Asked),
+    /// The book accepts a guest's request for the result, in a chain that has no room for a reply.
+    AskWithoutRoom(u16),
+    /// The guest's next intent goes to the store.
+    Give(u16),
+    /// It is this one.
+    GiveThis(u16, Told),
+    /// No intent of the guest waits.
+    NoIntent(u16),
+    /// The store makes its calls, until it is idle.
+    Run,
+    /// Up to which sequence the store has what it was given by the guest.
+    Mark(u16, u64),
+    /// The book takes the marks of the store.
+    Settle,
+    /// Up to which sequence the guest is settled.
+    Settled(u16, u64),
+    /// The write counter of the guest's partition.
+    Counter(u16, u32),
+    /// The book learns that its store broke.
+    BreakOff,
+    /// Whether it has learnt that.
+    IsBroken(bool),
+    /// The life that the book was opened with.
+    Life(u64),
+    /// The guest's next reply, of this session, has this need and these last twelve bytes.
+    Reply(u16, u64, u64, [u8; 12]),
+    /// It is a failure in the first session, with need 0: zeros but for these last four bytes.
+    Failure(u16, [u8; 4]),
+    /// It has no bytes.
+    EmptyReply(u16),
+    /// No reply to the guest leaves.
+    NoReply(u16),
+}
+
+/// The frame that reads the block at address 0.
+fn data_read() -> [u8; 512] {
+    Frame::zeros()
+        .with_block_count(1)
+        .with_req_resp(0x0004)
+        .to_bytes()
+}
+
+/// The frames that write so many blocks and ask for the result.
+fn writes_of(alloc: Global, address: u16, count: u8) -> Result<Vec<[u8; 512]>, AllocError> {
+    let mut frames = Vec::with_capacity(alloc, 17)?;
+    for i in 0..count {
+        let frame = Frame::zeros()
+            .with_block_data(&[i + 1; 256])
+            .with_address(address)
+            .with_block_count(u16::from(count))
+            .with_req_resp(0x0003);
+        frames.push(frame.to_bytes())?;
+    }
+    let mac = mac_of(&KEY, &frames);
+    if let Some(last) = frames.last_mut() {
+        *last = Frame::from_bytes(last).with_key_mac(&mac).to_bytes();
+    }
+    frames.push(result_read())?;
+    Ok(frames)
+}
+
+fn listed(alloc: Global, frames: &[[u8; 512]]) -> Result<Vec<[u8; 512]>, AllocError> {
+    Vec::from_slice(alloc, frames)
+}
+
+/// The frames of a request.
+pub fn frames_of(alloc: Global, asked: Asked) -> Result<Vec<[u8; 512]>, AllocError> {
+    match asked {
+        Asked::Key(byte) => listed(alloc, &program_key(&[byte; 32])),
+        Asked::Write(byte, counter) => listed(alloc, &write_of(byte, counter)),
+        Asked::Blocks(address, count) => writes_of(alloc, address, count),
+        Asked::Counter(nonce) => listed(alloc, &get_write_counter(u128::from(nonce))),
+        Asked::Block => listed(alloc, &[data_read()]),
+        Asked::LastResult => listed(alloc, &[result_read()]),
+        Asked::Zeros => listed(alloc, &[[0; 512]]),
+    }
+}
+
+fn ask(
+    alloc: Global,
+    scene: &mut Scene,
+    guest: u16,
+    session: u64,
+    asked: Asked,
+) -> Result<bool, Fail> {
+    let frames = frames_of(alloc, asked)?;
+    let job = job_of(alloc, guest, session, &frames)?;
+    accepted(scene.offer(alloc, job))?;
+    Ok(true)
+}
+
+fn ask_without_room(alloc: Global, scene: &mut Scene, guest: u16) -> Result<bool, Fail> {
+    let request = result_read().to_vec(alloc)?;
+    let job = Job::of(alloc, guest, 1, 5, 3, Vec::new(alloc), request);
+    accepted(scene.offer(alloc, job))?;
+    Ok(true)
+}
+
+fn told(intent: &Intent) -> Told {
+    let count = intent.entries();
+    let entry = intent.entry(0);
+    let blocks = entry.blocks();
+    (
+        count,
+        intent.last_sequence(),
+        intent.first_counter(),
+        entry.address(),
+        blocks.len(),
+        blocks.first().copied(),
+        blocks.last().copied(),
+    )
+}
+
+/// Whether it is the guest's intent, under the key, and this one where one is told.
+fn is_intent(intent: &Intent, guest: u16, wanted: Option<Told>) -> bool {
+    match wanted {
+        Some(wanted) => {
+            intent.guest() == guest && intent.key() == &KEY && told(intent) == wanted
+        }
+        None => true,
+    }
+}
+
+/// The guest's next intent, where it is the one that is told.
+fn taken(scene: &mut Scene, guest: u16, wanted: Option<Told>) -> Option<Intent> {
+    match scene.book.take(&mut scene.shares, guest) {
+        Ok(Some(intent)) if is_intent(&intent, guest, wanted) => Some(intent),
+        _ => None,
+    }
+}
+
+/// Gives an intent to the store, where it may be given.
+fn gives(store: &mut Store<CutDisk>, intent: Intent) -> bool {
+    if !store.takes(&intent) {
+        return false;
+    }
+    store.give(intent);
+    true
+}
+
+fn hand_over(
+    scene: &mut Scene,
+    store: &mut Store<CutDisk>,
+    guest: u16,
+    wanted: Option<Told>,
+) -> bool {
+    match taken(scene, guest, wanted) {
+        Some(intent) => gives(store, intent),
+        None => false,
+    }
+}
+
+fn has_no_intent(scene: &mut Scene, guest: u16) -> bool {
+    matches!(scene.book.take(&mut scene.shares, guest), Ok(None))
+}
+
+fn has_no_reply(scene: &mut Scene, guest: u16) -> bool {
+    scene.book.collect(guest).is_none()
+}
+
+fn is_settled(scene: &Scene, guest: u16, sequence: u64) -> bool {
+    scene.book.settled(guest) == Some(sequence)
+}
+
+fn has_counter(scene: &Scene, guest: u16, counter: u32) -> bool {
+    match scene.book.partition(guest) {
+        Some(partition) => partition.counter() == counter,
+        None => false,
+    }
+}
+
+fn break_off(scene: &mut Scene) -> bool {
+    scene.book.break_off();
+    true
+}
+
+/// Whether it answers a request of this guest and session, with the id and the need that are told.
+fn is_answer(done: &Done, guest: u16, session: u64, need: u64) -> bool {
+    (done.guest(), done.session(), done.id(), done.need()) == (guest, session, 5, need)
+}
+
+fn replies(scene: &mut Scene, guest: u16, session: u64, need: u64, tail: &[u8; 12]) -> bool {
+    match scene.book.collect(guest) {
+        Some(done) => is_answer(&done, guest, session, need) && has_tail(done.reply(), tail),
+        None => false,
+    }
+}
+
+/// The bytes of a failure: zeros but for the last four.
+fn failure_of(end: [u8; 4]) -> [u8; 512] {
+    let mut bytes = [0; 512];
+    bytes[508..].copy_from_slice(&end);
+    bytes
+}
+
+pub fn fails(scene: &mut Scene, guest: u16, end: [u8; 4]) -> bool {
+    match scene.book.collect(guest) {
+        Some(done) => {
+            is_answer(&done, guest, 1, 0) && done.reply() == failure_of(end).as_slice()
+        }
+        None => false,
+    }
+}
+
+fn replies_nothing(scene: &mut Scene, guest: u16) -> bool {
+    match scene.book.collect(guest) {
+        Some(done) => done.reply().is_empty(),
+        None => false,
+    }
+}
+
+fn runs(store: &mut Store<CutDisk>) -> Result<bool, Fail> {
+    settle(store)?;
+    Ok(true)
+}
+
+/// Whether a line happens as it is told.
+fn happens(
+    alloc: Global,
+    scene: &mut Scene,
+    store: &mut Store<CutDisk>,
+    line: Line,
+) -> Result<bool, Fail> {
+    match line {
+        Line::Ask(guest, asked) => ask(alloc, scene, guest, 1, asked),
+        Line::AskNext(guest, asked) => ask(alloc, scene, guest, 2, asked),
+        Line::AskWithoutRoom(guest) => ask_without_room(alloc, scene, guest),
+        Line::Run => runs(store),
+        Line::Give(guest) => Ok(hand_over(scene, store, guest, None)),
+        Line::GiveThis(guest, intent) => Ok(hand_over(scene, store, guest, Some(intent))),
+        Line::NoIntent(guest) => Ok(has_no_intent(scene, guest)),
+        Line::Mark(guest, sequence) => Ok(store.marks().get(guest) == sequence),
+        Line::Settle => Ok(scene.settles(store.marks())),
+        Line::Settled(guest, sequence) => Ok(is_settled(scene, guest, sequence)),
+        Line::Counter(guest, counter) => Ok(has_counter(scene, guest, counter)),
+        Line::BreakOff => Ok(break_off(scene)),
+        Line::IsBroken(broken) => Ok(scene.book.is_broken() == broken),
+        Line::Life(life) => Ok(scene.book.life() == life),
+        Line::Reply(guest, session, need, tail) => Ok(replies(scene, guest, session, need, &tail)),
+        Line::Failure(guest, end) => Ok(fails(scene, guest, end)),
+        Line::EmptyReply(guest) => Ok(replies_nothing(scene, guest)),
+        Line::NoReply(guest) => Ok(has_no_reply(scene, guest)),
+    }
+}
+
+/// How many lines of a scene happen as they are told, from the first on.
+pub fn play(
+    alloc: Global,
+    scene: &mut Scene,
+    store: &mut Store<CutDisk>,
+    lines: &[Line],
+) -> Result<usize, Fail> {
+    for (number, line) in lines.iter().enumerate() {
+        if !happens(alloc, scene, store, *line)? {
+            return Ok(number);
+        }
+    }
+    Ok(lines.len())
+}
+
+fn play_on(alloc: Global, guests: usize, scene: &mut Scene, lines: &[Line]) -> Result<usize, Fail> {
+    play(alloc, scene, &mut fresh_store(alloc, guests)?, lines)
+}
+
+/// The same of a scene of its own, with so many guests.
+pub fn played(alloc: Global, guests: usize, lines: &[Line]) -> Result<usize, Fail> {
+    play_on(alloc, guests, &mut scene_of(alloc, guests)?, lines)
+}
