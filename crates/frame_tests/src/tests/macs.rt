@@ -5,7 +5,7 @@ use sha2::{Digest, Sha256};
 
 /// The test cases of RFC 4231 whose key has at most 64 bytes (4.2 to 4.6; the last is cut to 128
 /// bits), and a key of a whole block, by Python's hmac: key, text, MAC.
-const CASES: [(&[u8], &[u8], &[u8]); 6] = [
+static CASES: [(&[u8], &[u8], &[u8]); 6] = [
     (
         &[0x0b; 20],
         b"Hi There",
@@ -65,7 +65,7 @@ const CASES: [(&[u8], &[u8], &[u8]); 6] = [
 ];
 
 /// The MACs of the first 0, 1, 2 and 3 of the frames below under 32 bytes 0x11, by Python's hmac.
-const MACS: [[u8; 32]; 4] = [
+static MACS: [[u8; 32]; 4] = [
     [
         0x02, 0xc2, 0xca, 0xe4, 0x5f, 0x82, 0xce, 0x4b, 0x76, 0xcc, 0x75, 0xa1, 0x8b, 0x9a, 0xf0,
         0xd6, 0x7e, 0xc9, 0xb2, 0xea, 0xe1, 0x69, 0x5d, 0x04, 0x80, 0xf3, 0x42, 0x25, 0x33, 0xbb,
@@ -88,13 +88,17 @@ const MACS: [[u8; 32]; 4] = [
     ],
 ];
 
+/// Whether the HMAC of these pieces, under a key of at most 64 bytes, begins with these bytes.
+fn begins_with(key: &[u8], pieces: &[&[u8]], mac: &[u8]) -> bool {
+    key.len() <= 64 && hmac(key, pieces).starts_with(mac)
+}
+
 #[test]
 fn hmac_of_the_cases(rt: HostRuntime) {
-    for (key, text, mac) in CASES {
-        let half = text.len() / 2;
-        let pieces: [&[u8]; 3] = [&text[..half], &[], &text[half..]];
-        assert_eq!(rt; &hmac(key, &pieces)[..mac.len()], mac);
-        assert_eq!(rt; &hmac(key, &[text])[..mac.len()], mac);
+    for &(key, text, mac) in &CASES {
+        let (first, last) = text.split_at(text.len() / 2);
+        assert!(rt; begins_with(key, &[first, &[], last], mac), "{key:?}");
+        assert!(rt; begins_with(key, &[text], mac), "{key:?}");
     }
 }
 

@@ -15,7 +15,7 @@ use rpmb_core::{Partition, fail, failure_kind};
 use rpmb_frame::{Limits, Request};
 use std::alloc::Global;
 use std::test::Fail;
-use steps::{Row, Scenario, expected, frames_of, limits_of, take_steps};
+use steps::{Row, Scenario, Step, are_whole, expected, frames_of, limits_of, take_steps};
 use without_key::WITHOUT_KEY;
 
 /// The state that steps left: the key, the write counter, the sequence, and the first byte of the
@@ -52,41 +52,32 @@ fn leave(
     Ok(left(&partition) == state && left(&copy) == state && copy.capacity() == capacity)
 }
 
-#[test]
-fn replies_and_what_they_leave(rt: HostRuntime) -> Result<(), Fail> {
-    let alloc = rt.alloc();
-    assert!(rt; leave(alloc, 1, (16, 16), &WITHOUT_KEY, (None, 0, 0, [0; 5]))?);
-    assert!(rt; leave(alloc, 1, (16, 16), &REFUSALS, (KEYED, 0, 1, [0; 5]))?);
-    assert!(rt;
-        leave(
-            alloc,
+/// The units of a partition, the limits of its guest, steps, and the state that they leave. A static
+/// can't refer to the scenarios, which are statics.
+fn cases() -> [(u8, (u8, u8), &'static Scenario, Left); 8] {
+    [
+        (1, (16, 16), &WITHOUT_KEY, (None, 0, 0, [0; 5])),
+        (1, (16, 16), &REFUSALS, (KEYED, 0, 1, [0; 5])),
+        (
             1,
             (16, 16),
             &BLOCKS,
-            (KEYED, 2, 3, [0, 0x30, 0x3f, 0xa5, 0])
-        )?
-    );
-    assert!(rt;
-        leave(
-            alloc,
-            1,
-            (16, 16),
-            &ALONE,
-            (KEYED, 1, 2, [0xa5, 0, 0, 0, 0])
-        )?
-    );
-    assert!(rt;
-        leave(
-            alloc,
-            1,
-            (2, 1),
-            &LIMITED,
-            (KEYED, 1, 2, [0, 0, 0, 0xa6, 0])
-        )?
-    );
-    assert!(rt; leave(alloc, 1, (16, 16), &FIELDS, (KEYED, 2, 3, [0; 5]))?);
-    assert!(rt; leave(alloc, 2, (16, 16), &CAPACITY_2, (KEYED, 1, 2, [0; 5]))?);
-    assert!(rt; leave(alloc, 128, (16, 16), &CAPACITY_128, (KEYED, 1, 2, [0; 5]))?);
+            (KEYED, 2, 3, [0, 0x30, 0x3f, 0xa5, 0]),
+        ),
+        (1, (16, 16), &ALONE, (KEYED, 1, 2, [0xa5, 0, 0, 0, 0])),
+        (1, (2, 1), &LIMITED, (KEYED, 1, 2, [0, 0, 0, 0xa6, 0])),
+        (1, (16, 16), &FIELDS, (KEYED, 2, 3, [0; 5])),
+        (2, (16, 16), &CAPACITY_2, (KEYED, 1, 2, [0; 5])),
+        (128, (16, 16), &CAPACITY_128, (KEYED, 1, 2, [0; 5])),
+    ]
+}
+
+#[test]
+fn replies_and_what_they_leave(rt: HostRuntime) -> Result<(), Fail> {
+    for (place, (capacity, counts, scenario, state)) in cases().iter().enumerate() {
+        let is_left = leave(rt.alloc(), *capacity, *counts, scenario, *state)?;
+        assert!(rt; is_left, "row {place}");
+    }
     Ok(())
 }
 
@@ -109,7 +100,7 @@ fn fails_as_told(
     alloc: Global,
     request: &Request<'_>,
     code: u16,
-    told: &[&Row],
+    told: &[Row],
 ) -> Result<bool, Fail> {
     let mut out = [0xee; 8192];
     let len = Partition::failure(request, code, &mut out);
@@ -118,23 +109,37 @@ fn fails_as_told(
     Ok(len == 512 * told.len().min(16) && out == expected(told) && reply.as_slice() == &out[..len])
 }
 
+/// Whether the failure reply to a step's request is as told.
+fn step_fails_as_told(
+    alloc: Global,
+    limits: Limits,
+    step: &Step,
+    request: &[Row],
+    reply: &[Row],
+) -> Result<bool, Fail> {
+    let (_, writable, code, _) = *step;
+    let frames = frames_of(request);
+    let Some(bytes) = frames.as_flattened().get(..512 * request.len().min(18)) else {
+        return Ok(false);
+    };
+    let request = Request::classify(bytes, writable, limits);
+    fails_as_told(alloc, &request, code, reply)
+}
+
 #[test]
 fn failure_replies(rt: HostRuntime) -> Result<(), Fail> {
     let limits = limits_of(rt.alloc(), (16, 16))?;
+    assert!(rt; are_whole(FAILURES.requests) && are_whole(FAILURES.replies));
     let (mut requests, mut replies) = (FAILURES.requests, FAILURES.replies);
-    for (place, (asked, writable, code, given)) in FAILURES.steps.iter().enumerate() {
-        let (Some(request), Some(reply)) = (requests.get(..*asked), replies.get(..*given)) else {
+    for (place, step) in FAILURES.steps.iter().enumerate() {
+        let (asked, given) = (step.0, step.3);
+        let (Some(request), Some(reply)) = (requests.get(..asked), replies.get(..given)) else {
             return Err(Fail::new(format_args!("step {place} lacks frames")));
         };
-        let frames = frames_of(request);
-        let bytes = frames.as_flattened().get(..512 * request.len().min(18));
-        let request = Request::classify(bytes.unwrap_or_default(), *writable, limits);
-        assert!(rt;
-            fails_as_told(rt.alloc(), &request, *code, reply)?,
-            "step {place}"
-        );
-        requests = &requests[*asked..];
-        replies = &replies[*given..];
+        let fails = step_fails_as_told(rt.alloc(), limits, step, request, reply)?;
+        assert!(rt; fails, "step {place}");
+        requests = &requests[asked..];
+        replies = &replies[given..];
     }
     Ok(())
 }

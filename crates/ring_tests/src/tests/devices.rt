@@ -9,7 +9,7 @@ use mmio_transport::register::{
     DRIVER_FEATURES, DRIVER_FEATURES_SEL, QUEUE_DESC_LOW, QUEUE_DEVICE_LOW, QUEUE_DRIVER_LOW,
     QUEUE_NUM, QUEUE_READY, STATUS,
 };
-use mmio_transport::{Device, Done, Job};
+use mmio_transport::{Device, Done, Job, Published};
 use rpmb_frame::GuestConfig;
 use std::alloc::Global;
 use std::test::Fail;
@@ -98,50 +98,58 @@ fn is_live(device: &Device) -> bool {
     device.read(STATUS, 4) == 15 && device.read(QUEUE_READY, 4) == 1
 }
 
-// struct virtq_desc of VIRTIO 1.2, 2.7.5: le64 addr, le32 len, le16 flags, le16 next.
-type Descriptor = (u64, u32, u16, u16);
-
-fn descriptor(fields: Descriptor) -> [u8; 16] {
-    let (addr, len, flags, next) = fields;
-    let mut bytes = [0; 16];
-    bytes[..8].copy_from_slice(&addr.to_le_bytes());
-    bytes[8..12].copy_from_slice(&len.to_le_bytes());
-    bytes[12..14].copy_from_slice(&flags.to_le_bytes());
-    bytes[14..].copy_from_slice(&next.to_le_bytes());
-    bytes
-}
-
 // All of guest memory, as a sum in which each byte counts by its place.
-fn fingerprint(device: &Device) -> Result<u64, Fail> {
+fn fingerprint(device: &Device) -> Option<u64> {
     let mut sum: u64 = 0;
     let mut block = [0; 64];
     for i in 0..SIZE / 64 {
-        device
-            .load(64 * i, &mut block)
-            .ok()
-            .ok_or("a load outside")?;
+        device.load(64 * i, &mut block).ok()?;
         for byte in block {
             sum = (sum.wrapping_mul(31)).wrapping_add(byte as u64);
         }
     }
-    Ok(sum)
+    Some(sum)
 }
 
-// The reply of these bytes to a job.
-fn answer(alloc: Global, job: Job, bytes: &[u8], need: u64) -> Result<Done, Fail> {
-    let Ok(reply) = bytes.to_vec(alloc) else {
-        return Err(Fail::from("no memory"));
-    };
+// The reply of these bytes to a job, where it has room for them. A job and its reply are dear to prove
+// where a `?` may let them go: what is done with them is told by a value.
+fn answer(alloc: Global, job: Job, bytes: &[u8], need: u64) -> Option<Done> {
+    let reply = bytes.to_vec(alloc).ok()?;
     if reply.len() as u64 > job.writable() {
-        return Err(Fail::from("no room for the reply"));
+        return None;
     }
-    Ok(Done::of(job, reply, need))
+    Some(Done::of(job, reply, need))
+}
+
+// Whether the reply of these bytes to a job is written.
+pub fn is_written(alloc: Global, device: &mut Device, job: Job, bytes: &[u8]) -> bool {
+    match answer(alloc, job, bytes, 0) {
+        Some(done) => device.publish(done) != Published::Dropped,
+        None => false,
+    }
 }
 
 fn pop(device: &mut Device) -> Result<Job, Fail> {
     match device.pop() {
         Ok(Some(job)) => Ok(job),
         _ => Err(Fail::from("a job")),
+    }
+}
+
+// Pops a chain of these bytes to be read.
+pub fn pop_of(device: &mut Device, request: &[u8]) -> Result<Job, Fail> {
+    let job = pop(device)?;
+    if job.request() == request {
+        Ok(job)
+    } else {
+        Err(Fail::from("another request"))
+    }
+}
+
+pub fn store(device: &mut Device, at: u64, bytes: &[u8]) -> Result<(), Fail> {
+    match device.store(at, bytes) {
+        Ok(()) => Ok(()),
+        Err(_) => Err(Fail::from("a store outside")),
     }
 }
 
@@ -152,6 +160,6 @@ fn load12(device: &Device, at: u64) -> Result<[u8; 12], Fail> {
     Ok(bytes)
 }
 
-fn check(holds: bool, what: &'static str) -> Result<(), Fail> {
+pub fn check(holds: bool, what: &'static str) -> Result<(), Fail> {
     if holds { Ok(()) } else { Err(Fail::from(what)) }
 }

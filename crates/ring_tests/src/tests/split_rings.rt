@@ -1,16 +1,17 @@
-use chains::{ChainFault, Places, Popped, Reads, RingFault};
+use super::descriptors::{
+    Descriptor, INDIRECT, NEXT, WRITE, describe, holds, memory_of, put, set_word,
+};
+use super::queues::{
+    Answer, BAD_RANGE, BAD_TABLE, OLD_NUMBER, ORDER, Queue, Step, TOO_LONG, go, popped_of,
+    pops_256, publishes_256, take,
+};
+use chains::{Places, Popped, Reads};
 use guest_memory::Memory;
 use split_ring::Ring;
 use std::alloc::Global;
 use std::test::Fail;
 
 const SIZE: u64 = 65536;
-
-const NEXT: u16 = 1;
-
-const WRITE: u16 = 2;
-
-const INDIRECT: u16 = 4;
 
 // A queue of 4: the descriptors at 0, the available ring at 64, the used ring at 96.
 const PLACES: Places = Places {
@@ -29,218 +30,143 @@ const USED_RING: u64 = 96;
 
 const AVAIL_EVENT: u64 = 132;
 
-// The 16 bytes of a descriptor: le64 addr, le32 len, le16 flags, le16 next.
-fn descriptor(fields: Descriptor) -> [u8; 16] {
-    let (addr, len, flags, next) = fields;
-    let mut bytes = [0; 16];
-    bytes[..8].copy_from_slice(&addr.to_le_bytes());
-    bytes[8..12].copy_from_slice(&len.to_le_bytes());
-    bytes[12..14].copy_from_slice(&flags.to_le_bytes());
-    bytes[14..].copy_from_slice(&next.to_le_bytes());
-    bytes
+pub fn ring_of(alloc: Global, places: Places, size: u16) -> Result<Ring, Fail> {
+    let ring = Ring::new(alloc, places, size).ok().ok_or("no ring")?;
+    Ok(ring)
 }
-
-fn word(memory: &Memory, at: u64) -> Result<u16, Fail> {
-    let mut bytes = [0; 2];
-    memory.read(at, &mut bytes).ok().ok_or("a word outside")?;
-    Ok(u16::from_le_bytes(bytes))
-}
-
-fn put(memory: &mut Memory, at: u64, bytes: &[u8]) -> Result<(), Fail> {
-    match memory.write(at, bytes) {
-        Ok(()) => Ok(()),
-        Err(_) => Err(Fail::from("a write outside")),
-    }
-}
-
-fn set_word(memory: &mut Memory, at: u64, word: u16) -> Result<(), Fail> {
-    put(memory, at, &word.to_le_bytes())
-}
-
-fn new_ring(alloc: Global) -> Result<(Memory, Ring), Fail> {
-    let memory = Memory::new(alloc, SIZE).ok().ok_or("no memory")?;
-    let ring = Ring::new(alloc, PLACES, 4).ok().ok_or("no ring")?;
-    Ok((memory, ring))
-}
-
-// What a pop answers: how many bytes may be read and written, or the refusal's number, or nothing.
-#[derive(PartialEq, Eq, Clone, Copy)]
-enum Answer {
-    Chain(usize, u64),
-    Refused(u8),
-    Nothing,
-}
-
-fn pop(
-    alloc: Global,
-    ring: &mut Ring,
-    memory: &mut Memory,
-    reads: &mut Reads,
-) -> Result<Answer, Fail> {
-    if !ring.lies_in(memory) || ring.last() > 1000000 {
-        return Err(Fail::from("the ring isn't inside"));
-    }
-    let number = ring.last() + 1;
-    Ok(match ring.pop(alloc, memory, reads, number) {
-        Ok(Some(popped)) => Answer::Chain(popped.request.len(), popped.chain.writable_len()),
-        Ok(None) => Answer::Nothing,
-        Err(RingFault::OldNumber) => Answer::Refused(1),
-        Err(RingFault::NoMemory) => Answer::Refused(2),
-        Err(RingFault::Refused(ChainFault::TooLong)) => Answer::Refused(3),
-        Err(RingFault::Refused(ChainFault::BadRange)) => Answer::Refused(4),
-        Err(RingFault::Refused(ChainFault::Order)) => Answer::Refused(5),
-        Err(RingFault::Refused(ChainFault::BadTable)) => Answer::Refused(6),
-    })
-}
-
-// struct virtq_desc of VIRTIO 1.2, 2.7.5, as its four fields.
-type Descriptor = (u64, u32, u16, u16);
 
 const PLAIN: Descriptor = (200, 8, 0, 0);
 
 // Two descriptors, what the pop of the first answers, and how many it reads.
-const HOSTILE: [([Descriptor; 2], Answer, u64); 12] = [
+static HOSTILE: [(Descriptor, Descriptor, Answer, u64); 12] = [
     // A descriptor that names itself, and two that name each other.
-    ([(200, 8, NEXT, 0), PLAIN], Answer::Refused(3), 4),
-    (
-        [(200, 8, NEXT, 1), (200, 8, NEXT, 0)],
-        Answer::Refused(3),
-        4,
-    ),
+    ((200, 8, NEXT, 0), PLAIN, TOO_LONG, 4),
+    ((200, 8, NEXT, 1), (200, 8, NEXT, 0), TOO_LONG, 4),
     // A next that the table doesn't have.
-    ([(200, 8, NEXT, 4), PLAIN], Answer::Refused(4), 1),
+    ((200, 8, NEXT, 4), PLAIN, BAD_RANGE, 1),
     // Buffers at the end of the memory.
-    ([(SIZE - 1, 1, 0, 0), PLAIN], Answer::Chain(1, 0), 1),
-    ([(SIZE, 0, WRITE, 0), PLAIN], Answer::Chain(0, 0), 1),
-    ([(SIZE - 1, 2, 0, 0), PLAIN], Answer::Refused(4), 1),
-    ([(u64::MAX, 1, WRITE, 0), PLAIN], Answer::Refused(4), 1),
-    // Readable after writable, also where one is empty; both outside and out of order is 4.
-    ([(200, 8, WRITE + NEXT, 1), PLAIN], Answer::Refused(5), 2),
-    (
-        [(200, 0, WRITE + NEXT, 1), (200, 0, 0, 0)],
-        Answer::Refused(5),
-        2,
-    ),
-    (
-        [(200, 8, WRITE + NEXT, 1), (SIZE, 1, 0, 0)],
-        Answer::Refused(4),
-        2,
-    ),
+    ((SIZE - 1, 1, 0, 0), PLAIN, Answer::Chain(0, 1, 1, 0), 1),
+    ((SIZE, 0, WRITE, 0), PLAIN, Answer::Chain(0, 1, 0, 0), 1),
+    ((SIZE - 1, 2, 0, 0), PLAIN, BAD_RANGE, 1),
+    ((u64::MAX, 1, WRITE, 0), PLAIN, BAD_RANGE, 1),
+    // Readable after writable, also where one is empty; both outside and out of order is BadRange.
+    ((200, 8, WRITE + NEXT, 1), PLAIN, ORDER, 2),
+    ((200, 0, WRITE + NEXT, 1), (200, 0, 0, 0), ORDER, 2),
+    ((200, 8, WRITE + NEXT, 1), (SIZE, 1, 0, 0), BAD_RANGE, 2),
     // A table, which wasn't accepted.
-    ([(1024, 16, INDIRECT, 0), PLAIN], Answer::Refused(6), 1),
+    ((1024, 16, INDIRECT, 0), PLAIN, BAD_TABLE, 1),
     (
-        [(200, 8, NEXT, 1), (300, 9, WRITE, 0)],
-        Answer::Chain(8, 9),
+        (200, 8, NEXT, 1),
+        (300, 9, WRITE, 0),
+        Answer::Chain(0, 1, 8, 9),
         2,
     ),
 ];
 
-fn offer(memory: &mut Memory, descriptors: [Descriptor; 2]) -> Result<(), Fail> {
-    put(memory, 0, &descriptor(descriptors[0]))?;
-    put(memory, 16, &descriptor(descriptors[1]))?;
-    set_word(memory, AVAIL_IDX, 1)
-}
-
-fn popped_of(alloc: Global, descriptors: [Descriptor; 2]) -> Result<(Answer, u64), Fail> {
-    let (mut memory, mut ring) = new_ring(alloc)?;
-    offer(&mut memory, descriptors)?;
-    let mut reads = Reads::new();
-    let answer = pop(alloc, &mut ring, &mut memory, &mut reads)?;
-    Ok((answer, reads.count()))
-}
+static ONE_AVAILABLE: [Step; 1] = [Step::StoresWord(AVAIL_IDX, 1)];
 
 #[test]
 fn hostile_chains(rt: HostRuntime) -> Result<(), Fail> {
-    for (place, (descriptors, answer, count)) in HOSTILE.iter().enumerate() {
-        let popped = popped_of(rt.alloc(), *descriptors)?;
+    for (place, (first, second, answer, count)) in HOSTILE.iter().enumerate() {
+        let ring = ring_of(rt.alloc(), PLACES, 4)?;
+        let popped = popped_of(rt.alloc(), ring, &ONE_AVAILABLE, *first, *second)?;
         assert!(rt; popped == (*answer, *count), "at {place}");
     }
     Ok(())
 }
 
 // Five places are available of a ring of four: nothing is read, and nothing changes.
-fn jumps(alloc: Global, memory: &mut Memory, ring: &mut Ring) -> Result<bool, Fail> {
-    let mut reads = Reads::new();
-    set_word(memory, AVAIL_IDX, 5)?;
-    let before = copy(memory, alloc)?;
-    let answer = pop(alloc, ring, memory, &mut reads)?;
-    Ok(answer == Answer::Refused(4) && copy(memory, alloc)? == before && reads.count() == 0)
-}
+static AN_INDEX_THAT_JUMPS: [Step; 12] = [
+    Step::Describes(0, PLAIN),
+    Step::StoresWord(AVAIL_EVENT, 77),
+    Step::StoresWord(AVAIL_IDX, 5),
+    Step::Pops(1, BAD_RANGE),
+    Step::Reads(0),
+    Step::StoresWord(AVAIL_IDX, 4),
+    Step::Pops(1, Answer::Chain(0, 1, 8, 0)),
+    Step::Pops(2, Answer::Chain(0, 1, 8, 0)),
+    Step::Pops(3, Answer::Chain(0, 1, 8, 0)),
+    Step::Pops(4, Answer::Chain(0, 1, 8, 0)),
+    Step::Pops(5, Answer::Nothing),
+    Step::HoldsWord(AVAIL_EVENT, 4),
+];
 
-fn pops_four(alloc: Global, memory: &mut Memory, ring: &mut Ring) -> Result<bool, Fail> {
-    let mut reads = Reads::new();
-    set_word(memory, AVAIL_IDX, 4)?;
-    for _ in 0..4 {
-        if pop(alloc, ring, memory, &mut reads)? != Answer::Chain(8, 0) {
-            return Ok(false);
-        }
-    }
-    Ok(pop(alloc, ring, memory, &mut reads)? == Answer::Nothing)
-}
+// A number that isn't above those before gives no chain, and changes nothing.
+static A_NUMBER_IS_TAKEN_ONCE: [Step; 6] = [
+    Step::Describes(0, PLAIN),
+    Step::StoresWord(AVAIL_IDX, 2),
+    Step::Pops(0, OLD_NUMBER),
+    Step::Pops(1, Answer::Chain(0, 1, 8, 0)),
+    Step::Pops(1, OLD_NUMBER),
+    Step::Pops(2, Answer::Chain(0, 1, 8, 0)),
+];
+
+static THE_LARGEST_NUMBER_IS_TAKEN: [Step; 4] = [
+    Step::Describes(0, PLAIN),
+    Step::StoresWord(AVAIL_IDX, 2),
+    Step::Pops(u64::MAX, Answer::Chain(0, 1, 8, 0)),
+    Step::Pops(u64::MAX, OLD_NUMBER),
+];
 
 #[test]
-fn an_index_that_jumps(rt: HostRuntime) -> Result<(), Fail> {
-    let (mut memory, mut ring) = new_ring(rt.alloc())?;
-    put(&mut memory, 0, &descriptor(PLAIN))?;
-    set_word(&mut memory, AVAIL_EVENT, 77)?;
-    assert!(rt; jumps(rt.alloc(), &mut memory, &mut ring)?);
-    assert!(rt; pops_four(rt.alloc(), &mut memory, &mut ring)?);
-    assert_eq!(rt; word(&memory, AVAIL_EVENT)?, 4);
+fn indexes_and_numbers(rt: HostRuntime) -> Result<(), Fail> {
+    for steps in [
+        &AN_INDEX_THAT_JUMPS as &[Step],
+        &A_NUMBER_IS_TAKEN_ONCE,
+        &THE_LARGEST_NUMBER_IS_TAKEN,
+    ] {
+        go(rt.alloc(), SIZE, ring_of(rt.alloc(), PLACES, 4)?, steps)?;
+    }
     Ok(())
-}
-
-// The bytes of a memory.
-fn copy(memory: &Memory, alloc: Global) -> Result<Vec<u8>, Fail> {
-    let mut bytes = vec![in alloc; 0; SIZE as usize]?;
-    memory.read(0, &mut bytes).ok().ok_or("copy")?;
-    Ok(bytes)
 }
 
 // Pops and publishes one chain, up to this index, and answers whether the driver is to be notified.
 fn serve(alloc: Global, memory: &mut Memory, ring: &mut Ring, index: u16) -> Result<bool, Fail> {
-    let mut reads = Reads::new();
     set_word(memory, AVAIL_IDX, index)?;
-    if pop(alloc, ring, memory, &mut reads)? != Answer::Chain(0, 8) {
+    let number = ring.last_number().saturating_add(1);
+    let popped = ring.pop_by(alloc, memory, &mut Reads::new(), number)?;
+    if popped != Answer::Chain(0, 1, 0, 8) {
         return Err(Fail::from("no chain"));
     }
-    let number = ring.last();
-    if !ring.lies_in(memory) || !ring.is_outstanding(number, 0, 1) {
-        return Err(Fail::from("not outstanding"));
-    }
-    Ok(ring.publish(memory, number, 0, 1, 8))
+    ring.give_back(memory, number, 0, 1, 8)
 }
 
 // Pops and publishes one chain for each place from 0 to 131,071, so that the indexes run round twice,
 // and answers whether the last one is to be notified where the driver asked for the index that
 // `event` names.
 fn notified_at_the_wrap(alloc: Global, event: u16) -> Result<bool, Fail> {
-    let (mut memory, mut ring) = new_ring(alloc)?;
-    put(&mut memory, 0, &descriptor((200, 8, WRITE, 0)))?;
+    let mut memory = memory_of(alloc, SIZE)?;
+    let mut ring = ring_of(alloc, PLACES, 4)?;
+    describe(&mut memory, 0, (200, 8, WRITE, 0))?;
     set_word(&mut memory, USED_EVENT, event)?;
     let mut due = false;
     for place in 0..131072_u64 {
         let index = ((place + 1) % 65536) as u16;
         due = serve(alloc, &mut memory, &mut ring, index)?;
     }
-    if word(&memory, AVAIL_EVENT)? != 0 || word(&memory, USED_RING + 2)? != 0 {
-        return Err(Fail::from("the indexes didn't wrap"));
-    }
+    take(alloc, &mut memory, &mut ring, &WRAPPED)?;
     Ok(due)
 }
 
+static WRAPPED: [Step; 2] = [
+    Step::HoldsWord(AVAIL_EVENT, 0),
+    Step::HoldsWord(USED_RING + 2, 0),
+];
+
 #[test]
 fn notifications_at_the_wrap(rt: HostRuntime) -> Result<(), Fail> {
-    assert!(rt; notified_at_the_wrap(rt.alloc(), 65535)?);
-    assert!(rt; !notified_at_the_wrap(rt.alloc(), 65534)?);
+    for (event, due) in [(65535, true), (65534, false)] {
+        let notified = notified_at_the_wrap(rt.alloc(), event)?;
+        assert!(rt; notified == due, "{event}");
+    }
     Ok(())
 }
 
-fn pop_one(alloc: Global, memory: &mut Memory, ring: &mut Ring) -> Result<Popped, Fail> {
-    if !ring.lies_in(memory) || ring.last() > 9 {
+pub fn pop_one(alloc: Global, memory: &mut Memory, ring: &mut Ring) -> Result<Popped, Fail> {
+    if !ring.lies_in(memory) {
         return Err(Fail::from("the ring isn't inside"));
     }
-    let number = ring.last() + 1;
-    match ring.pop(alloc, memory, &mut Reads::new(), number) {
+    match ring.pop(alloc, memory, &mut Reads::new(), 1) {
         Ok(Some(popped)) => Ok(popped),
         _ => Err(Fail::from("no chain")),
     }
@@ -253,43 +179,30 @@ fn reply(memory: &mut Memory, ring: &mut Ring, popped: &Popped) -> Result<bool, 
         return Err(Fail::from("no room for the reply"));
     }
     popped.chain.scatter(memory, &[0xee; 16]);
-    let number = ring.last();
-    if !ring.lies_in(memory) || !ring.is_outstanding(number, popped.id, popped.places) {
-        return Err(Fail::from("not outstanding"));
-    }
-    Ok(ring.publish(memory, number, popped.id, popped.places, 16))
+    ring.give_back(memory, 1, popped.id, popped.places, 16)
 }
 
 // A writable range over the used ring, of the chain 2.
-fn offer_the_used_ring(memory: &mut Memory) -> Result<(), Fail> {
-    put(memory, 32, &descriptor((USED_RING, 16, WRITE, 0)))?;
-    set_word(memory, AVAIL_IDX + 2, 2)?;
-    set_word(memory, AVAIL_IDX, 1)
-}
-
-fn is_replied(alloc: Global, memory: &mut Memory, ring: &mut Ring) -> Result<bool, Fail> {
-    let popped = pop_one(alloc, memory, ring)?;
-    reply(memory, ring, &popped)
-}
-
-fn used_elements(memory: &Memory) -> Result<[u8; 16], Fail> {
-    let mut used = [0; 16];
-    memory.read(USED_RING, &mut used).ok().ok_or("read")?;
-    Ok(used)
-}
+static OFFERED: [Step; 3] = [
+    Step::Describes(32, (USED_RING, 16, WRITE, 0)),
+    Step::StoresWord(AVAIL_IDX + 2, 2),
+    Step::StoresWord(AVAIL_IDX, 1),
+];
 
 // The reply is there first, the used fields over it.
-const OVER_THE_REPLY: [u8; 16] = [
+static OVER_THE_REPLY: [u8; 16] = [
     0xee, 0xee, 1, 0, 2, 0, 0, 0, 16, 0, 0, 0, 0xee, 0xee, 0xee, 0xee,
 ];
 
 #[test]
 fn a_reply_over_the_used_ring(rt: HostRuntime) -> Result<(), Fail> {
-    let (mut memory, mut ring) = new_ring(rt.alloc())?;
-    offer_the_used_ring(&mut memory)?;
+    let mut memory = memory_of(rt.alloc(), SIZE)?;
+    let mut ring = ring_of(rt.alloc(), PLACES, 4)?;
+    take(rt.alloc(), &mut memory, &mut ring, &OFFERED)?;
+    let popped = pop_one(rt.alloc(), &mut memory, &mut ring)?;
     // used_event is 0, which the index passes as it goes from 0 to 1.
-    assert!(rt; is_replied(rt.alloc(), &mut memory, &mut ring)?);
-    assert!(rt; used_elements(&memory)? == OVER_THE_REPLY);
+    assert!(rt; reply(&mut memory, &mut ring, &popped)?);
+    assert!(rt; holds(&memory, USED_RING, &OVER_THE_REPLY));
     Ok(())
 }
 
@@ -305,109 +218,25 @@ const LARGEST: Places = Places {
 // All 256 chains are available, each a descriptor of its own.
 fn offer_all(memory: &mut Memory) -> Result<(), Fail> {
     for place in 0..256_u64 {
-        put(
-            memory,
-            16 * place,
-            &descriptor((20000 + place, 1, WRITE, 0)),
-        )?;
+        describe(memory, 16 * place, (20000 + place, 1, WRITE, 0))?;
         set_word(memory, 4100 + 2 * place, place as u16)?;
     }
     set_word(memory, 4098, 256)
 }
 
-fn pops_all(alloc: Global, memory: &mut Memory, ring: &mut Ring) -> Result<(), Fail> {
-    let mut reads = Reads::new();
-    for _ in 0..256 {
-        if pop(alloc, ring, memory, &mut reads)? != Answer::Chain(0, 1) {
-            return Err(Fail::from("no chain"));
-        }
-    }
-    Ok(())
-}
-
-// The chains are given back, the last popped first.
-fn publishes_in_reverse(memory: &mut Memory, ring: &mut Ring) -> Result<(), Fail> {
-    for place in 0..256_u64 {
-        let number = 256 - place;
-        let id = 255 - place as u16;
-        if !ring.lies_in(memory) || !ring.is_outstanding(number, id, 1) {
-            return Err(Fail::from("not outstanding"));
-        }
-        ring.publish(memory, number, id, 1, 1);
-    }
-    Ok(())
-}
+// The used index, and the elements at the first and the last place.
+static ALL_USED: [Step; 3] = [
+    Step::HoldsWord(8194, 256),
+    Step::HoldsWord(8196, 255),
+    Step::HoldsWord(8196 + 8 * 255, 0),
+];
 
 #[test]
 fn chains_256_outstanding(rt: HostRuntime) -> Result<(), Fail> {
-    let mut memory = Memory::new(rt.alloc(), SIZE).ok().ok_or("no memory")?;
-    let mut ring = Ring::new(rt.alloc(), LARGEST, 256).ok().ok_or("no ring")?;
+    let mut memory = memory_of(rt.alloc(), SIZE)?;
+    let mut ring = ring_of(rt.alloc(), LARGEST, 256)?;
     offer_all(&mut memory)?;
-    pops_all(rt.alloc(), &mut memory, &mut ring)?;
-    publishes_in_reverse(&mut memory, &mut ring)?;
-    // The used index, and the elements at the first and the last place.
-    assert_eq!(rt; word(&memory, 8194)?, 256);
-    assert_eq!(rt;
-        (word(&memory, 8196)?, word(&memory, 8196 + 8 * 255)?),
-        (255, 0)
-    );
-    Ok(())
-}
-
-// A number that isn't above those before gives no chain, and changes nothing.
-fn is_refused_as_old(alloc: Global, ring: &mut Ring, memory: &mut Memory, number: u64) -> bool {
-    if !ring.lies_in(memory) {
-        return false;
-    }
-    let before = ring.last();
-    let answer = ring.pop(alloc, memory, &mut Reads::new(), number);
-    match answer {
-        Err(RingFault::OldNumber) => ring.last() == before,
-        _ => false,
-    }
-}
-
-#[test]
-fn a_number_is_taken_once(rt: HostRuntime) -> Result<(), Fail> {
-    let (mut memory, mut ring) = two_available(rt.alloc())?;
-    assert!(rt; is_taken_after(rt.alloc(), &mut ring, &mut memory, 0)?);
-    assert!(rt; is_taken_after(rt.alloc(), &mut ring, &mut memory, 1)?);
-    Ok(())
-}
-
-fn two_available(alloc: Global) -> Result<(Memory, Ring), Fail> {
-    let (mut memory, ring) = new_ring(alloc)?;
-    put(&mut memory, 0, &descriptor(PLAIN))?;
-    set_word(&mut memory, AVAIL_IDX, 2)?;
-    Ok((memory, ring))
-}
-
-// Whether this number is refused, and the one after the last gives a chain.
-fn is_taken_after(
-    alloc: Global,
-    ring: &mut Ring,
-    memory: &mut Memory,
-    number: u64,
-) -> Result<bool, Fail> {
-    let refused = is_refused_as_old(alloc, ring, memory, number);
-    let answer = pop(alloc, ring, memory, &mut Reads::new())?;
-    Ok(refused && answer == Answer::Chain(8, 0))
-}
-
-fn is_popped_as(alloc: Global, ring: &mut Ring, memory: &mut Memory, number: u64) -> bool {
-    if !ring.lies_in(memory) {
-        return false;
-    }
-    match ring.pop(alloc, memory, &mut Reads::new(), number) {
-        Ok(Some(_)) => ring.last() == number,
-        _ => false,
-    }
-}
-
-#[test]
-fn the_largest_number_is_taken(rt: HostRuntime) -> Result<(), Fail> {
-    let (mut memory, mut ring) = two_available(rt.alloc())?;
-    assert!(rt; is_popped_as(rt.alloc(), &mut ring, &mut memory, u64::MAX));
-    assert!(rt; is_refused_as_old(rt.alloc(), &mut ring, &mut memory, u64::MAX));
-    Ok(())
+    pops_256(rt.alloc(), &mut memory, &mut ring)?;
+    publishes_256(&mut memory, &mut ring)?;
+    take(rt.alloc(), &mut memory, &mut ring, &ALL_USED)
 }

@@ -7,7 +7,7 @@ use std::test::Fail;
 
 /// The fields of a frame in their order, in hexadecimal digits: the byte that stuff repeats, key_mac,
 /// the byte that the data repeat, nonce, write_counter, address, block_count, result and req_resp.
-pub type Row = [u8; 132];
+pub type Row = &'static str;
 
 /// How many frames a request has, the writable length in bytes, the result, and how many frames the
 /// reply has.
@@ -16,29 +16,33 @@ pub type Step = (usize, u64, u16, usize);
 /// Steps, with the frames of all their requests and of all their replies.
 pub struct Scenario {
     pub steps: &'static [Step],
-    pub requests: &'static [&'static Row],
-    pub replies: &'static [&'static Row],
-}
-
-fn digit(letter: u8) -> u8 {
-    match letter {
-        b'0'..=b'9' => letter - b'0',
-        b'a'..=b'f' => letter - b'a' + 10,
-        _ => 0,
-    }
+    pub requests: &'static [Row],
+    pub replies: &'static [Row],
 }
 
 /// The bytes that the digits of a row say.
-fn bytes_of(row: &Row) -> [u8; 62] {
+fn bytes_of(row: Row) -> [u8; 62] {
     let mut bytes = [0; 62];
     let mut digits = 0;
-    for letter in row {
-        if *letter != b' ' && digits < 124 {
-            bytes[digits / 2] = (bytes[digits / 2] << 4) | digit(*letter);
-            digits += 1;
+    for letter in row.chars() {
+        if let Some(digit) = letter.to_digit(16) {
+            if digits < 124 {
+                bytes[digits / 2] = (bytes[digits / 2] << 4) | digit as u8;
+                digits += 1;
+            }
         }
     }
     bytes
+}
+
+/// Whether each row has 124 digits, and the eight spaces between its fields.
+pub fn are_whole(rows: &[Row]) -> bool {
+    for row in rows {
+        if row.len() != 132 {
+            return false;
+        }
+    }
+    true
 }
 
 /// What a MAC covers: the data, and the fields behind them.
@@ -49,7 +53,7 @@ fn body_of(fields: &[u8; 62]) -> [u8; 284] {
 }
 
 /// The frame that a row says.
-fn frame(row: &Row) -> [u8; 512] {
+fn frame(row: Row) -> [u8; 512] {
     let fields = bytes_of(row);
     let mut bytes = [fields[0]; 512];
     bytes[196..228].copy_from_slice(&fields[1..33]);
@@ -58,19 +62,19 @@ fn frame(row: &Row) -> [u8; 512] {
 }
 
 /// The frames of a request, and frames of zeros.
-pub fn frames_of(rows: &[&Row]) -> [[u8; 512]; 18] {
+pub fn frames_of(rows: &[Row]) -> [[u8; 512]; 18] {
     let mut frames = [[0; 512]; 18];
     for (i, row) in rows.iter().take(18).enumerate() {
-        frames[i] = frame(row);
+        frames[i] = frame(*row);
     }
     frames
 }
 
 /// A reply, and behind it the bytes 0xee that stood there.
-pub fn expected(rows: &[&Row]) -> [u8; 8192] {
+pub fn expected(rows: &[Row]) -> [u8; 8192] {
     let mut out = [0xee; 8192];
     for (i, row) in rows.iter().take(16).enumerate() {
-        out[512 * i..512 * i + 512].copy_from_slice(&frame(row));
+        out[512 * i..512 * i + 512].copy_from_slice(&frame(*row));
     }
     out
 }
@@ -111,7 +115,7 @@ pub fn goes_as_told(
     request: &Request<'_>,
     last: &mut Option<Outcome>,
     told: u16,
-    reply: &[&Row],
+    reply: &[Row],
 ) -> bool {
     let mut out = [0xee; 8192];
     let (code, len) = answer(partition, request, last, &mut out);
@@ -127,6 +131,9 @@ pub fn take_steps(
     limits: Limits,
     scenario: &Scenario,
 ) -> Result<(), Fail> {
+    if !are_whole(scenario.requests) || !are_whole(scenario.replies) {
+        return Err(Fail::from("a row without all its digits"));
+    }
     let mut last = None;
     let (mut requests, mut replies) = (scenario.requests, scenario.replies);
     for (place, (asked, writable, code, given)) in scenario.steps.iter().enumerate() {

@@ -1,14 +1,14 @@
 // The first and the last guest of a board, with the least and the most that a guest may have, and the
 // longest requests and replies: memory that the host has is refused nowhere.
-use super::{answer, check, pop};
+use super::{check, is_written, pop_of};
+use crate::tests::drivers::{Pair, in_service, offer, reaps};
 use chains::Range;
-use guest_driver::Driver;
-use mmio_transport::{Device, Job, Published};
+use mmio_transport::{Device, Job};
 use rpmb_frame::{GuestConfig, RingKind};
 use std::alloc::Global;
 use std::test::Fail;
 
-const LEAST: GuestConfig = GuestConfig {
+static LEAST: GuestConfig = GuestConfig {
     capacity: 1,
     max_wr_cnt: 1,
     max_rd_cnt: 1,
@@ -19,7 +19,7 @@ const LEAST: GuestConfig = GuestConfig {
     event_idx: false,
 };
 
-const MOST: GuestConfig = GuestConfig {
+static MOST: GuestConfig = GuestConfig {
     capacity: 128,
     max_wr_cnt: 16,
     max_rd_cnt: 16,
@@ -29,27 +29,6 @@ const MOST: GuestConfig = GuestConfig {
     indirect: false,
     event_idx: true,
 };
-
-fn in_service(alloc: Global, guest: u16, config: &GuestConfig) -> Result<(Device, Driver), Fail> {
-    let mut device = Device::new(alloc, guest, config).ok().ok_or("no device")?;
-    let mut driver = Driver::new(alloc, config).ok().ok_or("no driver")?;
-    check(driver.negotiate(&mut device), "no negotiation")?;
-    Ok((device, driver))
-}
-
-// The job of a chain that is offered with these bytes to be read and room for so many.
-fn offered(
-    device: &mut Device,
-    driver: &mut Driver,
-    request: &[u8],
-    room: u32,
-) -> Result<Job, Fail> {
-    if request.is_empty() || request.len() > 8704 || room > 8192 {
-        return Err(Fail::from("a length that isn't offered"));
-    }
-    driver.offer(device, request, room).ok().ok_or("no offer")?;
-    pop(device)
-}
 
 // Bytes of which none is like its neighbours, nor like the one 256 places on.
 fn bytes_from(alloc: Global, first: u8, count: usize) -> Result<Vec<u8>, Fail> {
@@ -61,81 +40,78 @@ fn bytes_from(alloc: Global, first: u8, count: usize) -> Result<Vec<u8>, Fail> {
     Ok(bytes)
 }
 
-fn comes_back(device: &Device, driver: &mut Driver, reply: &[u8]) -> Result<(), Fail> {
-    let reaped = driver.reap(device).ok().ok_or("no reap")?;
-    let reaped = reaped.ok_or("nothing back")?;
-    let whole = reaped.len as usize == reply.len();
-    check(whole && reaped.bytes.as_slice() == reply, "a reply")
+// The reply is to what is kept of the job.
+fn answer_kept(
+    alloc: Global,
+    device: &mut Device,
+    request: &[u8],
+    reply: &[u8],
+) -> Result<(), Fail> {
+    let job = pop_of(device, request)?;
+    let kept = job.for_reply(alloc).ok().ok_or("not kept")?;
+    check(is_written(alloc, device, kept, reply), "written")
+}
+
+// A chain of these bytes, with room for the reply alone, is answered.
+fn exchange(
+    alloc: Global,
+    pair: &mut Pair,
+    request: &[u8],
+    reply: &[u8],
+    room: u32,
+) -> Result<(), Fail> {
+    check(offer(pair, request, room)? == Ok(0), "an offer")?;
+    answer_kept(alloc, &mut pair.device, request, reply)?;
+    check(reaps(pair, 0, reply), "a reply")
+}
+
+fn go_round(alloc: Global, pair: &mut Pair, length: usize, room: u32) -> Result<(), Fail> {
+    let request = bytes_from(alloc, 5, length)?;
+    let reply = bytes_from(alloc, 7, room as usize)?;
+    exchange(alloc, pair, &request, &reply, room)
 }
 
 // How many bytes a request has, and its reply.
 static LENGTHS: [(usize, u32); 4] = [(1, 0), (1, 1), (512, 512), (8704, 8192)];
 
-fn offer(
-    alloc: Global,
-    device: &mut Device,
-    driver: &mut Driver,
-    length: usize,
-    room: u32,
-) -> Result<Job, Fail> {
-    let request = bytes_from(alloc, 5, length)?;
-    let job = offered(device, driver, &request, room)?;
-    check(job.request() == request.as_slice(), "a request")?;
-    Ok(job)
-}
-
-// Each reply is to what is kept of its job.
-fn reply(alloc: Global, device: &mut Device, job: &Job, bytes: &[u8]) -> Result<(), Fail> {
-    let kept = job.for_reply(alloc).ok().ok_or("not kept")?;
-    let done = answer(alloc, kept, bytes, 0)?;
-    check(device.publish(done) != Published::Dropped, "written")
-}
-
-fn go_round(
-    alloc: Global,
-    device: &mut Device,
-    driver: &mut Driver,
-    length: usize,
-    room: u32,
-) -> Result<(), Fail> {
-    let job = offer(alloc, device, driver, length, room)?;
-    let bytes = bytes_from(alloc, 7, room as usize)?;
-    reply(alloc, device, &job, &bytes)?;
-    comes_back(device, driver, &bytes)
-}
-
-fn exchange(alloc: Global, guest: u16, config: &GuestConfig) -> Result<(), Fail> {
-    let (mut device, mut driver) = in_service(alloc, guest, config)?;
+fn exchange_all(alloc: Global, pair: &mut Pair) -> Result<(), Fail> {
     for (length, room) in &LENGTHS {
-        go_round(alloc, &mut device, &mut driver, *length, *room)?;
+        go_round(alloc, pair, *length, *room)?;
     }
     Ok(())
+}
+
+fn serves(alloc: Global, guest: u16, config: &GuestConfig) -> Result<(), Fail> {
+    let mut pair = in_service(alloc, guest, config)?;
+    exchange_all(alloc, &mut pair)
 }
 
 #[test]
 fn the_longest_go_round(rt: HostRuntime) -> Result<(), Fail> {
-    for (guest, config) in [(0, LEAST), (63, LEAST), (0, MOST), (63, MOST)] {
-        exchange(rt.alloc(), guest, &config)?;
+    for (guest, config) in [(0, &LEAST), (63, &LEAST), (0, &MOST), (63, &MOST)] {
+        serves(rt.alloc(), guest, config)?;
     }
     Ok(())
 }
 
-// The room of what is kept of a job with so many ranges of one byte.
-fn room_kept(alloc: Global, count: usize) -> Result<u64, Fail> {
+// Whether what is kept of a job with so many ranges of one byte has room for as many bytes.
+fn is_kept(alloc: Global, count: usize) -> Result<bool, Fail> {
     let ranges = vec![in alloc; Range { at: 0, len: 1 }; count]?;
     if ranges.len() > 65_536 {
         return Err(Fail::from("more ranges than a job has"));
     }
     let job = Job::of(alloc, 63, 1, 1, 1, ranges, Vec::new(alloc));
     let kept = job.for_reply(alloc).ok().ok_or("not kept")?;
-    Ok(kept.writable())
+    Ok(kept.writable() == count as u64)
 }
+
+// How many ranges a job has.
+static COUNTS: [usize; 2] = [1_024, 65_536];
 
 #[test]
 fn a_job_of_many_ranges_is_kept(rt: HostRuntime) -> Result<(), Fail> {
-    for count in [1_024, 65_536] {
-        let room = room_kept(rt.alloc(), count)?;
-        check(room == count as u64, "the room")?;
+    for count in &COUNTS {
+        assert!(rt; is_kept(rt.alloc(), *count)?, "{count}");
     }
     Ok(())
 }

@@ -1,6 +1,6 @@
 // The accesses that Linux's virtio_mmio.c and virtio.c make, in their order, from knowledge of that
 // driver: probe, negotiation, set up of queue 0, a request, an interrupt, and removal.
-use super::step::{OFFER, Step, take};
+use super::step::{Step, offer, take};
 use super::{
     AVAIL_IDX, DEVICE_AREA, DRIVER_AREA, USED_RING, answer, check, fresh_device, is_live, load12,
     pop,
@@ -78,10 +78,10 @@ fn begin(device: &mut Device) {
 
 // virtqueue_kick_prepare and vm_notify; then the device's host answers.
 fn serve(alloc: Global, device: &mut Device) -> Result<(), Fail> {
-    take(device, &OFFER)?;
+    offer(device)?;
     check(device.write(QUEUE_NOTIFY, 4, 0) == Kick::Notify, "a kick")?;
     let job = pop(device)?;
-    let done = answer(alloc, job, &[], 0)?;
+    let done = answer(alloc, job, &[], 0).ok_or("no reply")?;
     check(
         device.publish(done) == Published::Wrote { notify: true },
         "published",
@@ -193,7 +193,7 @@ fn goes_on(device: &mut Device, wrong: u32) -> bool {
 
 // No chain is popped unless the device was brought up in spite of it, and nothing is stopped.
 fn try_a_chain(device: &mut Device) -> Result<(), Fail> {
-    take(device, &OFFER)?;
+    offer(device)?;
     if !is_live(device) {
         take(device, &[Step::Pops(Ok(None))])?;
     }
@@ -203,10 +203,14 @@ fn try_a_chain(device: &mut Device) -> Result<(), Fail> {
 #[test]
 fn as_linux_does_but_for_one_step(rt: HostRuntime) -> Result<(), Fail> {
     for wrong in 0..9 {
-        let mut device = fresh_device(rt.alloc())?;
-        stops_at(&mut device, wrong)?;
+        stops(rt.alloc(), wrong)?;
     }
     Ok(())
+}
+
+fn stops(alloc: Global, wrong: u32) -> Result<(), Fail> {
+    let mut device = fresh_device(alloc)?;
+    stops_at(&mut device, wrong)
 }
 
 fn stops_at(device: &mut Device, wrong: u32) -> Result<(), Fail> {

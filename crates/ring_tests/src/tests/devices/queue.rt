@@ -1,5 +1,5 @@
 // Pops and publishes of one session.
-use super::step::{OFFER, Step, take};
+use super::step::{Step, offer, take};
 use super::{
     AVAIL_IDX, AVAIL_RING, FEATURES, QUEUE, USED_RING, answer, check, fresh_device, live_device,
     load12, pop,
@@ -38,14 +38,14 @@ fn pop_overwritten(device: &mut Device) -> Result<Job, Fail> {
 }
 
 fn publish(alloc: Global, device: &mut Device, job: Job) -> Result<(), Fail> {
-    let done = answer(alloc, job, &[5, 6, 7], 3)?;
+    let done = answer(alloc, job, &[5, 6, 7], 3).ok_or("no reply")?;
     check(is_the_answer(&done), "the reply")?;
     let published = device.publish(done);
     check(published == Published::Wrote { notify: true }, "published")
 }
 
 fn exchange(alloc: Global, device: &mut Device) -> Result<(), Fail> {
-    take(device, &OFFER)?;
+    offer(device)?;
     let job = pop_overwritten(device)?;
     publish(alloc, device, job)?;
     check(
@@ -64,73 +64,63 @@ fn a_reply_is_that_of_the_chain_as_it_was_popped(rt: HostRuntime) -> Result<(), 
     exchange(rt.alloc(), &mut device)
 }
 
-static BEFORE_DRIVER_OK: [Step; 3] = [
-    Step::Pops(Ok(None)),
-    Step::Writes(&FEATURES),
-    Step::Writes(&QUEUE),
+// Steps of a device that isn't negotiated yet.
+static OF_A_FRESH_DEVICE: [&[Step]; 2] = [
+    // Nothing is popped before DRIVER_OK, or without a queue.
+    &[
+        Step::Pops(Ok(None)),
+        Step::Writes(&FEATURES),
+        Step::Writes(&QUEUE),
+        // A chain is available, but for DRIVER_OK.
+        Step::Offers,
+        Step::Pops(Ok(None)),
+        Step::Writes(&[(STATUS, 4), (QUEUE_READY, 0)]),
+        Step::Pops(Ok(None)),
+        Step::Writes(&[(QUEUE_READY, 1)]),
+        Step::Pops(Ok(Some(1))),
+    ],
+    // A chain that leads to itself stops the device. The interrupt is raised once, and nothing but a
+    // reset brings the device back, not even a new queue.
+    &[
+        Step::Negotiates,
+        Step::Offers,
+        Step::Describes(16, (1000, 4, 1, 1)),
+        Step::Pops(Err(DeviceFault::Refused(ChainFault::TooLong))),
+        Step::Reads(STATUS, 79),
+        Step::Reads(INTERRUPT_STATUS, 2),
+        Step::Writes(&[(INTERRUPT_ACK, 2), (STATUS, 64)]),
+        Step::Pops(Err(DeviceFault::NeedsReset)),
+        Step::Writes(&[(QUEUE_READY, 0)]),
+        Step::Pops(Err(DeviceFault::NeedsReset)),
+        Step::Writes(&[(QUEUE_READY, 1)]),
+        Step::Pops(Err(DeviceFault::NeedsReset)),
+        Step::Reads(INTERRUPT_STATUS, 0),
+        Step::Writes(&[(STATUS, 0)]),
+        Step::Negotiates,
+        Step::Offers,
+        Step::Pops(Ok(Some(1))),
+    ],
 ];
-
-static WITHOUT_A_QUEUE: [Step; 5] = [
-    // A chain is available, but for DRIVER_OK.
-    Step::Pops(Ok(None)),
-    Step::Writes(&[(STATUS, 4), (QUEUE_READY, 0)]),
-    Step::Pops(Ok(None)),
-    Step::Writes(&[(QUEUE_READY, 1)]),
-    Step::Pops(Ok(Some(1))),
-];
-
-fn pops_nothing(device: &mut Device) -> Result<(), Fail> {
-    take(device, &BEFORE_DRIVER_OK)?;
-    take(device, &OFFER)?;
-    take(device, &WITHOUT_A_QUEUE)
-}
 
 #[test]
-fn nothing_is_popped_before_driver_ok_or_without_a_queue(rt: HostRuntime) -> Result<(), Fail> {
-    let mut device = fresh_device(rt.alloc())?;
-    pops_nothing(&mut device)
+fn what_is_popped_and_what_stops_a_device(rt: HostRuntime) -> Result<(), Fail> {
+    for steps in &OF_A_FRESH_DEVICE {
+        let mut device = fresh_device(rt.alloc())?;
+        take(&mut device, steps)?;
+    }
+    Ok(())
 }
 
-// The interrupt is raised once, and nothing but a reset brings the device back, not even a new queue.
-static A_LOOP: [Step; 13] = [
-    Step::Describes(16, (1000, 4, 1, 1)),
-    Step::Pops(Err(DeviceFault::Refused(ChainFault::TooLong))),
-    Step::Reads(STATUS, 79),
-    Step::Reads(INTERRUPT_STATUS, 2),
-    Step::Writes(&[(INTERRUPT_ACK, 2), (STATUS, 64)]),
-    Step::Pops(Err(DeviceFault::NeedsReset)),
-    Step::Writes(&[(QUEUE_READY, 0)]),
-    Step::Pops(Err(DeviceFault::NeedsReset)),
-    Step::Writes(&[(QUEUE_READY, 1)]),
-    Step::Pops(Err(DeviceFault::NeedsReset)),
-    Step::Reads(INTERRUPT_STATUS, 0),
-    Step::Writes(&[(STATUS, 0)]),
-    Step::Negotiates,
-];
-
-static POPPED: [Step; 1] = [Step::Pops(Ok(Some(1)))];
-
-fn stops_at_a_loop(device: &mut Device) -> Result<(), Fail> {
-    take(device, &OFFER)?;
-    take(device, &A_LOOP)?;
-    take(device, &OFFER)?;
-    take(device, &POPPED)
-}
-
-#[test]
-fn a_chain_that_leads_to_itself(rt: HostRuntime) -> Result<(), Fail> {
-    let mut device = live_device(rt.alloc())?;
-    stops_at_a_loop(&mut device)
-}
-
-static AN_INDEX_THAT_JUMPS: [Step; 2] = [
+static AN_INDEX_THAT_JUMPS: [Step; 3] = [
+    Step::Offers,
     Step::Stores(AVAIL_IDX, &[5, 0]),
     Step::Pops(Err(DeviceFault::Refused(ChainFault::BadRange))),
 ];
 
+static POPPED: [Step; 1] = [Step::Pops(Ok(Some(1)))];
+
 fn one_stops(hostile: &mut Device, other: &mut Device) -> Result<(), Fail> {
-    take(hostile, &OFFER)?;
-    take(other, &OFFER)?;
+    offer(other)?;
     take(hostile, &AN_INDEX_THAT_JUMPS)?;
     take(other, &POPPED)
 }

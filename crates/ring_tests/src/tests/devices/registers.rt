@@ -66,23 +66,6 @@ fn a_fresh_device_reads(rt: HostRuntime) -> Result<(), Fail> {
     check(device.memory_size() == SIZE, "the size of the memory")
 }
 
-static FEATURES_BY_SELECTOR: [Step; 8] = [
-    Step::Writes(&[(DEVICE_FEATURES_SEL, 0)]),
-    Step::Reads(DEVICE_FEATURES, 0x2000_0000),
-    Step::Writes(&[(DEVICE_FEATURES_SEL, 1)]),
-    Step::Reads(DEVICE_FEATURES, 1),
-    Step::Writes(&[(DEVICE_FEATURES_SEL, 2)]),
-    Step::Reads(DEVICE_FEATURES, 0),
-    Step::Writes(&[(DEVICE_FEATURES_SEL, 0xffff_ffff)]),
-    Step::Reads(DEVICE_FEATURES, 0),
-];
-
-#[test]
-fn features_by_selector(rt: HostRuntime) -> Result<(), Fail> {
-    let mut device = fresh_device(rt.alloc())?;
-    take(&mut device, &FEATURES_BY_SELECTOR)
-}
-
 // What Status reads after these writes.
 fn status_after(alloc: Global, writes: &[(u32, u32)]) -> Result<u32, Fail> {
     let mut device = fresh_device(alloc)?;
@@ -139,30 +122,10 @@ static STATUS_RULES: [(&[(u32, u32)], u32); 13] = [
 
 #[test]
 fn status_rules(rt: HostRuntime) -> Result<(), Fail> {
-    for (writes, status) in STATUS_RULES {
-        check(status_after(rt.alloc(), writes)? == status, "a status")?;
+    for (writes, status) in &STATUS_RULES {
+        check(status_after(rt.alloc(), writes)? == *status, "a status")?;
     }
     Ok(())
-}
-
-// Features that were accepted are neither taken back nor made ones that aren't offered: the queue may
-// still be made ready.
-static ACCEPTED: [Step; 5] = [
-    Step::Writes(&FEATURES),
-    Step::Writes(&[
-        (DRIVER_FEATURES, 0),
-        (DRIVER_FEATURES_SEL, 0),
-        (DRIVER_FEATURES, 1),
-    ]),
-    Step::Writes(&QUEUE),
-    Step::Reads(STATUS, 11),
-    Step::Reads(QUEUE_READY, 1),
-];
-
-#[test]
-fn features_stand_once_accepted(rt: HostRuntime) -> Result<(), Fail> {
-    let mut device = fresh_device(rt.alloc())?;
-    take(&mut device, &ACCEPTED)
 }
 
 // What QueueReady reads after a write of 1, where the queue was set up with one write changed.
@@ -206,43 +169,73 @@ static CHANGES: [((u32, u32), u32); 23] = [
 
 #[test]
 fn queues_that_may_be_ready(rt: HostRuntime) -> Result<(), Fail> {
-    for (change, ready) in CHANGES {
-        check(ready_with(rt.alloc(), change)? == ready, "a queue")?;
+    for (change, ready) in &CHANGES {
+        check(ready_with(rt.alloc(), *change)? == *ready, "a queue")?;
     }
     Ok(())
 }
 
-static CLOSED_WHILE_READY: [Step; 19] = [
-    // Before FEATURES_OK no queue is made ready; the size and the addresses stand since.
-    Step::Writes(&QUEUE),
-    Step::Reads(QUEUE_READY, 0),
-    Step::Writes(&FEATURES),
-    // A value above 1.
-    Step::Writes(&[(QUEUE_READY, 2)]),
-    Step::Reads(QUEUE_READY, 0),
-    Step::Writes(&[(QUEUE_READY, 1)]),
-    Step::Reads(QUEUE_READY, 1),
-    Step::Writes(&[(QUEUE_NUM, 3), (QUEUE_DRIVER_LOW, 65), (QUEUE_READY, 3)]),
-    Step::Reads(QUEUE_READY, 1),
-    // Taken away and made ready again, with the size and the addresses as they stood.
-    Step::Writes(&[(QUEUE_READY, 0)]),
-    Step::Reads(QUEUE_READY, 0),
-    Step::Writes(&[(QUEUE_READY, 1)]),
-    Step::Reads(QUEUE_READY, 1),
-    // A queue that doesn't exist has no places, and isn't ready.
-    Step::Writes(&[(QUEUE_SEL, 1)]),
-    Step::Reads(QUEUE_NUM_MAX, 0),
-    Step::Reads(QUEUE_READY, 0),
-    // Queue 0 is untouched.
-    Step::Writes(&[(QUEUE_READY, 0)]),
-    Step::Writes(&[(QUEUE_SEL, 0)]),
-    Step::Reads(QUEUE_READY, 1),
+static STEPS: [&[Step]; 3] = [
+    // Features by selector.
+    &[
+        Step::Writes(&[(DEVICE_FEATURES_SEL, 0)]),
+        Step::Reads(DEVICE_FEATURES, 0x2000_0000),
+        Step::Writes(&[(DEVICE_FEATURES_SEL, 1)]),
+        Step::Reads(DEVICE_FEATURES, 1),
+        Step::Writes(&[(DEVICE_FEATURES_SEL, 2)]),
+        Step::Reads(DEVICE_FEATURES, 0),
+        Step::Writes(&[(DEVICE_FEATURES_SEL, 0xffff_ffff)]),
+        Step::Reads(DEVICE_FEATURES, 0),
+    ],
+    // Features that were accepted are neither taken back nor made ones that aren't offered: the queue
+    // may still be made ready.
+    &[
+        Step::Writes(&FEATURES),
+        Step::Writes(&[
+            (DRIVER_FEATURES, 0),
+            (DRIVER_FEATURES_SEL, 0),
+            (DRIVER_FEATURES, 1),
+        ]),
+        Step::Writes(&QUEUE),
+        Step::Reads(STATUS, 11),
+        Step::Reads(QUEUE_READY, 1),
+    ],
+    // A queue's registers are closed while it is ready.
+    &[
+        // Before FEATURES_OK no queue is made ready; the size and the addresses stand since.
+        Step::Writes(&QUEUE),
+        Step::Reads(QUEUE_READY, 0),
+        Step::Writes(&FEATURES),
+        // A value above 1.
+        Step::Writes(&[(QUEUE_READY, 2)]),
+        Step::Reads(QUEUE_READY, 0),
+        Step::Writes(&[(QUEUE_READY, 1)]),
+        Step::Reads(QUEUE_READY, 1),
+        Step::Writes(&[(QUEUE_NUM, 3), (QUEUE_DRIVER_LOW, 65), (QUEUE_READY, 3)]),
+        Step::Reads(QUEUE_READY, 1),
+        // Taken away and made ready again, with the size and the addresses as they stood.
+        Step::Writes(&[(QUEUE_READY, 0)]),
+        Step::Reads(QUEUE_READY, 0),
+        Step::Writes(&[(QUEUE_READY, 1)]),
+        Step::Reads(QUEUE_READY, 1),
+        // A queue that doesn't exist has no places, and isn't ready.
+        Step::Writes(&[(QUEUE_SEL, 1)]),
+        Step::Reads(QUEUE_NUM_MAX, 0),
+        Step::Reads(QUEUE_READY, 0),
+        // Queue 0 is untouched.
+        Step::Writes(&[(QUEUE_READY, 0)]),
+        Step::Writes(&[(QUEUE_SEL, 0)]),
+        Step::Reads(QUEUE_READY, 1),
+    ],
 ];
 
 #[test]
-fn queue_registers_are_closed_while_ready(rt: HostRuntime) -> Result<(), Fail> {
-    let mut device = fresh_device(rt.alloc())?;
-    take(&mut device, &CLOSED_WHILE_READY)
+fn features_and_queues_step_by_step(rt: HostRuntime) -> Result<(), Fail> {
+    for steps in &STEPS {
+        let mut device = fresh_device(rt.alloc())?;
+        take(&mut device, steps)?;
+    }
+    Ok(())
 }
 
 // Offset, width and value of a write while another queue is selected, and what it asks for.

@@ -1,7 +1,8 @@
 // Replies that come back after a reset, after another readiness, or from nowhere.
-use super::step::{OFFER, Step, take};
+use super::step::{Step, offer, take};
 use super::{
-    AVAIL_IDX, AVAIL_RING, answer, check, fingerprint, live_device, live_device_of, negotiate, pop,
+    AVAIL_IDX, AVAIL_RING, answer, check, fingerprint, is_written, live_device, live_device_of,
+    negotiate, pop,
 };
 use chains::{ChainFault, Range};
 use mmio_transport::register::{QUEUE_READY, STATUS};
@@ -10,41 +11,39 @@ use std::alloc::Global;
 use std::test::Fail;
 
 fn popped(alloc: Global, device: &mut Device) -> Result<Done, Fail> {
-    take(device, &OFFER)?;
+    offer(device)?;
     let job = pop(device)?;
-    answer(alloc, job, &[5, 6, 7], 0)
+    let done = answer(alloc, job, &[5, 6, 7], 0).ok_or("no reply")?;
+    Ok(done)
 }
 
-fn is_dropped(device: &mut Device, done: Done) -> Result<(), Fail> {
-    let before = fingerprint(device)?;
+// Whether a reply is dropped: the memory is unchanged, and no interrupt is raised.
+fn is_dropped(device: &mut Device, done: Done) -> bool {
+    let before = fingerprint(device);
     let interrupts = device.interrupt_status();
-    check(device.publish(done) == Published::Dropped, "Dropped")?;
-    check(fingerprint(device)? == before, "the memory is unchanged")?;
-    check(device.interrupt_status() == interrupts, "no interrupt")
+    device.publish(done) == Published::Dropped
+        && before.is_some()
+        && fingerprint(device) == before
+        && device.interrupt_status() == interrupts
 }
 
-// The reply to a chain that was popped before these steps is dropped.
-fn is_dropped_after(alloc: Global, steps: &[Step]) -> Result<(), Fail> {
-    let mut device = live_device(alloc)?;
-    let done = popped(alloc, &mut device)?;
-    check(done.id() == 1, "the id")?;
-    take(&mut device, steps)?;
-    is_dropped(&mut device, done)
+fn notifies(device: &mut Device, done: Done) -> bool {
+    device.publish(done) == Published::Wrote { notify: true }
 }
 
 // The same chain is popped again, so that its id is outstanding.
 fn reset_between(alloc: Global, device: &mut Device) -> Result<(), Fail> {
     let done = popped(alloc, device)?;
     device.write(STATUS, 4, 0);
-    check(device.session() == 2, "a new session")?;
+    let session = device.session();
     negotiate(device);
     let again = popped(alloc, device)?;
-    check(again.session() == 2 && done.session() == 1, "the sessions")?;
-    is_dropped(device, done)?;
-    check(
-        device.publish(again) == Published::Wrote { notify: true },
-        "the later one",
-    )
+    let sessions = (session, again.session(), done.session());
+    let dropped = is_dropped(device, done);
+    let written = notifies(device, again);
+    check(sessions == (2, 2, 1), "the sessions")?;
+    check(dropped, "the earlier one")?;
+    check(written, "the later one")
 }
 
 #[test]
@@ -53,39 +52,45 @@ fn a_reply_of_an_earlier_session_is_dropped(rt: HostRuntime) -> Result<(), Fail>
     reset_between(rt.alloc(), &mut device)
 }
 
-// The ring begins at place 0 again: the same chain is popped, with the same id.
-static ANOTHER_READINESS: [Step; 2] = [
-    Step::Writes(&[(QUEUE_READY, 0), (QUEUE_READY, 1)]),
-    Step::Pops(Ok(Some(1))),
-];
-
-static NO_QUEUE: [Step; 1] = [Step::Writes(&[(QUEUE_READY, 0)])];
-
-static A_FAULT: [Step; 2] = [
-    Step::Stores(AVAIL_IDX, &[99, 0]),
-    Step::Pops(Err(DeviceFault::Refused(ChainFault::BadRange))),
-];
-
-#[test]
-fn a_reply_of_an_earlier_readiness_is_dropped(rt: HostRuntime) -> Result<(), Fail> {
-    is_dropped_after(rt.alloc(), &ANOTHER_READINESS)
+// The reply to a chain that was popped before these steps is dropped.
+fn drops_after(alloc: Global, device: &mut Device, steps: &[Step]) -> Result<(), Fail> {
+    let done = popped(alloc, device)?;
+    let id = done.id();
+    take(device, steps)?;
+    check(is_dropped(device, done) && id == 1, "Dropped")
 }
 
-#[test]
-fn a_reply_without_a_queue_is_dropped(rt: HostRuntime) -> Result<(), Fail> {
-    is_dropped_after(rt.alloc(), &NO_QUEUE)
-}
+// Steps after which a reply to a chain that was popped before is dropped.
+static DROPPED_AFTER: [&[Step]; 3] = [
+    // Another readiness: the ring begins at place 0 again, the same chain is popped, with the same id.
+    &[
+        Step::Writes(&[(QUEUE_READY, 0), (QUEUE_READY, 1)]),
+        Step::Pops(Ok(Some(1))),
+    ],
+    // No queue.
+    &[Step::Writes(&[(QUEUE_READY, 0)])],
+    // A device that stopped.
+    &[
+        Step::Stores(AVAIL_IDX, &[99, 0]),
+        Step::Pops(Err(DeviceFault::Refused(ChainFault::BadRange))),
+    ],
+];
 
 #[test]
-fn a_reply_of_a_stopped_device_is_dropped(rt: HostRuntime) -> Result<(), Fail> {
-    is_dropped_after(rt.alloc(), &A_FAULT)
+fn a_reply_of_an_earlier_readiness_or_of_a_stopped_device_is_dropped(
+    rt: HostRuntime,
+) -> Result<(), Fail> {
+    for steps in &DROPPED_AFTER {
+        let mut device = live_device(rt.alloc())?;
+        drops_after(rt.alloc(), &mut device, steps)?;
+    }
+    Ok(())
 }
 
 // The reply is dropped while the chain of its id is outstanding.
-fn is_dropped_beside(alloc: Global, done: Done) -> Result<(), Fail> {
-    let mut device = live_device(alloc)?;
-    let _popped = popped(alloc, &mut device)?;
-    is_dropped(&mut device, done)
+fn is_dropped_beside(alloc: Global, device: &mut Device, done: Done) -> Result<(), Fail> {
+    let _popped = popped(alloc, device)?;
+    check(is_dropped(device, done), "Dropped")
 }
 
 // A job of the session and the chain's id that no pop gave, as it is kept for the reply.
@@ -99,32 +104,33 @@ fn job_of_no_device(alloc: Global) -> Result<Job, Fail> {
     }
 }
 
-fn answer_from_nowhere(alloc: Global) -> Result<Done, Fail> {
+fn drops_from_nowhere(alloc: Global, device: &mut Device) -> Result<(), Fail> {
     let job = job_of_no_device(alloc)?;
-    check(
-        job.writable() == 8 && job.request().is_empty(),
-        "for the reply",
-    )?;
-    answer(alloc, job, &[1], 0)
+    let kept = job.writable() == 8 && job.request().is_empty();
+    let done = answer(alloc, job, &[1], 0).ok_or("no reply")?;
+    is_dropped_beside(alloc, device, done)?;
+    check(kept, "for the reply")
 }
 
 #[test]
 fn a_reply_to_a_job_of_no_device_is_dropped(rt: HostRuntime) -> Result<(), Fail> {
-    let done = answer_from_nowhere(rt.alloc())?;
-    is_dropped_beside(rt.alloc(), done)
+    let mut device = live_device(rt.alloc())?;
+    drops_from_nowhere(rt.alloc(), &mut device)
 }
 
 // The reply to the same chain of guest 8.
-fn answer_of_another(alloc: Global) -> Result<Done, Fail> {
-    let mut other = live_device_of(alloc, 8)?;
-    popped(alloc, &mut other)
+fn drops_of_another(alloc: Global, device: &mut Device, other: &mut Device) -> Result<(), Fail> {
+    let done = popped(alloc, other)?;
+    let guest = done.guest();
+    is_dropped_beside(alloc, device, done)?;
+    check(guest == 8, "the guest")
 }
 
 #[test]
 fn a_reply_of_another_guest_is_dropped(rt: HostRuntime) -> Result<(), Fail> {
-    let done = answer_of_another(rt.alloc())?;
-    check(done.guest() == 8, "the guest")?;
-    is_dropped_beside(rt.alloc(), done)
+    let mut device = live_device(rt.alloc())?;
+    let mut other = live_device_of(rt.alloc(), 8)?;
+    drops_of_another(rt.alloc(), &mut device, &mut other)
 }
 
 // Two chains of one head are available, and both are popped: the first is job 1, the second job 2.
@@ -148,85 +154,92 @@ fn twice(alloc: Global, device: &mut Device) -> Result<(Job, Job), Fail> {
     Ok((job, again))
 }
 
-fn written(device: &mut Device, done: Done) -> Result<(), Fail> {
-    check(device.publish(done) != Published::Dropped, "written")
-}
-
 fn share_all_but_the_number(job: &Job, other: &Job) -> bool {
     (job.id(), job.session(), job.readiness()) == (other.id(), other.session(), other.readiness())
         && job.number() < other.number()
+}
+
+fn drops(alloc: Global, device: &mut Device, job: Job, bytes: &[u8]) -> bool {
+    match answer(alloc, job, bytes, 0) {
+        Some(done) => is_dropped(device, done),
+        None => false,
+    }
 }
 
 // Of two replies to a job the second is dropped, also while another chain of its id is outstanding.
 fn second_is_dropped(alloc: Global, device: &mut Device) -> Result<(), Fail> {
     let (job, again) = twice(alloc, device)?;
     let other = pop(device)?;
-    check(share_all_but_the_number(&job, &other), "the numbers")?;
-    written(device, answer(alloc, job, &[5, 6, 7], 0)?)?;
-    is_dropped(device, answer(alloc, again, &[8, 8, 8], 0)?)?;
-    written(device, answer(alloc, other, &[9], 0)?)
+    let numbered = share_all_but_the_number(&job, &other);
+    let first = is_written(alloc, device, job, &[5, 6, 7]);
+    let second = drops(alloc, device, again, &[8, 8, 8]);
+    let third = is_written(alloc, device, other, &[9]);
+    check(numbered, "the numbers")?;
+    check(first && third, "written")?;
+    check(second, "Dropped")
+}
+
+fn offers_one_head_twice(device: &mut Device) -> Result<(), Fail> {
+    offer(device)?;
+    take(device, &ONE_HEAD_TWICE)
 }
 
 #[test]
 fn a_second_reply_is_dropped(rt: HostRuntime) -> Result<(), Fail> {
     let mut device = live_device(rt.alloc())?;
-    take(&mut device, &OFFER)?;
-    take(&mut device, &ONE_HEAD_TWICE)?;
+    offers_one_head_twice(&mut device)?;
     second_is_dropped(rt.alloc(), &mut device)
 }
 
-fn pops_later(device: &mut Device, job: &Job) -> Result<(), Fail> {
-    let later = pop(device)?;
-    check(later.number() > job.number(), "a later number")
-}
-
-fn drops(alloc: Global, device: &mut Device, job: Job) -> Result<(), Fail> {
-    let done = answer(alloc, job, &[5, 6, 7], 0)?;
-    is_dropped(device, done)
+// Whether the next chain has a later number than the job.
+fn pops_later(device: &mut Device, job: &Job) -> bool {
+    match device.pop() {
+        Ok(Some(later)) => later.number() > job.number(),
+        _ => false,
+    }
 }
 
 // A chain of the same head is popped again after these steps: both replies to the first are dropped.
 fn both_are_dropped(alloc: Global, device: &mut Device, steps: &[Step]) -> Result<(), Fail> {
+    offer(device)?;
     let (job, again) = twice(alloc, device)?;
     take(device, steps)?;
-    pops_later(device, &job)?;
-    drops(alloc, device, job)?;
-    drops(alloc, device, again)
+    let later = pops_later(device, &job);
+    let first = drops(alloc, device, job, &[5, 6, 7]);
+    let second = drops(alloc, device, again, &[5, 6, 7]);
+    check(later, "a later number")?;
+    check(first && second, "Dropped")
 }
 
-fn both_are_dropped_after(alloc: Global, steps: &[Step]) -> Result<(), Fail> {
-    let mut device = live_device(alloc)?;
-    take(&mut device, &OFFER)?;
-    both_are_dropped(alloc, &mut device, steps)
-}
-
-static A_RESET: [Step; 3] = [
-    Step::Writes(&[(STATUS, 0)]),
-    Step::Negotiates,
-    Step::Describes(16, (2000, 8, 2, 0)),
+static BOTH_DROPPED_AFTER: [&[Step]; 2] = [
+    // A reset.
+    &[
+        Step::Writes(&[(STATUS, 0)]),
+        Step::Negotiates,
+        Step::Describes(16, (2000, 8, 2, 0)),
+    ],
+    // Another readiness.
+    &[Step::Writes(&[(QUEUE_READY, 0), (QUEUE_READY, 1)])],
 ];
 
-static READY_AGAIN: [Step; 1] = [Step::Writes(&[(QUEUE_READY, 0), (QUEUE_READY, 1)])];
-
 #[test]
-fn two_replies_are_dropped_after_a_reset(rt: HostRuntime) -> Result<(), Fail> {
-    both_are_dropped_after(rt.alloc(), &A_RESET)
-}
-
-#[test]
-fn two_replies_are_dropped_once_ready_again(rt: HostRuntime) -> Result<(), Fail> {
-    both_are_dropped_after(rt.alloc(), &READY_AGAIN)
-}
-
-fn notifies(device: &mut Device, done: Done) -> bool {
-    device.publish(done) == Published::Wrote { notify: true }
+fn two_replies_are_dropped_after_a_reset_or_once_ready_again(rt: HostRuntime) -> Result<(), Fail> {
+    for steps in &BOTH_DROPPED_AFTER {
+        let mut device = live_device(rt.alloc())?;
+        both_are_dropped(rt.alloc(), &mut device, steps)?;
+    }
+    Ok(())
 }
 
 // The last guest of a board: its device gives jobs, and takes replies.
+fn gives_and_takes(alloc: Global, device: &mut Device) -> Result<(), Fail> {
+    let done = popped(alloc, device)?;
+    let guest = done.guest();
+    check(notifies(device, done) && guest == 63, "published")
+}
+
 #[test]
 fn guest_63(rt: HostRuntime) -> Result<(), Fail> {
     let mut device = live_device_of(rt.alloc(), 63)?;
-    let done = popped(rt.alloc(), &mut device)?;
-    check(done.guest() == 63, "the guest")?;
-    check(notifies(&mut device, done), "published")
+    gives_and_takes(rt.alloc(), &mut device)
 }

@@ -1,7 +1,6 @@
-use super::{
-    Answer, FIRST_ROUND, NEXT, SECOND_ROUND, WRITE, memory_of, offer, places, pop, publish,
-    ring_of, serve, used,
-};
+use super::{FIRST_ROUND, NEXT, SECOND_ROUND, WRITE, places, ring_of};
+use crate::tests::descriptors::{describe, memory_of};
+use crate::tests::queues::{Answer, Step, go, pops_256, publishes_256, take};
 use chains::{ChainFault, Places, RingFault};
 use guest_memory::Memory;
 use packed_ring::Ring;
@@ -23,7 +22,7 @@ fn is_made(alloc: Global, size: u16, at: [u64; 3]) -> Result<bool, Fail> {
     }
 }
 
-const SIZES: [(u16, [u64; 3], bool); 8] = [
+static SIZES: [(u16, [u64; 3], bool); 8] = [
     (0, [0, 16, 20], false),
     (1, [0, 16, 20], true),
     (3, [16, 4, 8], true),
@@ -51,103 +50,100 @@ fn lies_in(alloc: Global, size: u64) -> Result<bool, Fail> {
 
 #[test]
 fn areas_in_the_memory(rt: HostRuntime) -> Result<(), Fail> {
-    assert!(rt; lies_in(rt.alloc(), 56)? && !lies_in(rt.alloc(), 55)?);
+    for (size, inside) in [(56, true), (55, false)] {
+        assert!(rt; lies_in(rt.alloc(), size)? == inside, "{size}");
+    }
     Ok(())
 }
 
-// The available flags of each round of a ring of one place, and its used ones.
-const ONE_PLACE: [(u16, u16); 4] = [
-    (FIRST_ROUND, 0x8082),
-    (SECOND_ROUND, 0x0002),
-    (FIRST_ROUND, 0x8082),
-    (SECOND_ROUND, 0x0002),
+// A ring of one place, used on four rounds. A descriptor isn't taken again on the round behind.
+static ONE_PLACE: [Step; 20] = [
+    Step::Describes(0, (200, 8, 3, FIRST_ROUND + WRITE)),
+    Step::Pops(1, Answer::Chain(3, 1, 0, 8)),
+    Step::Publishes(1, 3, 1, 8, true),
+    Step::Holds(8, &[8, 0, 0, 0, 3, 0, 0x82, 0x80]),
+    Step::Pops(2, Answer::Nothing),
+    Step::Describes(0, (200, 8, 3, SECOND_ROUND + WRITE)),
+    Step::Pops(2, Answer::Chain(3, 1, 0, 8)),
+    Step::Publishes(2, 3, 1, 8, true),
+    Step::Holds(8, &[8, 0, 0, 0, 3, 0, 0x02, 0x00]),
+    Step::Pops(3, Answer::Nothing),
+    Step::Describes(0, (200, 8, 3, FIRST_ROUND + WRITE)),
+    Step::Pops(3, Answer::Chain(3, 1, 0, 8)),
+    Step::Publishes(3, 3, 1, 8, true),
+    Step::Holds(8, &[8, 0, 0, 0, 3, 0, 0x82, 0x80]),
+    Step::Pops(4, Answer::Nothing),
+    Step::Describes(0, (200, 8, 3, SECOND_ROUND + WRITE)),
+    Step::Pops(4, Answer::Chain(3, 1, 0, 8)),
+    Step::Publishes(4, 3, 1, 8, true),
+    Step::Holds(8, &[8, 0, 0, 0, 3, 0, 0x02, 0x00]),
+    Step::Pops(5, Answer::Nothing),
 ];
 
 #[test]
 fn a_ring_of_one_place(rt: HostRuntime) -> Result<(), Fail> {
-    let mut memory = memory_of(rt.alloc(), 1024)?;
-    let mut ring = ring_of(rt.alloc(), 1)?;
-    for (round, (flags, expected)) in ONE_PLACE.iter().enumerate() {
-        offer(&mut memory, 0, (200, 8, 3, *flags + WRITE))?;
-        let chain = Answer::Chain(3, 1, 0, 8);
-        serve(rt.alloc(), &mut ring, &mut memory, chain, 8)?;
-        assert!(rt; used(&memory, 0)? == (8, 3, *expected), "on {round}");
-        // It isn't taken again on the round behind.
-        assert!(rt; pop(rt.alloc(), &mut ring, &mut memory)? == Answer::Nothing);
-    }
-    Ok(())
+    go(rt.alloc(), 1024, ring_of(rt.alloc(), 1)?, &ONE_PLACE)
 }
 
-// All places of a ring of 256 are popped, each a chain of its own.
-fn pops_all(alloc: Global, ring: &mut Ring, memory: &mut Memory) -> Result<(), Fail> {
+// All places of a ring of 256 are available, each a chain of its own.
+fn offer_256(memory: &mut Memory) -> Result<(), Fail> {
     for index in 0..256_u16 {
-        offer(
-            memory,
-            index,
-            (20000 + index as u64, 1, index, FIRST_ROUND + WRITE),
-        )?;
-        if pop(alloc, ring, memory)? != Answer::Chain(index, 1, 0, 1) {
-            return Err(Fail::from("no chain"));
-        }
+        let buffer = (20000 + index as u64, 1, index, FIRST_ROUND + WRITE);
+        describe(memory, 16 * index as u64, buffer)?;
     }
     Ok(())
 }
 
-// The chains are given back, the last popped first.
-fn publishes_in_reverse(ring: &mut Ring, memory: &mut Memory) -> Result<(), Fail> {
-    for place in 0..256_u16 {
-        let id = 255 - place;
-        publish(ring, memory, id as u64 + 1, id, 1, 1)?;
-    }
-    Ok(())
-}
+static ALL_POPPED: [Step; 1] = [Step::Pops(257, Answer::Nothing)];
+
+// The used descriptors at the first and the last place; none is taken again.
+static ALL_USED: [Step; 3] = [
+    Step::Holds(8, &[1, 0, 0, 0, 255, 0, 0x82, 0x80]),
+    Step::Holds(16 * 255 + 8, &[1, 0, 0, 0, 0, 0, 0x82, 0x80]),
+    Step::Pops(257, Answer::Nothing),
+];
 
 #[test]
 fn chains_256_outstanding(rt: HostRuntime) -> Result<(), Fail> {
     let mut memory = memory_of(rt.alloc(), 65536)?;
     let mut ring = ring_of(rt.alloc(), 256)?;
-    pops_all(rt.alloc(), &mut ring, &mut memory)?;
-    assert!(rt; pop(rt.alloc(), &mut ring, &mut memory)? == Answer::Nothing);
-    publishes_in_reverse(&mut ring, &mut memory)?;
-    assert!(rt; used(&memory, 0)? == (1, 255, 0x8082) && used(&memory, 255)? == (1, 0, 0x8082));
-    assert!(rt; pop(rt.alloc(), &mut ring, &mut memory)? == Answer::Nothing);
-    Ok(())
+    offer_256(&mut memory)?;
+    pops_256(rt.alloc(), &mut memory, &mut ring)?;
+    take(rt.alloc(), &mut memory, &mut ring, &ALL_POPPED)?;
+    publishes_256(&mut memory, &mut ring)?;
+    take(rt.alloc(), &mut memory, &mut ring, &ALL_USED)
 }
 
 // All places of the largest ring but the last are one chain, of a byte each.
 fn offer_the_longest(memory: &mut Memory) -> Result<(), Fail> {
     for index in 0..32766_u16 {
-        offer(
-            memory,
-            index,
-            (600000, 1, index, FIRST_ROUND + WRITE + NEXT),
-        )?;
+        let buffer = (600000, 1, index, FIRST_ROUND + WRITE + NEXT);
+        describe(memory, 16 * index as u64, buffer)?;
     }
-    offer(memory, 32766, (600000, 1, 77, FIRST_ROUND + WRITE))
+    describe(memory, 16 * 32766, (600000, 1, 77, FIRST_ROUND + WRITE))
 }
 
-// The next chain is at the last place and the first.
-fn offer_over_the_end(memory: &mut Memory) -> Result<(), Fail> {
-    offer(memory, 0, (600000, 5, 78, SECOND_ROUND + WRITE))?;
-    offer(memory, 32767, (600000, 3, 0, FIRST_ROUND + NEXT))
-}
+static LONGEST: [Step; 12] = [
+    Step::Pops(1, Answer::Chain(77, 32767, 0, 32767)),
+    Step::Publishes(1, 77, 32767, 512, true),
+    Step::Holds(8, &[0, 2, 0, 0, 77, 0, 0x82, 0x80]),
+    // The next chain is at the last place and the first.
+    Step::Describes(0, (600000, 5, 78, SECOND_ROUND + WRITE)),
+    Step::Describes(16 * 32767, (600000, 3, 0, FIRST_ROUND + NEXT)),
+    Step::Pops(2, Answer::Chain(78, 2, 3, 5)),
+    Step::Publishes(2, 78, 2, 5, true),
+    Step::Holds(16 * 32767 + 8, &[5, 0, 0, 0, 78, 0, 0x82, 0x80]),
+    // The next place is at index 1 of the second round.
+    Step::Describes(16, (600000, 1, 79, FIRST_ROUND)),
+    Step::Pops(3, Answer::Nothing),
+    Step::Describes(16, (600000, 1, 79, SECOND_ROUND)),
+    Step::Pops(3, Answer::Chain(79, 1, 1, 0)),
+];
 
 #[test]
 fn the_largest_ring(rt: HostRuntime) -> Result<(), Fail> {
     let mut memory = memory_of(rt.alloc(), 1048576)?;
     let mut ring = ring_of(rt.alloc(), 32768)?;
     offer_the_longest(&mut memory)?;
-    let longest = Answer::Chain(77, 32767, 0, 32767);
-    serve(rt.alloc(), &mut ring, &mut memory, longest, 512)?;
-    assert!(rt; used(&memory, 0)? == (512, 77, 0x8082));
-    offer_over_the_end(&mut memory)?;
-    let over = Answer::Chain(78, 2, 3, 5);
-    serve(rt.alloc(), &mut ring, &mut memory, over, 5)?;
-    assert!(rt; used(&memory, 32767)? == (5, 78, 0x8082));
-    // The next place is at index 1 of the second round.
-    offer(&mut memory, 1, (600000, 1, 79, FIRST_ROUND))?;
-    assert!(rt; pop(rt.alloc(), &mut ring, &mut memory)? == Answer::Nothing);
-    offer(&mut memory, 1, (600000, 1, 79, SECOND_ROUND))?;
-    assert!(rt; pop(rt.alloc(), &mut ring, &mut memory)? == Answer::Chain(79, 1, 1, 0));
-    Ok(())
+    take(rt.alloc(), &mut memory, &mut ring, &LONGEST)
 }
