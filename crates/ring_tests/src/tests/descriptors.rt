@@ -1,4 +1,4 @@
-// What a guest writes into its memory for a device to read, and reads there.
+//! What a guest writes into its memory for a device to read, and reads there.
 use guest_memory::Memory;
 use std::alloc::Global;
 use std::test::Fail;
@@ -9,9 +9,9 @@ pub const WRITE: u16 = 2;
 
 pub const INDIRECT: u16 = 4;
 
-// A descriptor as its four fields: le64 addr, le32 len, le16 flags and le16 next of a split one
-// (struct virtq_desc of VIRTIO 1.2, 2.7.5); le64 addr, le32 len, le16 id and le16 flags of a packed one
-// (struct pvirtq_desc, 2.8).
+/// A descriptor as its four fields: le64 addr, le32 len, le16 flags and le16 next of a split one
+/// (struct virtq_desc of VIRTIO 1.2, 2.7.5); le64 addr, le32 len, le16 id and le16 flags of a packed one
+/// (struct pvirtq_desc, 2.8).
 pub type Descriptor = (u64, u32, u16, u16);
 
 pub fn descriptor(fields: Descriptor) -> [u8; 16] {

@@ -1,13 +1,13 @@
-// What a driver, its guest and the device do one after another to a ring and its memory, and what it
-// gives. Both kinds of ring take the same steps.
+//! What a driver, its guest and the device do one after another to a ring and its memory, and what it
+//! gives. Both kinds of ring take the same steps.
 use super::descriptors::{Descriptor, describe, holds, holds_word, memory_of, put, set_word};
 use chains::{ChainFault, Popped, Reads, RingFault};
 use guest_memory::Memory;
 use std::alloc::Global;
 use std::test::Fail;
 
-// What a pop answers: the id, how many places, how many bytes may be read and written; or why it is
-// refused; or nothing.
+/// What a pop answers: the id, how many places, how many bytes may be read and written; or why it is
+/// refused; or nothing.
 #[derive(PartialEq, Eq, Clone, Copy)]
 pub enum Answer {
     Chain(u16, u16, usize, u64),
@@ -25,8 +25,8 @@ pub const ORDER: Answer = Answer::Refused(RingFault::Refused(ChainFault::Order))
 
 pub const BAD_TABLE: Answer = Answer::Refused(RingFault::Refused(ChainFault::BadTable));
 
-// A ring of either kind. Its methods promise nothing, so that what stands above them is proved
-// without the rings' contracts.
+/// A ring of either kind. Its methods promise nothing, so that what stands above them is proved
+/// without the rings' contracts.
 pub trait Queue: Drop {
     fn pop_by(
         &mut self,
@@ -36,8 +36,8 @@ pub trait Queue: Drop {
         number: u64,
     ) -> Result<Answer, Fail>;
 
-    // Gives back the chain of this number, id and so many places, with a reply of so many bytes, and
-    // answers whether the driver is to be notified.
+    /// Gives back the chain of this number, id and so many places, with a reply of so many bytes, and
+    /// answers whether the driver is to be notified.
     fn give_back(
         &mut self,
         memory: &mut Memory,
@@ -167,7 +167,7 @@ fn copy(alloc: Global, memory: &Memory) -> Result<Vec<u8>, Fail> {
     Ok(bytes.ok_or("no memory")?)
 }
 
-// Whether a pop is refused so, and leaves the ring and the memory as they were.
+/// Whether a pop is refused so, and leaves the ring and the memory as they were.
 fn refuses<R: Queue>(
     alloc: Global,
     memory: &mut Memory,
@@ -181,7 +181,7 @@ fn refuses<R: Queue>(
     Ok(popped == pop.1 && ring.last_number() == last && holds(memory, 0, &before))
 }
 
-// Whether a pop by this number gives this. The ring's last number is that of a chain popped.
+/// Whether a pop by this number gives this. The ring's last number is that of a chain popped.
 fn pops<R: Queue>(
     alloc: Global,
     memory: &mut Memory,
@@ -234,7 +234,7 @@ fn goes_as_told<R: Queue>(
     }
 }
 
-// Takes the steps, each of which is to go as told.
+/// Takes the steps, each of which is to go as told.
 pub fn take<R: Queue>(
     alloc: Global,
     memory: &mut Memory,
@@ -250,13 +250,13 @@ pub fn take<R: Queue>(
     Ok(())
 }
 
-// Steps of a ring and a memory of so many bytes.
+/// Steps of a ring and a memory of so many bytes.
 pub fn go<R: Queue>(alloc: Global, size: u64, mut ring: R, steps: &[Step]) -> Result<(), Fail> {
     let mut memory = memory_of(alloc, size)?;
     take(alloc, &mut memory, &mut ring, steps)
 }
 
-// What a pop answers of these descriptors, the second of which stands twice, and how many it reads.
+/// What a pop answers of these descriptors, the second of which stands twice, and how many it reads.
 pub fn popped_of<R: Queue>(
     alloc: Global,
     mut ring: R,
@@ -274,8 +274,8 @@ pub fn popped_of<R: Queue>(
     Ok((answer, reads.count()))
 }
 
-// Pops 256 chains of one byte to be written, each by its place as its id and the place after it as its
-// number.
+/// Pops 256 chains of one byte to be written, each by its place as its id and the place after it as its
+/// number.
 pub fn pops_256<R: Queue>(alloc: Global, memory: &mut Memory, ring: &mut R) -> Result<(), Fail> {
     let mut reads = Reads::new();
     for place in 0..256_u16 {
@@ -287,7 +287,7 @@ pub fn pops_256<R: Queue>(alloc: Global, memory: &mut Memory, ring: &mut R) -> R
     Ok(())
 }
 
-// Gives those chains back, the last popped first.
+/// Gives those chains back, the last popped first.
 pub fn publishes_256<R: Queue>(memory: &mut Memory, ring: &mut R) -> Result<(), Fail> {
     for place in 0..256_u16 {
         let id = 255 - place;
