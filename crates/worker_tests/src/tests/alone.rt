@@ -1,29 +1,31 @@
 //! What guests are told that are served at once is what each is told by a host that serves one chain at a
 //! time.
 use crate::tests::scene::{
-    board_of, chain, check, formatted, formatted_in_memory, get_write_counter, program_key, run_on,
+    Step, board_of, check, formatted, formatted_in_memory, run_on, script_of_steps,
 };
 use board::Board;
 use disk::{Disk, MemDisk};
 use host::{Answer, Host};
+use rpmb_frame::BoardConfig;
 use std::alloc::Global;
 use std::sync::Wait;
 use std::test::Fail;
 use std::thread::Threads;
-use workers::{Open, Order, Script};
+use workers::{DriverEnd, Open, Order, Script};
 
 /// A script of a guest of this number: its own key, its counter under several nonces, a reset between.
 pub fn script_of(alloc: Global, guest: u8) -> Result<Script, Fail> {
-    let mut orders = Vec::new(alloc);
-    orders.push(chain(alloc, &get_write_counter(u128::from(guest)))?)?;
-    orders.push(chain(alloc, &program_key(&[guest; 32]))?)?;
-    for nonce in 1..4_u8 {
-        orders.push(chain(alloc, &get_write_counter(u128::from(nonce)))?)?;
-    }
-    orders.push(Order::Reset)?;
-    orders.push(chain(alloc, &program_key(&[guest; 32]))?)?;
-    orders.push(chain(alloc, &get_write_counter(9))?)?;
-    Ok(Script::new(orders))
+    let steps = [
+        Step::Counter(guest),
+        Step::Key,
+        Step::Counter(1),
+        Step::Counter(2),
+        Step::Counter(3),
+        Step::Reset,
+        Step::Key,
+        Step::Counter(9),
+    ];
+    script_of_steps(alloc, &[guest; 32], &steps)
 }
 
 fn scripts_of(alloc: Global, guests: u8) -> Result<Vec<Script>, Fail> {
@@ -66,42 +68,50 @@ pub fn check_alone<D: Disk>(
     check(told == answers.len(), "an answer too many")
 }
 
-/// A host on a fresh image of so many guests.
-pub fn host_of(alloc: Global, guests: usize) -> Result<Host<MemDisk>, Fail> {
-    let board = board_of(alloc, guests)?;
-    let Ok(opened) = Board::open(alloc, formatted_in_memory(alloc, guests)?, 1, &board) else {
-        return Err(Fail::from("an image that isn't opened"));
-    };
-    match Host::new(alloc, opened, &board) {
-        Ok(host) => Ok(host),
-        Err(_) => Err(Fail::from("no memory")),
+/// A host on this disk.
+fn host_on<D: Disk>(alloc: Global, disk: D, board: &BoardConfig) -> Result<Host<D>, Fail> {
+    match Board::open(alloc, disk, 1, board) {
+        Ok(opened) => match Host::new(alloc, opened, board) {
+            Ok(host) => Ok(host),
+            Err(_) => Err(Fail::from("no memory")),
+        },
+        Err(_) => Err(Fail::from("an image that isn't opened")),
     }
 }
 
+/// A host on a fresh image of so many guests.
+pub fn host_of(alloc: Global, guests: usize) -> Result<Host<MemDisk>, Fail> {
+    let board = board_of(alloc, guests)?;
+    host_on(alloc, formatted_in_memory(alloc, guests)?, &board)
+}
+
 /// The same for each guest, each in turn.
-fn check_each(alloc: Global, scripts: &[Script], answers: &[&[Answer]]) -> Result<(), Fail> {
-    let mut host = host_of(alloc, scripts.len())?;
-    for (guest, script) in scripts.iter().enumerate() {
-        let Some(answers) = answers.get(guest) else {
-            return Err(Fail::from("no such guest"));
-        };
-        check_alone(&mut host, (guest % 65_536) as u16, script.orders(), answers)?;
+fn check_each<D: Disk>(
+    host: &mut Host<D>,
+    scripts: &[Script],
+    drivers: &[DriverEnd],
+) -> Result<(), Fail> {
+    check(drivers.len() == scripts.len(), "another number of guests")?;
+    for (guest, (script, driver)) in (0..u16::MAX).zip(scripts.iter().zip(drivers.iter())) {
+        check_alone(host, guest, script.orders(), &driver.answers)?;
     }
     Ok(())
+}
+
+/// The guests were told what a host tells each alone.
+fn check_drivers(alloc: Global, scripts: &[Script], drivers: &[DriverEnd]) -> Result<(), Fail> {
+    let mut host = host_of(alloc, scripts.len())?;
+    check_each(&mut host, scripts, drivers)
 }
 
 /// So many guests are told at once what each is told alone.
 fn are_told_alike<R: Threads + Wait + Sync>(rt: &R, alloc: Global, guests: u8) -> Result<(), Fail> {
     let scripts = scripts_of(alloc, guests)?;
     let disk = formatted(alloc, scripts.len())?;
-    let Ok(ended) = run_on(rt, alloc, disk, &scripts, &Open)? else {
-        return Err(Fail::from("a fault"));
-    };
-    let mut answers = Vec::new(alloc);
-    for driver in &ended.drivers {
-        answers.push(driver.answers.as_slice())?;
+    match run_on(rt, alloc, disk, &scripts, &Open)? {
+        Ok(ended) => check_drivers(alloc, &scripts, &ended.drivers),
+        Err(_) => Err(Fail::from("a fault")),
     }
-    check_each(alloc, &scripts, &answers)
 }
 
 #[test]

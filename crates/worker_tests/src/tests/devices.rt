@@ -1,9 +1,6 @@
 //! Devices that stand in the place of a board's own: with less memory, with another guest's number, or with a queue
 //! that somebody else has made ready.
-ghost use Rattle.std.specs.Prelude.{◌≡◌};
-
-use crate::tests::scene::{board_of, formatted, opened};
-use board::Parts;
+use crate::tests::scene::{board_of, formatted, opened, run_of};
 use disk::CutDisk;
 use host::HostFault;
 use mmio_transport::Device;
@@ -14,10 +11,11 @@ use mmio_transport::register::{
 };
 use rpmb_frame::GuestConfig;
 use std::alloc::Global;
+use std::mem;
 use std::sync::Wait;
 use std::test::Fail;
 use std::thread::Threads;
-use workers::{Ended, Gate, Script, serve};
+use workers::{Ended, Gate, Script};
 
 /// A descriptor (`struct virtq_desc`, VIRTIO 1.2, 2.7.5).
 pub fn descriptor(addr: u64, len: u32, flags: u16, next: u16) -> [u8; 16] {
@@ -59,17 +57,13 @@ pub fn with_queue(
     Ok(device)
 }
 
-/// The devices of a board, but those that others stand for.
-fn replaced(
-    alloc: Global,
-    devices: Vec<Device>,
-    others: Vec<Option<Device>>,
-) -> Result<Vec<Device>, Fail> {
-    let mut all = Vec::with_capacity(alloc, devices.len())?;
-    for (device, other) in devices.into_iter().zip(others.into_iter()) {
-        all.push(other.unwrap_or(device))?;
+/// Puts others, where there are any, in the place of devices; those take the others' places.
+fn replace(devices: &mut [Device], others: &mut [Option<Device>]) {
+    for (device, other) in devices.iter_mut().zip(others.iter_mut()) {
+        if let Some(other) = other {
+            mem::swap(device, other);
+        }
     }
-    Ok(all)
 }
 
 /// A run of these scripts on a fresh image, with these devices in the place of the board's own. Of the disk the k-th
@@ -77,30 +71,14 @@ fn replaced(
 pub fn run_beside<G: Gate + Sync, R: Threads + Wait + Sync>(
     rt: &R,
     alloc: Global,
-    others: Vec<Option<Device>>,
+    others: &mut [Option<Device>],
     scripts: &[Script],
     gate: &G,
     k: u64,
 ) -> Result<Result<Ended<CutDisk>, HostFault>, Fail> {
     let board = board_of(alloc, scripts.len())?;
-    let parts = opened(alloc, formatted(alloc, scripts.len())?, &board)?;
-    let Parts {
-        devices,
-        book,
-        tallies,
-        shares,
-        mut store,
-    } = parts;
-    if tallies.len() != scripts.len() {
-        return Err(Fail::from("another number of guests"));
-    }
-    store.fail(k);
-    let parts = Parts {
-        devices: replaced(alloc, devices, others)?,
-        book,
-        tallies,
-        shares,
-        store,
-    };
-    Ok(serve(rt, alloc, parts, &board, scripts, gate))
+    let mut parts = opened(alloc, formatted(alloc, scripts.len())?, &board)?;
+    replace(&mut parts.devices, others);
+    parts.store.fail(k);
+    run_of(rt, alloc, parts, &board, scripts, gate)
 }

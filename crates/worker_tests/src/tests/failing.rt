@@ -1,14 +1,15 @@
 //! Guests that are served at once, over a disk of which a call fails.
 use crate::tests::asking::write_of;
 use crate::tests::scene::{
-    KEY, chain, check, get_write_counter, program_key, run_failing, script_with_reset, tail_of,
+    KEY, Step, chain, check, get_write_counter, program_key, run_failing, tail_of, two_scripts,
 };
+use disk::Disk;
 use host::Answer;
 use std::alloc::Global;
 use std::sync::Wait;
 use std::test::Fail;
 use std::thread::Threads;
-use workers::Script;
+use workers::{DriverEnd, Ended, Script};
 
 /// The tail of a failure reply.
 fn failure_of(kind: u8, code: u8) -> [u8; 12] {
@@ -29,25 +30,33 @@ fn is_told(answer: Option<&Answer>, kind: u8, broken: bool, failures: [u8; 2]) -
                 || tail == failure_of(kind, failures[1]).as_slice()))
 }
 
-/// A run of two guests of which the k-th call fails: each guest has its two answers. Whether a call failed.
-fn breaks_at<R: Threads + Wait + Sync>(rt: &R, alloc: Global, k: u64) -> Result<bool, Fail> {
-    let scripts = [script_with_reset(alloc)?, script_with_reset(alloc)?];
-    let Ok(ended) = run_failing(rt, alloc, k, &scripts)? else {
-        return Err(Fail::from("a fault"));
-    };
+/// A guest has its two answers, where a call failed or none did.
+fn check_answers(driver: &DriverEnd, broken: bool) -> Result<(), Fail> {
+    check(driver.complete && driver.answers.len() == 2, "no end")?;
+    let key = is_told(driver.answers.get(0), 1, broken, [5, 1]);
+    check(key, "another reply to the key")?;
+    let counter = is_told(driver.answers.get(1), 2, broken, [1, 1]);
+    check(counter, "another reply to the counter")
+}
+
+/// Each of two guests has its two answers. Whether a call failed.
+fn has_broken<D: Disk>(ended: &Ended<D>) -> Result<bool, Fail> {
     check(ended.book.submit_turns() == 4, "another number of turns")?;
-    for driver in &ended.drivers {
-        check(driver.complete && driver.answers.len() == 2, "no end")?;
-        check(
-            is_told(driver.answers.get(0), 1, ended.broken, [5, 1]),
-            "another reply to the key",
-        )?;
-        check(
-            is_told(driver.answers.get(1), 2, ended.broken, [1, 1]),
-            "another reply to the counter",
-        )?;
+    for driver in ended.drivers.iter() {
+        check_answers(driver, ended.broken)?;
     }
     Ok(ended.broken)
+}
+
+/// A run of two guests, each with a reset between its two chains, of which the k-th call fails: each guest has its
+/// two answers. Whether a call failed.
+fn breaks_at<R: Threads + Wait + Sync>(rt: &R, alloc: Global, k: u64) -> Result<bool, Fail> {
+    let steps = [Step::Key, Step::Reset, Step::Counter(1)];
+    let scripts = two_scripts(alloc, &steps, &steps)?;
+    match run_failing(rt, alloc, k, &scripts)? {
+        Ok(ended) => has_broken(&ended),
+        Err(_) => Err(Fail::from("a fault")),
+    }
 }
 
 /// Runs of which one of ten calls fails, from this one on; whether each of them has to meet its failure.
@@ -146,18 +155,30 @@ fn has_failed(answers: &[Answer]) -> Result<bool, Fail> {
     Ok(failed)
 }
 
-/// A run of two guests that write, of which the k-th call fails. Whether a call failed.
-fn writes_break_at<R: Threads + Wait + Sync>(rt: &R, alloc: Global, k: u64) -> Result<bool, Fail> {
-    let scripts = [script_of_writes(alloc)?, script_of_writes(alloc)?];
-    let Ok(ended) = run_failing(rt, alloc, k, &scripts)? else {
-        return Err(Fail::from("a fault"));
-    };
+/// Each of two guests that write has right answers, and failures only where a call failed. Whether one did.
+fn have_broken<D: Disk>(ended: &Ended<D>) -> Result<bool, Fail> {
     check(ended.book.submit_turns() == 20, "another number of turns")?;
-    for driver in &ended.drivers {
+    for driver in ended.drivers.iter() {
         let failed = has_failed(&driver.answers)?;
         check(ended.broken || !failed, "a failure without a failed call")?;
     }
     Ok(ended.broken)
+}
+
+/// The scripts of two guests that write.
+fn scripts_of_writes(alloc: Global) -> Result<[Script; 2], Fail> {
+    let first = script_of_writes(alloc)?;
+    let second = script_of_writes(alloc)?;
+    Ok([first, second])
+}
+
+/// A run of two guests that write, of which the k-th call fails. Whether a call failed.
+fn writes_break_at<R: Threads + Wait + Sync>(rt: &R, alloc: Global, k: u64) -> Result<bool, Fail> {
+    let scripts = scripts_of_writes(alloc)?;
+    match run_failing(rt, alloc, k, &scripts)? {
+        Ok(ended) => have_broken(&ended),
+        Err(_) => Err(Fail::from("a fault")),
+    }
 }
 
 /// Ten runs of which one call fails, each of which meets its failure.

@@ -1,7 +1,7 @@
 //! Faults of several threads at once: the lowest-numbered guest's is answered.
 use crate::tests::devices::run_beside;
-use crate::tests::full::script_of_reads;
-use crate::tests::scene::{chain, check, fault_of, result_read, script};
+use crate::tests::full::{script_of_reads, scripts_of};
+use crate::tests::scene::{Step, chain, check, fault_of, result_read, two_scripts};
 use host::HostFault;
 use mmio_transport::Device;
 use rpmb_frame::GuestConfig;
@@ -29,20 +29,26 @@ fn narrow(alloc: Global, number: u16) -> Result<Device, Fail> {
     Ok(Device::new(alloc, number, &config)?)
 }
 
-/// Scripts of two guests with a chain each.
-fn two_scripts(alloc: Global) -> Result<[Script; 2], Fail> {
-    Ok([script(alloc, true, false)?, script(alloc, true, false)?])
+/// The fault of a run of two guests with a chain each, of which guest 1 has this device. Of the disk the k-th call
+/// after the opening fails.
+fn fault_beside<G: Gate + Sync, R: Threads + Wait + Sync>(
+    rt: &R,
+    alloc: Global,
+    device: Device,
+    gate: &G,
+    k: u64,
+) -> Result<Option<HostFault>, Fail> {
+    let scripts = two_scripts(alloc, &[Step::Key], &[Step::Key])?;
+    let mut others = [None, Some(device)];
+    Ok(fault_of(run_beside(rt, alloc, &mut others, &scripts, gate, k)?))
 }
 
 #[test]
 fn each_fault_alone_ends_a_run(rt: HostRuntime) -> Result<(), Fail> {
     let alloc = rt.alloc();
-    let scripts = two_scripts(alloc)?;
-    let devices = Vec::from_array(alloc, [None, Some(foreign(alloc)?)])?;
-    let fault = fault_of(run_beside(&rt, alloc, devices, &scripts, &Open, 0)?);
+    let fault = fault_beside(&rt, alloc, foreign(alloc)?, &Open, 0)?;
     check(fault == Some(HostFault::Foreign), "no foreign job")?;
-    let devices = Vec::from_array(alloc, [None, Some(narrow(alloc, 1)?)])?;
-    let fault = fault_of(run_beside(&rt, alloc, devices, &scripts, &Open, 0)?);
+    let fault = fault_beside(&rt, alloc, narrow(alloc, 1)?, &Open, 0)?;
     check(fault == Some(HostFault::OutOfRange), "no narrow memory")
 }
 
@@ -73,6 +79,28 @@ fn late_script(alloc: Global) -> Result<Script, Fail> {
     Ok(Script::new(orders))
 }
 
+/// The scripts of two guests, of which this one's is late.
+fn late_scripts(alloc: Global, late: u16) -> Result<[Script; 2], Fail> {
+    let resets = late_script(alloc)?;
+    let one = script_of_reads(alloc, 1)?;
+    if late == 0 {
+        Ok([resets, one])
+    } else {
+        Ok([one, resets])
+    }
+}
+
+/// The devices of two guests, at which this one's driver comes to a fault, and the other's worker.
+fn late_devices(alloc: Global, driver: u16) -> Result<[Option<Device>; 2], Fail> {
+    let narrow = narrow(alloc, driver)?;
+    let stranger = foreign(alloc)?;
+    if driver == 0 {
+        Ok([Some(narrow), Some(stranger)])
+    } else {
+        Ok([Some(stranger), Some(narrow)])
+    }
+}
+
 /// A run of two guests, of which this one's driver comes to a fault, and the other's worker, which is held. The
 /// fault that it ends with, and whether the worker had come so far before the driver ended all.
 fn run_late<R: Threads + Wait + Clock + Sync>(
@@ -85,17 +113,9 @@ fn run_late<R: Threads + Wait + Clock + Sync>(
         held: 1 - driver % 2,
         popped: AtomicBool::new(false),
     };
-    let late = late_script(alloc)?;
-    let one = script_of_reads(alloc, 1)?;
-    let narrow = narrow(alloc, driver)?;
-    let stranger = foreign(alloc)?;
-    let (scripts, devices) = if driver == 0 {
-        ([late, one], [Some(narrow), Some(stranger)])
-    } else {
-        ([one, late], [Some(stranger), Some(narrow)])
-    };
-    let devices = Vec::from_array(alloc, devices)?;
-    let fault = fault_of(run_beside(rt, alloc, devices, &scripts, &gate, 0)?);
+    let scripts = late_scripts(alloc, driver)?;
+    let mut others = late_devices(alloc, driver)?;
+    let fault = fault_of(run_beside(rt, alloc, &mut others, &scripts, &gate, 0)?);
     Ok((fault, gate.popped.load(Ordering::SeqCst)))
 }
 
@@ -166,9 +186,7 @@ fn a_fault_is_answered_where_a_call_of_the_disk_has_failed(rt: HostRuntime) -> R
         called: AtomicBool::new(false),
         published: AtomicBool::new(false),
     };
-    let scripts = two_scripts(alloc)?;
-    let devices = Vec::from_array(alloc, [None, Some(foreign(alloc)?)])?;
-    let fault = fault_of(run_beside(&rt, alloc, devices, &scripts, &gate, 1)?);
+    let fault = fault_beside(&rt, alloc, foreign(alloc)?, &gate, 1)?;
     check(fault == Some(HostFault::Foreign), "another fault")?;
     check(gate.called.load(Ordering::SeqCst), "no call")?;
     check(gate.published.load(Ordering::SeqCst), "no reply before")
@@ -219,6 +237,25 @@ impl<'a, C: Clock> Gate for HoldsBoth<'a, C> {
     }
 }
 
+/// The scripts of two guests, of which this one fills the history.
+fn filling_scripts(alloc: Global, full: u16) -> Result<[Script; 2], Fail> {
+    if full == 0 {
+        scripts_of(alloc, SUBMITS + 1, 1)
+    } else {
+        scripts_of(alloc, 1, SUBMITS + 1)
+    }
+}
+
+/// The devices beside the guest that fills the history: the other's jobs are foreign.
+fn beside_full(alloc: Global, full: u16) -> Result<[Option<Device>; 2], Fail> {
+    let stranger = foreign(alloc)?;
+    if full == 0 {
+        Ok([None, Some(stranger)])
+    } else {
+        Ok([Some(stranger), None])
+    }
+}
+
 /// The fault of a run in which one of two guests fills the history, and the other's job is foreign; both have passed
 /// their last look at what others do before either comes to its fault.
 fn fault_of_both<R: Threads + Wait + Clock + Sync>(
@@ -234,20 +271,11 @@ fn fault_of_both<R: Threads + Wait + Clock + Sync>(
         is_foreign: AtomicBool::new(false),
         late: AtomicBool::new(false),
     };
-    let fills = script_of_reads(alloc, SUBMITS + 1)?;
-    let one = script_of_reads(alloc, 1)?;
-    let stranger = foreign(alloc)?;
-    let (scripts, devices) = if full == 0 {
-        ([fills, one], [None, Some(stranger)])
-    } else {
-        ([one, fills], [Some(stranger), None])
-    };
-    let devices = Vec::from_array(alloc, devices)?;
-    let fault = fault_of(run_beside(rt, alloc, devices, &scripts, &gate, 0)?);
-    check(
-        !gate.late.load(Ordering::SeqCst),
-        "a worker was held in vain",
-    )?;
+    let scripts = filling_scripts(alloc, full)?;
+    let mut others = beside_full(alloc, full)?;
+    let fault = fault_of(run_beside(rt, alloc, &mut others, &scripts, &gate, 0)?);
+    let late = gate.late.load(Ordering::SeqCst);
+    check(!late, "a worker was held in vain")?;
     Ok(fault)
 }
 

@@ -1,11 +1,12 @@
 //! A history that is full.
 use crate::tests::scene::{chain, check, fault_of, formatted_in_memory, result_read, run_on};
+use disk::Disk;
 use host::HostFault;
 use std::alloc::Global;
 use std::sync::Wait;
 use std::test::Fail;
 use std::thread::Threads;
-use workers::{Open, Script};
+use workers::{DriverEnd, Ended, Open, Script};
 
 /// A script that asks so often for the result.
 pub fn script_of_reads(alloc: Global, chains: u16) -> Result<Script, Fail> {
@@ -17,11 +18,27 @@ pub fn script_of_reads(alloc: Global, chains: u16) -> Result<Script, Fail> {
 }
 
 /// The scripts of two guests, with so many chains.
-fn scripts_of(alloc: Global, first: u16, second: u16) -> Result<[Script; 2], Fail> {
-    Ok([
-        script_of_reads(alloc, first)?,
-        script_of_reads(alloc, second)?,
-    ])
+pub fn scripts_of(alloc: Global, first: u16, second: u16) -> Result<[Script; 2], Fail> {
+    let first = script_of_reads(alloc, first)?;
+    let second = script_of_reads(alloc, second)?;
+    Ok([first, second])
+}
+
+/// All requests of two guests that ask equally often are in the book, with a receipt and an answer each.
+fn check_ended<D: Disk>(ended: &Ended<D>) -> Result<(), Fail> {
+    let turns = ended.book.submit_turns();
+    check(turns == 16_384, "another number of turns")?;
+    for served in ended.served.iter() {
+        check(served.receipts.len() == 8_192, "a receipt too few")?;
+    }
+    check_answers(&ended.drivers)
+}
+
+fn check_answers(drivers: &[DriverEnd]) -> Result<(), Fail> {
+    for driver in drivers.iter() {
+        check(driver.answers.len() == 8_192, "an answer too few")?;
+    }
+    Ok(())
 }
 
 #[test]
@@ -29,20 +46,10 @@ fn requests_16384_have_their_answers(rt: HostRuntime) -> Result<(), Fail> {
     let alloc = rt.alloc();
     let scripts = scripts_of(alloc, 8_192, 8_192)?;
     let disk = formatted_in_memory(alloc, 2)?;
-    let Ok(ended) = run_on(&rt, alloc, disk, &scripts, &Open)? else {
-        return Err(Fail::from("a fault"));
-    };
-    check(
-        ended.book.submit_turns() == 16_384,
-        "another number of turns",
-    )?;
-    for served in &ended.served {
-        check(served.receipts.len() == 8_192, "a receipt too few")?;
+    match run_on(&rt, alloc, disk, &scripts, &Open)? {
+        Ok(ended) => check_ended(&ended),
+        Err(_) => Err(Fail::from("a fault")),
     }
-    for driver in &ended.drivers {
-        check(driver.answers.len() == 8_192, "an answer too few")?;
-    }
-    Ok(())
 }
 
 #[test]

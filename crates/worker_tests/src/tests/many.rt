@@ -54,14 +54,23 @@ fn replies_alone(
 }
 
 /// The same for all guests, each in turn.
-fn all_alone(alloc: Global, scripts: &[Script]) -> Result<Vec<Vec<Vec<u8>>>, Fail> {
-    let mut host = host_of(alloc, scripts.len())?;
+fn all_told(
+    alloc: Global,
+    host: &mut Host<MemDisk>,
+    scripts: &[Script],
+) -> Result<Vec<Vec<Vec<u8>>>, Fail> {
     let mut all = Vec::with_capacity(alloc, scripts.len())?;
-    for (guest, script) in scripts.iter().enumerate() {
-        let guest = (guest % 65_536) as u16;
-        all.push(replies_alone(alloc, &mut host, guest, script.orders())?)?;
+    for (guest, script) in (0..u16::MAX).zip(scripts.iter()) {
+        let replies = replies_alone(alloc, host, guest, script.orders())?;
+        all.push(replies)?;
     }
     Ok(all)
+}
+
+/// What all guests are told alone, by a host on a fresh image.
+fn all_alone(alloc: Global, scripts: &[Script]) -> Result<Vec<Vec<Vec<u8>>>, Fail> {
+    let mut host = host_of(alloc, scripts.len())?;
+    all_told(alloc, &mut host, scripts)
 }
 
 /// Whether these are the replies.

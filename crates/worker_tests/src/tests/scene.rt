@@ -100,25 +100,40 @@ pub fn chain(alloc: Global, frames: &[[u8; 512]]) -> Result<Order, Fail> {
     Ok(Order::Chain(Chain::new(readable, 512)))
 }
 
-/// A script that programs the key where that is wanted, and asks for the counter.
-pub fn script(alloc: Global, with_key: bool, with_counter: bool) -> Result<Script, Fail> {
-    let mut orders = Vec::new(alloc);
-    if with_key {
-        orders.push(chain(alloc, &program_key(&KEY))?)?;
+/// What a guest does at one place of its script.
+#[derive(Clone, Copy)]
+pub enum Step {
+    /// It programs its key, and asks for the result.
+    Key,
+    /// It asks for the write counter under this nonce.
+    Counter(u8),
+    /// It resets the device.
+    Reset,
+}
+
+/// The order that a step stands for, of a guest with this key.
+fn order_of(alloc: Global, key: &[u8; 32], step: &Step) -> Result<Order, Fail> {
+    match step {
+        Step::Key => chain(alloc, &program_key(key)),
+        Step::Counter(nonce) => chain(alloc, &get_write_counter(u128::from(*nonce))),
+        Step::Reset => Ok(Order::Reset),
     }
-    if with_counter {
-        orders.push(chain(alloc, &get_write_counter(1))?)?;
+}
+
+/// The script of a guest with this key, which does these steps one after another.
+pub fn script_of_steps(alloc: Global, key: &[u8; 32], steps: &[Step]) -> Result<Script, Fail> {
+    let mut orders = Vec::new(alloc);
+    for step in steps.iter() {
+        orders.push(order_of(alloc, key, step)?)?;
     }
     Ok(Script::new(orders))
 }
 
-/// A script that programs the key, resets the device, and asks for the counter.
-pub fn script_with_reset(alloc: Global) -> Result<Script, Fail> {
-    let mut orders = Vec::with_capacity(alloc, 3)?;
-    orders.push(chain(alloc, &program_key(&KEY))?)?;
-    orders.push(Order::Reset)?;
-    orders.push(chain(alloc, &get_write_counter(1))?)?;
-    Ok(Script::new(orders))
+/// The scripts of two guests, of which the first does these steps, and the second those.
+pub fn two_scripts(alloc: Global, first: &[Step], second: &[Step]) -> Result<[Script; 2], Fail> {
+    let first = script_of_steps(alloc, &KEY, first)?;
+    let second = script_of_steps(alloc, &KEY, second)?;
+    Ok([first, second])
 }
 
 /// The parts of a board that was just opened.
@@ -133,6 +148,25 @@ pub fn opened<D: Disk>(alloc: Global, disk: D, board: &BoardConfig) -> Result<Pa
     }
 }
 
+/// A run of these scripts, one a guest, over the parts of a board that was just opened.
+pub fn run_of<D: Disk + Send + Drop, G: Gate + Sync, R: Threads + Wait + Sync>(
+    rt: &R,
+    alloc: Global,
+    parts: Parts<D>,
+    board: &BoardConfig,
+    scripts: &[Script],
+    gate: &G,
+) -> Result<Result<Ended<D>, HostFault>, Fail>
+    requires new_book { submits_in parts.book ≡ 0 }
+    requires fresh { All (λ t. t.count ≡ 0) parts.tallies.items }
+    requires follows { Follow parts.shares parts.store.guests }
+{
+    if parts.tallies.len() != scripts.len() {
+        return Err(Fail::from("another number of guests"));
+    }
+    Ok(serve(rt, alloc, parts, board, scripts, gate))
+}
+
 /// A run of these scripts, one a guest, on an image of as many guests.
 pub fn run_on<D: Disk + Send + Drop, G: Gate + Sync, R: Threads + Wait + Sync>(
     rt: &R,
@@ -143,10 +177,7 @@ pub fn run_on<D: Disk + Send + Drop, G: Gate + Sync, R: Threads + Wait + Sync>(
 ) -> Result<Result<Ended<D>, HostFault>, Fail> {
     let board = board_of(alloc, scripts.len())?;
     let parts = opened(alloc, disk, &board)?;
-    if parts.tallies.len() != scripts.len() {
-        return Err(Fail::from("another number of guests"));
-    }
-    Ok(serve(rt, alloc, parts, &board, scripts, gate))
+    run_of(rt, alloc, parts, &board, scripts, gate)
 }
 
 /// The same, on a fresh image whose k-th call after the opening fails.
@@ -158,11 +189,8 @@ pub fn run_failing<R: Threads + Wait + Sync>(
 ) -> Result<Result<Ended<CutDisk>, HostFault>, Fail> {
     let board = board_of(alloc, scripts.len())?;
     let mut parts = opened(alloc, formatted(alloc, scripts.len())?, &board)?;
-    if parts.tallies.len() != scripts.len() {
-        return Err(Fail::from("another number of guests"));
-    }
     parts.store.fail(k);
-    Ok(serve(rt, alloc, parts, &board, scripts, &Open))
+    run_of(rt, alloc, parts, &board, scripts, &Open)
 }
 
 /// The fault that a run ended with, where it did.

@@ -1,9 +1,9 @@
 //! A guest whose device has stopped, beside others that go on.
 use crate::tests::alone::{check_alone, host_of, script_of};
 use crate::tests::devices::{descriptor, run_beside, with_queue};
-use crate::tests::scene::{KEY, chain, check, get_write_counter, program_key};
-use disk::CutDisk;
-use host::{Answer, Stuck};
+use crate::tests::scene::{KEY, Step, check, get_write_counter, script_of_steps};
+use disk::Disk;
+use host::{Answer, Host, Stuck};
 use mmio_transport::Device;
 use mmio_transport::register::STATUS;
 use rpmb_frame::GuestConfig;
@@ -11,7 +11,7 @@ use std::alloc::Global;
 use std::sync::Wait;
 use std::test::Fail;
 use std::thread::Threads;
-use workers::{Ended, Open, Order, Script};
+use workers::{DriverEnd, Ended, Open, Order, Script};
 
 /// Where the device finds its queue: behind all that the driver uses.
 const BASE: u32 = 0x8_0000;
@@ -54,14 +54,15 @@ fn overwriting(alloc: Global) -> Result<Device, Fail> {
 
 /// A script of three chains, a reset, and two chains.
 fn script_with_reset(alloc: Global) -> Result<Script, Fail> {
-    let mut orders = Vec::with_capacity(alloc, 6)?;
-    orders.push(chain(alloc, &get_write_counter(1))?)?;
-    orders.push(chain(alloc, &program_key(&KEY))?)?;
-    orders.push(chain(alloc, &get_write_counter(2))?)?;
-    orders.push(Order::Reset)?;
-    orders.push(chain(alloc, &program_key(&KEY))?)?;
-    orders.push(chain(alloc, &get_write_counter(3))?)?;
-    Ok(Script::new(orders))
+    let steps = [
+        Step::Counter(1),
+        Step::Key,
+        Step::Counter(2),
+        Step::Reset,
+        Step::Key,
+        Step::Counter(3),
+    ];
+    script_of_steps(alloc, &KEY, &steps)
 }
 
 /// The first three chains have no reply, for this reason, and there are five.
@@ -75,25 +76,54 @@ fn check_stuck(answers: &[Answer], stuck: Stuck) -> Result<(), Fail> {
     check(answers.len() == 5, "another number of answers")
 }
 
-/// Guest 1 is stuck until its reset; all else is what each guest is told alone.
-fn check_told(
-    alloc: Global,
-    ended: &Ended<CutDisk>,
+/// Behind its reset, a guest that was stuck is told what it is told alone.
+fn check_behind_reset<D: Disk>(
+    host: &mut Host<D>,
+    orders: &[Order],
+    answers: &[Answer],
+) -> Result<(), Fail> {
+    match (orders.get(4..), answers.get(3..)) {
+        (Some(orders), Some(answers)) => check_alone(host, 1, orders, answers),
+        _ => Err(Fail::from("nothing behind the reset")),
+    }
+}
+
+/// Guest 1 is stuck until its reset; all else is what each guest is told alone by this host.
+fn check_told<D: Disk>(
+    host: &mut Host<D>,
+    drivers: &[DriverEnd],
     scripts: &[Script; 3],
     stuck: Stuck,
 ) -> Result<(), Fail> {
-    let [first, second, third] = ended.drivers.as_slice() else {
+    let [first, second, third] = drivers else {
         return Err(Fail::from("another number of guests"));
     };
-    let mut host = host_of(alloc, 3)?;
-    check_alone(&mut host, 0, scripts[0].orders(), &first.answers)?;
-    check_alone(&mut host, 2, scripts[2].orders(), &third.answers)?;
+    check_alone(host, 0, scripts[0].orders(), &first.answers)?;
+    check_alone(host, 2, scripts[2].orders(), &third.answers)?;
     check_stuck(&second.answers, stuck)?;
-    let (Some(orders), Some(answers)) = (scripts[1].orders().get(4..), second.answers.get(3..))
-    else {
-        return Err(Fail::from("nothing behind the reset"));
-    };
-    check_alone(&mut host, 1, orders, answers)
+    check_behind_reset(host, scripts[1].orders(), &second.answers)
+}
+
+/// The same of what a run left, in which so many requests were answered.
+fn check_ended<D: Disk>(
+    alloc: Global,
+    ended: &Ended<D>,
+    scripts: &[Script; 3],
+    stuck: Stuck,
+    submits: u64,
+) -> Result<(), Fail> {
+    let turns = ended.book.submit_turns();
+    check(turns == submits, "another number of turns")?;
+    let mut host = host_of(alloc, 3)?;
+    check_told(&mut host, &ended.drivers, scripts, stuck)
+}
+
+/// The scripts of three guests, of which guest 1 resets its device behind its third chain.
+fn scripts_of(alloc: Global) -> Result<[Script; 3], Fail> {
+    let first = script_of(alloc, 0)?;
+    let second = script_with_reset(alloc)?;
+    let third = script_of(alloc, 2)?;
+    Ok([first, second, third])
 }
 
 /// A run of three guests, of which guest 1 has this device, and is stuck for this reason. So many of its requests
@@ -105,20 +135,12 @@ fn is_stuck<R: Threads + Wait + Sync>(
     stuck: Stuck,
     submits: u64,
 ) -> Result<(), Fail> {
-    let scripts = [
-        script_of(alloc, 0)?,
-        script_with_reset(alloc)?,
-        script_of(alloc, 2)?,
-    ];
-    let others = Vec::from_array(alloc, [None, Some(device), None])?;
-    let Ok(ended) = run_beside(rt, alloc, others, &scripts, &Open, 0)? else {
-        return Err(Fail::from("a fault"));
-    };
-    check(
-        ended.book.submit_turns() == submits.saturating_add(14),
-        "another number of turns",
-    )?;
-    check_told(alloc, &ended, &scripts, stuck)
+    let scripts = scripts_of(alloc)?;
+    let mut others = [None, Some(device), None];
+    match run_beside(rt, alloc, &mut others, &scripts, &Open, 0)? {
+        Ok(ended) => check_ended(alloc, &ended, &scripts, stuck, submits.saturating_add(14)),
+        Err(_) => Err(Fail::from("a fault")),
+    }
 }
 
 #[test]
