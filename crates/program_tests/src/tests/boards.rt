@@ -1,5 +1,5 @@
 use board_file::{BoardError, read_board};
-use rpmb_frame::{GuestConfig, RingKind};
+use rpmb_frame::{BoardConfig, GuestConfig, RingKind};
 use std::alloc::Global;
 use std::test::Fail;
 
@@ -61,6 +61,20 @@ static BOARDS: [Row; 5] = [
 
 const ONE_GUEST: &str = "[[guest]]\ncapacity = 1\n";
 
+/// Whether a board has so many guests, and this one last.
+fn has_guests(board: &BoardConfig, count: usize, last: &GuestConfig) -> bool {
+    let guests = board.guests();
+    guests.len() == count && guests.last() == Some(last)
+}
+
+/// Whether a board file names this path, or none.
+fn is_path(path: Option<&String>, image: Option<&str>) -> bool {
+    match path {
+        Some(path) => image == Some(path.as_str()),
+        None => image.is_none(),
+    }
+}
+
 fn is_read(
     alloc: Global,
     text: &str,
@@ -69,11 +83,7 @@ fn is_read(
     image: Option<&str>,
 ) -> Result<bool, Fail> {
     let (board, path) = read_board(alloc, text)?;
-    Ok(
-        board.guests().len() == count
-            && board.guests().last() == Some(&last)
-            && path.as_ref().map(|path| path.as_str()) == image,
-    )
+    Ok(has_guests(&board, count, &last) && is_path(path.as_ref(), image))
 }
 
 #[test]
@@ -187,10 +197,12 @@ fn reads_capacity(alloc: Global, capacity: u8) -> Result<bool, Fail> {
     is_read(alloc, text.as_str(), 1, guest, None)
 }
 
+static CAPACITIES: [u8; 3] = [1, 2, 128];
+
 #[test]
 fn reads_capacities_alone(rt: HostRuntime) -> Result<(), Fail> {
-    for capacity in [1, 2, 128] {
-        assert!(rt; reads_capacity(rt.alloc(), capacity)?, "at {capacity}");
+    for capacity in &CAPACITIES {
+        assert!(rt; reads_capacity(rt.alloc(), *capacity)?, "at {capacity}");
     }
     Ok(())
 }

@@ -4,7 +4,7 @@ mod lines;
 mod runs;
 mod served;
 
-use super::texts::text_of;
+use super::texts::{Piece, text_of};
 use command_line::Command;
 use commands::perform;
 use disk::{CutDisk, Disk, MemDisk};
@@ -120,6 +120,16 @@ fn board_of(alloc: Global, capacities: &[u8]) -> Result<BoardConfig, Fail> {
     Ok(BoardConfig::new(guests)?)
 }
 
+/// What a command left that told this, and a disk of these bytes, of which so many calls failed.
+fn left_with(alloc: Global, told: Told, content: &[u8], failures: u64) -> Result<Left, Fail> {
+    let content = content.to_vec(alloc)?;
+    Ok(Left {
+        told,
+        content,
+        failures,
+    })
+}
+
 /// What a command on a disk in memory leaves.
 fn left_of(
     rt: &impl Runtime,
@@ -129,11 +139,7 @@ fn left_of(
     content: Vec<u8>,
 ) -> Result<Left, Fail> {
     let (told, disk) = performed(rt, command, board, script, MemDisk::new(content))?;
-    Ok(Left {
-        told,
-        content: disk.content().to_vec(rt.alloc())?,
-        failures: disk.failures(),
-    })
+    left_with(rt.alloc(), told, disk.content(), disk.failures())
 }
 
 /// What a command for guests of these capacities leaves, on a disk in memory with this content.
@@ -164,11 +170,7 @@ fn left_of_failing(
     disk: CutDisk,
 ) -> Result<Left, Fail> {
     let (told, disk) = performed(rt, command, board, script, disk)?;
-    Ok(Left {
-        told,
-        content: disk.content().to_vec(rt.alloc())?,
-        failures: disk.failures(),
-    })
+    left_with(rt.alloc(), told, disk.content(), disk.failures())
 }
 
 /// What a command for one guest leaves, on a disk with this content, of which this call fails.
@@ -324,12 +326,23 @@ fn of_each_guest(alloc: Global, start: &str, end: &str) -> Result<String, Fail> 
     Ok(text)
 }
 
+/// As many guests as a board may have.
+static GUESTS: [u8; 64] = [1; 64];
+
+/// What each guest is told, behind its number.
+static REPLY: [Piece; 3] = [(" 512 ", 1), ("00", 509), ("010000\n", 1)];
+
+/// What is told of a request of each of 64 guests.
+fn replies_to_each(alloc: Global) -> Result<String, Fail> {
+    let end = text_of(alloc, &REPLY)?;
+    of_each_guest(alloc, "used ", end.as_str())
+}
+
 /// Whether a request of each of 64 guests is answered.
 fn answers_each_guest(rt: &impl Runtime) -> Result<bool, Fail> {
     let script = of_each_guest(rt.alloc(), "chain ", " - 512\n")?;
-    let end = text_of(rt.alloc(), &[(" 512 ", 1), ("00", 509), ("010000\n", 1)])?;
-    let out = of_each_guest(rt.alloc(), "used ", end.as_str())?;
-    run_ends(rt, &[1; 64], script.as_str(), out.as_str(), "")
+    let out = replies_to_each(rt.alloc())?;
+    run_ends(rt, &GUESTS, script.as_str(), out.as_str(), "")
 }
 
 /// Whether so many requests of one guest are answered as far as a history goes, and the run ends so.

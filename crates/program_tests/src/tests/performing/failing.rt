@@ -51,6 +51,14 @@ fn filler_of(alloc: Global, stop: u64) -> Result<Filler, Fail> {
     }
 }
 
+/// What a command that succeeded printed.
+fn printed(told: Told) -> Result<Vec<u8>, Fail> {
+    if told.status != 0 {
+        return Err("refused").map_err(Fail::from);
+    }
+    Ok(told.out)
+}
+
 /// What `show` prints after a stop of this disk.
 fn shown_after(
     rt: &impl Runtime,
@@ -62,10 +70,7 @@ fn shown_after(
     disk.cut(filler);
     disk.fail(0);
     let (shown, _) = performed(rt, SHOW, board, "", disk)?;
-    if shown.status != 0 {
-        return Err("refused").map_err(Fail::from);
-    }
-    Ok(shown.out)
+    printed(shown)
 }
 
 /// What a run told, how many calls of its disk failed, and what `show` prints after a stop.
@@ -92,6 +97,12 @@ fn run_and_stop(
     })
 }
 
+/// A fresh image of one guest, of which a call will fail.
+fn failing_image(rt: &impl Runtime, call: u64) -> Result<CutDisk, Fail> {
+    let image = fresh(rt, ONE)?;
+    failing_disk(rt.alloc(), image.as_slice(), call)
+}
+
 /// The same over a fresh image, of which a call fails.
 fn stopped_at(
     rt: &impl Runtime,
@@ -100,7 +111,7 @@ fn stopped_at(
     filler: &Filler,
 ) -> Result<Stopped, Fail> {
     let board = board_of(rt.alloc(), ONE)?;
-    let disk = failing_disk(rt.alloc(), fresh(rt, ONE)?.as_slice(), call)?;
+    let disk = failing_image(rt, call)?;
     run_and_stop(rt, &board, script, disk, filler)
 }
 
@@ -117,18 +128,26 @@ impl Failing {
         Ok(lists(alloc, shown, self.settled)? || lists(alloc, shown, next)?)
     }
 
-    /// Whether a run prints what is wanted, ends with its fault, or with none where that is empty, and leaves,
-    /// after a stop, what was settled.
+    /// Whether a run printed what is wanted, and ended with its fault, or with none where that is empty.
+    fn tells(self, alloc: Global, told: &Told) -> Result<bool, Fail> {
+        let out = told_by(alloc, self.part)?;
+        let status = u8::from(!self.fault.is_empty());
+        Ok(told.is(status, out.as_str(), self.fault))
+    }
+
+    /// Whether a run told what is wanted, and left, after a stop, what was settled.
+    fn may_end_so(self, alloc: Global, stopped: &Stopped) -> Result<bool, Fail> {
+        Ok(
+            stopped.failures == self.failures
+                && self.tells(alloc, &stopped.told)?
+                && self.may_leave(alloc, stopped.shown.as_slice())?,
+        )
+    }
+
+    /// Whether a run ends as is wanted.
     fn ends(self, rt: &impl Runtime) -> Result<bool, Fail> {
         let stopped = self.stopped(rt)?;
-        let out = told_by(rt.alloc(), self.part)?;
-        let status = u8::from(!self.fault.is_empty());
-        let is_told = stopped.told.is(status, out.as_str(), self.fault);
-        Ok(
-            is_told
-                && stopped.failures == self.failures
-                && self.may_leave(rt.alloc(), stopped.shown.as_slice())?,
-        )
+        self.may_end_so(rt.alloc(), &stopped)
     }
 }
 
@@ -164,11 +183,16 @@ fn fails_at_each_call_in_turn(rt: HostRuntime) -> Result<(), Fail> {
     Ok(())
 }
 
+/// Whether a run over a fresh image, of which this call fails, prints nothing, and writes nothing.
+fn fails_untouched(rt: &impl Runtime, script: &str, call: u64) -> Result<bool, Fail> {
+    let image = fresh(rt, ONE)?;
+    refuses(rt, script, image.as_slice(), call, DISK_FAULT, 1)
+}
+
 /// Whether a run of which this call of the opening fails prints nothing, and writes nothing.
 fn fails_to_open_at(rt: &impl Runtime, call: u64) -> Result<bool, Fail> {
     let script = script_of(rt.alloc(), WHOLE, "")?;
-    let image = fresh(rt, ONE)?;
-    refuses(rt, script.as_str(), image.as_slice(), call, DISK_FAULT, 1)
+    fails_untouched(rt, script.as_str(), call)
 }
 
 #[test]

@@ -29,8 +29,7 @@ pub fn shows(
 /// Whether `format` prints this, and `show` then this.
 fn makes(rt: &impl Runtime, capacities: &[u8], made: &str, shown: &str) -> Result<bool, Fail> {
     let left = formatted(rt, capacities)?;
-    let is_shown = shows(rt, capacities, left.content.as_slice(), shown, "")?;
-    Ok(is_shown && left.told.is(0, made, ""))
+    Ok(left.told.is(0, made, "") && shows(rt, capacities, left.content.as_slice(), shown, "")?)
 }
 
 /// The capacities of guests, and what `format` and then `show` print.
@@ -91,6 +90,18 @@ fn image_with(rt: &impl Runtime, capacities: &[u8], puts: &[Put]) -> Result<Vec<
     Ok(content)
 }
 
+/// Whether `show` prints this of a fresh image with these bytes, and ends with this fault, or with none.
+fn shows_with(
+    rt: &impl Runtime,
+    capacities: &[u8],
+    puts: &[Put],
+    out: &str,
+    fault: &str,
+) -> Result<bool, Fail> {
+    let content = image_with(rt, capacities, puts)?;
+    shows(rt, capacities, content.as_slice(), out, fault)
+}
+
 /// Whether `show` lists what these bytes mean in a fresh image.
 fn lists(
     rt: &impl Runtime,
@@ -98,9 +109,8 @@ fn lists(
     puts: &[Put],
     listing: &[Piece],
 ) -> Result<bool, Fail> {
-    let content = image_with(rt, capacities, puts)?;
     let out = text_of(rt.alloc(), listing)?;
-    shows(rt, capacities, content.as_slice(), out.as_str(), "")
+    shows_with(rt, capacities, puts, out.as_str(), "")
 }
 
 /// The second guest's home, its blocks 1 and 1,023, and the last byte of the first guest's block 511.
@@ -179,21 +189,15 @@ fn shows_what_an_open_gate_leads_to(rt: HostRuntime) -> Result<(), Fail> {
 }
 
 /// What a byte in a fresh image of one guest leads to: one of the magic, one of the number of guests.
-static SPOILED: [(Put, &str); 2] = [
-    ((0, b"v"), "rpmbd: 12 NotFormatted\n"),
-    ((9, &[2]), "rpmbd: 13 OtherConfig\n"),
+static SPOILED: [(&[Put], &str); 2] = [
+    (&[(0, b"v")], "rpmbd: 12 NotFormatted\n"),
+    (&[(9, &[2])], "rpmbd: 13 OtherConfig\n"),
 ];
-
-/// Whether `show` refuses a fresh image with these bytes.
-fn refuses_with(rt: &impl Runtime, put: Put, fault: &str) -> Result<bool, Fail> {
-    let content = image_with(rt, ONE, &[put])?;
-    shows(rt, ONE, content.as_slice(), "", fault)
-}
 
 #[test]
 fn refuses_contents(rt: HostRuntime) -> Result<(), Fail> {
-    for (put, fault) in &SPOILED {
-        assert!(rt; refuses_with(&rt, *put, fault)?, "at {fault}");
+    for (puts, fault) in &SPOILED {
+        assert!(rt; shows_with(&rt, ONE, puts, "", fault)?, "at {fault}");
     }
     Ok(())
 }
@@ -230,7 +234,23 @@ fn ends_before(
     Ok(left.told.is(0, out, "") && left.has(image, 0))
 }
 
-/// Whether a command over a fresh image ends with the fault of each of its calls in turn, and of no other.
+/// Whether a command over this image ends with the fault of each of its calls in turn, and of no other.
+fn fails_over(
+    rt: &impl Runtime,
+    command: Command<'_>,
+    image: &[u8],
+    calls: u64,
+    out: &str,
+) -> Result<bool, Fail> {
+    for call in 1..=calls {
+        if !fails_at(rt, command, image, call)? {
+            return Ok(false);
+        }
+    }
+    ends_before(rt, command, image, calls.saturating_add(1), out)
+}
+
+/// The same over a fresh image.
 fn fails_at_each(
     rt: &impl Runtime,
     command: Command<'_>,
@@ -238,12 +258,7 @@ fn fails_at_each(
     out: &str,
 ) -> Result<bool, Fail> {
     let image = fresh(rt, ONE)?;
-    for call in 1..=calls {
-        if !fails_at(rt, command, image.as_slice(), call)? {
-            return Ok(false);
-        }
-    }
-    ends_before(rt, command, image.as_slice(), calls.saturating_add(1), out)
+    fails_over(rt, command, image.as_slice(), calls, out)
 }
 
 #[test]

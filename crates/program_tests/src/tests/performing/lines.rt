@@ -210,6 +210,11 @@ static LINES: [Line; 7] = [
     TWO_WRITTEN,
 ];
 
+/// The lines, with nothing said of them: what goes over them is proved for any.
+fn lines() -> &'static [Line] {
+    &LINES
+}
+
 /// How many lines there are.
 pub const ALL: usize = 7;
 
@@ -261,7 +266,7 @@ impl Part {
 /// The script of these lines, and of more text after them.
 pub fn script_of(alloc: Global, part: Part, more: &str) -> Result<String, Fail> {
     let mut text = String::new(alloc);
-    for (place, line) in LINES.iter().enumerate() {
+    for (place, line) in lines().iter().enumerate() {
         push(&mut text, part.asked(place, line))?;
     }
     text.push_str(more)?;
@@ -271,7 +276,7 @@ pub fn script_of(alloc: Global, part: Part, more: &str) -> Result<String, Fail> 
 /// What these lines print.
 pub fn told_by(alloc: Global, part: Part) -> Result<String, Fail> {
     let mut text = String::new(alloc);
-    for (place, line) in LINES.iter().enumerate() {
+    for (place, line) in lines().iter().enumerate() {
         push(&mut text, part.told(place, line))?;
     }
     Ok(text)

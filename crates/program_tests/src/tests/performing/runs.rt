@@ -2,20 +2,30 @@
 
 use super::images::shows;
 use super::lines::{ALL, LISTINGS, Part, WHOLE, script_of, told_by};
-use super::{ONE, RUN, Runtime, fresh, left_by, left_failing};
+use super::{Left, ONE, RUN, Runtime, Told, fresh, left_by, left_failing};
 use crate::tests::texts::text_of;
 use std::alloc::Global;
 use std::test::Fail;
+
+/// Whether a run of these lines told what is wanted.
+fn is_told(alloc: Global, told: &Told, part: Part) -> Result<bool, Fail> {
+    let out = told_by(alloc, part)?;
+    Ok(told.is(0, out.as_str(), ""))
+}
+
+/// What a run of these lines left on the disk, if it told what is wanted.
+fn content_after(alloc: Global, left: Left, part: Part) -> Result<Vec<u8>, Fail> {
+    if !is_told(alloc, &left.told, part)? {
+        return Err("another end").map_err(Fail::from);
+    }
+    Ok(left.content)
+}
 
 /// Runs these lines over a content, and gives what they leave, if they print what is wanted.
 fn run_part(rt: &impl Runtime, part: Part, content: Vec<u8>) -> Result<Vec<u8>, Fail> {
     let script = script_of(rt.alloc(), part, "")?;
     let left = left_by(rt, RUN, ONE, script.as_str(), content)?;
-    let out = told_by(rt.alloc(), part)?;
-    if !left.told.is(0, out.as_str(), "") {
-        return Err("another end").map_err(Fail::from);
-    }
-    Ok(left.content)
+    content_after(rt.alloc(), left, part)
 }
 
 /// What all lines leave, parted at a place into two runs over one disk, if they print what is wanted.
@@ -36,15 +46,20 @@ fn shows_all(rt: &impl Runtime, whole: &[u8]) -> Result<bool, Fail> {
     shows(rt, ONE, whole, listing.as_str(), "")
 }
 
-/// Whether all lines, parted at any place, leave the same as in one run, and `show` prints it.
-fn goes_on_from_each(rt: &impl Runtime) -> Result<bool, Fail> {
-    let whole = run_part(rt, WHOLE, fresh(rt, ONE)?)?;
+/// Whether all lines, parted at any place, leave this, and `show` prints it.
+fn goes_on_to(rt: &impl Runtime, whole: &[u8]) -> Result<bool, Fail> {
     for at in 0..=ALL {
-        if !goes_on(rt, at, whole.as_slice())? {
+        if !goes_on(rt, at, whole)? {
             return Ok(false);
         }
     }
-    shows_all(rt, whole.as_slice())
+    shows_all(rt, whole)
+}
+
+/// Whether all lines, parted at any place, leave the same as in one run, and `show` prints it.
+fn goes_on_from_each(rt: &impl Runtime) -> Result<bool, Fail> {
+    let whole = run_part(rt, WHOLE, fresh(rt, ONE)?)?;
+    goes_on_to(rt, whole.as_slice())
 }
 
 #[test]
