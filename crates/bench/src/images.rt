@@ -88,17 +88,25 @@ pub fn give_writes(
     Ok(())
 }
 
+/// Makes the store's next call and counts it; whether there was one to make.
+fn advance(store: &mut Store<MemDisk>, calls: &mut Calls) -> Result<bool> {
+    let syncs = match store.advance()? {
+        Progress::Idle => return Ok(false),
+        Progress::Wrote => 0,
+        Progress::Synced(_) => 1,
+    };
+    calls.all = calls.all.wrapping_add(1);
+    calls.syncs = calls.syncs.wrapping_add(syncs);
+    Ok(true)
+}
+
 /// Advances until nothing is on its way.
 pub fn settle(store: &mut Store<MemDisk>) -> Result<Calls> {
     let mut calls = Calls { all: 0, syncs: 0 };
     for _ in 0..1_000_000 {
-        match store.advance() {
-            Ok(Progress::Idle) => return Ok(calls),
-            Ok(Progress::Wrote) => {}
-            Ok(Progress::Synced(_)) => calls.syncs = calls.syncs.wrapping_add(1),
-            Err(fault) => bail!("{fault}"),
+        if !advance(store, &mut calls)? {
+            return Ok(calls);
         }
-        calls.all = calls.all.wrapping_add(1);
     }
     bail!("a store that doesn't come to its end")
 }

@@ -345,12 +345,18 @@ fn few_calls(alloc: Global) -> Result<(Calls, Calls)> {
     Ok((keys, writes))
 }
 
-/// Two counter requests and two writes of each guest.
-fn few_answers(alloc: Global) -> Result<(u32, u32)> {
-    let mut host = keyed(alloc, &board(alloc)?)?;
-    let counter = counters(alloc, &mut host, GUESTS, 2)?;
-    let write = writes(alloc, &mut host, GUESTS, 2)?;
+/// Two counter requests and two writes of each guest of a host.
+fn answers_of(alloc: Global, host: &mut Host) -> Result<(u32, u32)> {
+    let counter = counters(alloc, host, GUESTS, 2)?;
+    let write = writes(alloc, host, GUESTS, 2)?;
     Ok((counter, write))
+}
+
+/// The same of a board whose guests have their keys.
+fn few_answers(alloc: Global) -> Result<(u32, u32)> {
+    let board = board(alloc)?;
+    let mut host = keyed(alloc, &board)?;
+    answers_of(alloc, &mut host)
 }
 
 /// Some chains through a ring, and some copies.
@@ -414,22 +420,41 @@ fn checksums<R: AllocGlobal + Threads + Wait + Sync>(rt: &HostRuntime, threads: 
     Ok(())
 }
 
-fn main(rt: HostRuntime) -> Result<()> {
-    let words: Vec<String> = env::args(&rt)?.collect(rt.alloc())?;
-    if words.len() != 3 {
-        return checksums(&rt, &rt);
-    }
-    let count = words[2].parse::<u32>().context("reading COUNT")?;
-    match words[1].as_str() {
-        "macs" => time_macs(&rt, count),
-        "requests" => time_requests(&rt, count),
-        "rings" => time_rings(&rt, count),
-        "device" => time_device(&rt, count),
-        "store" => time_store(&rt, count),
-        "open" => time_open(&rt, count),
-        "board" => time_board(&rt, count),
-        "run" => time_run(&rt, &rt, count),
-        "serve" => time_serve(&rt, &rt, count),
+/// Times the work of this name.
+fn time<R: AllocGlobal + Threads + Wait + Sync>(
+    rt: &HostRuntime,
+    threads: &R,
+    work: &str,
+    count: u32,
+) -> Result<()> {
+    match work {
+        "macs" => time_macs(rt, count),
+        "requests" => time_requests(rt, count),
+        "rings" => time_rings(rt, count),
+        "device" => time_device(rt, count),
+        "store" => time_store(rt, count),
+        "open" => time_open(rt, count),
+        "board" => time_board(rt, count),
+        "run" => time_run(rt, threads, count),
+        "serve" => time_serve(rt, threads, count),
         _ => bail!("no such work"),
     }
+}
+
+/// Does what the command line asks for: its words are the program's name, WORK and COUNT.
+fn perform<R: AllocGlobal + Threads + Wait + Sync>(
+    rt: &HostRuntime,
+    threads: &R,
+    words: &[String],
+) -> Result<()> {
+    if words.len() != 3 {
+        return checksums(rt, threads);
+    }
+    let count = words[2].parse::<u32>().context("reading COUNT")?;
+    time(rt, threads, words[1].as_str(), count)
+}
+
+fn main(rt: HostRuntime) -> Result<()> {
+    let words: Vec<String> = env::args(&rt)?.collect(rt.alloc())?;
+    perform(&rt, &rt, words.as_slice())
 }

@@ -31,6 +31,23 @@ pub fn script_of(alloc: Global, count: u32) -> Result<String> {
     Ok(script)
 }
 
+/// Runs a script over an image in memory, and prints to a buffer; answers the status.
+fn status_of<R: AllocGlobal + Threads + Wait + Sync>(
+    threads: &R,
+    config: &BoardConfig,
+    script: &str,
+    disk: MemDisk,
+    out: &mut Vec<u8>,
+) -> u8 {
+    let command = Command::Run {
+        board: "",
+        script: "",
+    };
+    let mut err = Vec::new(threads.alloc());
+    let (status, _) = perform(threads, command, config, script, disk, out, &mut err);
+    status
+}
+
 /// Runs a script over an image in memory; answers how many bytes it printed.
 pub fn run<R: AllocGlobal + Threads + Wait + Sync>(
     threads: &R,
@@ -38,15 +55,8 @@ pub fn run<R: AllocGlobal + Threads + Wait + Sync>(
     script: &str,
     disk: MemDisk,
 ) -> Result<usize> {
-    let alloc = threads.alloc();
-    let command = Command::Run {
-        board: "",
-        script: "",
-    };
-    let mut out = Vec::new(alloc);
-    let mut err = Vec::new(alloc);
-    let (status, _) = perform(threads, command, config, script, disk, &mut out, &mut err);
-    if status != 0 {
+    let mut out = Vec::new(threads.alloc());
+    if status_of(threads, config, script, disk, &mut out) != 0 {
         bail!("a run that came to a fault");
     }
     Ok(out.len())

@@ -5,9 +5,9 @@ ghost use Rattle.rpmb_book.specs.Book.{submits_in};
 ghost use Rattle.workers.specs.Following.{Follow};
 ghost use Rattle.host.specs.Opening.{IsJustOpened};
 
-use crate::books::new_board;
+use crate::books::fresh_board;
 use crate::devices::{Kind, LONGEST, requests_of};
-use crate::images::{board_of, formatted};
+use crate::images::board_of;
 use crate::requests::{key, mixed};
 use anyhow::{Result, bail};
 use board::{Board, Parts};
@@ -192,10 +192,7 @@ fn serve_all<D: Disk + Send + Drop, R: Threads + Wait + Sync>(
     if parts.tallies.len() != load.scripts.len() {
         bail!("another number of guests");
     }
-    match serve(threads, alloc, parts, &load.config, &load.scripts, &Open) {
-        Ok(ended) => Ok(ended),
-        Err(fault) => bail!("{fault}"),
-    }
+    Ok(serve(threads, alloc, parts, &load.config, &load.scripts, &Open)?)
 }
 
 /// The parts of a board over a fresh image.
@@ -204,8 +201,7 @@ fn fresh_parts<D: Disk>(alloc: Global, load: &Load, disk: D) -> Result<Parts<D>>
     ensures fresh { IfOk result (λ p. All (λ t. t.count ≡ 0) p.tallies.items) }
     ensures follows { IfOk result (λ p. Follow p.shares p.store.guests) }
 {
-    let disk = formatted(disk, &load.config)?;
-    let board = new_board(alloc, disk, &load.config)?;
+    let board = fresh_board(alloc, disk, &load.config)?;
     Ok(parts_of(board, &load.config))
 }
 
@@ -303,7 +299,7 @@ fn no_answers(alloc: Global, load: &Load) -> Result<Vec<Vec<Answer>>> {
 pub fn alone<D: Disk>(rt: &HostRuntime, load: &Load, disk: D) -> Result<OneThread> {
     let alloc = rt.alloc();
     let mut answers = no_answers(alloc, load)?;
-    let board = new_board(alloc, formatted(disk, &load.config)?, &load.config)?;
+    let board = fresh_board(alloc, disk, &load.config)?;
     let start = Instant::now(rt);
     take_all(alloc, board, load, &mut answers)?;
     let took = since(rt, start)?;
