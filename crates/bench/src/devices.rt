@@ -129,10 +129,8 @@ impl Guest {
         if request.len() > LONGEST {
             bail!("too long a request");
         }
-        match self.driver.offer(&mut self.device, request, writable) {
-            Ok(_) => Ok(()),
-            Err(_) => bail!("no room for the chain"),
-        }
+        self.driver.offer(&mut self.device, request, writable)?;
+        Ok(())
     }
 
     /// Publishes the answer to the chain that the device gives next.

@@ -116,10 +116,7 @@ fn put(disk: &mut MemDisk, at: u64, bytes: &[u8]) -> Result<()> {
     if at > disk.len() || bytes.len() as u64 > disk.len() - at {
         bail!("no room on the disk");
     }
-    if disk.write_at(at, bytes).is_err() {
-        bail!("a failed write");
-    }
-    Ok(())
+    Ok(disk.write_at(at, bytes)?)
 }
 
 /// The calls that a guest's write of one block takes, made to the disk itself; four syncs go with them,
@@ -147,9 +144,7 @@ pub fn put_writes(disk: &mut MemDisk, board: &BoardConfig) -> Result<()> {
 
 fn sync_four_times(disk: &mut MemDisk) -> Result<()> {
     for _ in 0..4 {
-        if disk.sync().is_err() {
-            bail!("a failed sync");
-        }
+        disk.sync()?;
     }
     Ok(())
 }
@@ -159,8 +154,5 @@ pub fn read_all(disk: &mut MemDisk, bytes: &mut [u8]) -> Result<()> {
     if bytes.len() as u64 > disk.len() {
         bail!("a disk that is too short");
     }
-    if disk.read_at(0, bytes).is_err() {
-        bail!("a failed read");
-    }
-    Ok(())
+    Ok(disk.read_at(0, bytes)?)
 }

@@ -52,12 +52,9 @@ pub fn new_queue(alloc: Global) -> Result<Queue> {
 /// Makes the chain available once more, pops it and publishes it, with an empty reply.
 fn popped(alloc: Global, queue: &mut Queue) -> Result<u8> {
     queue.index = queue.index.wrapping_add(1);
-    let made = queue
+    queue
         .device
-        .store(queue.index_at, &queue.index.to_le_bytes());
-    if made.is_err() {
-        bail!("no index");
-    }
+        .store(queue.index_at, &queue.index.to_le_bytes())?;
     let Ok(Some(job)) = queue.device.pop() else {
         bail!("no chain");
     };

@@ -233,12 +233,20 @@ pub fn served<D: Disk + Send + Drop, R: Threads + Wait + Sync>(
     timed(rt, threads, parts, load)
 }
 
-/// What a guest's order comes to.
-fn asked<D: Disk>(host: &mut Host<D>, guest: u16, order: &Order) -> Result<Answer> {
-    let Order::Chain(chain) = order else {
-        bail!("no chain");
-    };
+/// What a guest's chain comes to.
+fn asked<D: Disk>(host: &mut Host<D>, guest: u16, chain: &Chain) -> Result<Answer> {
     Ok(host.chain(guest, chain.readable(), chain.writable())?)
+}
+
+/// A guest's chain at this place of its script.
+fn chain_at(scripts: &[Script], guest: usize, at: usize) -> Result<&Chain> {
+    let order = scripts
+        .get(guest)
+        .and_then(|script| script.orders().get(at));
+    match order {
+        Some(Order::Chain(chain)) => Ok(chain),
+        _ => bail!("no such chain"),
+    }
 }
 
 /// Each guest offers the chain of its order at this place of its script.
@@ -249,13 +257,8 @@ fn round<D: Disk>(
     answers: &mut [Vec<Answer>],
 ) -> Result<()> {
     for (guest, told) in answers.iter_mut().enumerate() {
-        let Some(order) = scripts
-            .get(guest)
-            .and_then(|script| script.orders().get(at))
-        else {
-            bail!("no such order");
-        };
-        told.push(asked(host, (guest % 65_536) as u16, order)?)?;
+        let chain = chain_at(scripts, guest, at)?;
+        told.push(asked(host, (guest % 65_536) as u16, chain)?)?;
     }
     Ok(())
 }
@@ -285,6 +288,20 @@ fn take_all<D: Disk>(
     Ok(ended?)
 }
 
+/// The same, with a look at the clock before and after.
+fn timed_alone<D: Disk>(
+    rt: &HostRuntime,
+    board: Board<D>,
+    load: &Load,
+    answers: &mut [Vec<Answer>],
+) -> Result<Duration>
+    requires { IsJustOpened D.state load.now.config board }
+{
+    let start = Instant::now(rt);
+    take_all(rt.alloc(), board, load, answers)?;
+    since(rt, start)
+}
+
 /// No answers yet, of each guest.
 fn no_answers(alloc: Global, load: &Load) -> Result<Vec<Vec<Answer>>> {
     let mut answers = Vec::new(alloc);
@@ -297,12 +314,9 @@ fn no_answers(alloc: Global, load: &Load) -> Result<Vec<Vec<Answer>>> {
 /// Takes the same chains to their end on one thread, one of each guest in turn, on a fresh image; the time is
 /// that from before the devices are brought into service until no call of the disk is left.
 pub fn alone<D: Disk>(rt: &HostRuntime, load: &Load, disk: D) -> Result<OneThread> {
-    let alloc = rt.alloc();
-    let mut answers = no_answers(alloc, load)?;
-    let board = fresh_board(alloc, disk, &load.config)?;
-    let start = Instant::now(rt);
-    take_all(alloc, board, load, &mut answers)?;
-    let took = since(rt, start)?;
+    let mut answers = no_answers(rt.alloc(), load)?;
+    let board = fresh_board(rt.alloc(), disk, &load.config)?;
+    let took = timed_alone(rt, board, load, &mut answers)?;
     Ok(OneThread {
         took,
         answers: load.told_each(&answers)?,

@@ -100,13 +100,13 @@ impl Ways {
 
     /// How many writes of all guests were settled in each way.
     pub fn settled(&self) -> [u64; 3] {
-        let mut all = [0u64; 3];
+        let (mut steps, mut calls, mut store) = (0u64, 0u64, 0u64);
         for guest in 0..self.guests {
             let mark = self.store.marks().get(guest);
-            all[0] = all[0].saturating_add(self.steps.writes(guest));
-            all[1] = all[1].saturating_add(self.host.writes(guest));
-            all[2] = all[2].saturating_add(mark.saturating_sub(1));
+            steps = steps.saturating_add(self.steps.writes(guest));
+            calls = calls.saturating_add(self.host.writes(guest));
+            store = store.saturating_add(mark.saturating_sub(1));
         }
-        all
+        [steps, calls, store]
     }
 }
