@@ -61,14 +61,6 @@ pub fn give(store: &mut Store<MemDisk>, intent: Intent) -> Result<()> {
     Ok(())
 }
 
-/// Gives each of so many guests its key.
-pub fn give_keys(store: &mut Store<MemDisk>, guests: u16) -> Result<()> {
-    for guest in 0..guests {
-        give(store, Intent::program_key(guest, KEY))?;
-    }
-    Ok(())
-}
-
 /// A guest's write of its first block, which leaves this write counter.
 pub fn write_intent(alloc: Global, guest: u16, counter: u32) -> Result<Intent> {
     let blocks = vec![in alloc; 0x5a; 256]?;
@@ -109,6 +101,14 @@ pub fn settle(store: &mut Store<MemDisk>) -> Result<Calls> {
         }
     }
     bail!("a store that doesn't come to its end")
+}
+
+/// Gives each of so many guests its key, and settles that.
+pub fn settle_keys(store: &mut Store<MemDisk>, guests: u16) -> Result<Calls> {
+    for guest in 0..guests {
+        give(store, Intent::program_key(guest, KEY))?;
+    }
+    settle(store)
 }
 
 /// Writes bytes to a disk that has room for them.

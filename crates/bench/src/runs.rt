@@ -1,6 +1,6 @@
 //! Writes of one guest by `run`: each goes through its line, its driver, the device, the board and the store.
 //! Beside it as many writes that the store alone settles, by the same calls of the disk.
-use crate::images::{give, give_keys, settle, write_intent};
+use crate::images::{give, settle, settle_keys, write_intent};
 use crate::requests::{key, write};
 use anyhow::{Result, bail};
 use command_line::Command;
@@ -64,8 +64,7 @@ pub fn run<R: AllocGlobal + Threads + Wait + Sync>(
 
 /// Settles a key and then so many writes of one guest by its store alone, one after another.
 pub fn settle_each(alloc: Global, store: &mut Store<MemDisk>, count: u32) -> Result<()> {
-    give_keys(store, 1)?;
-    settle(store)?;
+    settle_keys(store, 1)?;
     for counter in 0..count {
         give(store, write_intent(alloc, 0, counter.wrapping_add(1))?)?;
         settle(store)?;
