@@ -4,7 +4,7 @@ ghost use Rattle.std.specs.Prelude.{IfOk};
 ghost use Rattle.board.specs.State.{HasNothingBetween};
 ghost use Rattle.host.specs.Opening.{IsJustOpened};
 
-use crate::images::{give, new_disk};
+use crate::images::{formatted, give, new_disk};
 use anyhow::{Result, bail};
 use board::Board;
 use disk::{Disk, MemDisk};
@@ -38,6 +38,14 @@ pub fn new_board<D: Disk>(alloc: Global, disk: D, config: &BoardConfig) -> Resul
         Ok(board) => Ok(board),
         Err((_disk, fault)) => bail!("{fault}"),
     }
+}
+
+/// A board over a disk that is made a fresh image of it, of which no step was made.
+pub fn fresh_board<D: Disk>(alloc: Global, disk: D, config: &BoardConfig) -> Result<Board<D>>
+    ensures opened { IfOk result (λ b. IsJustOpened D.state config.now b) }
+    ensures between { IfOk result HasNothingBetween }
+{
+    new_board(alloc, formatted(disk, config)?, config)
 }
 
 impl Host {

@@ -20,6 +20,7 @@ use intent_slots::Intent;
 use mmio_transport::{Done, Job};
 use rpmb_book::{Shares, Tally};
 use std::alloc::Global;
+use std::io;
 use std::marker::Brand;
 use std::sync::ledger::{Blank, Ledger, Share};
 use std::time::{Duration, Instant};
@@ -39,12 +40,17 @@ struct Counter<L: Ledger> {
     ghost some: { 0 < share.parts },
 }
 
-/// The time of so many intervals in which nothing is done.
-fn empty_intervals(rt: &HostRuntime, intervals: u32) -> Result<Duration> {
+/// The time of an interval in which nothing is done.
+fn empty_interval(rt: &HostRuntime) -> io::Result<Duration> {
+    let start = Instant::now(rt)?;
+    start.elapsed(rt)
+}
+
+/// The time of so many of them.
+fn empty_intervals(rt: &HostRuntime, intervals: u32) -> io::Result<Duration> {
     let mut took = Duration::from_nanos(0);
     for _ in 0..intervals {
-        let start = Instant::now(rt)?;
-        took = took.saturating_add(start.elapsed(rt)?);
+        took = took.saturating_add(empty_interval(rt)?);
     }
     Ok(took)
 }

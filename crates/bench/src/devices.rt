@@ -86,21 +86,13 @@ pub struct Guest {
 fn guest_in_service(alloc: Global) -> Result<Guest> {
     let config = GuestConfig::of_capacity(1);
     let board = board_of(alloc, 1)?;
-    let (Ok(mut device), Ok(mut driver)) = (
-        Device::new(alloc, 0, &config),
-        Driver::new(alloc, &config),
-    ) else {
-        bail!("no device");
+    let mut guest = Guest {
+        device: Device::new(alloc, 0, &config)?,
+        driver: Driver::new(alloc, &config)?,
+        host: Host::new(alloc, &board)?,
     };
-    if !driver.negotiate(&mut device) {
-        bail!("no queue");
-    }
-    let host = Host::new(alloc, &board)?;
-    Ok(Guest {
-        device,
-        driver,
-        host,
-    })
+    guest.negotiate()?;
+    Ok(guest)
 }
 
 /// A guest whose device is in service, with its key.
@@ -111,6 +103,14 @@ pub fn new_guest(alloc: Global) -> Result<Guest> {
 }
 
 impl Guest {
+    /// Brings the device into service.
+    fn negotiate(&mut self) -> Result<()> {
+        if !self.driver.negotiate(&mut self.device) {
+            bail!("no queue");
+        }
+        Ok(())
+    }
+
     /// Programs the key.
     fn program_key(&mut self, alloc: Global) -> Result<()> {
         let request = key(alloc)?;
@@ -129,10 +129,8 @@ impl Guest {
         if request.len() > LONGEST {
             bail!("too long a request");
         }
-        match self.driver.offer(&mut self.device, request, writable) {
-            Ok(_) => Ok(()),
-            Err(_) => bail!("no room for the chain"),
-        }
+        self.driver.offer(&mut self.device, request, writable)?;
+        Ok(())
     }
 
     /// Publishes the answer to the chain that the device gives next.

@@ -61,14 +61,6 @@ pub fn give(store: &mut Store<MemDisk>, intent: Intent) -> Result<()> {
     Ok(())
 }
 
-/// Gives each of so many guests its key.
-pub fn give_keys(store: &mut Store<MemDisk>, guests: u16) -> Result<()> {
-    for guest in 0..guests {
-        give(store, Intent::program_key(guest, KEY))?;
-    }
-    Ok(())
-}
-
 /// A guest's write of its first block, which leaves this write counter.
 pub fn write_intent(alloc: Global, guest: u16, counter: u32) -> Result<Intent> {
     let blocks = vec![in alloc; 0x5a; 256]?;
@@ -88,19 +80,35 @@ pub fn give_writes(
     Ok(())
 }
 
+/// Makes the store's next call and counts it; whether there was one to make.
+fn advance(store: &mut Store<MemDisk>, calls: &mut Calls) -> Result<bool> {
+    let syncs = match store.advance()? {
+        Progress::Idle => return Ok(false),
+        Progress::Wrote => 0,
+        Progress::Synced(_) => 1,
+    };
+    calls.all = calls.all.wrapping_add(1);
+    calls.syncs = calls.syncs.wrapping_add(syncs);
+    Ok(true)
+}
+
 /// Advances until nothing is on its way.
 pub fn settle(store: &mut Store<MemDisk>) -> Result<Calls> {
     let mut calls = Calls { all: 0, syncs: 0 };
     for _ in 0..1_000_000 {
-        match store.advance() {
-            Ok(Progress::Idle) => return Ok(calls),
-            Ok(Progress::Wrote) => {}
-            Ok(Progress::Synced(_)) => calls.syncs = calls.syncs.wrapping_add(1),
-            Err(fault) => bail!("{fault}"),
+        if !advance(store, &mut calls)? {
+            return Ok(calls);
         }
-        calls.all = calls.all.wrapping_add(1);
     }
     bail!("a store that doesn't come to its end")
+}
+
+/// Gives each of so many guests its key, and settles that.
+pub fn settle_keys(store: &mut Store<MemDisk>, guests: u16) -> Result<Calls> {
+    for guest in 0..guests {
+        give(store, Intent::program_key(guest, KEY))?;
+    }
+    settle(store)
 }
 
 /// Writes bytes to a disk that has room for them.
@@ -108,10 +116,7 @@ fn put(disk: &mut MemDisk, at: u64, bytes: &[u8]) -> Result<()> {
     if at > disk.len() || bytes.len() as u64 > disk.len() - at {
         bail!("no room on the disk");
     }
-    if disk.write_at(at, bytes).is_err() {
-        bail!("a failed write");
-    }
-    Ok(())
+    Ok(disk.write_at(at, bytes)?)
 }
 
 /// The calls that a guest's write of one block takes, made to the disk itself; four syncs go with them,
@@ -139,9 +144,7 @@ pub fn put_writes(disk: &mut MemDisk, board: &BoardConfig) -> Result<()> {
 
 fn sync_four_times(disk: &mut MemDisk) -> Result<()> {
     for _ in 0..4 {
-        if disk.sync().is_err() {
-            bail!("a failed sync");
-        }
+        disk.sync()?;
     }
     Ok(())
 }
@@ -151,8 +154,5 @@ pub fn read_all(disk: &mut MemDisk, bytes: &mut [u8]) -> Result<()> {
     if bytes.len() as u64 > disk.len() {
         bail!("a disk that is too short");
     }
-    if disk.read_at(0, bytes).is_err() {
-        bail!("a failed read");
-    }
-    Ok(())
+    Ok(disk.read_at(0, bytes)?)
 }

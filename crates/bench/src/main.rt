@@ -35,7 +35,7 @@ use devices::{Guest, Kind, new_guest, requests_of, whole};
 use disk::MemDisk;
 use flusher::Store;
 use images::{
-    Calls, board_of, give_keys, give_writes, new_disk, new_store, put_writes, read_all, settle,
+    Calls, board_of, give_writes, new_disk, new_store, put_writes, read_all, settle, settle_keys,
 };
 use macs::{keyed_macs, plain_macs};
 use recovery::open;
@@ -49,7 +49,7 @@ use std::env;
 use std::sync::Wait;
 use std::thread::Threads;
 use std::time::{Duration, Instant};
-use ways::new_ways;
+use ways::{Ways, new_ways};
 
 const GUESTS: u16 = 64;
 
@@ -192,19 +192,27 @@ fn settle_write(
     Ok((start.elapsed(rt)?, calls))
 }
 
-/// Settles so many writes of each guest; answers the time, and the calls of the last ones.
-fn settle_writes(rt: &HostRuntime, count: u32) -> Result<(Duration, Calls)> {
-    let alloc = rt.alloc();
-    let mut store = new_store(alloc, &board(alloc)?)?;
-    give_keys(&mut store, GUESTS)?;
-    let mut calls = settle(&mut store)?;
+/// Settles a key of each guest and then so many writes by a store; answers the time of the writes, and the
+/// calls of the last ones.
+fn settle_each_write(
+    rt: &HostRuntime,
+    store: &mut Store<MemDisk>,
+    count: u32,
+) -> Result<(Duration, Calls)> {
+    let mut calls = settle_keys(store, GUESTS)?;
     let mut took = Duration::from_nanos(0);
     for counter in 0..count {
-        let (more, made) = settle_write(rt, &mut store, counter.wrapping_add(1))?;
+        let (more, made) = settle_write(rt, store, counter.wrapping_add(1))?;
         took = took.saturating_add(more);
         calls = made;
     }
     Ok((took, calls))
+}
+
+/// The same by the store over a fresh image.
+fn settle_writes(rt: &HostRuntime, board: &BoardConfig, count: u32) -> Result<(Duration, Calls)> {
+    let mut store = new_store(rt.alloc(), board)?;
+    settle_each_write(rt, &mut store, count)
 }
 
 /// Makes the calls of so many writes of each guest to a disk itself; answers the time.
@@ -219,8 +227,9 @@ fn puts(rt: &HostRuntime, board: &BoardConfig, count: u32) -> Result<Duration> {
 
 /// Times the settling of writes of 64 guests, and the same calls made to the disk itself.
 fn time_store(rt: &HostRuntime, count: u32) -> Result<()> {
-    let (took, calls) = settle_writes(rt, count)?;
-    let own_took = puts(rt, &board(rt.alloc())?, count)?;
+    let board = board(rt.alloc())?;
+    let (took, calls) = settle_writes(rt, &board, count)?;
+    let own_took = puts(rt, &board, count)?;
     let percent = took.as_nanos() * 100 / own_took.as_nanos().max(1);
     println!(rt;
         "64 writes: {} calls, {} syncs, {} ns, {} ns on the disk itself, {percent} percent",
@@ -232,18 +241,23 @@ fn time_store(rt: &HostRuntime, count: u32) -> Result<()> {
     Ok(())
 }
 
+/// Opens an image of a board; answers the time.
+fn opening(rt: &HostRuntime, board: &BoardConfig) -> Result<Duration> {
+    let disk = new_disk(rt.alloc(), board)?;
+    let start = Instant::now(rt)?;
+    let opened = open(rt.alloc(), disk, board).is_ok();
+    let took = start.elapsed(rt)?;
+    if !opened {
+        bail!("no image");
+    }
+    Ok(took)
+}
+
 /// Opens so many images of a board; answers the time.
 fn openings(rt: &HostRuntime, board: &BoardConfig, count: u32) -> Result<Duration> {
-    let alloc = rt.alloc();
     let mut took = Duration::from_nanos(0);
     for _ in 0..count {
-        let disk = new_disk(alloc, board)?;
-        let start = Instant::now(rt)?;
-        let opened = open(alloc, disk, board).is_ok();
-        took = took.saturating_add(start.elapsed(rt)?);
-        if !opened {
-            bail!("no image");
-        }
+        took = took.saturating_add(opening(rt, board)?);
     }
     Ok(took)
 }
@@ -273,10 +287,8 @@ fn time_open(rt: &HostRuntime, count: u32) -> Result<()> {
     Ok(())
 }
 
-/// Times the settling of writes of 64 guests by a board, by its book and store, and by its store alone. A
-/// history holds 16,384 requests, one of each guest programs its key, and so COUNT is at most 255.
-fn time_board(rt: &HostRuntime, count: u32) -> Result<()> {
-    let mut ways = new_ways(rt.alloc(), &board(rt.alloc())?)?;
+/// Times so many writes of each guest in each way.
+fn time_ways(rt: &HostRuntime, ways: &mut Ways, count: u32) -> Result<()> {
     let [steps, calls, store] = ways.times(rt, count)?;
     let [by_steps, by_calls, by_store] = ways.settled();
     let guests = u128::from(GUESTS);
@@ -289,6 +301,14 @@ fn time_board(rt: &HostRuntime, count: u32) -> Result<()> {
         steps.as_nanos() * 100 / store.as_nanos().max(1)
     )?;
     Ok(())
+}
+
+/// Times the settling of writes of 64 guests by a board, by its book and store, and by its store alone. A
+/// history holds 16,384 requests, one of each guest programs its key, and so COUNT is at most 255.
+fn time_board(rt: &HostRuntime, count: u32) -> Result<()> {
+    let board = board(rt.alloc())?;
+    let mut ways = new_ways(rt.alloc(), &board)?;
+    time_ways(rt, &mut ways, count)
 }
 
 /// Times a script of a key and so many writes; answers the time, and how many bytes it printed.
@@ -335,22 +355,32 @@ fn time_run<R: AllocGlobal + Threads + Wait + Sync>(
     Ok(())
 }
 
-/// The calls and syncs of 64 keys, and of 64 writes.
-fn few_calls(alloc: Global) -> Result<(Calls, Calls)> {
-    let mut store = new_store(alloc, &board(alloc)?)?;
-    give_keys(&mut store, GUESTS)?;
-    let keys = settle(&mut store)?;
-    give_writes(alloc, &mut store, GUESTS, 1)?;
-    let writes = settle(&mut store)?;
-    Ok((keys, writes))
+/// The calls and syncs of 64 keys, and of 64 writes, of a store.
+fn calls_of(alloc: Global, store: &mut Store<MemDisk>) -> Result<(Calls, Calls)> {
+    let keys = settle_keys(store, GUESTS)?;
+    give_writes(alloc, store, GUESTS, 1)?;
+    Ok((keys, settle(store)?))
 }
 
-/// Two counter requests and two writes of each guest.
-fn few_answers(alloc: Global) -> Result<(u32, u32)> {
-    let mut host = keyed(alloc, &board(alloc)?)?;
-    let counter = counters(alloc, &mut host, GUESTS, 2)?;
-    let write = writes(alloc, &mut host, GUESTS, 2)?;
+/// The same of a board's store over a fresh image.
+fn few_calls(alloc: Global) -> Result<(Calls, Calls)> {
+    let board = board(alloc)?;
+    let mut store = new_store(alloc, &board)?;
+    calls_of(alloc, &mut store)
+}
+
+/// Two counter requests and two writes of each guest of a host.
+fn answers_of(alloc: Global, host: &mut Host) -> Result<(u32, u32)> {
+    let counter = counters(alloc, host, GUESTS, 2)?;
+    let write = writes(alloc, host, GUESTS, 2)?;
     Ok((counter, write))
+}
+
+/// The same of a board whose guests have their keys.
+fn few_answers(alloc: Global) -> Result<(u32, u32)> {
+    let board = board(alloc)?;
+    let mut host = keyed(alloc, &board)?;
+    answers_of(alloc, &mut host)
 }
 
 /// Some chains through a ring, and some copies.
@@ -414,22 +444,41 @@ fn checksums<R: AllocGlobal + Threads + Wait + Sync>(rt: &HostRuntime, threads: 
     Ok(())
 }
 
-fn main(rt: HostRuntime) -> Result<()> {
-    let words: Vec<String> = env::args(&rt)?.collect(rt.alloc())?;
-    if words.len() != 3 {
-        return checksums(&rt, &rt);
-    }
-    let count = words[2].parse::<u32>().context("reading COUNT")?;
-    match words[1].as_str() {
-        "macs" => time_macs(&rt, count),
-        "requests" => time_requests(&rt, count),
-        "rings" => time_rings(&rt, count),
-        "device" => time_device(&rt, count),
-        "store" => time_store(&rt, count),
-        "open" => time_open(&rt, count),
-        "board" => time_board(&rt, count),
-        "run" => time_run(&rt, &rt, count),
-        "serve" => time_serve(&rt, &rt, count),
+/// Times the work of this name.
+fn time<R: AllocGlobal + Threads + Wait + Sync>(
+    rt: &HostRuntime,
+    threads: &R,
+    work: &str,
+    count: u32,
+) -> Result<()> {
+    match work {
+        "macs" => time_macs(rt, count),
+        "requests" => time_requests(rt, count),
+        "rings" => time_rings(rt, count),
+        "device" => time_device(rt, count),
+        "store" => time_store(rt, count),
+        "open" => time_open(rt, count),
+        "board" => time_board(rt, count),
+        "run" => time_run(rt, threads, count),
+        "serve" => time_serve(rt, threads, count),
         _ => bail!("no such work"),
     }
+}
+
+/// Does what the command line asks for: its words are the program's name, WORK and COUNT.
+fn perform<R: AllocGlobal + Threads + Wait + Sync>(
+    rt: &HostRuntime,
+    threads: &R,
+    words: &[String],
+) -> Result<()> {
+    if words.len() != 3 {
+        return checksums(rt, threads);
+    }
+    let count = words[2].parse::<u32>().context("reading COUNT")?;
+    time(rt, threads, words[1].as_str(), count)
+}
+
+fn main(rt: HostRuntime) -> Result<()> {
+    let words: Vec<String> = env::args(&rt)?.collect(rt.alloc())?;
+    perform(&rt, &rt, words.as_slice())
 }

@@ -54,11 +54,17 @@ pub fn key(alloc: Global) -> Result<Vec<u8>> {
     Ok(request)
 }
 
+/// Programs the key of each guest.
+fn program_keys(alloc: Global, host: &mut Host, guests: u16) -> Result<()> {
+    let request = key(alloc)?;
+    asked_each(alloc, host, guests, request.as_slice(), 0)?;
+    Ok(())
+}
+
 /// The guests of a board, each with its key.
 pub fn keyed(alloc: Global, board: &BoardConfig) -> Result<Host> {
     let mut host = Host::new(alloc, board)?;
-    let request = key(alloc)?;
-    asked_each(alloc, &mut host, board.guests().len() as u16, &request, 0)?;
+    program_keys(alloc, &mut host, board.guests().len() as u16)?;
     Ok(host)
 }
 

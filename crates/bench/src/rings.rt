@@ -24,24 +24,24 @@ pub struct Queue {
     index: u16,
 }
 
+/// Offers a device its first chain. The head is 0, and so are the entries of the available ring that were
+/// never written.
+fn offer(driver: &mut Driver, device: &mut Device) -> Result<()> {
+    if !driver.negotiate(device) {
+        bail!("no queue");
+    }
+    let request = [0x5au8; LENGTH];
+    driver.offer(device, &request, 512)?;
+    Ok(())
+}
+
 /// A queue of which nothing was popped.
 pub fn new_queue(alloc: Global) -> Result<Queue> {
     let guest = guest();
-    let (Ok(mut device), Ok(mut driver)) = (
-        Device::new(alloc, 0, &guest),
-        Driver::new(alloc, &guest),
-    ) else {
-        bail!("no device");
-    };
-    if !driver.negotiate(&mut device) {
-        bail!("no queue");
-    }
-    // The head is 0, and so are the entries of the available ring that were never written.
-    let request = [0x5au8; LENGTH];
-    if driver.offer(&mut device, &request, 512).is_err() {
-        bail!("no room for the chain");
-    }
     let layout = DriverLayout::of(guest.ring, guest.queue);
+    let mut driver = Driver::new(alloc, &guest)?;
+    let mut device = Device::new(alloc, 0, &guest)?;
+    offer(&mut driver, &mut device)?;
     Ok(Queue {
         device,
         index_at: layout.driver_area.wrapping_add(2),
@@ -52,12 +52,9 @@ pub fn new_queue(alloc: Global) -> Result<Queue> {
 /// Makes the chain available once more, pops it and publishes it, with an empty reply.
 fn popped(alloc: Global, queue: &mut Queue) -> Result<u8> {
     queue.index = queue.index.wrapping_add(1);
-    let made = queue
+    queue
         .device
-        .store(queue.index_at, &queue.index.to_le_bytes());
-    if made.is_err() {
-        bail!("no index");
-    }
+        .store(queue.index_at, &queue.index.to_le_bytes())?;
     let Ok(Some(job)) = queue.device.pop() else {
         bail!("no chain");
     };

@@ -1,6 +1,6 @@
 //! Writes of one guest by `run`: each goes through its line, its driver, the device, the board and the store.
 //! Beside it as many writes that the store alone settles, by the same calls of the disk.
-use crate::images::{give, give_keys, settle, write_intent};
+use crate::images::{give, settle, settle_keys, write_intent};
 use crate::requests::{key, write};
 use anyhow::{Result, bail};
 use command_line::Command;
@@ -31,6 +31,23 @@ pub fn script_of(alloc: Global, count: u32) -> Result<String> {
     Ok(script)
 }
 
+/// Runs a script over an image in memory, and prints to a buffer; answers the status.
+fn status_of<R: AllocGlobal + Threads + Wait + Sync>(
+    threads: &R,
+    config: &BoardConfig,
+    script: &str,
+    disk: MemDisk,
+    out: &mut Vec<u8>,
+) -> u8 {
+    let command = Command::Run {
+        board: "",
+        script: "",
+    };
+    let mut err = Vec::new(threads.alloc());
+    let (status, _) = perform(threads, command, config, script, disk, out, &mut err);
+    status
+}
+
 /// Runs a script over an image in memory; answers how many bytes it printed.
 pub fn run<R: AllocGlobal + Threads + Wait + Sync>(
     threads: &R,
@@ -38,15 +55,8 @@ pub fn run<R: AllocGlobal + Threads + Wait + Sync>(
     script: &str,
     disk: MemDisk,
 ) -> Result<usize> {
-    let alloc = threads.alloc();
-    let command = Command::Run {
-        board: "",
-        script: "",
-    };
-    let mut out = Vec::new(alloc);
-    let mut err = Vec::new(alloc);
-    let (status, _) = perform(threads, command, config, script, disk, &mut out, &mut err);
-    if status != 0 {
+    let mut out = Vec::new(threads.alloc());
+    if status_of(threads, config, script, disk, &mut out) != 0 {
         bail!("a run that came to a fault");
     }
     Ok(out.len())
@@ -54,8 +64,7 @@ pub fn run<R: AllocGlobal + Threads + Wait + Sync>(
 
 /// Settles a key and then so many writes of one guest by its store alone, one after another.
 pub fn settle_each(alloc: Global, store: &mut Store<MemDisk>, count: u32) -> Result<()> {
-    give_keys(store, 1)?;
-    settle(store)?;
+    settle_keys(store, 1)?;
     for counter in 0..count {
         give(store, write_intent(alloc, 0, counter.wrapping_add(1))?)?;
         settle(store)?;

@@ -5,9 +5,9 @@ ghost use Rattle.rpmb_book.specs.Book.{submits_in};
 ghost use Rattle.workers.specs.Following.{Follow};
 ghost use Rattle.host.specs.Opening.{IsJustOpened};
 
-use crate::books::new_board;
+use crate::books::fresh_board;
 use crate::devices::{Kind, LONGEST, requests_of};
-use crate::images::{board_of, formatted};
+use crate::images::board_of;
 use crate::requests::{key, mixed};
 use anyhow::{Result, bail};
 use board::{Board, Parts};
@@ -192,10 +192,7 @@ fn serve_all<D: Disk + Send + Drop, R: Threads + Wait + Sync>(
     if parts.tallies.len() != load.scripts.len() {
         bail!("another number of guests");
     }
-    match serve(threads, alloc, parts, &load.config, &load.scripts, &Open) {
-        Ok(ended) => Ok(ended),
-        Err(fault) => bail!("{fault}"),
-    }
+    Ok(serve(threads, alloc, parts, &load.config, &load.scripts, &Open)?)
 }
 
 /// The parts of a board over a fresh image.
@@ -204,8 +201,7 @@ fn fresh_parts<D: Disk>(alloc: Global, load: &Load, disk: D) -> Result<Parts<D>>
     ensures fresh { IfOk result (λ p. All (λ t. t.count ≡ 0) p.tallies.items) }
     ensures follows { IfOk result (λ p. Follow p.shares p.store.guests) }
 {
-    let disk = formatted(disk, &load.config)?;
-    let board = new_board(alloc, disk, &load.config)?;
+    let board = fresh_board(alloc, disk, &load.config)?;
     Ok(parts_of(board, &load.config))
 }
 
@@ -237,12 +233,20 @@ pub fn served<D: Disk + Send + Drop, R: Threads + Wait + Sync>(
     timed(rt, threads, parts, load)
 }
 
-/// What a guest's order comes to.
-fn asked<D: Disk>(host: &mut Host<D>, guest: u16, order: &Order) -> Result<Answer> {
-    let Order::Chain(chain) = order else {
-        bail!("no chain");
-    };
+/// What a guest's chain comes to.
+fn asked<D: Disk>(host: &mut Host<D>, guest: u16, chain: &Chain) -> Result<Answer> {
     Ok(host.chain(guest, chain.readable(), chain.writable())?)
+}
+
+/// A guest's chain at this place of its script.
+fn chain_at(scripts: &[Script], guest: usize, at: usize) -> Result<&Chain> {
+    let order = scripts
+        .get(guest)
+        .and_then(|script| script.orders().get(at));
+    match order {
+        Some(Order::Chain(chain)) => Ok(chain),
+        _ => bail!("no such chain"),
+    }
 }
 
 /// Each guest offers the chain of its order at this place of its script.
@@ -253,13 +257,8 @@ fn round<D: Disk>(
     answers: &mut [Vec<Answer>],
 ) -> Result<()> {
     for (guest, told) in answers.iter_mut().enumerate() {
-        let Some(order) = scripts
-            .get(guest)
-            .and_then(|script| script.orders().get(at))
-        else {
-            bail!("no such order");
-        };
-        told.push(asked(host, (guest % 65_536) as u16, order)?)?;
+        let chain = chain_at(scripts, guest, at)?;
+        told.push(asked(host, (guest % 65_536) as u16, chain)?)?;
     }
     Ok(())
 }
@@ -289,6 +288,20 @@ fn take_all<D: Disk>(
     Ok(ended?)
 }
 
+/// The same, with a look at the clock before and after.
+fn timed_alone<D: Disk>(
+    rt: &HostRuntime,
+    board: Board<D>,
+    load: &Load,
+    answers: &mut [Vec<Answer>],
+) -> Result<Duration>
+    requires { IsJustOpened D.state load.now.config board }
+{
+    let start = Instant::now(rt);
+    take_all(rt.alloc(), board, load, answers)?;
+    since(rt, start)
+}
+
 /// No answers yet, of each guest.
 fn no_answers(alloc: Global, load: &Load) -> Result<Vec<Vec<Answer>>> {
     let mut answers = Vec::new(alloc);
@@ -301,12 +314,9 @@ fn no_answers(alloc: Global, load: &Load) -> Result<Vec<Vec<Answer>>> {
 /// Takes the same chains to their end on one thread, one of each guest in turn, on a fresh image; the time is
 /// that from before the devices are brought into service until no call of the disk is left.
 pub fn alone<D: Disk>(rt: &HostRuntime, load: &Load, disk: D) -> Result<OneThread> {
-    let alloc = rt.alloc();
-    let mut answers = no_answers(alloc, load)?;
-    let board = new_board(alloc, formatted(disk, &load.config)?, &load.config)?;
-    let start = Instant::now(rt);
-    take_all(alloc, board, load, &mut answers)?;
-    let took = since(rt, start)?;
+    let mut answers = no_answers(rt.alloc(), load)?;
+    let board = fresh_board(rt.alloc(), disk, &load.config)?;
+    let took = timed_alone(rt, board, load, &mut answers)?;
     Ok(OneThread {
         took,
         answers: load.told_each(&answers)?,

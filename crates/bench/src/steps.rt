@@ -51,12 +51,7 @@ pub fn new_steps(alloc: Global, config: &BoardConfig) -> Result<Steps> {
         guests: config.guests().len() as u16,
         offered: 0,
     };
-    for guest in 0..steps.guests {
-        steps.set_up(guest)?;
-    }
-    steps.submit(key(alloc)?.as_slice())?;
-    steps.settle()?;
-    steps.publish()?;
+    steps.start()?;
     Ok(steps)
 }
 
@@ -80,6 +75,17 @@ impl Steps {
             self.step(Step::Drive(guest, act))?;
         }
         self.store(guest, 0x1000, &DESCRIPTORS)
+    }
+
+    /// Brings each device into service, and has each guest program its key.
+    fn start(&mut self) -> Result<()> {
+        for guest in 0..self.guests {
+            self.set_up(guest)?;
+        }
+        let request = key(self.alloc)?;
+        self.submit(request.as_slice())?;
+        self.settle()?;
+        self.publish()
     }
 
     /// A guest stores bytes into its memory.

@@ -3,7 +3,7 @@
 //! all of them. The clock runs from the first Take to the last Collect, over jobs that the book has answered.
 //! The last two ways test each intent before they give it (`Store::takes`), which a board needn't.
 use crate::books::Host;
-use crate::images::{give, give_keys, new_store, settle, write_intent};
+use crate::images::{give, new_store, settle, settle_keys, write_intent};
 use crate::requests::{job_of, keyed, write};
 use crate::steps::{Steps, new_steps};
 use anyhow::Result;
@@ -24,21 +24,23 @@ pub struct Ways {
 
 /// The guests of a board, each with its key.
 pub fn new_ways(alloc: Global, config: &BoardConfig) -> Result<Ways> {
-    let guests = config.guests().len() as u16;
-    let mut store = new_store(alloc, config)?;
-    give_keys(&mut store, guests)?;
-    settle(&mut store)?;
-    let mut host = keyed(alloc, config)?;
-    host.run_store()?;
-    Ok(Ways {
-        guests,
+    let mut ways = Ways {
+        guests: config.guests().len() as u16,
         steps: new_steps(alloc, config)?,
-        host,
-        store,
-    })
+        host: keyed(alloc, config)?,
+        store: new_store(alloc, config)?,
+    };
+    ways.start()?;
+    Ok(ways)
 }
 
 impl Ways {
+    /// Has both stores settle the keys; the steps have done so.
+    fn start(&mut self) -> Result<()> {
+        settle_keys(&mut self.store, self.guests)?;
+        self.host.run_store()
+    }
+
     /// Settles a write of each guest by steps; answers the time from Take to Collect.
     fn by_steps(&mut self, rt: &HostRuntime, request: &[u8]) -> Result<Duration> {
         self.steps.submit(request)?;
@@ -100,13 +102,13 @@ impl Ways {
 
     /// How many writes of all guests were settled in each way.
     pub fn settled(&self) -> [u64; 3] {
-        let mut all = [0u64; 3];
+        let (mut steps, mut calls, mut store) = (0u64, 0u64, 0u64);
         for guest in 0..self.guests {
             let mark = self.store.marks().get(guest);
-            all[0] = all[0].saturating_add(self.steps.writes(guest));
-            all[1] = all[1].saturating_add(self.host.writes(guest));
-            all[2] = all[2].saturating_add(mark.saturating_sub(1));
+            steps = steps.saturating_add(self.steps.writes(guest));
+            calls = calls.saturating_add(self.host.writes(guest));
+            store = store.saturating_add(mark.saturating_sub(1));
         }
-        all
+        [steps, calls, store]
     }
 }
