@@ -4,8 +4,8 @@ use crate::tests::scene::{
     KEY, Step, check, fault_of, formatted, get_write_counter, program_key, run_on, tail_of,
     two_scripts,
 };
-use disk::{Disk, HookDisk};
-use host::Answer;
+use disk::{CutDisk, Disk, HookDisk};
+use host::{Answer, HostFault};
 use std::alloc::Global;
 use std::sync::Wait;
 use std::test::Fail;
@@ -52,12 +52,16 @@ const PROGRAMMED: [u8; 12] = [0, 0, 0, 0, 0, 0, 0, 1, 0, 0, 1, 0];
 
 const AT_ZERO: [u8; 12] = [0, 0, 0, 0, 0, 0, 0, 1, 0, 0, 2, 0];
 
+fn ensure(holds: bool, what: &'static str) -> Result<(), &'static str> {
+    if holds { Ok(()) } else { Err(what) }
+}
+
 /// A guest was told that its key is programmed, and that its counter stands at 0.
-fn check_replies(driver: &DriverEnd) -> Result<(), Fail> {
+fn check_replies(driver: &DriverEnd) -> Result<(), &'static str> {
     let first = is_reply(driver.answers.get(0), &PROGRAMMED);
-    check(first, "another first reply")?;
+    ensure(first, "another first reply")?;
     let second = is_reply(driver.answers.get(1), &AT_ZERO);
-    check(second, "another second reply")
+    ensure(second, "another second reply")
 }
 
 /// The guest's receipt of this number finds this request, and the reply that was given.
@@ -66,56 +70,81 @@ fn check_found<D: Disk>(
     guest: usize,
     number: usize,
     request: &[u8],
-) -> Result<(), Fail> {
+) -> Result<(), &'static str> {
     let (Some(served), Some(driver)) = (ended.served.get(guest), ended.drivers.get(guest)) else {
-        return Err(Fail::from("no such guest"));
+        return Err("no such guest");
     };
     let Some(receipt) = served.receipts.get(number) else {
-        return Err(Fail::from("a receipt too few"));
+        return Err("a receipt too few");
     };
     let Some(found) = ended.book.find(receipt) else {
-        return Err(Fail::from("a receipt that finds nothing"));
+        return Err("a receipt that finds nothing");
     };
-    check(found.request == request, "another request")?;
+    ensure(found.request == request, "another request")?;
     match driver.answers.get(number) {
-        Some(Answer::Used(reply)) => check(found.reply == reply.as_slice(), "another reply"),
-        _ => Err(Fail::from("no reply")),
+        Some(Answer::Used(reply)) => ensure(found.reply == reply.as_slice(), "another reply"),
+        _ => Err("no reply"),
     }
 }
 
 /// What a worker leaves of its guest: two requests were answered, with a receipt each that finds its request.
-fn check_served<D: Disk>(ended: &Ended<D>, guest: usize, served: &Served) -> Result<(), Fail> {
-    check(served.tally.count() == 2, "another tally")?;
-    check(served.receipts.len() == 2, "another number of receipts")?;
+fn check_served<D: Disk>(
+    ended: &Ended<D>,
+    guest: usize,
+    served: &Served,
+) -> Result<(), &'static str> {
+    ensure(served.tally.count() == 2, "another tally")?;
+    ensure(served.receipts.len() == 2, "another number of receipts")?;
     check_found(ended, guest, 0, program_key(&KEY).as_flattened())?;
     check_found(ended, guest, 1, get_write_counter(1).as_flattened())
 }
 
 /// Two guests were served to their ends.
-fn check_ended<D: Disk>(ended: &Ended<D>) -> Result<(), Fail> {
-    check(!ended.broken, "a broken store")?;
-    check(ended.book.submit_turns() == 4, "another number of turns")?;
+fn check_ended<D: Disk>(ended: &Ended<D>) -> Result<(), &'static str> {
+    ensure(!ended.broken, "a broken store")?;
+    ensure(ended.book.submit_turns() == 4, "another number of turns")?;
     for (guest, served) in ended.served.iter().enumerate() {
         check_served(ended, guest, served)?;
     }
     check_all_replies(&ended.drivers)
 }
 
-fn check_all_replies(drivers: &[DriverEnd]) -> Result<(), Fail> {
+fn check_all_replies(drivers: &[DriverEnd]) -> Result<(), &'static str> {
     for driver in drivers.iter() {
         check_replies(driver)?;
     }
     Ok(())
 }
 
+/// A run came to its end, with two guests served.
+fn check_outcome<D: Disk + Drop>(outcome: Result<Ended<D>, HostFault>) -> Result<(), &'static str> {
+    match outcome {
+        Ok(ended) => check_ended(&ended),
+        Err(_) => Err("a fault"),
+    }
+}
+
+/// What a run comes to in which both guests do these steps.
+fn outcome_of<R: Threads + Wait + Sync>(
+    rt: &R,
+    alloc: Global,
+    steps: &[Step],
+) -> Result<Result<Ended<CutDisk>, HostFault>, Fail> {
+    let scripts = two_scripts(alloc, steps, steps)?;
+    run_on(rt, alloc, formatted(alloc, 2)?, &scripts, &Open)
+}
+
 #[test]
 fn two_guests_each_with_a_key_and_a_counter(rt: HostRuntime) -> Result<(), Fail> {
-    let alloc = rt.alloc();
-    let steps = [Step::Key, Step::Counter(1)];
-    let scripts = two_scripts(alloc, &steps, &steps)?;
-    let disk = formatted(alloc, 2)?;
-    match run_on(&rt, alloc, disk, &scripts, &Open)? {
-        Ok(ended) => check_ended(&ended),
-        Err(_) => Err(Fail::from("a fault")),
-    }
+    let outcome = outcome_of(&rt, rt.alloc(), &[Step::Key, Step::Counter(1)])?;
+    check_outcome(outcome).map_err(Fail::from)
+}
+
+/// A run that serves nobody, and one that always wants memory, don't pass for it.
+#[test]
+fn runs_that_serve_nobody_are_caught(rt: HostRuntime) -> Result<(), Fail> {
+    let nothing = outcome_of(&rt, rt.alloc(), &[])?;
+    check(check_outcome(nothing).is_err(), "a run of nothing passed")?;
+    let refused: Result<Ended<CutDisk>, HostFault> = Err(HostFault::NoMemory);
+    check(check_outcome(refused).is_err(), "want of memory passed")
 }
