@@ -9,7 +9,8 @@ use Rattle.chains.specs.Ring.{Ascend, first_state as first_ring}
 use Rattle.mmio_transport.specs.declared.registers.Registers.{Registers}
 use Rattle.mmio_transport.specs.declared.registers.Kick.{Kick}
 use Rattle.mmio_transport.specs.declared.registers.Kick.TheVariants.{None as NoKick, Notify, Reset}
-use Rattle.mmio_transport.specs.declared.queue.QueueKind.TheVariants.{Split}
+use Rattle.rpmb_frame.specs.declared.config.RingKind.{RingKind}
+use Rattle.rpmb_frame.specs.declared.config.RingKind.TheVariants.{Split, Packed}
 use Rattle.mmio_transport.specs.Register as register
 use Rattle.mmio_transport.specs.Feature as feature
 use Rattle.mmio_transport.specs.Registers.{fresh, register_value, after_register, has}
@@ -111,15 +112,31 @@ is_split_queue bytes places size =
     && nat_le (places.driver + (6 + 2 * size)) bytes
     && nat_le (places.device + (6 + 8 * size)) bytes
 
+-- the same of a packed queue, whose size may be any (2.8, 2.8.10.1)
+unfoldable pub is_packed_queue : ℕ → Places → ℕ → Bool
+is_packed_queue bytes places size =
+    places.descriptors % 16 == 0 && places.driver % 4 == 0 && places.device % 4 == 0
+    && nat_le (places.descriptors + 16 * size) bytes
+    && nat_le (places.driver + 4) bytes
+    && nat_le (places.device + 4) bytes
+
+abbrev pub is_queue : RingKind → ℕ → Places → ℕ → Bool
+is_queue Split = is_split_queue
+is_queue Packed = is_packed_queue
+
+-- the kind of ring that the driver accepted (6)
+unfoldable pub kind_of : Registers → RingKind
+kind_of r = if has r.driver_features_high feature.ring_packed then Packed else Split
+
 -- a queue could be made ready where the registers say (4.2.2.1; own: 1.2 leaves open what a device
 -- does where it couldn't be)
 unfoldable pub may_be_ready : ℕ → Registers → Bool
 may_be_ready bytes r =
-    r.status.features_ok && nat_le 1 r.queue_num && nat_le r.queue_num 256 && is_split_queue bytes (places_of r) r.queue_num
+    r.status.features_ok && nat_le 1 r.queue_num && nat_le r.queue_num 256 && is_queue (kind_of r) bytes (places_of r) r.queue_num
 
 -- the queue that the registers speak of, at place 0
 unfoldable pub first_queue : Registers → QueueState
-first_queue r = record { kind = Split; ring = first_ring (places_of r) r.queue_num }
+first_queue r = record { kind = kind_of r; ring = first_ring (places_of r) r.queue_num }
 
 -- QueueReady (4.2.2.1): 1 makes the queue ready where it may be, 0 takes it away
 unfoldable pub after_ready : DeviceState → ℕ → DeviceState

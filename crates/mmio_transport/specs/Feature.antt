@@ -14,9 +14,13 @@ event_idx = 0x20000000
 abbrev pub version_1 : ℕ
 version_1 = 0x00000001
 
--- what is offered of each half (own: EVENT_IDX, and VERSION_1 without which no driver is served)
+-- VIRTIO_F_RING_PACKED, 34
+abbrev pub ring_packed : ℕ
+ring_packed = 0x00000004
+
+-- what is offered of each half (own: all four, of which no driver is served without VERSION_1)
 abbrev pub offered_low : ℕ
-offered_low = 0x20000000
+offered_low = 0x30000000
 
 abbrev pub offered_high : ℕ
-offered_high = 0x00000001
+offered_high = 0x00000005

@@ -38,11 +38,12 @@ pub fn offsets_are_the_standards()
     ensures config { code.CONFIG ≡ standard.config }
 {}
 
-/// The bits of [`crate::feature`] are those of VIRTIO 1.2, 6, and those that are offered are EVENT_IDX and VERSION_1.
+/// The bits of [`crate::feature`] are those of VIRTIO 1.2, 6, and the device offers all four.
 pub fn features_are_the_standards()
     ensures indirect_desc { code_feature.INDIRECT_DESC ≡ standard_feature.indirect_desc }
     ensures event_idx { code_feature.EVENT_IDX ≡ standard_feature.event_idx }
     ensures version_1 { code_feature.VERSION_1 ≡ standard_feature.version_1 }
+    ensures ring_packed { code_feature.RING_PACKED ≡ standard_feature.ring_packed }
     ensures offered_low { code_feature.OFFERED_LOW ≡ standard_feature.offered_low }
     ensures offered_high { code_feature.OFFERED_HIGH ≡ standard_feature.offered_high }
 {}

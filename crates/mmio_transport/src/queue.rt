@@ -1,4 +1,4 @@
-//! The queue of a device, whatever kind of ring it stands on.
+//! The queue of a device, on either kind of ring.
 ghost use Rattle.std.specs.Prelude.{◌≡◌, ◌≤◌, ◌<◌, ◌+◌, ◌-◌, ◌^◌, ◌↔◌, IsTrue, false, IsOk, IfOk, OnErr, Err, IfSome, length};
 ghost use Rattle.chains.specs.Range.{AreInside};
 ghost use Rattle.chains.specs.Walk.{reads_of};
@@ -7,41 +7,68 @@ ghost use Rattle.mmio_transport.specs.Queue.{AreasInside, IsRing, next, members,
 
 use chains::{ChainFault, Places, Popped, Reads, RingFault};
 use guest_memory::Memory;
+use rpmb_frame::RingKind;
 use std::alloc::Global;
 use std::marker::Model;
 
-/// The kinds of ring on which a queue may stand.
-#[derive(Clone, Copy, Debug, PartialEq, Eq)]
-pub enum QueueKind {
-    /// A split ring (VIRTIO 1.2, 2.7).
-    Split,
+/// A ring of either kind.
+#[derive(Drop)]
+enum AnyRing {
+    Split(split_ring::Ring),
+    Packed(packed_ring::Ring),
 }
 
-/// A queue. A contract sees its kind, and its ring by the places of it. Another kind of ring joins by
-/// a case in each word of `specs/Queue.antt`, and the device's definitions and contracts stay.
+/// A queue. A contract sees its kind, and its ring by the places of it. Each word of `specs/Queue.antt`
+/// has one case a kind, so no contract of the device speaks of a kind.
 #[derive(Drop)]
 pub(crate) struct Queue {
-    ring: split_ring::Ring,
+    ring: AnyRing,
 }
 
 impl Model for Queue {
     ghost use Rattle.mmio_transport.specs.Queue.{QueueState};
-    ghost use Rattle.mmio_transport.specs.declared.queue.QueueKind.TheVariants.{Split};
+    ghost use Rattle.mmio_transport.specs.AnyRing.{queue_of};
 
     ghost Value = { QueueState };
 
-    ghost view = { λ q. record { kind = Split; ring = q.ring } };
+    ghost view = { λ q. queue_of q.ring };
 }
 
 impl Queue {
-    /// A queue on a split ring, of which nothing was popped. It takes no memory.
-    pub fn split(alloc: Global, places: Places, size: u16) -> Result<Queue, RingFault>
-        ensures succeeds { IsOk result ↔ IsRing QueueKind.Split places size }
-        ensures ok { IfOk result (λ queue. queue ≡ record { kind = QueueKind.Split; ring = first_state places size }) }
+    /// A queue on a ring of this kind, of which nothing was popped. It takes no memory.
+    pub fn new(alloc: Global, kind: RingKind, places: Places, size: u16) -> Result<Queue, RingFault>
+        ensures succeeds { IsOk result ↔ IsRing kind places size }
+        ensures ok { IfOk result (λ queue. queue ≡ record { kind = kind; ring = first_state places size }) }
+        ensures err { OnErr result (result ≡ Err (RingFault.Refused ChainFault.BadRange)) }
+    {
+        match kind {
+            RingKind::Split => Queue::split(alloc, places, size),
+            RingKind::Packed => Queue::packed(alloc, places, size),
+        }
+    }
+
+    fn split(alloc: Global, places: Places, size: u16) -> Result<Queue, RingFault>
+        ensures succeeds { IsOk result ↔ IsRing RingKind.Split places size }
+        ensures ok { IfOk result (λ queue. queue ≡ record { kind = RingKind.Split; ring = first_state places size }) }
         ensures err { OnErr result (result ≡ Err (RingFault.Refused ChainFault.BadRange)) }
     {
         match split_ring::Ring::new(alloc, places, size) {
-            Ok(ring) => Ok(Queue { ring }),
+            Ok(ring) => Ok(Queue {
+                ring: AnyRing::Split(ring),
+            }),
+            Err(fault) => Err(fault),
+        }
+    }
+
+    fn packed(alloc: Global, places: Places, size: u16) -> Result<Queue, RingFault>
+        ensures succeeds { IsOk result ↔ IsRing RingKind.Packed places size }
+        ensures ok { IfOk result (λ queue. queue ≡ record { kind = RingKind.Packed; ring = first_state places size }) }
+        ensures err { OnErr result (result ≡ Err (RingFault.Refused ChainFault.BadRange)) }
+    {
+        match packed_ring::Ring::new(alloc, places, size) {
+            Ok(ring) => Ok(Queue {
+                ring: AnyRing::Packed(ring),
+            }),
             Err(fault) => Err(fault),
         }
     }
@@ -50,7 +77,10 @@ impl Queue {
     pub fn is_outstanding(&self, number: u64, id: u16, places: u16) -> bool
         ensures { IsTrue result ↔ IsOutstanding self.now.ring number id places }
     {
-        self.ring.is_outstanding(number, id, places)
+        match &self.ring {
+            AnyRing::Split(ring) => ring.is_outstanding(number, id, places),
+            AnyRing::Packed(ring) => ring.is_outstanding(number, id, places),
+        }
     }
 
     /// Pops the chain at the place after those popped, which is known by `number` from then on. A
@@ -72,7 +102,10 @@ impl Queue {
         ensures reads { CountsReads result reads.old reads.new (reads_of (length memory.old) false (members self.old.kind memory.old self.old.ring)) }
         ensures few { reads.new.count ≤ self.old.ring.size + 1024 }
     {
-        self.ring.pop(alloc, memory, reads, number)
+        match &mut self.ring {
+            AnyRing::Split(ring) => ring.pop(alloc, memory, reads, number),
+            AnyRing::Packed(ring) => ring.pop(alloc, memory, reads, number),
+        }
     }
 
     /// Publishes a chain as used, and answers whether the driver is to be notified.
@@ -93,6 +126,9 @@ impl Queue {
         ensures areas { AreasInside self.new.kind (length memory.new) self.new.ring }
         ensures size { length memory.new ≡ length memory.old }
     {
-        self.ring.publish(memory, number, id, places, len)
+        match &mut self.ring {
+            AnyRing::Split(ring) => ring.publish(memory, number, id, places, len),
+            AnyRing::Packed(ring) => ring.publish(memory, number, id, places, len),
+        }
     }
 }
