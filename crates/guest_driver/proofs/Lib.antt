@@ -18,3 +18,6 @@ pub mod FreshAreas
 pub mod Negotiating
 pub mod DeviceBegins
 pub mod Elsewhere
+pub mod Lists
+pub mod Bytes
+pub mod Walks

@@ -9,3 +9,5 @@ pub mod Access
 pub mod Negotiation
 pub mod OnDevice
 pub mod Beside
+pub mod Parts
+pub mod WalkLaw
