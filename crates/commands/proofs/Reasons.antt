@@ -8,8 +8,8 @@ use Rattle.rpmb_frame.specs.Layout.{layout}
 use Rattle.rpmb_frame.specs.declared.config.GuestConfig.{GuestConfig}
 use Rattle.rpmb_frame.specs.declared.config.RingKind.{RingKind}
 use Rattle.rpmb_frame.specs.declared.config.RingKind.TheVariants.{Split}
-use Rattle.mmio_transport.specs.declared.queue.QueueKind.{QueueKind}
-use Rattle.mmio_transport.specs.declared.queue.QueueKind.TheVariants.{Split as SplitQueue}
+use Rattle.guest_driver.specs.declared.kind.QueueKind.{QueueKind}
+use Rattle.guest_driver.specs.declared.kind.QueueKind.TheVariants.{Split as SplitQueue}
 use Rattle.guest_driver.specs.Driver.{HasTooFew, owner}
 use Rattle.guest_driver.specs.Kinds.{needed}
 use Rattle.script.specs.Line.{IsWithin, chain, store, reset}

@@ -6,6 +6,7 @@ use Rattle.guest_driver.specs.declared.fault.DriverFault.{DriverFault}
 use Rattle.guest_driver.specs.declared.fault.DriverFault.TheVariants.{NoRoom, OutOfRange, NoMemory, BadUsed}
 use Rattle.guest_driver.specs.Offered.{Offer}
 use Rattle.guest_driver.specs.Used.{Reply}
+use Rattle.guest_driver.specs.Kinds.{ring_of}
 use Rattle.guest_driver.specs.Driver.{DriverState, Offering, offer_of}
 use Rattle.guest_driver.specs.Reap.{Reaps}
 use Rattle.guest_driver.specs.Access.{ButForMemory}
@@ -30,7 +31,7 @@ pub served_on : (d d' : DeviceState) (driver driver' : DriverState) (pending pen
 served_on d d' driver driver' pending pending' popped published h same rest offered = record {
   queue = h.queue;
   ready = ap (λ (s : DeviceState). s.queue) rest ∙ h.ready;
-  kind = h.kind ∙ sym same;
+  kind = h.kind ∙ ap ring_of (sym same);
   driver_ok = ap (λ (s : DeviceState). s.registers.status.driver_ok) rest ∙ h.driver_ok;
   going = ap (λ (s : DeviceState). s.registers.status.needs_reset) rest ∙ h.going;
   offered = offered;
@@ -60,7 +61,7 @@ reaped_by d driver driver' pending popped (r ∷ rs) (Ok (Some answer)) h a p = 
   id = p.id;
   len = p.len;
   bytes = p.bytes;
-  rest = record { queue = h.queue; ready = h.ready; kind = h.kind ∙ sym (ap (λ (s : DriverState). s.kind) a.after); driver_ok = h.driver_ok; going = h.going; offered = p.rest };
+  rest = record { queue = h.queue; ready = h.ready; kind = h.kind ∙ sym (ap (λ (s : DriverState). ring_of s.kind) a.after); driver_ok = h.driver_ok; going = h.going; offered = p.rest };
 }
 reaped_by d driver driver' pending popped (r ∷ rs) (Err NoMemory) h a p = p
 reaped_by d driver driver' pending popped (r ∷ rs) (Err NoRoom) h a p = p

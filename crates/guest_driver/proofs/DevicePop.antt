@@ -11,7 +11,7 @@ use Rattle.mmio_transport.specs.Queue.{QueueState, next, event}
 use Rattle.mmio_transport.specs.Job.{Job}
 use Rattle.mmio_transport.specs.Device.{DeviceState, last_count}
 use Rattle.mmio_transport.specs.Popping.{GivesFrom, GivesNext, IsNext, live_queue, is_stopped, after_job, found_of as found_by}
-use Rattle.guest_driver.specs.Kinds.{places_of, found_of}
+use Rattle.guest_driver.specs.Kinds.{ring_of, places_of, found_of}
 use Rattle.guest_driver.specs.Offered.{Offer}
 use Rattle.guest_driver.specs.Used.{Reply}
 use Rattle.guest_driver.specs.Driver.{DriverState}
@@ -53,7 +53,7 @@ popped_none d d' driver popped published h after =
         kind = h.kind;
         driver_ok = h.driver_ok;
         going = h.going;
-        offered = subst M (sym (ap (λ k. event k d.memory ring) h.kind)) (on_memory d.memory (event driver.kind d.memory ring) driver ring [] popped published o held);
+        offered = subst M (sym (ap (λ k. event k d.memory ring) h.kind)) (on_memory d.memory (event (ring_of driver.kind) d.memory ring) driver ring [] popped published o held);
       };
       same = record { guest = refl; config = refl; session = refl; readiness = refl };
       registers = refl;

@@ -6,13 +6,13 @@ use Rattle.chains.specs.Range.{scattered, AreInside}
 use Rattle.chains.specs.Ring.{RingState, IsOutstanding, after_publish}
 use Rattle.mmio_transport.specs.declared.registers.Registers.{Registers}
 use Rattle.mmio_transport.specs.declared.status.Status.{Status}
-use Rattle.mmio_transport.specs.declared.queue.QueueKind.{QueueKind}
+use Rattle.rpmb_frame.specs.declared.config.RingKind.{RingKind}
 use Rattle.mmio_transport.specs.declared.done.Published.TheVariants.{Wrote, Dropped}
 use Rattle.mmio_transport.specs.Queue.{QueueState, used_written, Tells}
 use Rattle.mmio_transport.specs.Job.{Done, used_length}
 use Rattle.mmio_transport.specs.Device.{DeviceState}
 use Rattle.mmio_transport.specs.Publishing.{IsDue, IsDueIn, WritesIn, WritesReply, with_notification, memory_after}
-use Rattle.guest_driver.specs.Kinds.{places_of, found_of, writable_at}
+use Rattle.guest_driver.specs.Kinds.{ring_of, places_of, found_of, writable_at}
 use Rattle.guest_driver.specs.Offered.{Offer}
 use Rattle.guest_driver.specs.Used.{Reply}
 use Rattle.guest_driver.specs.Driver.{DriverState, owner}
@@ -50,7 +50,7 @@ popped_chain d driver ring pending before c after published number h named =
     }
 
 -- what the device writes for a reply to a chain
-written_is : (m : List ℕ) (kind kind' : QueueKind) (ring : RingState) (ranges ranges' : List Range) (reply : List ℕ) (id id' places places' : ℕ)
+written_is : (m : List ℕ) (kind kind' : RingKind) (ring : RingState) (ranges ranges' : List Range) (reply : List ℕ) (id id' places places' : ℕ)
     → kind ≡ kind' → ranges ≡ ranges' → id ≡ id' → places ≡ places' → length reply ≤ 8192
     → used_written kind (scattered m ranges reply) ring id places (used_length reply) ≡ used_written kind' (scattered m ranges' reply) ring id' places' (length reply)
 written_is m kind kind' ring ranges ranges' reply id id' places places' split same is one short =
@@ -93,12 +93,12 @@ published_by d d' driver pending before c after published done notify h is named
     let fits = is.fits in
     let m = memory_after d queue done in
     let ring2 = after_publish ring done.number done.id done.places in
-    let T : QueueKind → List ℕ → ℕ → Type 0 = λ k v p. Tells k v ring p notify in
-    let told : T driver.kind m (places_of driver.kind c) =
+    let T : RingKind → List ℕ → ℕ → Type 0 = λ k v p. Tells k v ring p notify in
+    let told : T (ring_of driver.kind) m (places_of driver.kind c) =
     subst (λ k. T k m (places_of driver.kind c)) h.kind (subst (T queue.kind m) is.places (subst (λ v. T queue.kind v done.places) (ap (λ (s : DeviceState). s.memory) w.after) w.told)) in
     let offered = publish_joins d.memory m driver ring ring2 pending before c after published done.number done.reply notify fits h.offered named
     (record {
-      written = written_is d.memory queue.kind driver.kind ring done.writable (found_of driver.kind driver.size c).buffers.writable done.reply done.id c.head done.places (places_of driver.kind c)
+      written = written_is d.memory queue.kind (ring_of driver.kind) ring done.writable (found_of driver.kind driver.size c).buffers.writable done.reply done.id c.head done.places (places_of driver.kind c)
           h.kind is.writable is.id is.places (omega (arith, room, fits));
       counted = ap (λ v. after_publish ring done.number v done.places) is.id ∙ ap (after_publish ring done.number c.head) is.places;
       told = told;

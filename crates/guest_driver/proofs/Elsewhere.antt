@@ -1,7 +1,7 @@
 -- What a guest does beside its driver's calls leaves what driver and device agree on.
 use Rattle.std.proofs.Common.{ℕ, inl, List, [], ◌∷◌, length, refl, arith}
 use Rattle.guest_memory.specs.Memory.{with_bytes}
-use Rattle.mmio_transport.specs.declared.queue.QueueKind.{QueueKind}
+use Rattle.guest_driver.specs.declared.kind.QueueKind.{QueueKind}
 use Rattle.mmio_transport.specs.Registers.{after_register}
 use Rattle.mmio_transport.specs.Device.{DeviceState, after_write}
 use Rattle.guest_driver.specs.Offered.{Offer}

@@ -12,7 +12,7 @@ use Rattle.chains.specs.Ring.{RingState, after_pop, after_publish, found_of as f
 use Rattle.mmio_transport.specs.Queue.{event}
 use Rattle.guest_driver.specs.declared.driver.Flight.{Flight}
 use Rattle.guest_driver.specs.declared.fault.DriverFault.TheVariants.{NoRoom, OutOfRange, NoMemory, BadUsed}
-use Rattle.guest_driver.specs.Kinds.{writable_at, IsSetUp, Holds, IsStill, places_of, places_in, flight_places, found_of, mark_after, used_id, used_len}
+use Rattle.guest_driver.specs.Kinds.{ring_of, writable_at, IsSetUp, Holds, IsStill, places_of, places_in, flight_places, found_of, mark_after, used_id, used_len}
 use Rattle.guest_driver.specs.Offered.{Offer}
 use Rattle.guest_driver.specs.Used.{Reply, IsReply}
 use Rattle.guest_driver.specs.Driver.{DriverState, owner, no_flight}
@@ -41,7 +41,7 @@ on_memory m n d ring pending popped published h held = record {
 }
 
 pub popped_more : (m : List ℕ) (d : DriverState) (ring : RingState) (c : Offer) (cs popped : List Offer) (published : List Reply) (number : ℕ)
-    → IsOffered m d ring (c ∷ cs) popped published → IsOffered (event d.kind m (after_pop ring number c.head (places_of d.kind c))) d (after_pop ring number c.head (places_of d.kind c)) cs (popped ++ c ∷ []) published
+    → IsOffered m d ring (c ∷ cs) popped published → IsOffered (event (ring_of d.kind) m (after_pop ring number c.head (places_of d.kind c))) d (after_pop ring number c.head (places_of d.kind c)) cs (popped ++ c ∷ []) published
 popped_more m d ring c cs popped published number h =
     let n = places_of d.kind c in
     let r = after_pop ring number c.head n in
@@ -75,9 +75,9 @@ pub pop_gives : APopGivesTheFirst
 pop_gives m m' d ring ring' [] popped published number (Ok None) h p =
     let held = event_keeps d.kind m ring d.size h.reaped ring.used ring.popped [] published h.setup h.held in
     let P : List ℕ → Type 0 = λ v. IsOffered v d ring [] popped published in
-    (p.same, subst P (sym p.told) (on_memory m (event d.kind m ring) d ring [] popped published h held))
+    (p.same, subst P (sym p.told) (on_memory m (event (ring_of d.kind) m ring) d ring [] popped published h held))
 pop_gives m m' d ring ring' [] popped published number (Ok (Some answer)) h p = let e = sym (none_offered d.kind m ring d.size h.reaped published h.setup h.held) ∙ p.chain in absurd (cc)
-pop_gives m m' d ring ring' [] popped published number (Err RingNoMemory) h p = absurd (none_grows d.kind m ring (none_offered d.kind m ring d.size h.reaped published h.setup h.held) p.cause)
+pop_gives m m' d ring ring' [] popped published number (Err RingNoMemory) h p = absurd (none_grows (ring_of d.kind) m ring (none_offered d.kind m ring d.size h.reaped published h.setup h.held) p.cause)
 pop_gives m m' d ring ring' [] popped published number (Err (Refused fault)) h p = let e = sym (none_offered d.kind m ring d.size h.reaped published h.setup h.held) ∙ p.cause in absurd (cc)
 pop_gives m m' d ring ring' [] popped published number (Err OldNumber) h p = p.cause
 pop_gives m m' d ring ring' (c ∷ cs) popped published number (Ok None) h p = let e = sym (next_offered d.kind m ring d.size h.reaped c cs published h.setup h.held) ∙ p.nothing in absurd (cc)
@@ -86,13 +86,13 @@ pop_gives m m' d ring ring' (c ∷ cs) popped published number (Ok (Some answer)
     let found : found_by answer ≡ found_of d.kind d.size c = ap (the_found (found_of d.kind d.size c)) e in
     let after : ring' ≡ after_pop ring number c.head (places_of d.kind c) = p.counted ∙ ap (λ (f : Found). after_pop ring number f.id f.places) found in
     let P : List ℕ → RingState → Type 0 = λ v r. IsOffered v d r cs (popped ++ c ∷ []) published in
-    let told : m' ≡ event d.kind m (after_pop ring number c.head (places_of d.kind c)) = p.told ∙ ap (event d.kind m) after in
+    let told : m' ≡ event (ring_of d.kind) m (after_pop ring number c.head (places_of d.kind c)) = p.told ∙ ap (event (ring_of d.kind) m) after in
     record {
       found = found;
       request = p.request ∙ ap (λ (f : Found). take most_gathered (flat_map (bytes_of m) f.buffers.readable)) found ∙ request_offered d.kind m d.size h.reaped ring.used ring.popped c cs published h.held;
       numbered = subst (λ (r : RingState). HasNumber r.outstanding popped number) (sym after)
           (number-append d.kind ring.outstanding (record { number = number; id = c.head; places = places_of d.kind c }) popped h.outstanding);
-      rest = subst (λ v. P v ring') (sym told) (subst (P (event d.kind m (after_pop ring number c.head (places_of d.kind c)))) (sym after) (popped_more m d ring c cs popped published number h));
+      rest = subst (λ v. P v ring') (sym told) (subst (P (event (ring_of d.kind) m (after_pop ring number c.head (places_of d.kind c)))) (sym after) (popped_more m d ring c cs popped published number h));
     }
 pop_gives m m' d ring ring' (c ∷ cs) popped published number (Err RingNoMemory) h p = (p.same, p.untouched)
 pop_gives m m' d ring ring' (c ∷ cs) popped published number (Err (Refused fault)) h p = let e = sym (next_offered d.kind m ring d.size h.reaped c cs published h.setup h.held) ∙ p.cause in absurd (cc)

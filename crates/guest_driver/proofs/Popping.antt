@@ -19,7 +19,7 @@ use Rattle.chains.specs.Ring.{RingState}
 use Rattle.chains.proofs.ListLemmas.{list_law}
 use Rattle.split_ring.specs.Layout.{word_at, descriptor_table}
 use Rattle.split_ring.specs.Available.{next, avail_idx, head, found_from, some_found}
-use Rattle.mmio_transport.specs.declared.queue.QueueKind.TheVariants.{Split}
+use Rattle.guest_driver.specs.declared.kind.QueueKind.TheVariants.{Split}
 use Rattle.guest_driver.specs.Kinds.{IsSetUp}
 use Rattle.guest_driver.specs.Layout.{driver_area, readable_at, writable_at, needed, avail_entry_at}
 use Rattle.guest_driver.specs.Offered.{Offer, descriptor, readable_descriptor, writable_descriptor, IsOffer, HoldsOffer, Offers, found_of}

@@ -4,7 +4,7 @@ use Rattle.std.specs.List.{position_or_len, remove}
 use Rattle.std.proofs.lemmas.Bool.{cases_eq, ne_eqb, eq-eqb}
 use Rattle.chains.specs.declared.places.Outstanding.{Outstanding}
 use Rattle.chains.specs.Ring.{is_chain}
-use Rattle.mmio_transport.specs.declared.queue.QueueKind.{QueueKind}
+use Rattle.guest_driver.specs.declared.kind.QueueKind.{QueueKind}
 use Rattle.guest_driver.specs.Kinds.{places_of}
 use Rattle.guest_driver.specs.Offered.{Offer, IsApart}
 use Rattle.guest_driver.specs.Used.{Reply, IsNone}

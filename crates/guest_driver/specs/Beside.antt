@@ -2,7 +2,7 @@
 -- numbers are those of VIRTIO 1.2.
 use Rattle.std.specs.Prelude.{◌⊎◌, ℕ, ◌+◌, ◌≤◌, List, [], ◌∷◌, length}
 use Rattle.guest_memory.specs.Memory.{with_bytes}
-use Rattle.mmio_transport.specs.declared.queue.QueueKind.{QueueKind}
+use Rattle.guest_driver.specs.declared.kind.QueueKind.{QueueKind}
 use Rattle.mmio_transport.specs.Device.{DeviceState, after_write}
 use Rattle.guest_driver.specs.Kinds.{tables, readable_at, writable_at}
 use Rattle.guest_driver.specs.Offered.{Offer}

@@ -8,8 +8,8 @@ use Rattle.chains.specs.declared.fault.RingFault.{RingFault}
 use Rattle.chains.specs.declared.fault.RingFault.TheVariants.{NoMemory as RingNoMemory, Refused, OldNumber}
 use Rattle.chains.specs.Range.{scattered}
 use Rattle.chains.specs.Ring.{RingState, first_state, Pops, Publishes, found_of as found_by}
-use Rattle.mmio_transport.specs.declared.queue.QueueKind.{QueueKind}
-use Rattle.mmio_transport.specs.declared.queue.QueueKind.TheVariants.{Split}
+use Rattle.guest_driver.specs.declared.kind.QueueKind.{QueueKind}
+use Rattle.guest_driver.specs.declared.kind.QueueKind.TheVariants.{Split}
 use Rattle.mmio_transport.specs.Queue.{next, members, event, used_written, Tells}
 use Rattle.guest_driver.specs.declared.reaping.Reaped.{Reaped}
 use Rattle.guest_driver.specs.declared.fault.DriverFault.{DriverFault}
@@ -17,7 +17,7 @@ use Rattle.guest_driver.specs.declared.fault.DriverFault.TheVariants.{NoRoom, Ou
 use Rattle.guest_driver.specs.Layout.{avail_idx_at, used_idx_at}
 use Rattle.guest_driver.specs.Offered.{Offer}
 use Rattle.guest_driver.specs.Used.{Reply}
-use Rattle.guest_driver.specs.Kinds.{IsSetUp, Holds, places_of, places_in, found_of, mark_of, tables, needed, readable_at, writable_at}
+use Rattle.guest_driver.specs.Kinds.{ring_of, IsSetUp, Holds, places_of, places_in, found_of, mark_of, tables, needed, readable_at, writable_at}
 use Rattle.guest_driver.specs.Driver.{DriverState, first_driver, Offering, owner, no_flight, offer_of}
 use Rattle.guest_driver.specs.Reap.{Reaps}
 
@@ -123,14 +123,14 @@ PopsFirst (c ∷ cs) memory driver ring popped published number (Err OldNumber) 
 
 abbrev pub APopGivesTheFirst : Type 0
 APopGivesTheFirst = (memory memory' : List ℕ) (driver : DriverState) (ring ring' : RingState) (pending popped : List Offer) (published : List Reply) (number : ℕ) (answer : Result (Option Popped) RingFault)
-    → IsOffered memory driver ring pending popped published → Pops (next driver.kind) (members driver.kind) (event driver.kind) memory ring number answer memory' ring'
+    → IsOffered memory driver ring pending popped published → Pops (next (ring_of driver.kind)) (members (ring_of driver.kind)) (event (ring_of driver.kind)) memory ring number answer memory' ring'
     → PopsFirst pending memory driver ring popped published number answer memory' ring'
 
 -- a chain that was popped is scattered into and published
 abbrev pub APublishJoins : Type 0
 APublishJoins = (memory memory' : List ℕ) (driver : DriverState) (ring ring' : RingState) (pending before : List Offer) (c : Offer) (after : List Offer) (published : List Reply) (number : ℕ) (reply : List ℕ) (told : Bool)
     → length reply ≤ c.writable → IsOffered memory driver ring pending (before ++ c ∷ after) published → HasNumber ring.outstanding before number
-    → Publishes (used_written driver.kind) (Tells driver.kind) (scattered memory (found_of driver.kind driver.size c).buffers.writable reply) ring number c.head (places_of driver.kind c) (length reply) told memory' ring'
+    → Publishes (used_written (ring_of driver.kind)) (Tells (ring_of driver.kind)) (scattered memory (found_of driver.kind driver.size c).buffers.writable reply) ring number c.head (places_of driver.kind c) (length reply) told memory' ring'
     → IsOffered memory' driver ring' pending (before ++ after) (published ++ record { offer = c; bytes = reply } ∷ [])
 
 -- a reap's answer is the first reply that was published

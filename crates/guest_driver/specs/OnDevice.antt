@@ -3,8 +3,8 @@ use Rattle.std.specs.Prelude.{◌≡◌, ℕ, ◌+◌, ◌<◌, ◌≤◌, ◌�
 use Rattle.rpmb_frame.specs.declared.config.GuestConfig.{GuestConfig}
 use Rattle.rpmb_frame.specs.declared.config.RingKind.TheVariants.{Split as SplitRing}
 use Rattle.rpmb_frame.specs.Config.{IsGuest}
-use Rattle.mmio_transport.specs.declared.queue.QueueKind.{QueueKind}
-use Rattle.mmio_transport.specs.declared.queue.QueueKind.TheVariants.{Split}
+use Rattle.guest_driver.specs.declared.kind.QueueKind.{QueueKind}
+use Rattle.guest_driver.specs.declared.kind.QueueKind.TheVariants.{Split}
 use Rattle.mmio_transport.specs.declared.done.Published.{Published}
 use Rattle.mmio_transport.specs.declared.done.Published.TheVariants.{Wrote, Dropped}
 use Rattle.mmio_transport.specs.declared.fault.DeviceFault.{DeviceFault}
@@ -18,7 +18,7 @@ use Rattle.mmio_transport.specs.Publishing.{Publishes}
 use Rattle.guest_driver.specs.declared.reaping.Reaped.{Reaped}
 use Rattle.guest_driver.specs.declared.fault.DriverFault.{DriverFault}
 use Rattle.guest_driver.specs.declared.fault.DriverFault.TheVariants.{NoRoom, OutOfRange, NoMemory as NoHostMemory, BadUsed}
-use Rattle.guest_driver.specs.Kinds.{needed, places_of, found_of}
+use Rattle.guest_driver.specs.Kinds.{ring_of, needed, places_of, found_of}
 use Rattle.guest_driver.specs.Offered.{Offer}
 use Rattle.guest_driver.specs.Used.{Reply}
 use Rattle.guest_driver.specs.Driver.{DriverState, first_driver, Offering, offer_of}
@@ -32,7 +32,7 @@ use Rattle.guest_driver.specs.Negotiation.{negotiated, is_in_service}
 pub record IsServed (d : DeviceState) (driver : DriverState) (pending popped : List Offer) (published : List Reply) : Type 0 where
   pub queue : QueueState
   pub ready : d.queue ≡ Some queue
-  pub kind : queue.kind ≡ driver.kind
+  pub kind : queue.kind ≡ ring_of driver.kind
   pub driver_ok : d.registers.status.driver_ok ≡ true
   -- it waits for no reset
   pub going : d.registers.status.needs_reset ≡ false

@@ -9,7 +9,7 @@ use Rattle.mmio_transport.specs.Device.{DeviceState, last_count}
 use Rattle.mmio_transport.specs.Job.{Job, room_in}
 use Rattle.guest_driver.specs.declared.reaping.Reaped.{Reaped}
 use Rattle.guest_driver.specs.declared.fault.DriverFault.TheVariants.{BadUsed, OutOfRange}
-use Rattle.mmio_transport.specs.declared.queue.QueueKind.{QueueKind}
+use Rattle.guest_driver.specs.declared.kind.QueueKind.{QueueKind}
 use Rattle.guest_driver.specs.Access.{ButForMemory}
 use Rattle.guest_driver.specs.Used.{Reply}
 use Rattle.guest_driver.specs.Driver.{DriverState, Offering, offer_of}

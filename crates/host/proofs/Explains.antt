@@ -3,8 +3,8 @@ use Rattle.std.proofs.Common.{◌≡◌, ◌<◌, ◌≤◌, ◌+◌, ℕ, inl, 
 use Rattle.std.specs.Prelude.{slice_get, slice_set}
 use Rattle.std.proofs.lemmas.Bool.{eq-eqb, ne_eqb, or_parts}
 use Rattle.flusher.proofs.Guests.{get_set_same}
-use Rattle.mmio_transport.specs.declared.queue.QueueKind.{QueueKind}
-use Rattle.mmio_transport.specs.declared.queue.QueueKind.TheVariants.{Split}
+use Rattle.guest_driver.specs.declared.kind.QueueKind.{QueueKind}
+use Rattle.guest_driver.specs.declared.kind.QueueKind.TheVariants.{Split}
 use Rattle.mmio_transport.specs.Device.{DeviceState}
 use Rattle.mmio_transport.specs.Job.{Job}
 use Rattle.mmio_transport.specs.Popping.{GivesFrom, is_stopped, live_queue}

@@ -10,8 +10,8 @@ use Rattle.rpmb_frame.specs.declared.config.GuestConfig.{GuestConfig}
 use Rattle.rpmb_frame.specs.Config.{IsBoard, IsGuest}
 use Rattle.rpmb_frame.specs.Layout.{layout}
 use Rattle.mmio_transport.specs.Device.{DeviceState, last_count, counted, first_state, after_write, after_reset as after_device_reset}
-use Rattle.mmio_transport.specs.declared.queue.QueueKind.{QueueKind}
-use Rattle.mmio_transport.specs.declared.queue.QueueKind.TheVariants as kinds
+use Rattle.guest_driver.specs.declared.kind.QueueKind.{QueueKind}
+use Rattle.guest_driver.specs.declared.kind.QueueKind.TheVariants as kinds
 use Rattle.guest_driver.specs.Kinds as by_kind
 use Rattle.guest_driver.proofs.ByKind.{room_held}
 use Rattle.guest_driver.specs.Layout.{needed}

@@ -11,7 +11,7 @@ use Rattle.mmio_transport.specs.declared.fault.DeviceFault.TheVariants.{NoMemory
 use Rattle.chains.specs.declared.fault.ChainFault.{ChainFault}
 use Rattle.chains.specs.declared.range.Range.{Range}
 use Rattle.chains.specs.Walk.{Found}
-use Rattle.mmio_transport.specs.declared.queue.QueueKind.{QueueKind}
+use Rattle.guest_driver.specs.declared.kind.QueueKind.{QueueKind}
 use Rattle.guest_driver.specs.Kinds.{writable_at, found_of}
 use Rattle.guest_driver.specs.Offered.{Offer}
 use Rattle.guest_driver.specs.Driver.{DriverState}

@@ -4,7 +4,7 @@ use Rattle.disk.specs.Disk.{DiskState}
 use Rattle.board.specs.State.{BoardState}
 use Rattle.mmio_transport.specs.Device.{DeviceState, last_count}
 use Rattle.mmio_transport.specs.Job.{Job}
-use Rattle.mmio_transport.specs.declared.queue.QueueKind.{QueueKind}
+use Rattle.guest_driver.specs.declared.kind.QueueKind.{QueueKind}
 use Rattle.guest_driver.specs.Kinds.{places_of, found_of}
 use Rattle.guest_driver.specs.Offered.{Offer}
 use Rattle.guest_driver.specs.Used.{Reply}
