@@ -1,4 +1,5 @@
 mod limits;
+mod packed;
 mod probe;
 mod queue;
 mod registers;

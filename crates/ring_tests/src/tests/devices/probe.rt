@@ -15,13 +15,20 @@ use mmio_transport::{Device, Kick, Published};
 use std::alloc::Global;
 use std::test::Fail;
 
-const VIRTIO_F_VERSION_1: u64 = 1 << 32;
+pub const VIRTIO_RING_F_INDIRECT_DESC: u64 = 1 << 28;
 
-const VIRTIO_RING_F_EVENT_IDX: u64 = 1 << 29;
+pub const VIRTIO_RING_F_EVENT_IDX: u64 = 1 << 29;
+
+pub const VIRTIO_F_VERSION_1: u64 = 1 << 32;
+
+pub const VIRTIO_F_RING_PACKED: u64 = 1 << 34;
+
+// What a kernel before 5.0 accepts, which has no packed rings.
+const ACCEPTED: u64 = VIRTIO_F_VERSION_1 | VIRTIO_RING_F_INDIRECT_DESC | VIRTIO_RING_F_EVENT_IDX;
 
 // virtio_mmio_probe: MagicValue, Version, DeviceID and VendorID, which it reads before it takes the
 // device.
-static FIND: [Step; 4] = [
+pub static FIND: [Step; 4] = [
     Step::Reads(MAGIC_VALUE, 0x7472_6976),
     Step::Reads(VERSION, 2),
     Step::Reads(DEVICE_ID, 28),
@@ -29,13 +36,13 @@ static FIND: [Step; 4] = [
 ];
 
 // virtio_add_status: a bit is added to what is read.
-fn add_status(device: &mut Device, bit: u32) {
+pub fn add_status(device: &mut Device, bit: u32) {
     let status = device.read(STATUS, 4);
     device.write(STATUS, 4, status | bit);
 }
 
 // vm_get_features: the upper half first.
-fn device_features(device: &mut Device) -> u64 {
+pub fn device_features(device: &mut Device) -> u64 {
     device.write(DEVICE_FEATURES_SEL, 4, 1);
     let high = device.read(DEVICE_FEATURES, 4) as u64;
     device.write(DEVICE_FEATURES_SEL, 4, 0);
@@ -43,7 +50,7 @@ fn device_features(device: &mut Device) -> u64 {
 }
 
 // vm_finalize_features, then virtio_features_ok: what was accepted is asked for again.
-fn accept(device: &mut Device, features: u64) -> bool {
+pub fn accept(device: &mut Device, features: u64) -> bool {
     device.write(DRIVER_FEATURES_SEL, 4, 1);
     device.write(DRIVER_FEATURES, 4, (features / 4_294_967_296) as u32);
     device.write(DRIVER_FEATURES_SEL, 4, 0);
@@ -52,8 +59,12 @@ fn accept(device: &mut Device, features: u64) -> bool {
     device.read(STATUS, 4) & 8 != 0
 }
 
+// The places of a queue, and where its driver and device areas stand.
+pub type Queue = (u32, u32, u32);
+
 // vm_setup_vq: 0 where the queue can't be had.
-fn set_up_queue(device: &mut Device, size: u32) -> u32 {
+pub fn set_up_queue(device: &mut Device, queue: Queue) -> u32 {
+    let (size, driver, of_device) = queue;
     device.write(QUEUE_SEL, 4, 0);
     if device.read(QUEUE_READY, 4) != 0 || device.read(QUEUE_NUM_MAX, 4) == 0 {
         return 0;
@@ -61,16 +72,18 @@ fn set_up_queue(device: &mut Device, size: u32) -> u32 {
     device.write(QUEUE_NUM, 4, size);
     device.write(QUEUE_DESC_LOW, 4, 0);
     device.write(QUEUE_DESC_HIGH, 4, 0);
-    device.write(QUEUE_DRIVER_LOW, 4, DRIVER_AREA);
+    device.write(QUEUE_DRIVER_LOW, 4, driver);
     device.write(QUEUE_DRIVER_HIGH, 4, 0);
-    device.write(QUEUE_DEVICE_LOW, 4, DEVICE_AREA);
+    device.write(QUEUE_DEVICE_LOW, 4, of_device);
     device.write(QUEUE_DEVICE_HIGH, 4, 0);
     device.write(QUEUE_READY, 4, 1);
     device.read(QUEUE_READY, 4)
 }
 
+const AREAS: Queue = (4, DRIVER_AREA, DEVICE_AREA);
+
 // register_virtio_device resets first; then virtio_dev_probe.
-fn begin(device: &mut Device) {
+pub fn begin(device: &mut Device) {
     device.write(STATUS, 4, 0);
     add_status(device, 1);
     add_status(device, 2);
@@ -117,20 +130,17 @@ fn negotiate_as_linux(device: &mut Device) -> Result<(), Fail> {
     begin(device);
     check(device.read(STATUS, 4) == 3, "acknowledged, with a driver")?;
     let features = device_features(device);
-    check(
-        features == VIRTIO_F_VERSION_1 | VIRTIO_RING_F_EVENT_IDX,
-        "features",
-    )?;
-    check(accept(device, features), "FEATURES_OK")?;
+    check(features == ACCEPTED | VIRTIO_F_RING_PACKED, "features")?;
+    check(accept(device, ACCEPTED), "FEATURES_OK")?;
     read_configuration(device)?;
-    check(set_up_queue(device, 4) == 1, "queue 0")?;
+    check(set_up_queue(device, AREAS) == 1, "queue 0")?;
     // virtio_device_ready.
     add_status(device, 4);
     check(device.read(STATUS, 4) == 15, "DRIVER_OK")
 }
 
 // vm_del_vq, vm_reset.
-fn remove(device: &mut Device) -> Result<(), Fail> {
+pub fn remove(device: &mut Device) -> Result<(), Fail> {
     device.write(QUEUE_SEL, 4, 0);
     device.write(QUEUE_READY, 4, 0);
     check(device.read(QUEUE_READY, 4) == 0, "the queue is gone")?;
@@ -153,18 +163,18 @@ fn go_as_linux(alloc: Global, device: &mut Device) -> Result<(), Fail> {
 fn wrong_features(wrong: u32) -> u64 {
     match wrong {
         0 => VIRTIO_RING_F_EVENT_IDX,
-        1 => VIRTIO_F_VERSION_1 | 1 << 34,
+        1 => VIRTIO_F_VERSION_1 | 1 << 33,
         2 => VIRTIO_F_VERSION_1 | 1,
         _ => VIRTIO_F_VERSION_1,
     }
 }
 
-fn wrong_size(wrong: u32) -> u32 {
+fn wrong_size(wrong: u32) -> Queue {
     match wrong {
-        4 => 512,
-        5 => 3,
-        6 => 0,
-        _ => 4,
+        4 => (512, DRIVER_AREA, DEVICE_AREA),
+        5 => (3, DRIVER_AREA, DEVICE_AREA),
+        6 => (0, DRIVER_AREA, DEVICE_AREA),
+        _ => AREAS,
     }
 }
 

@@ -16,7 +16,7 @@ static FRESH: [(u32, u8, u32); 35] = [
     (0x004, 4, 2),
     (0x008, 4, 28),
     (0x00c, 4, 0x5250_4d42),
-    (0x010, 4, 0x2000_0000),
+    (0x010, 4, 0x3000_0000),
     (0x034, 4, 256),
     (0x044, 4, 0),
     (0x060, 4, 0),
@@ -90,18 +90,20 @@ static STATUS_RULES: [(&[(u32, u32)], u32); 13] = [
     (&[HIGH, VERSION, (STATUS, 12), (STATUS, 256)], 12),
     (&[HIGH, VERSION, (STATUS, 11), (STATUS, 4)], 15),
     // A feature that isn't offered, in either half.
-    (&[HIGH, (DRIVER_FEATURES, 5), (STATUS, 8), (STATUS, 256)], 0),
+    (&[HIGH, (DRIVER_FEATURES, 3), (STATUS, 8), (STATUS, 256)], 0),
     (
         &[
+            HIGH,
+            VERSION,
             LOW,
-            (DRIVER_FEATURES, 0x1000_0000),
+            (DRIVER_FEATURES, 0x4000_0000),
             (STATUS, 8),
             (STATUS, 256),
         ],
         0,
     ),
     // A write takes its half's place until the features stand.
-    (&[HIGH, (DRIVER_FEATURES, 5), VERSION, (STATUS, 8)], 8),
+    (&[HIGH, (DRIVER_FEATURES, 3), VERSION, (STATUS, 8)], 8),
     // A selector above 1 takes nothing.
     (
         &[
@@ -179,9 +181,9 @@ static STEPS: [&[Step]; 3] = [
     // Features by selector.
     &[
         Step::Writes(&[(DEVICE_FEATURES_SEL, 0)]),
-        Step::Reads(DEVICE_FEATURES, 0x2000_0000),
+        Step::Reads(DEVICE_FEATURES, 0x3000_0000),
         Step::Writes(&[(DEVICE_FEATURES_SEL, 1)]),
-        Step::Reads(DEVICE_FEATURES, 1),
+        Step::Reads(DEVICE_FEATURES, 5),
         Step::Writes(&[(DEVICE_FEATURES_SEL, 2)]),
         Step::Reads(DEVICE_FEATURES, 0),
         Step::Writes(&[(DEVICE_FEATURES_SEL, 0xffff_ffff)]),
