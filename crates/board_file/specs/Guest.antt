@@ -1,22 +1,12 @@
 -- The table of one guest.
-use Rattle.std.specs.Prelude.{◌≡◌, ℕ, ◌&&◌, not, Bool, true, false, List, [], ◌∷◌, codes, Some, None}
+use Rattle.std.specs.Prelude.{◌≡◌, ℕ, true, false, List, [], ◌∷◌, codes, Some, None}
 use Rattle.toml.specs.Data.{Data, Members, as_table, get_member}
 use Rattle.rpmb_frame.specs.declared.config.GuestConfig.{GuestConfig}
-use Rattle.rpmb_frame.specs.declared.config.RingKind.{RingKind}
-use Rattle.rpmb_frame.specs.declared.config.RingKind.TheVariants.{Split, Packed}
 use Rattle.board_file.specs.Keys.{has_only, ring_kind, truth_value, whole_number}
 
 abbrev pub guest_keys : List (List ℕ)
 guest_keys = codes "capacity" ∷ codes "max_wr_cnt" ∷ codes "max_rd_cnt" ∷ codes "memory"
     ∷ codes "queue" ∷ codes "ring" ∷ codes "indirect" ∷ codes "event_idx" ∷ []
-
-abbrev pub is_split : RingKind → Bool
-is_split Split = true
-is_split Packed = false
-
--- packed rings and tables of descriptors have names in the file, but are not served yet
-abbrev pub is_served : GuestConfig → Bool
-is_served g = is_split g.ring && not g.indirect
 
 -- the table gives this configuration, a default standing in for a missing key; the ranges are aside
 pub record IsGuestTable (t : Members) (g : GuestConfig) : Type 0 where
@@ -29,7 +19,6 @@ pub record IsGuestTable (t : Members) (g : GuestConfig) : Type 0 where
   pub ring : ring_kind (get_member (codes "ring") t) ≡ Some g.ring
   pub indirect : truth_value false (get_member (codes "indirect") t) ≡ Some g.indirect
   pub event_idx : truth_value true (get_member (codes "event_idx") t) ≡ Some g.event_idx
-  pub served : is_served g ≡ true
 
 -- the value is such a table
 abbrev pub IsGuestValue : Data → GuestConfig → Type 0

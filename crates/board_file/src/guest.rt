@@ -3,10 +3,10 @@ ghost use Rattle.std.specs.Prelude.{◌≡◌, IfNone, IfSome};
 ghost use Rattle.toml.specs.View.{table_view, view};
 ghost use Rattle.rpmb_frame.specs.Config.{IsGuest};
 ghost use Rattle.rpmb_frame.specs.declared.config.GuestConfig.{GuestConfig};
-ghost use Rattle.board_file.specs.Guest.{IsGuestTable, IsGuestValue, is_served};
+ghost use Rattle.board_file.specs.Guest.{IsGuestTable, IsGuestValue};
 
 use crate::keys::{has_only, medium_number, ring_kind, small_number, truth_value, whole_number};
-use rpmb_frame::{GuestConfig, RingKind};
+use rpmb_frame::GuestConfig;
 use toml::{Table, Value};
 
 const GUEST_KEYS: [&str; 8] = [
@@ -20,13 +20,6 @@ const GUEST_KEYS: [&str; 8] = [
     "event_idx",
 ];
 
-/// Whether the guest asks only for what is served: a split ring, without tables of descriptors.
-fn is_served(guest: &GuestConfig) -> bool
-    ensures { result ≡ is_served guest.now }
-{
-    matches!(guest.ring, RingKind::Split) && !guest.indirect
-}
-
 /// The guest that the table gives, in its ranges or not; None where a number is too large for its
 /// field.
 fn read_guest(table: &Table) -> Option<GuestConfig>
@@ -37,7 +30,7 @@ fn read_guest(table: &Table) -> Option<GuestConfig>
     if !has_only(table, GUEST_KEYS.as_slice()) {
         return None;
     }
-    let guest = GuestConfig {
+    Some(GuestConfig {
         capacity: small_number(table, "capacity", None)?,
         max_wr_cnt: small_number(table, "max_wr_cnt", Some(16))?,
         max_rd_cnt: small_number(table, "max_rd_cnt", Some(16))?,
@@ -46,11 +39,7 @@ fn read_guest(table: &Table) -> Option<GuestConfig>
         ring: ring_kind(table, "ring")?,
         indirect: truth_value(table, "indirect", false)?,
         event_idx: truth_value(table, "event_idx", true)?,
-    };
-    if !is_served(&guest) {
-        return None;
-    }
-    Some(guest)
+    })
 }
 
 /// The same of a value, which has to be a table.

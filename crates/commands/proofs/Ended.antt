@@ -56,7 +56,7 @@ all_run_ends board script old new (Err f) good of = run_ends board script old ne
 -- what the lines printed is what the script printed
 of_script : (board : List GuestConfig) (script : List ℕ) (read : List Line) (old new : DiskState) (f : Fault) (start now : Option (List ℕ)) → map (λ line. Some (said line)) read ≡ map (line_of (length board)) (lines_of script)
     → AreWithin (length board) read → LinesPrint board read old new f start now → PrintsFront board script old new f start now
-of_script board script read old new f start now is within prints = front_of_script board script read old new f start now is (λ split. prints split within)
+of_script board script read old new f start now is within prints = front_of_script board script read old new f start now is (prints within)
 
 run_prints : (board : List GuestConfig) (script : List ℕ) (read : List Line) (old new : DiskState) (f : Fault) (start now : Option (List ℕ)) → map (λ line. Some (said line)) read ≡ map (line_of (length board)) (lines_of script)
     → AreWithin (length board) read → OpenedEnds (capacities_of board) old new f → OpenedPrints board read old new f start now → RunPrints board script old new f start now

@@ -36,7 +36,7 @@ use Rattle.commands.specs.Fault.{fault_of_image}
 use Rattle.commands.specs.Image.{Fails, Finishes, IsLastOf, IsOpened, Ran, Tells}
 use Rattle.commands.specs.Moments.{MovesTo}
 use Rattle.commands.specs.Running.{AreGuests, AreWithin, IsAt}
-use Rattle.commands.specs.Transcript.{AreSplit, StoresNothing, Told, first_cores, first_told, partitions_after, told_after}
+use Rattle.commands.specs.Transcript.{StoresNothing, Told, first_cores, first_told, partitions_after, told_after}
 use Rattle.commands.specs.declared.fault.Fault.{Fault}
 use Rattle.commands.specs.declared.fault.Fault.TheVariants as fault
 use Rattle.commands.proofs.Stopped.{all_on, first_on}
@@ -75,7 +75,7 @@ opened_host {D = D} shows makes board disk b h life begins stand whole_image unt
         subst (λ q. StandsFor (region_at (capacities_of board) g) (slot_region (region_at (capacities_of board) g) A) (shows disk).seen (part_of q)) x.2 (stand known g x.0 (ap (λ v. slice_get (guests v) g) begins.is ∙ x.1)));
   };
   cores = cores;
-  ready = λ split. record { cores = cores; ready = first.ready split };
+  ready = record { cores = cores; ready = first.ready };
   answered = ap (λ r. r.answered) first.runner ∙ ap (λ v. (runner_of v).answered) begins.is;
   linked = links (bases_of begins.partitions) (λ g. []) (record { parts = _; linked = begins.linked });
   whole = ap (λ s. s.broken) first.store ∙ ap (λ v. v.store.broken) begins.is ∙ begins.whole;
@@ -172,8 +172,8 @@ found_core (x ∷ gs) (suc g) p at = found_core gs g p at
 pub ran_all : {D : Type 0} (shows : D → DiskState) (makes : D → DiskCall → D → Type 0) (board : List GuestConfig) (disk d : D) (h0 h : HostState D) (lines : List Said) (start now next : Option (List ℕ))
     → IsOpened shows makes board disk h0 → Moves shows makes h0.board h.board
     → (is_broken h.board ≡ false → (t : Told) → IsAt 0 t (seen h0) → StoresNothing lines → Tells t lines start now (seen h))
-    → Keeps now next → IsLastOf shows makes h.board d → AreSplit board → StoresNothing lines → Ran board (shows disk) (shows d) lines start next
-ran_all {D = D} shows makes board disk d h0 h lines start now next opened moves tells kept last split clean = record {
+    → Keeps now next → IsLastOf shows makes h.board d → StoresNothing lines → Ran board (shows disk) (shows d) lines start next
+ran_all {D = D} shows makes board disk d h0 h lines start now next opened moves tells kept last clean = record {
   partitions = opened.partitions;
   of_image = opened.of_image;
   printed = Appends-kept start now next _ told.printed kept;
@@ -188,7 +188,7 @@ ran_all {D = D} shows makes board disk d h0 h lines start now next opened moves 
 }
   where
     told : Tells (first_told board opened.partitions) lines start now (seen h)
-    told = tells last.whole (first_told board opened.partitions) (opened.ready split) clean
+    told = tells last.whole (first_told board opened.partitions) opened.ready clean
 
     cores : map (λ (g : GuestState). g.core) (guests last.last) ≡ (seen h).runner.cores
     cores = ap (λ r. r.cores) last.runner
@@ -200,8 +200,8 @@ ran_all {D = D} shows makes board disk d h0 h lines start now next opened moves 
 pub ran_well : {D : Type 0} (shows : D → DiskState) (makes : D → DiskCall → D → Type 0) (board : List GuestConfig) (disk d : D) (h0 h : HostState D) (lines : List Said) (start now next : Option (List ℕ)) (r : Result (Unit {0}) Fault)
     → IsOpened shows makes board disk h0 → Moves shows makes h0.board h.board
     → (is_broken h.board ≡ false → (t : Told) → IsAt 0 t (seen h0) → StoresNothing lines → Tells t lines start now (seen h))
-    → Keeps now next → Finishes shows makes h r d → OnOk r (AreSplit board → StoresNothing lines → Ran board (shows disk) (shows d) lines start next)
-ran_well shows makes board disk d h0 h lines start now next (Ok x) opened moves tells kept last = λ split clean. ran_all shows makes board disk d h0 h lines start now next opened moves tells kept last split clean
+    → Keeps now next → Finishes shows makes h r d → OnOk r (StoresNothing lines → Ran board (shows disk) (shows d) lines start next)
+ran_well shows makes board disk d h0 h lines start now next (Ok x) opened moves tells kept last = λ clean. ran_all shows makes board disk d h0 h lines start now next opened moves tells kept last clean
 ran_well shows makes board disk d h0 h lines start now next (Err f) opened moves tells kept last = tt
 
 -- 4. A run that a fault ended
@@ -269,16 +269,16 @@ line_printed board read old new fault.FileFault start now of prints = prints
 -- standard output took no more
 pub unwritten : {D : Type 0} (shows : D → DiskState) (makes : D → DiskCall → D → Type 0) (board : List GuestConfig) (read : List Line) (disk d : D) (h0 : HostState D) (start now : Option (List ℕ))
     → IsOpened shows makes board disk h0 → OpenedPrints board read (shows disk) (shows d) fault.FileFault start now
-unwritten shows makes board read disk d h0 start now opened = λ split within clean. record { partitions = opened.partitions; of_image = opened.of_image; failed = None; has_failed = tt; prints = tt }
+unwritten shows makes board read disk d h0 start now opened = λ within clean. record { partitions = opened.partitions; of_image = opened.of_image; failed = None; has_failed = tt; prints = tt }
 
 pub stopped_at : {D : Type 0} (shows : D → DiskState) (makes : D → DiskCall → D → Type 0) (board : List GuestConfig) (read : List Line) (disk d : D) (h0 h : HostState D) (f : Fault) (start now next : Option (List ℕ))
     → IsOpened shows makes board disk h0 → Moves shows makes h0.board h.board → h.board.store.broken ≡ is_broken h.board → d ≡ h.board.store.disk → IsOfRunning f
     → ((guests : ℕ) → (t : Told) → IsAt 0 t (seen h0) → AreGuests guests t → AreWithin guests read → StoresNothing (map said read) → WroteFirst f (is_broken h.board) t (map said read) start now)
     → Keeps now next → OpenedPrints board read (shows disk) (shows d) f start next
-stopped_at shows makes board read disk d h0 h f start now next opened moves known is of stops kept = line_printed board read (shows disk) (shows d) f start next of (λ split within clean.
+stopped_at shows makes board read disk d h0 h f start now next opened moves known is of stops kept = line_printed board read (shows disk) (shows d) f start next of (λ within clean.
     let told = first_told board opened.partitions in
     let are : AreGuests (length board) told = record { cores = as_many_cores board opened.partitions opened.of_image.count; sessions = length-replicate (length board) 1 } in
-    first_on board opened.partitions (shows disk) (shows d) (is_broken h.board) f (map said read) start now next opened.of_image rises (stops (length board) told (opened.ready split) are within clean) kept)
+    first_on board opened.partitions (shows disk) (shows d) (is_broken h.board) f (map said read) start now next opened.of_image rises (stops (length board) told opened.ready are within clean) kept)
   where
     rises : is_broken h.board ≡ true → HasRisen (shows disk).failures (shows d).failures
     rises broke = subst (λ e. HasRisen (shows disk).failures (shows e).failures) (sym is) (risen shows makes board disk h0 h opened moves (known ∙ broke))
@@ -290,6 +290,6 @@ pub finished_at : {D : Type 0} (shows : D → DiskState) (makes : D → DiskCall
     → Keeps now next → Finishes shows makes h r d → IfErr r (λ f. OpenedPrints board read (shows disk) (shows d) f start next)
 finished_at shows makes board read disk d h0 h (Ok x) start now next opened moves wrote kept ended = tt
 finished_at shows makes board read disk d h0 h (Err f) start now next opened moves wrote kept ended =
-    subst (λ e. OpenedPrints board read (shows disk) (shows d) e start next) (sym ended.0) (inr (λ split clean.
+    subst (λ e. OpenedPrints board read (shows disk) (shows d) e start next) (sym ended.0) (inr (λ clean.
     all_on board opened.partitions (shows disk) (shows d) (is_broken h.board) (map said read) start now next (seen h) opened.of_image
-    (λ broke. end_risen shows makes board disk d h0 h opened moves ended.1) (wrote (first_told board opened.partitions) (opened.ready split) clean) kept))
+    (λ broke. end_risen shows makes board disk d h0 h opened moves ended.1) (wrote (first_told board opened.partitions) opened.ready clean) kept))

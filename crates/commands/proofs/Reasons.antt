@@ -8,8 +8,7 @@ use Rattle.rpmb_frame.specs.Layout.{layout}
 use Rattle.rpmb_frame.specs.declared.config.GuestConfig.{GuestConfig}
 use Rattle.rpmb_frame.specs.declared.config.RingKind.{RingKind}
 use Rattle.rpmb_frame.specs.declared.config.RingKind.TheVariants.{Split}
-use Rattle.guest_driver.specs.declared.kind.QueueKind.{QueueKind}
-use Rattle.guest_driver.specs.declared.kind.QueueKind.TheVariants.{Split as SplitQueue}
+use Rattle.guest_driver.specs.declared.form.Form.{Form}
 use Rattle.guest_driver.specs.Driver.{HasTooFew, owner}
 use Rattle.guest_driver.specs.Kinds.{needed}
 use Rattle.script.specs.Line.{IsWithin, chain, store, reset}
@@ -25,37 +24,30 @@ use Rattle.script.specs.Line.{Said}
 use Rattle.commands.specs.Ending.{IsOfRunning, IsOfWriting}
 use Rattle.commands.specs.Fault.{fault_of}
 use Rattle.commands.specs.Reasons.{IsHostOf, IsOutside, LineEnds}
-use Rattle.commands.specs.Transcript.{AreSplit}
 use Rattle.commands.specs.declared.fault.Fault.{Fault}
 use Rattle.commands.specs.declared.fault.Fault.TheVariants as fault
 use Rattle.commands.proofs.Lines.{there_is}
 
--- two descriptors that are free are enough
-enough : (owners : List (Option ℕ)) (two : Bool) → 2 ≤ length owners → ((d : ℕ) → owner owners d ≡ None) → HasTooFew owners two → ⊥
-enough owners false many free few = few 0 (omega arith) (omega (arith, many)) (free 0)
-enough owners true many free few = few 0 (omega (arith, many)) (free 0) 1 (omega arith) (omega (arith, many)) (free 1)
-
--- a driver of a split ring has room for its areas
-roomy : (g : GuestConfig) (kind : QueueKind) (size bytes : ℕ) → IsGuest g → g.ring ≡ Split → kind ≡ SplitQueue → size ≡ g.queue → bytes ≡ g.memory → bytes < needed kind size → ⊥
-roomy g kind size bytes guest split is sized whole small =
-    let holds = subst (λ (k : RingKind). (layout k g.queue).length ≤ g.memory) split guest.holds_layout in
-    let less : g.memory < needed SplitQueue g.queue = subst (λ b. b < needed SplitQueue g.queue) whole (subst (λ q. bytes < needed SplitQueue q) sized (subst (λ k. bytes < needed k size) is small)) in
+-- a driver has room for its areas
+roomy : (g : GuestConfig) (form : Form) (size bytes : ℕ) → IsGuest g → form ≡ form_of g → size ≡ g.queue → bytes ≡ g.memory → bytes < needed form.kind size → ⊥
+roomy g form size bytes guest is sized whole small =
+    let holds = guest.holds_layout in
+    let less : g.memory < needed g.ring g.queue = subst (λ b. b < needed g.ring g.queue) whole (subst (λ q. bytes < needed g.ring q) sized (subst (λ (f : Form). bytes < needed f.kind size) is small)) in
     omega (arith, holds, less)
 
 -- a chain of one of the board's guests, which wasn't stuck
-chain_reason : (board : List GuestConfig) (f : HostFault) (g g' : GuestView) (r r' : RunnerView) (guest : ℕ) (readable : List ℕ) (writable : ℕ) → IsGuest g.device.config → (AreSplit board → g.device.config.ring ≡ Split)
-    → IsGuestOf board guest g → ((d : ℕ) → owner g.driver.owners d ≡ None) → ChainReason g r readable writable (Err f) g' r' → LineEnds board (fault_of f) (chain guest readable writable)
-chain_reason board host.OutOfRange g g' r r' guest readable writable ok split own free reason =
-    λ all. absurd (roomy g.device.config g.driver.kind g.driver.size (length g.device.memory) ok (split all) own.kind own.size own.memory reason.0)
-chain_reason board host.NoMemory g g' r r' guest readable writable ok split own free reason = tt
-chain_reason board host.Busy g g' r r' guest readable writable ok split own free reason = absurd reason
-chain_reason board host.HistoryFull g g' r r' guest readable writable ok split own free reason = tt
-chain_reason board host.NoRoom g g' r r' guest readable writable ok split own free reason =
+chain_reason : (board : List GuestConfig) (f : HostFault) (g g' : GuestView) (r r' : RunnerView) (guest : ℕ) (readable : List ℕ) (writable : ℕ) → IsGuest g.device.config
+    → IsGuestOf board guest g → IsAtRest g.driver → ChainReason g r readable writable (Err f) g' r' → LineEnds board (fault_of f) (chain guest readable writable)
+chain_reason board host.OutOfRange g g' r r' guest readable writable ok own rest reason =
+    absurd (roomy g.device.config g.driver.form g.driver.size (length g.device.memory) ok own.form own.size own.memory reason.0)
+chain_reason board host.NoMemory g g' r r' guest readable writable ok own rest reason = tt
+chain_reason board host.Busy g g' r r' guest readable writable ok own rest reason = absurd reason
+chain_reason board host.HistoryFull g g' r r' guest readable writable ok own rest reason = tt
+chain_reason board host.NoRoom g g' r r' guest readable writable ok own rest reason =
     let many = ok.queue.0 in
-    let owners = own.owners in
     let size = own.size in
-    absurd (enough g.driver.owners _ (omega (arith, many, owners, size)) free reason.0)
-chain_reason board host.Foreign g g' r r' guest readable writable ok split own free reason = absurd reason
+    absurd (enough g.driver readable writable (omega (arith, many, size)) own.owners rest reason.0)
+chain_reason board host.Foreign g g' r r' guest readable writable ok own rest reason = absurd reason
 
 -- what holds of each guest of a board
 guest_of : (board : List GuestConfig) (number : ℕ) (c : GuestConfig) (P : GuestConfig → Type 0) → All P board → slice_get board number ≡ Some c → P c
@@ -74,18 +66,17 @@ chain_stops was now board h h' guest readable writable f explains chains is with
     (subst (λ o. ReasonAt o (slice_get h'.guests guest) h.runner readable writable (Err f) h'.runner) g.1 e.reason)
     c.after c.stuck
   where
-    by : (g : GuestView) (after : Option GuestView) (why : Option Stuck) → g.stuck ≡ why → IsGuestOf board guest g → (g.stuck ≡ None → (d : ℕ) → owner g.driver.owners d ≡ None)
+    by : (g : GuestView) (after : Option GuestView) (why : Option Stuck) → g.stuck ≡ why → IsGuestOf board guest g → (g.stuck ≡ None → IsAtRest g.driver)
         → ReasonAt (Some g) after h.runner readable writable (Err f) h'.runner → (x : GuestView) → StuckBy was now g.stuck g (Err f) x h h' → LineEnds board (fault_of f) (chain guest readable writable)
     by g after (Some why) same own clear reason x stuck = (let told = (subst (λ s. StuckBy was now s g (Err f) x h h') same stuck).0 in absurd (cc))
     by g None None same own clear reason x stuck = absurd reason
     by g (Some g') None same own clear reason x stuck =
-        chain_reason board f g g' h.runner h'.runner guest readable writable (guest_of board guest g.device.config IsGuest is.in_range.each own.config) (λ all. guest_of board guest g.device.config (λ c. c.ring ≡ Split) all own.config)
-        own (clear same) (reason.0 same)
+        chain_reason board f g g' h.runner h'.runner guest readable writable (guest_of board guest g.device.config IsGuest is.in_range.each own.config) own (clear same) (reason.0 same)
 
 -- a store of one of the board's guests
 store_reason : (board : List GuestConfig) (f : HostFault) (g g' : GuestView) (guest at : ℕ) (bytes : List ℕ) → IsGuestOf board guest g → StoresInto g at bytes (Err f) g' → LineEnds board (fault_of f) (store guest at bytes)
 store_reason board f g g' guest at bytes own stores =
-    subst (λ e. LineEnds board (fault_of e) (store guest at bytes)) (sym stores.0) (λ split. subst (λ o. IsOutside o at (length bytes)) (sym own.config) (subst (λ n. n < at + length bytes) own.memory (past (length g.device.memory) (at + length bytes) stores.1)))
+    subst (λ e. LineEnds board (fault_of e) (store guest at bytes)) (sym stores.0) (subst (λ o. IsOutside o at (length bytes)) (sym own.config) (subst (λ n. n < at + length bytes) own.memory (past (length g.device.memory) (at + length bytes) stores.1)))
   where
     past : (whole end : ℕ) → ¬ (end ≤ whole) → whole < end
     past whole end within = by (nat_lt whole end) refl

@@ -19,7 +19,7 @@ use Rattle.commands.specs.Ending.{KeepsUnless, PrintsAllOn, PrintsFirst, PrintsF
 use Rattle.commands.specs.Failing.{HasFailed, IsChainAt, IsFailedIn, WroteAll, text_when, told_broken, told_since, told_until, told_when}
 use Rattle.commands.specs.Image.{AreOf}
 use Rattle.commands.specs.Running.{AreGuests, Fails, MayFail}
-use Rattle.commands.specs.Transcript.{AreSplit, StoresNothing, Told, first_told, told_by}
+use Rattle.commands.specs.Transcript.{StoresNothing, Told, first_told, told_by}
 use Rattle.commands.specs.declared.fault.Fault.{Fault}
 use Rattle.commands.specs.declared.fault.Fault.TheVariants as fault
 use Rattle.commands.proofs.Printing.{guests_after, refused, same_cores, says_same, still, still_guests}
@@ -151,11 +151,11 @@ first_on board partitions old new broke f lines start now next of rises wrote ke
 
 -- what the lines that were read printed is what the script printed
 pub whole_of_script : (board : List GuestConfig) (script : List ℕ) (read : List Line) (old new : DiskState) (start now : Option (List ℕ)) → map (λ line. Some (said line)) read ≡ map (line_of (length board)) (lines_of script)
-    → (AreSplit board → StoresNothing (map said read) → PrintsAllOn board old new (map said read) start now) → PrintsWhole board script old new start now
+    → (StoresNothing (map said read) → PrintsAllOn board old new (map said read) start now) → PrintsWhole board script old new start now
 whole_of_script board script read old new start now is prints = λ lines says.
-    subst (λ ls. AreSplit board → StoresNothing ls → PrintsAllOn board old new ls start now) (sym (says_same lines read _ says is)) prints
+    subst (λ ls. StoresNothing ls → PrintsAllOn board old new ls start now) (sym (says_same lines read _ says is)) prints
 
 pub front_of_script : (board : List GuestConfig) (script : List ℕ) (read : List Line) (old new : DiskState) (f : Fault) (start now : Option (List ℕ)) → map (λ line. Some (said line)) read ≡ map (line_of (length board)) (lines_of script)
-    → (AreSplit board → StoresNothing (map said read) → PrintsFirstOn board old new f (map said read) start now) → PrintsFront board script old new f start now
+    → (StoresNothing (map said read) → PrintsFirstOn board old new f (map said read) start now) → PrintsFront board script old new f start now
 front_of_script board script read old new f start now is prints = λ lines says.
-    subst (λ ls. AreSplit board → StoresNothing ls → PrintsFirstOn board old new f ls start now) (sym (says_same lines read _ says is)) prints
+    subst (λ ls. StoresNothing ls → PrintsFirstOn board old new f ls start now) (sym (says_same lines read _ says is)) prints

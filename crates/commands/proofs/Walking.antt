@@ -33,7 +33,7 @@ use Rattle.commands.specs.Image.{Finishes, IsOpened}
 use Rattle.commands.specs.Moments.{AnyMoment, Begun, IsTold, Leads, LinesCome, MayEnd, Moment, MovesTo, PrintsLine, Starts, Walked, Went, moment_of}
 use Rattle.commands.specs.Reasons.{NextEnds}
 use Rattle.commands.specs.Running.{AreWithin}
-use Rattle.commands.specs.Transcript.{AreSplit, StoresNothing, first_told}
+use Rattle.commands.specs.Transcript.{StoresNothing, first_told}
 use Rattle.commands.specs.declared.fault.Fault.{Fault}
 use Rattle.commands.specs.declared.fault.Fault.TheVariants as fault
 use Rattle.commands.proofs.Opened.{found_core}
@@ -89,7 +89,7 @@ told_at shows board partitions accepted h all done rest start now known linked p
 -- Before the first line.
 pub walk_begins : {D : Type 0} (shows : D → DiskState) (makes : D → DiskCall → D → Type 0) (board : List GuestConfig) (partitions : List Partition) (h : HostState D) (all : List Said) (start : Option (List ℕ))
     → Starts shows board partitions h.board (seen h)
-    → (AreSplit board → StoresNothing all → Stood (is_broken h.board) start start (first_told board partitions) (seen h) all all)
+    → (StoresNothing all → Stood (is_broken h.board) start start (first_told board partitions) (seen h) all all)
     → Walked shows makes board partitions all start (moment_of (λ g. []) h.board start) all h.board start
 walk_begins shows makes board partitions h all start starts stood = record {
   accepted = λ g. [];
@@ -98,7 +98,7 @@ walk_begins shows makes board partitions h all start starts stood = record {
   parts = refl;
   trail = Begun (record {
     kept = all_kept shows board (bases_of partitions) (λ g. []) h.board starts.calm starts.linked;
-    told = λ split clean. told_at shows board partitions (λ g. []) h all [] all start start starts.calm.broken starts.linked refl (stood split clean);
+    told = λ clean. told_at shows board partitions (λ g. []) h all [] all start start starts.calm.broken starts.linked refl (stood clean);
   });
 }
 
@@ -106,7 +106,7 @@ walk_begins shows makes board partitions h all start starts stood = record {
 pub walk_on : {D : Type 0} (shows : D → DiskState) (makes : D → DiskCall → D → Type 0) (board : List GuestConfig) (partitions : List Partition) (all : List Said) (start : Option (List ℕ)) (first : Moment D) (line : Said) (rest : List Said)
     (b : BoardState D) (h : HostState D) (now next : Option (List ℕ))
     → Walked shows makes board partitions all start first (line ∷ rest) b now → Moves shows makes b h.board → IsCalm shows h.board → PrintsLine line now next
-    → (AreSplit board → StoresNothing all → Stood (is_broken h.board) start next (first_told board partitions) (seen h) all rest)
+    → (StoresNothing all → Stood (is_broken h.board) start next (first_told board partitions) (seen h) all rest)
     → Walked shows makes board partitions all start first rest h.board next
 walk_on shows makes board partitions all start first line rest b h now next walked moves calm prints stood =
     let l = leads_by shows makes board partitions walked.accepted b h.board now next walked.linked moves in
@@ -118,7 +118,7 @@ walk_on shows makes board partitions all start first line rest b h now next walk
       parts = parts;
       trail = Went walked.done line (moment_of walked.accepted b now) (moment_of l.0 h.board next) walked.trail l.1 prints (record {
         kept = all_kept shows board (bases_of partitions) l.0 h.board calm l.2;
-        told = λ split clean. told_at shows board partitions l.0 h all (walked.done ++ line ∷ []) rest start next calm.broken l.2 parts (stood split clean);
+        told = λ clean. told_at shows board partitions l.0 h all (walked.done ++ line ∷ []) rest start next calm.broken l.2 parts (stood clean);
       });
     }
 

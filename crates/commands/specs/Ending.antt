@@ -17,7 +17,7 @@ use Rattle.script.specs.declared.line.Line.{Line}
 use Rattle.rpmb_frame.specs.Partition.{Partition}
 use Rattle.commands.specs.Image.{AreOf}
 use Rattle.commands.specs.Running.{AreWithin, IsChain, answered_in}
-use Rattle.commands.specs.Transcript.{AreSplit, IsBadAt, Says, StoresNothing, Told, first_told}
+use Rattle.commands.specs.Transcript.{IsBadAt, Says, StoresNothing, Told, first_told}
 use Rattle.commands.specs.Serving.{ServeEnds, ServePrints}
 use Rattle.commands.specs.Failing.{HasFailed, IsChainAt, text_when}
 
@@ -207,12 +207,12 @@ pub record PrintsFirstOn (board : List GuestConfig) (old new : DiskState) (f : F
 
 -- What a script has printed where each of its lines came to its end, whether a call of the disk failed or not: all of it.
 abbrev pub PrintsWhole : List GuestConfig → List ℕ → DiskState → DiskState → Option (List ℕ) → Option (List ℕ) → Type 0
-PrintsWhole board script old new start now = (lines : List Said) → Says board script lines → AreSplit board → StoresNothing lines
+PrintsWhole board script old new start now = (lines : List Said) → Says board script lines → StoresNothing lines
     → PrintsAllOn board old new lines start now
 
 -- And where one of them ended the run: a front of the same text.
 abbrev pub PrintsFront : List GuestConfig → List ℕ → DiskState → DiskState → Fault → Option (List ℕ) → Option (List ℕ) → Type 0
-PrintsFront board script old new f start now = (lines : List Said) → Says board script lines → AreSplit board → StoresNothing lines
+PrintsFront board script old new f start now = (lines : List Said) → Says board script lines → StoresNothing lines
     → PrintsFirstOn board old new f lines start now
 
 -- 1. Of lines that were read
@@ -228,12 +228,12 @@ OpenedEnds capacities old new f = IsOfRunning f
 
 -- what their front prints that came before a fault
 abbrev pub LinesPrint : List GuestConfig → List Line → DiskState → DiskState → Fault → Option (List ℕ) → Option (List ℕ) → Type 0
-LinesPrint board read old new f start now = AreSplit board → AreWithin (length board) read → StoresNothing (map said read)
+LinesPrint board read old new f start now = AreWithin (length board) read → StoresNothing (map said read)
     → PrintsFirstOn board old new f (map said read) start now
 
 -- and what all of them print
 abbrev pub AllPrint : List GuestConfig → List Line → DiskState → DiskState → Option (List ℕ) → Option (List ℕ) → Type 0
-AllPrint board read old new start now = AreSplit board → StoresNothing (map said read) → PrintsAllOn board old new (map said read) start now
+AllPrint board read old new start now = StoresNothing (map said read) → PrintsAllOn board old new (map said read) start now
 
 -- and what it has printed
 abbrev pub OpenedPrints : List GuestConfig → List Line → DiskState → DiskState → Fault → Option (List ℕ) → Option (List ℕ) → Type 0

@@ -20,7 +20,7 @@ use Rattle.host.specs.Runner.{runner_of}
 use Rattle.commands.specs.Listing.{AreHeld}
 use Rattle.commands.specs.Reasons.{IsHostOf}
 use Rattle.commands.specs.Running.{IsAt}
-use Rattle.commands.specs.Transcript.{AreSplit, Told, first_cores, first_told, output_of, partitions_after, told_after, transcript}
+use Rattle.commands.specs.Transcript.{Told, first_cores, first_told, output_of, partitions_after, told_after, transcript}
 use Rattle.commands.specs.declared.fault.Fault.{Fault}
 use Rattle.commands.specs.declared.fault.Fault.TheVariants as fault
 
@@ -46,7 +46,7 @@ pub record IsOpened {D : Type 0} (shows : D → DiskState) (makes : D → DiskCa
   pub partitions : List Partition
   pub of_image : AreOf board (shows disk) partitions
   pub cores : (runner_of h.board).cores ≡ first_cores board partitions
-  pub ready : AreSplit board → IsAt 0 (first_told board partitions) (seen h)
+  pub ready : IsAt 0 (first_told board partitions) (seen h)
   pub answered : (runner_of h.board).answered ≡ 0
   pub linked : StaysLinked shows board (bases_of partitions) (λ g. []) h.board
   pub whole : h.board.store.broken ≡ false

@@ -23,7 +23,7 @@ use Rattle.commands.specs.Failing.{IsFailedIn, text_when, told_when}
 use Rattle.commands.specs.Image.{AreOf}
 use Rattle.commands.specs.Reasons.{IsHostOf, NextEnds}
 use Rattle.commands.specs.Running.{AreWithin, IsAt}
-use Rattle.commands.specs.Transcript.{AreSplit, Says, StoresNothing, first_told, stuck_line, used_line}
+use Rattle.commands.specs.Transcript.{Says, StoresNothing, first_told, stuck_line, used_line}
 use Rattle.commands.specs.declared.fault.Fault.{Fault}
 use Rattle.commands.specs.declared.fault.Fault.TheVariants as fault
 
@@ -78,7 +78,7 @@ pub record IsTold {D : Type 0} (board : List GuestConfig) (partitions : List Par
 -- of the script stores into guest memory, all is as the script says.
 pub record IsDone {D : Type 0} (board : List GuestConfig) (partitions : List Partition) (all : List Said) (start : Option (List ℕ)) (done : List Said) (m : Moment D) : Type 0 where
   pub kept : m.broken ≡ false → (g : ℕ) → g < length board → sequence (bases_of partitions g) + length (m.accepted g) ≤ m.kept g
-  pub told : AreSplit board → StoresNothing all → IsTold board partitions start done m
+  pub told : StoresNothing all → IsTold board partitions start done m
 
 -- The lines of a script that are done, one after another: each made its calls of the disk, and then it printed.
 pub data Trail {D : Type 0} (shows : D → DiskState) (makes : D → DiskCall → D → Type 0) (board : List GuestConfig) (partitions : List Partition) (all : List Said) (start : Option (List ℕ)) (first : Moment D)
@@ -148,7 +148,7 @@ pub record Starts {D : Type 0} (shows : D → DiskState) (board : List GuestConf
   pub calm : IsCalm shows b
   pub whole : b.store.broken ≡ false
   pub linked : StaysLinked shows board (bases_of partitions) (λ g. []) b
-  pub ready : AreSplit board → IsAt 0 (first_told board partitions) h
+  pub ready : IsAt 0 (first_told board partitions) h
   pub answered : h.runner.answered ≡ 0
   pub host : IsHostOf board h
 

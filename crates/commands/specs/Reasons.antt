@@ -6,7 +6,6 @@ use Rattle.script.specs.Line.{Said, nothing, chain, store, reset}
 use Rattle.host.specs.Host.{HostView}
 use Rattle.host.specs.Reasons.{AreClear, AreGuestsOf}
 use Rattle.commands.specs.Running.{IsChain}
-use Rattle.commands.specs.Transcript.{AreSplit}
 use Rattle.commands.specs.declared.fault.Fault.{Fault}
 use Rattle.commands.specs.declared.fault.Fault.TheVariants as fault
 
@@ -29,13 +28,13 @@ StoresOutside board (store guest at bytes) = IsOutside (slice_get board guest) a
 StoresOutside board (reset guest) = ⊥
 
 -- Which faults a line may come to: a chain, for want of memory or of room in the history, or since standard output took no
--- more; a store, since its bytes don't lie in the guest's memory. A guest of a split ring never has too little memory for
+-- more; a store, since its bytes don't lie in the guest's memory. A guest never has too little memory for
 -- its driver, and no queue too few descriptors.
 abbrev pub LineEnds : List GuestConfig → Fault → Said → Type 0
 LineEnds board fault.FileFault line = IsChain line
 LineEnds board fault.NoMemory line = IsChain line
 LineEnds board fault.HistoryFull line = IsChain line
-LineEnds board fault.OutOfRange line = AreSplit board → StoresOutside board line
+LineEnds board fault.OutOfRange line = StoresOutside board line
 LineEnds board f line = ⊥
 
 -- the next of the lines left is such a line

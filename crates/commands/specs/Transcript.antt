@@ -3,7 +3,6 @@ use Rattle.std.specs.Prelude.{ℕ, ◌≡◌, All, List, [], ◌∷◌, ◌++◌
 use Rattle.std.specs.Fmt.{decimal}
 use Rattle.hex.specs.Hex.{encode_lower}
 use Rattle.rpmb_frame.specs.declared.config.GuestConfig.{GuestConfig}
-use Rattle.rpmb_frame.specs.declared.config.RingKind.TheVariants.{Split}
 use Rattle.script.specs.Line.{Said, nothing, chain, store, reset, line_of}
 use Rattle.script.specs.Script.{first_bad, lines_of}
 use Rattle.rpmb_book.specs.Guest.{GuestCore}
@@ -76,9 +75,6 @@ StoresNothing (chain guest readable writable ∷ lines) = StoresNothing lines
 StoresNothing (store guest at bytes ∷ lines) = ⊥
 StoresNothing (reset guest ∷ lines) = StoresNothing lines
 
--- each guest has a split ring, which is all that a board file may ask for yet
-abbrev pub AreSplit : List GuestConfig → Type 0
-AreSplit board = All (λ g. g.ring ≡ Split) board
 
 -- the guests of a board on these partitions, of whom nothing was asked yet
 abbrev pub first_cores : List GuestConfig → List Partition → List GuestCore

@@ -11,7 +11,7 @@ ghost use Rattle.commands.specs.Image.{Ran};
 ghost use Rattle.commands.specs.Listing.{Lists, formatted_line};
 ghost use Rattle.commands.specs.Moments.{AnyMoment, FaultMoments};
 ghost use Rattle.commands.specs.Serving.{IsUnservedAt, ServeEnds, ServeLeaves, ServePrints, ServesAll};
-ghost use Rattle.commands.specs.Transcript.{AreSplit, IsBadAt, Says, StoresNothing};
+ghost use Rattle.commands.specs.Transcript.{IsBadAt, Says, StoresNothing};
 
 use crate::fault::Fault;
 use crate::formatting::make_image;
@@ -47,9 +47,9 @@ pub fn perform<R: AllocGlobal + Threads + Wait + Sync, D: Disk + Send + Drop, W:
     ensures back { ¬ IsServe command.entry → IsSome result.1 }
     ensures kept { result.0 ≡ 0 → IsSome result.1 }
     // A run that reached its end has printed the reply to each chain on the partitions of the image, and
-    // nothing else, where each guest has a split ring and no line stored into guest memory; and every stop
+    // nothing else, where no line stored into guest memory; and every stop
     // leaves the partitions after them.
-    ensures ran { IsRun command.entry → result.0 ≡ 0 → (lines : List Said) → Says board.now script.now lines → AreSplit board.now → StoresNothing lines
+    ensures ran { IsRun command.entry → result.0 ≡ 0 → (lines : List Said) → Says board.now script.now lines → StoresNothing lines
         → IfSome result.1 (λ d. Ran board.now (D.state disk) (D.state d) lines (W.contents out.old) (W.contents out.new)) }
     // At each moment of a run every stop leaves, for each guest, the partition after a prefix of what its lines
     // so far had accepted, with all that was accepted up to the last line that printed, until a call of the

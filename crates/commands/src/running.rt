@@ -17,7 +17,7 @@ ghost use Rattle.commands.specs.Image.{Finishes, IsOpened, Ran};
 ghost use Rattle.commands.specs.Moments.{AnyMoment, LinesCome, MovesTo, PrintsLine};
 ghost use Rattle.commands.specs.Reasons.{IsHostOf, LineEnds};
 ghost use Rattle.commands.specs.Running.{AreGuests, AreWithin, Fails, IsAt, IsSized};
-ghost use Rattle.commands.specs.Transcript.{AreSplit, IsBadAt, Says, StoresNothing, Told};
+ghost use Rattle.commands.specs.Transcript.{IsBadAt, Says, StoresNothing, Told};
 
 use crate::answering::{write_reply, write_stuck};
 use crate::fault::Fault;
@@ -175,7 +175,7 @@ fn run_on<D: Disk, W: Write>(
     requires sized { All (λ line. IsSized (said line)) lines.items }
     requires within { AreWithin (length board.now) lines.items }
     requires in_range { IsBoard board.now }
-    ensures ran { OnOk result.0 (AreSplit board.now → StoresNothing (map said lines.items)
+    ensures ran { OnOk result.0 (StoresNothing (map said lines.items)
         → Ran board.now (D.state disk) (D.state result.1) (map said lines.items) (W.contents out.old) (W.contents out.new)) }
     ensures ends { IfErr result.0 (OpenedEnds (capacities_of board.now) (D.state disk) (D.state result.1)) }
     ensures moments { AnyMoment D.state D.makes board.now (map said lines.items) disk (W.contents out.old) result.0 result.1 (W.contents out.new) }
@@ -204,7 +204,7 @@ pub fn run<D: Disk, W: Write>(
     disk: D,
     out: &mut W,
 ) -> (Result<(), Fault>, D)
-    ensures ran { OnOk result.0 ((lines : List Said) → Says board.now script.now lines → AreSplit board.now → StoresNothing lines
+    ensures ran { OnOk result.0 ((lines : List Said) → Says board.now script.now lines → StoresNothing lines
         → Ran board.now (D.state disk) (D.state result.1) lines (W.contents out.old) (W.contents out.new)) }
     ensures bad { (n : ℕ) → IsBadAt board.now script.now n
         → IsErr result.0 × Keeps (W.contents out.old) (W.contents out.new) × (result.1 ≡ disk) }

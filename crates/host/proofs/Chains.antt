@@ -9,7 +9,7 @@ use Rattle.mmio_transport.specs.Device.{DeviceState, last_count}
 use Rattle.mmio_transport.specs.Job.{Job, room_in}
 use Rattle.guest_driver.specs.declared.reaping.Reaped.{Reaped}
 use Rattle.guest_driver.specs.declared.fault.DriverFault.TheVariants.{BadUsed, OutOfRange}
-use Rattle.guest_driver.specs.declared.kind.QueueKind.{QueueKind}
+use Rattle.guest_driver.specs.declared.form.Form.{Form}
 use Rattle.guest_driver.specs.Access.{ButForMemory}
 use Rattle.guest_driver.specs.Used.{Reply}
 use Rattle.guest_driver.specs.Driver.{DriverState, Offering, offer_of}
@@ -62,14 +62,14 @@ room_of_ranges writable =
     both (writable == 0) refl
 
 -- the job that was popped is answered as that of the guest and the session
-alike : (d : DeviceState) (kind : QueueKind) (size number session : ℕ) (readable : List ℕ) (writable head last : ℕ) → d.guest ≡ number → d.session ≡ session
-    → IsAlike (popped_job d kind size (offer_of readable writable head last)) (job_of number session readable writable)
+alike : (d : DeviceState) (form : Form) (size number session : ℕ) (readable : List ℕ) (writable head last : ℕ) → d.guest ≡ number → d.session ≡ session
+    → IsAlike (popped_job d form size (offer_of readable writable head last)) (job_of number session readable writable)
 unfolding job_of
-alike d kind size number session readable writable head last named current = record {
+alike d form size number session readable writable head last named current = record {
   guest = named;
   session = current;
   request = refl;
-  room = room_of_chain number kind size (offer_of readable writable head last) ∙ sym (room_of_ranges writable);
+  room = room_of_chain number form size (offer_of readable writable head last) ∙ sym (room_of_ranges writable);
 }
 
 pub came_back : (was now : Bool) (d d1 d2 : DeviceState) (driver driver1 driver2 : DriverState) (r r2 : RunnerView) (readable : List ℕ) (writable head last number session steps places : ℕ) (stuck : Option Stuck) (reaped : Reaped)
@@ -80,15 +80,16 @@ pub came_back : (was now : Bool) (d d1 d2 : DeviceState) (driver driver1 driver2
 unfolding after_when
 came_back was now d d1 d2 driver driver1 driver2 r r2 readable writable head last number session steps places stuck reaped ready offering rest answered reaps =
     let c = offer_of readable writable head last in
-    let reply : Reply = record { offer = c; bytes = reply_when was now r.cores (popped_job d1 driver1.kind driver1.size c) } in
+    let reply : Reply = record { offer = c; bytes = reply_when was now r.cores (popped_job d1 driver1.form driver1.size c) } in
     let back : IsBackFrom d2 [] [] reply [] reaped driver2 = device_reap_gives d2 driver1 driver2 [] [] (reply ∷ []) (Ok (Some reaped)) answered.served reaps in
     let g : d1.guest ≡ number = ap (λ (x : DeviceState). x.guest) rest ∙ ready.named in
     let s : d1.session ≡ session = ap (λ (x : DeviceState). x.session) rest ∙ ready.current in
     let n : d2.readiness ≡ d.readiness = answered.same.readiness ∙ ap (λ (x : DeviceState). x.readiness) rest in
     let k : d2.pops ≡ d.pops + 1 = answered.pops ∙ ap (λ (x : DeviceState). x.pops + 1) rest in
     let config : d.config ≡ d2.config = sym (answered.same.config ∙ ap (λ (x : DeviceState). x.config) rest) in
-    let like = alike d1 driver1.kind driver1.size number session readable writable head last g s in
+    let like = alike d1 driver1.form driver1.size number session readable writable head last g s in
     let size : driver2.size ≡ driver.size = ap (λ (x : DriverState). x.size) reaps.after ∙ ap (λ (x : DriverState). x.size) offering.after in
+    let form : driver2.form ≡ driver.form = ap (λ (x : DriverState). x.form) reaps.after ∙ ap (λ (x : DriverState). x.form) offering.after in
     let event : driver2.event_idx ≡ driver.event_idx = ap (λ (x : DriverState). x.event_idx) reaps.after ∙ ap (λ (x : DriverState). x.event_idx) offering.after in
     let current : d2.session ≡ session = answered.same.session ∙ s in
     let old : d.session ≡ session = ready.current in
@@ -96,7 +97,7 @@ came_back was now d d1 d2 driver driver1 driver2 r r2 readable writable head las
     let readiness = ready.readiness in
     let pops = ready.pops in
     record {
-      used = back.bytes ∙ same_reply was now r.cores (popped_job d1 driver1.kind driver1.size c) (job_of number session readable writable) like;
+      used = back.bytes ∙ same_reply was now r.cores (popped_job d1 driver1.form driver1.size c) (job_of number session readable writable) like;
       ready = record {
         served = back.rest;
         named = answered.same.guest ∙ g;
@@ -104,14 +105,14 @@ came_back was now d d1 d2 driver driver1 driver2 r r2 readable writable head las
         free = ready.free;
         empty = refl;
         guest = subst IsGuest config ready.guest;
-        split = subst (λ (x : GuestConfig). x.ring ≡ Split) config ready.split;
+        form = form ∙ ready.form ∙ ap form_of config;
         size = size ∙ ready.size ∙ ap (λ (x : GuestConfig). x.queue) config;
         event_idx = event ∙ ready.event_idx ∙ ap (λ (x : GuestConfig). x.event_idx) config;
         sessions = omega (arith, current, old, sessions);
         readiness = omega (arith, n, readiness);
         pops = omega (arith, k, pops);
       };
-      cores = ap (λ (x : RunnerView). x.cores) answered.runner ∙ same_cores was now r.cores (popped_job d1 driver1.kind driver1.size c) (job_of number session readable writable) like;
+      cores = ap (λ (x : RunnerView). x.cores) answered.runner ∙ same_cores was now r.cores (popped_job d1 driver1.form driver1.size c) (job_of number session readable writable) like;
       answered = ap (λ (x : RunnerView). x.answered) answered.runner;
     }
 
@@ -119,13 +120,13 @@ came_back was now d d1 d2 driver driver1 driver2 r r2 readable writable head las
 pub none_back : (was now : Bool) (d1 d2 : DeviceState) (driver1 driver2 : DriverState) (r r2 : RunnerView) (readable : List ℕ) (writable head last : ℕ)
     → IsAnswered was now d1 r driver1 (offer_of readable writable head last) d2 r2 → Reaps d2.memory driver1 (Ok None) driver2 → ⊥
 none_back was now d1 d2 driver1 driver2 r r2 readable writable head last answered reaps =
-    let reply : Reply = record { offer = offer_of readable writable head last; bytes = reply_when was now r.cores (popped_job d1 driver1.kind driver1.size (offer_of readable writable head last)) } in
+    let reply : Reply = record { offer = offer_of readable writable head last; bytes = reply_when was now r.cores (popped_job d1 driver1.form driver1.size (offer_of readable writable head last)) } in
     device_reap_gives d2 driver1 driver2 [] [] (reply ∷ []) (Ok None) answered.served reaps
 
 pub bad_back : (was now : Bool) (d1 d2 : DeviceState) (driver1 driver2 : DriverState) (r r2 : RunnerView) (readable : List ℕ) (writable head last : ℕ)
     → IsAnswered was now d1 r driver1 (offer_of readable writable head last) d2 r2 → Reaps d2.memory driver1 (Err BadUsed) driver2 → ⊥
 bad_back was now d1 d2 driver1 driver2 r r2 readable writable head last answered reaps =
-    let reply : Reply = record { offer = offer_of readable writable head last; bytes = reply_when was now r.cores (popped_job d1 driver1.kind driver1.size (offer_of readable writable head last)) } in
+    let reply : Reply = record { offer = offer_of readable writable head last; bytes = reply_when was now r.cores (popped_job d1 driver1.form driver1.size (offer_of readable writable head last)) } in
     device_reap_gives d2 driver1 driver2 [] [] (reply ∷ []) (Err BadUsed) answered.served reaps
 
 -- a refusal has one of three causes
@@ -174,8 +175,8 @@ pub unfetched : (was now : Bool) (d1 d2 : DeviceState) (driver1 : DriverState) (
 unfolding after_when
 unfetched was now d1 d2 driver1 r r2 readable writable head last number session named current answered = record {
   cores = ap (λ (x : RunnerView). x.cores) answered.runner
-      ∙ same_cores was now r.cores (popped_job d1 driver1.kind driver1.size (offer_of readable writable head last)) (job_of number session readable writable)
-      (alike d1 driver1.kind driver1.size number session readable writable head last named current);
+      ∙ same_cores was now r.cores (popped_job d1 driver1.form driver1.size (offer_of readable writable head last)) (job_of number session readable writable)
+      (alike d1 driver1.form driver1.size number session readable writable head last named current);
   answered = ap (λ (x : RunnerView). x.answered) answered.runner;
 }
 
@@ -183,5 +184,5 @@ unfetched was now d1 d2 driver1 r r2 readable writable head last number session 
 pub no_room_back : (was now : Bool) (d1 d2 : DeviceState) (driver1 driver2 : DriverState) (r r2 : RunnerView) (readable : List ℕ) (writable head last : ℕ)
     → IsAnswered was now d1 r driver1 (offer_of readable writable head last) d2 r2 → Reaps d2.memory driver1 (Err OutOfRange) driver2 → ⊥
 no_room_back was now d1 d2 driver1 driver2 r r2 readable writable head last answered reaps =
-    let reply : Reply = record { offer = offer_of readable writable head last; bytes = reply_when was now r.cores (popped_job d1 driver1.kind driver1.size (offer_of readable writable head last)) } in
+    let reply : Reply = record { offer = offer_of readable writable head last; bytes = reply_when was now r.cores (popped_job d1 driver1.form driver1.size (offer_of readable writable head last)) } in
     device_reap_gives d2 driver1 driver2 [] [] (reply ∷ []) (Err OutOfRange) answered.served reaps

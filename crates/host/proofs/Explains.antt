@@ -3,7 +3,7 @@ use Rattle.std.proofs.Common.{◌≡◌, ◌<◌, ◌≤◌, ◌+◌, ℕ, inl, 
 use Rattle.std.specs.Prelude.{slice_get, slice_set}
 use Rattle.std.proofs.lemmas.Bool.{eq-eqb, ne_eqb, or_parts}
 use Rattle.flusher.proofs.Guests.{get_set_same}
-use Rattle.guest_driver.specs.declared.kind.QueueKind.{QueueKind}
+use Rattle.guest_driver.specs.declared.form.Form.{Form}
 use Rattle.guest_driver.specs.declared.kind.QueueKind.TheVariants.{Split}
 use Rattle.mmio_transport.specs.Device.{DeviceState}
 use Rattle.mmio_transport.specs.Job.{Job}
@@ -36,14 +36,14 @@ use Rattle.host.proofs.Fronts.{same_there}
 -- 1. The driver of the same queue
 
 record IsSameDriver (driver driver' : DriverState) : Type 0 where
-  pub kind : driver'.kind ≡ driver.kind
+  pub form : driver'.form ≡ driver.form
   pub size : driver'.size ≡ driver.size
   pub owners : length driver'.owners ≡ length driver.owners
   pub flights : length driver'.flights ≡ length driver.flights
 
 unchanged_driver : (driver driver' : DriverState) → driver' ≡ driver → IsSameDriver driver driver'
 unchanged_driver driver driver' is = record {
-  kind = ap (λ (x : DriverState). x.kind) is;
+  form = ap (λ (x : DriverState). x.form) is;
   size = ap (λ (x : DriverState). x.size) is;
   owners = ap (λ (x : DriverState). length x.owners) is;
   flights = ap (λ (x : DriverState). length x.flights) is;
@@ -51,10 +51,10 @@ unchanged_driver driver driver' is = record {
 
 offered_driver : (m m' : List ℕ) (driver driver' : DriverState) (readable : List ℕ) (writable : ℕ) (told : Result ℕ DriverFault) → Offering m driver readable writable told m' driver' → IsSameDriver driver driver'
 offered_driver m m' driver driver' readable writable (Ok head) o = record {
-  kind = ap (λ (x : DriverState). x.kind) o.after;
+  form = ap (λ (x : DriverState). x.form) o.after;
   size = ap (λ (x : DriverState). x.size) o.after;
   owners = ap (λ (x : DriverState). length x.owners) o.after ∙ length-set (slice_set driver.owners head (Some head)) o.last (Some head) ∙ length-set driver.owners head (Some head);
-  flights = ap (λ (x : DriverState). length x.flights) o.after ∙ length-set driver.flights head (record { last = o.last; writable = writable });
+  flights = ap (λ (x : DriverState). length x.flights) o.after ∙ length-set driver.flights head (flight_of driver.form (offer_of readable writable head o.last));
 }
 offered_driver m m' driver driver' readable writable (Err driver_fault.NoRoom) o = unchanged_driver driver driver' o.same
 offered_driver m m' driver driver' readable writable (Err driver_fault.OutOfRange) o = unchanged_driver driver driver' o.same
@@ -62,7 +62,7 @@ offered_driver m m' driver driver' readable writable (Err driver_fault.NoMemory)
 offered_driver m m' driver driver' readable writable (Err driver_fault.BadUsed) o = absurd o
 
 freed_driver : (driver : DriverState) (id : ℕ) → IsSameDriver driver (after_reap driver id)
-freed_driver driver id = record { kind = refl; size = refl; owners = length-set (slice_set driver.owners id None) _ None ∙ length-set driver.owners id None; flights = refl }
+freed_driver driver id = record { form = refl; size = refl; owners = length-set (slice_set driver.owners id None) _ None ∙ length-set driver.owners id None; flights = refl }
 
 reaped_driver : (m : List ℕ) (driver driver' : DriverState) (told : Result (Option Reaped) DriverFault) → Reaps m driver told driver' → IsSameDriver driver driver'
 reaped_driver m driver driver' (Ok None) r = unchanged_driver driver driver' r.1
@@ -77,14 +77,14 @@ pub front_offered : (m m' : List ℕ) (f : Front) (driver' : DriverState) (reada
     → IsSameFront f (record f { driver = driver' })
 front_offered m m' f driver' readable writable told o =
     let s = offered_driver m m' f.driver driver' readable writable told o in
-    record { places = refl; kind = s.kind; size = s.size; owners = s.owners; flights = s.flights }
+    record { places = refl; form = s.form; size = s.size; owners = s.owners; flights = s.flights }
 
 -- and after a reap
 pub front_reaped : (m : List ℕ) (f f' : Front) (driver' : DriverState) (told : Result (Option Reaped) DriverFault) → IsSameFront f f' → Reaps m f'.driver told driver'
     → IsSameFront f (record f' { driver = driver' })
 front_reaped m f f' driver' told same r =
     let s = reaped_driver m f'.driver driver' told r in
-    record { places = same.places; kind = s.kind ∙ same.kind; size = s.size ∙ same.size; owners = s.owners ∙ same.owners; flights = s.flights ∙ same.flights }
+    record { places = same.places; form = s.form ∙ same.form; size = s.size ∙ same.size; owners = s.owners ∙ same.owners; flights = s.flights ∙ same.flights }
 
 -- 2. The memory keeps its length through an offer
 
@@ -122,7 +122,7 @@ is_offer size owners true readable writable head last sized is takes short small
       one = λ none. absurd (let e = sym (has_two_false readable writable none) ∙ is in cc);
     }
 
-length_offered : (kind : QueueKind) (m : List ℕ) (size : ℕ) (c : Offer) → IsOffer size c → needed kind size ≤ length m → length (with_offer kind m size c) ≡ length m
+length_offered : (form : Form) (m : List ℕ) (size : ℕ) (c : Offer) → IsOffer size c → needed form.kind size ≤ length m → length (with_offer kind m size c) ≡ length m
 length_offered Split m size c is room = (writes m size (avail_idx m size) c is room).whole
 
 offered_memory : (m m' : List ℕ) (driver driver' : DriverState) (readable : List ℕ) (writable head : ℕ) → length readable ≤ 8704 → writable ≤ 8192 → 0 < length readable + writable
@@ -273,8 +273,8 @@ module _ {D : Type 0} (n : ℕ) (b : BoardState D) (front : Front) (readable : L
           → ExplainedAt n front b readable writable (Err fault.OutOfRange) (record front { driver = driver2 }) (with_device b2 n d2)
       out_of_range reaps = reaped (Err fault.OutOfRange) (λ d' o o' is whole holds.
           let inside = a.inside in
-          let small_now : length d'.memory < needed front.driver.kind front.driver.size =
-          subst (λ (x : DriverState). length d'.memory < needed x.kind x.size) a.after (subst (λ (x : DeviceState). length x.memory < needed driver1.kind driver1.size) is reaps.0) in
+          let small_now : length d'.memory < needed front.driver.form.kind front.driver.size =
+          subst (λ (x : DriverState). length d'.memory < needed x.form.kind x.size) a.after (subst (λ (x : DeviceState). length x.memory < needed driver1.form.kind driver1.size) is reaps.0) in
           absurd (omega (arith, inside, small_now, whole)))
 
 -- 5. A guest that is stuck, or becomes so

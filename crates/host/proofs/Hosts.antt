@@ -10,13 +10,12 @@ use Rattle.rpmb_frame.specs.declared.config.GuestConfig.{GuestConfig}
 use Rattle.rpmb_frame.specs.Config.{IsBoard, IsGuest}
 use Rattle.rpmb_frame.specs.Layout.{layout}
 use Rattle.mmio_transport.specs.Device.{DeviceState, last_count, counted, first_state, after_write, after_reset as after_device_reset}
-use Rattle.guest_driver.specs.declared.kind.QueueKind.{QueueKind}
-use Rattle.guest_driver.specs.declared.kind.QueueKind.TheVariants as kinds
+use Rattle.guest_driver.specs.declared.form.Form.{Form}
 use Rattle.guest_driver.specs.Kinds as by_kind
 use Rattle.guest_driver.proofs.ByKind.{room_held}
 use Rattle.guest_driver.specs.Layout.{needed}
 use Rattle.guest_driver.specs.Driver.{first_driver}
-use Rattle.guest_driver.specs.Negotiation.{negotiated}
+use Rattle.guest_driver.specs.Negotiation.{form_of, negotiated}
 use Rattle.guest_driver.specs.OnDevice.{IsFound}
 use Rattle.guest_driver.proofs.DeviceBegins.{negotiation_begins}
 use Rattle.mmio_transport.specs.Job.{Job}
@@ -68,7 +67,7 @@ later number session steps g ready =
       free = ready.free;
       empty = ready.empty;
       guest = ready.guest;
-      split = ready.split;
+      form = ready.form;
       size = ready.size;
       event_idx = ready.event_idx;
       sessions = omega (arith, sessions);
@@ -97,13 +96,13 @@ one_more c below = ap (λ (b : Bool). if b then c else c + 1) (ne_eqb c last_cou
 -- a guest whose device is brought into service
 begun : (number session steps places : ℕ) (d : DeviceState) (config : GuestConfig) → IsFound config d → d.config ≡ config → d.guest ≡ number → d.session ≡ session
     → d.session ≤ steps + 1 → d.readiness ≤ steps → d.readiness < last_count → d.pops ≤ steps
-    → IsReady number session steps (record { device = negotiated d config.queue config.event_idx; job = None; driver = first_driver config.queue config.event_idx; places = places; stuck = None })
+    → IsReady number session steps (record { device = negotiated d (form_of config) config.queue config.event_idx; job = None; driver = first_driver (form_of config) config.queue config.event_idx; places = places; stuck = None })
 begun number session steps places d config found is named current sessions readiness below pops =
     let b = negotiation_begins config d found in
     let s = b.session in
-    let r : (negotiated d config.queue config.event_idx).readiness ≡ d.readiness + 1 = b.readiness ∙ one_more d.readiness below in
+    let r : (negotiated d (form_of config) config.queue config.event_idx).readiness ≡ d.readiness + 1 = b.readiness ∙ one_more d.readiness below in
     let k = b.pops in
-    let same : config ≡ (negotiated d config.queue config.event_idx).config = sym (b.config ∙ is) in
+    let same : config ≡ (negotiated d (form_of config) config.queue config.event_idx).config = sym (b.config ∙ is) in
     record {
       served = b.served;
       named = b.guest ∙ named;
@@ -111,16 +110,13 @@ begun number session steps places d config found is named current sessions readi
       free = refl;
       empty = refl;
       guest = subst IsGuest same found.guest;
-      split = subst (λ (x : GuestConfig). x.ring ≡ Split) same found.split;
+      form = ap form_of same;
       size = ap (λ (x : GuestConfig). x.queue) same;
       event_idx = ap (λ (x : GuestConfig). x.event_idx) same;
       sessions = omega (arith, s, sessions);
       readiness = omega (arith, r, readiness);
       pops = omega (arith, k, pops);
     }
-
-fits_in : (kind : QueueKind) (bytes size : ℕ) → by_kind.needed kind size ≤ bytes → needed size ≤ bytes
-fits_in kinds.Split bytes size h = h
 
 -- a guest that is ready is so after its reset, in its next session
 pub ready_again : (number session steps : ℕ) (g : GuestView) → steps + 2 < last_count → IsReady number session steps g → IsReady number (session + 1) (steps + 1) (after_reset g)
@@ -132,28 +128,27 @@ ready_again number session steps g few ready =
     let readiness = ready.readiness in
     let pops = ready.pops in
     let old = ready.current in
-    let room = fits_in g.driver.kind (length g.device.memory) g.driver.size (room_held g.driver.kind g.device.memory g.driver.size ready.served.offered.reaped ready.served.queue.ring.used ready.served.queue.ring.popped [] [] ready.served.offered.held) in
+    let room = (room_held g.driver.form.kind g.driver.form.indirect g.device.memory g.driver.size ready.served.offered.reaped ready.served.queue.ring.used ready.served.queue.ring.popped [] [] ready.served.offered.held) in
     let grown : d.session ≡ g.device.session + 1 = one_more g.device.session (omega (arith, sessions, few)) in
     let found : IsFound config d = record {
       guest = ready.guest;
-      split = ready.split;
-      memory = subst (λ q. needed q ≤ length g.device.memory) ready.size room;
+      memory = subst (λ q. needed config.ring q ≤ length g.device.memory) ready.size (subst (λ (f : Form). needed f.kind g.driver.size ≤ length g.device.memory) ready.form room);
       registers = refl;
       none = refl;
     } in
     let again = begun number (session + 1) (steps + 1) g.places d config found refl ready.named (grown ∙ ap (λ s. s + 1) old) (omega (arith, grown, sessions)) readiness (omega (arith, readiness, few)) (omega (arith, pops)) in
-    let at : ℕ → Bool → Type 0 = λ q e. IsReady number (session + 1) (steps + 1) (record { device = negotiated d q e; job = g.job; driver = first_driver q e; places = g.places; stuck = None }) in
-    let idle = subst (λ j. IsReady number (session + 1) (steps + 1) (record { device = negotiated d config.queue config.event_idx; job = j; driver = first_driver config.queue config.event_idx; places = g.places; stuck = None })) (sym ready.empty) again in
-    subst (λ q. at q g.driver.event_idx) (sym ready.size) (subst (at config.queue) (sym ready.event_idx) idle)
+    let at : Form → ℕ → Bool → Type 0 = λ f q e. IsReady number (session + 1) (steps + 1) (record { device = negotiated d f q e; job = g.job; driver = first_driver f q e; places = g.places; stuck = None }) in
+    let idle = subst (λ j. IsReady number (session + 1) (steps + 1) (record { device = negotiated d (form_of config) config.queue config.event_idx; job = j; driver = first_driver (form_of config) config.queue config.event_idx; places = g.places; stuck = None })) (sym ready.empty) again in
+    subst (λ f. at f g.driver.size g.driver.event_idx) (sym ready.form) (subst (λ q. at (form_of config) q g.driver.event_idx) (sym ready.size) (subst (at (form_of config) config.queue) (sym ready.event_idx) idle))
 
 -- a guest of a board is ready at first
-pub ready_first : (number : ℕ) (config : GuestConfig) → IsGuest config → config.ring ≡ Split → IsReady number 1 0 (first_guest number config)
+pub ready_first : (number : ℕ) (config : GuestConfig) → IsGuest config → IsReady number 1 0 (first_guest number config)
 unfolding first_guest first_state
-ready_first number config guest split =
-    let holds = subst (λ (k : RingKind). (layout k config.queue).length ≤ config.memory) split guest.holds_layout in
+ready_first number config guest =
+    let holds = guest.holds_layout in
     let whole : length (replicate {A = ℕ} config.memory 0) ≡ config.memory = length-replicate {A = ℕ} config.memory 0 in
     begun number 1 0 config.queue (first_state number config) config
-    (record { guest = guest; split = split; memory = omega (arith, holds, whole); registers = refl; none = refl }) refl refl refl (omega arith) (omega arith) (omega arith) (omega arith)
+    (record { guest = guest; memory = omega (arith, holds, whole); registers = refl; none = refl }) refl refl refl (omega arith) (omega arith) (omega arith) (omega arith)
 
 -- a chain of one guest, where all are ready
 pub chain_of : (was now : Bool) (h : HostView) (guest : ℕ) (g g' : GuestView) (r' : RunnerView) (readable : List ℕ) (writable : ℕ) (answer : Result Answer HostFault)
@@ -205,8 +200,8 @@ pub first_all : (done all : List GuestView) (i : ℕ) (configs : List GuestConfi
 first_all done all i configs past before = sym (append-nil done) ∙ ap (λ cs. done ++ first_guests i cs) (sym (at_drop_all (λ x. x) configs i past)) ∙ before
 
 -- the guests of a board are ready
-pub ready_all : (board : List GuestConfig) → IsBoard board → All (λ g. g.ring ≡ Split) board → AreReady 0 (replicate (length board) 1) (first_guests 0 board)
-ready_all board is split =
+pub ready_all : (board : List GuestConfig) → IsBoard board → AreReady 0 (replicate (length board) 1) (first_guests 0 board)
+ready_all board is =
     let count : length (replicate {A = ℕ} (length board) 1) ≡ length board = length-replicate {A = ℕ} (length board) 1 in
     record {
       count = length_first 0 board ∙ sym count;
@@ -216,9 +211,8 @@ ready_all board is split =
           let inside = slice_get_within board n config t.1 in
           let at : get_or board n config ≡ config = get_or_from_slice_get board n config config t.1 in
           let guest = subst IsGuest at (is.each n config inside) in
-          let ring = subst (λ (x : GuestConfig). x.ring ≡ Split) at (split n config inside) in
           subst (λ x. IsReady n (get_or (replicate (length board) 1) n 0) 0 x) (sym (t.2 ∙ ap (λ x. first_guest x config) (omega arith)))
-          (subst (λ s. IsReady n s 0 (first_guest n config)) (sym (get_or-replicate (length board) n 1 0 inside)) (ready_first n config guest ring));
+          (subst (λ s. IsReady n s 0 (first_guest n config)) (sym (get_or-replicate (length board) n 1 0 inside)) (ready_first n config guest));
     }
 
 -- all guests stay ready through a step that changes none of them

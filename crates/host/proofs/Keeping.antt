@@ -11,21 +11,26 @@ use Rattle.guest_memory.proofs.Writes.{length-with_bytes}
 use Rattle.rpmb_frame.specs.Config.{IsBoard, IsGuest}
 use Rattle.rpmb_frame.specs.Table.{first_row}
 use Rattle.rpmb_frame.specs.declared.config.GuestConfig.{GuestConfig}
+use Rattle.rpmb_frame.specs.declared.config.RingKind.{RingKind}
+use Rattle.rpmb_frame.specs.declared.config.RingKind.TheVariants.{Split, Packed}
 use Rattle.mmio_transport.specs.Device.{DeviceState, after_ready, after_reset as after_device_reset, after_write, counted, first_queue, first_state, is_ready, may_be_ready}
 use Rattle.mmio_transport.specs.Job.{Job}
 use Rattle.mmio_transport.specs.Popping.{is_stopped}
 use Rattle.mmio_transport.specs.Register as register
 use Rattle.mmio_transport.specs.Registers.{after_register}
-use Rattle.guest_driver.specs.Driver.{DriverState, Takes, after_offer, no_flight, owner}
-use Rattle.guest_driver.specs.Negotiation.{after_writes, has_room, negotiated, negotiation, with_areas, with_fresh_areas}
+use Rattle.guest_driver.specs.Driver.{DriverState, Takes, after_offer, flight_of, no_flight, offer_of, owner}
+use Rattle.guest_driver.specs.Kinds.{ahead_after, mark_after, places_of}
+use Rattle.guest_driver.specs.Offered.{Offer}
+use Rattle.guest_driver.specs.Negotiation.{after_writes, form_of, has_room, negotiated, negotiation, with_areas, with_fresh_areas}
 use Rattle.guest_driver.specs.Reap.{ComesBack, after_reap}
 use Rattle.guest_driver.specs.declared.driver.Flight.{Flight}
+use Rattle.guest_driver.specs.declared.form.Form.{Form}
 use Rattle.guest_driver.specs.declared.negotiation.RegisterWrite.{RegisterWrite}
 use Rattle.guest_driver.proofs.FreshAreas.{areas_fresh}
 use Rattle.board.specs.State.{BoardState}
 use Rattle.host.specs.Guest.{GuestView, StaysStuck, StoresInto, after_reset, first_guest, first_guests, stuck_by, view_of, with_stored}
 use Rattle.host.specs.Host.{HostResetsGuest, HostState, HostStores, HostView, ResetsAt, StoresAt, seen, with_guest}
-use Rattle.host.specs.Reasons.{AreClear, AreGuestsOf, AreasIn, ChainReason, ExplainedAt, Explains, HasAreas, HostExplains, HostKeeps, IsClear, IsExplainedAt, IsGuestOf, IsJobOfGuest, IsSameFront, IsSameGuest, IsStuckFor, ReasonAt, WasOffered}
+use Rattle.host.specs.Reasons.{AreClear, AreGuestsOf, AreasIn, ChainReason, ExplainedAt, Explains, HasAreas, HostExplains, HostKeeps, IsAtRest, IsClear, IsExplainedAt, IsGuestOf, IsJobOfGuest, IsLevel, IsSameFront, IsSameGuest, IsStuckFor, ReasonAt, WasOffered}
 use Rattle.host.specs.Runner.{RunnerView, runner_of}
 use Rattle.host.specs.Serving.{Touches}
 use Rattle.host.specs.declared.fault.HostFault.{HostFault}
@@ -69,8 +74,10 @@ free_again owners head last k x y free =
     ]
 
 -- the one chain in flight is that which was offered
-head_is : (driver : DriverState) (head last writable id : ℕ) → ((d : ℕ) → owner driver.owners d ≡ None) → owner (after_offer driver head last writable).owners id ≡ Some id → id ≡ head
-head_is driver head last writable id free is =
+head_is : (driver : DriverState) (c : Offer) (id : ℕ) → ((d : ℕ) → owner driver.owners d ≡ None) → owner (after_offer driver c).owners id ≡ Some id → id ≡ c.head
+head_is driver c id free is =
+    let head = c.head in
+    let last = c.last in
     elim (owner_set (set driver.owners head (Some head)) last id (Some head)) [
       | inl p ↦ (let same : Some head ≡ Some id = sym p.1 ∙ is in cc)
       | inr p ↦ elim (owner_set driver.owners head id (Some head)) [
@@ -79,27 +86,46 @@ head_is driver head last writable id free is =
       ]
     ]
 
-all_free : (driver : DriverState) (head last writable id : ℕ) → head < length driver.flights → ((d : ℕ) → owner driver.owners d ≡ None) → id ≡ head
-    → (d : ℕ) → owner (after_reap (after_offer driver head last writable) id).owners d ≡ None
-all_free driver head last writable id below free is d =
+all_free : (driver : DriverState) (c : Offer) (id : ℕ) → c.head < length driver.flights → ((d : ℕ) → owner driver.owners d ≡ None) → id ≡ c.head
+    → (d : ℕ) → owner (after_reap (after_offer driver c) id).owners d ≡ None
+all_free driver c id below free is d =
+    let head = c.head in
+    let last = c.last in
     let taken = set (set driver.owners head (Some head)) last (Some head) in
-    let flight : Flight = record { last = last; writable = writable } in
+    let flight : Flight = flight_of driver.form c in
     let last_is : get_or (set driver.flights head flight) head no_flight ≡ flight = get_or-set_same driver.flights head flight no_flight below in
     ap (λ k. owner (set (set taken k None) (get_or (set driver.flights head flight) k no_flight).last None) d) is
     ∙ ap (λ (f : Flight). owner (set (set taken head None) f.last None) d) last_is
     ∙ free_again driver.owners head last d (Some head) (Some head) free
 
+-- the places that it took are free again
+level_by : (kind : RingKind) (size offered used n m : ℕ) → n ≡ m → IsLevel kind offered used → IsLevel kind (ahead_after kind size offered n) (mark_after kind size used m)
+level_by Split size offered used n m same level = tt
+level_by Packed size offered used n m same level = ap (λ x. (x + n) % (2 * size)) level ∙ ap (λ x. (used + x) % (2 * size)) same
+
+level_again : (driver : DriverState) (c : Offer) (id : ℕ) → c.head < length driver.flights → IsLevel driver.form.kind driver.offered driver.used → id ≡ c.head
+    → IsLevel driver.form.kind (after_reap (after_offer driver c) id).offered (after_reap (after_offer driver c) id).used
+level_again driver c id below level is =
+    let flight : Flight = flight_of driver.form c in
+    let there : get_or (set driver.flights c.head flight) id no_flight ≡ flight =
+    ap (λ k. get_or (set driver.flights c.head flight) k no_flight) is ∙ get_or-set_same driver.flights c.head flight no_flight below in
+    level_by driver.form.kind driver.size driver.offered driver.used (places_of driver.form c) (get_or (set driver.flights c.head flight) id no_flight).places
+    (sym (ap (λ (f : Flight). f.places) there)) level
+
 takes_below : (owners : List (Option ℕ)) (two : Bool) (head last : ℕ) → Takes owners two head last → head < length owners
 takes_below owners false head last takes = takes.0.below
 takes_below owners true head last takes = takes.0.below
 
-pub clear_again : (g g' : GuestView) (r r' : RunnerView) (readable : List ℕ) (writable : ℕ) (bytes : _) → length g.driver.flights ≡ length g.driver.owners → ((d : ℕ) → owner g.driver.owners d ≡ None)
-    → WasOffered g r readable writable (answer.Used bytes) g' r' → (d : ℕ) → owner g'.driver.owners d ≡ None
-clear_again g g' r r' readable writable bytes long free w d =
-    let back : ComesBack g'.device.memory (after_offer g.driver w.head w.last writable) w.ends.3.0 g'.driver = w.ends.3.2 in
+pub clear_again : (g g' : GuestView) (r r' : RunnerView) (readable : List ℕ) (writable : ℕ) (bytes : _) → length g.driver.flights ≡ length g.driver.owners → IsAtRest g.driver
+    → WasOffered g r readable writable (answer.Used bytes) g' r' → IsAtRest g'.driver
+clear_again g g' r r' readable writable bytes long rest w =
+    let c = offer_of readable writable w.head w.last in
+    let id = w.ends.3.0.id in
+    let back : ComesBack g'.device.memory (after_offer g.driver c) w.ends.3.0 g'.driver = w.ends.3.2 in
     let below = takes_below g.driver.owners _ w.head w.last w.takes in
-    let is = head_is g.driver w.head w.last writable w.ends.3.0.id free back.flight.head in
-    ap (λ (x : DriverState). owner x.owners d) back.after ∙ all_free g.driver w.head w.last writable w.ends.3.0.id (omega (arith, below, long)) free is d
+    let within : c.head < length g.driver.flights = omega (arith, below, long) in
+    let is = head_is g.driver c id rest.free back.flight.head in
+    subst IsAtRest (sym back.after) (record { free = all_free g.driver c id within rest.free is; level = level_again g.driver c id within rest.level is })
 
 -- 2. One guest of a board became another
 
@@ -114,7 +140,7 @@ stays_guest board n d d' o o' f f' is same own front stuck =
       areas = same.areas is.areas;
       job = own;
       places = front.places ∙ is.places ∙ queue;
-      kind = front.kind ∙ is.kind;
+      form = front.form ∙ is.form ∙ ap form_of (sym same.config);
       size = front.size ∙ is.size ∙ queue;
       owners = front.owners ∙ is.owners ∙ sym front.size;
       flights = front.flights ∙ is.flights ∙ sym front.size;
@@ -174,7 +200,7 @@ other_memory board n g m long is = record {
   areas = subst (λ k. AreasIn k g.device.queue) (sym long) is.areas;
   job = is.job;
   places = is.places;
-  kind = is.kind;
+  form = is.form;
   size = is.size;
   owners = is.owners;
   flights = is.flights;
@@ -243,34 +269,38 @@ length_areas d size = by (has_room d size) refl
     by false there = refl
 
 -- it is brought into service
-negotiated_keeps : (d : DeviceState) (size : ℕ) (event_idx : Bool) → Keeps d (negotiated d size event_idx)
+negotiated_keeps : (d : DeviceState) (form : Form) (size : ℕ) (event_idx : Bool) → Keeps d (negotiated d form size event_idx)
 unfolding negotiated with_areas
-negotiated_keeps d size event_idx =
+negotiated_keeps d form size event_idx =
     keeps_twice d (with_areas d size) (after_writes (with_areas d size) (negotiation size event_idx)) (record { guest = refl; config = refl; memory = length_areas d size }) (writes_keep (with_areas d size) (negotiation size event_idx))
 
-negotiated_areas : (d : DeviceState) (size : ℕ) (event_idx : Bool) → HasAreas d → HasAreas (negotiated d size event_idx)
+negotiated_areas : (d : DeviceState) (form : Form) (size : ℕ) (event_idx : Bool) → HasAreas d → HasAreas (negotiated d form size event_idx)
 unfolding negotiated with_areas
-negotiated_areas d size event_idx areas = writes_areas (with_areas d size) (negotiation size event_idx) (subst (λ k. AreasIn k d.queue) (sym (length_areas d size)) areas)
+negotiated_areas d form size event_idx areas = writes_areas (with_areas d size) (negotiation size event_idx) (subst (λ k. AreasIn k d.queue) (sym (length_areas d size)) areas)
 
 none_owned : (n d : ℕ) → owner (replicate n None) d ≡ None
 none_owned zero d = refl
 none_owned (suc n) zero = refl
 none_owned (suc n) (suc d) = none_owned n d
 
+level_first : (kind : RingKind) → IsLevel kind 0 0
+level_first Split = tt
+level_first Packed = refl
+
 reset_guest : (board : List GuestConfig) (n : ℕ) (g : GuestView) → IsGuestOf board n g → IsGuestOf board n (after_reset g)
 unfolding after_reset
 reset_guest board n g is =
     let zeroed = after_write g.device register.status 4 0 in
-    let same = keeps_twice g.device zeroed (negotiated zeroed g.driver.size g.driver.event_idx) (write_keeps g.device register.status 4 0) (negotiated_keeps zeroed g.driver.size g.driver.event_idx) in
+    let same = keeps_twice g.device zeroed (negotiated zeroed g.driver.form g.driver.size g.driver.event_idx) (write_keeps g.device register.status 4 0) (negotiated_keeps zeroed g.driver.form g.driver.size g.driver.event_idx) in
     let queue = ap (λ (c : GuestConfig). c.queue) (sym same.config) in
     record {
       config = is.config ∙ ap Some (sym same.config);
       named = same.guest ∙ is.named;
       memory = same.memory ∙ is.memory ∙ ap (λ (c : GuestConfig). c.memory) (sym same.config);
-      areas = negotiated_areas zeroed g.driver.size g.driver.event_idx (written_areas g.device register.status 4 0 is.areas);
+      areas = negotiated_areas zeroed g.driver.form g.driver.size g.driver.event_idx (written_areas g.device register.status 4 0 is.areas);
       job = is.job;
       places = is.places ∙ queue;
-      kind = refl;
+      form = is.form ∙ ap form_of (sym same.config);
       size = is.size ∙ queue;
       owners = length-replicate {A = Option ℕ} g.driver.size None;
       flights = length-replicate {A = Flight} g.driver.size no_flight;
@@ -279,7 +309,7 @@ reset_guest board n g is =
 
 reset_clear : (g : GuestView) → IsClear (after_reset g)
 unfolding after_reset
-reset_clear g = λ free d. none_owned g.driver.size d
+reset_clear g = λ free. record { free = none_owned g.driver.size; level = level_first g.driver.form.kind }
 
 pub reset_keeps : (h h' : HostView) (n : ℕ) (told : Result (Unit {0}) HostFault) → HostResetsGuest h n told h' → HostKeeps h h'
 reset_keeps h h' n told resets = of (slice_get h.guests n) refl resets
@@ -293,16 +323,16 @@ reset_keeps h h' n told resets = of (slice_get h.guests n) refl resets
 first_own : (board : List GuestConfig) (n : ℕ) (c : GuestConfig) → slice_get board n ≡ Some c → IsGuestOf board n (first_guest n c)
 unfolding first_guest first_state
 first_own board n c at =
-    let same = negotiated_keeps (first_state n c) c.queue c.event_idx in
+    let same = negotiated_keeps (first_state n c) (form_of c) c.queue c.event_idx in
     let queue = ap (λ (x : GuestConfig). x.queue) (sym same.config) in
     record {
       config = at ∙ ap Some (sym same.config);
       named = same.guest;
       memory = same.memory ∙ length-replicate {A = ℕ} c.memory 0 ∙ ap (λ (x : GuestConfig). x.memory) (sym same.config);
-      areas = negotiated_areas (first_state n c) c.queue c.event_idx tt;
+      areas = negotiated_areas (first_state n c) (form_of c) c.queue c.event_idx tt;
       job = tt;
       places = queue;
-      kind = refl;
+      form = ap form_of (sym same.config);
       size = queue;
       owners = length-replicate {A = Option ℕ} c.queue None;
       flights = length-replicate {A = Flight} c.queue no_flight;
@@ -311,7 +341,7 @@ first_own board n c at =
 
 first_clear : (n : ℕ) (c : GuestConfig) → IsClear (first_guest n c)
 unfolding first_guest
-first_clear n c = λ free d. none_owned c.queue d
+first_clear n c = λ free. record { free = none_owned c.queue; level = level_first (form_of c).kind }
 
 pub first_guests_own : (board : List GuestConfig) → AreGuestsOf board (first_guests 0 board)
 first_guests_own board = record {

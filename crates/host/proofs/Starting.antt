@@ -4,7 +4,7 @@ use Rattle.std.specs.Prelude.{slice_get}
 use Rattle.std.proofs.lemmas.Option.{slice_get-get_or}
 use Rattle.rpmb_frame.specs.declared.config.GuestConfig.{GuestConfig}
 use Rattle.mmio_transport.specs.Device.{DeviceState, first_state}
-use Rattle.guest_driver.specs.Negotiation.{negotiated}
+use Rattle.guest_driver.specs.Negotiation.{form_of, negotiated}
 use Rattle.board.specs.Opening.{first_devices}
 use Rattle.board.specs.State.{BoardState}
 use Rattle.host.specs.Guest.{first_front, first_guest, first_guests, views_of, with_device}
@@ -21,14 +21,14 @@ next_device n k [] c at = absurd (cc)
 next_device n zero (d ∷ cs) c at = (let same : d ≡ c = cc in rw same (ap (λ m. Some (first_state m c)) (omega arith)))
 next_device n (suc k) (d ∷ cs) c at = next_device (n + 1) k cs c at ∙ ap (λ m. Some (first_state m c)) (omega arith)
 
-pub one_more_started : (n k : ℕ) (cs : List GuestConfig) (c : GuestConfig) → slice_get cs k ≡ Some c → set (started n k cs) k (negotiated (first_state (n + k) c) c.queue c.event_idx) ≡ started n (suc k) cs
+pub one_more_started : (n k : ℕ) (cs : List GuestConfig) (c : GuestConfig) → slice_get cs k ≡ Some c → set (started n k cs) k (negotiated (first_state (n + k) c) (form_of c) c.queue c.event_idx) ≡ started n (suc k) cs
 one_more_started n k [] c at = absurd (cc)
 one_more_started n zero (d ∷ cs) c at =
     let same : d ≡ c = cc in
-    rw same (ap₂ (λ m r. negotiated (first_state m c) c.queue c.event_idx ∷ r) (omega arith) (sym (none_started (n + 1) cs)))
+    rw same (ap₂ (λ m r. negotiated (first_state m c) (form_of c) c.queue c.event_idx ∷ r) (omega arith) (sym (none_started (n + 1) cs)))
 one_more_started n (suc k) (d ∷ cs) c at =
     ap (λ r. negotiated (first_state n d) d.queue d.event_idx ∷ r)
-    (ap (λ m. set (started (n + 1) k cs) k (negotiated (first_state m c) c.queue c.event_idx)) (omega arith) ∙ one_more_started (n + 1) k cs c at)
+    (ap (λ m. set (started (n + 1) k cs) k (negotiated (first_state m c) (form_of c) c.queue c.event_idx)) (omega arith) ∙ one_more_started (n + 1) k cs c at)
 
 -- what is seen of all of them
 pub all_started : (n : ℕ) (cs : List GuestConfig) → views_of (started n (length cs) cs) (replicate (length cs) None) (map first_front cs) ≡ first_guests n cs
@@ -64,5 +64,5 @@ board_more b0 b b1 i configs cs d same inside so_far brings =
     let at = there_is i configs cs d same inside in
     let device : slice_get b.devices i ≡ Some (first_state (0 + i) c) = ap (λ v. slice_get v.devices i) so_far ∙ next_device 0 i cs c at in
     brings (first_state (0 + i) c) device
-    ∙ ap (λ v. with_device v i (negotiated (first_state (0 + i) c) c.queue c.event_idx)) so_far
+    ∙ ap (λ v. with_device v i (negotiated (first_state (0 + i) c) (form_of c) c.queue c.event_idx)) so_far
     ∙ ap (λ ds. record b0 { devices = ds }) (one_more_started 0 i cs c at ∙ ap (λ m. started 0 m cs) (next i))

@@ -36,7 +36,7 @@ pub record AreReady (steps : ℕ) (sessions : List ℕ) (guests : List GuestView
 pub record IsFreshHost (board : List GuestConfig) (h : HostView) : Type 0 where
   pub runner : h.runner ≡ fresh_view board
   -- where each has a split ring, which is all that a device offers yet
-  pub guests : All (λ g. g.ring ≡ Split) board → AreReady 0 (replicate (length board) 1) h.guests
+  pub guests : AreReady 0 (replicate (length board) 1) h.guests
 
 -- the sessions after a reset of one guest
 abbrev pub sessions_after : List ℕ → ℕ → List ℕ

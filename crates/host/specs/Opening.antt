@@ -4,7 +4,7 @@ use Rattle.disk.specs.Disk.{DiskState}
 use Rattle.rpmb_frame.specs.declared.config.GuestConfig.{GuestConfig}
 use Rattle.rpmb_frame.specs.declared.config.RingKind.TheVariants.{Split}
 use Rattle.mmio_transport.specs.Device.{DeviceState, first_state}
-use Rattle.guest_driver.specs.Negotiation.{negotiated}
+use Rattle.guest_driver.specs.Negotiation.{form_of, negotiated}
 use Rattle.board.specs.Opening.{Begins, first_devices}
 use Rattle.board.specs.State.{BoardState}
 use Rattle.host.specs.Host.{AreReady, HostState, seen}
@@ -15,7 +15,7 @@ use Rattle.host.specs.Runner.{runner_of}
 abbrev pub started : ℕ → ℕ → List GuestConfig → List DeviceState
 started n k [] = []
 started n zero (c ∷ cs) = first_devices n (c ∷ cs)
-started n (suc k) (c ∷ cs) = negotiated (first_state n c) c.queue c.event_idx ∷ started (n + 1) k cs
+started n (suc k) (c ∷ cs) = negotiated (first_state n c) (form_of c) c.queue c.event_idx ∷ started (n + 1) k cs
 
 -- a board as an opening made it, in some life
 pub record IsJustOpened {D : Type 0} (shows : D → DiskState) (config : List GuestConfig) (b : BoardState D) : Type 0 where
@@ -27,7 +27,7 @@ pub record IsJustOpened {D : Type 0} (shows : D → DiskState) (config : List Gu
 pub record IsFirstHost {D : Type 0} (config : List GuestConfig) (b : BoardState D) (h : HostState D) : Type 0 where
   pub runner : runner_of h.board ≡ runner_of b
   pub store : h.board.store ≡ b.store
-  pub ready : All (λ g. g.ring ≡ Split) config → AreReady 0 (replicate (length config) 1) (seen h).guests
+  pub ready : AreReady 0 (replicate (length config) 1) (seen h).guests
   -- its guests are the board's, whatever their rings
   pub own : AreGuestsOf config (seen h).guests
   pub clear : AreClear (seen h).guests

@@ -6,7 +6,7 @@ use Rattle.rpmb_frame.specs.Config.{IsGuest}
 use Rattle.mmio_transport.specs.Device.{DeviceState, last_count}
 use Rattle.mmio_transport.specs.Job.{Job}
 use Rattle.guest_driver.specs.Kinds.{needed}
-use Rattle.guest_driver.specs.Driver.{HasTooFew, has_two}
+use Rattle.guest_driver.specs.Driver.{IsFull}
 use Rattle.guest_driver.specs.OnDevice.{IsServed}
 use Rattle.rpmb_book.specs.declared.refused.Refused.TheVariants as refused
 use Rattle.board.specs.State.{BoardState}
@@ -28,7 +28,7 @@ pub record IsReady (number session steps : ℕ) (g : GuestView) : Type 0 where
   pub free : g.stuck ≡ None
   pub empty : g.job ≡ None
   pub guest : IsGuest g.device.config
-  pub split : g.device.config.ring ≡ Split
+  pub form : g.driver.form ≡ form_of g.device.config
   pub size : g.driver.size ≡ g.device.config.queue
   pub event_idx : g.driver.event_idx ≡ g.device.config.event_idx
   pub sessions : g.device.session ≤ steps + 1
@@ -81,8 +81,8 @@ pub record IsUnfetched (was now : Bool) (r : RunnerView) (job : Job) (r' : Runne
 -- the memory has no room for the driver's areas, the book refuses the job, or memory was refused; then
 -- the job may have been answered, its reply published and not fetched.
 abbrev pub FailsBy : Bool → Bool → HostFault → GuestView → RunnerView → List ℕ → ℕ → Job → RunnerView → Type 0
-FailsBy was now fault.NoRoom g r readable writable job r' = HasTooFew g.driver.owners (has_two readable writable) × IsUnanswered was now r r'
-FailsBy was now fault.OutOfRange g r readable writable job r' = (length g.device.memory < needed g.driver.kind g.driver.size) × IsUnanswered was now r r'
+FailsBy was now fault.NoRoom g r readable writable job r' = IsFull g.driver readable writable × IsUnanswered was now r r'
+FailsBy was now fault.OutOfRange g r readable writable job r' = (length g.device.memory < needed g.driver.form.kind g.driver.size) × IsUnanswered was now r r'
 FailsBy was now fault.Busy g r readable writable job r' = ⊥
 FailsBy was now fault.HistoryFull g r readable writable job r' = (refusal_of r job ≡ Some refused.HistoryFull) × IsUnanswered was now r r'
 FailsBy was now fault.Foreign g r readable writable job r' = (refusal_of r job ≡ Some refused.Foreign) × IsUnanswered was now r r'

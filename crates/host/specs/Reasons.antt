@@ -2,13 +2,15 @@
 use Rattle.std.specs.Prelude.{◌≡◌, ◌⊎◌, ℕ, ◌+◌, ◌-◌, ◌<◌, ◌≤◌, Bool, true, false, List, length, Option, Some, None, slice_get, Result, Ok, Err}
 use Rattle.rpmb_frame.specs.Config.{IsBoard}
 use Rattle.rpmb_frame.specs.declared.config.GuestConfig.{GuestConfig}
-use Rattle.guest_driver.specs.declared.kind.QueueKind.TheVariants.{Split}
+use Rattle.rpmb_frame.specs.declared.config.RingKind.{RingKind}
+use Rattle.rpmb_frame.specs.declared.config.RingKind.TheVariants.{Split, Packed}
 use Rattle.mmio_transport.specs.Device.{DeviceState}
 use Rattle.mmio_transport.specs.Job.{Job}
 use Rattle.mmio_transport.specs.Popping.{GivesJob, is_stopped}
 use Rattle.mmio_transport.specs.Queue.{AreasInside, QueueState}
-use Rattle.guest_driver.specs.Driver.{DriverState, HasTooFew, Takes, after_offer, has_two, owner}
+use Rattle.guest_driver.specs.Driver.{DriverState, IsFull, Takes, after_offer, offer_of, owner, takes_two}
 use Rattle.guest_driver.specs.Kinds.{needed}
+use Rattle.guest_driver.specs.Negotiation.{form_of}
 use Rattle.guest_driver.specs.Reap.{Reaps}
 use Rattle.guest_driver.specs.declared.fault.DriverFault.TheVariants as driver_fault
 use Rattle.guest_driver.specs.declared.reaping.Reaped.{Reaped}
@@ -63,7 +65,7 @@ pub record IsGuestOf (board : List GuestConfig) (number : ℕ) (g : GuestView) :
   pub areas : HasAreas g.device
   pub job : IsJobOfGuest number g.job
   pub places : g.places ≡ g.device.config.queue
-  pub kind : g.driver.kind ≡ Split
+  pub form : g.driver.form ≡ form_of g.device.config
   pub size : g.driver.size ≡ g.device.config.queue
   pub owners : length g.driver.owners ≡ g.driver.size
   pub flights : length g.driver.flights ≡ g.driver.size
@@ -74,8 +76,18 @@ pub record AreGuestsOf (board : List GuestConfig) (guests : List GuestView) : Ty
   pub each : (n : ℕ) (g : GuestView) → slice_get guests n ≡ Some g → IsGuestOf board n g
 
 -- A guest that isn't stuck has nothing in flight. So it is between two chains, but after one that ended with a fault.
+-- of a packed ring: the place to offer at is the one that is used next
+abbrev pub IsLevel : RingKind → ℕ → ℕ → Type 0
+IsLevel Split offered used = Unit {0}
+IsLevel Packed offered used = offered ≡ used
+
+-- nothing is in flight: each descriptor is free, and each place of the ring
+pub record IsAtRest (driver : DriverState) : Type 0 where
+  pub free : (d : ℕ) → owner driver.owners d ≡ None
+  pub level : IsLevel driver.form.kind driver.offered driver.used
+
 abbrev pub IsClear : GuestView → Type 0
-IsClear g = g.stuck ≡ None → (d : ℕ) → owner g.driver.owners d ≡ None
+IsClear g = g.stuck ≡ None → IsAtRest g.driver
 
 abbrev pub AreClear : List GuestView → Type 0
 AreClear guests = (n : ℕ) (g : GuestView) → slice_get guests n ≡ Some g → IsClear g
@@ -162,21 +174,21 @@ EndsAs places r driver (answer.Stuck stuck.BadUsed) d' r' driver' =
 pub record WasOffered (g : GuestView) (r : RunnerView) (readable : List ℕ) (writable : ℕ) (told : Answer) (g' : GuestView) (r' : RunnerView) : Type 0 where
   pub head : ℕ
   pub last : ℕ
-  pub takes : Takes g.driver.owners (has_two readable writable) head last
-  pub ends : EndsAs g.places r (after_offer g.driver head last writable) told g'.device r' g'.driver
+  pub takes : Takes g.driver.owners (takes_two g.driver.form readable writable) head last
+  pub ends : EndsAs g.places r (after_offer g.driver (offer_of readable writable head last)) told g'.device r' g'.driver
 
 -- it was offered: there were descriptors for it, and room for the driver's areas
 pub record WasTaken (g : GuestView) (readable : List ℕ) (writable : ℕ) : Type 0 where
   pub head : ℕ
   pub last : ℕ
-  pub takes : Takes g.driver.owners (has_two readable writable) head last
-  pub inside : needed g.driver.kind g.driver.size ≤ length g.device.memory
+  pub takes : Takes g.driver.owners (takes_two g.driver.form readable writable) head last
+  pub inside : needed g.driver.form.kind g.driver.size ≤ length g.device.memory
 
 -- Which answer a chain has, and when each fault may come.
 abbrev pub ChainReason : GuestView → RunnerView → List ℕ → ℕ → Result Answer HostFault → GuestView → RunnerView → Type 0
 ChainReason g r readable writable (Ok told) g' r' = WasOffered g r readable writable told g' r'
-ChainReason g r readable writable (Err fault.NoRoom) g' r' = HasTooFew g.driver.owners (has_two readable writable) × (g' ≡ g) × (r' ≡ r)
-ChainReason g r readable writable (Err fault.OutOfRange) g' r' = (length g.device.memory < needed g.driver.kind g.driver.size) × (g' ≡ g) × (r' ≡ r)
+ChainReason g r readable writable (Err fault.NoRoom) g' r' = IsFull g.driver readable writable × (g' ≡ g) × (r' ≡ r)
+ChainReason g r readable writable (Err fault.OutOfRange) g' r' = (length g.device.memory < needed g.driver.form.kind g.driver.size) × (g' ≡ g) × (r' ≡ r)
 ChainReason g r readable writable (Err fault.Busy) g' r' = ⊥
 ChainReason g r readable writable (Err fault.Foreign) g' r' = ⊥
 ChainReason g r readable writable (Err fault.HistoryFull) g' r' = r'.answered ≡ 16384
@@ -201,7 +213,7 @@ ExplainedAt guest front b readable writable told front' b' = (d : DeviceState) (
 -- the front of the same guest: its queue has the size it had, and its driver as many places for its descriptors
 pub record IsSameFront (f f' : Front) : Type 0 where
   pub places : f'.places ≡ f.places
-  pub kind : f'.driver.kind ≡ f.driver.kind
+  pub form : f'.driver.form ≡ f.driver.form
   pub size : f'.driver.size ≡ f.driver.size
   pub owners : length f'.driver.owners ≡ length f.driver.owners
   pub flights : length f'.driver.flights ≡ length f.driver.flights

@@ -27,7 +27,7 @@ const LEAST: GuestConfig = GuestConfig {
 // A board file, how many guests it has, the last of them, and the path of its image.
 type Row = (&'static str, usize, GuestConfig, Option<&'static str>);
 
-static BOARDS: [Row; 5] = [
+static BOARDS: [Row; 6] = [
     ("[[guest]]\ncapacity = 1", 1, DEFAULTS, None),
     (
         "# one guest\r\n[[guest]]\r\ncapacity = 0x1\r\n",
@@ -55,6 +55,19 @@ static BOARDS: [Row; 5] = [
             memory = 65536\nmax_rd_cnt = 1\nmax_wr_cnt = 1\ncapacity = 128",
         2,
         LEAST,
+        None,
+    ),
+    // The places of a packed ring are any number, and its layout is a little smaller.
+    (
+        "[[guest]]\ncapacity = 1\nring = 'packed'\nindirect = true\nqueue = 3\nmemory = 65536",
+        1,
+        GuestConfig {
+            memory: 65_536,
+            queue: 3,
+            ring: RingKind::Packed,
+            indirect: true,
+            ..DEFAULTS
+        },
         None,
     ),
 ];
@@ -141,7 +154,7 @@ static NO_BOARDS: [&str; 18] = [
 ];
 
 // Lines that no guest may have beside a capacity of 1.
-static NO_LINES: [&str; 21] = [
+static NO_LINES: [&str; 19] = [
     "capacity = 1",
     "max_wr_cnt = 0",
     "max_wr_cnt = 17",
@@ -155,10 +168,8 @@ static NO_LINES: [&str; 21] = [
     "queue = 3",
     "queue = 512",
     "queue = 65552",
-    "ring = 'packed'",
     "ring = 'Split'",
     "ring = true",
-    "indirect = true",
     "indirect = 0",
     "event_idx = 1",
     "image = 'disk.img'",

@@ -18,5 +18,4 @@ returns-clause-some c = record {
   ring = search rules;
   indirect = search rules;
   event_idx = search rules;
-  served = search rules;
 }

@@ -15,8 +15,8 @@ returns-in-Ok-clause-ran g c =
     let start = g.W.Write.contents c.args.out.now in
     let end = g.W.Write.contents c.run_on.new.out in
     let s = g.D.Disk.state in
-    on_ok_weaker c.run_on.result.0 (λ done lines is split.
-    subst (λ (x : List Said). StoresNothing x → Ran c.args.board.now (s c.args.disk) (s c.run_on.result.1) x start end) (sym (says_same lines c.in-Ok.lines.items _ is c.in-Ok.ensures.ok)) (done split)) c.run_on.ensures.ran
+    on_ok_weaker c.run_on.result.0 (λ done lines is.
+    subst (λ (x : List Said). StoresNothing x → Ran c.args.board.now (s c.args.disk) (s c.run_on.result.1) x start end) (sym (says_same lines c.in-Ok.lines.items _ is c.in-Ok.ensures.ok)) done) c.run_on.ensures.ran
 
 pub returns-in-Ok-clause-bad : goal.returns-in-Ok-clause-bad
 returns-in-Ok-clause-bad g c n bad =

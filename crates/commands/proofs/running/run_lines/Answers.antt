@@ -33,8 +33,8 @@ loop-line-init g c =
           (subst (λ b. Stood b start start t (seen c.args.host.now) all all) (sym whole) (begin_whole start (seen c.args.host.now) all t at none clean))),
       (λ calm. calm),
       (λ board partitions starts. subst (λ ls. Walked g.D.Disk.state g.D.Disk.makes board partitions all start (moment_of (λ k. []) c.args.host.now.board start) ls c.args.host.now.board start) (ap (map said) same)
-          (walk_begins g.D.Disk.state g.D.Disk.makes board partitions c.args.host.now all start starts (λ split clean.
-          subst (λ b. Stood b start start (first_told board partitions) (seen c.args.host.now) all all) (sym (sym starts.calm.broken ∙ starts.whole)) (begin_whole start (seen c.args.host.now) all (first_told board partitions) (starts.ready split) starts.answered clean)))),
+          (walk_begins g.D.Disk.state g.D.Disk.makes board partitions c.args.host.now all start starts (λ clean.
+          subst (λ b. Stood b start start (first_told board partitions) (seen c.args.host.now) all all) (sym (sym starts.calm.broken ∙ starts.whole)) (begin_whole start (seen c.args.host.now) all (first_told board partitions) starts.ready starts.answered clean)))),
       (λ board is. is),
     )
 
@@ -64,9 +64,9 @@ loop-line-preserved g c =
           let walked = subst (λ ls. Walked g.D.Disk.state g.D.Disk.makes board partitions all start first ls now.host.board here) (ap (map said) rest) (now.invariant.6 board partitions starts) in
           walk_on g.D.Disk.state g.D.Disk.makes board partitions all start first (said c.in-Some.line) left now.host.board c.run_line.new.host here next walked c.run_line.ensures.moves
           (c.run_line.ensures.calm (now.invariant.5 starts.calm)) ran.prints
-          (λ split clean.
+          (λ clean.
           let t = first_told board partitions in
-          let stood = subst (Stood (is_broken now.host.board) start here t (seen now.host) all) (ap (map said) rest) (now.invariant.4 (sym starts.calm.broken ∙ starts.whole) starts.answered t (starts.ready split) clean) in
+          let stood = subst (Stood (is_broken now.host.board) start here t (seen now.host) all) (ap (map said) rest) (now.invariant.4 (sym starts.calm.broken ∙ starts.whole) starts.answered t starts.ready clean) in
           step (is_broken now.host.board) (is_broken c.run_line.new.host.board) start here next t (seen now.host) (seen c.run_line.new.host) all left (said c.in-Some.line) few c.run_line.ensures.breaks stood ran.runs)),
       (λ board is. ran.hosts board (now.invariant.7 board is)),
     )
