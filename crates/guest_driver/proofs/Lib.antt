@@ -21,3 +21,8 @@ pub mod Elsewhere
 pub mod Lists
 pub mod Bytes
 pub mod Walks
+pub mod PackedMarks
+pub mod PackedStands
+pub mod PackedPublishing
+pub mod PackedOffering
+pub mod PackedJoined
