@@ -1,5 +1,6 @@
 pub mod DriverLemmas
 pub mod Kept
+pub mod Links
 pub mod OfferWrites
 pub mod Popping
 pub mod Tables
