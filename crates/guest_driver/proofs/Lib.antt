@@ -27,3 +27,4 @@ pub mod PackedStands
 pub mod PackedPublishing
 pub mod PackedOffering
 pub mod PackedJoined
+pub mod PackedKind
