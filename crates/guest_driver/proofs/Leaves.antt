@@ -123,7 +123,7 @@ published_more m d ring pending before c after published number reply fits h nam
     let old = places-append d.form before (c ∷ after) in
     let new = places-append d.form before after in
     let more = ap (places_in d.form) (offers-append published r) ∙ places-append d.form (offers_of published) (c ∷ []) in
-    let held = reply_joins d.form.kind d.form.indirect m ring d.size h.reaped pending published c reply at counted (omega (arith, between, old)) (omega (arith, counted, between, room)) is none h.held in
+    let held = reply_joins d.form.kind d.form.indirect m ring d.size h.reaped pending published c reply at rest.0.some counted (omega (arith, between, old)) (omega (arith, counted, between, room)) is none h.held in
     let P : List Offer → Type 0 = λ v. AreRemembered d v in
     record {
       setup = record { same = at.same; sizes = at.sizes; descriptors = at.descriptors; driver = at.driver; device = at.device; tables = at.tables };
@@ -262,7 +262,7 @@ first_of m d ring pending popped r rs h =
 
 -- none was used at the driver's mark
 idle : (m : List ℕ) (d : DriverState) (ring : RingState) (pending popped : List Offer) → IsOffered m d ring pending popped [] → IsStill d.form.kind m d.size d.used
-idle m d ring pending popped h = let P : ℕ → Type 0 = λ v. IsStill d.form.kind m d.size v in subst P (sym h.used) (none_used d.form.kind d.form.indirect m d.size h.reaped ring.used ring.popped pending h.held)
+idle m d ring pending popped h = let P : ℕ → Type 0 = λ v. IsStill d.form.kind m d.size v in subst P (sym h.used) (none_used d.form.kind d.form.indirect m ring d.size h.reaped pending h.setup h.held)
 
 pub reap_gives : AReapGivesTheFirst
 reap_gives m d d' ring pending popped [] (Ok None) h p = p.1

@@ -10,15 +10,13 @@ use Rattle.chains.specs.Range.{scattered}
 use Rattle.chains.specs.Ring.{RingState, first_state, Pops, Publishes, found_of as found_by}
 use Rattle.rpmb_frame.specs.declared.config.RingKind.{RingKind}
 use Rattle.guest_driver.specs.declared.form.Form.{Form}
-use Rattle.rpmb_frame.specs.declared.config.RingKind.TheVariants.{Split}
 use Rattle.mmio_transport.specs.Queue.{next, members, event, used_written, Tells}
 use Rattle.guest_driver.specs.declared.reaping.Reaped.{Reaped}
 use Rattle.guest_driver.specs.declared.fault.DriverFault.{DriverFault}
 use Rattle.guest_driver.specs.declared.fault.DriverFault.TheVariants.{NoRoom, OutOfRange, NoMemory, BadUsed}
-use Rattle.guest_driver.specs.Layout.{avail_idx_at, used_idx_at}
 use Rattle.guest_driver.specs.Offered.{Offer}
 use Rattle.guest_driver.specs.Used.{Reply}
-use Rattle.guest_driver.specs.Kinds.{IsSetUp, Holds, places_of, places_in, found_of, mark_of, ahead_of, areas_end, needed, readable_at, writable_at}
+use Rattle.guest_driver.specs.Kinds.{IsSetUp, Holds, places_of, places_in, found_of, mark_of, IsFresh, ahead_of, areas_end, needed, readable_at, writable_at}
 use Rattle.guest_driver.specs.Driver.{DriverState, first_driver, flight_of, Offering, owner, no_flight, offer_of}
 use Rattle.guest_driver.specs.Reap.{Reaps}
 
@@ -188,9 +186,8 @@ ItStays = (m n : List ℕ) (driver : DriverState) (ring : RingState) (pending po
     → Untouched driver.form m n driver.size pending published → IsOffered m driver ring pending popped published
     → IsOffered n driver ring pending popped published
 
--- a driver and a ring of which nothing was offered, over indexes that are 0
+-- a driver and a ring of which nothing was offered, over areas that are 0
 abbrev pub ItBegins : Type 0
 ItBegins = (m : List ℕ) (places : Places) (form : Form) (size : ℕ) (event_idx : Bool)
-    → form.kind ≡ Split → needed Split size ≤ length m → IsSetUp form (first_state places size) size
-    → bytes_at m (avail_idx_at size) 2 ≡ 0 ∷ 0 ∷ [] → bytes_at m (used_idx_at size) 2 ≡ 0 ∷ 0 ∷ []
+    → needed form.kind size ≤ length m → IsSetUp form (first_state places size) size → IsFresh form.kind m size
     → IsOffered m (first_driver form size event_idx) (first_state places size) [] [] []
