@@ -12,7 +12,7 @@ use Rattle.mmio_transport.specs.Queue.{QueueState, used_written, Tells}
 use Rattle.mmio_transport.specs.Job.{Done, used_length}
 use Rattle.mmio_transport.specs.Device.{DeviceState}
 use Rattle.mmio_transport.specs.Publishing.{IsDue, IsDueIn, WritesIn, WritesReply, with_notification, memory_after}
-use Rattle.guest_driver.specs.Kinds.{ring_of, places_of, found_of, writable_at}
+use Rattle.guest_driver.specs.Kinds.{places_of, found_of, writable_at}
 use Rattle.guest_driver.specs.Offered.{Offer}
 use Rattle.guest_driver.specs.Used.{Reply}
 use Rattle.guest_driver.specs.Driver.{DriverState, owner}
@@ -25,8 +25,8 @@ use Rattle.guest_driver.proofs.Leaves.{publish_joins}
 -- what is known of a popped chain
 record IsPoppedChain (d : DeviceState) (driver : DriverState) (ring : RingState) (c : Offer) (number : ℕ) : Type 0 where
   pub kept : IsRemembered driver c
-  pub inside : AreInside (length d.memory) (found_of driver.kind driver.size c).buffers.writable
-  pub outstanding : IsOutstanding ring number c.head (places_of driver.kind c)
+  pub inside : AreInside (length d.memory) (found_of driver.form driver.size c).buffers.writable
+  pub outstanding : IsOutstanding ring number c.head (places_of driver.form c)
 
 one_inside : (size at w : ℕ) (b : Bool) → at + w ≤ size → AreInside size (if b then [] else record { at = at; len = w } ∷ [])
 one_inside size at w true h = search rules
@@ -38,15 +38,15 @@ popped_chain d driver ring pending before c after published number h named =
     let kept = (kept_back driver before (c ∷ after) h.kept.1).0 in
     let below = kept.below in
     let room = kept.room in
-    let inside = room_held driver.kind d.memory driver.size h.reaped ring.used ring.popped pending published h.held in
+    let inside = room_held driver.form.kind driver.form.indirect d.memory driver.size h.reaped ring.used ring.popped pending published h.held in
     let one = h.once c.head below in
     let bound = own_at_most_one c.head (owner driver.owners c.head) in
     let there = count-append c.head before (c ∷ after) in
     let self = one_same c.head c.head refl in
     record {
       kept = kept;
-      inside = one_inside (length d.memory) (writable_at driver.kind driver.size c.head) c.writable (c.writable == 0) (range_inside driver.kind driver.size c.head c.writable (length d.memory) below room inside);
-      outstanding = (out_removed driver.kind ring.outstanding before c after number (omega (arith, one, bound, there, self)) named h.outstanding).there;
+      inside = one_inside (length d.memory) (writable_at driver.form.kind driver.size c.head) c.writable (c.writable == 0) (range_inside driver.form.kind driver.size c.head c.writable (length d.memory) below room inside);
+      outstanding = (out_removed driver.form ring.outstanding before c after number (omega (arith, one, bound, there, self)) named h.outstanding).there;
     }
 
 -- what the device writes for a reply to a chain
@@ -65,7 +65,7 @@ same_status r true = refl
 same_status r false = refl
 
 is_due : (d : DeviceState) (driver : DriverState) (pending before : List Offer) (c : Offer) (after : List Offer) (published : List Reply) (done : Done)
-    → (h : IsServed d driver pending (before ++ c ∷ after) published) → IsReplyTo d driver.kind driver.size c done → HasNumberIn d.queue before done.number → IsDueIn d.queue d done
+    → (h : IsServed d driver pending (before ++ c ∷ after) published) → IsReplyTo d driver.form driver.size c done → HasNumberIn d.queue before done.number → IsDueIn d.queue d done
 is_due d driver pending before c after published done h is named =
     let N : Option QueueState → Type 0 = λ q. HasNumberIn q before done.number in
     let chain = popped_chain d driver h.queue.ring pending before c after published done.number h.offered (subst N h.ready named) in
@@ -83,7 +83,7 @@ is_due d driver pending before c after published done h is named =
     subst P (sym h.ready) due
 
 published_by : (d d' : DeviceState) (driver : DriverState) (pending before : List Offer) (c : Offer) (after : List Offer) (published : List Reply) (done : Done) (notify : Bool)
-    → (h : IsServed d driver pending (before ++ c ∷ after) published) → IsReplyTo d driver.kind driver.size c done → HasNumber h.queue.ring.outstanding before done.number → WritesReply d h.queue done notify d'
+    → (h : IsServed d driver pending (before ++ c ∷ after) published) → IsReplyTo d driver.form driver.size c done → HasNumber h.queue.ring.outstanding before done.number → WritesReply d h.queue done notify d'
     → IsPublished d driver pending (before ++ after) published c done d'
 published_by d d' driver pending before c after published done notify h is named w =
     let queue = h.queue in
@@ -94,11 +94,11 @@ published_by d d' driver pending before c after published done notify h is named
     let m = memory_after d queue done in
     let ring2 = after_publish ring done.number done.id done.places in
     let T : RingKind → List ℕ → ℕ → Type 0 = λ k v p. Tells k v ring p notify in
-    let told : T (ring_of driver.kind) m (places_of driver.kind c) =
-    subst (λ k. T k m (places_of driver.kind c)) h.kind (subst (T queue.kind m) is.places (subst (λ v. T queue.kind v done.places) (ap (λ (s : DeviceState). s.memory) w.after) w.told)) in
+    let told : T driver.form.kind m (places_of driver.form c) =
+    subst (λ k. T k m (places_of driver.form c)) h.kind (subst (T queue.kind m) is.places (subst (λ v. T queue.kind v done.places) (ap (λ (s : DeviceState). s.memory) w.after) w.told)) in
     let offered = publish_joins d.memory m driver ring ring2 pending before c after published done.number done.reply notify fits h.offered named
     (record {
-      written = written_is d.memory queue.kind (ring_of driver.kind) ring done.writable (found_of driver.kind driver.size c).buffers.writable done.reply done.id c.head done.places (places_of driver.kind c)
+      written = written_is d.memory queue.kind driver.form.kind ring done.writable (found_of driver.form driver.size c).buffers.writable done.reply done.id c.head done.places (places_of driver.form c)
           h.kind is.writable is.id is.places (omega (arith, room, fits));
       counted = ap (λ v. after_publish ring done.number v done.places) is.id ∙ ap (after_publish ring done.number c.head) is.places;
       told = told;

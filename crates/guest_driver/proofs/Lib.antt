@@ -1,5 +1,6 @@
 pub mod DriverLemmas
 pub mod Kept
+pub mod Links
 pub mod OfferWrites
 pub mod Popping
 pub mod Tables
@@ -21,3 +22,9 @@ pub mod Elsewhere
 pub mod Lists
 pub mod Bytes
 pub mod Walks
+pub mod PackedMarks
+pub mod PackedStands
+pub mod PackedPublishing
+pub mod PackedOffering
+pub mod PackedJoined
+pub mod PackedKind

@@ -8,17 +8,16 @@ use Rattle.chains.specs.declared.fault.RingFault.{RingFault}
 use Rattle.chains.specs.declared.fault.RingFault.TheVariants.{NoMemory as RingNoMemory, Refused, OldNumber}
 use Rattle.chains.specs.Range.{scattered}
 use Rattle.chains.specs.Ring.{RingState, first_state, Pops, Publishes, found_of as found_by}
-use Rattle.guest_driver.specs.declared.kind.QueueKind.{QueueKind}
-use Rattle.guest_driver.specs.declared.kind.QueueKind.TheVariants.{Split}
+use Rattle.rpmb_frame.specs.declared.config.RingKind.{RingKind}
+use Rattle.guest_driver.specs.declared.form.Form.{Form}
 use Rattle.mmio_transport.specs.Queue.{next, members, event, used_written, Tells}
 use Rattle.guest_driver.specs.declared.reaping.Reaped.{Reaped}
 use Rattle.guest_driver.specs.declared.fault.DriverFault.{DriverFault}
 use Rattle.guest_driver.specs.declared.fault.DriverFault.TheVariants.{NoRoom, OutOfRange, NoMemory, BadUsed}
-use Rattle.guest_driver.specs.Layout.{avail_idx_at, used_idx_at}
 use Rattle.guest_driver.specs.Offered.{Offer}
 use Rattle.guest_driver.specs.Used.{Reply}
-use Rattle.guest_driver.specs.Kinds.{ring_of, IsSetUp, Holds, places_of, places_in, found_of, mark_of, tables, needed, readable_at, writable_at}
-use Rattle.guest_driver.specs.Driver.{DriverState, first_driver, Offering, owner, no_flight, offer_of}
+use Rattle.guest_driver.specs.Kinds.{IsSetUp, Holds, places_of, places_in, found_of, mark_of, IsFresh, ahead_of, areas_end, needed, readable_at, writable_at}
+use Rattle.guest_driver.specs.Driver.{DriverState, first_driver, flight_of, Offering, owner, no_flight, offer_of}
 use Rattle.guest_driver.specs.Reap.{Reaps}
 
 -- how many of these chains have this head
@@ -40,8 +39,10 @@ pub record IsRemembered (driver : DriverState) (c : Offer) : Type 0 where
   pub within : c.last < driver.size
   pub head : owner driver.owners c.head ≡ Some c.head
   pub last : owner driver.owners c.last ≡ Some c.head
-  pub flight : get_or driver.flights c.head no_flight ≡ record { last = c.last; writable = c.writable }
+  pub flight : get_or driver.flights c.head no_flight ≡ flight_of driver.form c
   pub room : c.writable ≤ 8192
+  -- it takes a place of the ring
+  pub some : 0 < places_of driver.form c
 
 abbrev pub AreRemembered : DriverState → List Offer → Type 0
 AreRemembered driver [] = Unit {0}
@@ -51,11 +52,11 @@ abbrev pub offers_of : List Reply → List Offer
 offers_of replies = map (λ r. r.offer) replies
 
 -- the ring's outstanding chains are these, in this order
-abbrev pub AreOutstanding : QueueKind → List Outstanding → List Offer → Type 0
-AreOutstanding kind [] [] = Unit {0}
-AreOutstanding kind [] (c ∷ cs) = ⊥
-AreOutstanding kind (o ∷ os) [] = ⊥
-AreOutstanding kind (o ∷ os) (c ∷ cs) = (o.id ≡ c.head) × (o.places ≡ places_of kind c) × AreOutstanding kind os cs
+abbrev pub AreOutstanding : Form → List Outstanding → List Offer → Type 0
+AreOutstanding form [] [] = Unit {0}
+AreOutstanding form [] (c ∷ cs) = ⊥
+AreOutstanding form (o ∷ os) [] = ⊥
+AreOutstanding form (o ∷ os) (c ∷ cs) = (o.id ≡ c.head) × (o.places ≡ places_of form c) × AreOutstanding form os cs
 
 -- the outstanding chain behind these others has this number
 abbrev pub HasNumber : List Outstanding → List Offer → ℕ → Type 0
@@ -66,19 +67,20 @@ HasNumber (o ∷ os) (b ∷ bs) number = HasNumber os bs number
 -- The chains in flight are those offered and not yet popped, those popped and not yet published, and
 -- those published and not yet reaped: each is one of these, once.
 pub record IsOffered (memory : List ℕ) (driver : DriverState) (ring : RingState) (pending popped : List Offer) (published : List Reply) : Type 0 where
-  pub setup : IsSetUp driver.kind ring driver.size
+  pub setup : IsSetUp driver.form ring driver.size
   pub owned : length driver.owners ≡ driver.size
   pub flown : length driver.flights ≡ driver.size
-  pub outstanding : AreOutstanding driver.kind ring.outstanding popped
+  pub outstanding : AreOutstanding driver.form ring.outstanding popped
   -- how many places were reaped
   pub reaped : ℕ
   -- the places popped and not yet used are those of the chains popped and not yet published
-  pub between : ring.popped ≡ ring.used + places_in driver.kind popped
-  pub counted : ring.used ≡ reaped + places_in driver.kind (offers_of published)
-  pub used : driver.used ≡ mark_of driver.kind driver.size reaped
-  pub held : Holds driver.kind memory driver.size reaped ring.used ring.popped pending published
+  pub between : ring.popped ≡ ring.used + places_in driver.form popped
+  pub counted : ring.used ≡ reaped + places_in driver.form (offers_of published)
+  pub used : driver.used ≡ mark_of driver.form.kind driver.size reaped
+  pub ahead : driver.offered ≡ ahead_of driver.form.kind driver.size (ring.popped + places_in driver.form pending)
+  pub held : Holds driver.form memory driver.size reaped ring.used ring.popped pending published
   -- the chains in flight have no more places than the ring
-  pub room : places_in driver.kind pending + (places_in driver.kind popped + places_in driver.kind (offers_of published)) ≤ driver.size
+  pub room : places_in driver.form pending + (places_in driver.form popped + places_in driver.form (offers_of published)) ≤ driver.size
   pub kept : AreRemembered driver pending × AreRemembered driver popped × AreRemembered driver (offers_of published)
   pub once : (head : ℕ) → head < driver.size
       → count head pending + (count head popped + count head (offers_of published)) ≡ in_flight driver head
@@ -100,7 +102,7 @@ AnOfferJoins = (memory memory' : List ℕ) (driver driver' : DriverState) (ring 
 -- a pop's answer is the first chain that was offered, which is popped from then on, with the number
 -- that the pop was given
 pub record IsFirst (driver : DriverState) (c : Offer) (cs popped : List Offer) (published : List Reply) (number : ℕ) (answer : Popped) (memory' : List ℕ) (ring' : RingState) : Type 0 where
-  pub found : found_by answer ≡ found_of driver.kind driver.size c
+  pub found : found_by answer ≡ found_of driver.form driver.size c
   pub request : answer.request.items ≡ c.bytes
   pub numbered : HasNumber ring'.outstanding popped number
   pub rest : IsOffered memory' driver ring' cs (popped ++ c ∷ []) published
@@ -123,14 +125,14 @@ PopsFirst (c ∷ cs) memory driver ring popped published number (Err OldNumber) 
 
 abbrev pub APopGivesTheFirst : Type 0
 APopGivesTheFirst = (memory memory' : List ℕ) (driver : DriverState) (ring ring' : RingState) (pending popped : List Offer) (published : List Reply) (number : ℕ) (answer : Result (Option Popped) RingFault)
-    → IsOffered memory driver ring pending popped published → Pops (next (ring_of driver.kind)) (members (ring_of driver.kind)) (event (ring_of driver.kind)) memory ring number answer memory' ring'
+    → IsOffered memory driver ring pending popped published → Pops (next driver.form.kind) (members driver.form.kind) (event driver.form.kind) memory ring number answer memory' ring'
     → PopsFirst pending memory driver ring popped published number answer memory' ring'
 
 -- a chain that was popped is scattered into and published
 abbrev pub APublishJoins : Type 0
 APublishJoins = (memory memory' : List ℕ) (driver : DriverState) (ring ring' : RingState) (pending before : List Offer) (c : Offer) (after : List Offer) (published : List Reply) (number : ℕ) (reply : List ℕ) (told : Bool)
     → length reply ≤ c.writable → IsOffered memory driver ring pending (before ++ c ∷ after) published → HasNumber ring.outstanding before number
-    → Publishes (used_written (ring_of driver.kind)) (Tells (ring_of driver.kind)) (scattered memory (found_of driver.kind driver.size c).buffers.writable reply) ring number c.head (places_of driver.kind c) (length reply) told memory' ring'
+    → Publishes (used_written driver.form.kind) (Tells driver.form.kind) (scattered memory (found_of driver.form driver.size c).buffers.writable reply) ring number c.head (places_of driver.form c) (length reply) told memory' ring'
     → IsOffered memory' driver ring' pending (before ++ after) (published ++ record { offer = c; bytes = reply } ∷ [])
 
 -- a reap's answer is the first reply that was published
@@ -163,30 +165,29 @@ AReapGivesTheFirst = (memory : List ℕ) (driver driver' : DriverState) (ring : 
 abbrev pub Same : List ℕ → List ℕ → ℕ → ℕ → Type 0
 Same m n at len = bytes_at n at len ≡ bytes_at m at len
 
-abbrev pub SameBytes : QueueKind → List ℕ → List ℕ → ℕ → List Offer → Type 0
+abbrev pub SameBytes : RingKind → List ℕ → List ℕ → ℕ → List Offer → Type 0
 SameBytes kind m n size [] = Unit {0}
 SameBytes kind m n size (c ∷ cs) = Same m n (readable_at kind size c.head) (length c.bytes) × SameBytes kind m n size cs
 
-abbrev pub SameReplies : QueueKind → List ℕ → List ℕ → ℕ → List Reply → Type 0
+abbrev pub SameReplies : RingKind → List ℕ → List ℕ → ℕ → List Reply → Type 0
 SameReplies kind m n size [] = Unit {0}
 SameReplies kind m n size (r ∷ rs) = Same m n (writable_at kind size r.offer.head) (length r.bytes) × SameReplies kind m n size rs
 
--- Nobody stored into the three areas, the bytes to be read of the chains not yet popped, or the
+-- Nobody stored into the three areas, the tables, where there are any, the bytes to be read of the chains not yet popped, or the
 -- replies not yet reaped.
-pub record Untouched (kind : QueueKind) (m n : List ℕ) (size : ℕ) (pending : List Offer) (published : List Reply) : Type 0 where
+pub record Untouched (form : Form) (m n : List ℕ) (size : ℕ) (pending : List Offer) (published : List Reply) : Type 0 where
   pub whole : length n ≡ length m
-  pub areas : (at len : ℕ) → at + len ≤ tables kind size → Same m n at len
-  pub bytes : SameBytes kind m n size pending
-  pub replies : SameReplies kind m n size published
+  pub areas : (at len : ℕ) → at + len ≤ areas_end form size → Same m n at len
+  pub bytes : SameBytes form.kind m n size pending
+  pub replies : SameReplies form.kind m n size published
 
 abbrev pub ItStays : Type 0
 ItStays = (m n : List ℕ) (driver : DriverState) (ring : RingState) (pending popped : List Offer) (published : List Reply)
-    → Untouched driver.kind m n driver.size pending published → IsOffered m driver ring pending popped published
+    → Untouched driver.form m n driver.size pending published → IsOffered m driver ring pending popped published
     → IsOffered n driver ring pending popped published
 
--- a driver and a ring of which nothing was offered, over indexes that are 0
+-- a driver and a ring of which nothing was offered, over areas that are 0
 abbrev pub ItBegins : Type 0
-ItBegins = (m : List ℕ) (places : Places) (size : ℕ) (event_idx : Bool)
-    → needed Split size ≤ length m → IsSetUp Split (first_state places size) size
-    → bytes_at m (avail_idx_at size) 2 ≡ 0 ∷ 0 ∷ [] → bytes_at m (used_idx_at size) 2 ≡ 0 ∷ 0 ∷ []
-    → IsOffered m (first_driver size event_idx) (first_state places size) [] [] []
+ItBegins = (m : List ℕ) (places : Places) (form : Form) (size : ℕ) (event_idx : Bool)
+    → needed form.kind size ≤ length m → IsSetUp form (first_state places size) size → IsFresh form.kind m size
+    → IsOffered m (first_driver form size event_idx) (first_state places size) [] [] []

@@ -3,8 +3,8 @@ use Rattle.std.specs.Prelude.{◌≡◌, ℕ, ◌+◌, ◌<◌, ◌≤◌, ◌�
 use Rattle.rpmb_frame.specs.declared.config.GuestConfig.{GuestConfig}
 use Rattle.rpmb_frame.specs.declared.config.RingKind.TheVariants.{Split as SplitRing}
 use Rattle.rpmb_frame.specs.Config.{IsGuest}
-use Rattle.guest_driver.specs.declared.kind.QueueKind.{QueueKind}
-use Rattle.guest_driver.specs.declared.kind.QueueKind.TheVariants.{Split}
+use Rattle.rpmb_frame.specs.declared.config.RingKind.TheVariants.{Split}
+use Rattle.guest_driver.specs.declared.form.Form.{Form}
 use Rattle.mmio_transport.specs.declared.done.Published.{Published}
 use Rattle.mmio_transport.specs.declared.done.Published.TheVariants.{Wrote, Dropped}
 use Rattle.mmio_transport.specs.declared.fault.DeviceFault.{DeviceFault}
@@ -18,21 +18,21 @@ use Rattle.mmio_transport.specs.Publishing.{Publishes}
 use Rattle.guest_driver.specs.declared.reaping.Reaped.{Reaped}
 use Rattle.guest_driver.specs.declared.fault.DriverFault.{DriverFault}
 use Rattle.guest_driver.specs.declared.fault.DriverFault.TheVariants.{NoRoom, OutOfRange, NoMemory as NoHostMemory, BadUsed}
-use Rattle.guest_driver.specs.Kinds.{ring_of, needed, places_of, found_of}
+use Rattle.guest_driver.specs.Kinds.{needed, places_of, found_of}
 use Rattle.guest_driver.specs.Offered.{Offer}
 use Rattle.guest_driver.specs.Used.{Reply}
 use Rattle.guest_driver.specs.Driver.{DriverState, first_driver, Offering, offer_of}
 use Rattle.guest_driver.specs.Reap.{Reaps}
 use Rattle.guest_driver.specs.Access.{ButForMemory}
 use Rattle.guest_driver.specs.Law.{IsOffered, HasNumber}
-use Rattle.guest_driver.specs.Negotiation.{negotiated, is_in_service}
+use Rattle.guest_driver.specs.Negotiation.{form_of, negotiated, is_in_service}
 
 -- The device is in service, on the driver's queue, and the chains in flight are those offered and not
 -- yet popped, those popped and not yet published, and those published and not yet reaped.
 pub record IsServed (d : DeviceState) (driver : DriverState) (pending popped : List Offer) (published : List Reply) : Type 0 where
   pub queue : QueueState
   pub ready : d.queue ≡ Some queue
-  pub kind : queue.kind ≡ ring_of driver.kind
+  pub kind : queue.kind ≡ driver.form.kind
   pub driver_ok : d.registers.status.driver_ok ≡ true
   -- it waits for no reset
   pub going : d.registers.status.needs_reset ≡ false
@@ -51,13 +51,13 @@ HasNumberIn None before number = ⊥
 HasNumberIn (Some queue) before number = HasNumber queue.ring.outstanding before number
 
 -- a reply to this chain, which the device popped in this session from this queue
-pub record IsReplyTo (d : DeviceState) (kind : QueueKind) (size : ℕ) (c : Offer) (done : Done) : Type 0 where
+pub record IsReplyTo (d : DeviceState) (form : Form) (size : ℕ) (c : Offer) (done : Done) : Type 0 where
   pub guest : done.guest ≡ d.guest
   pub session : done.session ≡ d.session
   pub readiness : done.readiness ≡ d.readiness
   pub id : done.id ≡ c.head
-  pub places : done.places ≡ places_of kind c
-  pub writable : done.writable ≡ (found_of kind size c).buffers.writable
+  pub places : done.places ≡ places_of form c
+  pub writable : done.writable ≡ (found_of form size c).buffers.writable
   pub fits : length done.reply ≤ c.writable
 
 -- the reply is the last of those published
@@ -77,12 +77,12 @@ PublishedBy Dropped d driver pending others published c done d' = ⊥
 -- a reply to a popped chain, whichever it is, comes behind those published
 abbrev pub ADevicePublishJoins : Type 0
 ADevicePublishJoins = (d d' : DeviceState) (driver : DriverState) (pending before : List Offer) (c : Offer) (after : List Offer) (published : List Reply) (done : Done) (answer : Published)
-    → IsServed d driver pending (before ++ c ∷ after) published → IsReplyTo d driver.kind driver.size c done
+    → IsServed d driver pending (before ++ c ∷ after) published → IsReplyTo d driver.form driver.size c done
     → HasNumberIn d.queue before done.number → Publishes d done answer d' → PublishedBy answer d driver pending (before ++ after) published c done d'
 
 -- a job is this chain, with its id, its ranges and its bytes, of this session and queue
-pub record IsJobOf (d : DeviceState) (kind : QueueKind) (size : ℕ) (c : Offer) (job : Job) : Type 0 where
-  pub found : found_by job ≡ found_of kind size c
+pub record IsJobOf (d : DeviceState) (form : Form) (size : ℕ) (c : Offer) (job : Job) : Type 0 where
+  pub found : found_by job ≡ found_of form size c
   pub request : job.request ≡ c.bytes
   pub guest : job.guest ≡ d.guest
   pub session : job.session ≡ d.session
@@ -113,7 +113,7 @@ PoppedBy [] (Err (Refused fault)) d driver popped published d' = ⊥
 PoppedBy [] (Err NeedsReset) d driver popped published d' = IsAtItsEnd d d'
 PoppedBy (c ∷ cs) (Ok None) d driver popped published d' = ⊥
 PoppedBy (c ∷ cs) (Ok (Some job)) d driver popped published d' =
-    IsJobOf d driver.kind driver.size c job × IsPopped d driver cs (popped ++ c ∷ []) published 1 d' × HasNumberIn d'.queue popped job.number
+    IsJobOf d driver.form driver.size c job × IsPopped d driver cs (popped ++ c ∷ []) published 1 d' × HasNumberIn d'.queue popped job.number
 PoppedBy (c ∷ cs) (Err NoMemory) d driver popped published d' = d' ≡ d
 PoppedBy (c ∷ cs) (Err (Refused fault)) d driver popped published d' = ⊥
 PoppedBy (c ∷ cs) (Err NeedsReset) d driver popped published d' = IsAtItsEnd d d'
@@ -185,4 +185,4 @@ pub record IsBegun (d : DeviceState) (driver : DriverState) (d' : DeviceState) :
 
 abbrev pub ANegotiationBegins : Type 0
 ANegotiationBegins = (g : GuestConfig) (d : DeviceState) → IsFound g d
-    → IsBegun d (first_driver g.queue g.event_idx) (negotiated d g.queue g.event_idx)
+    → IsBegun d (first_driver (form_of g) g.queue g.event_idx) (negotiated d (form_of g) g.queue g.event_idx)
