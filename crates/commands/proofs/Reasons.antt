@@ -1,5 +1,6 @@
 -- Which faults a line may come to.
-use Rattle.std.proofs.Common.{◌≡◌, ◌+◌, ◌<◌, ◌≤◌, ℕ, Bool, true, false, List, Option, Some, None, Ok, Err, arith, length, refl, subst, sym}
+use Rattle.std.proofs.Common.{◌≡◌, ◌==◌, ◌+◌, ◌-◌, ◌*◌, ◌%◌, ◌<◌, ◌≤◌, ℕ, inl, inr, Bool, true, false, List, Option, Some, None, Ok, Err, ap, ◌∙◌, arith, length, refl, subst, sym}
+use Rattle.std.proofs.Math.Nat.{add-mul-mod_self_right, mod-eq_of_lt}
 use Rattle.std.specs.Prelude.{All, nat_lt, slice_get}
 use Rattle.std.proofs.lemmas.Bool.Decides.{nat_tests}
 use Rattle.std.proofs.lemmas.Option.{get_or_from_slice_get, slice_get_within}
@@ -7,14 +8,18 @@ use Rattle.rpmb_frame.specs.Config.{IsGuest}
 use Rattle.rpmb_frame.specs.Layout.{layout}
 use Rattle.rpmb_frame.specs.declared.config.GuestConfig.{GuestConfig}
 use Rattle.rpmb_frame.specs.declared.config.RingKind.{RingKind}
-use Rattle.rpmb_frame.specs.declared.config.RingKind.TheVariants.{Split}
+use Rattle.rpmb_frame.specs.declared.config.RingKind.TheVariants.{Split, Packed}
 use Rattle.guest_driver.specs.declared.form.Form.{Form}
-use Rattle.guest_driver.specs.Driver.{HasTooFew, owner}
+use Rattle.guest_driver.specs.Driver.{DriverState, HasTooFew, IsFull, full_by, has_two, offer_of, owner}
 use Rattle.guest_driver.specs.Kinds.{needed}
+use Rattle.guest_driver.specs.Offered.{Offer}
+use Rattle.guest_driver.specs.PackedHeld.{free_places}
+use Rattle.guest_driver.specs.PackedOffered.{none_or_one, places_of}
+use Rattle.guest_driver.specs.Negotiation.{form_of}
 use Rattle.script.specs.Line.{IsWithin, chain, store, reset}
 use Rattle.host.specs.Guest.{GuestView, StoresInto}
 use Rattle.host.specs.Host.{ChainsAt, HostChains, HostResetsGuest, HostStores, HostView, ResetsAt, StoresAt, StuckBy}
-use Rattle.host.specs.Reasons.{ChainReason, HostExplains, HostKeeps, IsGuestOf, ReasonAt}
+use Rattle.host.specs.Reasons.{ChainReason, IsAtRest, IsLevel, HostExplains, HostKeeps, IsGuestOf, ReasonAt}
 use Rattle.host.specs.Runner.{RunnerView}
 use Rattle.host.specs.declared.fault.HostFault.{HostFault}
 use Rattle.host.specs.declared.fault.HostFault.TheVariants as host
@@ -27,6 +32,40 @@ use Rattle.commands.specs.Reasons.{IsHostOf, IsOutside, LineEnds}
 use Rattle.commands.specs.declared.fault.Fault.{Fault}
 use Rattle.commands.specs.declared.fault.Fault.TheVariants as fault
 use Rattle.commands.proofs.Lines.{there_is}
+
+-- two descriptors that are free are enough
+enough_free : (owners : List (Option ℕ)) (two : Bool) → 2 ≤ length owners → ((d : ℕ) → owner owners d ≡ None) → HasTooFew owners two → ⊥
+enough_free owners false many free few = few 0 (omega arith) (omega (arith, many)) (free 0)
+enough_free owners true many free few = few 0 (omega arith) (omega (arith, many)) (free 0) 1 (omega arith) (omega (arith, many)) (free 1)
+
+-- a chain takes two places of a packed ring at most
+one_at_most : (empty : Bool) → none_or_one empty ≤ 1
+one_at_most true = omega arith
+one_at_most false = omega arith
+
+two_at_most : (indirect : Bool) (c : Offer) → places_of indirect c ≤ 2
+two_at_most true c = omega arith
+two_at_most false c = let read = one_at_most (length c.bytes == 0) in let write = one_at_most (c.writable == 0) in omega (arith, read, write)
+
+-- where the marks are one, all places are free
+all_free : (size mark : ℕ) → 0 < size → free_places size mark mark ≡ size
+all_free size mark some =
+    let round : mark + 2 * size - mark ≡ 0 + 1 * (2 * size) = omega arith in
+    let none : (mark + 2 * size - mark) % (2 * size) ≡ 0 =
+    ap (λ x. x % (2 * size)) round ∙ add-mul-mod_self_right 0 1 (2 * size) ∙ mod-eq_of_lt (omega (arith, some)) in
+    omega (arith, none)
+
+-- a driver of which nothing is in flight has room for a chain
+enough : (driver : DriverState) (readable : List ℕ) (writable : ℕ) → 2 ≤ driver.size → length driver.owners ≡ driver.size → IsAtRest driver → IsFull driver readable writable → ⊥
+enough driver readable writable many sized rest full = by driver.form.kind rest.level full
+  where
+    by : (kind : RingKind) → IsLevel kind driver.offered driver.used → full_by kind driver.form.indirect driver readable writable → ⊥
+    by Split level few = enough_free driver.owners _ (omega (arith, many, sized)) rest.free few
+    by Packed level (inl few) =
+        let most = two_at_most driver.form.indirect (offer_of readable writable 0 0) in
+        let all : free_places driver.size driver.offered driver.used ≡ driver.size = ap (λ x. free_places driver.size x driver.used) level ∙ all_free driver.size driver.used (omega (arith, many)) in
+        omega (arith, most, all, few, many)
+    by Packed level (inr few) = enough_free driver.owners false (omega (arith, many, sized)) rest.free few
 
 -- a driver has room for its areas
 roomy : (g : GuestConfig) (form : Form) (size bytes : ℕ) → IsGuest g → form ≡ form_of g → size ≡ g.queue → bytes ≡ g.memory → bytes < needed form.kind size → ⊥

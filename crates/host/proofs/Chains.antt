@@ -1,7 +1,6 @@
 -- A chain of a guest that is ready, taken to its end.
 use Rattle.std.proofs.Common.{◌≡◌, ℕ, ◌+◌, ◌<◌, ◌≤◌, ◌⊎◌, inl, inr, ◌==◌, not, nat_lt, if◌then◌else◌, Bool, true, false, List, [], ◌∷◌, length, Option, Some, None, Result, Ok, Err, refl, sym, ap, ◌∙◌, arith, subst}
 use Rattle.std.proofs.lemmas.Bool.{eqb-true}
-use Rattle.rpmb_frame.specs.declared.config.RingKind.TheVariants.{Split}
 use Rattle.rpmb_frame.specs.declared.config.GuestConfig.{GuestConfig}
 use Rattle.rpmb_frame.specs.Config.{IsGuest}
 use Rattle.chains.specs.declared.range.Range.{Range}
@@ -12,6 +11,7 @@ use Rattle.guest_driver.specs.declared.fault.DriverFault.TheVariants.{BadUsed, O
 use Rattle.guest_driver.specs.declared.form.Form.{Form}
 use Rattle.guest_driver.specs.Access.{ButForMemory}
 use Rattle.guest_driver.specs.Used.{Reply}
+use Rattle.guest_driver.specs.Negotiation.{form_of}
 use Rattle.guest_driver.specs.Driver.{DriverState, Offering, offer_of}
 use Rattle.guest_driver.specs.Reap.{Reaps}
 use Rattle.guest_driver.specs.OnDevice.{IsBackFrom}

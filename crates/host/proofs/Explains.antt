@@ -3,21 +3,18 @@ use Rattle.std.proofs.Common.{◌≡◌, ◌<◌, ◌≤◌, ◌+◌, ℕ, inl, 
 use Rattle.std.specs.Prelude.{slice_get, slice_set}
 use Rattle.std.proofs.lemmas.Bool.{eq-eqb, ne_eqb, or_parts}
 use Rattle.flusher.proofs.Guests.{get_set_same}
-use Rattle.guest_driver.specs.declared.form.Form.{Form}
-use Rattle.guest_driver.specs.declared.kind.QueueKind.TheVariants.{Split}
 use Rattle.mmio_transport.specs.Device.{DeviceState}
 use Rattle.mmio_transport.specs.Job.{Job}
 use Rattle.mmio_transport.specs.Popping.{GivesFrom, is_stopped, live_queue}
 use Rattle.mmio_transport.specs.Queue.{QueueState}
 use Rattle.guest_driver.specs.Access.{ButForMemory}
-use Rattle.guest_driver.specs.Driver.{Adds, DriverState, Offering, Refuses, Takes, has_two, offer_of}
-use Rattle.guest_driver.specs.Kinds.{needed, with_offer}
-use Rattle.guest_driver.specs.Offered.{IsOffer, Offer, avail_idx}
+use Rattle.guest_driver.specs.Driver.{Adds, DriverState, Offering, Refuses, flight_of, offer_of}
+use Rattle.guest_driver.specs.Kinds.{needed}
 use Rattle.guest_driver.specs.Reap.{Reaps, after_reap}
 use Rattle.guest_driver.specs.declared.fault.DriverFault.{DriverFault}
 use Rattle.guest_driver.specs.declared.fault.DriverFault.TheVariants as driver_fault
 use Rattle.guest_driver.specs.declared.reaping.Reaped.{Reaped}
-use Rattle.guest_driver.proofs.OfferWrites.{writes}
+use Rattle.guest_driver.proofs.Sizes.{offer_whole}
 use Rattle.board.specs.State.{BoardState}
 use Rattle.host.specs.Guest.{GuestView, view_of, with_device}
 use Rattle.host.specs.Reasons.{AreasIn, ChainReason, EndsAs, ExplainedAt, HasAreas, HasReason, IsEmptied, IsExplainedAt, IsGoing, IsJobOfGuest, IsSameFront, LeftFor, ServeReason, WasTaken, lies}
@@ -86,52 +83,7 @@ front_reaped m f f' driver' told same r =
     let s = reaped_driver m f'.driver driver' told r in
     record { places = same.places; form = s.form ∙ same.form; size = s.size ∙ same.size; owners = s.owners ∙ same.owners; flights = s.flights ∙ same.flights }
 
--- 2. The memory keeps its length through an offer
-
-has_two_true : (readable : List ℕ) (writable : ℕ) → 0 < length readable → 0 < writable → has_two readable writable ≡ true
-has_two_true readable writable p q = rw (ne_eqb (length readable) 0 (λ e. omega (arith, e, p)), ne_eqb writable 0 (λ e. omega (arith, e, q))) refl
-
-has_two_false : (readable : List ℕ) (writable : ℕ) → length readable ≡ 0 → has_two readable writable ≡ false
-has_two_false readable writable e = rw (eq-eqb (length readable) 0 e) refl
-
-is_offer : (size : ℕ) (owners : List (Option ℕ)) (two : Bool) (readable : List ℕ) (writable head last : ℕ) → length owners ≡ size → has_two readable writable ≡ two → Takes owners two head last
-    → length readable ≤ 8704 → writable ≤ 8192 → 0 < length readable + writable → IsOffer size (offer_of readable writable head last)
-is_offer size owners false readable writable head last sized is takes short small some =
-    let below = takes.0.below in
-    let same = takes.1 in
-    record {
-      head = omega (arith, below, sized);
-      last = omega (arith, below, sized, same);
-      readable = short;
-      writable = small;
-      some = some;
-      two = λ p q. absurd (let e = sym (has_two_true readable writable p q) ∙ is in cc);
-      one = λ none. same;
-    }
-is_offer size owners true readable writable head last sized is takes short small some =
-    let below = takes.0.below in
-    let within = takes.1.below in
-    let above = takes.1.above in
-    record {
-      head = omega (arith, below, sized);
-      last = omega (arith, within, sized);
-      readable = short;
-      writable = small;
-      some = some;
-      two = λ p q e. omega (arith, above, e);
-      one = λ none. absurd (let e = sym (has_two_false readable writable none) ∙ is in cc);
-    }
-
-length_offered : (form : Form) (m : List ℕ) (size : ℕ) (c : Offer) → IsOffer size c → needed form.kind size ≤ length m → length (with_offer kind m size c) ≡ length m
-length_offered Split m size c is room = (writes m size (avail_idx m size) c is room).whole
-
-offered_memory : (m m' : List ℕ) (driver driver' : DriverState) (readable : List ℕ) (writable head : ℕ) → length readable ≤ 8704 → writable ≤ 8192 → 0 < length readable + writable
-    → Adds m driver readable writable head m' driver' → length m' ≡ length m
-offered_memory m m' driver driver' readable writable head short small some a =
-    ap length a.written
-    ∙ length_offered driver.kind m driver.size (offer_of readable writable head a.last) (is_offer driver.size driver.owners (has_two readable writable) readable writable head a.last a.sized refl a.takes short small some) a.inside
-
--- 3. What serving says of the device
+-- 2. What serving says of the device
 
 going : (d : DeviceState) → is_stopped d ≡ false → IsGoing d
 unfolding is_stopped
@@ -154,7 +106,7 @@ left_so fault.Busy g g' r r' readable writable taken left = absurd left
 left_so fault.NoRoom g g' r r' readable writable taken left = absurd left
 left_so fault.Foreign g g' r r' readable writable taken left = absurd left
 
--- 4. The guest's chain, on its board
+-- 3. The guest's chain, on its board
 
 module _ {D : Type 0} (n : ℕ) (b : BoardState D) (front : Front) (readable : List ℕ) (writable : ℕ) where
   -- a guest has one device
@@ -188,7 +140,7 @@ module _ {D : Type 0} (n : ℕ) (b : BoardState D) (front : Front) (readable : L
   module _ (b2 : BoardState D) (d d1 : DeviceState) (driver1 : DriverState) (head : ℕ) (there : slice_get b.devices n ≡ Some d) (rest : ButForMemory d d1)
       (a : Adds d.memory front.driver readable writable head d1.memory driver1) (short : length readable ≤ 8704) (small : writable ≤ 8192) (some : 0 < length readable + writable) where
     long : length d1.memory ≡ length d.memory
-    long = offered_memory d.memory d1.memory front.driver driver1 readable writable head short small some a
+    long = offer_whole d.memory d1.memory front.driver driver1 readable writable head short small some a
 
     lent_areas : HasAreas d → HasAreas d1
     lent_areas areas = subst (λ q. AreasIn (length d1.memory) q) (sym (ap (λ (x : DeviceState). x.queue) rest)) (subst (λ k. AreasIn k d.queue) (sym long) areas)
@@ -277,7 +229,7 @@ module _ {D : Type 0} (n : ℕ) (b : BoardState D) (front : Front) (readable : L
           subst (λ (x : DriverState). length d'.memory < needed x.form.kind x.size) a.after (subst (λ (x : DeviceState). length x.memory < needed driver1.form.kind driver1.size) is reaps.0) in
           absurd (omega (arith, inside, small_now, whole)))
 
--- 5. A guest that is stuck, or becomes so
+-- 4. A guest that is stuck, or becomes so
 
 module _ {D : Type 0} (n : ℕ) (b : BoardState D) (front : Front) (readable : List ℕ) (writable : ℕ) (why : Stuck) where
   pub stuck_before : (told : Result Answer HostFault) → front.stuck ≡ Some why → ExplainedAt n front b readable writable told front b

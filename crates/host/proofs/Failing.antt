@@ -42,7 +42,7 @@ ready_fails : (was now : Bool) (f : HostFault) (g : GuestView) (r r' : RunnerVie
 unfolding job_of
 ready_fails was now fault.OutOfRange g r r' number session steps readable writable ready there fails =
     let small = fails.0 in
-    let inside = room_held g.driver.kind g.device.memory g.driver.size ready.served.offered.reaped ready.served.queue.ring.used ready.served.queue.ring.popped [] [] ready.served.offered.held in
+    let inside = room_held g.driver.form.kind g.driver.form.indirect g.device.memory g.driver.size ready.served.offered.reaped ready.served.queue.ring.used ready.served.queue.ring.popped [] [] ready.served.offered.held in
     omega (arith, small, inside)
 ready_fails was now fault.NoMemory g r r' number session steps readable writable ready there fails = tt
 ready_fails was now fault.Busy g r r' number session steps readable writable ready there fails = fails

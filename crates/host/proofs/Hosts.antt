@@ -4,16 +4,13 @@ use Rattle.std.specs.Prelude.{slice_get, All, drop}
 use Rattle.std.proofs.lemmas.Bool.{ne_eqb}
 use Rattle.std.proofs.lemmas.List.{append-nil, append_assoc, at_drop_all, drop_more, get_or-replicate, length-set, length-replicate, set-get_or}
 use Rattle.std.proofs.lemmas.Option.{get_or_from_slice_get, slice_get-get_or, slice_get_within}
-use Rattle.rpmb_frame.specs.declared.config.RingKind.{RingKind}
-use Rattle.rpmb_frame.specs.declared.config.RingKind.TheVariants.{Split}
 use Rattle.rpmb_frame.specs.declared.config.GuestConfig.{GuestConfig}
 use Rattle.rpmb_frame.specs.Config.{IsBoard, IsGuest}
 use Rattle.rpmb_frame.specs.Layout.{layout}
 use Rattle.mmio_transport.specs.Device.{DeviceState, last_count, counted, first_state, after_write, after_reset as after_device_reset}
 use Rattle.guest_driver.specs.declared.form.Form.{Form}
-use Rattle.guest_driver.specs.Kinds as by_kind
+use Rattle.guest_driver.specs.Kinds.{needed}
 use Rattle.guest_driver.proofs.ByKind.{room_held}
-use Rattle.guest_driver.specs.Layout.{needed}
 use Rattle.guest_driver.specs.Driver.{first_driver}
 use Rattle.guest_driver.specs.Negotiation.{form_of, negotiated}
 use Rattle.guest_driver.specs.OnDevice.{IsFound}

@@ -1,6 +1,6 @@
 -- The guests of a board stay its guests.
 use Rattle.std.proofs.Common.{◌≡◌, ◌<◌, ◌≤◌, ◌⊎◌, ℕ, zero, suc, inl, inr, Bool, true, false, List, [], ◌∷◌, Option, Some, None, Result, Ok, Err, length, replicate, set, get_or, refl, sym, ap, ◌∙◌, arith, subst, length-set}
-use Rattle.std.specs.Prelude.{slice_get, ◌+◌, ◌==◌, ◌&&◌, not, if◌then◌else◌}
+use Rattle.std.specs.Prelude.{slice_get, ◌+◌, ◌*◌, ◌%◌, ◌==◌, ◌&&◌, not, if◌then◌else◌}
 use Rattle.std.proofs.lemmas.Bool.{and_parts, cases_eq, leb-true}
 use Rattle.std.proofs.lemmas.List.{get_or-set_same, get_or-set_other, length-replicate}
 use Rattle.std.proofs.lemmas.Option.{get_or_from_slice_get, slice_get_within}
@@ -272,11 +272,11 @@ length_areas d size = by (has_room d size) refl
 negotiated_keeps : (d : DeviceState) (form : Form) (size : ℕ) (event_idx : Bool) → Keeps d (negotiated d form size event_idx)
 unfolding negotiated with_areas
 negotiated_keeps d form size event_idx =
-    keeps_twice d (with_areas d size) (after_writes (with_areas d size) (negotiation size event_idx)) (record { guest = refl; config = refl; memory = length_areas d size }) (writes_keep (with_areas d size) (negotiation size event_idx))
+    keeps_twice d (with_areas d size) (after_writes (with_areas d size) (negotiation form size event_idx)) (record { guest = refl; config = refl; memory = length_areas d size }) (writes_keep (with_areas d size) (negotiation form size event_idx))
 
 negotiated_areas : (d : DeviceState) (form : Form) (size : ℕ) (event_idx : Bool) → HasAreas d → HasAreas (negotiated d form size event_idx)
 unfolding negotiated with_areas
-negotiated_areas d form size event_idx areas = writes_areas (with_areas d size) (negotiation size event_idx) (subst (λ k. AreasIn k d.queue) (sym (length_areas d size)) areas)
+negotiated_areas d form size event_idx areas = writes_areas (with_areas d size) (negotiation form size event_idx) (subst (λ k. AreasIn k d.queue) (sym (length_areas d size)) areas)
 
 none_owned : (n d : ℕ) → owner (replicate n None) d ≡ None
 none_owned zero d = refl
@@ -363,7 +363,7 @@ stuck_told (Ok (answer.Stuck stuck.BadUsed)) g g' r r' readable writable w = w.e
 stuck_told (Err why) g g' r r' readable writable w = tt
 
 clear_told : (told : Result Answer HostFault) (given : Answer) (g g' : GuestView) (r r' : RunnerView) (readable : List ℕ) (writable : ℕ) → told ≡ Ok given → stuck_by told ≡ None → length g.driver.flights ≡ length g.driver.owners
-    → ((d : ℕ) → owner g.driver.owners d ≡ None) → ChainReason g r readable writable told g' r' → (d : ℕ) → owner g'.driver.owners d ≡ None
+    → IsAtRest g.driver → ChainReason g r readable writable told g' r' → IsAtRest g'.driver
 clear_told (Ok (answer.Used bytes)) given g g' r r' readable writable is none long free w = clear_again g g' r r' readable writable bytes long free w
 clear_told (Ok (answer.Stuck why)) given g g' r r' readable writable is none long free w = absurd (cc)
 clear_told (Err why) given g g' r r' readable writable is none long free w = absurd (cc)

@@ -7,6 +7,7 @@ use Rattle.mmio_transport.specs.Device.{DeviceState, last_count}
 use Rattle.mmio_transport.specs.Job.{Job}
 use Rattle.guest_driver.specs.Kinds.{needed}
 use Rattle.guest_driver.specs.Driver.{IsFull}
+use Rattle.guest_driver.specs.Negotiation.{form_of}
 use Rattle.guest_driver.specs.OnDevice.{IsServed}
 use Rattle.rpmb_book.specs.declared.refused.Refused.TheVariants as refused
 use Rattle.board.specs.State.{BoardState}
