@@ -24,7 +24,8 @@ const ACCEPTED: u64 = VIRTIO_F_VERSION_1
 const AREAS: Queue = (3, 48, 64);
 
 // A chain: what the driver stores to add it, the bytes to be read, what the guest stores once it was
-// popped, whether the driver is notified, where its used descriptor stands, and what it says.
+// popped, whether the driver is notified, where the address of its used descriptor ends but for four
+// bytes, and what follows these.
 struct Chain {
     added: &'static [Step],
     request: &'static [u8],
@@ -54,7 +55,7 @@ static CHAINS: [Chain; 3] = [
             Step::Describes(16, (4000, 1, 9, 0)),
         ],
         notify: true,
-        used: 0,
+        used: 4,
         says: [3, 0, 0, 0, 0, 0, 0x82, 0x80],
     },
     // virtqueue_add_indirect_packed: the table, and one descriptor that refers to it. off_wrap is place 2.
@@ -71,7 +72,7 @@ static CHAINS: [Chain; 3] = [
         request: &[5, 6, 7, 8],
         spoiled: &[],
         notify: true,
-        used: 32,
+        used: 36,
         says: [3, 0, 0, 0, 1, 0, 0x82, 0x80],
     },
     // The next round begins at index 0, with wrap 0. The driver's event names the place before, so it
@@ -85,7 +86,7 @@ static CHAINS: [Chain; 3] = [
         request: &[],
         spoiled: &[],
         notify: false,
-        used: 0,
+        used: 4,
         says: [3, 0, 0, 0, 2, 0, 0x02, 0],
     },
 ];
@@ -103,7 +104,7 @@ fn negotiate(device: &mut Device) -> Result<(), Fail> {
 
 // virtqueue_get_buf_ctx_packed: the used descriptor at the driver's place, and the bytes of the reply.
 fn is_back(device: &Device, chain: &Chain) -> Result<(), Fail> {
-    let used = load12(device, chain.used + 4)?;
+    let used = load12(device, chain.used)?;
     check(used.ends_with(&chain.says), "the used descriptor")?;
     let bytes = load12(device, 2000)?;
     check(bytes.starts_with(&[5, 6, 7, 0]), "the reply")
