@@ -1,9 +1,7 @@
 -- What a driver and a device agree on, and what each call does to it.
 use Rattle.std.specs.Prelude.{◌≡◌, ℕ, ◌+◌, ◌<◌, ◌≤◌, ◌⊎◌, true, false, List, [], ◌∷◌, ◌++◌, length, Option, Some, None, Result, Ok, Err}
 use Rattle.rpmb_frame.specs.declared.config.GuestConfig.{GuestConfig}
-use Rattle.rpmb_frame.specs.declared.config.RingKind.TheVariants.{Split as SplitRing}
 use Rattle.rpmb_frame.specs.Config.{IsGuest}
-use Rattle.rpmb_frame.specs.declared.config.RingKind.TheVariants.{Split}
 use Rattle.guest_driver.specs.declared.form.Form.{Form}
 use Rattle.mmio_transport.specs.declared.done.Published.{Published}
 use Rattle.mmio_transport.specs.declared.done.Published.TheVariants.{Wrote, Dropped}
@@ -164,12 +162,10 @@ AReapFromADeviceGivesTheFirst = (d : DeviceState) (driver driver' : DriverState)
     → IsServed d driver pending popped published → Reaps d.memory driver answer driver'
     → ReapedBy published answer d driver pending popped driver'
 
--- a device that no driver has found since its last reset, of a guest with a split queue for which the
--- memory has room
+-- a device that no driver has found since its last reset, of a guest for whose queue the memory has room
 pub record IsFound (g : GuestConfig) (d : DeviceState) : Type 0 where
   pub guest : IsGuest g
-  pub split : g.ring ≡ SplitRing
-  pub memory : needed Split g.queue ≤ length d.memory
+  pub memory : needed g.ring g.queue ≤ length d.memory
   pub registers : d.registers ≡ fresh
   pub none : d.queue ≡ None
 
