@@ -80,6 +80,17 @@ static GUEST: GuestConfig = GuestConfig {
     event_idx: false,
 };
 
+// A queue of either kind, with tables of descriptors or without.
+type Form = (RingKind, bool);
+
+fn guest_of(form: Form) -> GuestConfig {
+    GuestConfig {
+        ring: form.0,
+        indirect: form.1,
+        ..GUEST
+    }
+}
+
 static READABLE: [u8; 3] = [5, 6, 7];
 
 static REPLY: [u8; 2] = [8, 9];
@@ -119,28 +130,47 @@ fn answer_three(alloc: Global, device: &mut Device) -> Result<(), Fail> {
     check(publish(alloc, device, first), "written")
 }
 
-static THREE: [Offered; 3] = [
-    (&[5, 6, 7], 0, Ok(0)),
-    (&[5, 6, 7], 2, Ok(1)),
-    (&[], 2, Ok(3)),
+// The bytes to be read of three chains, and how much room each has.
+static THREE: [(&[u8], u32); 3] = [(&[5, 6, 7], 0), (&[5, 6, 7], 2), (&[], 2)];
+
+// Their ids: of a split ring the lowest descriptor that is free, and the second chain has two where its
+// parts stand in the ring; of a packed ring the lowest that no chain has.
+static FORMS: [(Form, [u16; 3]); 4] = [
+    ((RingKind::Split, false), [0, 1, 3]),
+    ((RingKind::Split, true), [0, 1, 2]),
+    ((RingKind::Packed, false), [0, 1, 2]),
+    ((RingKind::Packed, true), [0, 1, 2]),
 ];
 
-static THREE_BACK: [(u16, &[u8]); 3] = [(3, &[8, 9]), (1, &[8, 9]), (0, &[])];
-
-// They come back so.
-fn go_and_come_back(alloc: Global, pair: &mut Pair) -> Result<(), Fail> {
-    offers(pair, &THREE)?;
-    answer_three(alloc, &mut pair.device)?;
-    for (id, bytes) in &THREE_BACK {
-        check(reaps(pair, *id, bytes), "a chain")?;
+fn offer_three(pair: &mut Pair, ids: &[u16; 3]) -> Result<(), Fail> {
+    for ((readable, room), id) in THREE.iter().zip(ids.iter()) {
+        check(offer(pair, readable, *room)? == Ok(*id), "an offer")?;
     }
+    Ok(())
+}
+
+// They come back as they were published.
+fn go_and_come_back(alloc: Global, pair: &mut Pair, ids: &[u16; 3]) -> Result<(), Fail> {
+    offer_three(pair, ids)?;
+    answer_three(alloc, &mut pair.device)?;
+    let last_first = reaps(pair, ids[2], &REPLY) && reaps(pair, ids[1], &REPLY);
+    check(last_first && reaps(pair, ids[0], &[]), "three chains")?;
     check(reaps_nothing(pair), "no fourth")
+}
+
+fn of_form(alloc: Global, form: Form, ids: &[u16; 3]) -> Result<(), Fail> {
+    let mut pair = in_service(alloc, 0, &guest_of(form))?;
+    // The descriptors are free again, and a packed ring begins its next round.
+    go_and_come_back(alloc, &mut pair, ids)?;
+    go_and_come_back(alloc, &mut pair, ids)
 }
 
 #[test]
 fn chains_come_back_as_they_were_published(rt: HostRuntime) -> Result<(), Fail> {
-    let mut pair = in_service(rt.alloc(), 0, &GUEST)?;
-    go_and_come_back(rt.alloc(), &mut pair)
+    for (form, ids) in &FORMS {
+        of_form(rt.alloc(), *form, ids)?;
+    }
+    Ok(())
 }
 
 fn go_round(alloc: Global, pair: &mut Pair) -> Result<(), Fail> {
@@ -150,28 +180,78 @@ fn go_round(alloc: Global, pair: &mut Pair) -> Result<(), Fail> {
     check(reaps(pair, 0, &REPLY), "a reply")
 }
 
-#[test]
-fn the_indexes_run_round(rt: HostRuntime) -> Result<(), Fail> {
-    let mut pair = in_service(rt.alloc(), 0, &GUEST)?;
+fn go_rounds(alloc: Global, form: Form) -> Result<(), Fail> {
+    let mut pair = in_service(alloc, 0, &guest_of(form))?;
     for _ in 0..65540 {
-        go_round(rt.alloc(), &mut pair)?;
+        go_round(alloc, &mut pair)?;
     }
     Ok(())
 }
 
-// Four descriptors: two chains take three of them, and a third one the last.
-static UNTIL_THERE_IS_NO_ROOM: [Offered; 5] = [
-    (&[5, 6, 7], 0, Ok(0)),
-    (&[5, 6, 7], 2, Ok(1)),
-    (&[5, 6, 7], 2, Err(DriverFault::NoRoom)),
-    (&[], 2, Ok(3)),
-    (&[], 2, Err(DriverFault::NoRoom)),
+#[test]
+fn the_indexes_run_round(rt: HostRuntime) -> Result<(), Fail> {
+    for (form, _) in &FORMS {
+        go_rounds(rt.alloc(), *form)?;
+    }
+    Ok(())
+}
+
+// Four descriptors, or places: two chains take three of them, and a third one the last. With tables each
+// takes one.
+static UNTIL_THERE_IS_NO_ROOM: [(Form, [Offered; 5]); 4] = [
+    (
+        (RingKind::Split, false),
+        [
+            (&[5, 6, 7], 0, Ok(0)),
+            (&[5, 6, 7], 2, Ok(1)),
+            (&[5, 6, 7], 2, Err(DriverFault::NoRoom)),
+            (&[], 2, Ok(3)),
+            (&[], 2, Err(DriverFault::NoRoom)),
+        ],
+    ),
+    (
+        (RingKind::Split, true),
+        [
+            (&[5, 6, 7], 0, Ok(0)),
+            (&[5, 6, 7], 2, Ok(1)),
+            (&[5, 6, 7], 2, Ok(2)),
+            (&[], 2, Ok(3)),
+            (&[], 2, Err(DriverFault::NoRoom)),
+        ],
+    ),
+    (
+        (RingKind::Packed, false),
+        [
+            (&[5, 6, 7], 0, Ok(0)),
+            (&[5, 6, 7], 2, Ok(1)),
+            (&[5, 6, 7], 2, Err(DriverFault::NoRoom)),
+            (&[], 2, Ok(2)),
+            (&[], 2, Err(DriverFault::NoRoom)),
+        ],
+    ),
+    (
+        (RingKind::Packed, true),
+        [
+            (&[5, 6, 7], 0, Ok(0)),
+            (&[5, 6, 7], 2, Ok(1)),
+            (&[5, 6, 7], 2, Ok(2)),
+            (&[], 2, Ok(3)),
+            (&[], 2, Err(DriverFault::NoRoom)),
+        ],
+    ),
 ];
+
+fn fills(alloc: Global, form: Form, told: &[Offered]) -> Result<(), Fail> {
+    let mut pair = in_service(alloc, 0, &guest_of(form))?;
+    offers(&mut pair, told)
+}
 
 #[test]
 fn offers_until_there_is_no_room(rt: HostRuntime) -> Result<(), Fail> {
-    let mut pair = in_service(rt.alloc(), 0, &GUEST)?;
-    offers(&mut pair, &UNTIL_THERE_IS_NO_ROOM)
+    for (form, told) in &UNTIL_THERE_IS_NO_ROOM {
+        fills(rt.alloc(), *form, told)?;
+    }
+    Ok(())
 }
 
 static OUT_OF_RANGE: [Offered; 1] = [(&[], 2, Err(DriverFault::OutOfRange))];
@@ -207,13 +287,13 @@ fn negotiates_anew(pair: &mut Pair) -> Result<bool, Fail> {
     Ok(answer)
 }
 
-// Whether a device takes a queue of so many places, with this feature.
-fn negotiates(alloc: Global, queue: u16, event_idx: bool) -> Result<bool, Fail> {
+// Whether a device takes a queue of this form and so many places, with this feature.
+fn negotiates(alloc: Global, form: Form, queue: u16, event_idx: bool) -> Result<bool, Fail> {
     let guest = GuestConfig {
         queue,
         event_idx,
         memory: 8_388_608,
-        ..GUEST
+        ..guest_of(form)
     };
     let mut pair = pair_of(alloc, 0, &guest, &guest)?;
     negotiates_anew(&mut pair)
@@ -231,19 +311,24 @@ fn pops_nothing(device: &mut Device) -> bool {
 }
 
 // Sizes of split queues are powers of two (VIRTIO 1.2, 2.7), and the device has at most 256 places.
-static QUEUES: [(u16, bool, bool); 6] = [
-    (1, false, true),
-    (2, true, true),
-    (3, false, false),
-    (256, true, true),
-    (512, true, false),
-    (0, false, false),
+static QUEUES: [(Form, u16, bool, bool); 11] = [
+    ((RingKind::Split, false), 1, false, true),
+    ((RingKind::Split, true), 2, true, true),
+    ((RingKind::Split, false), 3, false, false),
+    ((RingKind::Split, true), 256, true, true),
+    ((RingKind::Split, false), 512, true, false),
+    ((RingKind::Split, false), 0, false, false),
+    ((RingKind::Packed, false), 1, false, true),
+    ((RingKind::Packed, true), 3, true, true),
+    ((RingKind::Packed, false), 256, true, true),
+    ((RingKind::Packed, true), 257, true, false),
+    ((RingKind::Packed, false), 0, false, false),
 ];
 
 #[test]
 fn queues_that_a_device_takes(rt: HostRuntime) -> Result<(), Fail> {
-    for (queue, event_idx, answer) in &QUEUES {
-        let taken = negotiates(rt.alloc(), *queue, *event_idx)?;
+    for (form, queue, event_idx, answer) in &QUEUES {
+        let taken = negotiates(rt.alloc(), *form, *queue, *event_idx)?;
         check(taken == *answer, "a queue")?;
     }
     Ok(())
@@ -258,32 +343,46 @@ fn put_element(device: &mut Device, id: u32, len: u32) -> Result<(), Fail> {
     store(device, at + 2, &[1, 0])
 }
 
+// Makes the first descriptor of a packed ring a used one, of the first round.
+fn put_used(device: &mut Device, id: u32, len: u32) -> Result<(), Fail> {
+    store(device, 8, &len.to_le_bytes())?;
+    store(device, 12, &id.to_le_bytes())?;
+    store(device, 14, &[0x82, 0x80])
+}
+
 // Whether a reap is refused, and once more, where the device's first element has this id and this
 // length, while a chain with room for 2 bytes is in flight under the id 0.
-fn refuses(pair: &mut Pair, id: u32, len: u32) -> Result<bool, Fail> {
+fn refuses(pair: &mut Pair, form: Form, id: u32, len: u32) -> Result<bool, Fail> {
     check(offer(pair, &READABLE, 2)? == Ok(0), "an offer")?;
-    put_element(&mut pair.device, id, len)?;
+    match form.0 {
+        RingKind::Split => put_element(&mut pair.device, id, len)?,
+        RingKind::Packed => put_used(&mut pair.device, id, len)?,
+    }
     let refused = fails_to_reap(pair, DriverFault::BadUsed);
     Ok(refused && fails_to_reap(pair, DriverFault::BadUsed))
 }
 
-fn is_refused(alloc: Global, id: u32, len: u32) -> Result<bool, Fail> {
-    let mut pair = in_service(alloc, 0, &GUEST)?;
-    refuses(&mut pair, id, len)
+fn is_refused(alloc: Global, form: Form, id: u32, len: u32) -> Result<bool, Fail> {
+    let mut pair = in_service(alloc, 0, &guest_of(form))?;
+    refuses(&mut pair, form, id, len)
 }
 
 // The id and the length of an element, and whether no chain has them.
-static ELEMENTS: [(u32, u32, bool); 4] = [
-    (0, 2, false),
-    (0, 3, true),
-    (1, 0, true),
-    (65536, 0, true),
+static ELEMENTS: [(Form, u32, u32, bool); 8] = [
+    ((RingKind::Split, false), 0, 2, false),
+    ((RingKind::Split, true), 0, 3, true),
+    ((RingKind::Split, true), 1, 0, true),
+    ((RingKind::Split, false), 65536, 0, true),
+    ((RingKind::Packed, false), 0, 2, false),
+    ((RingKind::Packed, true), 0, 3, true),
+    ((RingKind::Packed, false), 1, 0, true),
+    ((RingKind::Packed, true), 65535, 0, true),
 ];
 
 #[test]
 fn elements_that_no_chain_has(rt: HostRuntime) -> Result<(), Fail> {
-    for (id, len, refused) in &ELEMENTS {
-        let answer = is_refused(rt.alloc(), *id, *len)?;
+    for (form, id, len, refused) in &ELEMENTS {
+        let answer = is_refused(rt.alloc(), *form, *id, *len)?;
         check(answer == *refused, "an element")?;
     }
     Ok(())
