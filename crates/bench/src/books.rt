@@ -1,135 +1,185 @@
 //! The book of a board and its store over a disk in memory, with nothing between them and their caller:
 //! what a board's steps are measured against.
-ghost use Rattle.std.specs.Prelude.{IfOk};
-ghost use Rattle.board.specs.State.{HasNothingBetween};
-ghost use Rattle.host.specs.Opening.{IsJustOpened};
-
-use crate::images::{formatted, give, new_disk};
-use anyhow::{Result, bail};
-use board::Board;
-use disk::{Disk, MemDisk};
-use flusher::{Progress, Store};
+use crate::clock::{NO_MEMORY, Row, Stop};
+use crate::images::{guests_of, new_disk, opened_board};
+use crate::requests::{Kind, mixed};
+use crate::stores::give;
+use crate::ways::{Call, Turn, Way, time_way};
+use board::Parts;
+use chains::Range;
+use disk::MemDisk;
+use flusher::{Marks, Progress};
 use mmio_transport::{Done, Job};
-use rpmb_book::{Book, Shares, Tally};
 use rpmb_frame::BoardConfig;
 use std::alloc::Global;
-
-/// Which life a board is opened for. Only receipts tell one from another.
-const LIFE: u64 = 1;
-
-/// More calls than any reply waits for.
-pub const CALLS: u32 = 1_000_000;
+use workers::parts_of;
 
 /// A book that answers jobs, and the store that keeps what it accepts.
 #[derive(Drop)]
-pub struct Host {
-    book: Book,
-    tallies: Vec<Tally>,
-    shares: Shares,
-    store: Store<MemDisk>,
+pub struct Books {
+    alloc: Global,
+    parts: Parts<MemDisk>,
+    jobs: Vec<Job>,
+    /// The replies that were collected, which are kept until the clock has stopped, as a board keeps them for
+    /// its devices.
+    replies: Vec<Done>,
+    sum: u32,
 }
 
-/// A board over a disk with a fresh image of it, of which no step was made.
-pub fn new_board<D: Disk>(alloc: Global, disk: D, config: &BoardConfig) -> Result<Board<D>>
-    ensures opened { IfOk result (λ b. IsJustOpened D.state config.now b) }
-    ensures between { IfOk result HasNothingBetween }
-{
-    match Board::open(alloc, disk, LIFE, config) {
-        Ok(board) => Ok(board),
-        Err((_disk, fault)) => bail!("{fault}"),
+/// The book and the store over a fresh image of a board, of which nothing was asked.
+pub fn new_books(alloc: Global, config: &BoardConfig) -> Result<Books, Stop> {
+    let disk = new_disk(alloc, config)?;
+    let board = opened_board(alloc, disk, config)?;
+    Ok(Books {
+        alloc,
+        parts: parts_of(board, config),
+        jobs: Vec::new(alloc),
+        replies: Vec::new(alloc),
+        sum: 0,
+    })
+}
+
+/// The job of a guest's request, with room for one frame, which no device gave.
+fn job_of(alloc: Global, guest: u16, kind: Kind, counter: u32) -> Result<Job, Stop> {
+    let request = kind.request(alloc, counter)?;
+    match Vec::from_slice(alloc, &[Range { at: 0, len: 512 }]) {
+        Ok(writable) => Ok(Job::of(alloc, guest, 1, 0, 1, writable, request)),
+        Err(_) => Err(NO_MEMORY),
     }
 }
 
-/// A board over a disk that is made a fresh image of it, of which no step was made.
-pub fn fresh_board<D: Disk>(alloc: Global, disk: D, config: &BoardConfig) -> Result<Board<D>>
-    ensures opened { IfOk result (λ b. IsJustOpened D.state config.now b) }
-    ensures between { IfOk result HasNothingBetween }
-{
-    new_board(alloc, formatted(disk, config)?, config)
+/// One more job.
+fn push_job(
+    alloc: Global,
+    jobs: &mut Vec<Job>,
+    guest: u16,
+    kind: Kind,
+    counter: u32,
+) -> Result<(), Stop> {
+    let job = job_of(alloc, guest, kind, counter)?;
+    match jobs.push(job) {
+        Ok(()) => Ok(()),
+        Err(_) => Err(NO_MEMORY),
+    }
 }
 
-impl Host {
-    /// The host of a board's guests, of whom nothing was asked yet, over a fresh image. Their devices go.
-    pub fn new(alloc: Global, config: &BoardConfig) -> Result<Host> {
-        let parts = new_board(alloc, new_disk(alloc, config)?, config)?.into_parts();
-        Ok(Host {
-            book: parts.book,
-            tallies: parts.tallies,
-            shares: parts.shares,
-            store: parts.store,
-        })
+/// One more reply, where there is one.
+fn push_reply(replies: &mut Vec<Done>, done: Option<Done>) -> Result<(), Stop> {
+    match done {
+        Some(done) => replies.push(done).ok().ok_or(NO_MEMORY),
+        None => Err("a reply that doesn't leave"),
     }
+}
 
-    /// Has the book answer a job, whose reply it holds.
-    pub fn submit(&mut self, alloc: Global, job: Job) -> Result<()> {
-        let Some(tally) = self.tallies.get_mut(usize::from(job.guest())) else {
-            bail!("no such guest");
-        };
-        match self.book.submit(alloc, tally, job) {
-            Ok(_receipt) => Ok(()),
-            Err((_job, refused)) => bail!("{refused}"),
+/// What was mixed before, and the bytes of a reply together.
+fn mixed_reply(before: u32, done: &Done) -> u32 {
+    let mut all = 0;
+    for byte in done.reply() {
+        all ^= *byte;
+    }
+    mixed(before, all)
+}
+
+fn submit(parts: &mut Parts<MemDisk>, alloc: Global, job: Job) -> Result<(), Stop> {
+    match parts.tallies.get_mut(usize::from(job.guest())) {
+        Some(tally) => match parts.book.submit(alloc, tally, job) {
+            Ok(_) => Ok(()),
+            Err(_) => Err("a job that is refused"),
+        },
+        None => Err("no such guest"),
+    }
+}
+
+/// Gives the store a guest's next intent, where one waits.
+fn hand_over(parts: &mut Parts<MemDisk>, guest: u16) -> Result<(), Stop> {
+    match parts.book.take(&mut parts.shares, guest) {
+        Ok(Some(intent)) => give(&mut parts.store, intent),
+        Ok(None) => Ok(()),
+        Err(_) => Err("no such guest"),
+    }
+}
+
+fn settle(parts: &mut Parts<MemDisk>, marks: Marks) -> Result<Call, Stop> {
+    match parts.book.settle(&parts.shares, marks) {
+        Ok(()) => Ok(Call::Sync),
+        Err(_) => Err("marks that aren't settled"),
+    }
+}
+
+impl Books {
+    /// Has the book answer a job: the one that was offered last.
+    fn submit(&mut self) -> Result<(), Stop> {
+        match self.jobs.pop() {
+            Some(job) => submit(&mut self.parts, self.alloc, job),
+            None => Err("no job"),
         }
     }
 
-    /// Gives the store a guest's next intent, where one waits and its slot is free.
-    pub fn hand_over(&mut self, guest: u16) -> Result<()> {
-        if !self.store.is_free(guest) {
-            return Ok(());
+    fn collect(&mut self, guest: u16) -> Result<(), Stop> {
+        let done = self.parts.book.collect(guest);
+        push_reply(&mut self.replies, done)
+    }
+
+    /// Mixes the first reply, and lets it go.
+    fn publish(&mut self) -> Result<(), Stop> {
+        if self.replies.is_empty() {
+            return Err("no reply");
         }
-        match self.book.take(&mut self.shares, guest)? {
-            Some(intent) => give(&mut self.store, intent),
-            None => Ok(()),
+        let done = self.replies.remove(0);
+        self.sum = mixed_reply(self.sum, &done);
+        Ok(())
+    }
+}
+
+impl Way for Books {
+    fn offer(
+        &mut self,
+        alloc: Global,
+        guest: u16,
+        kind: Kind,
+        counter: u32,
+        _number: u16,
+    ) -> Result<(), Stop> {
+        push_job(alloc, &mut self.jobs, guest, kind, counter)
+    }
+
+    fn turn(&mut self, guest: u16, turn: Turn) -> Result<(), Stop> {
+        match turn {
+            Turn::Submit => self.submit(),
+            Turn::HandOver => hand_over(&mut self.parts, guest),
+            Turn::Collect => self.collect(guest),
+            Turn::Publish => self.publish(),
         }
     }
 
-    /// Makes the store's next call, and tells the book what it settled; whether there was one to make.
-    pub fn advance(&mut self) -> Result<bool> {
-        match self.store.advance()? {
-            Progress::Idle => Ok(false),
-            Progress::Wrote => Ok(true),
-            Progress::Synced(marks) => {
-                self.book.settle(&self.shares, marks)?;
-                Ok(true)
-            }
+    fn advance(&mut self) -> Result<Call, Stop> {
+        match self.parts.store.advance() {
+            Ok(Progress::Idle) => Ok(Call::Nothing),
+            Ok(Progress::Wrote) => Ok(Call::Write),
+            Ok(Progress::Synced(marks)) => settle(&mut self.parts, marks),
+            Err(_) => Err("a call that failed"),
         }
     }
 
-    /// Makes the store's calls until it is idle.
-    pub fn run_store(&mut self) -> Result<()> {
-        for _ in 0..CALLS {
-            if !self.advance()? {
-                return Ok(());
-            }
-        }
-        bail!("a store that doesn't come to its end")
+    fn settled(&self, guest: u16) -> u64 {
+        let settled = self.parts.book.settled(guest).unwrap_or(0);
+        settled.saturating_sub(1)
     }
 
-    /// A guest's oldest reply, where it may leave.
-    pub fn collect(&mut self, guest: u16) -> Result<Done> {
-        match self.book.collect(guest) {
-            Some(done) => Ok(done),
-            None => bail!("no reply may leave"),
-        }
+    fn replies(&mut self) -> u32 {
+        let sum = self.sum;
+        self.sum = 0;
+        sum
     }
+}
 
-    /// Answers a job of a guest that has no other under way. Its reply leaves at once where it shows
-    /// nothing that isn't settled, else as soon as the store has settled that; what the store has to do
-    /// then it does along with later jobs.
-    pub fn answer(&mut self, alloc: Global, job: Job) -> Result<Done> {
-        let guest = job.guest();
-        self.submit(alloc, job)?;
-        for _ in 0..CALLS {
-            if let Some(done) = self.book.collect(guest) {
-                return Ok(done);
-            }
-            self.hand_over(guest)?;
-            self.advance()?;
-        }
-        bail!("a reply that doesn't leave")
-    }
-
-    /// How many writes of a guest are settled: all that is but its key.
-    pub fn writes(&self, guest: u16) -> u64 {
-        self.book.settled(guest).unwrap_or(0).saturating_sub(1)
-    }
+/// Times so many requests of a kind from each guest of a board, by its book and store.
+pub fn time_books(
+    rt: &HostRuntime,
+    config: &BoardConfig,
+    kind: Kind,
+    count: u32,
+) -> Result<Row, Stop> {
+    let books = new_books(rt.alloc(), config)?;
+    time_way(rt, kind.name(), books, guests_of(config), kind, count)
 }

@@ -1,8 +1,9 @@
+//! MACs of frames, by a key whose pads are hashed once or anew.
 ghost use Rattle.std.specs.Prelude.{◌≤◌};
 
+use crate::clock::{Row, Stop, now, since};
+use crate::requests::KEY;
 use hmac256::{MacKey, mac_of};
-
-const KEY: [u8; 32] = [0x11; 32];
 
 /// So many MACs of one frame, each with the pads hashed anew; the answer is their first bytes, mixed.
 pub fn plain_macs(count: u32) -> u8 {
@@ -27,4 +28,33 @@ pub fn keyed_macs(count: u32, frames: usize) -> u8
         all ^= key.mac(&sealed[..frames])[0];
     }
     all
+}
+
+/// Times so many MACs of one frame with the pads hashed anew.
+pub fn time_plain(rt: &HostRuntime, name: &'static str, count: u32) -> Result<Row, Stop> {
+    let start = now(rt);
+    let sum = u64::from(plain_macs(count));
+    Ok(Row {
+        name,
+        count: u64::from(count),
+        took: since(rt, start)?,
+        sum,
+    })
+}
+
+/// Times so many MACs of this many frames, at most 16, with the pads hashed once.
+pub fn time_keyed(
+    rt: &HostRuntime,
+    name: &'static str,
+    count: u32,
+    frames: usize,
+) -> Result<Row, Stop> {
+    let start = now(rt);
+    let sum = u64::from(keyed_macs(count, frames.min(16)));
+    Ok(Row {
+        name,
+        count: u64::from(count),
+        took: since(rt, start)?,
+        sum,
+    })
 }

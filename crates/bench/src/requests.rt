@@ -1,106 +1,117 @@
-//! Requests of every guest of a board in turn.
-use crate::books::Host;
-use anyhow::Result;
-use chains::Range;
+//! What guests ask for.
+ghost use Rattle.std.specs.Prelude.{◌<◌, ◌≤◌};
+
+use crate::clock::{NO_MEMORY, Stop};
 use hmac256::mac_of;
-use mmio_transport::Job;
-use rpmb_frame::{BoardConfig, DATA_WRITE, Frame, GET_WRITE_COUNTER, PROGRAM_KEY, RESULT_READ};
+use rpmb_frame::{DATA_READ, DATA_WRITE, Frame, GET_WRITE_COUNTER, PROGRAM_KEY, RESULT_READ};
 use std::alloc::Global;
 
 pub const KEY: [u8; 32] = [0x11; 32];
 
-/// What was mixed before, and one byte more.
-pub fn mixed(all: u32, byte: u8) -> u32 {
-    all.wrapping_mul(31).wrapping_add(u32::from(byte))
+/// What is asked for.
+#[derive(Clone, Copy)]
+pub enum Kind {
+    /// The programming of the key, with its result.
+    Key,
+    /// The write counter.
+    Counter,
+    /// A write of the first block, with its result.
+    Write,
+    /// A read of 16 blocks.
+    Read,
 }
 
-/// The job of a guest's request, with room for one frame, which no device gave.
-pub fn job_of(alloc: Global, guest: u16, request: &[u8]) -> Result<Job> {
-    let request = Vec::from_slice(alloc, request)?;
-    let writable = Vec::from_slice(alloc, &[Range { at: 0, len: 512 }])?;
-    Ok(Job::of(alloc, guest, 1, 0, 1, writable, request))
-}
-
-/// Answers a request of a guest; the answer is the reply's bytes, mixed.
-fn asked(alloc: Global, host: &mut Host, guest: u16, request: &[u8]) -> Result<u8> {
-    let done = host.answer(alloc, job_of(alloc, guest, request)?)?;
-    Ok(done.reply().iter().fold(0, |all, byte| all ^ *byte))
-}
-
-/// Asks each guest for the same; the answer is what was mixed before, and the bytes of the replies.
-fn asked_each(
-    alloc: Global,
-    host: &mut Host,
-    guests: u16,
-    request: &[u8],
-    before: u32,
-) -> Result<u32> {
-    let mut all = before;
-    for guest in 0..guests {
-        all = mixed(all, asked(alloc, host, guest, request)?);
+impl Kind {
+    pub fn name(self) -> &'static str {
+        match self {
+            Kind::Key => "key",
+            Kind::Counter => "counter",
+            Kind::Write => "write of 1 block with its store",
+            Kind::Read => "read of 16 blocks",
+        }
     }
-    Ok(all)
-}
 
-/// The programming of the key, and the frame that asks for its result.
-pub fn key(alloc: Global) -> Result<Vec<u8>> {
-    let frame = Frame::zeros()
-        .with_key_mac(&KEY)
-        .with_block_count(1)
-        .with_req_resp(PROGRAM_KEY);
-    let mut request = Vec::from_slice(alloc, frame.to_bytes().as_slice())?;
-    let closing = Frame::zeros().with_req_resp(RESULT_READ);
-    request.extend_from_slice(closing.to_bytes().as_slice())?;
-    Ok(request)
-}
-
-/// Programs the key of each guest.
-fn program_keys(alloc: Global, host: &mut Host, guests: u16) -> Result<()> {
-    let request = key(alloc)?;
-    asked_each(alloc, host, guests, request.as_slice(), 0)?;
-    Ok(())
-}
-
-/// The guests of a board, each with its key.
-pub fn keyed(alloc: Global, board: &BoardConfig) -> Result<Host> {
-    let mut host = Host::new(alloc, board)?;
-    program_keys(alloc, &mut host, board.guests().len() as u16)?;
-    Ok(host)
-}
-
-/// So many requests for the counter from each guest.
-pub fn counters(alloc: Global, host: &mut Host, guests: u16, count: u32) -> Result<u32> {
-    let frame = Frame::zeros()
-        .with_block_count(1)
-        .with_req_resp(GET_WRITE_COUNTER);
-    let request = frame.to_bytes();
-    let mut all = 0u32;
-    for _ in 0..count {
-        all = asked_each(alloc, host, guests, &request, all)?;
+    /// The bytes of its reply.
+    pub fn writable(self) -> u32
+        ensures some { 0 < result }
+        ensures most { result ≤ 8192 }
+    {
+        match self {
+            Kind::Read => 8192,
+            _ => 512,
+        }
     }
-    Ok(all)
+
+    /// Where a good reply to it ends: the result 0x0000 and its type.
+    pub fn end(self) -> [u8; 4] {
+        match self {
+            Kind::Key => [0, 0, 1, 0],
+            Kind::Counter => [0, 0, 2, 0],
+            Kind::Write => [0, 0, 3, 0],
+            Kind::Read => [0, 0, 4, 0],
+        }
+    }
+
+    /// How many MACs it needs, and of how many frames each: a write is tested and its reply sealed.
+    pub fn macs(self) -> (u32, usize) {
+        match self {
+            Kind::Key => (0, 1),
+            Kind::Counter => (1, 1),
+            Kind::Write => (2, 1),
+            Kind::Read => (1, 16),
+        }
+    }
+
+    fn is_stored(self) -> bool {
+        matches!(self, Kind::Key | Kind::Write)
+    }
+
+    /// Its frame, under a write counter.
+    fn frame(self, counter: u32) -> [u8; 512] {
+        let frame = Frame::zeros();
+        match self {
+            Kind::Key => frame
+                .with_key_mac(&KEY)
+                .with_block_count(1)
+                .with_req_resp(PROGRAM_KEY)
+                .to_bytes(),
+            Kind::Counter => frame
+                .with_block_count(1)
+                .with_req_resp(GET_WRITE_COUNTER)
+                .to_bytes(),
+            Kind::Write => write_frame(counter),
+            Kind::Read => frame
+                .with_block_count(16)
+                .with_req_resp(DATA_READ)
+                .to_bytes(),
+        }
+    }
+
+    /// A request under a write counter: its frame, and the one that asks for its result.
+    pub fn request(self, alloc: Global, counter: u32) -> Result<Vec<u8>, Stop> {
+        let frame = self.frame(counter);
+        let mut request = Vec::from_slice(alloc, &frame).ok().ok_or(NO_MEMORY)?;
+        if self.is_stored() {
+            let closing = Frame::zeros().with_req_resp(RESULT_READ).to_bytes();
+            let extended = request.extend_from_slice(&closing);
+            extended.ok().ok_or(NO_MEMORY)?;
+        }
+        Ok(request)
+    }
 }
 
-/// The write of block 0 under a counter, with its MAC and the frame that asks for its result.
-pub fn write(alloc: Global, counter: u32) -> Result<Vec<u8>> {
+/// The write of block 0 under a counter, with its MAC.
+fn write_frame(counter: u32) -> [u8; 512] {
     let frame = Frame::zeros()
         .with_block_data(&[0x5a; 256])
         .with_write_counter(counter)
         .with_block_count(1)
         .with_req_resp(DATA_WRITE);
     let mac = mac_of(&KEY, &[frame.to_bytes()]);
-    let mut request = Vec::from_slice(alloc, frame.with_key_mac(&mac).to_bytes().as_slice())?;
-    let closing = Frame::zeros().with_req_resp(RESULT_READ);
-    request.extend_from_slice(closing.to_bytes().as_slice())?;
-    Ok(request)
+    frame.with_key_mac(&mac).to_bytes()
 }
 
-/// So many writes of one block from each guest.
-pub fn writes(alloc: Global, host: &mut Host, guests: u16, count: u32) -> Result<u32> {
-    let mut all = 0u32;
-    for counter in 0..count {
-        let request = write(alloc, counter)?;
-        all = asked_each(alloc, host, guests, request.as_slice(), all)?;
-    }
-    Ok(all)
+/// What was mixed before, and one byte more.
+pub fn mixed(all: u32, byte: u8) -> u32 {
+    all.wrapping_mul(31).wrapping_add(u32::from(byte))
 }

@@ -1,162 +1,163 @@
 //! Guests that are served at once, against one chain after another: how many requests a second, and what share
 //! of its time a run holds the lock of its book.
-use crate::desks::time_calls;
-use crate::devices::Kind;
+use crate::books::time_books;
+use crate::clock::{Row, Stop, print_rows};
 use crate::images::blank_disk;
-use crate::serving::{Load, OneThread, Run, alone, served};
-use anyhow::{Result, bail};
+use crate::loads::{Load, new_load};
+use crate::requests::Kind;
+use crate::serving::{Run, alone, served, told_alone};
+use crate::stores::time_stored;
 use disk::{Disk, FileDisk};
 use intent_slots::Layout;
-use std::alloc::Global;
+use std::fs;
 use std::fs::File;
 use std::os::unix::fs::OpenOptionsExt;
-use std::path::PathBuf;
 use std::sync::Wait;
 use std::thread::Threads;
 use std::time::Duration;
-use std::{env, fs, io, process};
 
 /// The boards by their numbers of guests.
-const GUESTS: [u16; 3] = [1, 2, 4];
+static GUESTS: [u16; 3] = [1, 2, 4];
 
 /// The most requests of each guest: a history holds 16,384, those of four guests and their keys.
 const MOST: u32 = 4095;
 
-/// How many a second.
-fn rate(requests: u64, took: Duration) -> u128 {
-    u128::from(requests) * 1_000_000_000 / took.as_nanos().max(1)
-}
+/// A file of the folder where the program runs, for as long as it is written.
+const FILE: &str = "bench-serve.img";
 
-/// Prints a line: a run of threads, one thread, and the time of the calls under the lock.
-fn print_line(
-    rt: &HostRuntime,
-    load: &Load,
-    place: &str,
-    run: Run,
-    one: OneThread,
-    held: Duration,
-) -> Result<()> {
-    // In hundredths of a percent.
-    let share = held.as_nanos() * 10_000 / run.took.as_nanos().max(1);
-    println!(rt;
-        "guests {}, {} in {place}: {} a second at once, {} one after another, {} percent of that; the lock held {}.{:02} percent of the time; {} {} {}",
-        load.scripts.len(),
-        load.kind.name(),
-        rate(load.requests(), run.took),
-        rate(load.requests(), one.took),
-        one.took.as_nanos() * 100 / run.took.as_nanos().max(1),
-        share / 100,
-        share % 100,
-        run.turns,
-        run.tallies,
-        run.answers
-    )?;
-    Ok(())
-}
+const NO_FILE: Stop = "no file bench-serve.img, or one that was there before";
 
 /// Serves a load at once over one disk and one chain after another over the other; each guest has to be told
-/// the same.
+/// the same. Answers the run, and the time on one thread.
 fn both<D: Disk + Send + Drop, R: Threads + Wait + Sync>(
     rt: &HostRuntime,
     threads: &R,
     load: &Load,
     first: D,
     second: D,
-) -> Result<(Run, OneThread)> {
+) -> Result<(Run, Duration), Stop> {
     let run = served(rt, threads, load, first)?;
     let one = alone(rt, load, second)?;
-    if run.answers != one.answers {
-        bail!("guests that are told something else at once");
+    if run.answers == told_alone(load, &one)? {
+        Ok((run, one.took))
+    } else {
+        Err("guests that are told something else at once")
     }
-    Ok((run, one))
 }
 
 fn both_in_memory<R: Threads + Wait + Sync>(
     rt: &HostRuntime,
     threads: &R,
     load: &Load,
-) -> Result<(Run, OneThread)> {
+) -> Result<(Run, Duration), Stop> {
     let first = blank_disk(rt.alloc(), &load.config)?;
     let second = blank_disk(rt.alloc(), &load.config)?;
     both(rt, threads, load, first, second)
 }
 
-fn time_in_memory<R: Threads + Wait + Sync>(
-    rt: &HostRuntime,
-    threads: &R,
-    load: &Load,
-) -> Result<()> {
-    let (run, one) = both_in_memory(rt, threads, load)?;
-    print_line(rt, load, "memory", run, one, time_calls(rt, load)?)
-}
-
 /// Both, over a file that is made an image anew for each.
-fn both_in_file<R: Threads + Wait + Sync>(
+fn both_in<R: Threads + Wait + Sync>(
     rt: &HostRuntime,
     threads: &R,
     load: &Load,
     file: File,
-) -> Result<(Run, OneThread)> {
+) -> Result<(Run, Duration), Stop> {
     let length = Layout::of(&load.config).length();
-    file.set_len(length)?;
-    let again = FileDisk::new(file.try_clone()?, length);
-    both(rt, threads, load, FileDisk::new(file, length), again)
+    if file.set_len(length).is_err() {
+        return Err(NO_FILE);
+    }
+    match file.try_clone() {
+        Ok(again) => {
+            let second = FileDisk::new(again, length);
+            both(rt, threads, load, FileDisk::new(file, length), second)
+        }
+        Err(_) => Err(NO_FILE),
+    }
 }
 
-/// Where a file may stand for as long as it is written.
-fn path_of(rt: &HostRuntime) -> Result<PathBuf> {
-    let name = format!(in rt.alloc(); "bench-serve-{}.img", process::id(rt.process()))?;
-    Ok(env::temp_dir(rt)?.join(rt.alloc(), name.as_str())?)
-}
-
-/// A file that wasn't there.
-fn new_file(rt: &HostRuntime, path: &str) -> io::Result<File> {
+/// Both, over a file that wasn't there, and is removed afterwards.
+fn both_in_file<R: Threads + Wait + Sync>(
+    rt: &HostRuntime,
+    threads: &R,
+    load: &Load,
+) -> Result<(Run, Duration), Stop> {
     let mut options = File::options();
     options.read(true).write(true).create_new(true).mode(0o600);
-    options.open(rt, path)
+    let told = match options.open(rt, FILE) {
+        Ok(file) => both_in(rt, threads, load, file),
+        Err(_) => return Err(NO_FILE),
+    };
+    match fs::remove_file(rt, FILE) {
+        Ok(()) => told,
+        Err(_) => Err(NO_FILE),
+    }
 }
 
-/// Both, over a file in the folder of temporary files, which is removed afterwards.
-fn both_in_folder<R: Threads + Wait + Sync>(
+/// The time of the book's calls for a load, made by one thread: that of the book's and the store's calls, less
+/// that of the store's. No clock stands in what serves the guests, so this is measured apart; neither a wait for
+/// the lock is in it, nor calls that find nothing, of which a run makes as many as its schedule brings.
+fn held(rt: &HostRuntime, load: &Load) -> Result<Row, Stop> {
+    let mut row = time_books(rt, &load.config, load.kind, load.count)?;
+    if let Kind::Write = load.kind {
+        let stored = time_stored(rt, &load.config, load.count)?;
+        row.took = row.took.saturating_sub(stored.took);
+    }
+    row.name = "the lock of the book";
+    Ok(row)
+}
+
+/// Prints a run of threads, one thread, and the time of the calls under the lock.
+fn print_both(
+    rt: &HostRuntime,
+    load: &Load,
+    place: &str,
+    both: (Run, Duration),
+) -> Result<(), Stop> {
+    let (run, one) = both;
+    let printed = println!(rt;
+        "guests {}, {} in {place}:",
+        load.guests(),
+        load.kind.name()
+    );
+    printed.ok().ok_or("no output")?;
+    let at_once = Row {
+        name: "at once",
+        count: load.all(),
+        took: run.took,
+        sum: u64::from(run.answers),
+    };
+    let after_another = Row {
+        name: "one after another",
+        took: one,
+        ..at_once
+    };
+    print_rows(rt, &[after_another, held(rt, load)?, at_once])
+}
+
+fn time_load<R: Threads + Wait + Sync>(
     rt: &HostRuntime,
     threads: &R,
     load: &Load,
-) -> Result<(Run, OneThread)> {
-    let path = path_of(rt)?;
-    let told = both_in_file(rt, threads, load, new_file(rt, path.as_str())?);
-    fs::remove_file(rt, path.as_str())?;
-    told
+) -> Result<(), Stop> {
+    print_both(rt, load, "memory", both_in_memory(rt, threads, load)?)?;
+    // The syncs of a file are real, those of memory nothing. What isn't stored makes none.
+    match load.kind {
+        Kind::Write => print_both(rt, load, "a file", both_in_file(rt, threads, load)?),
+        _ => Ok(()),
+    }
 }
 
-fn time_in_file<R: Threads + Wait + Sync>(
+fn time_kind<R: Threads + Wait + Sync>(
     rt: &HostRuntime,
     threads: &R,
-    load: &Load,
-) -> Result<()> {
-    let (run, one) = both_in_folder(rt, threads, load)?;
-    print_line(rt, load, "a file", run, one, time_calls(rt, load)?)
-}
-
-fn time_counters<R: Threads + Wait + Sync>(
-    rt: &HostRuntime,
-    threads: &R,
-    guests: u16,
+    kind: Kind,
     count: u32,
-) -> Result<()> {
-    let load = Load::new(rt.alloc(), Kind::Counter, guests, count)?;
-    time_in_memory(rt, threads, &load)
-}
-
-/// The syncs of a file are real, those of memory nothing.
-fn time_writes<R: Threads + Wait + Sync>(
-    rt: &HostRuntime,
-    threads: &R,
-    guests: u16,
-    count: u32,
-) -> Result<()> {
-    let load = Load::new(rt.alloc(), Kind::Write, guests, count)?;
-    time_in_memory(rt, threads, &load)?;
-    time_in_file(rt, threads, &load)
+) -> Result<(), Stop> {
+    for guests in &GUESTS {
+        let load = new_load(rt.alloc(), kind, *guests, count)?;
+        time_load(rt, threads, &load)?;
+    }
+    Ok(())
 }
 
 /// Times so many requests of each guest: for the counter, and writes with their results, which are settled
@@ -165,21 +166,17 @@ pub fn time_serve<R: Threads + Wait + Sync>(
     rt: &HostRuntime,
     threads: &R,
     count: u32,
-) -> Result<()> {
+) -> Result<(), Stop> {
     if count > MOST {
-        bail!("HistoryFull: at most {MOST} requests of each guest");
+        return Err("HistoryFull: at most 4095 requests of each guest");
     }
-    for guests in GUESTS {
-        time_counters(rt, threads, guests, count)?;
-        time_writes(rt, threads, guests, count)?;
-    }
-    Ok(())
+    time_kind(rt, threads, Kind::Counter, count)?;
+    time_kind(rt, threads, Kind::Write, count)
 }
 
-/// A few writes of two guests, at once and one after another; answers how many Submit turns there were, and
-/// what was told, mixed.
-pub fn few_served<R: Threads + Wait + Sync>(rt: &HostRuntime, threads: &R) -> Result<(u64, u32)> {
-    let load = Load::new(rt.alloc(), Kind::Write, 2, 3)?;
+/// A few writes of two guests, at once and one after another.
+pub fn few_served<R: Threads + Wait + Sync>(rt: &HostRuntime, threads: &R) -> Result<Run, Stop> {
+    let load = new_load(rt.alloc(), Kind::Write, 2, 3)?;
     let (run, _) = both_in_memory(rt, threads, &load)?;
-    Ok((run.turns, run.answers))
+    Ok(run)
 }

@@ -1,114 +1,295 @@
-//! The same writes settled in three ways, over images that are alike: by the steps of a board, by its book
-//! and its store, and by its store alone. The ways take turns, so that what else the machine does falls on
-//! all of them. The clock runs from the first Take to the last Collect, over jobs that the book has answered.
-//! The last two ways test each intent before they give it (`Store::takes`), which a board needn't.
-use crate::books::Host;
-use crate::images::{give, new_store, settle, settle_keys, write_intent};
-use crate::requests::{job_of, keyed, write};
-use crate::steps::{Steps, new_steps};
-use anyhow::Result;
-use disk::MemDisk;
-use flusher::Store;
+//! The same requests of each guest settled in three ways, over images that are alike: by the steps of a board,
+//! by its book and its store, and by its store alone. All ways take the same turns. The clock runs from the
+//! first Submit to the last Collect, over jobs that devices have given. The last two ways test each intent
+//! before they give it (`Store::takes`), which a board needn't.
+use crate::books::new_books;
+use crate::clock::{Row, Stop, now, since};
+use crate::images::guests_of;
+use crate::requests::Kind;
+use crate::steps::new_steps;
+use crate::stores::new_store;
 use rpmb_frame::BoardConfig;
 use std::alloc::Global;
-use std::time::{Duration, Instant};
+use std::time::Duration;
 
-/// The guests of a board three times over.
+/// More calls than any store has before it.
+const CALLS: u32 = 1_000_000;
+
+/// What a store's next call was.
+#[derive(Clone, Copy)]
+pub enum Call {
+    Nothing,
+    Write,
+    Sync,
+}
+
+/// How many calls were made to a disk, and how many of them were syncs.
+#[derive(Clone, Copy)]
+pub struct Calls {
+    pub all: u32,
+    pub syncs: u32,
+}
+
+/// What is done for each guest in turn.
+#[derive(Clone, Copy)]
+pub enum Turn {
+    Submit,
+    HandOver,
+    Collect,
+    Publish,
+}
+
+/// A way to settle what guests ask for. Its methods promise nothing, so that what stands above them is proved
+/// without the contracts of boards, books and stores.
+pub trait Way: Drop {
+    /// Puts a guest's request, the one of this number, before its Submit.
+    fn offer(
+        &mut self,
+        alloc: Global,
+        guest: u16,
+        kind: Kind,
+        counter: u32,
+        number: u16,
+    ) -> Result<(), Stop>;
+
+    fn turn(&mut self, guest: u16, turn: Turn) -> Result<(), Stop>;
+
+    /// Makes the store's next call, and tells the book what it settled.
+    fn advance(&mut self) -> Result<Call, Stop>;
+
+    /// How many of a guest's writes are settled: all that is but its key.
+    fn settled(&self, guest: u16) -> u64;
+
+    /// The bytes of the replies since the last look, mixed.
+    fn replies(&mut self) -> u32;
+}
+
+/// A way, its guests, and how often each of them has asked.
 #[derive(Drop)]
-pub struct Ways {
+pub struct Asked<W: Way> {
+    way: W,
     guests: u16,
-    steps: Steps,
-    host: Host,
-    store: Store<MemDisk>,
+    number: u16,
+    /// The calls of the store for what was asked last.
+    calls: Calls,
 }
 
-/// The guests of a board, each with its key.
-pub fn new_ways(alloc: Global, config: &BoardConfig) -> Result<Ways> {
-    let mut ways = Ways {
-        guests: config.guests().len() as u16,
-        steps: new_steps(alloc, config)?,
-        host: keyed(alloc, config)?,
-        store: new_store(alloc, config)?,
-    };
-    ways.start()?;
-    Ok(ways)
-}
-
-impl Ways {
-    /// Has both stores settle the keys; the steps have done so.
-    fn start(&mut self) -> Result<()> {
-        settle_keys(&mut self.store, self.guests)?;
-        self.host.run_store()
+impl<W: Way> Asked<W> {
+    fn offer_each(&mut self, alloc: Global, kind: Kind, counter: u32) -> Result<(), Stop> {
+        for guest in 0..self.guests {
+            self.way.offer(alloc, guest, kind, counter, self.number)?;
+        }
+        self.number = self.number.wrapping_add(1);
+        Ok(())
     }
 
-    /// Settles a write of each guest by steps; answers the time from Take to Collect.
-    fn by_steps(&mut self, rt: &HostRuntime, request: &[u8]) -> Result<Duration> {
-        self.steps.submit(request)?;
-        let start = Instant::now(rt)?;
-        self.steps.settle()?;
-        let took = start.elapsed(rt)?;
-        self.steps.publish()?;
+    fn each(&mut self, turn: Turn) -> Result<(), Stop> {
+        for guest in 0..self.guests {
+            self.way.turn(guest, turn)?;
+        }
+        Ok(())
+    }
+
+    /// Makes the store's calls until it is idle.
+    fn run_store(&mut self) -> Result<Calls, Stop> {
+        let mut syncs = 0u32;
+        for all in 0..CALLS {
+            match self.way.advance()? {
+                Call::Nothing => return Ok(Calls { all, syncs }),
+                Call::Write => {}
+                Call::Sync => syncs = syncs.saturating_add(1),
+            }
+        }
+        Err("a store that doesn't come to its end")
+    }
+
+    fn answer_each(&mut self) -> Result<(), Stop> {
+        self.each(Turn::Submit)?;
+        self.each(Turn::HandOver)?;
+        self.calls = self.run_store()?;
+        self.each(Turn::Collect)
+    }
+
+    /// Takes a request of each guest to its reply; answers the time.
+    fn ask(&mut self, rt: &HostRuntime, kind: Kind, counter: u32) -> Result<Duration, Stop> {
+        self.offer_each(rt.alloc(), kind, counter)?;
+        let start = now(rt);
+        self.answer_each()?;
+        let took = since(rt, start)?;
+        self.each(Turn::Publish)?;
         Ok(took)
     }
 
-    /// Settles a write of each guest by the calls of book and store that those steps make; answers their
-    /// time.
-    fn by_calls(&mut self, rt: &HostRuntime, request: &[u8]) -> Result<Duration> {
-        for guest in 0..self.guests {
-            self.host
-                .submit(rt.alloc(), job_of(rt.alloc(), guest, request)?)?;
-        }
-        // The replies are kept until the clock has stopped, as a board keeps them for its devices.
-        let mut replies = Vec::with_capacity(rt.alloc(), usize::from(self.guests))?;
-        let start = Instant::now(rt)?;
-        for guest in 0..self.guests {
-            self.host.hand_over(guest)?;
-        }
-        self.host.run_store()?;
-        for guest in 0..self.guests {
-            replies.push(self.host.collect(guest)?)?;
-        }
-        Ok(start.elapsed(rt)?)
+    /// Has each guest program its key.
+    fn key(&mut self, rt: &HostRuntime) -> Result<(), Stop> {
+        self.ask(rt, Kind::Key, 0)?;
+        self.way.replies();
+        Ok(())
     }
 
-    /// Settles a write of each guest by the store's calls alone; answers their time.
-    fn by_store(&mut self, rt: &HostRuntime, counter: u32) -> Result<Duration> {
-        let mut intents = Vec::with_capacity(rt.alloc(), usize::from(self.guests))?;
-        for guest in 0..self.guests {
-            intents.push(write_intent(rt.alloc(), guest, counter)?)?;
-        }
-        let start = Instant::now(rt)?;
-        for intent in intents {
-            give(&mut self.store, intent)?;
-        }
-        settle(&mut self.store)?;
-        Ok(start.elapsed(rt)?)
-    }
-
-    /// Settles so many writes of one block of each guest in each way; answers the time of each way.
-    pub fn times(&mut self, rt: &HostRuntime, count: u32) -> Result<[Duration; 3]> {
-        let mut took = [Duration::from_nanos(0); 3];
+    /// Takes so many of a kind, each under the counter that it finds; answers the time.
+    fn ask_all(&mut self, rt: &HostRuntime, kind: Kind, count: u32) -> Result<Duration, Stop> {
+        let mut took = Duration::from_nanos(0);
         for counter in 0..count {
-            let request = write(rt.alloc(), counter)?;
-            let steps = self.by_steps(rt, &request)?;
-            let calls = self.by_calls(rt, &request)?;
-            let store = self.by_store(rt, counter.wrapping_add(1))?;
-            took[0] = took[0].saturating_add(steps);
-            took[1] = took[1].saturating_add(calls);
-            took[2] = took[2].saturating_add(store);
+            took = took.saturating_add(self.ask(rt, kind, counter)?);
         }
         Ok(took)
     }
 
-    /// How many writes of all guests were settled in each way.
-    pub fn settled(&self) -> [u64; 3] {
-        let (mut steps, mut calls, mut store) = (0u64, 0u64, 0u64);
+    fn settled(&self) -> u64 {
+        let mut all = 0u64;
         for guest in 0..self.guests {
-            let mark = self.store.marks().get(guest);
-            steps = steps.saturating_add(self.steps.writes(guest));
-            calls = calls.saturating_add(self.host.writes(guest));
-            store = store.saturating_add(mark.saturating_sub(1));
+            all = all.saturating_add(self.way.settled(guest));
         }
-        [steps, calls, store]
+        all
     }
+
+    fn row(&self, name: &'static str, count: u32, took: Duration) -> Row {
+        Row {
+            name,
+            count: u64::from(count) * u64::from(self.guests),
+            took,
+            sum: self.settled(),
+        }
+    }
+}
+
+/// A way whose guests have asked nothing.
+fn fresh<W: Way>(way: W, guests: u16) -> Asked<W> {
+    Asked {
+        way,
+        guests,
+        number: 0,
+        calls: Calls { all: 0, syncs: 0 },
+    }
+}
+
+/// Keys, and then so many requests of a kind, which are timed.
+fn time_asked<W: Way>(
+    rt: &HostRuntime,
+    asked: &mut Asked<W>,
+    name: &'static str,
+    kind: Kind,
+    count: u32,
+) -> Result<Row, Stop> {
+    asked.key(rt)?;
+    let took = asked.ask_all(rt, kind, count)?;
+    let mut row = asked.row(name, count, took);
+    row.sum = u64::from(asked.way.replies());
+    Ok(row)
+}
+
+/// Times so many requests of a kind from each guest, by one way. The sum is of the bytes of the replies.
+pub fn time_way<W: Way>(
+    rt: &HostRuntime,
+    name: &'static str,
+    way: W,
+    guests: u16,
+    kind: Kind,
+    count: u32,
+) -> Result<Row, Stop> {
+    time_asked(rt, &mut fresh(way, guests), name, kind, count)
+}
+
+fn calls_of_asked<W: Way>(rt: &HostRuntime, asked: &mut Asked<W>) -> Result<[u32; 4], Stop> {
+    asked.key(rt)?;
+    let keys = asked.calls;
+    asked.ask(rt, Kind::Write, 0)?;
+    let writes = asked.calls;
+    Ok([keys.all, keys.syncs, writes.all, writes.syncs])
+}
+
+/// The calls and syncs of a way's store for the keys of its guests, and for a write of each.
+pub fn calls_of<W: Way>(rt: &HostRuntime, way: W, guests: u16) -> Result<[u32; 4], Stop> {
+    calls_of_asked(rt, &mut fresh(way, guests))
+}
+
+/// The row of each way.
+#[derive(Clone, Copy)]
+pub struct Rows {
+    pub steps: Row,
+    pub store: Row,
+    pub books: Row,
+}
+
+/// The rows of three ways whose guests have their keys, and which took so long for so many writes.
+fn rows_of<A: Way, B: Way, C: Way>(
+    first: &Asked<A>,
+    second: &Asked<B>,
+    third: &Asked<C>,
+    count: u32,
+    took: [Duration; 3],
+) -> Rows {
+    Rows {
+        steps: first.row("a write by a board's steps", count, took[0]),
+        store: second.row("by its store alone", count, took[1]),
+        books: third.row("by its book and store", count, took[2]),
+    }
+}
+
+/// Settles so many writes in each of three ways, which take turns, so that what else the machine does falls on
+/// all of them.
+fn ask_in_turn<A: Way, B: Way, C: Way>(
+    rt: &HostRuntime,
+    first: &mut Asked<A>,
+    second: &mut Asked<B>,
+    third: &mut Asked<C>,
+    count: u32,
+) -> Result<[Duration; 3], Stop> {
+    let mut took = [Duration::from_nanos(0); 3];
+    for counter in 0..count {
+        let by_first = first.ask(rt, Kind::Write, counter)?;
+        let by_second = second.ask(rt, Kind::Write, counter)?;
+        let by_third = third.ask(rt, Kind::Write, counter)?;
+        took[0] = took[0].saturating_add(by_first);
+        took[1] = took[1].saturating_add(by_second);
+        took[2] = took[2].saturating_add(by_third);
+    }
+    Ok(took)
+}
+
+/// Times so many writes of each guest in three ways. The sums are of what is settled.
+fn take_turns<A: Way, B: Way, C: Way>(
+    rt: &HostRuntime,
+    first: &mut Asked<A>,
+    second: &mut Asked<B>,
+    third: &mut Asked<C>,
+    count: u32,
+) -> Result<Rows, Stop> {
+    first.key(rt)?;
+    second.key(rt)?;
+    third.key(rt)?;
+    let took = ask_in_turn(rt, first, second, third, count)?;
+    Ok(rows_of(first, second, third, count, took))
+}
+
+/// Beside a board's steps and its store its book and store. Each function here holds one way, and lends it.
+fn time_beside<A: Way, B: Way>(
+    rt: &HostRuntime,
+    config: &BoardConfig,
+    steps: &mut Asked<A>,
+    store: &mut Asked<B>,
+    count: u32,
+) -> Result<Rows, Stop> {
+    let books = new_books(rt.alloc(), config)?;
+    let mut books = fresh(books, guests_of(config));
+    take_turns(rt, steps, store, &mut books, count)
+}
+
+/// Beside a board's steps its store, and its book and store.
+fn time_beside_steps<A: Way>(
+    rt: &HostRuntime,
+    config: &BoardConfig,
+    steps: &mut Asked<A>,
+    count: u32,
+) -> Result<Rows, Stop> {
+    let store = new_store(rt.alloc(), config)?;
+    let mut store = fresh(store, guests_of(config));
+    time_beside(rt, config, steps, &mut store, count)
+}
+
+/// Times so many writes of each guest of a board in each way.
+pub fn time_ways(rt: &HostRuntime, config: &BoardConfig, count: u32) -> Result<Rows, Stop> {
+    let steps = new_steps(rt.alloc(), config)?;
+    time_beside_steps(rt, config, &mut fresh(steps, guests_of(config)), count)
 }

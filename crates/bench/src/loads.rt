@@ -1,0 +1,159 @@
+//! The same requests of each guest of a board, and what the guests are told.
+use crate::clock::{NO_MEMORY, Stop};
+use crate::images::board_of;
+use crate::requests::{Kind, mixed};
+use host::Answer;
+use rpmb_frame::BoardConfig;
+use std::alloc::Global;
+use workers::{Chain, Order, Script};
+
+/// The bytes of the longest request.
+pub const LONGEST: usize = 8704;
+
+/// What each guest of a board asks for: that its key be programmed, and so many requests of one kind after
+/// that.
+#[derive(Drop)]
+pub struct Load {
+    pub kind: Kind,
+    pub count: u32,
+    pub config: BoardConfig,
+    /// That for the key with them.
+    pub requests: Vec<Vec<u8>>,
+}
+
+fn push_request(
+    alloc: Global,
+    requests: &mut Vec<Vec<u8>>,
+    kind: Kind,
+    counter: u32,
+) -> Result<(), Stop> {
+    let request = kind.request(alloc, counter)?;
+    requests.push(request).ok().ok_or(NO_MEMORY)
+}
+
+/// A request for the key, and so many of a kind, each under the counter that it finds.
+fn requests_of(alloc: Global, kind: Kind, count: u32) -> Result<Vec<Vec<u8>>, Stop> {
+    let mut requests = Vec::new(alloc);
+    push_request(alloc, &mut requests, Kind::Key, 0)?;
+    for counter in 0..count {
+        push_request(alloc, &mut requests, kind, counter)?;
+    }
+    Ok(requests)
+}
+
+/// So many requests of a kind from each guest of a board.
+pub fn new_load(alloc: Global, kind: Kind, guests: u16, count: u32) -> Result<Load, Stop> {
+    let requests = requests_of(alloc, kind, count)?;
+    Ok(Load {
+        kind,
+        count,
+        config: board_of(alloc, guests)?,
+        requests,
+    })
+}
+
+/// What was mixed before, and each byte of a reply.
+fn mixed_bytes(reply: &[u8], before: u32) -> u32 {
+    let mut all = before;
+    for byte in reply {
+        all = mixed(all, *byte);
+    }
+    all
+}
+
+/// The bytes of a reply. None where there was none.
+fn reply_of(answer: Option<&Answer>) -> &[u8] {
+    match answer {
+        Some(Answer::Used(reply)) => reply.as_slice(),
+        _ => &[],
+    }
+}
+
+impl Load {
+    pub fn guests(&self) -> u16 {
+        (self.config.guests().len() % 65_536) as u16
+    }
+
+    /// How many requests all guests make, those for their keys with them.
+    pub fn all(&self) -> u64 {
+        (u64::from(self.count) + 1) * u64::from(self.guests())
+    }
+
+    /// The order to offer a request, with room for its reply: that to a key is as long as that to a write.
+    fn order_of(&self, alloc: Global, request: &[u8], kind: Kind) -> Result<Order, Stop> {
+        if request.len() > LONGEST {
+            return Err("too long a request");
+        }
+        match Vec::from_slice(alloc, request) {
+            Ok(request) => Ok(Order::Chain(Chain::new(request, kind.writable()))),
+            Err(_) => Err(NO_MEMORY),
+        }
+    }
+
+    fn script(&self, alloc: Global) -> Result<Script, Stop> {
+        let mut orders = Vec::new(alloc);
+        let mut kind = Kind::Key;
+        for request in &self.requests {
+            let order = self.order_of(alloc, request, kind)?;
+            orders.push(order).ok().ok_or(NO_MEMORY)?;
+            kind = self.kind;
+        }
+        Ok(Script::new(orders))
+    }
+
+    /// A script for each guest, all alike.
+    pub fn scripts(&self, alloc: Global) -> Result<Vec<Script>, Stop> {
+        let mut scripts = Vec::new(alloc);
+        for _ in 0..self.guests() {
+            let script = self.script(alloc)?;
+            scripts.push(script).ok().ok_or(NO_MEMORY)?;
+        }
+        Ok(scripts)
+    }
+
+    /// The last bytes of the last reply to each guest: its write counter, address 0, one block, the result
+    /// 0x0000 and its type.
+    fn tail(&self) -> [u8; 12] {
+        let counter = match self.kind {
+            Kind::Write => self.count,
+            _ => 0,
+        };
+        let blocks = match self.kind {
+            Kind::Read => 16,
+            _ => 1,
+        };
+        let [a, b, c, d] = counter.to_be_bytes();
+        let [e, f, g, h] = self.kind.end();
+        [a, b, c, d, 0, 0, 0, blocks, e, f, g, h]
+    }
+
+    /// What a guest was told, mixed: each byte of its answers, in their order. It has an answer to each
+    /// request, and the last one is as it has to be.
+    pub fn told(&self, answers: &[Answer], before: u32) -> Result<u32, Stop> {
+        if answers.len() != self.requests.len()
+            || !reply_of(answers.last()).ends_with(&self.tail())
+        {
+            return Err("another answer");
+        }
+        let mut all = before;
+        for answer in answers {
+            all = mixed_bytes(reply_of(Some(answer)), all);
+        }
+        Ok(all)
+    }
+
+    /// The first bytes of the MACs of what a guest was told behind the reply to its key, mixed. A MAC stands
+    /// 316 bytes before the end of the last frame.
+    pub fn macs(&self, answers: &[Answer]) -> Result<u32, Stop> {
+        let mut all = 0u32;
+        for answer in answers.iter().skip(1) {
+            let reply = reply_of(Some(answer));
+            if !reply.ends_with(&self.kind.end()) {
+                return Err("a refusal");
+            }
+            let at = reply.len().saturating_sub(316);
+            all = mixed(all, reply.get(at).copied().unwrap_or(0));
+        }
+        Ok(all)
+    }
+}
