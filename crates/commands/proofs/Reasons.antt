@@ -10,7 +10,7 @@ use Rattle.rpmb_frame.specs.declared.config.GuestConfig.{GuestConfig}
 use Rattle.rpmb_frame.specs.declared.config.RingKind.{RingKind}
 use Rattle.rpmb_frame.specs.declared.config.RingKind.TheVariants.{Split, Packed}
 use Rattle.guest_driver.specs.declared.form.Form.{Form}
-use Rattle.guest_driver.specs.Driver.{DriverState, HasTooFew, IsFull, full_by, has_two, offer_of, owner}
+use Rattle.guest_driver.specs.Driver.{DriverState, HasTooFew, IsFull, full_by, offer_of, owner}
 use Rattle.guest_driver.specs.Kinds.{needed}
 use Rattle.guest_driver.specs.Offered.{Offer}
 use Rattle.guest_driver.specs.PackedHeld.{free_places}
@@ -36,7 +36,7 @@ use Rattle.commands.proofs.Lines.{there_is}
 -- two descriptors that are free are enough
 enough_free : (owners : List (Option ℕ)) (two : Bool) → 2 ≤ length owners → ((d : ℕ) → owner owners d ≡ None) → HasTooFew owners two → ⊥
 enough_free owners false many free few = few 0 (omega arith) (omega (arith, many)) (free 0)
-enough_free owners true many free few = few 0 (omega arith) (omega (arith, many)) (free 0) 1 (omega arith) (omega (arith, many)) (free 1)
+enough_free owners true many free few = few 0 (omega (arith, many)) (free 0) 1 (omega arith) (omega (arith, many)) (free 1)
 
 -- a chain takes two places of a packed ring at most
 one_at_most : (empty : Bool) → none_or_one empty ≤ 1

@@ -75,7 +75,6 @@ StoresNothing (chain guest readable writable ∷ lines) = StoresNothing lines
 StoresNothing (store guest at bytes ∷ lines) = ⊥
 StoresNothing (reset guest ∷ lines) = StoresNothing lines
 
-
 -- the guests of a board on these partitions, of whom nothing was asked yet
 abbrev pub first_cores : List GuestConfig → List Partition → List GuestCore
 first_cores [] partitions = []

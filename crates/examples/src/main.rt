@@ -2,7 +2,8 @@
 //! folder expects. Each is performed on a disk in memory.
 //!
 //! A folder with a `script.txt` is run on a fresh image: `expected.txt` on standard output, and `fault.txt`,
-//! where there is one, on standard error. One with a `story.txt` has a command in each line of it, `format`,
+//! where there is one, on standard error; where there is a `boards.txt`, so it is on each board whose file a
+//! line of that names. One with a `story.txt` has a command in each line of it, `format`,
 //! `show`, `run SCRIPT` or `serve SCRIPT`, and behind ` > ` the file of what it prints; all of them on one disk.
 #![tactic(auto)]
 
@@ -143,22 +144,48 @@ fn tells<R: Files + AllocGlobal + Threads + Wait + Sync>(
     Ok(true)
 }
 
+/// The board of a file.
+fn board_of<R: Files + AllocGlobal>(rt: &R, name: &str, file: &str) -> Result<BoardConfig> {
+    let board = text(rt, name, file)?;
+    let (board, _) = read_board(rt.alloc(), board.as_str())?;
+    Ok(board)
+}
+
+/// Whether a script ended as the folder expects on each board of these lines.
+fn runs_on_all<R: Files + AllocGlobal + Threads + Wait + Sync>(
+    rt: &R,
+    name: &str,
+    boards: &str,
+    script: &str,
+) -> Result<bool> {
+    for file in boards.lines() {
+        let board = board_of(rt, name, file)?;
+        if !runs(rt, name, &board, script)? {
+            return Ok(false);
+        }
+    }
+    Ok(true)
+}
+
 /// Whether the example of a folder ended as its files expect.
 fn is_as_expected<R: Files + AllocGlobal + Threads + Wait + Sync>(
     rt: &R,
     name: &str,
 ) -> Result<bool> {
-    let board = text(rt, name, "board.toml")?;
-    let (board, _) = read_board(rt.alloc(), board.as_str())?;
     let story = text(rt, name, "story.txt")?;
     if !story.is_empty() {
+        let board = board_of(rt, name, "board.toml")?;
         return tells(rt, name, &board, story.as_str());
     }
     let script = text(rt, name, "script.txt")?;
     if script.is_empty() {
         bail!("neither a story nor a script");
     }
-    runs(rt, name, &board, script.as_str())
+    let boards = text(rt, name, "boards.txt")?;
+    if boards.is_empty() {
+        return runs_on_all(rt, name, "board.toml", script.as_str());
+    }
+    runs_on_all(rt, name, boards.as_str(), script.as_str())
 }
 
 fn main(rt: HostRuntime) -> Result<()> {

@@ -39,4 +39,4 @@ offer_whole m m' driver driver' readable writable head short small some a =
     let t = taken driver.owners driver.size (takes_two driver.form readable writable) head a.last a.sized a.takes in
     ap length a.written
     ∙ written driver.form.kind driver.form.indirect driver m (offer_of readable writable head a.last)
-      (record { head = t.head_below; last = t.last_below; readable = short; writable = small; some = some }) t.apart a.fits a.inside
+    (record { head = t.head_below; last = t.last_below; readable = short; writable = small; some = some }) t.apart a.fits a.inside

@@ -196,49 +196,31 @@ fn the_indexes_run_round(rt: HostRuntime) -> Result<(), Fail> {
     Ok(())
 }
 
-// Four descriptors, or places: two chains take three of them, and a third one the last. With tables each
-// takes one.
-static UNTIL_THERE_IS_NO_ROOM: [(Form, [Offered; 5]); 4] = [
-    (
-        (RingKind::Split, false),
-        [
-            (&[5, 6, 7], 0, Ok(0)),
-            (&[5, 6, 7], 2, Ok(1)),
-            (&[5, 6, 7], 2, Err(DriverFault::NoRoom)),
-            (&[], 2, Ok(3)),
-            (&[], 2, Err(DriverFault::NoRoom)),
-        ],
-    ),
-    (
-        (RingKind::Split, true),
-        [
-            (&[5, 6, 7], 0, Ok(0)),
-            (&[5, 6, 7], 2, Ok(1)),
-            (&[5, 6, 7], 2, Ok(2)),
-            (&[], 2, Ok(3)),
-            (&[], 2, Err(DriverFault::NoRoom)),
-        ],
-    ),
-    (
-        (RingKind::Packed, false),
-        [
-            (&[5, 6, 7], 0, Ok(0)),
-            (&[5, 6, 7], 2, Ok(1)),
-            (&[5, 6, 7], 2, Err(DriverFault::NoRoom)),
-            (&[], 2, Ok(2)),
-            (&[], 2, Err(DriverFault::NoRoom)),
-        ],
-    ),
-    (
-        (RingKind::Packed, true),
-        [
-            (&[5, 6, 7], 0, Ok(0)),
-            (&[5, 6, 7], 2, Ok(1)),
-            (&[5, 6, 7], 2, Ok(2)),
-            (&[], 2, Ok(3)),
-            (&[], 2, Err(DriverFault::NoRoom)),
-        ],
-    ),
+// Four descriptors: two chains take three of them, and a third one the last.
+static OF_DESCRIPTORS: [Offered; 5] = [
+    (&[5, 6, 7], 0, Ok(0)),
+    (&[5, 6, 7], 2, Ok(1)),
+    (&[5, 6, 7], 2, Err(DriverFault::NoRoom)),
+    (&[], 2, Ok(3)),
+    (&[], 2, Err(DriverFault::NoRoom)),
+];
+
+// Four places, and the ids are those that no chain has.
+static OF_PLACES: [Offered; 5] = [
+    (&[5, 6, 7], 0, Ok(0)),
+    (&[5, 6, 7], 2, Ok(1)),
+    (&[5, 6, 7], 2, Err(DriverFault::NoRoom)),
+    (&[], 2, Ok(2)),
+    (&[], 2, Err(DriverFault::NoRoom)),
+];
+
+// With tables each chain takes one.
+static OF_TABLES: [Offered; 5] = [
+    (&[5, 6, 7], 0, Ok(0)),
+    (&[5, 6, 7], 2, Ok(1)),
+    (&[5, 6, 7], 2, Ok(2)),
+    (&[], 2, Ok(3)),
+    (&[], 2, Err(DriverFault::NoRoom)),
 ];
 
 fn fills(alloc: Global, form: Form, told: &[Offered]) -> Result<(), Fail> {
@@ -248,10 +230,10 @@ fn fills(alloc: Global, form: Form, told: &[Offered]) -> Result<(), Fail> {
 
 #[test]
 fn offers_until_there_is_no_room(rt: HostRuntime) -> Result<(), Fail> {
-    for (form, told) in &UNTIL_THERE_IS_NO_ROOM {
-        fills(rt.alloc(), *form, told)?;
-    }
-    Ok(())
+    fills(rt.alloc(), (RingKind::Split, false), &OF_DESCRIPTORS)?;
+    fills(rt.alloc(), (RingKind::Split, true), &OF_TABLES)?;
+    fills(rt.alloc(), (RingKind::Packed, false), &OF_PLACES)?;
+    fills(rt.alloc(), (RingKind::Packed, true), &OF_TABLES)
 }
 
 static OUT_OF_RANGE: [Offered; 1] = [(&[], 2, Err(DriverFault::OutOfRange))];
