@@ -1,5 +1,6 @@
 use super::devices::{check, is_written, pop_of, store};
 use guest_driver::{Driver, DriverFault};
+use mmio_transport::register::STATUS;
 use mmio_transport::{Device, Job};
 use rpmb_frame::{DriverLayout, GuestConfig, RingKind};
 use std::alloc::Global;
@@ -178,6 +179,52 @@ fn go_round(alloc: Global, pair: &mut Pair) -> Result<(), Fail> {
     let job = pop_of(&mut pair.device, &READABLE)?;
     check(publish(alloc, &mut pair.device, job), "written")?;
     check(reaps(pair, 0, &REPLY), "a reply")
+}
+
+// The guest overwrites all in which its chain stands: its descriptors, its table, its bytes and, in a split
+// ring, the entry of its place.
+fn overwrite(device: &mut Device, form: Form) -> Result<(), Fail> {
+    let layout = DriverLayout::of(form.0, GUEST.queue);
+    store(device, 0, &[0xff; 64])?;
+    store(device, layout.tables, &[0xff; 32])?;
+    store(device, layout.buffers, &[9; 3])?;
+    match form.0 {
+        RingKind::Split => store(device, layout.driver_area.min(131072) + 4, &[3, 0]),
+        RingKind::Packed => Ok(()),
+    }
+}
+
+// The reply goes to the ranges that were popped, by the id that was popped.
+fn is_answered_all_the_same(alloc: Global, pair: &mut Pair, form: Form) -> Result<(), Fail> {
+    check(offer(pair, &READABLE, 2)? == Ok(0), "an offer")?;
+    let job = pop_of(&mut pair.device, &READABLE)?;
+    overwrite(&mut pair.device, form)?;
+    check(publish(alloc, &mut pair.device, job), "written")?;
+    check(reaps(pair, 0, &REPLY), "a reply")
+}
+
+// The reply to a chain that was popped before a reset is dropped.
+fn is_dropped_after_a_reset(alloc: Global, pair: &mut Pair) -> Result<(), Fail> {
+    check(offer(pair, &READABLE, 2)? == Ok(0), "an offer")?;
+    let job = pop_of(&mut pair.device, &READABLE)?;
+    pair.device.write(STATUS, 4, 0);
+    check(pair.driver.negotiate(&mut pair.device), "a negotiation")?;
+    check(!publish(alloc, &mut pair.device, job), "dropped")?;
+    check(reaps_nothing(pair), "nothing is used")
+}
+
+fn of_a_popped_chain(alloc: Global, form: Form) -> Result<(), Fail> {
+    let mut pair = in_service(alloc, 0, &guest_of(form))?;
+    is_answered_all_the_same(alloc, &mut pair, form)?;
+    is_dropped_after_a_reset(alloc, &mut pair)
+}
+
+#[test]
+fn what_becomes_of_a_popped_chain(rt: HostRuntime) -> Result<(), Fail> {
+    for (form, _) in &FORMS {
+        of_a_popped_chain(rt.alloc(), *form)?;
+    }
+    Ok(())
 }
 
 fn go_rounds(alloc: Global, form: Form) -> Result<(), Fail> {
