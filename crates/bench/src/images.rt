@@ -7,7 +7,7 @@ use board::Board;
 use disk::{Disk, MemDisk};
 use intent_slots::Layout;
 use recovery::{format, open};
-use rpmb_frame::{BoardConfig, GuestConfig};
+use rpmb_frame::{BoardConfig, GuestConfig, RingKind};
 use std::alloc::Global;
 use std::time::Duration;
 
@@ -19,6 +19,17 @@ pub fn board_of(alloc: Global, guests: u16) -> Result<BoardConfig, Stop> {
     let guest = GuestConfig::of_capacity(1);
     let guests = vec![in alloc; guest; usize::from(guests)];
     let guests = guests.ok().ok_or(NO_MEMORY)?;
+    BoardConfig::new(guests).ok().ok_or("no board")
+}
+
+/// A board of one guest with a queue of this form.
+pub fn board_of_form(alloc: Global, ring: RingKind, indirect: bool) -> Result<BoardConfig, Stop> {
+    let guest = GuestConfig {
+        ring,
+        indirect,
+        ..GuestConfig::of_capacity(1)
+    };
+    let guests = Vec::from_slice(alloc, &[guest]).ok().ok_or(NO_MEMORY)?;
     BoardConfig::new(guests).ok().ok_or("no board")
 }
 

@@ -2,8 +2,9 @@
 //!
 //! - of `macs`: of MACs;
 //! - of `requests`: of requests for each of 64 guests;
-//! - of `rings`: of chains of 8,704 bytes;
-//! - of `device`: of whole requests of each kind, of one guest, from its offer to its reap;
+//! - of `rings`: of chains of 8,704 bytes, through queues of each form;
+//! - of `device`: of whole requests of each kind, of one guest, from its offer to its reap, through queues of
+//!   each form;
 //! - of `store`: of writes of each of 64 guests;
 //! - of `open`: of openings;
 //! - of `board`: of writes of each of 64 guests, which a board's steps settle, its book and store, and its
@@ -35,11 +36,11 @@ mod ways;
 
 use books::time_books;
 use clock::{Row, Stop, print_rows};
-use images::{blank_disk, board_of, time_openings, time_reads};
+use images::{blank_disk, board_of, board_of_form, time_openings, time_reads};
 use loads::new_load;
 use macs::{keyed_macs, plain_macs, time_keyed, time_plain};
 use requests::Kind;
-use rings::{time_chains, time_copies};
+use rings::{FORMS, Form, time_chains, time_copies};
 use rpmb_frame::BoardConfig;
 use runs::time_script;
 use serve_times::{few_served, time_serve};
@@ -76,17 +77,21 @@ fn time_requests(rt: &HostRuntime, board: &BoardConfig, count: u32) -> Result<()
 }
 
 fn time_rings(rt: &HostRuntime, count: u32) -> Result<(), Stop> {
-    let popped = time_chains(rt, count)?;
     let copied = time_copies(rt, count)?;
-    print_rows(rt, &[popped, copied])
+    for form in &FORMS {
+        let popped = time_chains(rt, form, count)?;
+        print_rows(rt, &[popped, copied])?;
+    }
+    Ok(())
 }
 
-/// Times whole requests of a kind of one guest, that for its key with them.
-fn time_whole(rt: &HostRuntime, kind: Kind, count: u32) -> Result<Row, Stop> {
-    let load = new_load(rt.alloc(), kind, 1, count)?;
+/// Times whole requests of a kind of one guest with a queue of this form, that for its key with them.
+fn time_whole(rt: &HostRuntime, kind: Kind, form: &Form, count: u32) -> Result<Row, Stop> {
+    let mut load = new_load(rt.alloc(), kind, 1, count)?;
+    load.config = board_of_form(rt.alloc(), form.ring, form.indirect)?;
     let one = alone(rt, &load, blank_disk(rt.alloc(), &load.config)?)?;
     Ok(Row {
-        name: kind.name(),
+        name: form.name,
         count: load.all(),
         took: one.took,
         sum: u64::from(load.macs(&one.answers)?),
@@ -94,18 +99,25 @@ fn time_whole(rt: &HostRuntime, kind: Kind, count: u32) -> Result<Row, Stop> {
 }
 
 /// Times whole requests of a kind, and as many MACs as they need, each of as many frames.
-fn time_kind(rt: &HostRuntime, kind: Kind, count: u32) -> Result<(), Stop> {
-    let whole = time_whole(rt, kind, count)?;
+fn time_kind(rt: &HostRuntime, kind: Kind, form: &Form, count: u32) -> Result<(), Stop> {
+    let whole = time_whole(rt, kind, form, count)?;
     let (calls, frames) = kind.macs();
-    let mut macs = time_keyed(rt, "its MACs", count.saturating_mul(calls), frames)?;
+    let mut macs = time_keyed(rt, kind.name(), count.saturating_mul(calls), frames)?;
     macs.count = u64::from(count);
     print_rows(rt, &[whole, macs])
+}
+
+fn time_forms(rt: &HostRuntime, kind: Kind, count: u32) -> Result<(), Stop> {
+    for form in &FORMS {
+        time_kind(rt, kind, form, count)?;
+    }
+    Ok(())
 }
 
 /// A history holds 16,384 requests, one of which programs the key, and so COUNT is at most 16,383.
 fn time_device(rt: &HostRuntime, count: u32) -> Result<(), Stop> {
     for kind in &KINDS {
-        time_kind(rt, *kind, count)?;
+        time_forms(rt, *kind, count)?;
     }
     Ok(())
 }
@@ -144,18 +156,29 @@ fn time_run<R: AllocGlobal + Threads + Wait + Sync>(
     print_rows(rt, &[run, own])
 }
 
+/// Two whole requests of a kind, which are told alike through queues of each form.
+fn told_alike(rt: &HostRuntime, kind: Kind) -> Result<u64, Stop> {
+    let told = time_whole(rt, kind, &FORMS[0], 2)?.sum;
+    for form in &FORMS {
+        if time_whole(rt, kind, form, 2)?.sum != told {
+            return Err("told otherwise");
+        }
+    }
+    Ok(told)
+}
+
 /// Two whole requests of each kind, mixed.
 fn few_whole(rt: &HostRuntime) -> Result<u64, Stop> {
     let mut all = 0;
     for kind in &KINDS {
-        all ^= time_whole(rt, *kind, 2)?.sum;
+        all ^= told_alike(rt, *kind)?;
     }
     Ok(all)
 }
 
 /// Some chains through a ring, and some copies.
 fn few_chains(rt: &HostRuntime) -> Result<u64, Stop> {
-    let popped = time_chains(rt, 40)?;
+    let popped = time_chains(rt, &FORMS[0], 40)?;
     let copied = time_copies(rt, 3)?;
     Ok(popped.sum ^ copied.sum)
 }
