@@ -24,7 +24,7 @@ fresh_guests_open [] all = (refl, refl, refl, tt)
 fresh_guests_open (g ∷ gs) all =
     let rest = fresh_guests_open gs all.1 in
     let clean = fresh g.core.limits g.core.partition in
-    let quiet : IsSoundGuest clean = (refl, omega arith) in
+    let quiet : IsSoundGuest clean = (omega arith, omega arith) in
     (omega (arith, ap due all.0, rest.0), omega (arith, ap unsettled all.0, rest.1), omega (arith, ap submits_of all.0, rest.2), (subst IsSoundGuest (sym all.0) quiet, rest.3))
 
 pub opens : (s : State) → IsFresh s → IsOpening s

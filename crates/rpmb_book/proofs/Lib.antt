@@ -7,12 +7,14 @@ pub mod Kept
 pub mod Submitting
 pub mod Settling
 pub mod OpeningLemmas
+pub mod Grouping
 pub mod Taking
 pub mod IsolationLemmas
 pub mod OutcomeLemmas
 pub mod LeadingOn
 pub mod Asking
 pub mod OnBoard
+pub mod Readying
 pub mod Giving
 pub mod AskedLemmas
 pub mod Marking

@@ -1,18 +1,18 @@
 -- The history has room for each turn that may still come: four for each Submit.
-use Rattle.std.proofs.Common.{◌≡◌, ◌<◌, ◌≤◌, ℕ, ◌+◌, ◌-◌, ◌*◌, Bool, true, false, List, [], ◌∷◌, ◌++◌, Option, Some, None, length, drop, refl, ap, sym, ◌∙◌, arith, length-append, length-drop, inl, inr}
-use Rattle.std.specs.Prelude.{IsSome, map, if◌then◌else◌, ◌&&◌, ◌||◌, ◌⊎◌, nat_le, nat_lt, count_by}
+use Rattle.std.proofs.Common.{◌≡◌, ◌<◌, ◌≤◌, ℕ, zero, suc, ◌+◌, ◌-◌, ◌*◌, Bool, true, false, List, [], ◌∷◌, Option, Some, None, length, drop, take, refl, ap, ◌∙◌, arith, length-append, length-drop, inl, inr}
+use Rattle.std.specs.Prelude.{IsSome, map, if◌then◌else◌, ◌==◌, ◌&&◌, ◌||◌, ◌⊎◌, nat_le, nat_lt, count_by}
 use Rattle.std.specs.List.{AllByRecursion}
 use Rattle.std.proofs.lemmas.List.{length-map}
 use Rattle.std.proofs.lemmas.List.Sums.{sum_by-cons}
 use Rattle.std.proofs.lemmas.Bool.Decides.{nat_tests}
 use Rattle.std.proofs.lemmas.Option.{slice_get_cases}
 use Rattle.rpmb_frame.specs.Partition.{sequence}
-use Rattle.rpmb_core.proofs.Sequence.{sequence_accepted, after_refused, keyed_after}
+use Rattle.rpmb_core.proofs.Sequence.{sequence_accepted, after_refused}
 use Rattle.mmio_transport.specs.Job.{Job}
-use Rattle.intent_slots.specs.Payload.{Intent}
-use Rattle.rpmb_book.specs.Guest.{GuestCore, GuestState, Held, held_when, submitted, took, collected, broken_off, kept_or_failed, first_due, first_intent, first_sequence, joined_by, intent, intent_of, intent_sequence, accepts, after, request_of}
+use Rattle.intent_slots.specs.Payload.{Entry, Intent}
+use Rattle.rpmb_book.specs.Guest.{GuestCore, GuestState, Held, held_when, submitted, took, collected, broken_off, kept_or_failed, first_due, first_intent, joined_by, entry, entry_of, next_group, accepts, request_of}
 use Rattle.rpmb_book.specs.Turn.{Turn, Submit, Take, Settle, Collect, Break, State, after_break, after_turn, IsRight, is_break, is_submit, settled_all, are_within, move_some}
-use Rattle.rpmb_book.specs.Sound.{Follows, IsSoundGuest, IsSound}
+use Rattle.rpmb_book.specs.Sound.{IsSoundGuest, IsSound}
 use Rattle.rpmb_book.specs.Replay.{replay, IsLegal}
 use Rattle.rpmb_book.specs.History.{is_settle}
 use Rattle.rpmb_book.proofs.Places.{total, total-update, all_at, all-update}
@@ -35,63 +35,54 @@ pub record IsOpening (s : State) : Type 0 where
   pub uncounted : total submits_of s.guests ≡ 0
   pub sound : IsSound s
 
-follows_le : (n : ℕ) (es : List Intent) (m : ℕ) → Follows n es m → n ≤ m
-follows_le n [] m f = omega arith
-follows_le n (e ∷ es) m f = omega (arith, follows_le (intent_sequence e) es m f.1)
-
-follows-push : (n : ℕ) (es : List Intent) (m : ℕ) (e : Intent) → Follows n es m → intent_sequence e ≡ m + 1 → Follows n (es ++ e ∷ []) (m + 1)
-follows-push n [] m e f is = (is ∙ ap (λ k. k + 1) (sym f), is)
-follows-push n (x ∷ es) m e f is = (f.0, follows-push (intent_sequence x) es m e f.1 is)
-
-follows-first : (n : ℕ) (es : List Intent) (m : ℕ) → Follows n es m → Follows (first_sequence n es) (drop 1 es) m
-follows-first n [] m f = f
-follows-first n (e ∷ es) m f = f.1
-
-first_le : (n : ℕ) (es : List Intent) (m : ℕ) → Follows n es m → n ≤ first_sequence n es
-first_le n [] m f = omega arith
-first_le n (e ∷ es) m f = omega arith
+-- the first of a list and the others are as many as all
+pub length-parts : {X : Type 0} (k : ℕ) (xs : List X) → length (take k xs) + length (drop k xs) ≡ length xs
+length-parts zero xs = omega arith
+length-parts (suc k) [] = omega arith
+length-parts (suc k) (x ∷ xs) = (let rest = length-parts k xs in omega (arith, rest))
 
 -- the test of a Bool, with the equation
 by_test : {P : Type 0} (b : Bool) → (b ≡ true → P) → (b ≡ false → P) → P
 by_test true f g = f refl
 by_test false f g = g refl
 
--- what a Submit does to the waiting intents and to the sequence
+-- what a Submit does to what waits and to the sequence
 pub record Joins (old new : GuestState) (by : ℕ) : Type 0 where
   pub long : length new.waiting ≡ length old.waiting + by
   pub later : sequence new.core.partition ≡ sequence old.core.partition + by
-  pub follows : Follows old.taken old.waiting (sequence old.core.partition) → Follows new.taken new.waiting (sequence new.core.partition)
 
-joined_some : (n : ℕ) (w : List Intent) (o : Option Intent) (e : Intent) (m k : ℕ) → o ≡ Some e → intent_sequence e ≡ k → k ≡ m + 1 → (length (joined_by w o) ≡ length w + 1) × (Follows n w m → Follows n (joined_by w o) k)
-joined_some n w o e m k is at next = rw (is, next) (length-append w (e ∷ []), λ f. follows-push n w m e f (at ∙ next))
+length-joined_some : (w : List Entry) (o : Option Entry) (e : Entry) → o ≡ Some e → length (joined_by w o) ≡ length w + 1
+length-joined_some w o e is = ap (λ x. length (joined_by w x)) is ∙ length-append w (e ∷ [])
 
-joined_none : (n : ℕ) (w : List Intent) (o : Option Intent) (m k : ℕ) → o ≡ None → k ≡ m → (length (joined_by w o) ≡ length w + 0) × (Follows n w m → Follows n (joined_by w o) k)
-joined_none n w o m k is same = rw (is, same) (omega arith, λ f. f)
+length-joined_none : (w : List Entry) (o : Option Entry) → o ≡ None → length (joined_by w o) ≡ length w + 0
+length-joined_none w o is = ap (λ x. length (joined_by w x)) is ∙ omega arith
 
-pub intent_some : (c : GuestCore) (job : Job) → accepts c job ≡ true → intent c job ≡ Some (intent_of job.guest (after c job) (request_of c job).command)
-intent_some c job is = rw is refl
+pub entry_some : (c : GuestCore) (job : Job) → accepts c job ≡ true → entry c job ≡ Some (entry_of (request_of c job).command)
+entry_some c job is = rw is refl
 
--- it has the sequence of the partition after the request
-pub intent_counted : (c : GuestCore) (job : Job) → accepts c job ≡ true → intent_sequence (intent_of job.guest (after c job) (request_of c job).command) ≡ sequence (after c job)
-intent_counted c job is = omega (arith, keyed_after c.partition (request_of c job) is)
-
-pub intent_none : (c : GuestCore) (job : Job) → accepts c job ≡ false → intent c job ≡ None
-intent_none c job is = rw is refl
+pub entry_none : (c : GuestCore) (job : Job) → accepts c job ≡ false → entry c job ≡ None
+entry_none c job is = rw is refl
 
 submit_joins : (broken : Bool) (job : Job) (g : GuestState) → (by : ℕ) × (by ≤ 1) × Joins g (submitted broken job g) by
-submit_joins true job g = (0, omega arith, record { long = omega arith; later = omega arith; follows = λ f. f })
+submit_joins true job g = (0, omega arith, record { long = omega arith; later = omega arith })
 submit_joins false job g =
     by_test (accepts g.core job)
-    (λ is.
-    let r = request_of g.core job in
-    let next = sequence_accepted g.core.partition r is in
-    let more = joined_some g.taken g.waiting (intent g.core job) (intent_of job.guest (after g.core job) r.command) (sequence g.core.partition) (sequence (after g.core job)) (intent_some g.core job is) (intent_counted g.core job is) next in
-    (1, omega arith, record { long = more.0; later = next; follows = more.1 }))
-    (λ is.
-    let r = request_of g.core job in
-    let same = ap sequence (after_refused g.core.partition r is) in
-    let none = joined_none g.taken g.waiting (intent g.core job) (sequence g.core.partition) (sequence (after g.core job)) (intent_none g.core job is) same in
-    (0, omega arith, record { long = none.0; later = same ∙ omega arith; follows = none.1 }))
+    (λ is. (
+      1,
+      omega arith,
+      record {
+        long = length-joined_some g.waiting (entry g.core job) (entry_of (request_of g.core job).command) (entry_some g.core job is);
+        later = sequence_accepted g.core.partition (request_of g.core job) is;
+      },
+    ))
+    (λ is. (
+      0,
+      omega arith,
+      record {
+        long = length-joined_none g.waiting (entry g.core job) (entry_none g.core job is);
+        later = ap sequence (after_refused g.core.partition (request_of g.core job) is) ∙ omega arith;
+      },
+    ))
 
 submit_cost : (broken : Bool) (job : Job) (g : GuestState) → due (submitted broken job g) ≤ due g + 3
 submit_cost broken job g =
@@ -101,18 +92,32 @@ submit_cost broken job g =
 submit_unsettled : (broken : Bool) (job : Job) (g : GuestState) → unsettled (submitted broken job g) ≤ unsettled g + 1
 submit_unsettled broken job g = let j = submit_joins broken job g in omega (arith, j.1, j.2.later)
 
-submit_sound : (broken : Bool) (job : Job) (g : GuestState) → IsSoundGuest g → IsSoundGuest (submitted broken job g)
-submit_sound broken job g sound = ((submit_joins broken job g).2.follows sound.0, sound.1)
+-- what waits leads from the sequence that was taken to the partition's
+abbrev pub IsCounted : GuestState → Type 0
+IsCounted g = g.taken + length g.waiting ≡ sequence g.core.partition
 
-take_cost : (g : GuestState) → IsSome (first_intent g.waiting) → due (took g) + 1 ≤ due g
-take_cost g some = omega (arith, some_waits g.waiting some, length-drop 1 g.waiting)
+pub submit_counted : (broken : Bool) (job : Job) (g : GuestState) → IsCounted g → IsCounted (submitted broken job g)
+submit_counted broken job g counted = (let j = submit_joins broken job g in omega (arith, j.2.long, j.2.later, counted))
+
+submit_sound : (broken : Bool) (job : Job) (g : GuestState) → IsSoundGuest g → IsSoundGuest (submitted broken job g)
+submit_sound broken job g sound = (submit_counted broken job g sound.0, sound.1)
+
+-- something waits, where a Take gives an intent
+pub some_waits : (n : ℕ) (g : GuestState) → IsSome (first_intent n g) → 1 ≤ length g.waiting
+some_waits n g some = by_length g.waiting some
   where
-    some_waits : (w : List Intent) → IsSome (first_intent w) → 1 ≤ length w
-    some_waits [] some = absurd (cc)
-    some_waits (e ∷ es) some = omega arith
+    by_length : (w : List Entry) → IsSome {T = Intent} (if length w == 0 then None else Some (record { guest = n; group = next_group g })) → 1 ≤ length w
+    by_length [] some = absurd (cc)
+    by_length (e ∷ es) some = omega arith
+
+take_cost : (n : ℕ) (g : GuestState) → IsSome (first_intent n g) → due (took g) + 1 ≤ due g
+take_cost n g some = omega (arith, some_waits n g some, length-drop 4 g.waiting)
+
+pub take_counted : (g : GuestState) → IsCounted g → IsCounted (took g)
+take_counted g counted = (let parts = length-parts 4 g.waiting in omega (arith, parts, counted))
 
 take_sound : (g : GuestState) → IsSoundGuest g → IsSoundGuest (took g)
-take_sound g sound = (follows-first g.taken g.waiting (sequence g.core.partition) sound.0, omega (arith, first_le g.taken g.waiting (sequence g.core.partition) sound.0, sound.1))
+take_sound g sound = (take_counted g sound.0, omega (arith, sound.1))
 
 due_held : (settled : ℕ) (ds : List Held) → IsSome (first_due settled ds) → length (drop 1 ds) + 1 ≤ length ds
 due_held settled [] some = absurd (cc)
@@ -150,7 +155,7 @@ settles_cost (g ∷ gs) (m ∷ ms) sound within some =
     let parts = within_parts m g.taken (are_within gs ms) within in
     let rest = settles_le gs ms in
     elim (moves_parts m g.settled (move_some gs ms) some) [
-      | inl lt ↦ (omega (arith, rest.0, follows_le g.taken g.waiting (sequence g.core.partition) sound.0.0, lt, parts.0), omega (arith, rest.1, follows_le g.taken g.waiting (sequence g.core.partition) sound.0.0, lt, parts.0))
+      | inl lt ↦ (omega (arith, rest.0, sound.0.0, lt, parts.0), omega (arith, rest.1, sound.0.0, lt, parts.0))
       | inr more ↦ (let later = settles_cost gs ms sound.1 parts.1 more in (omega (arith, later.0), omega (arith, later.1)))
     ]
 
@@ -170,7 +175,7 @@ break_sound : (broken : Bool) (s : State) → IsSound s → IsSound (after_break
 break_sound true s sound = sound
 break_sound false s sound = breaks_sound s.guests sound
 
-turn_sound : (s : State) (t : Turn) → IsSound s → IsRight s t → IsSound (after_turn s t)
+pub turn_sound : (s : State) (t : Turn) → IsSound s → IsRight s t → IsSound (after_turn s t)
 turn_sound s (Submit w) sound right = elim (slice_get_cases s.guests w.job.guest).1 [
   | inl x ↦ all-update IsSoundGuest s.guests w.job.guest (submitted s.broken w.job) x.0 x.2 (submit_sound s.broken w.job x.0 (all_at IsSoundGuest s.guests w.job.guest x.0 x.2 sound)) sound
   | inr past ↦ absurd (omega (arith, past.0, right.0))
@@ -218,7 +223,7 @@ turn_pays s (Submit w) sound right = elim (slice_get_cases s.guests w.job.guest)
 ]
 turn_pays s (Take n) sound right = elim (slice_get_cases s.guests n).1 [
   | inl x ↦ record {
-    turn = omega (arith, total-update due s.guests n took x.0 x.2, take_cost x.0 (right.0 x.0 x.2));
+    turn = omega (arith, total-update due s.guests n took x.0 x.2, take_cost n x.0 (right.0 x.0 x.2));
     marks = omega (arith, total-update unsettled s.guests n took x.0 x.2);
     count = omega (arith, total-update submits_of s.guests n took x.0 x.2);
     breaks = omega arith;

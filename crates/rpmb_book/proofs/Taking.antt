@@ -1,17 +1,23 @@
 -- Turns of one guest that take no memory.
-use Rattle.std.proofs.Common.{◌≡◌, ◌<◌, ℕ, Bool, true, false, List, [], ◌∷◌, ◌++◌, Option, Some, None, length, set, refl, ap, sym, ◌∙◌, subst, arith, get_or}
+use Rattle.std.proofs.Common.{◌≡◌, ◌<◌, ◌≤◌, ◌+◌, ◌^◌, ℕ, Bool, true, false, List, [], ◌∷◌, ◌++◌, Option, Some, None, length, set, refl, ap, sym, ◌∙◌, subst, arith, get_or}
 use Rattle.std.specs.Prelude.{slice_get, IsSome, is_some, if◌then◌else◌, Ok, Err}
+use Rattle.std.proofs.lemmas.List.{set-get_or}
 use Rattle.std.proofs.lemmas.Option.{slice_get_within}
 use Rattle.rpmb_book.specs.Guest.{GuestState, took, collected, first_intent, first_due}
 use Rattle.rpmb_book.specs.Turn.{Turn, Take, Collect, State, IsRight}
 use Rattle.rpmb_book.specs.Replay.{replay}
 use Rattle.rpmb_book.specs.History.{HistoryView}
 use Rattle.mmio_transport.specs.Job.{Done}
-use Rattle.intent_slots.specs.Payload.{Intent}
-use Rattle.rpmb_book.specs.Book.{BookView, with_turn, guest_of, due_at, due_of, after_collect, is_share, is_taken, next_intent, waiting_of, take_answer, after_take}
+use Rattle.intent_slots.specs.Payload.{EntriesFit, Intent}
+use Rattle.rpmb_book.specs.Book.{BookView, with_turn, guest_of, due_at, due_of, after_collect, first_of, is_share, is_taken, next_intent, take_answer, after_take}
 use Rattle.rpmb_book.specs.declared.refused.Refused.TheVariants.{Foreign}
 use Rattle.rpmb_book.specs.Kept.{IsRecorded}
-use Rattle.rpmb_book.proofs.Kept.{known, kept_guest, room_for}
+use Rattle.rpmb_book.specs.Sound.{IsReady, IsSoundGuest}
+use Rattle.rpmb_book.proofs.Kept.{known, kept_guest, opens, room_for}
+use Rattle.rpmb_book.proofs.OnBoard.{core_at, on_board}
+use Rattle.rpmb_book.proofs.Places.{all_at}
+use Rattle.rpmb_book.proofs.Readying.{opens_ready, sequence_few, stay_ready}
+use Rattle.rpmb_book.proofs.Room.{sound}
 use Rattle.rpmb_book.proofs.Submitting.{shown}
 
 -- the state has this guest in this place
@@ -25,8 +31,8 @@ stands o h gs broken n m at g kept at_is lt read = record { kept = kept; at = kn
 some_there : {X : Type 0} {x y : X} → Some x ≡ Some y → x ≡ y
 some_there e = cc
 
-right_take : (s : State) (m : ℕ) (g : GuestState) → slice_get s.guests m ≡ Some g → is_some (first_intent g.waiting) ≡ true → IsRight s (Take m)
-right_take s m g at waits = (λ x is. subst (λ (y : GuestState). IsSome (first_intent y.waiting)) (some_there (sym at ∙ is)) waits, slice_get_within s.guests m g at)
+right_take : (s : State) (m : ℕ) (g : GuestState) → slice_get s.guests m ≡ Some g → is_some (first_intent m g) ≡ true → IsRight s (Take m)
+right_take s m g at waits = (λ x is. subst (λ (y : GuestState). IsSome (first_intent m y)) (some_there (sym at ∙ is)) waits, slice_get_within s.guests m g at)
 
 right_collect : (s : State) (m : ℕ) (g : GuestState) → slice_get s.guests m ≡ Some g → is_some (first_due g.settled g.held) ≡ true → IsRight s (Collect m)
 right_collect s m g at due = (λ x is. subst (λ (y : GuestState). IsSome (first_due y.settled y.held)) (some_there (sym at ∙ is)) due, slice_get_within s.guests m g at)
@@ -36,7 +42,7 @@ pub record TurnsGuest (o : State) (h : HistoryView) (gs : List GuestState) (brok
   pub room : length h.turns < 65537
   pub kept : (h' : HistoryView) → h' ≡ record h { turns = h.turns ++ t ∷ [] } → IsRecorded o h' (set gs at v) broken n
 
-pub takes : (o : State) (h : HistoryView) (gs : List GuestState) (broken : Bool) (n m at : ℕ) (g v : GuestState) → Stands o h gs broken n m g → is_some (first_intent g.waiting) ≡ true → at ≡ m → v ≡ took g → TurnsGuest o h gs broken n at v (Take m)
+pub takes : (o : State) (h : HistoryView) (gs : List GuestState) (broken : Bool) (n m at : ℕ) (g v : GuestState) → Stands o h gs broken n m g → is_some (first_intent m g) ≡ true → at ≡ m → v ≡ took g → TurnsGuest o h gs broken n at v (Take m)
 takes o h gs broken n m at g v here waits at_is v_is =
     let right = right_take (replay o h.turns) m g here.at waits in
     record {
@@ -89,9 +95,9 @@ share_inside life o h gs broken n v shares m kept shows is =
     let at : slice_get (replay o h.turns).guests m ≡ Some g.0 = ap (λ b. guest_of b m) shows ∙ g.1 in
     omega (arith, slice_get_within (replay o h.turns).guests m g.0 at, ap length kept.guests_are)
 
-pub next_here : (life : ℕ) (o : State) (h : HistoryView) (gs : List GuestState) (broken : Bool) (n m : ℕ) (v : BookView) (shares : List ℕ) (g : GuestState) → Stands o h gs broken n m g → shown life o h ≡ v → is_share v shares m ≡ true → next_intent v shares m ≡ first_intent g.waiting
+pub next_here : (life : ℕ) (o : State) (h : HistoryView) (gs : List GuestState) (broken : Bool) (n m : ℕ) (v : BookView) (shares : List ℕ) (g : GuestState) → Stands o h gs broken n m g → shown life o h ≡ v → is_share v shares m ≡ true → next_intent v shares m ≡ first_intent m g
 next_here life o h gs broken n m v shares g here is share =
-    chosen (is_share v shares m) (first_intent (waiting_of (guest_of v m))) None share ∙ ap (λ o. first_intent (waiting_of o)) (ap (λ b. guest_of b m) (sym is) ∙ here.at)
+    chosen (is_share v shares m) (first_of m (guest_of v m)) None share ∙ ap (first_of m) (ap (λ b. guest_of b m) (sym is) ∙ here.at)
 
 pub take_answer_is : (v : BookView) (shares : List ℕ) (m : ℕ) (e : Option Intent) → is_share v shares m ≡ true → e ≡ next_intent v shares m → Ok e ≡ take_answer v shares m
 take_answer_is v shares m e share is = ap (λ x. Ok x) is ∙ sym (chosen (is_share v shares m) (Ok (next_intent v shares m)) (Err Foreign) share)
@@ -101,3 +107,33 @@ took_nothing v shares m is = sym (not_chosen (is_some (next_intent v shares m)) 
 
 pub took_one : (v : BookView) (shares : List ℕ) (m : ℕ) (e : Intent) → Some e ≡ next_intent v shares m → with_turn v (Take m) ≡ after_take v shares m
 took_one v shares m e is = sym (chosen (is_some (next_intent v shares m)) (with_turn v (Take m)) v (some_is (next_intent v shares m) e is))
+
+-- what the guest that a Take asks has ready
+pub record HasReady (g : GuestState) : Type 0 where
+  pub ready : EntriesFit (2 ^ 24) g.taken g.waiting
+  pub counters : g.taken + length g.waiting ≤ 2 ^ 32
+
+pub ready_here : (o : State) (h : HistoryView) (gs : List GuestState) (broken : Bool) (n m : ℕ) (g : GuestState) → Stands o h gs broken n m g → HasReady g
+ready_here o h gs broken n m g here =
+    let s = replay o h.turns in
+    let kept = here.kept in
+    let begins = (opens o kept.begins).sound in
+    let followed : IsSoundGuest g = all_at IsSoundGuest s.guests m g here.at (sound o h.turns begins kept.legal) in
+    let few = sequence_few g.core.partition (core_at s m g here.at (on_board o h.turns kept.of_board kept.legal)).partition.held.home in
+    record {
+      ready = all_at IsReady s.guests m g here.at (stay_ready o h.turns kept.of_board begins (opens_ready o kept.begins) kept.legal);
+      counters = omega (arith, followed.0, few);
+    }
+
+pub share_within : (v : BookView) (shares : List ℕ) (m : ℕ) → is_share v shares m ≡ true → m < length shares
+share_within v shares m is = by (guest_of v m) (slice_get shares m) refl is
+  where
+    by : (o : Option GuestState) (p : Option ℕ) → slice_get shares m ≡ p → is_taken o p ≡ true → m < length shares
+    by None p at is = absurd (cc)
+    by (Some g) None at is = absurd (cc)
+    by (Some g) (Some n) at is = slice_get_within shares m n at
+
+-- a guest of whom nothing was taken is as it was
+pub kept_same : (o : State) (h : HistoryView) (gs : List GuestState) (broken : Bool) (n at : ℕ) (g v : GuestState) → IsRecorded o h gs broken n → g ≡ get_or gs at g → v ≡ g → IsRecorded o h (set gs at v) broken n
+kept_same o h gs broken n at g v kept read same =
+    subst (λ l. IsRecorded o h l broken n) (sym (ap (set gs at) (same ∙ read) ∙ set-get_or gs at g)) kept

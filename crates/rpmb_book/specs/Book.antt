@@ -2,7 +2,7 @@
 use Rattle.std.specs.Prelude.{ℕ, ◌==◌, ◌&&◌, ◌||◌, not, Bool, true, false, if◌then◌else◌, Option, Some, None, is_some, Result, Ok, Err, List, [], ◌∷◌, ◌++◌, length, count_by, slice_get, slice_set}
 use Rattle.rpmb_frame.specs.Table.{first_row}
 use Rattle.mmio_transport.specs.Job.{Job, Done}
-use Rattle.intent_slots.specs.Payload.{Intent}
+use Rattle.intent_slots.specs.Payload.{Entry, Intent}
 use Rattle.rpmb_book.specs.Job.{Tally, Submission}
 use Rattle.rpmb_book.specs.Guest.{GuestState, first_intent, first_due, intent_sequence}
 use Rattle.rpmb_book.specs.Turn.{Turn, Submit, Take, Settle, Collect, Break, State, answer_of, are_within, is_submit, move_some}
@@ -57,13 +57,17 @@ is_taken (Some g) (Some n) = g.taken == n
 abbrev pub is_share : BookView → List ℕ → ℕ → Bool
 is_share b shares n = is_taken (guest_of b n) (slice_get shares n)
 
-abbrev pub waiting_of : Option GuestState → List Intent
+abbrev pub waiting_of : Option GuestState → List Entry
 waiting_of None = []
 waiting_of (Some g) = g.waiting
 
+abbrev pub first_of : ℕ → Option GuestState → Option Intent
+first_of n None = None
+first_of n (Some g) = first_intent n g
+
 -- the intent that a Take gives
 abbrev pub next_intent : BookView → List ℕ → ℕ → Option Intent
-next_intent b shares n = if is_share b shares n then first_intent (waiting_of (guest_of b n)) else None
+next_intent b shares n = if is_share b shares n then first_of n (guest_of b n) else None
 
 abbrev pub take_answer : BookView → List ℕ → ℕ → Result (Option Intent) Refused
 take_answer b shares n = if is_share b shares n then Ok (next_intent b shares n) else Err Foreign

@@ -8,7 +8,7 @@ use Rattle.rpmb_book.specs.Guest.{GuestState, submitted, took, settled_at, colle
 pub data Turn : Type 0 where
   -- a job was answered
   Submit : (made : Submission) → Turn
-  -- the guest's first waiting intent went to the store
+  -- the guest's first requests that wait went to the store, at most four
   Take : (guest : ℕ) → Turn
   -- the store has these sequences, one a guest
   Settle : (marks : List ℕ) → Turn
@@ -68,7 +68,7 @@ move_some (g ∷ gs) (m ∷ ms) = nat_lt g.settled m || move_some gs ms
 -- the turn is one that the book makes in that state, with the answer that it gives there
 abbrev pub IsRight : State → Turn → Type 0
 IsRight s (Submit w) = (w.job.guest < length s.guests) × (w.reply ≡ answer_of s w.job)
-IsRight s (Take n) = ForSome (slice_get s.guests n) (λ g. IsSome (first_intent g.waiting)) × (n < length s.guests)
+IsRight s (Take n) = ForSome (slice_get s.guests n) (λ g. IsSome (first_intent n g)) × (n < length s.guests)
 IsRight s (Settle marks) = (length marks ≡ length s.guests) × (are_within s.guests marks ≡ true) × (move_some s.guests marks ≡ true)
 IsRight s (Collect n) = ForSome (slice_get s.guests n) (λ g. IsSome (first_due g.settled g.held)) × (n < length s.guests)
 IsRight s Break = s.broken ≡ false

@@ -7,7 +7,7 @@ ghost use Rattle.rpmb_book.specs.Guest.{broken_off};
 ghost use Rattle.std.specs.Option.{option_copied};
 ghost use Rattle.rpmb_book.specs.Asked.{answered_in};
 ghost use Rattle.rpmb_book.specs.Kept.{IsFresh};
-ghost use Rattle.rpmb_book.specs.Sound.{AreOfBoard, IsSound};
+ghost use Rattle.rpmb_book.specs.Sound.{AreOfBoard, AreReady, IsSound};
 ghost use Rattle.rpmb_book.specs.Receipt.{turn_seen, submission_seen};
 
 use crate::guest_state::GuestState;
@@ -159,9 +159,10 @@ impl Book {
         }
     }
 
-    /// Gives the intent of the guest's oldest accepted request that was not taken, and moves its share
-    /// there; None where none waits. It is moved out, with the blocks that `submit` copied. `Foreign`
-    /// exactly where the book lacks the guest or the share isn't its taken sequence. It takes no memory.
+    /// Gives the guest's oldest accepted requests that were not taken, as many as there are and at most
+    /// four, as one intent, and moves its share to the last one's sequence; None where none waits. They
+    /// are moved out, with the blocks that `submit` copied. `Foreign` exactly where the book lacks the
+    /// guest or the share isn't its taken sequence. It takes no memory.
     pub fn take(&mut self, shares: &mut Shares, guest: u16) -> Result<Option<Intent>, Refused>
         ensures answer { result ≡ take_answer self.old shares.old guest }
         ensures book { self.new ≡ after_take self.old shares.old guest }
@@ -172,7 +173,7 @@ impl Book {
         }
         let at = usize::from(guest);
         let known = &mut self.guests[at];
-        match known.take() {
+        match known.take(guest) {
             None => Ok(None),
             Some(intent) => {
                 shares.set(at, intent.last_sequence());
@@ -308,8 +309,9 @@ impl Book {
     pub fn what_always_holds(&self)
         // Each turn of the history is one that the book makes in the state where it stands.
         ensures legal { IsLegal self.now.opening self.now.history }
-        // What waits for the store follows what it took, and nothing is settled that it didn't take.
+        // What waits for the store follows what it took and can be done in its order, and nothing is settled that it didn't take.
         ensures sound { IsSound (state self.now) }
+        ensures ready { AreReady (state self.now) }
         // Each guest has a partition of a board, which a store can hold.
         ensures of_board { AreOfBoard (state self.now) }
         // It began with guests of whom nothing was asked, on partitions of a board.

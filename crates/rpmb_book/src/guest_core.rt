@@ -4,12 +4,11 @@ ghost use Rattle.rpmb_frame.specs.Partition.{Partition};
 ghost use Rattle.rpmb_core.specs.Verdict.{verdict};
 ghost use Rattle.rpmb_core.specs.Accept.{data_of, is_accepted, partition_after};
 ghost use Rattle.rpmb_core.specs.Reply.{failure_kind};
-ghost use Rattle.rpmb_book.specs.Guest.{stored, core_after, outcome_in, answer, answer_when, need, intent, intent_of, entry_of, blocks_in, request_of};
+ghost use Rattle.rpmb_book.specs.Guest.{stored, core_after, outcome_in, answer, answer_when, need, entry, entry_of, key_of, blocks_in, request_of};
 ghost use Rattle.rpmb_book.specs.Sound.{IsCoreOfBoard};
-ghost use Rattle.intent_slots.specs.Payload.{EntryFits};
 ghost use Rattle.rpmb_book.specs.Planned.{IsPlanned};
 
-use intent_slots::{Entry, Intent};
+use intent_slots::Entry;
 use mmio_transport::Job;
 use rpmb_core::{GENERAL_FAILURE, NoMemory, OK, Outcome, Partition, failure_kind, is_change};
 use rpmb_frame::{Command, Frame, Limits, Request};
@@ -50,14 +49,14 @@ pub struct Plan {
 }
 
 /// The answer to a job: its reply twice, what has to be settled before the reply may leave, the type
-/// of the failure reply to its request, and the intent of an accepted one.
+/// of the failure reply to its request, and what an accepted one is to make of the partition.
 #[derive(Drop)]
 pub struct Answer {
     pub reply: Vec<u8>,
     pub copy: Vec<u8>,
     pub need: u64,
     pub kind: u16,
-    pub intent: Option<Intent>,
+    pub entry: Option<Entry>,
 }
 
 /// The failure reply to a job, twice, and its type.
@@ -83,6 +82,16 @@ impl GuestCore {
         ensures { result.now ≡ self.now.partition }
     {
         &self.partition
+    }
+
+    /// The partition's key; zeros, where it has none.
+    pub fn key(&self) -> [u8; 32]
+        ensures { result ≡ key_of self.now.partition }
+    {
+        match self.partition.key() {
+            Some(key) => key,
+            None => [0; 32],
+        }
     }
 
     /// Finds the verdict on a job, and makes all the memory that its answer takes.
@@ -124,7 +133,7 @@ impl GuestCore {
         ensures copy { result.copy.items ≡ answer self.old job.now }
         ensures need { result.need ≡ need self.old job.now }
         ensures kind { result.kind ≡ failure_kind (request_of self.old job.now).command }
-        ensures intent { result.intent ≡ intent self.old job.now }
+        ensures entry { result.entry ≡ entry self.old job.now }
     {
         let request = Request::classify(job.request(), job.writable(), self.limits);
         let Plan {
@@ -134,8 +143,7 @@ impl GuestCore {
             mut copy,
             blocks,
         } = plan;
-        let guest = job.guest();
-        let intent = change(&mut self.partition, guest, &request, is_accepted, blocks);
+        let entry = change(&mut self.partition, &request, is_accepted, blocks);
         let outcome = Outcome::of(&request, code, self.partition.counter());
         self.last = keep(self.last, job.session(), outcome);
         let len = self
@@ -148,7 +156,7 @@ impl GuestCore {
             copy,
             need: self.partition.sequence(),
             kind: failure_kind(&request),
-            intent,
+            entry,
         }
     }
 
@@ -190,27 +198,26 @@ impl GuestCore {
     }
 }
 
-/// Makes the change of a request that is accepted and gives its intent, with these blocks; for another
+/// Makes the change of a request that is accepted and gives its entry, with these blocks; for another
 /// one it does neither.
 #[tactic(auto, unfolding(rpmb_core::specs::Accept::partition_after))]
 fn change(
     partition: &mut Partition,
-    guest: u16,
     request: &Request<'_>,
     accepts: bool,
     blocks: Vec<u8>,
-) -> Option<Intent>
+) -> Option<Entry>
     requires accepts { accepts ≡ is_accepted partition.old request.now }
     requires blocks { accepts ≡ true → blocks.items ≡ blocks_in request.now.command }
-    requires fits { accepts ≡ true → EntryFits (2 ^ 24) (partition_after partition.old request.now).counter (entry_of request.now.command) }
+    requires few { accepts ≡ true → length blocks.items ≤ 4096 }
     ensures partition { partition.new ≡ partition_after partition.old request.now }
-    ensures intent { result ≡ (if accepts then Some (intent_of guest (partition_after partition.old request.now) request.now.command) else None) }
+    ensures entry { result ≡ (if accepts then Some (entry_of request.now.command) else None) }
 {
     if !accepts {
         return None;
     }
     partition.accept(request);
-    Some(intent_of(guest, partition, request, blocks))
+    Some(entry_of(request, blocks))
 }
 
 fn outcome_in(last: Option<StoredOutcome>) -> Option<Outcome>
@@ -270,19 +277,6 @@ fn data_of(alloc: Global, frames: &[[u8; 512]]) -> Result<Vec<u8>, NoMemory>
         blocks.extend_from_slice(&frame[228..484])?;
     }
     Ok(blocks)
-}
-
-/// The intent of an accepted request, by the partition after it.
-fn intent_of(guest: u16, partition: &Partition, request: &Request<'_>, blocks: Vec<u8>) -> Intent
-    requires blocks { blocks.items ≡ blocks_in request.now.command }
-    requires fits { EntryFits (2 ^ 24) partition.now.counter (entry_of request.now.command) }
-    ensures { result ≡ intent_of guest partition.now request.now.command }
-{
-    let key = match partition.key() {
-        Some(key) => key,
-        None => [0; 32],
-    };
-    Intent::new(guest, key, partition.counter(), entry_of(request, blocks))
 }
 
 /// What a request that has these blocks writes; nothing, where it programs the key.

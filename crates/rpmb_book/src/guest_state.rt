@@ -1,4 +1,5 @@
-ghost use Rattle.std.specs.Prelude.{◌≡◌, ◌+◌, ◌-◌, ◌<◌, ◌^◌, IfOk, IfErr, if◌then◌else◌, is_some, length};
+ghost use Rattle.std.specs.Prelude.{◌≡◌, ◌+◌, ◌++◌, ◌-◌, ◌<◌, ◌≤◌, ◌^◌, IfOk, IfErr, if◌then◌else◌, is_some, length, take, drop};
+ghost use Rattle.intent_slots.specs.Payload.{EntriesFit};
 ghost use Rattle.rpmb_book.specs.Sound.{IsCoreOfBoard};
 ghost use Rattle.std.specs.Prelude.{Bool, true, false, map};
 ghost use Rattle.rpmb_book.specs.Guest.{submitted, answer_when, took, settled_at, collected, broken_off, kept_or_failed, first_due, first_intent, fresh};
@@ -6,19 +7,23 @@ ghost use Rattle.rpmb_book.specs.Guest.{submitted, answer_when, took, settled_at
 use crate::guest_core::{Answer, Failure, GuestCore};
 use crate::held::Held;
 use crate::history::Submission;
-use intent_slots::Intent;
+use intent_slots::{Entry, Intent};
 use mmio_transport::{Done, Job};
 use rpmb_core::Partition;
 use rpmb_frame::Limits;
 use std::alloc::Global;
+use std::collections::VecDeque;
 use std::marker::Model;
+
+/// How many requests the store is given as one, at most.
+const MOST: usize = 4;
 
 /// What the book knows of one guest.
 #[derive(Drop)]
 pub struct GuestState {
     core: GuestCore,
     held: Vec<Held>,
-    waiting: Vec<Intent>,
+    waiting: VecDeque<Entry>,
     taken: u64,
     settled: u64,
     submits: u64,
@@ -41,7 +46,7 @@ impl GuestState {
         GuestState {
             core: GuestCore::new(limits, partition),
             held: Vec::new(alloc),
-            waiting: Vec::new(alloc),
+            waiting: VecDeque::new(alloc),
             taken: sequence,
             settled: sequence,
             submits: 0,
@@ -157,27 +162,34 @@ impl GuestState {
             copy,
             need,
             kind,
-            intent,
+            entry,
         } = self.core.carry_out(&job, plan, out);
         self.held
             .push_reserved(Held::of(held_job, reply, need, kind));
-        match intent {
+        match entry {
             None => {}
-            Some(intent) => self.waiting.push_reserved(intent),
+            Some(entry) => self.waiting.push_back_reserved(entry),
         }
         self.submits += 1;
         Ok(Submission::of(job, copy))
     }
 
-    /// Gives the first intent that waits.
-    pub fn take(&mut self) -> Option<Intent>
-        ensures intent { result ≡ first_intent self.old.waiting }
+    /// Gives the requests that come next for the store, at most four, as an intent of the guest with
+    /// this number. They are moved, so it takes no memory.
+    pub fn take(&mut self, guest: u16) -> Option<Intent>
+        requires ready { EntriesFit (2 ^ 24) self.old.taken self.old.waiting }
+        requires counters { self.old.taken + length self.old.waiting ≤ 2 ^ 32 }
+        ensures intent { result ≡ first_intent guest self.old }
         ensures state { self.new ≡ took self.old }
     {
-        if self.waiting.is_empty() {
-            return None;
+        let first = self.waiting.pop_front()?;
+        let mut intent = Intent::new(guest, self.core.key(), self.taken as u32, first);
+        let waiting = &mut self.waiting;
+        for _ in 1..MOST {
+            if let Some(entry) = waiting.pop_front() {
+                intent.push(entry);
+            }
         }
-        let intent = self.waiting.remove(0);
         self.taken = intent.last_sequence();
         Some(intent)
     }

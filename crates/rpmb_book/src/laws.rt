@@ -8,7 +8,7 @@ ghost use Rattle.rpmb_book.specs.Given.{IsLedOn};
 ghost use Rattle.rpmb_book.specs.Guest.{GuestState};
 ghost use Rattle.rpmb_book.specs.Isolation.{HasNoBreak, IsIsolated, IsToldAsAlone, jobs_of, told, told_alone};
 ghost use Rattle.rpmb_book.specs.Outcome.{IsOutcomeOfTheList};
-ghost use Rattle.rpmb_book.specs.Sound.{AreOfBoard, IsAskedByBytes, IsIntentOfTheRequest, IsSound, StaysOfBoard};
+ghost use Rattle.rpmb_book.specs.Sound.{AreOfBoard, AreReady, IsAskedByBytes, IsIntentOfTheRequest, IsSound, StaysOfBoard};
 
 use crate::book::Book;
 
@@ -60,23 +60,24 @@ pub fn partitions_are_their_models()
     ensures { IsOneOfItsCapacity }
 {}
 
-/// The intents that wait for the store follow what it took, one by one, up to the partition's
-/// sequence; and nothing is settled that it did not take.
-pub fn intents_follow(book: &Book)
-    ensures { IsSound (state book.now) }
+/// The requests that wait for the store follow what it took, up to the partition's sequence, and can
+/// be done in their order; and nothing is settled that it did not take.
+pub fn requests_follow(book: &Book)
+    ensures sound { IsSound (state book.now) }
+    ensures ready { AreReady (state book.now) }
 {
     book.what_always_holds();
 }
 
-/// The intent of an accepted request has one entry and fits the partition's place; done over the
+/// The group of an accepted request alone has one entry and fits the partition's place; done over the
 /// partition before the request, it gives the partition after it; and it has that one's sequence, which
 /// is the next. That another request changes nothing is `rpmb_core::laws::sequence_after_request`.
-pub fn intents_lead_on()
+pub fn requests_lead_on()
     ensures { IsIntentOfTheRequest }
 {}
 
-/// After every history, the intents that wait lead, one after another, from the guest's partition after
-/// all that was taken to the partition that the guest has.
+/// After every history, the requests that wait lead, done in their order, from the guest's partition
+/// after all that was taken to the partition that the guest has.
 pub fn what_waits_leads_on()
     ensures { IsLedOn }
 {}

@@ -1,8 +1,29 @@
 use Rattle.std.proofs.Common.{false, ◌<◌, ◌∙◌, None, Some, ap, ap₂, sym, length, slice_set, arith}
 use Rattle.rpmb_book.specs.Turn.{State, Take}
 use Rattle.rpmb_book.specs.Book.{share_moved}
-use Rattle.rpmb_book.proofs.Taking.{stands, takes, some_is, share_inside, next_here, take_answer_is, took_nothing, took_one, shows_turn}
+use Rattle.rpmb_book.proofs.Taking.{stands, takes, kept_same, ready_here, share_within, some_is, share_inside, next_here, take_answer_is, took_nothing, took_one, shows_turn}
+use Rattle.rpmb_book.proofs.Grouping.{none_waits, nothing_waits}
 use Rattle.rpmb_book.proofs.book.Book.take.Goals as goal
+
+pub take-requires-clause-ready : goal.take-requires-clause-ready
+take-requires-clause-ready c =
+    let i = c.self.inside in
+    let o : State = record { guests = i.opening.items; broken = false } in
+    let gs = i.guests.items in
+    let share = sym c.is_share.ensures ∙ c.if-not-is_share.false in
+    let inside : c.from-at.result < length gs = omega (arith, share_inside i.life o i.history gs i.broken i.submits c.args.self.now c.args.shares.now c.args.guest c.self.invariant c.self.view_is share, c.from-at.ensures) in
+    let g = c.index_mut-known.result.now in
+    (ready_here o i.history gs i.broken i.submits c.args.guest g (stands o i.history gs i.broken i.submits c.args.guest c.from-at.result g c.self.invariant c.from-at.ensures inside c.index_mut-known.ensures.value)).ready
+
+pub take-requires-clause-counters : goal.take-requires-clause-counters
+take-requires-clause-counters c =
+    let i = c.self.inside in
+    let o : State = record { guests = i.opening.items; broken = false } in
+    let gs = i.guests.items in
+    let share = sym c.is_share.ensures ∙ c.if-not-is_share.false in
+    let inside : c.from-at.result < length gs = omega (arith, share_inside i.life o i.history gs i.broken i.submits c.args.self.now c.args.shares.now c.args.guest c.self.invariant c.self.view_is share, c.from-at.ensures) in
+    let g = c.index_mut-known.result.now in
+    (ready_here o i.history gs i.broken i.submits c.args.guest g (stands o i.history gs i.broken i.submits c.args.guest c.from-at.result g c.self.invariant c.from-at.ensures inside c.index_mut-known.ensures.value)).counters
 
 pub push-requires-clause-room : goal.push-requires-clause-room
 push-requires-clause-room c =
@@ -98,3 +119,15 @@ returns-in-Some-clause-shares c =
     let here = stands o i.history gs i.broken i.submits c.args.guest c.from-at.result g c.self.invariant c.from-at.ensures inside c.index_mut-known.ensures.value in
     let next = next_here i.life o i.history gs i.broken i.submits c.args.guest c.args.self.now c.args.shares.now g here c.self.view_is share in
     c.set.ensures ∙ ap₂ (slice_set c.args.shares.now) c.from-at.ensures c.last_sequence.ensures ∙ ap (share_moved c.args.shares.now c.args.guest) (c.in-Some.ensures.intent ∙ sym next)
+
+pub invariant_of-self : goal.invariant_of-self
+invariant_of-self c =
+    let i = c.self.inside in
+    let g = c.index_mut-known.result.now in
+    let none = nothing_waits c.args.guest g (none_waits c.args.guest g c.in-None.ensures.intent) in
+    kept_same (record { guests = i.opening.items; broken = false }) i.history i.guests.items i.broken i.submits c.from-at.result g c.take.new.self c.self.invariant c.index_mut-known.ensures.value (c.in-None.ensures.state ∙ sym none.1)
+
+pub set-requires : goal.set-requires
+set-requires c =
+    let share = sym c.is_share.ensures ∙ c.if-not-is_share.false in
+    omega (arith, share_within c.args.self.now c.args.shares.now c.args.guest share, c.from-at.ensures)

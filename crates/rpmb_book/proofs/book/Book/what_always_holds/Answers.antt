@@ -5,7 +5,8 @@ use Rattle.rpmb_book.specs.Replay.{replay}
 use Rattle.rpmb_book.specs.Asked.{answered_in}
 use Rattle.rpmb_book.proofs.AskedLemmas.{answered_total}
 use Rattle.rpmb_book.specs.Book.{BookView, state, submits_in}
-use Rattle.rpmb_book.specs.Sound.{AreOfBoard, IsSound}
+use Rattle.rpmb_book.specs.Sound.{AreOfBoard, AreReady, IsSound}
+use Rattle.rpmb_book.proofs.Readying.{opens_ready, stay_ready}
 use Rattle.rpmb_book.proofs.Kept.{opens}
 use Rattle.rpmb_book.proofs.OnBoard.{on_board}
 use Rattle.rpmb_book.proofs.Room.{sound, fits}
@@ -15,6 +16,13 @@ pub returns-clause-sound : goal.returns-clause-sound
 returns-clause-sound c =
     let i = c.self.inside in
     subst (λ (b : BookView). IsSound (state b)) c.self.view_is (sound (record { guests = i.opening.items; broken = false }) i.history.turns (opens (record { guests = i.opening.items; broken = false }) c.self.invariant.begins).sound c.self.invariant.legal)
+
+pub returns-clause-ready : goal.returns-clause-ready
+returns-clause-ready c =
+    let i = c.self.inside in
+    let opening : State = record { guests = i.opening.items; broken = false } in
+    subst (λ (b : BookView). AreReady (state b)) c.self.view_is
+    (stay_ready opening i.history.turns c.self.invariant.of_board (opens opening c.self.invariant.begins).sound (opens_ready opening c.self.invariant.begins) c.self.invariant.legal)
 
 pub returns-clause-of_board : goal.returns-clause-of_board
 returns-clause-of_board c =
