@@ -21,7 +21,7 @@ use Rattle.flusher.specs.SlotInvariant.{IsHeld, guest_settled, settled_by}
 use Rattle.flusher.proofs.Guests.{get_set_same, get_set_other, map_set}
 use Rattle.mmio_transport.specs.Device.{DeviceState}
 use Rattle.mmio_transport.specs.Job.{Job, Done}
-use Rattle.rpmb_book.specs.Book.{BookView, due_of, due_at, guest_of, is_share, next_intent, refusal, refusal_at, state, submit_of, submits_in, waiting_of, with_turn}
+use Rattle.rpmb_book.specs.Book.{BookView, due_of, due_at, guest_of, is_share, first_of, next_intent, refusal, refusal_at, state, submit_of, submits_in, waiting_of, with_turn}
 use Rattle.rpmb_book.specs.ByGuest.{broken_when, guest_after}
 use Rattle.rpmb_book.specs.Guest.{GuestState, collected, first_intent, intent_sequence, submitted, took}
 use Rattle.rpmb_book.specs.Job.{Tally}
@@ -168,9 +168,9 @@ module _ {D : Type 0} (shows : D → DiskState) (config : List GuestConfig) (bas
           subst (λ o. Tie g y (slice_get old.store.guests g) (slice_get old.intents g) (slice_get old.tallies g) (slice_get old.shares g) o) (sym (get_set_other old.dones n g None other)) (ok.each g y at)
 
   -- an intent goes from the book to its place
-  pub takes_linked : (n : ℕ) (i : Intent) → IsSound (state old.book) → slice_get old.intents n ≡ Some None → next_intent old.book old.shares n ≡ Some i
+  pub takes_linked : (n : ℕ) (i : Intent) → slice_get old.intents n ≡ Some None → next_intent old.book old.shares n ≡ Some i
       → IsLinkedBoard shows config bases accepted parts (record old { book = with_turn old.book (Take n); shares = slice_set old.shares n (intent_sequence i); intents = slice_set old.intents n (Some i) })
-  takes_linked n i sound empty next = record {
+  takes_linked n i empty next = record {
     each = at_each {P = λ g. (y : GuestState) → slice_get (state (with_turn old.book (Take n))).guests g ≡ Some y → Now g y} n here there;
     kept = ok.kept;
     many = as_many old.book (Take n) ∙ ok.many;
@@ -183,18 +183,18 @@ module _ {D : Type 0} (shows : D → DiskState) (config : List GuestConfig) (bas
       Now : ℕ → GuestState → Type 0
       Now g y = Tie g y (slice_get old.store.guests g) (slice_get (slice_set old.intents n (Some i)) g) (slice_get old.tallies g) (slice_get (slice_set old.shares n (intent_sequence i)) g) (slice_get old.dones g)
 
-      -- what a Take gives is the first that waits
-      first : (b : Bool) (w : List Intent) → (if b then first_intent w else None) ≡ Some i → first_intent w ≡ Some i
-      first true w is = is
-      first false w is = absurd (cc)
+      -- what a Take gives is the guest's own
+      first : (b : Bool) (o : Option GuestState) → (if b then first_of n o else None) ≡ Some i → first_of n o ≡ Some i
+      first true o is = is
+      first false o is = absurd (cc)
 
       here : (y : GuestState) → slice_get (state (with_turn old.book (Take n))).guests n ≡ Some y → Now n y
       here y at =
           let x = own old.book (Take n) n took (λ g x. refl) y at in
           let t = ok.each n x.0 x.1 in
-          let waits : first_intent x.0.waiting ≡ Some i = ap (λ o. first_intent (waiting_of o)) (sym x.1) ∙ first (is_share old.book old.shares n) (waiting_of (guest_of old.book n)) next in
+          let waits : first_intent n x.0 ≡ Some i = ap (first_of n) (sym x.1) ∙ first (is_share old.book old.shares n) (guest_of old.book n) next in
           let tied = took_tied config n (bases n) (accepted n) (parts n) x.0 (slice_get old.store.guests n) (slice_get old.tallies n) (slice_get old.shares n) (slice_get old.dones n) i
-          (subst (λ o. Tie n x.0 (slice_get old.store.guests n) o (slice_get old.tallies n) (slice_get old.shares n) (slice_get old.dones n)) empty t) (all_at IsSoundGuest (guests old) n x.0 x.1 sound) waits in
+          (subst (λ o. Tie n x.0 (slice_get old.store.guests n) o (slice_get old.tallies n) (slice_get old.shares n) (slice_get old.dones n)) empty t) waits in
           subst (λ o. Tie n y (slice_get old.store.guests n) o (slice_get old.tallies n) (slice_get (slice_set old.shares n (intent_sequence i)) n) (slice_get old.dones n)) (sym (get_set_same old.intents n None (Some i) empty))
           (subst (λ o. Tie n y (slice_get old.store.guests n) (Some (Some i)) (slice_get old.tallies n) o (slice_get old.dones n)) (sym (get_set_same old.shares n x.0.taken (intent_sequence i) t.shared))
           (subst (λ v. Tie n v (slice_get old.store.guests n) (Some (Some i)) (slice_get old.tallies n) (Some (intent_sequence i)) (slice_get old.dones n)) (sym x.2) tied))

@@ -1,34 +1,65 @@
 -- The link of a guest's book and store through each call.
-use Rattle.std.proofs.Common.{◌≡◌, inl, inr, ℕ, zero, suc, ◌+◌, ◌*◌, ◌≤◌, true, false, List, [], ◌∷◌, ◌++◌, Option, Some, None, length, take, drop, refl, ap, ap₂, sym, subst, ◌∙◌, arith, append_assoc, length-append, add-one}
-use Rattle.std.specs.Prelude.{option_to_list}
+use Rattle.std.proofs.Common.{◌≡◌, inl, inr, ℕ, zero, suc, ◌+◌, ◌-◌, ◌*◌, ◌≤◌, true, false, List, [], ◌∷◌, ◌++◌, Option, Some, None, length, take, drop, refl, ap, ap₂, sym, subst, ◌∙◌, arith, append_assoc, length-append, length-drop, length-take}
+use Rattle.std.specs.Prelude.{unwrap_or, replicate}
+use Rattle.disk.specs.Content.{content_of, over}
 use Rattle.rpmb_frame.specs.Request.{Request}
-use Rattle.rpmb_frame.specs.Partition.{Partition, sequence}
+use Rattle.rpmb_frame.specs.Partition.{Partition, sequence, sequence_of}
 use Rattle.rpmb_core.specs.Accept.{is_accepted, partition_after}
 use Rattle.rpmb_core.specs.Requests.{AllAccepted, partition_after_all}
-use Rattle.rpmb_core.proofs.Following.{capacity_stays, accepted_joined, after_joined, sequence_of_all}
+use Rattle.rpmb_core.proofs.Following.{capacity_stays, accepted_joined, after_joined, key_stays, sequence_of_all}
 use Rattle.rpmb_core.proofs.Sequence.{after_refused}
-use Rattle.intent_slots.specs.Payload.{Group, GroupFits, Intent, last_of}
-use Rattle.intent_slots.specs.Recovered.{Part, after, part_of}
+use Rattle.intent_slots.specs.Home.{HomeFits}
+use Rattle.intent_slots.specs.Payload.{EntriesFit, Entry, EntryFits, Group, GroupFits, Intent, last_of}
+use Rattle.intent_slots.specs.Recovered.{Part, after, part_of, redo}
 use Rattle.flusher.specs.declared.phase.Phase.{Phase}
 use Rattle.flusher.specs.declared.phase.Phase.TheVariants.{Given, Written, Ready, Opening, Open, Applying, Applied, Closing}
 use Rattle.flusher.specs.declared.slot.Slot.{Slot}
 use Rattle.flusher.specs.declared.guest.Guest.{Guest}
 use Rattle.std.specs.Prelude.{if◌then◌else◌}
 use Rattle.flusher.specs.Phase.{is_opening, is_settled, open_after, synced, written}
-use Rattle.flusher.specs.Slot.{after_sync, after_write, guest_after_sync, in_phase, mark_of, pending_of, settled_after}
+use Rattle.flusher.specs.Slot.{after_sync, after_write, guest_after_sync, guest_after_write, in_phase, mark_of, pending_of, settled_after}
 use Rattle.flusher.specs.SlotInvariant.{BeforeOrAfter, MayStand, guest_settled, settled}
-use Rattle.rpmb_book.specs.Guest.{GuestState, first_intent, first_sequence, intent_of, intent_sequence, joined_by, request_of, submitted, took}
+use Rattle.rpmb_book.specs.Guest.{GuestState, entry_of, first_intent, joined_by, key_of, request_of, submitted, took}
 use Rattle.std.specs.List.{AllByRecursion}
-use Rattle.rpmb_book.specs.Sound.{Follows, IsAsked, IsOfBoard}
+use Rattle.rpmb_book.specs.Sound.{IsAsked, IsOfBoard}
+use Rattle.rpmb_book.proofs.Grouping.{intent_is}
 use Rattle.rpmb_book.proofs.OnBoard.{request_asked}
 use Rattle.rpmb_book.proofs.LeadingOn.{leads_on, stays_of_board}
-use Rattle.rpmb_book.proofs.Room.{intent_some, intent_none}
-use Rattle.board.specs.Link.{AcceptLinks, BreakLinks, CollectLinks, GiveLinks, IsLinked, IsPrefix, IsPrefixAtStops, SettleLinks, SubmitLinks, SyncLinks, TakeLinks, WriteLinks, intents_of}
+use Rattle.rpmb_book.proofs.Room.{entry_some, entry_none, length-parts}
+use Rattle.board.specs.Link.{AcceptLinks, AreUnderWay, BreakLinks, CollectLinks, GiveLinks, IsLinked, IsPrefix, IsPrefixAtStops, IsUnderWay, SettleLinks, SubmitLinks, SyncLinks, TakeLinks, WriteLinks, entries_in, entries_of}
 
-intents_append : (n : ℕ) (p : Partition) (rs : List Request) (r : Request)
-    → intents_of n p (rs ++ r ∷ []) ≡ intents_of n p rs ++ intent_of n (partition_after (partition_after_all p rs) r) r.command ∷ []
-intents_append n p [] r = refl
-intents_append n p (s ∷ rs) r = ap (λ is. intent_of n (partition_after p s) s.command ∷ is) (intents_append n (partition_after p s) rs r)
+entries_append : (rs : List Request) (r : Request) → entries_of (rs ++ r ∷ []) ≡ entries_of rs ++ entry_of r.command ∷ []
+entries_append [] r = refl
+entries_append (s ∷ rs) r = ap (λ es. entry_of s.command ∷ es) (entries_append rs r)
+
+pub length-entries : (rs : List Request) → length (entries_of rs) ≡ length rs
+length-entries [] = refl
+length-entries (r ∷ rs) = ap suc (length-entries rs)
+
+pub length-drop_by : {X : Type 0} (k : ℕ) (xs : List X) → k ≤ length xs → k + length (drop k xs) ≡ length xs
+length-drop_by zero xs le = omega arith
+length-drop_by (suc k) [] le = absurd (omega arith)
+length-drop_by (suc k) (x ∷ xs) le = (let rest = length-drop_by k xs (omega arith) in omega (arith, rest))
+
+-- what was taken is settled, in the slot, or on its way there
+taken_is : (n : ℕ) (base : Partition) (accepted : List Request) (part : Part) (x : GuestState) (held : Guest) (between : Option Intent) → (link : IsLinked n base accepted part x held between)
+    → x.taken ≡ sequence base + link.stored + length (entries_in (pending_of held.slot)) + length (entries_in between)
+taken_is n base accepted part x held between link =
+    let all = length-drop_by link.stored accepted link.within in
+    let many = sym (length-entries (drop link.stored accepted)) ∙ ap length link.rest in
+    let taken = link.taken in
+    omega (arith, taken, all, many, length-append (entries_in (pending_of held.slot)) (entries_in between ++ x.waiting), length-append (entries_in between) x.waiting)
+
+-- the key of a partition stays
+same_way : (n m : ℕ) (p q : Partition) (o : Option Intent) → p ≡ q → AreUnderWay n m p o → AreUnderWay n m q o
+same_way n m p q o is = subst (λ r. AreUnderWay n m r o) is
+
+kept_way : (n m : ℕ) (p : Partition) (r : Request) (o : Option Intent) → AreUnderWay n m p o → AreUnderWay n m (partition_after p r) o
+kept_way n m p r None way = tt
+kept_way n m p r (Some i) way = record { guest = way.guest; some = way.some; few = way.few; first = way.first; key = key_stays p (r ∷ []) i.group.key way.key }
+
+other_way : (n m k : ℕ) (p : Partition) (o : Option Intent) → m ≡ k → AreUnderWay n m p o → AreUnderWay n k p o
+other_way n m k p o is = subst (λ s. AreUnderWay n s p o) is
 
 pub settle_links : SettleLinks
 settle_links n base accepted part x held between mark link below = record {
@@ -40,6 +71,8 @@ settle_links n base accepted part x held between mark link below = record {
   settled_part = link.settled_part;
   mark = link.mark;
   rest = link.rest;
+  in_slot = link.in_slot;
+  to_slot = link.to_slot;
   taken = link.taken;
   settled = (let old = link.settled in omega (arith, old, below));
 }
@@ -54,6 +87,8 @@ collect_links n base accepted part x held between link = record {
   settled_part = link.settled_part;
   mark = link.mark;
   rest = link.rest;
+  in_slot = link.in_slot;
+  to_slot = link.to_slot;
   taken = link.taken;
   settled = link.settled;
 }
@@ -68,24 +103,30 @@ break_links n base accepted part x held between link = record {
   settled_part = link.settled_part;
   mark = link.mark;
   rest = link.rest;
+  in_slot = link.in_slot;
+  to_slot = link.to_slot;
   taken = link.taken;
   settled = link.settled;
 }
 
--- a request that is refused changes neither partition nor waiting intents
+-- a request that is refused changes neither the partition nor what waits
 pub submit_links : SubmitLinks
 submit_links base accepted part x held between job link is =
-    let none = intent_none x.core job is in
+    let none = entry_none x.core job is in
     let same : (submitted false job x).waiting ≡ x.waiting = ap (joined_by x.waiting) none in
+    let stays = after_refused x.core.partition (request_of x.core job) is in
+    let from = sequence base + link.stored in
     record {
       stored = link.stored;
       within = link.within;
       in_turn = link.in_turn;
       asked = link.asked;
-      partition = after_refused x.core.partition (request_of x.core job) is ∙ link.partition;
+      partition = stays ∙ link.partition;
       settled_part = link.settled_part;
       mark = link.mark;
-      rest = link.rest ∙ ap (λ w. option_to_list (pending_of held.slot) ++ (option_to_list between ++ w)) (sym same);
+      rest = link.rest ∙ ap (λ w. entries_in (pending_of held.slot) ++ (entries_in between ++ w)) (sym same);
+      in_slot = same_way job.guest from x.core.partition (submitted false job x).core.partition (pending_of held.slot) (sym stays) link.in_slot;
+      to_slot = same_way job.guest (from + length (entries_in (pending_of held.slot))) x.core.partition (submitted false job x).core.partition between (sym stays) link.to_slot;
       taken = ap (λ w. x.taken + length w) same ∙ link.taken;
       settled = link.settled;
     }
@@ -113,18 +154,12 @@ asked_last (s ∷ rs) r all one = (all.0, asked_last rs r all.1 one)
 pub accept_links : AcceptLinks
 accept_links base accepted part x held between job link is board =
     let r = request_of x.core job in
-    let n = job.guest in
     let k = link.stored in
     let within = link.within in
     let front = take_first k accepted (r ∷ []) within in
     let behind = drop_first k accepted (r ∷ []) within in
-    let p = partition_after_all base (take k accepted) in
-    let all : partition_after_all p (drop k accepted) ≡ x.core.partition =
-    sym (after_joined base (take k accepted) (drop k accepted)) ∙ ap (partition_after_all base) (halves k accepted) ∙ sym link.partition in
-    let some = intent_some x.core job is in
-    let i = intent_of n (partition_after x.core.partition r) r.command in
     let accepted_here : is_accepted (partition_after_all base accepted) r ≡ true = ap (λ q. is_accepted q r) (sym link.partition) ∙ is in
-    let waits : (submitted false job x).waiting ≡ x.waiting ++ i ∷ [] = ap (joined_by x.waiting) some in
+    let waits : (submitted false job x).waiting ≡ x.waiting ++ entry_of r.command ∷ [] = ap (joined_by x.waiting) (entry_some x.core job is) in
     record {
       stored = k;
       within = omega (arith, within, length-append accepted (r ∷ []));
@@ -133,54 +168,79 @@ accept_links base accepted part x held between job link is board =
       partition = ap (λ q. partition_after q r) link.partition ∙ sym (after_joined base accepted (r ∷ []));
       settled_part = link.settled_part ∙ ap (λ rs. part_of (partition_after_all base rs)) (sym front);
       mark = link.mark;
-      rest = ap₂ (λ a b. intents_of n (partition_after_all base a) b) front behind ∙ intents_append n p (drop k accepted) r
-          ∙ ap₂ (λ is q. is ++ intent_of n (partition_after q r) r.command ∷ []) link.rest all
-          ∙ joins (option_to_list (pending_of held.slot)) (option_to_list between) x.waiting i
-          ∙ ap (λ w. option_to_list (pending_of held.slot) ++ (option_to_list between ++ w)) (sym waits);
+      rest = ap entries_of behind ∙ entries_append (drop k accepted) r ∙ ap (λ es. es ++ entry_of r.command ∷ []) link.rest
+          ∙ joins (entries_in (pending_of held.slot)) (entries_in between) x.waiting (entry_of r.command)
+          ∙ ap (λ w. entries_in (pending_of held.slot) ++ (entries_in between ++ w)) (sym waits);
+      in_slot = kept_way job.guest (sequence base + k) x.core.partition r (pending_of held.slot) link.in_slot;
+      to_slot = kept_way job.guest (sequence base + k + length (entries_in (pending_of held.slot))) x.core.partition r between link.to_slot;
       taken = (let old = link.taken in let longer = ap length waits in
-          omega (arith, old, longer, length-append x.waiting (i ∷ []), length-append accepted (r ∷ [])));
+          omega (arith, old, longer, length-append x.waiting (entry_of r.command ∷ []), length-append accepted (r ∷ [])));
       settled = link.settled;
     }
   where
-    joins : (a b c : List Intent) (i : Intent) → (a ++ (b ++ c)) ++ i ∷ [] ≡ a ++ (b ++ (c ++ i ∷ []))
-    joins a b c i = append_assoc a (b ++ c) (i ∷ []) ∙ ap (λ r. a ++ r) (append_assoc b c (i ∷ []))
+    joins : (a b c : List Entry) (e : Entry) → (a ++ (b ++ c)) ++ e ∷ [] ≡ a ++ (b ++ (c ++ e ∷ []))
+    joins a b c e = append_assoc a (b ++ c) (e ∷ []) ∙ ap (λ r. a ++ r) (append_assoc b c (e ∷ []))
 
--- the first that waits goes between
-pub take_links : TakeLinks
-take_links n base accepted part x held i link sound is = by_waiting x.waiting refl is (subst (λ w. Follows x.taken w (sequence x.core.partition)) refl sound.0)
+-- a partition whose sequence isn't 0 has a key
+keyed : (p : Partition) → 1 ≤ sequence p → (p.key ≡ Some (key_of p)) × (sequence p ≡ p.counter + 1)
+keyed p some = by p.key refl some
   where
-    by_waiting : (w : List Intent) → x.waiting ≡ w → first_intent w ≡ Some i → Follows x.taken w (sequence x.core.partition) → IsLinked n base accepted part (took x) held (Some i)
-    by_waiting [] waits first follows = absurd (cc)
-    by_waiting (j ∷ js) waits first follows =
-        let same : j ≡ i = cc in
-        let left : (took x).waiting ≡ js = ap (drop 1) waits in
-        let took_is : (took x).taken ≡ intent_sequence j = ap (first_sequence x.taken) waits in
-        record {
-          stored = link.stored;
-          within = link.within;
-          in_turn = link.in_turn;
-          asked = link.asked;
-          partition = link.partition;
-          settled_part = link.settled_part;
-          mark = link.mark;
-          rest = link.rest ∙ ap (λ w. option_to_list (pending_of held.slot) ++ w) (waits ∙ ap₂ (λ a b. a ∷ b) same (sym left));
-          taken = (let old = link.taken in let next = follows.0 in let many = ap length waits in let fewer = ap length left in omega (arith, old, next, many, fewer, took_is));
-          settled = link.settled;
-        }
+    by : (key : Option (List ℕ)) → p.key ≡ key → 1 ≤ sequence_of key p.counter → (p.key ≡ Some (key_of p)) × (sequence p ≡ p.counter + 1)
+    by None is some = absurd (omega (arith, some))
+    by (Some k) is some = (is ∙ ap (λ (o : Option (List ℕ)). Some (unwrap_or o (replicate 32 0))) (sym is), ap (λ o. sequence_of o p.counter) is)
+
+length-take_four : (w : List Entry) → 1 ≤ length w → (1 ≤ length (take 4 w)) × (length (take 4 w) ≤ 4)
+length-take_four w some = (let parts = length-parts 4 w in (omega (arith, parts, length-drop 4 w, some), omega (arith, length-take 4 w)))
+
+-- the first that wait go between
+pub take_links : TakeLinks
+take_links n base accepted part x held i link is =
+    let taken = taken_is n base accepted part x held None link in
+    let next = intent_is n x i is in
+    let parts = length-parts 4 x.waiting in
+    let all = link.taken in
+    let same : sequence x.core.partition ≡ sequence base + length accepted = ap sequence link.partition ∙ sequence_of_all base accepted link.in_turn in
+    let some = next.1 in
+    let key = keyed x.core.partition (omega (arith, same, all, some)) in
+    let four = length-take_four x.waiting some in
+    record {
+      stored = link.stored;
+      within = link.within;
+      in_turn = link.in_turn;
+      asked = link.asked;
+      partition = link.partition;
+      settled_part = link.settled_part;
+      mark = link.mark;
+      rest = link.rest ∙ ap (λ w. entries_in (pending_of held.slot) ++ w) (sym (halves 4 x.waiting) ∙ ap (λ (j : Intent). j.group.entries ++ drop 4 x.waiting) (sym next.0));
+      in_slot = link.in_slot;
+      to_slot = record {
+        guest = ap (λ (j : Intent). j.guest) next.0;
+        some = omega (arith, ap (λ (j : Intent). length j.group.entries) next.0, four.0);
+        few = omega (arith, ap (λ (j : Intent). length j.group.entries) next.0, four.1);
+        first = ap (λ (j : Intent). j.group.first) next.0 ∙ omega (arith, taken);
+        key = key.0 ∙ ap (λ (j : Intent). Some j.group.key) (sym next.0);
+      };
+      taken = omega (arith, all, parts);
+      settled = link.settled;
+    }
 
 pub give_links : GiveLinks
-give_links n base accepted part x held i link empty = record {
-  stored = link.stored;
-  within = link.within;
-  in_turn = link.in_turn;
-  asked = link.asked;
-  partition = link.partition;
-  settled_part = link.settled_part;
-  mark = link.mark;
-  rest = link.rest ∙ ap (λ s. option_to_list (pending_of s) ++ (option_to_list (Some i) ++ x.waiting)) empty;
-  taken = link.taken;
-  settled = link.settled;
-}
+give_links n base accepted part x held i link empty =
+    let none : length (entries_in (pending_of held.slot)) ≡ 0 = ap (λ s. length (entries_in (pending_of s))) empty in
+    record {
+      stored = link.stored;
+      within = link.within;
+      in_turn = link.in_turn;
+      asked = link.asked;
+      partition = link.partition;
+      settled_part = link.settled_part;
+      mark = link.mark;
+      rest = link.rest ∙ ap (λ s. entries_in (pending_of s) ++ (i.group.entries ++ x.waiting)) empty;
+      in_slot = other_way n (sequence base + link.stored + length (entries_in (pending_of held.slot))) (sequence base + link.stored) x.core.partition (Some i) (omega (arith, none)) link.to_slot;
+      to_slot = tt;
+      taken = link.taken;
+      settled = link.settled;
+    }
 
 -- a write moves no phase over the gate
 same_settled : (phase : Phase) (g : Group) → is_settled (written phase g) ≡ is_settled phase
@@ -201,19 +261,26 @@ same_pending : (slot : Option Slot) → pending_of (after_write slot) ≡ pendin
 same_pending None = refl
 same_pending (Some s) = ap (λ b. if b then None else Some s.intent) (same_settled s.phase s.intent.group)
 
-pub write_links : WriteLinks
-write_links n base accepted part x held between link = record {
+-- a guest that a call leaves as it is settled, with what is in its slot
+stays_linked : (n : ℕ) (base : Partition) (accepted : List Request) (part : Part) (x : GuestState) (held new : Guest) (between : Option Intent) → IsLinked n base accepted part x held between
+    → pending_of new.slot ≡ pending_of held.slot → mark_of new ≡ mark_of held → IsLinked n base accepted part x new between
+stays_linked n base accepted part x held new between link pends marks = record {
   stored = link.stored;
   within = link.within;
   in_turn = link.in_turn;
   asked = link.asked;
   partition = link.partition;
   settled_part = link.settled_part;
-  mark = link.mark;
-  rest = link.rest ∙ ap (λ o. option_to_list o ++ (option_to_list between ++ x.waiting)) (sym (same_pending held.slot));
+  mark = marks ∙ link.mark;
+  rest = link.rest ∙ ap (λ o. entries_in o ++ (entries_in between ++ x.waiting)) (sym pends);
+  in_slot = subst (AreUnderWay n (sequence base + link.stored) x.core.partition) (sym pends) link.in_slot;
+  to_slot = subst (λ o. AreUnderWay n (sequence base + link.stored + length (entries_in o)) x.core.partition between) (sym pends) link.to_slot;
   taken = link.taken;
-  settled = link.settled;
+  settled = (let old = link.settled in omega (arith, old, marks));
 }
+
+pub write_links : WriteLinks
+write_links n base accepted part x held between link = stays_linked n base accepted part x held (guest_after_write held) between link (same_pending held.slot) refl
 
 -- the partition after a prefix is one of a board
 pub board_after : (p : Partition) (rs : List Request) → IsOfBoard p → AllByRecursion IsAsked rs → IsOfBoard (partition_after_all p rs)
@@ -230,69 +297,131 @@ length-front zero rs le = refl
 length-front (suc k) [] le = absurd (omega arith)
 length-front (suc k) (r ∷ rs) le = ap suc (length-front k rs (omega arith))
 
-further : (k : ℕ) (rs : List Request) (r : Request) (later : List Request) → drop k rs ≡ r ∷ later → (take (suc k) rs ≡ take k rs ++ r ∷ []) × (drop (suc k) rs ≡ later) × (suc k ≤ length rs)
-further zero [] r later is = absurd (cc)
-further zero (s ∷ rs) r later is = (let head : s ≡ r = cc in let tail : rs ≡ later = cc in (ap (λ x. x ∷ []) head, tail, omega arith))
-further (suc k) [] r later is = absurd (cc)
-further (suc k) (s ∷ rs) r later is = (let rest = further k rs r later is in (ap (λ x. s ∷ x) rest.0, rest.1, omega (arith, rest.2)))
+suc_more : (k m : ℕ) → suc k + m ≡ suc (k + m)
+suc_more k m = omega arith
 
-one_further : (k : ℕ) (rs : List Request) (r : Request) (later : List Request) → drop k rs ≡ r ∷ later → (take (k + 1) rs ≡ take k rs ++ r ∷ []) × (drop (k + 1) rs ≡ later) × (k + 1 ≤ length rs)
-one_further k rs r later is = rw (add-one k) (further k rs r later is)
+abbrev nothing : (X : Type 0) → List X
+nothing X = []
 
--- the accepted request whose intent comes first of what isn't settled, and what it makes of the settled partition
-record NextIs (n : ℕ) (base : Partition) (accepted : List Request) (k : ℕ) (part : Part) (i : Intent) (more : List Intent) : Type 0 where
-  pub within : k + 1 ≤ length accepted
-  pub after_it : after part i.group ≡ part_of (partition_after_all base (take (k + 1) accepted))
-  pub counted : last_of i.group + 1 ≡ sequence base + (k + 1)
-  pub rest : intents_of n (partition_after_all base (take (k + 1) accepted)) (drop (k + 1) accepted) ≡ more
+take_nothing : {X : Type 0} (m : ℕ) → take m (nothing X) ≡ nothing X
+take_nothing zero = refl
+take_nothing (suc m) = refl
 
-next_by : (n : ℕ) (base : Partition) (accepted : List Request) (k : ℕ) (part : Part) (i : Intent) (more : List Intent) (behind : List Request) → IsOfBoard base → k ≤ length accepted
-    → AllAccepted base accepted → AllByRecursion IsAsked accepted → part ≡ part_of (partition_after_all base (take k accepted)) → drop k accepted ≡ behind
-    → intents_of n (partition_after_all base (take k accepted)) behind ≡ i ∷ more → NextIs n base accepted k part i more
-next_by n base accepted k part i more [] board within all asked part_is behind_is is = absurd (cc)
-next_by n base accepted k part i more (r ∷ later) board within all asked part_is behind_is is =
-    let p = partition_after_all base (take k accepted) in
+drop_nothing : {X : Type 0} (m : ℕ) → drop m (nothing X) ≡ nothing X
+drop_nothing zero = refl
+drop_nothing (suc m) = refl
+
+take_further : {X : Type 0} (k m : ℕ) (xs : List X) → take (k + m) xs ≡ take k xs ++ take m (drop k xs)
+take_further zero m xs = ap (λ n. take n xs) (omega arith)
+take_further {X} (suc k) m [] = ap (λ n. take n (nothing X)) (suc_more k m) ∙ sym (take_nothing m)
+take_further (suc k) m (x ∷ xs) = ap (λ n. take n (x ∷ xs)) (suc_more k m) ∙ ap (λ r. x ∷ r) (take_further k m xs)
+
+drop_further : {X : Type 0} (k m : ℕ) (xs : List X) → drop (k + m) xs ≡ drop m (drop k xs)
+drop_further zero m xs = ap (λ n. drop n xs) (omega arith)
+drop_further {X} (suc k) m [] = ap (λ n. drop n (nothing X)) (suc_more k m) ∙ sym (drop_nothing m)
+drop_further (suc k) m (x ∷ xs) = ap (λ n. drop n (x ∷ xs)) (suc_more k m) ∙ drop_further k m xs
+
+-- the requests whose entries come first
+entries_split : (rs : List Request) (es more : List Entry) → entries_of rs ≡ es ++ more
+    → (entries_of (take (length es) rs) ≡ es) × (entries_of (drop (length es) rs) ≡ more) × (length es ≤ length rs)
+entries_split rs [] more is = (refl, is, omega arith)
+entries_split [] (e ∷ es) more is = absurd (cc)
+entries_split (r ∷ rs) (e ∷ es) more is =
+    let head : entry_of r.command ≡ e = cc in
+    let tail : entries_of rs ≡ es ++ more = cc in
+    let rest = entries_split rs es more tail in
+    (ap₂ (λ a b. a ∷ b) head rest.0, rest.1, omega (arith, rest.2))
+
+-- accepted requests, done in their order over the blocks, leave the blocks after them
+redone_all : (p : Partition) (rs : List Request) → IsOfBoard p → AllAccepted p rs → AllByRecursion IsAsked rs → redo (entries_of rs) (content_of p.blocks) ≡ content_of (partition_after_all p rs).blocks
+redone_all p [] board all asked = refl
+redone_all p (r ∷ rs) board all asked =
     let q = partition_after p r in
-    let head : intent_of n q r.command ≡ i = cc in
-    let tail : intents_of n q later ≡ more = cc in
-    let further = one_further k accepted r later behind_is in
-    let joined : AllAccepted base (take k accepted ++ (r ∷ later)) = subst (AllAccepted base) (sym (ap (λ b. take k accepted ++ b) (sym behind_is) ∙ halves k accepted)) all in
-    let both = (accepted_joined base (take k accepted) (r ∷ later)).0 joined in
-    let parts = asked_parts k accepted asked in
-    let asked_here : IsAsked r = (subst (AllByRecursion IsAsked) behind_is parts.1).0 in
-    let leads = leads_on p r (board_after base (take k accepted) board parts.0) asked_here both.1.0 in
-    let here : partition_after_all base (take (k + 1) accepted) ≡ q = ap (partition_after_all base) further.0 ∙ after_joined base (take k accepted) (r ∷ []) in
-    let before : sequence p ≡ sequence base + k = sequence_of_all base (take k accepted) both.0 ∙ ap (λ m. sequence base + m) (length-front k accepted within) in
-    let next = leads.next in
+    let leads = leads_on p r board asked.0 all.0 in
+    let one : over (256 * (entry_of r.command).address) (entry_of r.command).blocks (content_of p.blocks) ≡ content_of q.blocks = ap (λ (a : Part). a.blocks) leads.redone in
+    ap (redo (entries_of rs)) one ∙ redone_all q rs (stays_of_board p r board asked.0) all.1 asked.1
+
+-- and each fits the place of the partition, under the counter that it leaves
+fit_all : (p : Partition) (rs : List Request) → IsOfBoard p → AllAccepted p rs → AllByRecursion IsAsked rs → EntriesFit (131072 * p.capacity) (sequence p) (entries_of rs)
+fit_all p [] board all asked = tt
+fit_all p (r ∷ rs) board all asked =
+    let q = partition_after p r in
+    let leads = leads_on p r board asked.0 all.0 in
+    let whole = board.held.whole in
+    let size : length p.blocks ≡ 131072 * p.capacity = omega (arith, whole) in
     let counted = leads.counted in
+    let next = leads.next in
+    let here : q.counter ≡ sequence p = omega (arith, counted, next) in
+    let rest = fit_all q rs (stays_of_board p r board asked.0) all.1 asked.1 in (
+      subst (λ n. EntryFits n (sequence p) (entry_of r.command)) size (subst (λ n. EntryFits (length p.blocks) n (entry_of r.command)) here leads.fits.entries.0),
+      subst (λ n. EntriesFit (131072 * p.capacity) n (entries_of rs)) next (subst (λ n. EntriesFit (131072 * n) (sequence q) (entries_of rs)) (capacity_stays p (r ∷ [])) rest),
+    )
+
+-- What the requests whose entries come first of what isn't settled make of the settled partition; q is the partition after them.
+record NextIs (n : ℕ) (base : Partition) (accepted : List Request) (k : ℕ) (part : Part) (i : Intent) (more : List Entry) : Type 0 where
+  pub within : k + length i.group.entries ≤ length accepted
+  pub after_it : after part i.group ≡ part_of (partition_after_all base (take (k + length i.group.entries) accepted))
+  pub counted : last_of i.group + 1 ≡ sequence base + (k + length i.group.entries)
+  pub rest : entries_of (drop (k + length i.group.entries) accepted) ≡ more
+  pub fits : GroupFits (131072 * base.capacity) i.group
+
+next_by : (n : ℕ) (base : Partition) (accepted : List Request) (k : ℕ) (part : Part) (i : Intent) (more : List Entry) (last : Partition) → IsOfBoard base → k ≤ length accepted
+    → AllAccepted base accepted → AllByRecursion IsAsked accepted → part ≡ part_of (partition_after_all base (take k accepted)) → last ≡ partition_after_all base accepted
+    → entries_of (drop k accepted) ≡ i.group.entries ++ more → IsUnderWay n (sequence base + k) last i → NextIs n base accepted k part i more
+next_by n base accepted k part i more last board within all asked part_is last_is is way =
+    let m = length i.group.entries in
+    let behind = drop k accepted in
+    let p = partition_after_all base (take k accepted) in
+    let rs = take m behind in
+    let q = partition_after_all p rs in
+    let split = entries_split behind i.group.entries more is in
+    let both = (accepted_joined base (take k accepted) behind).0 (subst (AllAccepted base) (sym (halves k accepted)) all) in
+    let parts = asked_parts k accepted asked in
+    let these = (accepted_joined p rs (drop m behind)).0 (subst (AllAccepted p) (sym (halves m behind)) both.1) in
+    let asked_these = (asked_parts m behind parts.1).0 in
+    let of_board = board_after base (take k accepted) board parts.0 in
+    let q_board = board_after p rs of_board asked_these in
+    let before : sequence p ≡ sequence base + k = sequence_of_all base (take k accepted) both.0 ∙ ap (λ j. sequence base + j) (length-front k accepted within) in
+    let long : length rs ≡ m = length-front m behind split.2 in
+    let later : sequence q ≡ sequence p + length rs = sequence_of_all p rs these.0 in
+    let some = way.some in
+    let few = way.few in
+    let first = way.first in
+    let key = keyed q (omega (arith, later, long, some)) in
+    let ends : (partition_after_all q (drop m behind)) ≡ last =
+    sym (after_joined p rs (drop m behind)) ∙ ap (partition_after_all p) (halves m behind) ∙ sym (after_joined base (take k accepted) behind) ∙ ap (partition_after_all base) (halves k accepted) ∙ sym last_is in
+    let same_key : q.key ≡ Some i.group.key =
+    key.0 ∙ sym (key_stays q (drop m behind) (key_of q) key.0) ∙ ap (λ (x : Partition). x.key) ends ∙ way.key in
+    let here : partition_after_all base (take (k + m) accepted) ≡ q = ap (partition_after_all base) (take_further k m accepted) ∙ after_joined base (take k accepted) rs in
+    let count : last_of i.group ≡ q.counter = omega (arith, first, before, later, long, some, key.1) in
+    let blocks : redo i.group.entries part.blocks ≡ content_of q.blocks =
+    ap₂ redo (sym split.0) (ap (λ (a : Part). a.blocks) part_is) ∙ redone_all p rs of_board these.0 asked_these in
+    let home = subst (λ o. HomeFits o q.counter) same_key q_board.held.home in
+    let size = capacity_stays base (take k accepted) in
+    let longest = length-drop_by k accepted within in
     record {
-      within = further.2;
-      after_it = ap₂ (λ a g. after a g) part_is (ap (λ j. j.group) (sym head)) ∙ leads.redone ∙ ap part_of (sym here);
-      counted = ap (λ j. last_of j.group + 1) (sym head) ∙ counted ∙ omega (arith, next, before);
-      rest = ap₂ (intents_of n) here further.1 ∙ tail;
+      within = omega (arith, split.2, longest);
+      after_it = same_part (after part i.group) (part_of q) (sym same_key) count blocks ∙ ap part_of (sym here);
+      counted = omega (arith, first, some);
+      rest = ap entries_of (drop_further k m accepted) ∙ split.1;
+      fits = record {
+        one = some;
+        four = few;
+        entries = subst (λ c. EntriesFit (131072 * base.capacity) c i.group.entries) (before ∙ sym first)
+            (subst (λ c. EntriesFit (131072 * c) (sequence p) i.group.entries) size (subst (EntriesFit (131072 * p.capacity) (sequence p)) split.0 (fit_all p rs of_board these.0 asked_these)));
+        key = home.0;
+        counters = (let top = home.1 in omega (arith, top, first, before, later, long, key.1));
+      };
     }
+  where
+    same_part : (a b : Part) → a.key ≡ b.key → a.counter ≡ b.counter → a.blocks ≡ b.blocks → a ≡ b
+    same_part a b key counter blocks = ap₂ (λ k c. record { key = k; counter = c; blocks = a.blocks }) key counter ∙ ap (λ c. record { key = b.key; counter = b.counter; blocks = c }) blocks
 
 next_is : (n : ℕ) (base : Partition) (accepted : List Request) (part : Part) (x : GuestState) (held : Guest) (between : Option Intent) (i : Intent) → IsOfBoard base
-    → (link : IsLinked n base accepted part x held between) → pending_of held.slot ≡ Some i → NextIs n base accepted link.stored part i (option_to_list between ++ x.waiting)
+    → (link : IsLinked n base accepted part x held between) → pending_of held.slot ≡ Some i → NextIs n base accepted link.stored part i (entries_in between ++ x.waiting)
 next_is n base accepted part x held between i board link pends =
-    next_by n base accepted link.stored part i (option_to_list between ++ x.waiting) (drop link.stored accepted) board link.within link.in_turn link.asked link.settled_part refl
-    (link.rest ∙ ap (λ o. option_to_list o ++ (option_to_list between ++ x.waiting)) pends)
-
--- a guest that a sync leaves as it is settled
-stays_linked : (n : ℕ) (base : Partition) (accepted : List Request) (part : Part) (x : GuestState) (held new : Guest) (between : Option Intent) → IsLinked n base accepted part x held between
-    → pending_of new.slot ≡ pending_of held.slot → mark_of new ≡ mark_of held → IsLinked n base accepted part x new between
-stays_linked n base accepted part x held new between link pends marks = record {
-  stored = link.stored;
-  within = link.within;
-  in_turn = link.in_turn;
-  asked = link.asked;
-  partition = link.partition;
-  settled_part = link.settled_part;
-  mark = marks ∙ link.mark;
-  rest = link.rest ∙ ap (λ o. option_to_list o ++ (option_to_list between ++ x.waiting)) (sym pends);
-  taken = link.taken;
-  settled = (let old = link.settled in omega (arith, old, marks));
-}
+    next_by n base accepted link.stored part i (entries_in between ++ x.waiting) x.core.partition board link.within link.in_turn link.asked link.settled_part link.partition
+    (link.rest ∙ ap (λ o. entries_in o ++ (entries_in between ++ x.waiting)) pends) (subst (AreUnderWay n (sequence base + link.stored) x.core.partition) pends link.in_slot)
 
 -- one that a sync settles
 moves_linked : (n : ℕ) (base : Partition) (accepted : List Request) (part : Part) (x : GuestState) (held new : Guest) (between : Option Intent) (i : Intent) → IsOfBoard base
@@ -301,17 +430,23 @@ moves_linked : (n : ℕ) (base : Partition) (accepted : List Request) (part : Pa
 moves_linked n base accepted part x held new between i board link pends none marks =
     let next = next_is n base accepted part x held between i board link pends in
     let counted = next.counted in
+    let m = length i.group.entries in
+    let was : length (entries_in (pending_of held.slot)) ≡ m = ap (λ o. length (entries_in o)) pends in
+    let now : length (entries_in (pending_of new.slot)) ≡ 0 = ap (λ o. length (entries_in o)) none in
     record {
-      stored = link.stored + 1;
+      stored = link.stored + m;
       within = next.within;
       in_turn = link.in_turn;
       asked = link.asked;
       partition = link.partition;
       settled_part = next.after_it;
       mark = marks ∙ counted;
-      rest = next.rest ∙ ap (λ o. option_to_list o ++ (option_to_list between ++ x.waiting)) (sym none);
+      rest = next.rest ∙ ap (λ o. entries_in o ++ (entries_in between ++ x.waiting)) (sym none);
+      in_slot = subst (AreUnderWay n (sequence base + (link.stored + m)) x.core.partition) (sym none) tt;
+      to_slot = other_way n (sequence base + link.stored + length (entries_in (pending_of held.slot))) (sequence base + (link.stored + m) + length (entries_in (pending_of new.slot))) x.core.partition between
+          (omega (arith, was, now)) link.to_slot;
       taken = link.taken;
-      settled = (let old = link.settled in let was = link.mark in omega (arith, old, was, marks, counted));
+      settled = (let old = link.settled in let mark = link.mark in omega (arith, old, mark, marks, counted));
     }
 
 pub sync_links : SyncLinks
@@ -368,7 +503,7 @@ next_prefix : (n : ℕ) (base : Partition) (accepted : List Request) (part q : P
 next_prefix n base accepted part q x held between i board link pends is =
     let next = next_is n base accepted part x held between i board link pends in
     let mark = link.mark in
-    record { count = link.stored + 1; within = next.within; is = is ∙ next.after_it; enough = omega (arith, mark) }
+    record { count = link.stored + length i.group.entries; within = next.within; is = is ∙ next.after_it; enough = omega (arith, mark) }
 
 stands_prefix : (n : ℕ) (base : Partition) (accepted : List Request) (part q : Part) (x : GuestState) (held : Guest) (between : Option Intent) (slot : Option Slot) → IsOfBoard base
     → IsLinked n base accepted part x held between → held.slot ≡ slot → MayStand part slot q → IsPrefix base accepted (mark_of held) q
@@ -394,56 +529,24 @@ prefix_at_stops n base accepted part x held between c link board kept =
 
 -- 4. What waits for a slot that is empty
 
-length-drop_by : {X : Type 0} (k : ℕ) (xs : List X) → k ≤ length xs → k + length (drop k xs) ≡ length xs
-length-drop_by zero xs le = omega arith
-length-drop_by (suc k) [] le = absurd (omega arith)
-length-drop_by (suc k) (x ∷ xs) le = (let rest = length-drop_by k xs (omega arith) in omega (arith, rest))
-
-length-intents : (n : ℕ) (p : Partition) (rs : List Request) → length (intents_of n p rs) ≡ length rs
-length-intents n p [] = refl
-length-intents n p (r ∷ rs) = ap suc (length-intents n (partition_after p r) rs)
-
 -- nothing is settled that wasn't taken
 pub mark_taken : (n : ℕ) (base : Partition) (accepted : List Request) (part : Part) (x : GuestState) (held : Guest) (between : Option Intent) → IsLinked n base accepted part x held between → mark_of held ≤ x.taken
 mark_taken n base accepted part x held between link =
-    let taken = link.taken in
     let mark = link.mark in
-    let all = length-drop_by link.stored accepted link.within in
-    let many = sym (length-intents n (partition_after_all base (take link.stored accepted)) (drop link.stored accepted)) ∙ ap length link.rest in
-    omega (arith, taken, mark, all, many, length-append (option_to_list (pending_of held.slot)) (option_to_list between ++ x.waiting), length-append (option_to_list between) x.waiting)
+    omega (arith, mark, taken_is n base accepted part x held between link)
 
--- the intent of the accepted request that comes next
+-- the intent of the accepted requests that come next
 pub record IsFirst (n : ℕ) (base : Partition) (k : ℕ) (i : Intent) : Type 0 where
   pub guest : i.guest ≡ n
   pub fits : GroupFits (131072 * base.capacity) i.group
   pub first : i.group.first ≡ sequence base + k
 
-first_by : (n : ℕ) (base : Partition) (accepted : List Request) (k : ℕ) (i : Intent) (more : List Intent) (behind : List Request) → IsOfBoard base → k ≤ length accepted
-    → AllAccepted base accepted → AllByRecursion IsAsked accepted → drop k accepted ≡ behind → intents_of n (partition_after_all base (take k accepted)) behind ≡ i ∷ more → IsFirst n base k i
-first_by n base accepted k i more [] board within all asked behind_is is = absurd (cc)
-first_by n base accepted k i more (r ∷ later) board within all asked behind_is is =
-    let p = partition_after_all base (take k accepted) in
-    let head : intent_of n (partition_after p r) r.command ≡ i = cc in
-    let joined : AllAccepted base (take k accepted ++ (r ∷ later)) = subst (AllAccepted base) (sym (ap (λ b. take k accepted ++ b) (sym behind_is) ∙ halves k accepted)) all in
-    let both = (accepted_joined base (take k accepted) (r ∷ later)).0 joined in
-    let parts = asked_parts k accepted asked in
-    let here = board_after base (take k accepted) board parts.0 in
-    let leads = leads_on p r here (subst (AllByRecursion IsAsked) behind_is parts.1).0 both.1.0 in
-    let before : sequence p ≡ sequence base + k = sequence_of_all base (take k accepted) both.0 ∙ ap (λ m. sequence base + m) (length-front k accepted within) in
-    let same = capacity_stays base (take k accepted) in
-    let whole = here.held.whole in
-    let size : length p.blocks ≡ 131072 * base.capacity = omega (arith, whole, same) in
-    let one = leads.one in
-    let counted = leads.counted in
-    let next = leads.next in
-    record {
-      guest = ap (λ j. j.guest) (sym head);
-      fits = subst (λ m. GroupFits m i.group) size (subst (λ j. GroupFits (length p.blocks) j.group) head leads.fits);
-      first = ap (λ j. j.group.first) (sym head) ∙ omega (arith, one, counted, next, before);
-    }
-
 pub first_is : (n : ℕ) (base : Partition) (accepted : List Request) (part : Part) (x : GuestState) (held : Guest) (i : Intent) → IsOfBoard base
     → (link : IsLinked n base accepted part x held (Some i)) → held.slot ≡ None → IsFirst n base link.stored i
 first_is n base accepted part x held i board link empty =
-    first_by n base accepted link.stored i x.waiting (drop link.stored accepted) board link.within link.in_turn link.asked refl
-    (link.rest ∙ ap (λ s. option_to_list (pending_of s) ++ (option_to_list (Some i) ++ x.waiting)) empty)
+    let none : length (entries_in (pending_of held.slot)) ≡ 0 = ap (λ s. length (entries_in (pending_of s))) empty in
+    let way : IsUnderWay n (sequence base + link.stored) x.core.partition i =
+    other_way n (sequence base + link.stored + length (entries_in (pending_of held.slot))) (sequence base + link.stored) x.core.partition (Some i) (omega (arith, none)) link.to_slot in
+    let next = next_by n base accepted link.stored part i x.waiting x.core.partition board link.within link.in_turn link.asked link.settled_part link.partition
+    (link.rest ∙ ap (λ s. entries_in (pending_of s) ++ (i.group.entries ++ x.waiting)) empty) way in
+    record { guest = way.guest; fits = next.fits; first = way.first }

@@ -34,7 +34,7 @@ use Rattle.rpmb_book.specs.Replay.{fresh_guests, opened}
 use Rattle.rpmb_book.specs.Sound.{AreOfBoard, IsCoreOfBoard, IsOfBoard}
 use Rattle.rpmb_book.proofs.AskedLemmas.{one_of_its_capacity}
 use Rattle.rpmb_book.proofs.Places.{all_at}
-use Rattle.board.specs.Link.{IsLinked, intents_of}
+use Rattle.board.specs.Link.{AreUnderWay, IsLinked, entries_in, entries_of}
 use Rattle.board.specs.State.{BoardState}
 use Rattle.board.specs.Board.{IsLinkedBoard, IsSound, IsTied, LeavesPrefixes}
 use Rattle.board.specs.declared.opening.Beside.{Beside}
@@ -134,6 +134,7 @@ module _ (config : List GuestConfig) (ps : List Partition) (held : List Guest) (
   fresh_link =
       let b = begun.each g y p stored there in
       let mark = b.mark in
+      let none = none_pending y.slot b.slot in
       record {
         stored = length accepted;
         within = omega arith;
@@ -142,7 +143,9 @@ module _ (config : List GuestConfig) (ps : List Partition) (held : List Guest) (
         partition = end.is;
         settled_part = ap part_or there ∙ ap part_of (end.is ∙ ap (partition_after_all base) (sym (take_whole accepted)));
         mark = mark ∙ counted;
-        rest = ap (λ rs. intents_of g (partition_after_all base (take (length accepted) accepted)) rs) (drop_whole accepted) ∙ ap (λ o. option_to_list o ++ []) (sym (none_pending y.slot b.slot));
+        rest = ap entries_of (drop_whole accepted) ∙ ap (λ o. entries_in o ++ []) (sym none);
+        in_slot = subst (AreUnderWay g (sequence base + length accepted) p) (sym none) tt;
+        to_slot = tt;
         taken = (let is = counted in omega (arith, is));
         settled = omega (arith, mark);
       }

@@ -258,7 +258,7 @@ module _ {D : Type 0} (shows : D → DiskState) (makes : D → DiskCall → D �
       by : (o : Option Intent) → next_intent old.book old.shares g ≡ o
           → new ≡ record old { book = (if is_some o then with_turn old.book (Take g) else old.book); shares = share_moved old.shares g o; intents = put old.intents g o } → Stays accepted new
       by None next after = stay new old parts after ok
-      by (Some i) next after = stay new (record old { book = with_turn old.book (Take g); shares = slice_set old.shares g (intent_sequence i); intents = slice_set old.intents g (Some i) }) parts after (takes_linked shows config bases accepted parts old ok g i sound at next)
+      by (Some i) next after = stay new (record old { book = with_turn old.book (Take g); shares = slice_set old.shares g (intent_sequence i); intents = slice_set old.intents g (Some i) }) parts after (takes_linked shows config bases accepted parts old ok g i at next)
 
   give_stays : (g : ℕ) (answer : Answer) (new : BoardState D) (free : Bool) (intent : Option Intent) → is_free old.store.guests g ≡ free → intent ≡ in_place (slice_get old.intents g) → GivesWhere g free intent answer old new → Stays accepted new
   give_stays g answer new false intent is at does = idle answer new does
