@@ -21,15 +21,14 @@ use Rattle.flusher.specs.SlotInvariant.{IsHeld, guest_settled, settled_by}
 use Rattle.flusher.proofs.Guests.{get_set_same, get_set_other, map_set}
 use Rattle.mmio_transport.specs.Device.{DeviceState}
 use Rattle.mmio_transport.specs.Job.{Job, Done}
-use Rattle.rpmb_book.specs.Book.{BookView, due_of, due_at, guest_of, is_share, first_of, next_intent, refusal, refusal_at, state, submit_of, submits_in, waiting_of, with_turn}
+use Rattle.rpmb_book.specs.Book.{BookView, due_of, due_at, guest_of, is_share, first_of, next_intent, refusal, refusal_at, state, submit_of, submits_in, with_turn}
 use Rattle.rpmb_book.specs.ByGuest.{broken_when, guest_after}
 use Rattle.rpmb_book.specs.Guest.{GuestState, collected, first_intent, intent_sequence, submitted, took}
 use Rattle.rpmb_book.specs.Job.{Tally}
-use Rattle.rpmb_book.specs.Sound.{AreOfBoard, IsSound, IsSoundGuest}
+use Rattle.rpmb_book.specs.Sound.{AreOfBoard}
 use Rattle.rpmb_book.specs.Turn.{Turn, Take, Settle, Collect, Break}
 use Rattle.rpmb_book.proofs.ByGuest.{by_guest, keeps_the_guests}
 use Rattle.rpmb_book.proofs.OnBoard.{core_at}
-use Rattle.rpmb_book.proofs.Places.{all_at}
 use Rattle.rpmb_book.proofs.Replay.{replay-push}
 use Rattle.board.specs.State.{BoardState, guests}
 use Rattle.board.specs.declared.step.Report.{Report}

@@ -1,11 +1,10 @@
 -- Prefixes of requests that go on, and marks that rise.
 use Rattle.std.proofs.Common.{◌≡◌, ◌≤◌, ◌+◌, ℕ, zero, suc, Bool, true, false, List, [], ◌∷◌, ◌++◌, Option, Some, None, length, take, refl, ap, sym, ◌∙◌, arith, append_assoc, append-nil, length-append, length-set}
-use Rattle.std.specs.Prelude.{if◌then◌else◌, ◌==◌, drop, option_to_list, slice_get}
+use Rattle.std.specs.Prelude.{if◌then◌else◌, ◌==◌, drop, slice_get}
 use Rattle.std.proofs.lemmas.List.{length-drop, take-append-le}
 use Rattle.rpmb_frame.specs.Request.{Request}
 use Rattle.rpmb_frame.specs.Partition.{Partition, sequence}
 use Rattle.rpmb_frame.specs.declared.config.GuestConfig.{GuestConfig}
-use Rattle.rpmb_core.specs.Accept.{partition_after}
 use Rattle.rpmb_core.specs.Requests.{partition_after_all}
 use Rattle.disk.specs.Disk.{DiskState}
 use Rattle.intent_slots.specs.Payload.{Intent}
@@ -24,8 +23,8 @@ use Rattle.rpmb_book.specs.Guest.{GuestState, accepts, request_of}
 use Rattle.rpmb_book.specs.Sound.{IsOfBoard}
 use Rattle.rpmb_book.specs.Turn.{State}
 use Rattle.board.specs.Board.{LeavesPrefixes, accepted_by, joined_when}
-use Rattle.board.specs.Link.{IsLinked, IsPrefix, due, intents_of}
-use Rattle.board.proofs.Links.{sync_links}
+use Rattle.board.specs.Link.{IsLinked, IsPrefix, due, entries_in}
+use Rattle.board.proofs.Links.{sync_links, length-entries}
 use Rattle.host.specs.Moving.{GoOn}
 use Rattle.host.proofs.Same.{given_marks}
 
@@ -109,7 +108,7 @@ given_rise held i g = marks_rise held (given held i) (length-given held i) (λ k
     omega (arith, marks)) g
 
 -- a sync leaves no more intents that aren't settled
-fewer_in : (phase : Phase) (i : Intent) → length (option_to_list (pending_of (in_phase i (synced phase i.group)))) ≤ length (option_to_list (if is_settled phase then None else Some i))
+fewer_in : (phase : Phase) (i : Intent) → length (entries_in (pending_of (in_phase i (synced phase i.group)))) ≤ length (entries_in (if is_settled phase then None else Some i))
 fewer_in Given i = omega arith
 fewer_in Written i = omega arith
 fewer_in Ready i = omega arith
@@ -119,13 +118,9 @@ fewer_in Applying i = omega arith
 fewer_in Applied i = omega arith
 fewer_in Closing i = omega arith
 
-fewer : (slot : Option Slot) → length (option_to_list (pending_of (after_sync slot))) ≤ length (option_to_list (pending_of slot))
+fewer : (slot : Option Slot) → length (entries_in (pending_of (after_sync slot))) ≤ length (entries_in (pending_of slot))
 fewer None = omega arith
 fewer (Some s) = fewer_in s.phase s.intent
-
-length-intents : (n : ℕ) (p : Partition) (rs : List Request) → length (intents_of n p rs) ≡ length rs
-length-intents n p [] = refl
-length-intents n p (r ∷ rs) = ap suc (length-intents n (partition_after p r) rs)
 
 -- what is settled, and what isn't, is all that was accepted
 counted : (n : ℕ) (base : Partition) (accepted : List Request) (part : Part) (x : GuestState) (held : Guest) (between : Option Intent) → IsLinked n base accepted part x held between
@@ -134,7 +129,7 @@ counted n base accepted part x held between link =
     let mark = link.mark in
     let within = link.within in
     let left = length-drop link.stored accepted in
-    let many = sym (length-intents n (partition_after_all base (take link.stored accepted)) (drop link.stored accepted)) ∙ ap length link.rest in
+    let many = sym (length-entries (drop link.stored accepted)) ∙ ap length link.rest in
     omega (arith, mark, within, left, many)
 
 -- so a sync moves a mark only up
@@ -144,6 +139,6 @@ sync_rises n base accepted part x held between board link =
     let before = counted n base accepted part x held between link in
     let after = counted n base accepted (guest_settled held part) x (guest_after_sync held) between (sync_links n base accepted part x held between board link) in
     let less = fewer held.slot in
-    let one = length-append (option_to_list (pending_of held.slot)) (option_to_list between ++ x.waiting) in
-    let two = length-append (option_to_list (pending_of (after_sync held.slot))) (option_to_list between ++ x.waiting) in
+    let one = length-append (entries_in (pending_of held.slot)) (entries_in between ++ x.waiting) in
+    let two = length-append (entries_in (pending_of (after_sync held.slot))) (entries_in between ++ x.waiting) in
     omega (arith, before, after, less, one, two)

@@ -1,13 +1,12 @@
 -- Each look that finds no reply leaves less to do.
-use Rattle.std.proofs.Common.{◌≡◌, ◌<◌, inl, inr, ℕ, suc, ◌+◌, Bool, true, false, List, [], ◌∷◌, Option, Some, None, length, drop, refl, ap, ap₂, sym, subst, ◌∙◌, arith}
+use Rattle.std.proofs.Common.{◌≡◌, ◌<◌, ◌≤◌, inl, inr, ℕ, suc, ◌+◌, Bool, true, false, List, [], ◌∷◌, Option, Some, None, length, drop, refl, ap, ap₂, sym, subst, ◌∙◌, arith}
 use Rattle.std.specs.Prelude.{if◌then◌else◌, slice_get, slice_set}
 use Rattle.std.proofs.lemmas.List.{length-drop}
 use Rattle.std.proofs.lemmas.Option.{slice_get_cases}
-use Rattle.rpmb_frame.specs.Partition.{Partition}
 use Rattle.rpmb_frame.specs.Request.{Request}
 use Rattle.rpmb_frame.specs.Partition.{sequence}
 use Rattle.disk.specs.Disk.{DiskState}
-use Rattle.intent_slots.specs.Payload.{Intent}
+use Rattle.intent_slots.specs.Payload.{Entry, Intent}
 use Rattle.flusher.specs.declared.guest.Guest.{Guest}
 use Rattle.flusher.specs.declared.slot.Slot.{Slot}
 use Rattle.flusher.specs.CallsLeft.{left_of}
@@ -17,11 +16,13 @@ use Rattle.flusher.specs.Store.{given, given_of, is_free, is_free_of}
 use Rattle.flusher.proofs.Countdown.{given_adds}
 use Rattle.flusher.proofs.Guests.{get_set_same}
 use Rattle.rpmb_core.proofs.Following.{sequence_of_all}
-use Rattle.rpmb_book.specs.Book.{guest_of, is_share, next_intent, share_moved, waiting_of, with_turn}
+use Rattle.rpmb_book.specs.Book.{first_of, guest_of, is_share, next_intent, share_moved, waiting_of, with_turn}
 use Rattle.rpmb_book.specs.Guest.{GuestState, first_intent, took}
 use Rattle.rpmb_book.specs.Turn.{Take}
+use Rattle.rpmb_book.proofs.Grouping.{intent_is, none_waits}
+use Rattle.rpmb_book.proofs.Room.{length-parts}
 use Rattle.board.specs.Board.{IsSound}
-use Rattle.board.specs.Link.{due, intents_of}
+use Rattle.board.specs.Link.{due, entries_of}
 use Rattle.board.specs.State.{BoardState, guests, in_place}
 use Rattle.board.specs.Steps.{Answer, GivesWhere, TakesInto}
 use Rattle.board.proofs.Doing.{full_at}
@@ -46,9 +47,9 @@ full_is_not i is = absurd (let no : Some i ≡ None = cc in cc)
 
 -- 1. Take
 
--- what a Take leaves: as much to do, and nothing waits where the place stays empty
+-- what a Take leaves: no more to do, and nothing waits where the place stays empty
 pub record IsTaken {D : Type 0} (g : ℕ) (b b' : BoardState D) : Type 0 where
-  pub work : work_of g b' ≡ work_of g b
+  pub work : work_of g b' ≤ work_of g b
   pub rest : slice_get b'.intents g ≡ Some None → waiting_of (slice_get (guests b') g) ≡ []
 
 work_is : {D : Type 0} (g : ℕ) (b b' : BoardState D) → is_broken b' ≡ is_broken b
@@ -56,35 +57,62 @@ work_is : {D : Type 0} (g : ℕ) (b b' : BoardState D) → is_broken b' ≡ is_b
     → work_of g b' ≡ work_of g b
 work_is g b b' broken left = ap₂ (λ c n. if c then 0 else suc n) broken left
 
-nothing_first : (ws : List Intent) → first_intent ws ≡ None → ws ≡ []
-nothing_first [] is = refl
-nothing_first (i ∷ ws) is = absurd (cc)
+work_le : {D : Type 0} (g : ℕ) (b b' : BoardState D) → is_broken b' ≡ is_broken b
+    → left_of b'.store.guests + (between_calls (in_place (slice_get b'.intents g)) + waiting_calls (waiting_of (slice_get (guests b') g))) ≤ left_of b.store.guests + (between_calls (in_place (slice_get b.intents g)) + waiting_calls (waiting_of (slice_get (guests b) g)))
+    → work_of g b' ≤ work_of g b
+work_le g b b' broken left = by (is_broken b) refl
+  where
+    old : ℕ
+    old = left_of b.store.guests + (between_calls (in_place (slice_get b.intents g)) + waiting_calls (waiting_of (slice_get (guests b) g)))
 
-first_rest : (ws : List Intent) (i : Intent) → first_intent ws ≡ Some i → waiting_calls ws ≡ calls_of i + waiting_calls (drop 1 ws)
-first_rest [] i is = absurd (cc)
-first_rest (j ∷ ws) i is = (let same : j ≡ i = cc in ap (λ k. calls_of k + waiting_calls ws) same)
+    new : ℕ
+    new = left_of b'.store.guests + (between_calls (in_place (slice_get b'.intents g)) + waiting_calls (waiting_of (slice_get (guests b') g)))
 
-next_first : (c : Bool) (ws : List Intent) → c ≡ true → (if c then first_intent ws else None) ≡ first_intent ws
-next_first c ws is = rw is refl
+    by : (c : Bool) → is_broken b ≡ c → work_of g b' ≤ work_of g b
+    by true is = (let less : work_of g b' ≡ 0 = ap (λ c. if c then 0 else suc new) (broken ∙ is) in omega (arith, less))
+    by false is = (
+        let less : work_of g b' ≡ suc new = ap (λ c. if c then 0 else suc new) (broken ∙ is) in
+        let more : work_of g b ≡ suc old = ap (λ c. if c then 0 else suc old) is in
+        omega (arith, less, more, left))
+
+nothing_first : (g : ℕ) (x : GuestState) → first_intent g x ≡ None → x.waiting ≡ []
+nothing_first g x is = empty x.waiting (none_waits g x (sym is))
+  where
+    empty : (es : List Entry) → length es ≡ 0 → es ≡ []
+    empty [] none = refl
+    empty (e ∷ es) none = absurd (omega (arith, none))
+
+-- an intent of several requests adds fewer calls than each alone
+first_rest : (g : ℕ) (x : GuestState) (i : Intent) → first_intent g x ≡ Some i → calls_of i + waiting_calls (drop 4 x.waiting) ≤ waiting_calls x.waiting
+first_rest g x i is =
+    let next = intent_is g x i is in
+    let many = ap (λ (j : Intent). length j.group.entries) next.0 in
+    let parts = length-parts 4 x.waiting in
+    let left = length-drop 4 x.waiting in
+    let some = next.1 in
+    omega (arith, many, parts, left, some)
+
+next_first : (g : ℕ) (c : Bool) (o : Option GuestState) → c ≡ true → (if c then first_of g o else None) ≡ first_of g o
+next_first g c o is = rw is refl
 
 pub take_work : {D : Type 0} (shows : D → DiskState) (g : ℕ) (x : GuestState) (o : Option (Option Intent)) (answer : Answer) (b b' : BoardState D) → IsSound shows b → slice_get (guests b) g ≡ Some x → slice_get b.intents g ≡ o
     → TakesInto g o answer b b' → IsTaken g b b'
-take_work shows g x None answer b b' sound at place takes = subst (IsTaken g b) (sym takes.1) (record { work = refl; rest = λ empty. absurd (cc) })
-take_work shows g x (Some (Some i)) answer b b' sound at place takes = subst (IsTaken g b) (sym takes.1) (record { work = refl; rest = λ empty. absurd (full_is_not i (sym place ∙ empty)) })
+take_work shows g x None answer b b' sound at place takes = subst (IsTaken g b) (sym takes.1) (record { work = omega arith; rest = λ empty. absurd (cc) })
+take_work shows g x (Some (Some i)) answer b b' sound at place takes = subst (IsTaken g b) (sym takes.1) (record { work = omega arith; rest = λ empty. absurd (full_is_not i (sym place ∙ empty)) })
 take_work {D = D} shows g x (Some None) answer b b' sound at place takes = by (next_intent b.book b.shares g) refl
   where
     share : is_share b.book b.shares g ≡ true
     share = is_share_of shows sound.config sound.bases sound.accepted sound.parts b sound.linked g None place
 
-    next_is : next_intent b.book b.shares g ≡ first_intent x.waiting
-    next_is = next_first (is_share b.book b.shares g) (waiting_of (guest_of b.book g)) share ∙ ap (λ o. first_intent (waiting_of o)) at
+    next_is : next_intent b.book b.shares g ≡ first_intent g x
+    next_is = next_first g (is_share b.book b.shares g) (guest_of b.book g) share ∙ ap (first_of g) at
 
     by : (next : Option Intent) → next_intent b.book b.shares g ≡ next → IsTaken g b b'
     by None none =
         let is : b' ≡ b = takes.1 ∙ rw none refl in
         subst (IsTaken g b) (sym is) (record {
-          work = refl;
-          rest = λ empty. ap waiting_of at ∙ nothing_first x.waiting (sym next_is ∙ none);
+          work = omega arith;
+          rest = λ empty. ap waiting_of at ∙ nothing_first g x (sym next_is ∙ none);
         })
     by (Some i) some =
         let now : BoardState D = record b { book = with_turn b.book (Take g); shares = share_moved b.shares g (Some i); intents = slice_set b.intents g (Some i) } in
@@ -93,14 +121,14 @@ take_work {D = D} shows g x (Some None) answer b b' sound at place takes = by (n
         let u = own b.book (Take g) g took (λ k v. refl) y.0 y.1 in
         let same : u.0 ≡ x = (let a = u.1 in cc) in
         let full : slice_get (slice_set b.intents g (Some i)) g ≡ Some (Some i) = get_set_same b.intents g None (Some i) place in
-        let rest : waiting_of (slice_get (guests now) g) ≡ drop 1 x.waiting = ap waiting_of y.1 ∙ ap (λ v. v.waiting) u.2 ∙ ap (λ v. drop 1 v.waiting) same in
-        let more : waiting_calls x.waiting ≡ calls_of i + waiting_calls (drop 1 x.waiting) = first_rest x.waiting i (sym next_is ∙ some) in
+        let rest : waiting_of (slice_get (guests now) g) ≡ drop 4 x.waiting = ap waiting_of y.1 ∙ ap (λ v. v.waiting) u.2 ∙ ap (λ v. drop 4 v.waiting) same in
+        let more : calls_of i + waiting_calls (drop 4 x.waiting) ≤ waiting_calls x.waiting = first_rest g x i (sym next_is ∙ some) in
         let one : between_calls (in_place (slice_get now.intents g)) ≡ calls_of i = ap (λ o. between_calls (in_place o)) full in
         let zero_between : between_calls (in_place (slice_get b.intents g)) ≡ 0 = ap (λ o. between_calls (in_place o)) place in
         let before : waiting_calls (waiting_of (slice_get (guests b) g)) ≡ waiting_calls x.waiting = ap (λ o. waiting_calls (waiting_of o)) at in
-        let after : waiting_calls (waiting_of (slice_get (guests now) g)) ≡ waiting_calls (drop 1 x.waiting) = ap waiting_calls rest in
+        let after : waiting_calls (waiting_of (slice_get (guests now) g)) ≡ waiting_calls (drop 4 x.waiting) = ap waiting_calls rest in
         subst (IsTaken g b) (sym is) (record {
-          work = work_is g b now (ap (λ s. s.broken) (state_of b.book (Take g))) (omega (arith, one, zero_between, before, after, more));
+          work = work_le g b now (ap (λ s. s.broken) (state_of b.book (Take g))) (omega (arith, one, zero_between, before, after, more));
           rest = λ empty. absurd (full_is_not i (sym full ∙ empty));
         })
 
@@ -146,9 +174,9 @@ give_work {D = D} shows g true (Some i) answer b b' sound few free place gives =
 
 -- 3. Once all slots are empty and nothing waits, all is settled
 
-empty_intents : (n : ℕ) (p : Partition) (rs : List Request) → intents_of n p rs ≡ [] → rs ≡ []
-empty_intents n p [] is = refl
-empty_intents n p (r ∷ rs) is = absurd (cc)
+empty_entries : (rs : List Request) → entries_of rs ≡ [] → rs ≡ []
+empty_entries [] is = refl
+empty_entries (r ∷ rs) is = absurd (cc)
 
 pub settled_all_at_rest : {D : Type 0} (shows : D → DiskState) (g : ℕ) (x : GuestState) (b : BoardState D) → IsSound shows b → slice_get (guests b) g ≡ Some x → AllEmpty b.store.guests
     → in_place (slice_get b.intents g) ≡ None → x.waiting ≡ [] → (z : Guest) × (slice_get b.store.guests g ≡ Some z) × (mark_of z ≡ sequence x.core.partition)
@@ -161,7 +189,7 @@ settled_all_at_rest shows g x b sound at empty place waits =
     let mark = l.mark in
     let all : sequence x.core.partition ≡ sequence (sound.bases g) + length (sound.accepted g) = ap sequence l.partition ∙ sequence_of_all (sound.bases g) (sound.accepted g) l.in_turn in
     let nothing : due t.stored t.intent x ≡ [] = rw (slot, none, waits) refl in
-    let rest = empty_intents g _ (drop l.stored (sound.accepted g)) (l.rest ∙ nothing) in
+    let rest = empty_entries (drop l.stored (sound.accepted g)) (l.rest ∙ nothing) in
     let long = length-drop l.stored (sound.accepted g) in
     let zero_rest : length (drop l.stored (sound.accepted g)) ≡ 0 = ap length rest in
     let within = l.within in
