@@ -6,6 +6,7 @@ mod refusals;
 mod steps;
 mod without_key;
 
+use crate::tests::limits::limits_of;
 use blocks::{ALONE, BLOCKS, LIMITED};
 use ends::{CAPACITY_2, CAPACITY_128, LAST_COUNTER};
 use failures::FAILURES;
@@ -15,7 +16,7 @@ use rpmb_core::{Partition, fail, failure_kind};
 use rpmb_frame::{Limits, Request};
 use std::alloc::Global;
 use std::test::Fail;
-use steps::{Row, Scenario, Step, are_whole, expected, frames_of, limits_of, take_steps};
+use steps::{Row, Scenario, Step, are_whole, expected, first_bytes, frames_of, take_steps};
 use without_key::WITHOUT_KEY;
 
 /// The state that steps left: the key, the write counter, the sequence, and the first byte of the
@@ -119,10 +120,7 @@ fn step_fails_as_told(
 ) -> Result<bool, Fail> {
     let (_, writable, code, _) = *step;
     let frames = frames_of(request);
-    let Some(bytes) = frames.as_flattened().get(..512 * request.len().min(18)) else {
-        return Ok(false);
-    };
-    let request = Request::classify(bytes, writable, limits);
+    let request = Request::classify(first_bytes(&frames, request.len()), writable, limits);
     fails_as_told(alloc, &request, code, reply)
 }
 
