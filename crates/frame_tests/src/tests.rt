@@ -1,3 +1,4 @@
 mod frames;
+mod limits;
 mod macs;
 mod partitions;

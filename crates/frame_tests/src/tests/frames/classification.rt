@@ -1,5 +1,6 @@
+use crate::tests::limits::limits_of;
 use rpmb_frame::laws::first_row_decides;
-use rpmb_frame::{BoardConfig, Command, GuestConfig, Limits, Request};
+use rpmb_frame::{Command, Request};
 use std::alloc::Global;
 use std::test::Fail;
 
@@ -95,22 +96,11 @@ fn told(command: &Command) -> Option<Told> {
 }
 
 fn are_first(frames: &[[u8; 512]]) -> bool {
+    let mut first = true;
     for (place, frame) in frames.iter().enumerate() {
-        if frame[0] as usize != place {
-            return false;
-        }
+        first &= frame[0] as usize == place;
     }
-    true
-}
-
-/// The limits of a guest of a board, with this `max_wr_cnt`.
-fn limits_of(alloc: Global, max_wr_cnt: u8) -> Result<Limits, Fail> {
-    let guest = GuestConfig {
-        max_wr_cnt,
-        ..GuestConfig::of_capacity(1)
-    };
-    let board = BoardConfig::new(Vec::from_array(alloc, [guest])?)?;
-    Ok(Limits::of(&board.guests()[0]))
+    first
 }
 
 /// Whether a request is told as the row says, and keeps its room and limits.
@@ -125,7 +115,7 @@ fn is_as_told(request: &Request<'_>, row: &Row) -> bool {
 fn is_decided(alloc: Global, row: &Row) -> Result<bool, Fail> {
     let (types, length, writable, max_wr_cnt, _) = *row;
     let frames = frames_of_types(types);
-    let limits = limits_of(alloc, max_wr_cnt)?;
+    let limits = limits_of(alloc, (max_wr_cnt, 16))?;
     match frames.as_flattened().get(..length) {
         Some(bytes) => Ok(is_as_told(&Request::classify(bytes, writable, limits), row)),
         None => Ok(false),

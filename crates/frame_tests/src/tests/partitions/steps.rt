@@ -1,8 +1,7 @@
 //! Requests to a partition one after another, with their results and all bytes of their replies.
 
 use rpmb_core::{OK, Outcome, Partition, is_change};
-use rpmb_frame::{BoardConfig, GuestConfig, Limits, Request};
-use std::alloc::Global;
+use rpmb_frame::{Limits, Request};
 use std::test::Fail;
 
 /// The fields of a frame in their order, in hexadecimal digits: the byte that stuff repeats, key_mac,
@@ -37,12 +36,11 @@ fn bytes_of(row: Row) -> [u8; 62] {
 
 /// Whether each row has 124 digits, and the eight spaces between its fields.
 pub fn are_whole(rows: &[Row]) -> bool {
+    let mut whole = true;
     for row in rows {
-        if row.len() != 132 {
-            return false;
-        }
+        whole &= row.len() == 132;
     }
-    true
+    whole
 }
 
 /// What a MAC covers: the data, and the fields behind them.
@@ -70,6 +68,11 @@ pub fn frames_of(rows: &[Row]) -> [[u8; 512]; 18] {
     frames
 }
 
+/// The bytes of the first frames.
+pub fn first_bytes(frames: &[[u8; 512]; 18], count: usize) -> &[u8] {
+    frames[..count.min(18)].as_flattened()
+}
+
 /// A reply, and behind it the bytes 0xee that stood there.
 pub fn expected(rows: &[Row]) -> [u8; 8192] {
     let mut out = [0xee; 8192];
@@ -77,17 +80,6 @@ pub fn expected(rows: &[Row]) -> [u8; 8192] {
         out[512 * i..512 * i + 512].copy_from_slice(&frame(*row));
     }
     out
-}
-
-/// The limits of a guest of a board: how many blocks it may write, and how many it may read.
-pub fn limits_of(alloc: Global, counts: (u8, u8)) -> Result<Limits, Fail> {
-    let guest = GuestConfig {
-        max_wr_cnt: counts.0,
-        max_rd_cnt: counts.1,
-        ..GuestConfig::of_capacity(1)
-    };
-    let board = BoardConfig::new(Vec::from_array(alloc, [guest])?)?;
-    Ok(Limits::of(&board.guests()[0]))
 }
 
 /// The result of a request and the length of its reply, as a guest gets them.
@@ -141,10 +133,7 @@ pub fn take_steps(
             return Err(Fail::new(format_args!("step {place} lacks frames")));
         };
         let frames = frames_of(request);
-        let Some(bytes) = frames.as_flattened().get(..512 * request.len().min(18)) else {
-            return Err(Fail::new(format_args!("step {place} has more frames than 18")));
-        };
-        let request = Request::classify(bytes, *writable, limits);
+        let request = Request::classify(first_bytes(&frames, *asked), *writable, limits);
         if !goes_as_told(partition, &request, &mut last, *code, reply) {
             return Err(Fail::new(format_args!("step {place} goes another way")));
         }
