@@ -18,3 +18,4 @@ mod word;
 pub use fault::{LineError, ScriptError};
 pub use line::{Line, read_line};
 pub use reader::{read_script, read_served_script};
+pub use word::{first_words, read_bytes, read_number};

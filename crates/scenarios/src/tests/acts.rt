@@ -81,6 +81,7 @@ fn filler_of(alloc: Global, number: u8) -> Result<Filler, Fail> {
         0 => Ok(Filler::Old),
         1 => Ok(Filler::New),
         2 => Ok(Filler::Fill(Vec::new(alloc))),
+        4 => Ok(Filler::Fill(Vec::from_slice(alloc, &[0xa5])?)),
         _ => Ok(Filler::Fill(Vec::from_slice(alloc, &[0xff])?)),
     }
 }

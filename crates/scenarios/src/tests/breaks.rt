@@ -15,10 +15,10 @@ use std::test::Fail;
 static BROKEN: [Line; 22] = [
     Line::Ask(0, Asked::Counter(1)),
     Line::Ask(0, Asked::Key(0x11)),
+    Line::Give(0),
     Line::Ask(0, Asked::Write(0xa5, 0)),
     Line::Ask(0, Asked::Counter(2)),
     Line::Ask(0, Asked::LastResult),
-    Line::Give(0),
     Line::Run,
     Line::Settle,
     Line::IsBroken(false),
@@ -49,11 +49,11 @@ fn a_break_fails_what_is_not_settled(rt: HostRuntime) -> Result<(), Fail> {
 static KEEPS_ONE: [Line; 8] = [
     Line::Ask(0, Asked::Counter(1)),
     Line::Ask(0, Asked::Key(0x11)),
+    Line::Settle,
+    Line::Give(0),
     Line::Ask(0, Asked::Write(0xa5, 0)),
     Line::Ask(0, Asked::Counter(2)),
     Line::Ask(0, Asked::LastResult),
-    Line::Settle,
-    Line::Give(0),
     Line::Run,
 ];
 

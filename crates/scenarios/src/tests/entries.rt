@@ -10,14 +10,15 @@ static REPLIES: [Line; 22] = [
     Line::Life(LIFE),
     Line::Ask(1, Asked::Counter(1)),
     Line::Ask(1, Asked::Key(0x11)),
+    Line::GiveThis(1, (1, 1, 0, 0, 0, None, None)),
+    // The write comes while the key is on its way.
     Line::Ask(1, Asked::Write(0xa5, 0)),
     Line::Ask(1, Asked::Counter(2)),
     // What was asked before the key needs nothing; the reply to the key waits.
     Line::Reply(1, 1, 0, [0, 0, 0, 0, 0, 0, 0, 1, 0, 7, 2, 0]),
     Line::NoReply(1),
-    Line::GiveThis(1, (1, 1, 0, 0, 0, None, None)),
-    Line::NoReply(1),
     Line::Run,
+    Line::NoReply(1),
     // It leaves once the key is settled.
     Line::Settle,
     Line::Reply(1, 1, 1, [0, 0, 0, 0, 0, 0, 0, 1, 0, 0, 1, 0]),
@@ -46,17 +47,17 @@ fn replies_wait_for_what_they_show(rt: HostRuntime) -> Result<(), Fail> {
 static WHOLE: [&[Line]; 3] = [
     &[
         Line::Ask(0, Asked::Key(0x11)),
-        Line::Ask(0, Asked::Blocks(496, 16)),
         Line::GiveThis(0, (1, 1, 0, 0, 0, None, None)),
         Line::Run,
+        Line::Ask(0, Asked::Blocks(496, 16)),
         Line::GiveThis(0, (1, 2, 1, 496, 4_096, Some(1), Some(16))),
         Line::NoIntent(0),
     ],
     &[
         Line::Ask(0, Asked::Key(0x11)),
-        Line::Ask(0, Asked::Blocks(511, 1)),
         Line::GiveThis(0, (1, 1, 0, 0, 0, None, None)),
         Line::Run,
+        Line::Ask(0, Asked::Blocks(511, 1)),
         Line::GiveThis(0, (1, 2, 1, 511, 256, Some(1), Some(1))),
         Line::NoIntent(0),
     ],
@@ -73,5 +74,28 @@ fn writes_are_taken_whole(rt: HostRuntime) -> Result<(), Fail> {
     for lines in &WHOLE {
         assert_eq!(rt; played(rt.alloc(), 1, *lines)?, lines.len());
     }
+    Ok(())
+}
+
+/// Six requests wait: a Take gives four, the key first, and the next one the two that are left.
+static GROUPED: [Line; 13] = [
+    Line::Ask(0, Asked::Key(0x11)),
+    Line::Ask(0, Asked::Write(0xa0, 0)),
+    Line::Ask(0, Asked::Write(0xa1, 1)),
+    Line::Ask(0, Asked::Write(0xa2, 2)),
+    Line::Ask(0, Asked::Write(0xa3, 3)),
+    Line::Ask(0, Asked::Write(0xa4, 4)),
+    Line::GiveThis(0, (4, 4, 0, 0, 0, None, None)),
+    Line::Run,
+    Line::Mark(0, 4),
+    Line::GiveThis(0, (2, 6, 4, 0, 256, Some(0xa3), Some(0xa3))),
+    Line::NoIntent(0),
+    Line::Run,
+    Line::Mark(0, 6),
+];
+
+#[test]
+fn four_requests_are_taken_as_one(rt: HostRuntime) -> Result<(), Fail> {
+    assert_eq!(rt; played(rt.alloc(), 1, &GROUPED)?, GROUPED.len());
     Ok(())
 }

@@ -10,18 +10,14 @@ use std::alloc::Global;
 use std::test::Fail;
 
 /// Three requests of guest 1 are accepted, and one that has a counter of the past. The store keeps all
-/// that waits, one after another: nothing of guest 0.
-static KEPT: [Line; 13] = [
+/// that waits, as one: the key and two writes of one block, of which the second counts; nothing of guest 0.
+static KEPT: [Line; 9] = [
     Line::Ask(1, Asked::Key(0x11)),
     Line::Ask(1, Asked::Write(0xa5, 0)),
     Line::Ask(1, Asked::Write(0x5a, 1)),
     Line::Ask(1, Asked::Write(0x66, 1)),
     Line::NoIntent(0),
-    Line::Give(1),
-    Line::Run,
-    Line::Give(1),
-    Line::Run,
-    Line::Give(1),
+    Line::GiveThis(1, (3, 3, 0, 0, 0, None, None)),
     Line::Run,
     Line::NoIntent(1),
     Line::Mark(1, 3),

@@ -3,7 +3,7 @@
 use crate::tests::image::{fresh_store, settle};
 use crate::tests::scene::{
     KEY, Scene, accepted, get_write_counter, has_tail, job_of, program_key, result_read, scene_of,
-    write_of,
+    write_at, write_of,
 };
 use disk::CutDisk;
 use flusher::Store;
@@ -21,6 +21,8 @@ pub enum Asked {
     Key(u8),
     /// Block 0 is written, with bytes of this kind, under this write counter.
     Write(u8, u32),
+    /// The block at this address is written under this write counter.
+    WriteAt(u16, u32),
     /// So many blocks are written from this address on, the first with bytes 1, the next with bytes 2,
     /// and so on, under the write counter 0.
     Blocks(u16, u8),
@@ -115,6 +117,7 @@ pub fn frames_of(alloc: Global, asked: Asked) -> Result<Vec<[u8; 512]>, AllocErr
     match asked {
         Asked::Key(byte) => listed(alloc, &program_key(&[byte; 32])),
         Asked::Write(byte, counter) => listed(alloc, &write_of(byte, counter)),
+        Asked::WriteAt(address, counter) => listed(alloc, &write_at(address, counter)),
         Asked::Blocks(address, count) => writes_of(alloc, address, count),
         Asked::Counter(nonce) => listed(alloc, &get_write_counter(u128::from(nonce))),
         Asked::Block => listed(alloc, &[data_read()]),

@@ -128,11 +128,26 @@ pub fn get_write_counter(nonce: u128) -> [[u8; 512]; 1] {
 
 /// The frames that write one block of this byte at address 0 and ask for the result.
 pub fn write_of(byte: u8, counter: u32) -> [[u8; 512]; 2] {
-    let frame = Frame::zeros()
-        .with_block_data(&[byte; 256])
-        .with_write_counter(counter)
-        .with_block_count(1)
-        .with_req_resp(0x0003);
+    sealed(
+        Frame::zeros()
+            .with_block_data(&[byte; 256])
+            .with_write_counter(counter),
+    )
+}
+
+/// The frames that write the block at an address, and ask for the result.
+pub fn write_at(address: u16, counter: u32) -> [[u8; 512]; 2] {
+    sealed(
+        Frame::zeros()
+            .with_block_data(&[0xb0; 256])
+            .with_write_counter(counter)
+            .with_address(address),
+    )
+}
+
+/// The write of one block with the MAC of its frame, and a request for the result.
+fn sealed(frame: Frame) -> [[u8; 512]; 2] {
+    let frame = frame.with_block_count(1).with_req_resp(0x0003);
     let mac = mac_of(&KEY, &[frame.to_bytes()]);
     [frame.with_key_mac(&mac).to_bytes(), result_read()]
 }

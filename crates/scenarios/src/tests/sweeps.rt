@@ -24,15 +24,25 @@ static KEYED: [Move; 4] = [
 /// The store goes on with what a guest wrote, while the guest is answered.
 static SERVED: [Move; 4] = [Move::HandOver, Move::Advances(3), Move::Reply, Move::Reply];
 
-/// A guest's next write and a read after it.
-fn serve(acts: &mut Acts, guest: u16, counter: u8) -> Result<(), Fail> {
+/// Guest 0 writes once at a time, guest 1 twice and guest 2 three times, each under the counter that
+/// comes next.
+fn write_some(acts: &mut Acts, guest: u16, round: u32) -> Result<(), Fail> {
     let byte = 0x40 + (guest % 64) as u8;
-    acts.submit(guest, Asked::Write(byte, u32::from(counter)))?;
-    acts.submit(guest, Asked::Counter(counter))?;
+    let many = u32::from(guest % 3) + 1;
+    for place in 0..many {
+        acts.submit(guest, Asked::Write(byte, many * (round % 2) + place))?;
+    }
+    Ok(())
+}
+
+/// A guest's next writes and a read after them.
+fn serve(acts: &mut Acts, guest: u16, round: u8) -> Result<(), Fail> {
+    write_some(acts, guest, u32::from(round))?;
+    acts.submit(guest, Asked::Counter(round))?;
     acts.play(guest, &SERVED)
 }
 
-/// The writes of the guests in turn, two of each.
+/// The writes of the guests in turn, two rounds of each.
 fn serve_all(acts: &mut Acts) -> Result<(), Fail> {
     for place in 0..6_u8 {
         serve(acts, u16::from(place % 3), place / 3)?;
@@ -48,7 +58,8 @@ fn reply_to_all(acts: &mut Acts) -> Result<(), Fail> {
     Ok(())
 }
 
-/// Each guest programs its key, writes twice and reads after each write.
+/// Each guest programs its key, writes in two rounds and reads after each. What it writes in a round is
+/// taken as one, with what was still waiting.
 fn mixed(acts: &mut Acts) -> Result<(), Fail> {
     acts.play(0, &[Move::Open])?;
     for guest in 0..3 {

@@ -173,38 +173,112 @@ fn each_reply_needs_what_was_accepted_before_it(rt: HostRuntime) -> Result<(), F
     check(left.accepted == 2, "accepted")
 }
 
-/// Three writes are answered before any sync, and go to the store one after another.
-static THREE_WRITES: [Move; 9] = [
-    Move::Submit(Asked::Write(0xa0, 0)),
-    Move::Submit(Asked::Write(0xa1, 1)),
-    Move::Submit(Asked::Write(0xa2, 2)),
+const FIRST: Move = Move::Submit(Asked::Write(0xa0, 0));
+
+const SECOND: Move = Move::Submit(Asked::Write(0xa1, 1));
+
+const THIRD: Move = Move::Submit(Asked::Write(0xa2, 2));
+
+/// Three writes are answered before any sync, and go to the store in each grouping that a Take can give.
+/// A write takes 9 calls, and each further one of its group one more.
+static ONE_BY_ONE: [Move; 9] = [
+    FIRST,
     Move::HandOver,
+    SECOND,
+    Move::HandOver,
+    THIRD,
     Move::Advances(9),
     Move::HandOver,
     Move::Advances(9),
+    Move::HandOver,
+];
+
+static TWO_AND_ONE: [Move; 7] = [
+    FIRST,
+    SECOND,
+    Move::HandOver,
+    THIRD,
+    Move::Advances(10),
     Move::HandOver,
     Move::Advances(9),
 ];
 
-/// What is there after such a stop: the counter, and the first byte of the block that all three write.
-fn after_stop(alloc: Global, left: u32, filler: u8) -> Result<Option<(u32, u8)>, Fail> {
-    let left = left_of(alloc, &[&KEYED, &THREE_WRITES], Some(left), filler)?;
+static ONE_AND_TWO: [Move; 7] = [
+    FIRST,
+    Move::HandOver,
+    SECOND,
+    THIRD,
+    Move::Advances(9),
+    Move::HandOver,
+    Move::Advances(10),
+];
+
+static ALL_THREE: [Move; 5] = [FIRST, SECOND, THIRD, Move::HandOver, Move::Advances(11)];
+
+/// What is there after a stop of the store's advance after `left` others: the counter, and the first byte
+/// of the block that all three write.
+fn after_stop(
+    alloc: Global,
+    moves: &[Move],
+    left: u32,
+    filler: u8,
+) -> Result<Option<(u32, u8)>, Fail> {
+    let lists = [&KEYED, moves, &[Move::Advances(9)]];
+    let left = left_of(alloc, &lists, Some(left), filler)?;
     check(left.refusal.is_none(), "a refusal")?;
+    check(left.openings == 2, "no stop")?;
     Ok(left.found)
 }
 
-#[test]
-fn what_is_settled_of_three_writes_stays(rt: HostRuntime) -> Result<(), Fail> {
-    // The key takes 8 advances, the first write 9 with the one that finds nothing, and the second is
-    // settled by its fourth.
-    for left in 21..35 {
+/// The first two writes, or all three, stay over each stop from `from` advances to `to`.
+fn stay(alloc: Global, moves: &[Move], from: u32, to: u32, least: u32) -> Result<(), Fail> {
+    for left in from..to {
         for filler in 0..4 {
-            let found = after_stop(rt.alloc(), left, filler)?;
-            let stays = found == Some((2, 0xa1)) || found == Some((3, 0xa2));
-            check(stays, "the first two, or all three")?;
+            let found = after_stop(alloc, moves, left, filler)?;
+            let two = least == 2 && found == Some((2, 0xa1));
+            check(
+                two || found == Some((3, 0xa2)),
+                "the first two, or all three",
+            )?;
         }
     }
     Ok(())
+}
+
+/// The key takes 8 advances, and a group is settled by its fourth.
+#[test]
+fn what_is_settled_of_three_writes_stays(rt: HostRuntime) -> Result<(), Fail> {
+    stay(rt.alloc(), &ONE_BY_ONE, 21, 35, 2)?;
+    stay(rt.alloc(), &TWO_AND_ONE, 12, 27, 2)?;
+    stay(rt.alloc(), &ONE_AND_TWO, 21, 27, 3)?;
+    stay(rt.alloc(), &ALL_THREE, 12, 19, 3)
+}
+
+/// Four writes of a block each go to the store as one.
+static FOUR_WRITES: [Move; 6] = [
+    Move::Submit(Asked::WriteAt(0, 0)),
+    Move::Submit(Asked::WriteAt(1, 1)),
+    Move::Submit(Asked::WriteAt(2, 2)),
+    Move::Submit(Asked::WriteAt(3, 3)),
+    Move::HandOver,
+    Move::Advances(4),
+];
+
+/// The counter after a stop within the sync of their gate, which is the fourth of their calls.
+fn counter_of_four(alloc: Global, filler: u8) -> Result<Option<u32>, Fail> {
+    let left = left_of(alloc, &[&KEYED, &FOUR_WRITES], Some(11), filler)?;
+    check(left.refusal.is_none(), "a refusal")?;
+    check(
+        left.accepted == left.found.map_or(9, |it| it.0 as usize + 1),
+        "accepted",
+    )?;
+    Ok(left.found.map(|it| it.0))
+}
+
+#[test]
+fn four_writes_are_there_or_none(rt: HostRuntime) -> Result<(), Fail> {
+    check(counter_of_four(rt.alloc(), 2)? == Some(0), "none")?;
+    check(counter_of_four(rt.alloc(), 4)? == Some(4), "all four")
 }
 
 /// Whether the first eight blocks are of bytes 1, 2, .. 8, and the counter is 1.

@@ -195,3 +195,46 @@ fn decoded_encodes_to_the_same(rt: HostRuntime) -> Result<(), Fail> {
     assert!(rt; decodes_to_itself(rt.alloc(), &payload)?);
     Ok(())
 }
+
+/// Sixteen blocks.
+fn blocks(alloc: Global) -> Result<Vec<u8>, Fail>
+    ensures { IfOk result (λ bytes. length bytes.items ≡ 4096) }
+{
+    Ok(vec![in alloc; 0xa5; 4096]?)
+}
+
+/// Four writes of sixteen blocks.
+fn largest(alloc: Global) -> Result<Intent, Fail> {
+    let mut intent = Intent::write(3, KEY, 1, 0, blocks(alloc)?);
+    intent.push(Entry::write(16, blocks(alloc)?));
+    intent.push(Entry::write(32, blocks(alloc)?));
+    intent.push(Entry::write(496, blocks(alloc)?));
+    Ok(intent)
+}
+
+#[test]
+fn the_largest_payload_is_full(rt: HostRuntime) -> Result<(), Fail> {
+    let intent = largest(rt.alloc())?;
+    assert!(rt; intent.payload_len() == 16_648);
+    let payload = encoded(rt.alloc(), &intent)?;
+    assert!(rt; payload.last() == Some(&0xa5));
+    assert!(rt; decodes_to_itself(rt.alloc(), &payload)?);
+    Ok(())
+}
+
+/// The writes that leave the last two counters.
+fn last_two(alloc: Global) -> Result<Intent, Fail> {
+    let mut intent = Intent::write(3, KEY, 0xffff_fffe, 0, block(alloc)?);
+    intent.push(Entry::write(511, block(alloc)?));
+    Ok(intent)
+}
+
+#[test]
+fn the_last_two_counters(rt: HostRuntime) -> Result<(), Fail> {
+    let intent = last_two(rt.alloc())?;
+    let wanted = [(0xffff_fffe, 0xffff_ffff), (0xffff_ffff, 0x1_0000_0000)];
+    assert!(rt; counters(&intent) == wanted);
+    let payload = encoded(rt.alloc(), &intent)?;
+    assert!(rt; decodes_to_itself(rt.alloc(), &payload)?);
+    Ok(())
+}

@@ -1,12 +1,12 @@
 //! The calls that an opening and a store make, by a disk that writes them down.
-ghost use Rattle.std.specs.Prelude.{◌≡◌};
+ghost use Rattle.std.specs.Prelude.{◌≡◌, IfOk, length};
 
 use super::many::formatted;
 use crate::tests::boards::board;
 use arrayvec::ArrayVec;
 use disk::{Disk, DiskFault, MemDisk};
 use flusher::{Progress, Store};
-use intent_slots::Intent;
+use intent_slots::{Entry, Intent};
 use rpmb_frame::BoardConfig;
 use std::alloc::Global;
 use std::test::Fail;
@@ -200,5 +200,63 @@ fn an_open_gate_is_read_once(rt: HostRuntime) -> Result<(), Fail> {
     assert!(rt; goes_on(&mut store, 0, 4));
     let store = opened(alloc, store.into_disk().inner, &board(alloc, &[1])?)?;
     assert!(rt; store.into_disk().calls.as_slice() == OPEN_CALLS.as_slice());
+    Ok(())
+}
+
+/// A block of this byte.
+fn block(alloc: Global, byte: u8) -> Result<Vec<u8>, Fail>
+    ensures { IfOk result (λ bytes. length bytes.items ≡ 256) }
+{
+    Ok(vec![in alloc; byte; 256]?)
+}
+
+/// Writes of the first four blocks, as one intent.
+fn four_writes(alloc: Global) -> Result<Intent, Fail> {
+    let mut intent = Intent::write(0, [0x11; 32], 1, 0, block(alloc, 0xb0)?);
+    intent.push(Entry::write(1, block(alloc, 0xb1)?));
+    intent.push(Entry::write(2, block(alloc, 0xb2)?));
+    intent.push(Entry::write(3, block(alloc, 0xb3)?));
+    Ok(intent)
+}
+
+/// Their calls: one payload of all, one gate, the blocks of each in turn, and the home record once.
+static GROUP_CALLS: [Logged; 12] = [
+    Logged::Write(2048, 12_808, 4),
+    Logged::Sync,
+    Logged::Write(1536, 1, 0xA5),
+    Logged::Sync,
+    Logged::Write(36_352, 256, 0xb0),
+    Logged::Write(36_608, 256, 0xb1),
+    Logged::Write(36_864, 256, 0xb2),
+    Logged::Write(37_120, 256, 0xb3),
+    Logged::Write(1024, 64, 1),
+    Logged::Sync,
+    Logged::Write(1536, 1, 0),
+    Logged::Sync,
+];
+
+/// Whether so many calls settle all four at once, by the sync of the gate.
+fn takes_twelve_calls(store: &mut Store<LogDisk<MemDisk>>, intent: Intent) -> bool {
+    if !store.takes(&intent) {
+        return false;
+    }
+    store.give(intent);
+    marks_one(store, &[1, 1, 1, 5, 5, 5, 5, 5, 5, 5, 5, 5]) && is_idle(store)
+}
+
+/// The calls of a key and of four writes behind it.
+fn calls_of_five(alloc: Global) -> Result<ArrayVec<Logged, 64>, Fail> {
+    let mut store = fresh(alloc, &[1])?;
+    if !takes_eight_calls(&mut store) || !takes_twelve_calls(&mut store, four_writes(alloc)?) {
+        return Err(Fail::from("other calls"));
+    }
+    Ok(store.into_disk().calls)
+}
+
+#[test]
+fn four_writes_take_twelve_calls(rt: HostRuntime) -> Result<(), Fail> {
+    let calls = calls_of_five(rt.alloc())?;
+    assert!(rt; calls.len() == 25);
+    assert!(rt; calls.as_slice().get(13..) == Some(GROUP_CALLS.as_slice()));
     Ok(())
 }
