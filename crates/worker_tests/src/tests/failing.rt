@@ -199,8 +199,8 @@ fn no_call_of_two_guests_that_write_fails(rt: HostRuntime) -> Result<(), Fail> {
     check(!writes_break_at(&rt, rt.alloc(), 0)?, "a broken store")
 }
 
-// Eighteen requests are stored: where one round of calls serves both guests, nine rounds, with more than four
-// calls each.
+// Eighteen requests are stored, at most four as one: in three rounds where one serves both guests, with 16 writes
+// of blocks, four writes more for each of six groups, and four syncs a round, which are 52 calls at least.
 #[test]
 fn calls_21_to_30_fail_in_turn(rt: HostRuntime) -> Result<(), Fail> {
     writes_fail_from(&rt, rt.alloc(), 21)
