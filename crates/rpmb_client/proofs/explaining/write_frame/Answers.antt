@@ -1,0 +1,8 @@
+use Rattle.std.proofs.Common.{rules}
+use Rattle.rpmb_client.proofs.Printing.{line_of_parts}
+use Rattle.rpmb_client.proofs.explaining.write_frame.Goals as goal
+
+pub returns : goal.returns
+returns g c =
+    line_of_parts c.write_checks.result _ (g.W.Write.contents c.write_place.new.out) (g.W.Write.contents c.write_front.new.out) (g.W.Write.contents c.write_fields.new.out) _ _ _ _ _ _
+    (search rules) (search rules) (search rules) c.write_checks.ensures

@@ -1,0 +1,100 @@
+-- What is said of an answer.
+use Rattle.std.specs.Prelude.{ℕ, zero, suc, ◌+◌, ◌==◌, Bool, true, false, take, if◌then◌else◌, Option, Some, None, List, [], ◌∷◌, ◌++◌, codes, get_or, length, replicate, slice_range}
+use Rattle.std.specs.Fmt.{decimal}
+use Rattle.std.specs.Str.{bytes_eq}
+use Rattle.hex.specs.Hex.{encode_lower}
+use Rattle.rpmb_frame.specs.Codes.{resp_program_key, resp_get_counter, resp_data_write, resp_data_read, res_ok, res_general_failure, res_auth_failure, res_count_failure, res_addr_failure, res_write_failure, res_no_auth_key, res_write_counter_expired}
+use Rattle.rpmb_frame.specs.Table.{first_row}
+use Rattle.rpmb_frame.specs.Frame.{key_mac_of, nonce_of, write_counter_of, address_of, block_count_of, result_of, req_resp_of}
+use Rattle.rpmb_client.specs.Answer.{is_mac_right, is_nonce_right, is_whole}
+use Rattle.rpmb_frame.specs.Request.{frames_of}
+
+-- types by the standard's names (VIRTIO 1.2, 5.12.6)
+abbrev pub kind_text : ℕ → List ℕ
+kind_text kind = first_row (
+    (kind == resp_program_key, codes "response PROGRAM_KEY")
+    ∷ (kind == resp_get_counter, codes "response GET_WRITE_COUNTER")
+    ∷ (kind == resp_data_write, codes "response DATA_WRITE")
+    ∷ (kind == resp_data_read, codes "response DATA_READ")
+    ∷ (kind == 0, codes "response without a type")
+    ∷ []) (codes "unknown type")
+
+-- and results
+abbrev pub result_text : ℕ → List ℕ
+result_text code = first_row (
+    (code == res_ok, codes "OK")
+    ∷ (code == res_general_failure, codes "GENERAL_FAILURE")
+    ∷ (code == res_auth_failure, codes "AUTH_FAILURE")
+    ∷ (code == res_count_failure, codes "COUNT_FAILURE")
+    ∷ (code == res_addr_failure, codes "ADDR_FAILURE")
+    ∷ (code == res_write_failure, codes "WRITE_FAILURE")
+    ∷ (code == res_no_auth_key, codes "NO_AUTH_KEY")
+    ∷ (code == res_write_counter_expired, codes "WRITE_COUNTER_EXPIRED")
+    ∷ []) (codes "unknown result")
+
+-- the two bytes from an offset on, in four digits
+abbrev pub two_bytes : ℕ → List ℕ → List ℕ
+two_bytes at frame = encode_lower (slice_range frame at (at + 2))
+
+abbrev pub is_zeros : List ℕ → ℕ → Bool
+is_zeros bytes n = bytes_eq bytes (replicate n 0)
+
+-- only two responses repeat a nonce
+abbrev pub nonce_text : Option (List ℕ) → List ℕ → List ℕ
+nonce_text None frame = encode_lower (nonce_of frame)
+nonce_text (Some asked) frame = first_row (
+    (is_nonce_right asked frame, codes "right")
+    ∷ (is_zeros (nonce_of frame) 16, codes "zeros")
+    ∷ []) (codes "wrong")
+
+-- the last frame has the MAC of all of them; the others have zeros there
+abbrev pub mac_text : Bool → Option (List ℕ) → List (List ℕ) → List ℕ → List ℕ
+mac_text false key frames frame = if is_zeros (key_mac_of frame) 32 then codes "in the last frame" else codes "out of place"
+mac_text true None frames frame = codes "not looked at"
+mac_text true (Some key) frames frame = if is_mac_right key frames then codes "right" else codes "wrong"
+
+-- what no MAC covers
+abbrev pub stuff_text : List ℕ → List ℕ
+stuff_text frame = if is_zeros (slice_range frame 0 196) 196 then [] else codes ", stuff not zeros"
+
+-- a frame at a place of n, counted from 1, of a reply to a guest
+unfoldable pub place_text : ℕ → ℕ → ℕ → List ℕ
+place_text guest place n =
+    codes "guest " ++ decimal guest ++ codes ", frame " ++ decimal place ++ codes " of " ++ decimal n ++ codes ": "
+
+unfoldable pub front_text : List ℕ → List ℕ
+front_text frame =
+    kind_text (req_resp_of frame) ++ codes " 0x" ++ two_bytes 510 frame
+    ++ codes ", result " ++ result_text (result_of frame) ++ codes " 0x" ++ two_bytes 508 frame
+
+unfoldable pub fields_text : List ℕ → List ℕ
+fields_text frame =
+    codes ", counter " ++ decimal (write_counter_of frame) ++ codes ", address " ++ decimal (address_of frame)
+    ++ codes ", blocks " ++ decimal (block_count_of frame)
+
+unfoldable pub checks_text : ℕ → List (List ℕ) → Option (List ℕ) → Option (List ℕ) → List ℕ
+checks_text i frames key asked =
+    let frame = get_or frames i [] in
+    codes ", nonce " ++ nonce_text asked frame ++ codes ", MAC " ++ mac_text (i + 1 == length frames) key frames frame
+    ++ stuff_text frame ++ 10 ∷ []
+
+-- the line of frame i, counted from 0, under a key and a nonce where they are given
+unfoldable pub frame_line : ℕ → ℕ → List (List ℕ) → Option (List ℕ) → Option (List ℕ) → List ℕ
+frame_line guest i frames key asked =
+    let frame = get_or frames i [] in
+    place_text guest (i + 1) (length frames) ++ (front_text frame ++ (fields_text frame ++ checks_text i frames key asked))
+
+-- the lines of the first i frames
+unfoldable pub frame_lines : ℕ → ℕ → List (List ℕ) → Option (List ℕ) → Option (List ℕ) → List ℕ
+frame_lines guest zero frames key asked = []
+frame_lines guest (suc i) frames key asked =
+    frame_lines guest i frames key asked ++ frame_line guest i frames key asked
+
+unfoldable pub no_frames_line : ℕ → ℕ → List ℕ
+no_frames_line guest n = codes "guest " ++ decimal guest ++ codes ", " ++ decimal n ++ codes " bytes are no frames" ++ 10 ∷ []
+
+-- what is said of a reply to a guest
+unfoldable pub reply_lines : ℕ → List ℕ → Option (List ℕ) → Option (List ℕ) → List ℕ
+reply_lines guest reply key asked =
+    let frames = frames_of reply in
+    if is_whole reply then frame_lines guest (length frames) frames key asked else no_frames_line guest (length reply)

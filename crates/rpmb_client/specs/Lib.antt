@@ -1,0 +1,7 @@
+pub mod Made
+pub mod Chain
+pub mod Answer
+pub mod Explained
+pub mod Seen
+pub mod Lines
+pub mod Laws

@@ -1,0 +1,249 @@
+//! What is said of a reply, a line for each of its frames.
+ghost use Rattle.std.specs.Prelude.{◌≡◌, ◌<◌, ◌≤◌, ◌+◌, ◌++◌, ◌∷◌, ◌==◌, IfOk, OnOk, [], get_or, length, string_bytes};
+ghost use Rattle.std.specs.Io.KnownBytes.{Appends};
+ghost use Rattle.rpmb_client.specs.Explained.{checks_text, fields_text, front_text, frame_line, frame_lines, kind_text, mac_text, no_frames_line, nonce_text, place_text, reply_lines, result_text, stuff_text, two_bytes};
+
+use crate::answer::{Used, has_nonce, has_right_mac, is_whole};
+use crate::fault::ClientFault;
+use rpmb_frame::Frame;
+use std::alloc::{AllocError, Global};
+use std::io::Write;
+
+fn kind_text(kind: u16) -> &'static str
+    ensures { result.now ≡ kind_text kind }
+{
+    match kind {
+        0x0100 => "response PROGRAM_KEY",
+        0x0200 => "response GET_WRITE_COUNTER",
+        0x0300 => "response DATA_WRITE",
+        0x0400 => "response DATA_READ",
+        0x0000 => "response without a type",
+        _ => "unknown type",
+    }
+}
+
+/// A result in the standard's words.
+pub fn result_text(code: u16) -> &'static str
+    ensures { result.now ≡ result_text code }
+{
+    match code {
+        0x0000 => "OK",
+        0x0001 => "GENERAL_FAILURE",
+        0x0002 => "AUTH_FAILURE",
+        0x0003 => "COUNT_FAILURE",
+        0x0004 => "ADDR_FAILURE",
+        0x0005 => "WRITE_FAILURE",
+        0x0007 => "NO_AUTH_KEY",
+        0x0080 => "WRITE_COUNTER_EXPIRED",
+        _ => "unknown result",
+    }
+}
+
+/// The two bytes of a frame from an offset on, in hex digits.
+fn two_bytes(alloc: Global, bytes: &[u8; 512], at: usize) -> Result<String, AllocError>
+    requires { at ≤ 510 }
+    ensures { IfOk result (λ text. string_bytes text ≡ two_bytes at bytes.now) }
+{
+    hex::encode(alloc, &bytes[at..at + 2])
+}
+
+fn nonce_text(
+    alloc: Global,
+    nonce: Option<[u8; 16]>,
+    bytes: &[u8; 512],
+) -> Result<String, AllocError>
+    ensures { IfOk result (λ text. string_bytes text ≡ nonce_text nonce bytes.now) }
+{
+    let Some(nonce) = nonce else {
+        return hex::encode(alloc, &Frame::from_bytes(bytes).nonce());
+    };
+    if has_nonce(&nonce, bytes) {
+        return String::from_str(alloc, "right");
+    }
+    if Frame::from_bytes(bytes).nonce() == [0; 16] {
+        return String::from_str(alloc, "zeros");
+    }
+    String::from_str(alloc, "wrong")
+}
+
+fn mac_text(
+    is_last: bool,
+    key: Option<[u8; 32]>,
+    frames: &[[u8; 512]],
+    bytes: &[u8; 512],
+) -> &'static str
+    requires { 0 < length frames.now }
+    ensures { result.now ≡ mac_text is_last key frames.now bytes.now }
+{
+    if !is_last {
+        if Frame::from_bytes(bytes).key_mac() == [0; 32] {
+            return "in the last frame";
+        }
+        return "out of place";
+    }
+    match key {
+        None => "not looked at",
+        Some(key) if has_right_mac(&key, frames) => "right",
+        Some(_) => "wrong",
+    }
+}
+
+fn stuff_text(bytes: &[u8; 512]) -> &'static str
+    ensures { result.now ≡ stuff_text bytes.now }
+{
+    let mut stuff = [0; 196];
+    stuff.copy_from_slice(&bytes[0..196]);
+    if stuff == [0; 196] {
+        ""
+    } else {
+        ", stuff not zeros"
+    }
+}
+
+/// Writes whose frame it is, and at which place of how many.
+#[tactic(auto, unfolding(crate::specs::Explained::place_text))]
+fn write_place<W: Write>(guest: u64, place: usize, n: usize, out: &mut W) -> Result<(), ClientFault>
+    ensures { OnOk result (Appends (W.contents out.old) (W.contents out.new) (place_text guest place n)) }
+{
+    match write!(out, "guest {guest}, frame {place} of {n}: ") {
+        Ok(()) => Ok(()),
+        Err(_) => Err(ClientFault::FileFault),
+    }
+}
+
+/// Writes the type and the result of a frame.
+#[tactic(auto, unfolding(crate::specs::Explained::front_text))]
+fn write_front<W: Write>(alloc: Global, bytes: &[u8; 512], out: &mut W) -> Result<(), ClientFault>
+    ensures { OnOk result (Appends (W.contents out.old) (W.contents out.new) (front_text bytes.now)) }
+{
+    let frame = Frame::from_bytes(bytes);
+    let kind = kind_text(frame.req_resp());
+    let code = result_text(frame.result());
+    let Ok(digits) = two_bytes(alloc, bytes, 510) else {
+        return Err(ClientFault::NoMemory);
+    };
+    let Ok(code_digits) = two_bytes(alloc, bytes, 508) else {
+        return Err(ClientFault::NoMemory);
+    };
+    match write!(out, "{kind} 0x{digits}, result {code} 0x{code_digits}") {
+        Ok(()) => Ok(()),
+        Err(_) => Err(ClientFault::FileFault),
+    }
+}
+
+/// Writes the numbers of a frame.
+#[tactic(auto, unfolding(crate::specs::Explained::fields_text))]
+fn write_fields<W: Write>(bytes: &[u8; 512], out: &mut W) -> Result<(), ClientFault>
+    ensures { OnOk result (Appends (W.contents out.old) (W.contents out.new) (fields_text bytes.now)) }
+{
+    let frame = Frame::from_bytes(bytes);
+    let (counter, address) = (frame.write_counter(), frame.address());
+    let blocks = frame.block_count();
+    match write!(
+        out,
+        ", counter {counter}, address {address}, blocks {blocks}"
+    ) {
+        Ok(()) => Ok(()),
+        Err(_) => Err(ClientFault::FileFault),
+    }
+}
+
+/// Writes what is to be judged of frame i, and ends the line.
+#[tactic(auto, unfolding(crate::specs::Explained::checks_text))]
+fn write_checks<W: Write>(
+    alloc: Global,
+    i: usize,
+    frames: &[[u8; 512]],
+    key: Option<[u8; 32]>,
+    nonce: Option<[u8; 16]>,
+    out: &mut W,
+) -> Result<(), ClientFault>
+    requires { i < length frames.now }
+    ensures { OnOk result (Appends (W.contents out.old) (W.contents out.new) (checks_text i frames.now key nonce)) }
+{
+    let bytes = &frames[i];
+    let Ok(nonce) = nonce_text(alloc, nonce, bytes) else {
+        return Err(ClientFault::NoMemory);
+    };
+    let mac = mac_text(i + 1 == frames.len(), key, frames, bytes);
+    let stuff = stuff_text(bytes);
+    match writeln!(out, ", nonce {nonce}, MAC {mac}{stuff}") {
+        Ok(()) => Ok(()),
+        Err(_) => Err(ClientFault::FileFault),
+    }
+}
+
+/// Writes the line of frame i, counted from 0.
+fn write_frame<W: Write>(
+    alloc: Global,
+    guest: u64,
+    i: usize,
+    frames: &[[u8; 512]],
+    key: Option<[u8; 32]>,
+    nonce: Option<[u8; 16]>,
+    out: &mut W,
+) -> Result<(), ClientFault>
+    requires { i < length frames.now }
+    ensures { OnOk result (Appends (W.contents out.old) (W.contents out.new) (frame_line guest i frames.now key nonce)) }
+{
+    match write_place(guest, i + 1, frames.len(), out) {
+        Ok(()) => {}
+        Err(fault) => return Err(fault),
+    }
+    match write_front(alloc, &frames[i], out) {
+        Ok(()) => {}
+        Err(fault) => return Err(fault),
+    }
+    match write_fields(&frames[i], out) {
+        Ok(()) => {}
+        Err(fault) => return Err(fault),
+    }
+    write_checks(alloc, i, frames, key, nonce, out)
+}
+
+/// Writes the lines of all frames.
+fn write_frames<W: Write>(
+    alloc: Global,
+    guest: u64,
+    frames: &[[u8; 512]],
+    key: Option<[u8; 32]>,
+    nonce: Option<[u8; 16]>,
+    out: &mut W,
+) -> Result<(), ClientFault>
+    ensures { OnOk result (Appends (W.contents out.old) (W.contents out.new) (frame_lines guest (length frames.now) frames.now key nonce)) }
+{
+    for i in 0..frames.len() {
+        write_frame(alloc, guest, i, frames, key, nonce, out)?;
+    }
+    Ok(())
+}
+
+#[tactic(auto, unfolding(crate::specs::Explained::no_frames_line))]
+fn write_no_frames<W: Write>(guest: u64, count: usize, out: &mut W) -> Result<(), ClientFault>
+    ensures { OnOk result (Appends (W.contents out.old) (W.contents out.new) (no_frames_line guest count)) }
+{
+    match writeln!(out, "guest {guest}, {count} bytes are no frames") {
+        Ok(()) => Ok(()),
+        Err(_) => Err(ClientFault::FileFault),
+    }
+}
+
+/// Writes what a reply says: a line for each frame, with every field by its name, the result in words, and
+/// whether the MAC under the key and the nonce are right, where a key or a nonce is given.
+#[tactic(auto, unfolding(crate::specs::Explained::reply_lines))]
+pub fn explain<W: Write>(
+    alloc: Global,
+    used: &Used,
+    key: Option<[u8; 32]>,
+    nonce: Option<[u8; 16]>,
+    out: &mut W,
+) -> Result<(), ClientFault>
+    ensures { OnOk result (Appends (W.contents out.old) (W.contents out.new) (reply_lines used.now.guest used.now.reply.items key nonce)) }
+{
+    let reply = used.reply.as_slice();
+    if !is_whole(reply) {
+        return write_no_frames(used.guest, reply.len(), out);
+    }
+    let (frames, _) = reply.as_chunks::<512>();
+    write_frames(alloc, used.guest, frames, key, nonce, out)
+}

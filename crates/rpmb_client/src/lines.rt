@@ -1,0 +1,164 @@
+//! The lines of requests.
+ghost use Rattle.std.specs.Prelude.{◌≡◌, ◌<◌, ◌≤◌, ◌+◌, ◌-◌, ◌*◌, ◌/◌, ◌^◌, ◌∷◌, OnOk, [], length};
+ghost use Rattle.std.specs.Io.KnownBytes.{Appends};
+ghost use Rattle.rpmb_client.specs.Lines.{counter_line, key_line, read_line, request_line, result_line, write_line, write_lines, writes_of};
+
+use crate::chain::write_chain;
+use crate::fault::ClientFault;
+use crate::making::{ask_for_result, join, program_key, read_blocks, read_counter, write_blocks};
+use std::alloc::Global;
+use std::io::Write;
+
+/// Writes the line of a request of these frames, with room for so many frames of the reply.
+#[tactic(auto, unfolding(crate::specs::Lines::request_line))]
+fn write_request<W: Write>(
+    alloc: Global,
+    guest: u16,
+    frames: &[[u8; 512]],
+    replied: u16,
+    out: &mut W,
+) -> Result<(), ClientFault>
+    ensures { OnOk result (Appends (W.contents out.old) (W.contents out.new) (request_line guest frames.now replied)) }
+{
+    match join(alloc, frames) {
+        Ok(bytes) => write_chain(
+            alloc,
+            guest,
+            bytes.as_slice(),
+            512 * u32::from(replied),
+            out,
+        ),
+        Err(_) => Err(ClientFault::NoMemory),
+    }
+}
+
+/// Writes the line that programs the key and asks for the result of that.
+pub fn write_program_key<W: Write>(
+    alloc: Global,
+    guest: u16,
+    key: &[u8; 32],
+    out: &mut W,
+) -> Result<(), ClientFault>
+    ensures { OnOk result (Appends (W.contents out.old) (W.contents out.new) (key_line guest key.now)) }
+{
+    write_request(alloc, guest, &program_key(key), 1, out)
+}
+
+/// Writes the line that asks for the write counter.
+pub fn write_read_counter<W: Write>(
+    alloc: Global,
+    guest: u16,
+    nonce: &[u8; 16],
+    out: &mut W,
+) -> Result<(), ClientFault>
+    ensures { OnOk result (Appends (W.contents out.old) (W.contents out.new) (counter_line guest nonce.now)) }
+{
+    write_request(alloc, guest, &[read_counter(nonce)], 1, out)
+}
+
+/// Writes the line that reads `count` blocks from an address on.
+pub fn write_read<W: Write>(
+    alloc: Global,
+    guest: u16,
+    address: u16,
+    count: u16,
+    nonce: &[u8; 16],
+    out: &mut W,
+) -> Result<(), ClientFault>
+    ensures { OnOk result (Appends (W.contents out.old) (W.contents out.new) (read_line guest address count nonce.now)) }
+{
+    write_request(
+        alloc,
+        guest,
+        &[read_blocks(address, count, nonce)],
+        count,
+        out,
+    )
+}
+
+/// Writes the line that asks for the result of the last PROGRAM_KEY or DATA_WRITE.
+pub fn write_result<W: Write>(alloc: Global, guest: u16, out: &mut W) -> Result<(), ClientFault>
+    ensures { OnOk result (Appends (W.contents out.old) (W.contents out.new) (result_line guest)) }
+{
+    write_request(alloc, guest, &[ask_for_result()], 1, out)
+}
+
+/// Who writes, and where it begins.
+#[derive(Clone, Copy)]
+pub struct Writer {
+    /// The number of the guest.
+    pub guest: u16,
+    /// The key.
+    pub key: [u8; 32],
+    /// The write counter of the first write.
+    pub counter: u32,
+    /// The address of the first block.
+    pub address: u16,
+    /// Whether each write asks for its result.
+    pub asks: bool,
+}
+
+/// Writes the line of one write.
+#[tactic(auto, unfolding(crate::specs::Lines::write_line))]
+fn write_one<W: Write>(
+    alloc: Global,
+    writer: Writer,
+    blocks: &[[u8; 256]],
+    out: &mut W,
+) -> Result<(), ClientFault>
+    requires some { 1 ≤ length blocks.now }
+    requires few { length blocks.now ≤ 16 }
+    ensures { OnOk result (Appends (W.contents out.old) (W.contents out.new) (write_line writer.guest writer.key writer.counter writer.address blocks.now writer.asks)) }
+{
+    let frames = write_blocks(
+        alloc,
+        &writer.key,
+        writer.counter,
+        writer.address,
+        blocks,
+        writer.asks,
+    );
+    match frames {
+        Ok(frames) => write_request(
+            alloc,
+            writer.guest,
+            frames.as_slice(),
+            u16::from(writer.asks),
+            out,
+        ),
+        Err(_) => Err(ClientFault::NoMemory),
+    }
+}
+
+/// Writes the lines that write blocks from an address on, each line at most `most` of them, under write
+/// counters that ascend by one a line.
+pub fn write_all<W: Write>(
+    alloc: Global,
+    writer: Writer,
+    most: u16,
+    blocks: &[[u8; 256]],
+    out: &mut W,
+) -> Result<(), ClientFault>
+    requires least { 1 ≤ most }
+    requires most { most ≤ 16 }
+    requires inside { writer.address + length blocks.now ≤ 65536 }
+    requires counted { writer.counter + writes_of most (length blocks.now) ≤ 2 ^ 32 }
+    ensures { OnOk result (Appends (W.contents out.old) (W.contents out.new) (write_lines (writes_of most (length blocks.now)) writer.guest writer.key writer.counter writer.address most blocks.now writer.asks)) }
+{
+    let most = usize::from(most);
+    let count = (blocks.len() + most - 1) / most;
+    for k in 0..count {
+        let from = most * k;
+        let to = (from + most).min(blocks.len());
+        let part = Writer {
+            counter: writer.counter + k as u32,
+            address: writer.address + from as u16,
+            ..writer
+        };
+        match write_one(alloc, part, &blocks[from..to], out) {
+            Ok(()) => {}
+            Err(fault) => return Err(fault),
+        }
+    }
+    Ok(())
+}

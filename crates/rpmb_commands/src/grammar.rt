@@ -1,0 +1,125 @@
+//! The commands as `clap` reads them, with the texts of their help.
+use clap::{Arg, ArgAction, Command};
+use std::alloc::{AllocError, Global};
+
+fn option<'a>(alloc: Global, id: &'a str, value: &'a str, help: &'a str) -> Arg<'a> {
+    Arg::new(alloc, id).long(id).value_name(value).help(help)
+}
+
+fn guest<'a>(alloc: Global) -> Arg<'a> {
+    option(alloc, "guest", "G", "The number of the guest").required(true)
+}
+
+fn key<'a>(alloc: Global) -> Arg<'a> {
+    option(alloc, "key", "KEY", "32 bytes in hex digits, or @FILE")
+}
+
+fn nonce<'a>(alloc: Global) -> Arg<'a> {
+    option(alloc, "nonce", "HEX", "The nonce: 16 bytes in hex digits")
+}
+
+fn address<'a>(alloc: Global) -> Arg<'a> {
+    option(alloc, "address", "A", "The first block, from 0 on").required(true)
+}
+
+fn program_key<'a>(alloc: Global) -> Result<Command<'a>, AllocError> {
+    Command::new(alloc, "program-key")
+        .about("Makes the line that programs the key and asks for the result")
+        .arg(guest(alloc))?
+        .arg(key(alloc).required(true))
+}
+
+fn read_counter<'a>(alloc: Global) -> Result<Command<'a>, AllocError> {
+    Command::new(alloc, "read-counter")
+        .about("Makes the line that asks for the write counter")
+        .arg(guest(alloc))?
+        .arg(nonce(alloc).required(true))
+}
+
+fn write_front<'a>(alloc: Global) -> Result<Command<'a>, AllocError> {
+    let counter = option(
+        alloc,
+        "counter",
+        "N",
+        "The write counter of the first write",
+    );
+    Command::new(alloc, "write")
+        .about("Makes the lines that write blocks")
+        .arg(guest(alloc))?
+        .arg(key(alloc).required(true))?
+        .arg(counter.required(true))?
+        .arg(address(alloc))
+}
+
+fn write<'a>(alloc: Global) -> Result<Command<'a>, AllocError> {
+    let data = option(alloc, "data", "HEX", "The blocks, 256 bytes each");
+    let file = option(
+        alloc,
+        "file",
+        "FILE",
+        "A file of the blocks, 256 bytes each",
+    );
+    let most = option(
+        alloc,
+        "max-blocks",
+        "N",
+        "The most blocks of one write, 1 to 16",
+    );
+    let no_result = Arg::new(alloc, "no-result")
+        .long("no-result")
+        .action(ArgAction::SetTrue)
+        .help("Asks for no result, and so for no reply");
+    write_front(alloc)?
+        .arg(data)?
+        .arg(file)?
+        .arg(most)?
+        .arg(no_result)
+}
+
+fn read<'a>(alloc: Global) -> Result<Command<'a>, AllocError> {
+    let count = option(alloc, "count", "N", "How many blocks, 1 to 16");
+    Command::new(alloc, "read")
+        .about("Makes the line that reads blocks")
+        .arg(guest(alloc))?
+        .arg(address(alloc))?
+        .arg(count.required(true))?
+        .arg(nonce(alloc).required(true))
+}
+
+fn result<'a>(alloc: Global) -> Result<Command<'a>, AllocError> {
+    Command::new(alloc, "result")
+        .about("Makes the line that asks for the result of the last key or write")
+        .arg(guest(alloc))
+}
+
+fn explain<'a>(alloc: Global) -> Result<Command<'a>, AllocError> {
+    Command::new(alloc, "explain")
+        .about("Reads the lines of `rpmbd run`, and says what each reply is")
+        .arg(key(alloc))?
+        .arg(nonce(alloc))
+}
+
+fn read_data<'a>(alloc: Global) -> Result<Command<'a>, AllocError> {
+    Command::new(alloc, "read-data")
+        .about("Reads the line of a read, and writes its blocks where its MAC and nonce are right")
+        .arg(key(alloc).required(true))?
+        .arg(nonce(alloc).required(true))
+}
+
+fn bare<'a>(alloc: Global) -> Command<'a> {
+    Command::new(alloc, "rpmb")
+        .about("Makes the requests of scripts for rpmbd, and says what its answers are")
+        .subcommand_required(true)
+}
+
+/// The program with all its commands.
+pub fn program<'a>(alloc: Global) -> Result<Command<'a>, AllocError> {
+    bare(alloc)
+        .subcommand(program_key(alloc)?)?
+        .subcommand(read_counter(alloc)?)?
+        .subcommand(write(alloc)?)?
+        .subcommand(read(alloc)?)?
+        .subcommand(result(alloc)?)?
+        .subcommand(explain(alloc)?)?
+        .subcommand(read_data(alloc)?)
+}

@@ -1,0 +1,14 @@
+//! What `rpmb` does: its words, and the performing of them over any input and two writers.
+#![tactic(auto)]
+
+mod grammar;
+mod making;
+mod performing;
+mod reading;
+mod refusal;
+mod telling;
+mod words;
+
+pub use performing::{perform, report};
+pub use refusal::Refusal;
+pub use words::{Words, WordsError, read_words};

@@ -1,0 +1,87 @@
+//! The commands that read the lines of `rpmbd run`.
+use crate::reading::{key, nonce};
+use crate::refusal::Refusal;
+use crate::words::Words;
+use rpmb_client::{ReadAnswer, Used, explain, read_data, read_used, result_text};
+use std::alloc::Global;
+use std::io::Write;
+use std::rt::Files;
+
+fn explain_line<W: Write>(
+    alloc: Global,
+    line: &str,
+    key: Option<[u8; 32]>,
+    nonce: Option<[u8; 16]>,
+    out: &mut W,
+) -> Result<(), Refusal> {
+    match read_used(alloc, line) {
+        Ok(Some(used)) => match explain(alloc, &used, key, nonce, out) {
+            Ok(()) => Ok(()),
+            Err(fault) => Err(Refusal::of(fault)),
+        },
+        Ok(None) => match writeln!(out, "{line}") {
+            Ok(()) => Ok(()),
+            Err(_) => Err(Refusal::FileFault),
+        },
+        Err(_) => Err(Refusal::NoMemory),
+    }
+}
+
+/// Says of each `used` line what its reply is, and writes each other line as it is.
+pub fn tell<R: Files + AllocGlobal, W: Write>(
+    rt: &R,
+    folder: &str,
+    words: &Words<'_>,
+    input: &str,
+    out: &mut W,
+) -> Result<(), Refusal> {
+    let key = match words.key {
+        Some(_) => Some(key(rt, folder, words.key)?),
+        None => None,
+    };
+    let nonce = match words.nonce {
+        Some(_) => Some(nonce(rt.alloc(), words.nonce)?),
+        None => None,
+    };
+    for line in input.lines() {
+        explain_line(rt.alloc(), line, key, nonce, out)?;
+    }
+    Ok(())
+}
+
+/// The reply of the only `used` line.
+fn only_reply(alloc: Global, input: &str) -> Result<Used, Refusal> {
+    match read_used(alloc, input.trim_end()) {
+        Ok(Some(used)) => Ok(used),
+        Ok(None) => Err(Refusal::NoAnswer),
+        Err(_) => Err(Refusal::NoMemory),
+    }
+}
+
+/// Writes the blocks of a read, where its MAC and its nonce are right.
+pub fn give_data<R: Files + AllocGlobal, W: Write>(
+    rt: &R,
+    folder: &str,
+    words: &Words<'_>,
+    input: &str,
+    out: &mut W,
+) -> Result<(), Refusal> {
+    let alloc = rt.alloc();
+    let key = key(rt, folder, words.key)?;
+    let nonce = nonce(alloc, words.nonce)?;
+    let used = only_reply(alloc, input)?;
+    let Ok(read) = read_data(alloc, &key, &nonce, used.reply.as_slice()) else {
+        return Err(Refusal::NoMemory);
+    };
+    match read {
+        ReadAnswer::Blocks(blocks) => match out.write_all(blocks.as_slice()) {
+            Ok(()) => Ok(()),
+            Err(_) => Err(Refusal::FileFault),
+        },
+        ReadAnswer::NoFrames => Err(Refusal::NoFrames),
+        ReadAnswer::WrongMac => Err(Refusal::WrongMac),
+        ReadAnswer::WrongNonce => Err(Refusal::WrongNonce),
+        ReadAnswer::OtherResponse(_) => Err(Refusal::OtherResponse),
+        ReadAnswer::Refused(code) => Err(Refusal::Refused(result_text(code))),
+    }
+}
