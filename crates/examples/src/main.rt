@@ -5,83 +5,28 @@
 //! where there is one, on standard error; where there is a `boards.txt`, so it is on each board whose file a
 //! line of that names. One with a `story.txt` has a command in each line of it, `format`,
 //! `show`, `run SCRIPT` or `serve SCRIPT`, and behind ` > ` the file of what it prints; all of them on one disk.
+//! One with a `session.txt` is a session of a shell (`shell.rt`). Where there is a `words.txt`, the script that
+//! `rpmb` makes of it is the folder's (`words.rt`). One with a `random.txt` has random requests, from the seed
+//! that this gives (`random.rt`).
 #![tactic(auto)]
 
+mod folder;
+mod performing;
+mod random;
+mod shell;
+mod words;
+
 use anyhow::{Result, bail};
-use board_file::read_board;
-use command_line::Command;
-use commands::perform;
-use disk::{Disk, MemDisk};
-use intent_slots::Layout;
+use disk::MemDisk;
+use performing::{Ended, FORMAT, RUN, SERVE, SHOW, blank, board_of, perform_on, text};
+use random::are_told;
 use rpmb_frame::BoardConfig;
-use std::alloc::Global;
+use shell::written_by;
+use std::env;
 use std::rt::Files;
 use std::sync::Wait;
 use std::thread::Threads;
-use std::{env, fs};
-
-const FORMAT: Command<'static> = Command::Format { board: "" };
-
-const SHOW: Command<'static> = Command::Show { board: "" };
-
-const RUN: Command<'static> = Command::Run {
-    board: "",
-    script: "",
-};
-
-const SERVE: Command<'static> = Command::Serve {
-    board: "",
-    script: "",
-};
-
-/// What a command wrote, the status that it ended with, and the disk.
-#[derive(Drop)]
-struct Ended {
-    status: u8,
-    out: Vec<u8>,
-    err: Vec<u8>,
-    disk: MemDisk,
-}
-
-/// Performs a command on a disk. An image is made only on a disk of its length.
-fn perform_on<R: AllocGlobal + Threads + Wait + Sync>(
-    rt: &R,
-    command: Command<'_>,
-    board: &BoardConfig,
-    script: &str,
-    disk: MemDisk,
-) -> Result<Ended> {
-    if disk.len() != Layout::of(board).length() {
-        bail!("another length");
-    }
-    let mut out = Vec::new(rt.alloc());
-    let mut err = Vec::new(rt.alloc());
-    match perform(rt, command, board, script, disk, &mut out, &mut err) {
-        (status, Some(disk)) => Ok(Ended {
-            status,
-            out,
-            err,
-            disk,
-        }),
-        (_, None) => bail!("no disk"),
-    }
-}
-
-/// A disk of the length of the board's image.
-fn blank(alloc: Global, board: &BoardConfig) -> Result<MemDisk> {
-    let length = Layout::of(board).length();
-    Ok(MemDisk::new(vec![in alloc; 0; length as usize]?))
-}
-
-/// What a file of a folder holds, or nothing where it isn't there.
-fn text<R: Files + AllocGlobal>(rt: &R, name: &str, file: &str) -> Result<String> {
-    let alloc = rt.alloc();
-    let path = format!(in alloc; "{name}/{file}")?;
-    if !fs::exists(rt, path.as_str())? {
-        return Ok(String::new(alloc));
-    }
-    Ok(fs::read_to_string(rt, path.as_str())?)
-}
+use words::script_of;
 
 /// Whether a script on a fresh image ended as the folder expects.
 fn runs<R: Files + AllocGlobal + Threads + Wait + Sync>(
@@ -144,13 +89,6 @@ fn tells<R: Files + AllocGlobal + Threads + Wait + Sync>(
     Ok(true)
 }
 
-/// The board of a file.
-fn board_of<R: Files + AllocGlobal>(rt: &R, name: &str, file: &str) -> Result<BoardConfig> {
-    let board = text(rt, name, file)?;
-    let (board, _) = read_board(rt.alloc(), board.as_str())?;
-    Ok(board)
-}
-
 /// Whether a script ended as the folder expects on each board of these lines.
 fn runs_on_all<R: Files + AllocGlobal + Threads + Wait + Sync>(
     rt: &R,
@@ -167,6 +105,29 @@ fn runs_on_all<R: Files + AllocGlobal + Threads + Wait + Sync>(
     Ok(true)
 }
 
+/// The script of a folder, where its words make it.
+fn checked_script<R: Files + AllocGlobal>(rt: &R, name: &str) -> Result<String> {
+    let script = text(rt, name, "script.txt")?;
+    if script.is_empty() {
+        bail!("nothing to perform");
+    }
+    let words = text(rt, name, "words.txt")?;
+    if !words.is_empty() && script_of(rt, name, words.as_str())?.as_slice() != script.as_bytes() {
+        bail!("words of another script");
+    }
+    Ok(script)
+}
+
+/// Whether the script of a folder ended as its files expect.
+fn is_run<R: Files + AllocGlobal + Threads + Wait + Sync>(rt: &R, name: &str) -> Result<bool> {
+    let script = checked_script(rt, name)?;
+    let boards = text(rt, name, "boards.txt")?;
+    if boards.is_empty() {
+        return runs_on_all(rt, name, "board.toml", script.as_str());
+    }
+    runs_on_all(rt, name, boards.as_str(), script.as_str())
+}
+
 /// Whether the example of a folder ended as its files expect.
 fn is_as_expected<R: Files + AllocGlobal + Threads + Wait + Sync>(
     rt: &R,
@@ -177,15 +138,16 @@ fn is_as_expected<R: Files + AllocGlobal + Threads + Wait + Sync>(
         let board = board_of(rt, name, "board.toml")?;
         return tells(rt, name, &board, story.as_str());
     }
-    let script = text(rt, name, "script.txt")?;
-    if script.is_empty() {
-        bail!("neither a story nor a script");
+    let session = text(rt, name, "session.txt")?;
+    if !session.is_empty() {
+        let written = written_by(rt, name, session.as_str())?;
+        return Ok(written.as_slice() == session.as_bytes());
     }
-    let boards = text(rt, name, "boards.txt")?;
-    if boards.is_empty() {
-        return runs_on_all(rt, name, "board.toml", script.as_str());
+    let seed = text(rt, name, "random.txt")?;
+    if !seed.is_empty() {
+        return are_told(rt, name, seed.as_str());
     }
-    runs_on_all(rt, name, boards.as_str(), script.as_str())
+    is_run(rt, name)
 }
 
 fn main(rt: HostRuntime) -> Result<()> {

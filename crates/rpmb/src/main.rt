@@ -1,13 +1,27 @@
 //! `rpmb`: makes the requests of scripts for `rpmbd`, and says what its answers are.
 #![tactic(auto)]
 
-use rpmb_commands::{Refusal, Words, WordsError, perform, read_words, report};
+use rpmb_commands::{
+    Refusal, Source, Words, WordsError, perform, read_file, read_words, report,
+};
+use std::alloc::Global;
 use std::io::{BufWriter, Read};
 use std::process::ExitCode;
 use std::{env, io};
 
 /// The status of a command line that is refused.
 const REFUSED: u8 = 2;
+
+/// The files of the system.
+struct System<'a> {
+    rt: &'a HostRuntime,
+}
+
+impl<'a> Source for System<'a> {
+    fn content(&self, _alloc: Global, name: &str) -> Result<Vec<u8>, Refusal> {
+        read_file(self.rt, name)
+    }
+}
 
 /// The lines of standard input, where the command reads them.
 fn lines(rt: &HostRuntime, words: &Words<'_>) -> Result<String, Refusal> {
@@ -29,7 +43,15 @@ fn perform_on_streams(rt: &HostRuntime, words: &Words<'_>) -> Result<u8, Refusal
     let Ok(mut out) = BufWriter::new(rt.alloc(), rt.stdout()) else {
         return Err(Refusal::NoMemory);
     };
-    Ok(perform(rt, "", words, input.as_str(), &mut out, &mut rt.stderr()))
+    let source = System { rt };
+    Ok(perform(
+        rt.alloc(),
+        &source,
+        words,
+        input.as_str(),
+        &mut out,
+        &mut rt.stderr(),
+    ))
 }
 
 /// Prints why the words give no command, or the help that they ask for.

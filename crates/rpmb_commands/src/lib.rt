@@ -1,4 +1,4 @@
-//! What `rpmb` does: its words, and the performing of them over any input and two writers.
+//! What `rpmb` does: its words, and the performing of them over any files and input, and two writers.
 #![tactic(auto)]
 
 mod grammar;
@@ -6,9 +6,11 @@ mod making;
 mod performing;
 mod reading;
 mod refusal;
+mod source;
 mod telling;
 mod words;
 
 pub use performing::{perform, report};
 pub use refusal::Refusal;
+pub use source::{Source, read_file};
 pub use words::{Words, WordsError, read_words};

@@ -1,14 +1,15 @@
 //! The commands that make the lines of requests.
 ghost use Rattle.std.specs.Prelude.{◌≤◌, IfOk};
 
-use crate::reading::{bytes, file, key, nonce, number};
+use crate::reading::{bytes, key, nonce, number};
 use crate::refusal::Refusal;
+use crate::source::Source;
 use crate::words::Words;
 use rpmb_client::{
     ClientFault, Writer, write_all, write_program_key, write_read, write_read_counter, write_result,
 };
+use std::alloc::Global;
 use std::io::Write;
-use std::rt::Files;
 
 fn told(made: Result<(), ClientFault>) -> Result<(), Refusal> {
     match made {
@@ -22,31 +23,31 @@ fn guest_of(words: &Words<'_>) -> Result<u16, Refusal> {
 }
 
 /// Makes the line that programs a key.
-pub fn make_program_key<R: Files + AllocGlobal, W: Write>(
-    rt: &R,
-    folder: &str,
+pub fn make_program_key<S: Source, W: Write>(
+    alloc: Global,
+    source: &S,
     words: &Words<'_>,
     out: &mut W,
 ) -> Result<(), Refusal> {
     let guest = guest_of(words)?;
-    let key = key(rt, folder, words.key)?;
-    told(write_program_key(rt.alloc(), guest, &key, out))
+    let key = key(alloc, source, words.key)?;
+    told(write_program_key(alloc, guest, &key, out))
 }
 
 /// Makes the line that asks for the write counter.
-pub fn make_read_counter<R: AllocGlobal, W: Write>(
-    rt: &R,
+pub fn make_read_counter<W: Write>(
+    alloc: Global,
     words: &Words<'_>,
     out: &mut W,
 ) -> Result<(), Refusal> {
     let guest = guest_of(words)?;
-    let nonce = nonce(rt.alloc(), words.nonce)?;
-    told(write_read_counter(rt.alloc(), guest, &nonce, out))
+    let nonce = nonce(alloc, words.nonce)?;
+    told(write_read_counter(alloc, guest, &nonce, out))
 }
 
 /// Makes the line that reads blocks.
-pub fn make_read<R: AllocGlobal, W: Write>(
-    rt: &R,
+pub fn make_read<W: Write>(
+    alloc: Global,
     words: &Words<'_>,
     out: &mut W,
 ) -> Result<(), Refusal> {
@@ -59,30 +60,30 @@ pub fn make_read<R: AllocGlobal, W: Write>(
     if address + count > 65536 {
         return Err(Refusal::PastEnd);
     }
-    let nonce = nonce(rt.alloc(), words.nonce)?;
-    told(write_read(rt.alloc(), guest, address as u16, count as u16, &nonce, out))
+    let nonce = nonce(alloc, words.nonce)?;
+    told(write_read(alloc, guest, address as u16, count as u16, &nonce, out))
 }
 
 /// Makes the line that asks for a result.
-pub fn make_result<R: AllocGlobal, W: Write>(
-    rt: &R,
+pub fn make_result<W: Write>(
+    alloc: Global,
     words: &Words<'_>,
     out: &mut W,
 ) -> Result<(), Refusal> {
     let guest = guest_of(words)?;
-    told(write_result(rt.alloc(), guest, out))
+    told(write_result(alloc, guest, out))
 }
 
 /// The blocks that are to be written, one after another.
-fn content<R: Files + AllocGlobal>(
-    rt: &R,
-    folder: &str,
+fn content<S: Source>(
+    alloc: Global,
+    source: &S,
     words: &Words<'_>,
 ) -> Result<Vec<u8>, Refusal> {
     match (words.bytes, words.file) {
-        (Some(word), None) => bytes(rt.alloc(), word),
-        (None, Some(name)) => file(rt, folder, name),
-        _ => Err(Refusal::Incomplete),
+        (Some(word), None) => bytes(alloc, word),
+        (None, Some(name)) => source.content(alloc, name),
+        _ => Err(Refusal::NoData),
     }
 }
 
@@ -100,14 +101,14 @@ fn most_of(words: &Words<'_>) -> Result<u16, Refusal>
     Ok(most as u16)
 }
 
-fn writer_of<R: Files + AllocGlobal>(
-    rt: &R,
-    folder: &str,
+fn writer_of<S: Source>(
+    alloc: Global,
+    source: &S,
     words: &Words<'_>,
 ) -> Result<Writer, Refusal> {
     Ok(Writer {
         guest: guest_of(words)?,
-        key: key(rt, folder, words.key)?,
+        key: key(alloc, source, words.key)?,
         counter: number(words.counter, 4294967295, Refusal::BadCounter)? as u32,
         address: number(words.address, 65535, Refusal::BadAddress)? as u16,
         asks: !words.no_result,
@@ -115,15 +116,15 @@ fn writer_of<R: Files + AllocGlobal>(
 }
 
 /// Makes the lines that write blocks.
-pub fn make_write<R: Files + AllocGlobal, W: Write>(
-    rt: &R,
-    folder: &str,
+pub fn make_write<S: Source, W: Write>(
+    alloc: Global,
+    source: &S,
     words: &Words<'_>,
     out: &mut W,
 ) -> Result<(), Refusal> {
-    let writer = writer_of(rt, folder, words)?;
+    let writer = writer_of(alloc, source, words)?;
     let most = most_of(words)?;
-    let content = content(rt, folder, words)?;
+    let content = content(alloc, source, words)?;
     let (blocks, rest) = content.as_slice().as_chunks::<256>();
     if blocks.is_empty() || !rest.is_empty() {
         return Err(Refusal::BadData);
@@ -135,5 +136,5 @@ pub fn make_write<R: Files + AllocGlobal, W: Write>(
     if u64::from(writer.counter) + count as u64 > 4294967296 {
         return Err(Refusal::CounterEnd);
     }
-    told(write_all(rt.alloc(), writer, most, blocks, out))
+    told(write_all(alloc, writer, most, blocks, out))
 }

@@ -1,16 +1,18 @@
 //! The values of options.
-ghost use Rattle.std.specs.Prelude.{◌≡◌, ◌<◌, ◌≤◌, IfOk, IfSome, length};
+ghost use Rattle.std.specs.Prelude.{◌≡◌, ◌⊎◌, ◌≤◌, IfErr, IfOk, None, Some};
+ghost use Rattle.std.specs.Option.{option_copied};
+ghost use Rattle.rpmb_commands.specs.Said.{bytes_said, number_said, sized_said, nonce_said};
 
 use crate::refusal::Refusal;
+use crate::source::Source;
 use hex::FromHexError;
 use script::read_number;
 use std::alloc::Global;
-use std::rt::Files;
-use std::{fs, io};
 
 /// A number of at most `most`, or the refusal.
 pub fn number(word: Option<&str>, most: u64, refusal: Refusal) -> Result<u64, Refusal>
-    ensures { IfOk result (λ number. number ≤ most) }
+    ensures said { result ≡ number_said (option_copied word.entry) most refusal }
+    ensures bound { IfOk result (λ number. number ≤ most) }
 {
     let Some(word) = word else {
         return Err(Refusal::Incomplete);
@@ -22,7 +24,10 @@ pub fn number(word: Option<&str>, most: u64, refusal: Refusal) -> Result<u64, Re
 }
 
 /// The bytes of hex digits.
-pub fn bytes(alloc: Global, word: &str) -> Result<Vec<u8>, Refusal> {
+pub fn bytes(alloc: Global, word: &str) -> Result<Vec<u8>, Refusal>
+    ensures ok { IfOk result (λ bytes. bytes_said word.now ≡ Some bytes.items) }
+    ensures err { IfErr result (λ refusal. (refusal ≡ Refusal.NoMemory) ⊎ (refusal ≡ Refusal.BadHex) × (bytes_said word.now ≡ None)) }
+{
     match hex::decode(alloc, word) {
         Ok(bytes) => Ok(bytes),
         Err(FromHexError::OutOfMemory) => Err(Refusal::NoMemory),
@@ -31,7 +36,9 @@ pub fn bytes(alloc: Global, word: &str) -> Result<Vec<u8>, Refusal> {
 }
 
 /// The bytes as an array of their length, or the refusal.
-fn sized<const N: usize>(bytes: &[u8], refusal: Refusal) -> Result<[u8; N], Refusal> {
+fn sized<const N: usize>(bytes: &[u8], refusal: Refusal) -> Result<[u8; N], Refusal>
+    ensures { result ≡ sized_said N bytes.now refusal }
+{
     if bytes.len() != N {
         return Err(refusal);
     }
@@ -41,7 +48,9 @@ fn sized<const N: usize>(bytes: &[u8], refusal: Refusal) -> Result<[u8; N], Refu
 }
 
 /// The nonce that a word writes: 16 bytes in hex digits.
-pub fn nonce(alloc: Global, word: Option<&str>) -> Result<[u8; 16], Refusal> {
+pub fn nonce(alloc: Global, word: Option<&str>) -> Result<[u8; 16], Refusal>
+    ensures { IfOk result (λ nonce. nonce_said (option_copied word.entry) ≡ Some nonce) }
+{
     let Some(word) = word else {
         return Err(Refusal::Incomplete);
     };
@@ -49,30 +58,21 @@ pub fn nonce(alloc: Global, word: Option<&str>) -> Result<[u8; 16], Refusal> {
     sized(bytes.as_slice(), Refusal::BadNonce)
 }
 
-/// What a file of a folder holds.
-pub fn file<R: Files + AllocGlobal>(rt: &R, folder: &str, name: &str) -> Result<Vec<u8>, Refusal> {
-    let Ok(path) = format!(in rt.alloc(); "{folder}{name}") else {
-        return Err(Refusal::NoMemory);
-    };
-    match fs::read(rt, path.as_str()) {
-        Ok(bytes) => Ok(bytes),
-        Err(error) => match error.kind() {
-            io::ErrorKind::OutOfMemory => Err(Refusal::NoMemory),
-            _ => Err(Refusal::FileFault),
-        },
+/// The digits of a file, without the end of their line.
+fn digits_of(content: &[u8]) -> &[u8] {
+    match content {
+        [digits @ .., b'\r', b'\n'] => digits,
+        [digits @ .., b'\n'] => digits,
+        digits => digits,
     }
 }
 
-/// The key in a file: its 32 bytes, or their 64 hex digits, which a line feed may follow.
+/// The key in a file: its 32 bytes, or their 64 hex digits, behind which a line may end.
 fn key_of_file(alloc: Global, content: &[u8]) -> Result<[u8; 32], Refusal> {
     if content.len() == 32 {
         return sized(content, Refusal::BadKey);
     }
-    let digits = match content {
-        [digits @ .., b'\n'] => digits,
-        digits => digits,
-    };
-    match hex::decode(alloc, digits) {
+    match hex::decode(alloc, digits_of(content)) {
         Ok(bytes) => sized(bytes.as_slice(), Refusal::BadKey),
         Err(FromHexError::OutOfMemory) => Err(Refusal::NoMemory),
         Err(_) => Err(Refusal::BadHex),
@@ -80,9 +80,9 @@ fn key_of_file(alloc: Global, content: &[u8]) -> Result<[u8; 32], Refusal> {
 }
 
 /// The key that a word writes in hex digits, or names as `@FILE`.
-pub fn key<R: Files + AllocGlobal>(
-    rt: &R,
-    folder: &str,
+pub fn key<S: Source>(
+    alloc: Global,
+    source: &S,
     word: Option<&str>,
 ) -> Result<[u8; 32], Refusal> {
     let Some(word) = word else {
@@ -90,11 +90,11 @@ pub fn key<R: Files + AllocGlobal>(
     };
     match word.strip_prefix('@') {
         Some(name) => {
-            let content = file(rt, folder, name)?;
-            key_of_file(rt.alloc(), content.as_slice())
+            let content = source.content(alloc, name)?;
+            key_of_file(alloc, content.as_slice())
         }
         None => {
-            let bytes = bytes(rt.alloc(), word)?;
+            let bytes = bytes(alloc, word)?;
             sized(bytes.as_slice(), Refusal::BadKey)
         }
     }

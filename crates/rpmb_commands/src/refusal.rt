@@ -24,6 +24,9 @@ pub enum Refusal {
     BadCount,
     #[error("BadMaxBlocks: expected 1 to 16 blocks for one write")]
     BadMaxBlocks,
+    /// The blocks are given twice, or not at all.
+    #[error("NoData: expected either --data or --file")]
+    NoData,
     #[error("BadData: expected whole blocks of 256 bytes, at least one")]
     BadData,
     #[error("PastEnd: expected no block after 65535, the last that any capacity has")]

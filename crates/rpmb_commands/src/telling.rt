@@ -1,11 +1,11 @@
 //! The commands that read the lines of `rpmbd run`.
 use crate::reading::{key, nonce};
 use crate::refusal::Refusal;
+use crate::source::Source;
 use crate::words::Words;
 use rpmb_client::{ReadAnswer, Used, explain, read_data, read_used, result_text};
 use std::alloc::Global;
 use std::io::Write;
-use std::rt::Files;
 
 fn explain_line<W: Write>(
     alloc: Global,
@@ -28,30 +28,34 @@ fn explain_line<W: Write>(
 }
 
 /// Says of each `used` line what its reply is, and writes each other line as it is.
-pub fn tell<R: Files + AllocGlobal, W: Write>(
-    rt: &R,
-    folder: &str,
+pub fn tell<S: Source, W: Write>(
+    alloc: Global,
+    source: &S,
     words: &Words<'_>,
     input: &str,
     out: &mut W,
 ) -> Result<(), Refusal> {
     let key = match words.key {
-        Some(_) => Some(key(rt, folder, words.key)?),
+        Some(_) => Some(key(alloc, source, words.key)?),
         None => None,
     };
     let nonce = match words.nonce {
-        Some(_) => Some(nonce(rt.alloc(), words.nonce)?),
+        Some(_) => Some(nonce(alloc, words.nonce)?),
         None => None,
     };
-    for line in input.lines() {
-        explain_line(rt.alloc(), line, key, nonce, out)?;
+    for line in input.split_terminator('\n') {
+        explain_line(alloc, line, key, nonce, out)?;
     }
     Ok(())
 }
 
-/// The reply of the only `used` line.
+/// The reply of the only line, which a line feed may end.
 fn only_reply(alloc: Global, input: &str) -> Result<Used, Refusal> {
-    match read_used(alloc, input.trim_end()) {
+    let line = match input.strip_suffix('\n') {
+        Some(line) => line,
+        None => input,
+    };
+    match read_used(alloc, line) {
         Ok(Some(used)) => Ok(used),
         Ok(None) => Err(Refusal::NoAnswer),
         Err(_) => Err(Refusal::NoMemory),
@@ -59,15 +63,14 @@ fn only_reply(alloc: Global, input: &str) -> Result<Used, Refusal> {
 }
 
 /// Writes the blocks of a read, where its MAC and its nonce are right.
-pub fn give_data<R: Files + AllocGlobal, W: Write>(
-    rt: &R,
-    folder: &str,
+pub fn give_data<S: Source, W: Write>(
+    alloc: Global,
+    source: &S,
     words: &Words<'_>,
     input: &str,
     out: &mut W,
 ) -> Result<(), Refusal> {
-    let alloc = rt.alloc();
-    let key = key(rt, folder, words.key)?;
+    let key = key(alloc, source, words.key)?;
     let nonce = nonce(alloc, words.nonce)?;
     let used = only_reply(alloc, input)?;
     let Ok(read) = read_data(alloc, &key, &nonce, used.reply.as_slice()) else {
