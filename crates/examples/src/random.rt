@@ -88,7 +88,9 @@ fn read_counter(
     Ok(Asked {
         words: format!(in alloc; "rpmb read-counter --guest {guest} --nonce {nonce}")?,
         explain: format!(in alloc; "rpmb explain --key {key} --nonce {nonce}")?,
-        expected: format!(in alloc; "response GET_WRITE_COUNTER 0x0200, result OK 0x0000, counter {counter},")?,
+        expected: format!(in alloc;
+            "response GET_WRITE_COUNTER 0x0200, result OK 0x0000, counter {counter},"
+        )?,
         is_silent: false,
     })
 }
@@ -109,7 +111,9 @@ fn read(
     };
     let key = client.key.as_str();
     Ok(Asked {
-        words: format!(in alloc; "rpmb read --guest {guest} --address {address} --count {count} --nonce {nonce}")?,
+        words: format!(in alloc;
+            "rpmb read --guest {guest} --address {address} --count {count} --nonce {nonce}"
+        )?,
         explain: format!(in alloc; "rpmb explain --key {key} --nonce {nonce}")?,
         expected: format!(in alloc; "response DATA_READ 0x0400, result {code}")?,
         is_silent: false,
@@ -155,7 +159,9 @@ fn write(
         client.counter = client.counter.saturating_add(1);
     }
     Ok(Asked {
-        words: format!(in alloc; "rpmb write --guest {guest} --key {key} --counter {counter} --address {address} --data {data}{rest}")?,
+        words: format!(in alloc;
+            "rpmb write --guest {guest} --key {key} --counter {counter} --address {address} --data {data}{rest}"
+        )?,
         explain: explain_of(alloc, client)?,
         expected: format!(in alloc; "response DATA_WRITE 0x0300, result {code}")?,
         is_silent,
@@ -285,9 +291,11 @@ fn is_right<R: Files + AllocGlobal>(
     if asked.is_silent {
         return Ok(text.ends_with(", 0 bytes are no frames\n"));
     }
-    Ok(text.contains(asked.expected.as_str())
-        && text.contains(", MAC right\n")
-        && !is_doubted(text.as_str()))
+    Ok(
+        text.contains(asked.expected.as_str())
+            && text.contains(", MAC right\n")
+            && !is_doubted(text.as_str()),
+    )
 }
 
 /// Whether each of the bits from one to before another is told, where it is flipped.
