@@ -37,52 +37,71 @@ fn read_counter<'a>(alloc: Global) -> Result<Command<'a>, AllocError> {
 }
 
 fn write_front<'a>(alloc: Global) -> Result<Command<'a>, AllocError> {
-    let counter = option(
-        alloc,
-        "counter",
-        "N",
-        "The write counter of the first write",
-    );
     Command::new(alloc, "write")
         .about("Makes the lines that write blocks")
         .arg(guest(alloc))?
         .arg(key(alloc).required(true))?
-        .arg(counter.required(true))?
+        .arg(counter(alloc))?
         .arg(address(alloc))
 }
 
-fn write<'a>(alloc: Global) -> Result<Command<'a>, AllocError> {
-    let data = option(alloc, "data", "HEX", "The blocks, 256 bytes each");
-    let file = option(
+fn counter<'a>(alloc: Global) -> Arg<'a> {
+    option(
+        alloc,
+        "counter",
+        "N",
+        "The write counter of the first write",
+    )
+    .required(true)
+}
+
+fn data<'a>(alloc: Global) -> Arg<'a> {
+    option(alloc, "data", "HEX", "The blocks, 256 bytes each")
+}
+
+fn file<'a>(alloc: Global) -> Arg<'a> {
+    option(
         alloc,
         "file",
         "FILE",
         "A file of the blocks, 256 bytes each",
-    );
-    let most = option(
+    )
+}
+
+fn most<'a>(alloc: Global) -> Arg<'a> {
+    option(
         alloc,
         "max-blocks",
         "N",
         "The most blocks of one write, 1 to 16",
-    );
-    let no_result = Arg::new(alloc, "no-result")
+    )
+}
+
+fn no_result<'a>(alloc: Global) -> Arg<'a> {
+    Arg::new(alloc, "no-result")
         .long("no-result")
         .action(ArgAction::SetTrue)
-        .help("Asks for no result, and so for no reply");
+        .help("Asks for no result, and so for no reply")
+}
+
+fn write<'a>(alloc: Global) -> Result<Command<'a>, AllocError> {
     write_front(alloc)?
-        .arg(data)?
-        .arg(file)?
-        .arg(most)?
-        .arg(no_result)
+        .arg(data(alloc))?
+        .arg(file(alloc))?
+        .arg(most(alloc))?
+        .arg(no_result(alloc))
+}
+
+fn count<'a>(alloc: Global) -> Arg<'a> {
+    option(alloc, "count", "N", "How many blocks, 1 to 16").required(true)
 }
 
 fn read<'a>(alloc: Global) -> Result<Command<'a>, AllocError> {
-    let count = option(alloc, "count", "N", "How many blocks, 1 to 16");
     Command::new(alloc, "read")
         .about("Makes the line that reads blocks")
         .arg(guest(alloc))?
         .arg(address(alloc))?
-        .arg(count.required(true))?
+        .arg(count(alloc))?
         .arg(nonce(alloc).required(true))
 }
 
@@ -112,14 +131,25 @@ fn bare<'a>(alloc: Global) -> Command<'a> {
         .subcommand_required(true)
 }
 
+/// `program` with one command more, if there was memory to make that.
+fn with_command<'a>(
+    program: Result<Command<'a>, AllocError>,
+    command: Result<Command<'a>, AllocError>,
+) -> Result<Command<'a>, AllocError> {
+    match (program, command) {
+        (Ok(program), Ok(command)) => program.subcommand(command),
+        _ => Err(AllocError),
+    }
+}
+
 /// The program with all its commands.
 pub fn program<'a>(alloc: Global) -> Result<Command<'a>, AllocError> {
-    bare(alloc)
-        .subcommand(program_key(alloc)?)?
-        .subcommand(read_counter(alloc)?)?
-        .subcommand(write(alloc)?)?
-        .subcommand(read(alloc)?)?
-        .subcommand(result(alloc)?)?
-        .subcommand(explain(alloc)?)?
-        .subcommand(read_data(alloc)?)
+    let program = Ok(bare(alloc));
+    let program = with_command(program, program_key(alloc));
+    let program = with_command(program, read_counter(alloc));
+    let program = with_command(program, write(alloc));
+    let program = with_command(program, read(alloc));
+    let program = with_command(program, result(alloc));
+    let program = with_command(program, explain(alloc));
+    with_command(program, read_data(alloc))
 }
