@@ -44,6 +44,23 @@ fn runs<R: Files + AllocGlobal + Threads + Wait + Sync>(
     Ok(is_told && (ended.status == 0) == fault.is_empty())
 }
 
+/// A script of a folder. Where there are words for it, they have to make it, byte for byte: `words.txt` those of
+/// `script.txt`, `words_of_NAME` those of another script.
+fn checked_script<R: Files + AllocGlobal>(rt: &R, name: &str, file: &str) -> Result<String> {
+    let script = text(rt, name, file)?;
+    let words = match file {
+        "script.txt" => text(rt, name, "words.txt")?,
+        file => {
+            let file = format!(in rt.alloc(); "words_of_{file}")?;
+            text(rt, name, file.as_str())?
+        }
+    };
+    if !words.is_empty() && script_of(rt, name, words.as_str())?.as_slice() != script.as_bytes() {
+        bail!("words of another script");
+    }
+    Ok(script)
+}
+
 /// Performs the command of a line of a story.
 fn step<R: Files + AllocGlobal + Threads + Wait + Sync>(
     rt: &R,
@@ -63,7 +80,7 @@ fn step<R: Files + AllocGlobal + Threads + Wait + Sync>(
         Some(("serve", file)) => (SERVE, file),
         _ => bail!("no command"),
     };
-    let script = text(rt, name, file)?;
+    let script = checked_script(rt, name, file)?;
     perform_on(rt, command, board, script.as_str(), disk)
 }
 
@@ -105,22 +122,12 @@ fn runs_on_all<R: Files + AllocGlobal + Threads + Wait + Sync>(
     Ok(true)
 }
 
-/// The script of a folder, where its words make it.
-fn checked_script<R: Files + AllocGlobal>(rt: &R, name: &str) -> Result<String> {
-    let script = text(rt, name, "script.txt")?;
+/// Whether the script of a folder ended as its files expect.
+fn is_run<R: Files + AllocGlobal + Threads + Wait + Sync>(rt: &R, name: &str) -> Result<bool> {
+    let script = checked_script(rt, name, "script.txt")?;
     if script.is_empty() {
         bail!("nothing to perform");
     }
-    let words = text(rt, name, "words.txt")?;
-    if !words.is_empty() && script_of(rt, name, words.as_str())?.as_slice() != script.as_bytes() {
-        bail!("words of another script");
-    }
-    Ok(script)
-}
-
-/// Whether the script of a folder ended as its files expect.
-fn is_run<R: Files + AllocGlobal + Threads + Wait + Sync>(rt: &R, name: &str) -> Result<bool> {
-    let script = checked_script(rt, name)?;
     let boards = text(rt, name, "boards.txt")?;
     if boards.is_empty() {
         return runs_on_all(rt, name, "board.toml", script.as_str());
@@ -128,8 +135,23 @@ fn is_run<R: Files + AllocGlobal + Threads + Wait + Sync>(rt: &R, name: &str) ->
     runs_on_all(rt, name, boards.as_str(), script.as_str())
 }
 
+/// Whether the commands of a session write what stands there. If not, what they write is printed.
+fn is_written<R: Files + AllocGlobal + Print + Threads + Wait + Sync>(
+    rt: &R,
+    name: &str,
+    session: &str,
+) -> Result<bool> {
+    let written = written_by(rt, name, session)?;
+    if written.as_slice() == session.as_bytes() {
+        return Ok(true);
+    }
+    let written = String::from_utf8(written)?;
+    print!(rt; "{written}")?;
+    Ok(false)
+}
+
 /// Whether the example of a folder ended as its files expect.
-fn is_as_expected<R: Files + AllocGlobal + Threads + Wait + Sync>(
+fn is_as_expected<R: Files + AllocGlobal + Print + Threads + Wait + Sync>(
     rt: &R,
     name: &str,
 ) -> Result<bool> {
@@ -140,8 +162,7 @@ fn is_as_expected<R: Files + AllocGlobal + Threads + Wait + Sync>(
     }
     let session = text(rt, name, "session.txt")?;
     if !session.is_empty() {
-        let written = written_by(rt, name, session.as_str())?;
-        return Ok(written.as_slice() == session.as_bytes());
+        return is_written(rt, name, session.as_str());
     }
     let seed = text(rt, name, "random.txt")?;
     if !seed.is_empty() {

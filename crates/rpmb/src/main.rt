@@ -1,9 +1,7 @@
 //! `rpmb`: makes the requests of scripts for `rpmbd`, and says what its answers are.
 #![tactic(auto)]
 
-use rpmb_commands::{
-    Refusal, Source, Words, WordsError, perform, read_file, read_words, report,
-};
+use rpmb_commands::{Refusal, Source, Words, WordsError, perform, read_file, read_words, report};
 use std::alloc::Global;
 use std::io::{BufWriter, Read};
 use std::process::ExitCode;

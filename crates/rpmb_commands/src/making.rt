@@ -46,11 +46,7 @@ pub fn make_read_counter<W: Write>(
 }
 
 /// Makes the line that reads blocks.
-pub fn make_read<W: Write>(
-    alloc: Global,
-    words: &Words<'_>,
-    out: &mut W,
-) -> Result<(), Refusal> {
+pub fn make_read<W: Write>(alloc: Global, words: &Words<'_>, out: &mut W) -> Result<(), Refusal> {
     let guest = guest_of(words)?;
     let address = number(words.address, 65535, Refusal::BadAddress)?;
     let count = number(words.count, 16, Refusal::BadCount)?;
@@ -65,21 +61,13 @@ pub fn make_read<W: Write>(
 }
 
 /// Makes the line that asks for a result.
-pub fn make_result<W: Write>(
-    alloc: Global,
-    words: &Words<'_>,
-    out: &mut W,
-) -> Result<(), Refusal> {
+pub fn make_result<W: Write>(alloc: Global, words: &Words<'_>, out: &mut W) -> Result<(), Refusal> {
     let guest = guest_of(words)?;
     told(write_result(alloc, guest, out))
 }
 
 /// The blocks that are to be written, one after another.
-fn content<S: Source>(
-    alloc: Global,
-    source: &S,
-    words: &Words<'_>,
-) -> Result<Vec<u8>, Refusal> {
+fn content<S: Source>(alloc: Global, source: &S, words: &Words<'_>) -> Result<Vec<u8>, Refusal> {
     match (words.bytes, words.file) {
         (Some(word), None) => bytes(alloc, word),
         (None, Some(name)) => source.content(alloc, name),
@@ -101,11 +89,7 @@ fn most_of(words: &Words<'_>) -> Result<u16, Refusal>
     Ok(most as u16)
 }
 
-fn writer_of<S: Source>(
-    alloc: Global,
-    source: &S,
-    words: &Words<'_>,
-) -> Result<Writer, Refusal> {
+fn writer_of<S: Source>(alloc: Global, source: &S, words: &Words<'_>) -> Result<Writer, Refusal> {
     Ok(Writer {
         guest: guest_of(words)?,
         key: key(alloc, source, words.key)?,

@@ -80,11 +80,7 @@ fn key_of_file(alloc: Global, content: &[u8]) -> Result<[u8; 32], Refusal> {
 }
 
 /// The key that a word writes in hex digits, or names as `@FILE`.
-pub fn key<S: Source>(
-    alloc: Global,
-    source: &S,
-    word: Option<&str>,
-) -> Result<[u8; 32], Refusal> {
+pub fn key<S: Source>(alloc: Global, source: &S, word: Option<&str>) -> Result<[u8; 32], Refusal> {
     let Some(word) = word else {
         return Err(Refusal::Incomplete);
     };
