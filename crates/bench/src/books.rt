@@ -1,10 +1,11 @@
 //! The book of a board and its store over a disk in memory, with nothing between them and their caller:
 //! what a board's steps are measured against.
 use crate::clock::{NO_MEMORY, Row, Stop};
+use crate::counted::{CountedDisk, Counts};
 use crate::images::{guests_of, new_disk, opened_board};
 use crate::requests::{Kind, mixed};
 use crate::stores::give;
-use crate::ways::{Call, Turn, Way, time_way};
+use crate::ways::{Call, Shape, Turn, Way, time_way};
 use board::Parts;
 use chains::Range;
 use disk::MemDisk;
@@ -12,29 +13,30 @@ use flusher::{Marks, Progress};
 use mmio_transport::{Done, Job};
 use rpmb_frame::BoardConfig;
 use std::alloc::Global;
+use std::collections::VecDeque;
 use workers::parts_of;
 
 /// A book that answers jobs, and the store that keeps what it accepts.
 #[derive(Drop)]
 pub struct Books {
     alloc: Global,
-    parts: Parts<MemDisk>,
-    jobs: Vec<Job>,
+    parts: Parts<CountedDisk<MemDisk>>,
+    jobs: VecDeque<Job>,
     /// The replies that were collected, which are kept until the clock has stopped, as a board keeps them for
     /// its devices.
-    replies: Vec<Done>,
+    replies: VecDeque<Done>,
     sum: u32,
 }
 
 /// The book and the store over a fresh image of a board, of which nothing was asked.
 pub fn new_books(alloc: Global, config: &BoardConfig) -> Result<Books, Stop> {
-    let disk = new_disk(alloc, config)?;
+    let disk = CountedDisk::of(new_disk(alloc, config)?);
     let board = opened_board(alloc, disk, config)?;
     Ok(Books {
         alloc,
         parts: parts_of(board, config),
-        jobs: Vec::new(alloc),
-        replies: Vec::new(alloc),
+        jobs: VecDeque::new(alloc),
+        replies: VecDeque::new(alloc),
         sum: 0,
     })
 }
@@ -51,22 +53,22 @@ fn job_of(alloc: Global, guest: u16, kind: Kind, counter: u32) -> Result<Job, St
 /// One more job.
 fn push_job(
     alloc: Global,
-    jobs: &mut Vec<Job>,
+    jobs: &mut VecDeque<Job>,
     guest: u16,
     kind: Kind,
     counter: u32,
 ) -> Result<(), Stop> {
     let job = job_of(alloc, guest, kind, counter)?;
-    match jobs.push(job) {
+    match jobs.push_back(job) {
         Ok(()) => Ok(()),
         Err(_) => Err(NO_MEMORY),
     }
 }
 
 /// One more reply, where there is one.
-fn push_reply(replies: &mut Vec<Done>, done: Option<Done>) -> Result<(), Stop> {
+fn push_reply(replies: &mut VecDeque<Done>, done: Option<Done>) -> Result<(), Stop> {
     match done {
-        Some(done) => replies.push(done).ok().ok_or(NO_MEMORY),
+        Some(done) => replies.push_back(done).ok().ok_or(NO_MEMORY),
         None => Err("a reply that doesn't leave"),
     }
 }
@@ -80,7 +82,7 @@ fn mixed_reply(before: u32, done: &Done) -> u32 {
     mixed(before, all)
 }
 
-fn submit(parts: &mut Parts<MemDisk>, alloc: Global, job: Job) -> Result<(), Stop> {
+fn submit(parts: &mut Parts<CountedDisk<MemDisk>>, alloc: Global, job: Job) -> Result<(), Stop> {
     match parts.tallies.get_mut(usize::from(job.guest())) {
         Some(tally) => match parts.book.submit(alloc, tally, job) {
             Ok(_) => Ok(()),
@@ -91,7 +93,7 @@ fn submit(parts: &mut Parts<MemDisk>, alloc: Global, job: Job) -> Result<(), Sto
 }
 
 /// Gives the store a guest's next intent, where one waits.
-fn hand_over(parts: &mut Parts<MemDisk>, guest: u16) -> Result<(), Stop> {
+fn hand_over(parts: &mut Parts<CountedDisk<MemDisk>>, guest: u16) -> Result<(), Stop> {
     match parts.book.take(&mut parts.shares, guest) {
         Ok(Some(intent)) => give(&mut parts.store, intent),
         Ok(None) => Ok(()),
@@ -99,7 +101,7 @@ fn hand_over(parts: &mut Parts<MemDisk>, guest: u16) -> Result<(), Stop> {
     }
 }
 
-fn settle(parts: &mut Parts<MemDisk>, marks: Marks) -> Result<Call, Stop> {
+fn settle(parts: &mut Parts<CountedDisk<MemDisk>>, marks: Marks) -> Result<Call, Stop> {
     match parts.book.settle(&parts.shares, marks) {
         Ok(()) => Ok(Call::Sync),
         Err(_) => Err("marks that aren't settled"),
@@ -107,9 +109,9 @@ fn settle(parts: &mut Parts<MemDisk>, marks: Marks) -> Result<Call, Stop> {
 }
 
 impl Books {
-    /// Has the book answer a job: the one that was offered last.
+    /// Has the book answer a job: the one that was offered first.
     fn submit(&mut self) -> Result<(), Stop> {
-        match self.jobs.pop() {
+        match self.jobs.pop_front() {
             Some(job) => submit(&mut self.parts, self.alloc, job),
             None => Err("no job"),
         }
@@ -122,12 +124,19 @@ impl Books {
 
     /// Mixes the first reply, and lets it go.
     fn publish(&mut self) -> Result<(), Stop> {
-        if self.replies.is_empty() {
-            return Err("no reply");
+        match self.replies.pop_front() {
+            Some(done) => {
+                self.sum = mixed_reply(self.sum, &done);
+                Ok(())
+            }
+            None => Err("no reply"),
         }
-        let done = self.replies.remove(0);
-        self.sum = mixed_reply(self.sum, &done);
-        Ok(())
+    }
+
+    /// What was counted of the disk.
+    pub fn into_counts(self) -> Counts {
+        let Parts { store, .. } = self.parts;
+        store.into_disk().counts()
     }
 }
 
@@ -181,5 +190,9 @@ pub fn time_books(
     count: u32,
 ) -> Result<Row, Stop> {
     let books = new_books(rt.alloc(), config)?;
-    time_way(rt, kind.name(), books, guests_of(config), kind, count)
+    let shape = Shape {
+        guests: guests_of(config),
+        waiting: 1,
+    };
+    time_way(rt, kind.name(), books, shape, kind, count)
 }

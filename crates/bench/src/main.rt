@@ -5,7 +5,8 @@
 //! - of `rings`: of chains of 8,704 bytes, through queues of each form;
 //! - of `device`: of whole requests of each kind, of one guest, from its offer to its reap, through queues of
 //!   each form;
-//! - of `store`: of writes of each of 64 guests;
+//! - of `store`: of writes of each of 64 guests, also where 2 and 4 of a guest go as one, with the calls and
+//!   bytes that each way needs;
 //! - of `open`: of openings;
 //! - of `board`: of writes of each of 64 guests, which a board's steps settle, its book and store, and its
 //!   store alone;
@@ -22,6 +23,8 @@
 
 mod books;
 mod clock;
+mod counted;
+mod groups;
 mod images;
 mod loads;
 mod macs;
@@ -36,6 +39,7 @@ mod ways;
 
 use books::time_books;
 use clock::{Row, Stop, print_rows};
+use groups::print_counts;
 use images::{blank_disk, board_of, board_of_form, time_openings, time_reads};
 use loads::new_load;
 use macs::{keyed_macs, plain_macs, time_keyed, time_plain};
@@ -49,7 +53,7 @@ use std::env;
 use std::process::ExitCode;
 use std::sync::Wait;
 use std::thread::Threads;
-use stores::{new_store, time_puts, time_stored};
+use stores::{new_store, time_puts, time_stored, time_waiting};
 use ways::{calls_of, time_ways};
 
 const GUESTS: u16 = 64;
@@ -125,7 +129,17 @@ fn time_device(rt: &HostRuntime, count: u32) -> Result<(), Stop> {
 fn time_store(rt: &HostRuntime, board: &BoardConfig, count: u32) -> Result<(), Stop> {
     let stored = time_stored(rt, board, count)?;
     let put = time_puts(rt, board, count)?;
-    print_rows(rt, &[stored, put])
+    print_rows(rt, &[stored, put])?;
+    time_groups(rt, board, count)
+}
+
+/// As many writes of each guest by its store alone, four, two and one at a time.
+fn time_groups(rt: &HostRuntime, board: &BoardConfig, count: u32) -> Result<(), Stop> {
+    let four = time_waiting(rt, "4 waiting", board, 4, count / 4)?;
+    let two = time_waiting(rt, "2 waiting", board, 2, count / 2)?;
+    let one = time_waiting(rt, "1 waiting", board, 1, count)?;
+    print_rows(rt, &[four, two, one])?;
+    print_counts(rt, board)
 }
 
 fn time_open(rt: &HostRuntime, board: &BoardConfig, count: u32) -> Result<(), Stop> {
@@ -192,7 +206,7 @@ fn few_requests(rt: &HostRuntime, board: &BoardConfig) -> Result<[u64; 4], Stop>
 
 /// The calls and syncs of 64 keys, and of 64 writes, of a store.
 fn few_calls(rt: &HostRuntime, board: &BoardConfig) -> Result<[u32; 4], Stop> {
-    let store = new_store(rt.alloc(), board)?;
+    let store = new_store(rt.alloc(), board, 1)?;
     calls_of(rt, store, GUESTS)
 }
 
@@ -235,7 +249,8 @@ fn checksums<R: AllocGlobal + Threads + Wait + Sync>(
         (run.turns, " "),
         (u64::from(run.answers), "\n"),
     ];
-    print_numbers(rt, &numbers)
+    print_numbers(rt, &numbers)?;
+    print_counts(rt, board)
 }
 
 /// Times the work of this name.

@@ -1,28 +1,35 @@
 //! The store of many guests over a disk in memory, and the calls that it makes, made to the disk itself.
-ghost use Rattle.std.specs.Prelude.{◌<◌, length};
+ghost use Rattle.std.specs.Prelude.{◌<◌, ◌+◌, ◌^◌, length};
 
 use crate::clock::{NO_MEMORY, Row, Stop, now, since};
 use crate::images::{guests_of, new_disk};
 use crate::requests::{KEY, Kind};
-use crate::ways::{Call, Turn, Way, time_way};
+use crate::ways::{Call, Shape, Turn, Way, time_way};
 use disk::{Disk, MemDisk};
 use flusher::{Progress, Store};
-use intent_slots::{Intent, Layout, Side};
+use intent_slots::{Entry, Intent, Layout, Side};
 use recovery::open;
 use rpmb_frame::BoardConfig;
 use std::alloc::Global;
 
-/// The store over a fresh image of a board.
-pub fn new_store(alloc: Global, board: &BoardConfig) -> Result<Store<MemDisk>, Stop> {
+/// A store that is given so many writes of a guest as one.
+#[derive(Drop)]
+pub struct Stored {
+    store: Store<MemDisk>,
+    waiting: u32,
+}
+
+/// The store over a fresh image of a board, which is given so many writes of a guest as one.
+pub fn new_store(alloc: Global, board: &BoardConfig, waiting: u32) -> Result<Stored, Stop> {
     let disk = new_disk(alloc, board)?;
     match open(alloc, disk, board) {
-        Ok((store, _)) => Ok(store),
+        Ok((store, _)) => Ok(Stored { store, waiting }),
         Err(_) => Err("no image"),
     }
 }
 
 /// Gives an intent to a store that may be given it.
-pub fn give(store: &mut Store<MemDisk>, intent: Intent) -> Result<(), Stop> {
+pub fn give<D: Disk>(store: &mut Store<D>, intent: Intent) -> Result<(), Stop> {
     if !store.takes(&intent) {
         return Err("an intent that can't be given");
     }
@@ -30,16 +37,39 @@ pub fn give(store: &mut Store<MemDisk>, intent: Intent) -> Result<(), Stop> {
     Ok(())
 }
 
-/// What a guest's request has a store do: a key, or the write of its first block under this counter.
-fn intent_of(alloc: Global, guest: u16, kind: Kind, counter: u32) -> Result<Intent, Stop> {
-    match (kind, vec![in alloc; 0x5a; 256]) {
-        (Kind::Key, _) => Ok(Intent::program_key(guest, KEY)),
-        (_, Ok(blocks)) => Ok(Intent::write(guest, KEY, counter.wrapping_add(1), 0, blocks)),
-        _ => Err(NO_MEMORY),
+/// The write of a guest's first block under this counter.
+fn write_of(alloc: Global, guest: u16, counter: u32) -> Result<Intent, Stop> {
+    match vec![in alloc; 0x5a; 256] {
+        Ok(blocks) => Ok(Intent::write(guest, KEY, counter.wrapping_add(1), 0, blocks)),
+        Err(_) => Err(NO_MEMORY),
     }
 }
 
-impl Way for Store<MemDisk> {
+/// Adds a write of the first block to an intent that has room for it.
+fn add_write(alloc: Global, intent: &mut Intent) -> Result<(), Stop> {
+    if intent.entries() >= 4 || intent.last_counter() == u32::MAX {
+        return Err("an intent without room");
+    }
+    match vec![in alloc; 0x5a; 256] {
+        Ok(blocks) => {
+            intent.push(Entry::write(0, blocks));
+            Ok(())
+        }
+        Err(_) => Err(NO_MEMORY),
+    }
+}
+
+/// So many writes of a guest's first block, the first under this counter, as one.
+fn writes_of(alloc: Global, guest: u16, counter: u32, waiting: u32) -> Result<Intent, Stop> {
+    let mut intent = write_of(alloc, guest, counter)?;
+    for _ in 1..waiting {
+        add_write(alloc, &mut intent)?;
+    }
+    Ok(intent)
+}
+
+impl Way for Stored {
+    /// A key, or writes of the first block as one, the first under this counter.
     fn offer(
         &mut self,
         alloc: Global,
@@ -48,7 +78,11 @@ impl Way for Store<MemDisk> {
         counter: u32,
         _number: u16,
     ) -> Result<(), Stop> {
-        give(self, intent_of(alloc, guest, kind, counter)?)
+        let intent = match kind {
+            Kind::Key => Intent::program_key(guest, KEY),
+            _ => writes_of(alloc, guest, counter, self.waiting)?,
+        };
+        give(&mut self.store, intent)
     }
 
     fn turn(&mut self, _guest: u16, _turn: Turn) -> Result<(), Stop> {
@@ -56,7 +90,7 @@ impl Way for Store<MemDisk> {
     }
 
     fn advance(&mut self) -> Result<Call, Stop> {
-        match Store::advance(self) {
+        match self.store.advance() {
             Ok(Progress::Idle) => Ok(Call::Nothing),
             Ok(Progress::Wrote) => Ok(Call::Write),
             Ok(Progress::Synced(_)) => Ok(Call::Sync),
@@ -65,7 +99,7 @@ impl Way for Store<MemDisk> {
     }
 
     fn settled(&self, guest: u16) -> u64 {
-        self.marks().get(guest).saturating_sub(1)
+        self.store.marks().get(guest).saturating_sub(1)
     }
 
     fn replies(&mut self) -> u32 {
@@ -73,11 +107,25 @@ impl Way for Store<MemDisk> {
     }
 }
 
-/// Times so many writes of each guest of a board by its store alone.
+/// Times so many rounds of writes of each guest of a board by its store alone, which is given so many as one.
+pub fn time_waiting(
+    rt: &HostRuntime,
+    name: &'static str,
+    board: &BoardConfig,
+    waiting: u32,
+    rounds: u32,
+) -> Result<Row, Stop> {
+    let store = new_store(rt.alloc(), board, waiting)?;
+    let shape = Shape {
+        guests: guests_of(board),
+        waiting,
+    };
+    time_way(rt, name, store, shape, Kind::Write, rounds)
+}
+
+/// Times so many writes of each guest of a board by its store alone, one at a time.
 pub fn time_stored(rt: &HostRuntime, board: &BoardConfig, count: u32) -> Result<Row, Stop> {
-    let store = new_store(rt.alloc(), board)?;
-    let guests = guests_of(board);
-    time_way(rt, "its store alone", store, guests, Kind::Write, count)
+    time_waiting(rt, "its store alone", board, 1, count)
 }
 
 /// Writes so many bytes, at most 328, to a disk that has room for them.

@@ -64,11 +64,18 @@ pub trait Way: Drop {
     fn replies(&mut self) -> u32;
 }
 
+/// How many guests there are, and how many writes of each go as one.
+#[derive(Clone, Copy)]
+pub struct Shape {
+    pub guests: u16,
+    pub waiting: u32,
+}
+
 /// A way, its guests, and how often each of them has asked.
 #[derive(Drop)]
 pub struct Asked<W: Way> {
     way: W,
-    guests: u16,
+    shape: Shape,
     number: u16,
     /// The calls of the store for what was asked last.
     calls: Calls,
@@ -76,7 +83,7 @@ pub struct Asked<W: Way> {
 
 impl<W: Way> Asked<W> {
     fn offer_each(&mut self, alloc: Global, kind: Kind, counter: u32) -> Result<(), Stop> {
-        for guest in 0..self.guests {
+        for guest in 0..self.shape.guests {
             self.way.offer(alloc, guest, kind, counter, self.number)?;
         }
         self.number = self.number.wrapping_add(1);
@@ -84,7 +91,7 @@ impl<W: Way> Asked<W> {
     }
 
     fn each(&mut self, turn: Turn) -> Result<(), Stop> {
-        for guest in 0..self.guests {
+        for guest in 0..self.shape.guests {
             self.way.turn(guest, turn)?;
         }
         Ok(())
@@ -127,10 +134,11 @@ impl<W: Way> Asked<W> {
         Ok(())
     }
 
-    /// Takes so many of a kind, each under the counter that it finds; answers the time.
-    fn ask_all(&mut self, rt: &HostRuntime, kind: Kind, count: u32) -> Result<Duration, Stop> {
+    /// Takes so many rounds of a kind, each under the counter that it finds; answers the time.
+    fn ask_all(&mut self, rt: &HostRuntime, kind: Kind, rounds: u32) -> Result<Duration, Stop> {
         let mut took = Duration::from_nanos(0);
-        for counter in 0..count {
+        for round in 0..rounds {
+            let counter = round.saturating_mul(self.shape.waiting);
             took = took.saturating_add(self.ask(rt, kind, counter)?);
         }
         Ok(took)
@@ -138,16 +146,17 @@ impl<W: Way> Asked<W> {
 
     fn settled(&self) -> u64 {
         let mut all = 0u64;
-        for guest in 0..self.guests {
+        for guest in 0..self.shape.guests {
             all = all.saturating_add(self.way.settled(guest));
         }
         all
     }
 
-    fn row(&self, name: &'static str, count: u32, took: Duration) -> Row {
+    fn row(&self, name: &'static str, rounds: u32, took: Duration) -> Row {
+        let many = u64::from(rounds).saturating_mul(u64::from(self.shape.waiting));
         Row {
             name,
-            count: u64::from(count) * u64::from(self.guests),
+            count: many.saturating_mul(u64::from(self.shape.guests)),
             took,
             sum: self.settled(),
         }
@@ -155,40 +164,58 @@ impl<W: Way> Asked<W> {
 }
 
 /// A way whose guests have asked nothing.
-fn fresh<W: Way>(way: W, guests: u16) -> Asked<W> {
+fn fresh<W: Way>(way: W, shape: Shape) -> Asked<W> {
     Asked {
         way,
-        guests,
+        shape,
         number: 0,
         calls: Calls { all: 0, syncs: 0 },
     }
 }
 
-/// Keys, and then so many requests of a kind, which are timed.
+/// A way of these guests that asks one request at a time.
+fn fresh_of<W: Way>(way: W, guests: u16) -> Asked<W> {
+    fresh(way, Shape { guests, waiting: 1 })
+}
+
+/// Keys, and then so many rounds of a kind, which are timed.
 fn time_asked<W: Way>(
     rt: &HostRuntime,
     asked: &mut Asked<W>,
     name: &'static str,
     kind: Kind,
-    count: u32,
+    rounds: u32,
 ) -> Result<Row, Stop> {
     asked.key(rt)?;
-    let took = asked.ask_all(rt, kind, count)?;
-    let mut row = asked.row(name, count, took);
+    let took = asked.ask_all(rt, kind, rounds)?;
+    let mut row = asked.row(name, rounds, took);
     row.sum = u64::from(asked.way.replies());
     Ok(row)
 }
 
-/// Times so many requests of a kind from each guest, by one way. The sum is of the bytes of the replies.
+/// Times so many rounds of requests of a kind from each guest, by one way. The sum is of the bytes of the replies.
 pub fn time_way<W: Way>(
     rt: &HostRuntime,
     name: &'static str,
     way: W,
-    guests: u16,
+    shape: Shape,
     kind: Kind,
-    count: u32,
+    rounds: u32,
 ) -> Result<Row, Stop> {
-    time_asked(rt, &mut fresh(way, guests), name, kind, count)
+    time_asked(rt, &mut fresh(way, shape), name, kind, rounds)
+}
+
+/// The way once each guest has its key and has made so many rounds of writes.
+pub fn written<W: Way>(rt: &HostRuntime, way: W, shape: Shape, rounds: u32) -> Result<W, Stop> {
+    let mut asked = fresh(way, shape);
+    asked.key(rt)?;
+    let took = asked.ask_all(rt, Kind::Write, rounds)?;
+    let row = asked.row("writes", rounds, took);
+    if row.sum == row.count {
+        Ok(asked.way)
+    } else {
+        Err("writes that aren't settled")
+    }
 }
 
 fn calls_of_asked<W: Way>(rt: &HostRuntime, asked: &mut Asked<W>) -> Result<[u32; 4], Stop> {
@@ -201,7 +228,7 @@ fn calls_of_asked<W: Way>(rt: &HostRuntime, asked: &mut Asked<W>) -> Result<[u32
 
 /// The calls and syncs of a way's store for the keys of its guests, and for a write of each.
 pub fn calls_of<W: Way>(rt: &HostRuntime, way: W, guests: u16) -> Result<[u32; 4], Stop> {
-    calls_of_asked(rt, &mut fresh(way, guests))
+    calls_of_asked(rt, &mut fresh_of(way, guests))
 }
 
 /// The row of each way.
@@ -272,7 +299,7 @@ fn time_beside<A: Way, B: Way>(
     count: u32,
 ) -> Result<Rows, Stop> {
     let books = new_books(rt.alloc(), config)?;
-    let mut books = fresh(books, guests_of(config));
+    let mut books = fresh_of(books, guests_of(config));
     take_turns(rt, steps, store, &mut books, count)
 }
 
@@ -283,13 +310,13 @@ fn time_beside_steps<A: Way>(
     steps: &mut Asked<A>,
     count: u32,
 ) -> Result<Rows, Stop> {
-    let store = new_store(rt.alloc(), config)?;
-    let mut store = fresh(store, guests_of(config));
+    let store = new_store(rt.alloc(), config, 1)?;
+    let mut store = fresh_of(store, guests_of(config));
     time_beside(rt, config, steps, &mut store, count)
 }
 
 /// Times so many writes of each guest of a board in each way.
 pub fn time_ways(rt: &HostRuntime, config: &BoardConfig, count: u32) -> Result<Rows, Stop> {
     let steps = new_steps(rt.alloc(), config)?;
-    time_beside_steps(rt, config, &mut fresh(steps, guests_of(config)), count)
+    time_beside_steps(rt, config, &mut fresh_of(steps, guests_of(config)), count)
 }

@@ -3,13 +3,13 @@
 ghost use Rattle.std.specs.Prelude.{◌≡◌, ◌*◌, ◌^◌, IsTrue, length};
 ghost use Rattle.intent_slots.specs.Payload.{IsWrite};
 
-use intent_slots::Intent;
+use intent_slots::{Entry, Intent};
 use rpmb_core::Partition;
 use std::alloc::Global;
 use std::test::Fail;
 
 /// How many requests each guest makes.
-pub const REQUESTS: u64 = 4;
+const REQUESTS: u64 = 4;
 
 /// The address and the number of blocks of each guest's writes, which overlap in part.
 static WRITES: [[(u16, usize); 3]; 3] = [
@@ -60,7 +60,7 @@ fn is_write(address: u16, blocks: &[u8]) -> bool
 }
 
 /// A guest's request n, counted from 0, as an intent.
-pub fn intent_of(alloc: Global, guest: u16, n: u64) -> Result<Intent, Fail> {
+fn intent_of(alloc: Global, guest: u16, n: u64) -> Result<Intent, Fail> {
     let (address, blocks) = write_of(alloc, guest, n)?;
     if n == 0 {
         return Ok(Intent::program_key(guest, key_of(guest)));
@@ -72,6 +72,28 @@ pub fn intent_of(alloc: Global, guest: u16, n: u64) -> Result<Intent, Fail> {
         return Err(Fail::from("no blocks"));
     }
     Ok(Intent::write(guest, key_of(guest), counter, address, blocks))
+}
+
+/// Adds the write that a guest's request n is.
+fn push_write(alloc: Global, intent: &mut Intent, guest: u16, n: u64) -> Result<(), Fail> {
+    let (address, blocks) = write_of(alloc, guest, n)?;
+    if intent.entries() >= 4 || intent.last_counter() == u32::MAX {
+        return Err(Fail::from("no room"));
+    }
+    if !is_write(address, &blocks) {
+        return Err(Fail::from("no blocks"));
+    }
+    intent.push(Entry::write(address, blocks));
+    Ok(())
+}
+
+/// A guest's requests from n on, so many, as one intent.
+pub fn group_of(alloc: Global, guest: u16, n: u64, size: u64) -> Result<Intent, Fail> {
+    let mut intent = intent_of(alloc, guest, n)?;
+    for place in 1..size {
+        push_write(alloc, &mut intent, guest, n.saturating_add(place))?;
+    }
+    Ok(intent)
 }
 
 /// The blocks of each guest's partition after 0, 1, .. 4 of its requests.

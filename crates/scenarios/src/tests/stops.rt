@@ -1,8 +1,8 @@
-//! Three guests whose requests go to the disk side by side, stopped at and within each call of the
-//! disk, and once more at and within the first call after the opening.
+//! Three guests whose requests go to the disk side by side, one at a time or several as one, stopped at and
+//! within each call of the disk, and once more at and within the first call after the opening.
 
 use crate::tests::image::{formatted, give, opened};
-use crate::tests::intents::{Histories, REQUESTS, intent_of};
+use crate::tests::intents::{Histories, group_of};
 use crate::tests::scene::{board_of, check};
 use disk::{CutDisk, Filler};
 use flusher::{Call, Progress, Store, StoreFault};
@@ -11,25 +11,56 @@ use rpmb_frame::BoardConfig;
 use std::alloc::Global;
 use std::test::Fail;
 
-/// The calls of all requests: 4 writes for each of 3 keys, 5 for each of 9 writes of blocks, and 18
-/// syncs, since each request takes four, and guests 1 and 2 begin one and two syncs after guest 0.
-const CALLS: u32 = 75;
-
-/// How many calls were made when each guest begins.
+/// How many calls were made when each guest begins: one and two syncs after guest 0.
 const BEGINNINGS: [u32; 3] = [0, 2, 5];
+
+/// More calls than any run has.
+const MANY: u32 = 1000;
+
+/// How the requests of the guests go to the store, and how many calls that takes.
+#[derive(Clone, Copy)]
+struct Grouping {
+    /// By guest and request, how many go as one from this request on; 0 where it goes with one before it.
+    sizes: [[u64; 4]; 3],
+    calls: u32,
+    /// After how many stops between calls, and within them, no call follows an opening.
+    without_calls: [u32; 2],
+}
+
+/// One at a time: 4 writes for each of 3 keys, 5 for each of 9 writes of blocks, and 18 syncs, since each
+/// request takes four, and guests 1 and 2 begin one and two syncs after guest 0.
+///
+/// No call follows an opening after the last call, nor before the last sync where 3 of the 4 fillers leave the
+/// last gate shut. Nor does one where 3 of them leave it shut in the last sync, and 2 in the last write, which
+/// what reads give then lacks.
+static SINGLE: Grouping = Grouping {
+    sizes: [[1; 4]; 3],
+    calls: 75,
+    without_calls: [14, 10],
+};
+
+/// A key, a write and two as one; a key and three writes as one; a key and three writes, all as one. A group
+/// takes 4 writes, and one for each write of blocks: 15, 11 and 7, and 12 syncs, four for each group of guest 0.
+static MIXED: Grouping = Grouping {
+    sizes: [[1, 1, 2, 0], [1, 3, 0, 0], [4, 0, 0, 0]],
+    calls: 45,
+    without_calls: [14, 10],
+};
 
 /// What a run begins from, and what its partitions are compared with.
 #[derive(Drop)]
 struct Scene {
+    grouping: Grouping,
     board: BoardConfig,
     /// A formatted image.
     image: Vec<u8>,
     histories: Histories,
 }
 
-fn new_scene(alloc: Global) -> Result<Scene, Fail> {
+fn new_scene(alloc: Global, grouping: &Grouping) -> Result<Scene, Fail> {
     let board = board_of(alloc, 3)?;
     Ok(Scene {
+        grouping: *grouping,
         image: formatted(alloc, &board)?.content().to_vec(alloc)?,
         board,
         histories: Histories::new(alloc)?,
@@ -40,6 +71,7 @@ fn new_scene(alloc: Global) -> Result<Scene, Fail> {
 #[derive(Drop)]
 struct Run {
     store: Store<CutDisk>,
+    sizes: [[u64; 4]; 3],
     given: [u64; 3],
 }
 
@@ -92,8 +124,12 @@ fn sequences_of(partitions: &[Partition]) -> [u64; 3] {
 /// What an opening gives. Each guest goes on behind the requests that its partition has.
 fn run_from(alloc: Global, scene: &Scene, disk: CutDisk) -> Result<(Run, Vec<Partition>), Fail> {
     let (store, partitions) = opened(alloc, disk, &scene.board)?;
-    let given = sequences_of(&partitions);
-    Ok((Run { store, given }, partitions))
+    let run = Run {
+        store,
+        sizes: scene.grouping.sizes,
+        given: sequences_of(&partitions),
+    };
+    Ok((run, partitions))
 }
 
 /// A run on an image.
@@ -107,17 +143,26 @@ fn begun(alloc: Global, scene: &Scene) -> Result<Run, Fail> {
     run_on(alloc, scene, &scene.image)
 }
 
+/// How many of a guest's requests go as one after so many: none where all were given.
+fn size_after(sizes: &[[u64; 4]; 3], guest: u16, given: u64) -> Option<u64> {
+    let of_guest = sizes.get(usize::from(guest))?;
+    of_guest.get(given as usize).copied()
+}
+
 impl Run {
-    /// Gives a guest's next request, if there is one and the guest's slot is free.
+    /// Gives a guest's next requests, if there are some and the guest's slot is free.
     fn give(&mut self, alloc: Global, guest: u16) -> Result<(), Fail> {
         let Some(given) = self.given.get_mut(usize::from(guest)) else {
             return Err(Fail::from("no guest"));
         };
-        if *given >= REQUESTS || !self.store.is_free(guest) {
+        let Some(size) = size_after(&self.sizes, guest, *given) else {
+            return Ok(());
+        };
+        if !self.store.is_free(guest) {
             return Ok(());
         }
-        let intent = intent_of(alloc, guest, *given)?;
-        *given += 1;
+        let intent = group_of(alloc, guest, *given, size)?;
+        *given = given.saturating_add(size);
         give(&mut self.store, intent)
     }
 
@@ -203,12 +248,19 @@ impl Run {
     }
 }
 
+/// Whether there are counts of all requests that a group begins with, and of no others.
+fn has_all(counts: &[[u32; 4]; 3], sizes: &[[u64; 4]; 3]) -> bool {
+    let sizes = sizes.as_flattened().iter();
+    let mut both = counts.as_flattened().iter().zip(sizes);
+    both.all(|(count, size)| (*count > 0) == (*size > 0))
+}
+
 impl Tally {
     /// Counts a partition that was found after so many requests.
     fn count(&mut self, guest: usize, least: u64, found: u64, most: u64) -> Result<(), Fail> {
         check(
-            least <= found && found <= most,
-            "as many requests as may be",
+            found == least || found == most,
+            "all requests that went as one, or none",
         )?;
         self.partitions = self.partitions.wrapping_add(1);
         if least == most {
@@ -237,10 +289,9 @@ impl Tally {
         Ok(())
     }
 
-    /// Whether each request was found undone and done while it wasn't settled.
-    fn has_both(&self) -> bool {
-        self.before.as_flattened().iter().all(|count| *count > 0)
-            && self.after.as_flattened().iter().all(|count| *count > 0)
+    /// Whether each group was found undone and done while it wasn't settled.
+    fn has_both(&self, sizes: &[[u64; 4]; 3]) -> bool {
+        has_all(&self.before, sizes) && has_all(&self.after, sizes)
     }
 }
 
@@ -264,7 +315,7 @@ fn stop_again(
     tally: &mut Tally,
 ) -> Result<(), Fail> {
     let mut run = run_on(alloc, scene, image)?;
-    run.give_all(alloc, CALLS)?;
+    run.give_all(alloc, MANY)?;
     if run.store.next_call() != Call::None {
         tally.calls = tally.calls.wrapping_add(1);
         run.call(within)?;
@@ -322,19 +373,36 @@ fn stop_at(
     Ok(())
 }
 
-/// What is compared at so many places in turn.
-fn stopped_at_each(alloc: Global, places: u32, within: bool) -> Result<Tally, Fail> {
-    let scene = new_scene(alloc)?;
+/// What is compared at each place in turn: after each number of calls, or within each call.
+fn stopped_at_each(alloc: Global, scene: &Scene, within: bool) -> Result<Tally, Fail> {
+    let places = scene.grouping.calls.saturating_add(u32::from(!within));
     let mut tally = no_tally();
     for calls in 0..places {
-        stop_at(alloc, &scene, calls, within, &mut tally)?;
+        stop_at(alloc, scene, calls, within, &mut tally)?;
     }
     Ok(tally)
 }
 
+/// Three partitions are compared at each place with each of 4 fillers, and then at two second stops.
+fn check_stops(alloc: Global, grouping: &Grouping, within: bool) -> Result<(), Fail> {
+    let scene = new_scene(alloc, grouping)?;
+    let tally = stopped_at_each(alloc, &scene, within)?;
+    let places = u64::from(grouping.calls) + u64::from(!within);
+    let without = u64::from(grouping.without_calls[usize::from(within)]);
+    check(
+        u64::from(tally.partitions) == places * 36,
+        "all were compared",
+    )?;
+    check(
+        u64::from(tally.calls) + without == places * 8,
+        "calls after openings",
+    )?;
+    check(tally.has_both(&grouping.sizes), "before and after")
+}
+
 /// Runs to the end, and says how many calls it took.
 fn calls_of(alloc: Global, run: &mut Run) -> Result<u32, Fail> {
-    for calls in 0..1000 {
+    for calls in 0..MANY {
         run.give_all(alloc, calls)?;
         if matches!(run.store.advance()?, Progress::Idle) {
             return Ok(calls);
@@ -345,7 +413,10 @@ fn calls_of(alloc: Global, run: &mut Run) -> Result<u32, Fail> {
 
 fn run_to_the_end(alloc: Global, scene: &Scene) -> Result<Run, Fail> {
     let mut run = begun(alloc, scene)?;
-    check(calls_of(alloc, &mut run)? == CALLS, "the calls")?;
+    check(
+        calls_of(alloc, &mut run)? == scene.grouping.calls,
+        "the calls",
+    )?;
     Ok(run)
 }
 
@@ -355,33 +426,29 @@ fn stopped_at_the_end(alloc: Global, scene: &Scene) -> Result<Stopped, Fail> {
     Ok(end)
 }
 
-#[test]
-fn undisturbed(rt: HostRuntime) -> Result<(), Fail> {
-    let scene = new_scene(rt.alloc())?;
-    let end = stopped_at_the_end(rt.alloc(), &scene)?;
-    end.open(rt.alloc(), &scene, &mut no_tally())?;
+fn check_undisturbed(alloc: Global, grouping: &Grouping) -> Result<(), Fail> {
+    let scene = new_scene(alloc, grouping)?;
+    let end = stopped_at_the_end(alloc, &scene)?;
+    end.open(alloc, &scene, &mut no_tally())?;
     Ok(())
 }
 
-/// Three partitions are compared at each of 76 places with each of 4 fillers, and then at two second
-/// stops. No call follows an opening after the last call, nor before the last sync where 3 of the 4
-/// fillers leave the last gate shut.
 #[test]
-fn stopped_between_calls(rt: HostRuntime) -> Result<(), Fail> {
-    let tally = stopped_at_each(rt.alloc(), CALLS + 1, false)?;
-    check(tally.partitions == 76 * 4 * 9, "all were compared")?;
-    check(tally.calls == 76 * 4 * 2 - 14, "calls after openings")?;
-    check(tally.has_both(), "before and after")
+fn undisturbed(rt: HostRuntime) -> Result<(), Fail> {
+    check_undisturbed(rt.alloc(), &SINGLE)?;
+    check_undisturbed(rt.alloc(), &MIXED)
 }
 
-/// The same at 75 places. No call follows an opening where 3 of the 4 fillers leave the last gate shut
-/// in the last sync, and 2 in the last write, which what reads give then lacks.
+#[test]
+fn stopped_between_calls(rt: HostRuntime) -> Result<(), Fail> {
+    check_stops(rt.alloc(), &SINGLE, false)?;
+    check_stops(rt.alloc(), &MIXED, false)
+}
+
 #[test]
 fn stopped_within_calls(rt: HostRuntime) -> Result<(), Fail> {
-    let tally = stopped_at_each(rt.alloc(), CALLS, true)?;
-    check(tally.partitions == 75 * 4 * 9, "all were compared")?;
-    check(tally.calls == 75 * 4 * 2 - 10, "calls after openings")?;
-    check(tally.has_both(), "before and after")
+    check_stops(rt.alloc(), &SINGLE, true)?;
+    check_stops(rt.alloc(), &MIXED, true)
 }
 
 /// A disk with a failed call is opened as it is, and stopped then.
@@ -392,13 +459,21 @@ fn open_again(alloc: Global, scene: &Scene, calls: u32, tally: &mut Tally) -> Re
     Ok(())
 }
 
-#[test]
-fn opened_again_without_a_stop(rt: HostRuntime) -> Result<(), Fail> {
-    let alloc = rt.alloc();
-    let scene = new_scene(alloc)?;
+fn check_opened_again(alloc: Global, grouping: &Grouping) -> Result<(), Fail> {
+    let scene = new_scene(alloc, grouping)?;
     let mut tally = no_tally();
-    for calls in 0..CALLS {
+    for calls in 0..grouping.calls {
         open_again(alloc, &scene, calls, &mut tally)?;
     }
-    check(tally.partitions == 75 * 6, "all were compared")
+    let places = u64::from(grouping.calls);
+    check(
+        u64::from(tally.partitions) == places * 6,
+        "all were compared",
+    )
+}
+
+#[test]
+fn opened_again_without_a_stop(rt: HostRuntime) -> Result<(), Fail> {
+    check_opened_again(rt.alloc(), &SINGLE)?;
+    check_opened_again(rt.alloc(), &MIXED)
 }
