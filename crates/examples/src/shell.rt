@@ -240,16 +240,18 @@ fn step<R: Files + AllocGlobal + Threads + Wait + Sync>(
     line: &str,
     screen: &mut Vec<u8>,
 ) -> Result<()> {
+    let alloc = folder.rt.alloc();
     let (commands, target) = target_of(line);
     let told = piped(folder, commands)?;
+    let status = told.status;
     match target {
         Target::Screen => screen.extend_from_slice(told.out.as_slice())?,
         Target::File(name) => folder.put(name, told.out)?,
         Target::Behind(name) => folder.add(name, told.out.as_slice())?,
     }
     screen.extend_from_slice(told.err.as_slice())?;
-    if told.status != 0 {
-        let text = format!(in folder.rt.alloc(); "status {}\n", told.status)?;
+    if status != 0 {
+        let text = format!(in alloc; "status {status}\n")?;
         screen.extend_from_slice(text.as_bytes())?;
     }
     Ok(())
