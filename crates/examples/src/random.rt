@@ -7,7 +7,7 @@ use crate::words::made_by;
 use anyhow::{Result, bail};
 use rand_core::{Rng, SeedableRng};
 use rand_xoshiro::Xoshiro256PlusPlus;
-use rpmb_commands::{perform, read_words};
+use rpmb_commands::{Words, perform, read_words};
 use rpmb_frame::BoardConfig;
 use std::alloc::Global;
 use std::rt::Files;
@@ -261,16 +261,12 @@ fn bits_of(alloc: Global, line: &str) -> Result<u64> {
 /// What `rpmb` says of an answer.
 fn explained<R: Files + AllocGlobal>(
     folder: &Folder<'_, R>,
-    explain: &str,
+    words: &Words<'_>,
     line: &str,
 ) -> Result<String> {
     let alloc = folder.rt.alloc();
-    let words: Vec<&str> = explain.split(' ').collect(alloc)?;
-    let Ok(words) = read_words(alloc, words.as_slice()) else {
-        bail!("no words of rpmb");
-    };
     let (mut out, mut err) = (Vec::new(alloc), Vec::new(alloc));
-    if perform(alloc, folder, &words, line, &mut out, &mut err) != 0 {
+    if perform(alloc, folder, words, line, &mut out, &mut err) != 0 {
         bail!("refused words of rpmb");
     }
     Ok(String::from_utf8(out)?)
@@ -284,10 +280,11 @@ fn is_doubted(text: &str) -> bool {
 /// Whether an answer is explained as what its request comes to.
 fn is_right<R: Files + AllocGlobal>(
     folder: &Folder<'_, R>,
+    words: &Words<'_>,
     asked: &Asked,
     line: &str,
 ) -> Result<bool> {
-    let text = explained(folder, asked.explain.as_str(), line)?;
+    let text = explained(folder, words, line)?;
     if asked.is_silent {
         return Ok(text.ends_with(", 0 bytes are no frames\n"));
     }
@@ -301,19 +298,42 @@ fn is_right<R: Files + AllocGlobal>(
 /// Whether each of the bits from one to before another is told, where it is flipped.
 fn are_doubted<R: Files + AllocGlobal>(
     folder: &Folder<'_, R>,
-    asked: &Asked,
+    words: &Words<'_>,
     line: &str,
     from: u64,
     to: u64,
 ) -> Result<bool> {
     for bit in from..to {
         let other = flipped(folder.rt.alloc(), line, bit)?;
-        let text = explained(folder, asked.explain.as_str(), other.as_str())?;
+        let text = explained(folder, words, other.as_str())?;
         if !is_doubted(text.as_str()) {
             return Ok(false);
         }
     }
     Ok(true)
+}
+
+/// Whether an answer is explained rightly, and so is what it is with other bits: each, or a random one.
+fn is_told<R: Files + AllocGlobal>(
+    folder: &Folder<'_, R>,
+    rng: &mut Xoshiro256PlusPlus,
+    asked: &Asked,
+    line: &str,
+    is_each: bool,
+) -> Result<bool> {
+    let alloc = folder.rt.alloc();
+    let words: Vec<&str> = asked.explain.split(' ').collect(alloc)?;
+    let Ok(words) = read_words(alloc, words.as_slice()) else {
+        bail!("no words of rpmb");
+    };
+    let bits = bits_of(alloc, line)?;
+    let bit = below(rng, bits);
+    let (from, to) = match (bits, is_each) {
+        (0, _) => (0, 0),
+        (bits, true) => (0, bits),
+        (_, false) => (bit, bit.saturating_add(1)),
+    };
+    Ok(is_right(folder, &words, asked, line)? && are_doubted(folder, &words, line, from, to)?)
 }
 
 /// The answers to all requests, a line each.
@@ -336,8 +356,8 @@ fn answers<R: Files + AllocGlobal + Threads + Wait + Sync>(
     Ok(String::from_utf8(ended.out)?)
 }
 
-/// Whether all answers are explained rightly, each bit of the first answer of several frames is told where it is
-/// flipped, and one random bit of each other.
+/// Whether all answers are explained rightly, and each bit of the first of them is told where it is flipped, and
+/// one random bit of each other.
 pub fn are_told<R: Files + AllocGlobal + Threads + Wait + Sync>(
     rt: &R,
     path: &str,
@@ -349,22 +369,12 @@ pub fn are_told<R: Files + AllocGlobal + Threads + Wait + Sync>(
     let folder = Folder::new(rt, path);
     let answers = answers(&folder, &board, asks.as_slice())?;
     let lines: Vec<&str> = answers.split_terminator('\n').collect(rt.alloc())?;
-    let mut is_whole = false;
+    let mut is_first = true;
     for (asked, line) in asks.iter().zip(lines.iter()) {
-        if !is_right(&folder, asked, line)? {
+        if !is_told(&folder, &mut rng, asked, line, is_first)? {
             return Ok(false);
         }
-        let bits = bits_of(rt.alloc(), line)?;
-        let from = below(&mut rng, bits);
-        let (from, to) = match (bits, is_whole) {
-            (0, _) => (0, 0),
-            (1..=4096, _) | (_, true) => (from, from.saturating_add(1)),
-            _ => (0, bits),
-        };
-        is_whole = is_whole || bits > 4096;
-        if !are_doubted(&folder, asked, line, from, to)? {
-            return Ok(false);
-        }
+        is_first = false;
     }
-    Ok(is_whole && lines.len() == REQUESTS)
+    Ok(lines.len() == REQUESTS)
 }

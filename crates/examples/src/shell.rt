@@ -234,22 +234,36 @@ fn target_of<'a>(line: &'a str) -> (&'a str, Target<'a>) {
     (line, Target::Screen)
 }
 
+/// Takes the output of commands where it goes.
+fn keep<R: Files + AllocGlobal>(
+    folder: &mut Folder<'_, R>,
+    target: Target<'_>,
+    out: Vec<u8>,
+    screen: &mut Vec<u8>,
+) -> Result<()> {
+    match target {
+        Target::Screen => {
+            screen.extend_from_slice(out.as_slice())?;
+            Ok(())
+        }
+        Target::File(name) => folder.put(name, out),
+        Target::Behind(name) => folder.add(name, out.as_slice()),
+    }
+}
+
 /// Performs the commands of a line, and writes what a screen shows of them.
 fn step<R: Files + AllocGlobal + Threads + Wait + Sync>(
     folder: &mut Folder<'_, R>,
     line: &str,
     screen: &mut Vec<u8>,
 ) -> Result<()> {
+    let alloc = folder.rt.alloc();
     let (commands, target) = target_of(line);
-    let told = piped(folder, commands)?;
-    match target {
-        Target::Screen => screen.extend_from_slice(told.out.as_slice())?,
-        Target::File(name) => folder.put(name, told.out)?,
-        Target::Behind(name) => folder.add(name, told.out.as_slice())?,
-    }
-    screen.extend_from_slice(told.err.as_slice())?;
-    if told.status != 0 {
-        let text = format!(in folder.rt.alloc(); "status {}\n", told.status)?;
+    let Told { status, out, err } = piped(folder, commands)?;
+    keep(folder, target, out, screen)?;
+    screen.extend_from_slice(err.as_slice())?;
+    if status != 0 {
+        let text = format!(in alloc; "status {status}\n")?;
         screen.extend_from_slice(text.as_bytes())?;
     }
     Ok(())
