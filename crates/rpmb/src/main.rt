@@ -11,6 +11,7 @@ use std::{env, io};
 const REFUSED: u8 = 2;
 
 /// The files of the system.
+#[derive(Drop)]
 struct System<'a> {
     rt: &'a HostRuntime,
 }
