@@ -290,7 +290,7 @@ fn is_right<R: Files + AllocGlobal>(
     }
     Ok(
         text.contains(asked.expected.as_str())
-            && text.contains(", MAC right\n")
+            && text.contains(", MAC right")
             && !is_doubted(text.as_str()),
     )
 }

@@ -1,22 +1,18 @@
 -- Made keys, reads and questions are the requests that their words say.
-use Rattle.std.proofs.Common.{◌≡◌, ◌≢◌, ◌<◌, ◌≤◌, ◌+◌, ◌*◌, ◌^◌, ℕ, zero, suc, Bool, true, false, List, [], ◌∷◌, ◌++◌, None, Some, length, refl, ap, sym, ◌∙◌, arith, eqb, ltb, leb, nat_eq}
-use Rattle.std.specs.Prelude.{is_none}
+use Rattle.std.proofs.Common.{◌≡◌, ◌<◌, ◌≤◌, ◌+◌, ◌*◌, ◌^◌, ℕ, true, false, List, [], ◌∷◌, ◌++◌, Some, length, refl, ap, ◌∙◌, arith, ltb}
 use Rattle.std.proofs.lemmas.Bool.Decides.{nat_tests}
 use Rattle.std.proofs.lemmas.List.{append-nil}
 use Rattle.rpmb_frame.specs.Fields.{fields_of}
-use Rattle.rpmb_frame.specs.Frame.{key_mac_of, block_count_of, address_of, req_resp_of, zero_frame, with_key_mac, with_nonce, with_address, with_block_count, with_req_resp}
+use Rattle.rpmb_frame.specs.Frame.{key_mac_of, block_count_of, address_of, req_resp_of, zero_frame, with_key_mac, with_nonce, with_address, with_block_count}
 use Rattle.rpmb_frame.specs.Limits.{Limits}
-use Rattle.rpmb_frame.specs.Partition.{Partition, block_count}
-use Rattle.rpmb_frame.specs.Request.{Command, ProgramKey, GetWriteCounter, DataRead, ResultRead, command_of, frames_of, request}
+use Rattle.rpmb_frame.specs.Request.{ProgramKey, GetWriteCounter, DataRead, ResultRead, command_of, frames_of, request}
 use Rattle.rpmb_frame.proofs.FieldLemmas.{fields_of-with_key_mac, fields_of-with_nonce, fields_of-with_address, fields_of-with_block_count, fields_of-with_req_resp}
 use Rattle.rpmb_frame.proofs.Lengths.{length-zero_frame}
-use Rattle.rpmb_frame.proofs.Joined.{frames_of-joined, frames_of_two, length-joined}
-use Rattle.rpmb_core.specs.Accept.{is_accepted, partition_after}
-use Rattle.rpmb_core.specs.Laws.{IsRightRead, ProgramsOnce}
+use Rattle.rpmb_frame.proofs.Joined.{frames_of-joined, length-joined}
 use Rattle.rpmb_core.specs.Reply.{joined}
 use Rattle.rpmb_core.proofs.Rightness.{gives_right_reads, programs_once}
 use Rattle.rpmb_client.specs.Made.{counter_frame, key_frame, key_frames, read_frame, result_frame}
-use Rattle.rpmb_client.specs.Laws.{MadeCounter, MadeReads, MadeResult, ProgramsKey, ReadsBlocks}
+use Rattle.rpmb_client.specs.Laws.{MadeCounter, MadeReads, MadeResult, ProgramsKey}
 
 -- a frame of this type that stands alone
 abbrev One : ℕ → List ℕ → Type 0

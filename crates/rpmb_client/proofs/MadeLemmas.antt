@@ -1,30 +1,19 @@
 -- The frames of made requests, by their fields.
-use Rattle.std.proofs.Common.{◌≡◌, ◌≢◌, ◌<◌, ◌≤◌, ◌+◌, ◌-◌, ◌*◌, ◌/◌, ◌^◌, ℕ, zero, suc, Bool, true, false, ◌&&◌, ◌||◌, List, [], ◌∷◌, ◌++◌, Option, None, Some, length, map, take, drop, set, get_or, refl, ap, sym, subst, ◌∙◌, arith, eqb, ltb, leb, nat_eq, length-append}
-use Rattle.std.specs.Prelude.{if◌then◌else◌, not, is_none, unwrap_or}
-use Rattle.std.specs.List.{flat_map, list_all, AllByRecursion}
+use Rattle.std.proofs.Common.{◌≡◌, ◌<◌, ◌≤◌, ◌-◌, ◌^◌, ℕ, zero, suc, true, List, [], ◌∷◌, length, set, get_or, refl, ap, ◌∙◌, arith}
+use Rattle.std.specs.List.{list_all, AllByRecursion}
 use Rattle.std.proofs.lemmas.Bool.Decides.{nat_tests}
-use Rattle.std.proofs.lemmas.List.{append-nil}
 use Rattle.rpmb_frame.specs.Codes.{req_data_write, req_result_read}
 use Rattle.rpmb_frame.specs.Combined.{IsFrameOf}
 use Rattle.rpmb_frame.specs.Fields.{Fields, HasFields, fields_of}
-use Rattle.rpmb_frame.specs.Frame.{key_mac_of, nonce_of, body_of, write_counter_of, block_count_of, address_of, req_resp_of, first_of, last_of, zero_frame, with_key_mac, with_block_data, with_nonce, with_write_counter, with_address, with_block_count, with_req_resp}
-use Rattle.rpmb_frame.specs.Limits.{Limits}
-use Rattle.rpmb_frame.specs.Partition.{Partition, block_count}
-use Rattle.rpmb_frame.specs.Request.{Command, ProgramKey, GetWriteCounter, DataWrite, DataRead, ResultRead, command_of, frames_of, request}
-use Rattle.rpmb_frame.proofs.FieldLemmas.{fields_of-with_key_mac, fields_of-with_block_data, fields_of-with_nonce, fields_of-with_write_counter, fields_of-with_address, fields_of-with_block_count, fields_of-with_req_resp}
+use Rattle.rpmb_frame.specs.Frame.{write_counter_of, block_count_of, address_of, req_resp_of, zero_frame, with_key_mac, with_block_data, with_write_counter, with_address, with_block_count}
+use Rattle.rpmb_frame.proofs.FieldLemmas.{fields_of-with_key_mac, fields_of-with_block_data, fields_of-with_write_counter, fields_of-with_address, fields_of-with_block_count, fields_of-with_req_resp}
 use Rattle.rpmb_frame.proofs.Lengths.{length-zero_frame}
-use Rattle.rpmb_frame.proofs.Joined.{frames_of-joined, frames_of_two, length-joined}
-use Rattle.rpmb_frame.proofs.CombinedLemmas.{combines_writes}
 use Rattle.hmac256.specs.Hmac.{mac}
 use Rattle.hmac256.proofs.Lengths.{length-mac}
-use Rattle.rpmb_core.specs.Accept.{is_accepted, partition_after}
-use Rattle.rpmb_core.specs.Laws.{IsRightHeader, IsRightWrite, IsRightRead, last_count}
-use Rattle.rpmb_core.specs.Reply.{joined, sealed}
-use Rattle.rpmb_core.specs.Verdict.{same_header, verdict}
-use Rattle.rpmb_core.proofs.Frames.{joined-more}
-use Rattle.rpmb_core.proofs.Rightness.{accepts_right_writes, gives_right_reads, programs_once}
-use Rattle.rpmb_client.specs.Made.{asking, counter_frame, frames_like, key_frame, key_frames, read_frame, result_frame, write_frames, write_header}
-use Rattle.rpmb_client.specs.Laws.{AreBlocks, MadeCounter, MadeReads, MadeResult, MadeWrites, ProgramsKey, ReadsBlocks, WritesBlocks, room_of}
+use Rattle.rpmb_core.specs.Reply.{sealed}
+use Rattle.rpmb_core.specs.Verdict.{same_header}
+use Rattle.rpmb_client.specs.Made.{frames_like, result_frame, write_frames, write_header}
+use Rattle.rpmb_client.specs.Laws.{AreBlocks}
 
 -- the numbers of a frame
 pub record IsFrame (type counter address count : ℕ) (frame : List ℕ) : Type 0 where

@@ -1,27 +1,21 @@
 -- Made writes are the writes that their words say, and right ones.
-use Rattle.std.proofs.Common.{◌≡◌, ◌≢◌, ◌<◌, ◌≤◌, ◌+◌, ◌-◌, ◌*◌, ◌^◌, ℕ, zero, suc, Bool, true, false, ◌&&◌, ◌||◌, List, [], ◌∷◌, ◌++◌, Option, None, Some, length, get_or, refl, ap, sym, subst, ◌∙◌, arith, eqb, ltb, leb, nat_eq}
-use Rattle.std.specs.Prelude.{not, is_none, unwrap_or}
-use Rattle.std.specs.List.{AllByRecursion, list_all}
+use Rattle.std.proofs.Common.{◌≡◌, ◌<◌, ◌≤◌, ◌+◌, ◌-◌, ◌*◌, ◌^◌, ℕ, suc, Bool, true, false, List, [], ◌∷◌, Some, length, get_or, refl, ap, sym, ◌∙◌, arith, ltb, leb, nat_eq}
 use Rattle.std.proofs.lemmas.Bool.Decides.{nat_tests}
-use Rattle.rpmb_frame.specs.Codes.{req_data_write, req_result_read}
-use Rattle.rpmb_frame.specs.Combined.{IsFrameOf}
-use Rattle.rpmb_frame.specs.Frame.{key_mac_of, block_count_of, address_of, write_counter_of, req_resp_of, first_of, last_of}
+use Rattle.rpmb_frame.specs.Frame.{key_mac_of, req_resp_of, last_of}
 use Rattle.rpmb_frame.specs.Limits.{Limits}
 use Rattle.rpmb_frame.specs.Partition.{Partition, block_count}
 use Rattle.rpmb_frame.specs.Request.{DataWrite, command_of, frames_of, request}
 use Rattle.rpmb_frame.proofs.Joined.{frames_of-joined, length-joined}
 use Rattle.rpmb_frame.proofs.CombinedLemmas.{combines_writes}
 use Rattle.hmac256.specs.Hmac.{mac}
-use Rattle.rpmb_core.specs.Accept.{is_accepted}
-use Rattle.rpmb_core.specs.Laws.{IsRightHeader, IsRightWrite, last_count}
-use Rattle.rpmb_core.specs.Reply.{joined, sealed}
-use Rattle.rpmb_core.specs.Verdict.{same_header}
+use Rattle.rpmb_core.specs.Laws.{IsRightWrite}
+use Rattle.rpmb_core.specs.Reply.{joined}
 use Rattle.rpmb_core.proofs.Frames.{joined-more}
 use Rattle.rpmb_core.proofs.Rightness.{accepts_right_writes}
 use Rattle.rpmb_client.specs.Made.{asking, frames_like, result_frame, write_frames, write_header}
-use Rattle.rpmb_client.specs.Laws.{AreBlocks, MadeWrites, WritesBlocks, room_of}
+use Rattle.rpmb_client.specs.Laws.{AreBlocks, MadeWrites, room_of}
 use Rattle.rpmb_client.proofs.SealLemmas.{sealed_verifies}
-use Rattle.rpmb_client.proofs.MadeLemmas.{AreMade, AreWrites, IsFrame, alike, are_512, are_typed, at_all, header_is, like_are, like_long, made_are, result_is}
+use Rattle.rpmb_client.proofs.MadeLemmas.{AreMade, AreWrites, alike, are_512, are_typed, at_all, header_is, like_are, like_long, made_are, result_is}
 
 by_test : {P : Type 0} (b : Bool) → (b ≡ true → P) → (b ≡ false → P) → P
 by_test true f g = f refl

@@ -1,11 +1,11 @@
 -- A line of `rpmbd run` that gives a reply, and what can be judged of the reply.
-use Rattle.std.specs.Prelude.{ℕ, ◌==◌, ◌/◌, ◌*◌, ◌&&◌, ◌||◌, not, Bool, if◌then◌else◌, List, [], ◌∷◌, length, codes, Option, Some, None, option_and_then, is_some}
+use Rattle.std.specs.Prelude.{ℕ, ◌==◌, ◌/◌, ◌*◌, ◌&&◌, not, Bool, if◌then◌else◌, List, [], ◌∷◌, length, codes, Option, Some, None, option_and_then}
 use Rattle.std.specs.List.{flat_map}
 use Rattle.std.specs.Str.{bytes_eq}
 use Rattle.script.specs.Words.{bytes_of, number_of, words_of}
 use Rattle.rpmb_frame.specs.Codes.{res_ok, resp_data_read}
 use Rattle.rpmb_frame.specs.Table.{first_row}
-use Rattle.rpmb_frame.specs.Frame.{block_data_of, key_mac_of, nonce_of, req_resp_of, result_of, first_of, last_of}
+use Rattle.rpmb_frame.specs.Frame.{block_data_of, key_mac_of, nonce_of, req_resp_of, result_of, last_of}
 use Rattle.rpmb_frame.specs.Request.{frames_of}
 use Rattle.hmac256.specs.Hmac.{mac}
 

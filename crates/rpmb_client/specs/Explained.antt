@@ -1,11 +1,11 @@
 -- What is said of an answer.
-use Rattle.std.specs.Prelude.{ℕ, zero, suc, ◌+◌, ◌==◌, Bool, true, false, take, if◌then◌else◌, Option, Some, None, List, [], ◌∷◌, ◌++◌, codes, get_or, length, replicate, slice_range}
+use Rattle.std.specs.Prelude.{ℕ, zero, suc, ◌+◌, ◌==◌, Bool, true, false, if◌then◌else◌, Option, Some, None, List, [], ◌∷◌, ◌++◌, codes, get_or, length, replicate, slice_range}
 use Rattle.std.specs.Fmt.{decimal}
 use Rattle.std.specs.Str.{bytes_eq}
 use Rattle.hex.specs.Hex.{encode_lower}
 use Rattle.rpmb_frame.specs.Codes.{resp_program_key, resp_get_counter, resp_data_write, resp_data_read, res_ok, res_general_failure, res_auth_failure, res_count_failure, res_addr_failure, res_write_failure, res_no_auth_key, res_write_counter_expired}
 use Rattle.rpmb_frame.specs.Table.{first_row}
-use Rattle.rpmb_frame.specs.Frame.{key_mac_of, nonce_of, write_counter_of, address_of, block_count_of, result_of, req_resp_of}
+use Rattle.rpmb_frame.specs.Frame.{block_data_of, key_mac_of, nonce_of, write_counter_of, address_of, block_count_of, result_of, req_resp_of}
 use Rattle.rpmb_client.specs.Answer.{is_mac_right, is_nonce_right, is_whole}
 use Rattle.rpmb_frame.specs.Request.{frames_of}
 
@@ -53,6 +53,13 @@ mac_text false key frames frame = if is_zeros (key_mac_of frame) 32 then codes "
 mac_text true None frames frame = codes "not looked at"
 mac_text true (Some key) frames frame = if is_mac_right key frames then codes "right" else codes "wrong"
 
+-- a block, which only reads give: nothing is said of one of zeros
+abbrev pub data_name : List ℕ → List ℕ
+data_name frame = if is_zeros (block_data_of frame) 256 then [] else codes ", data "
+
+abbrev pub data_digits : List ℕ → List ℕ
+data_digits frame = if is_zeros (block_data_of frame) 256 then [] else encode_lower (block_data_of frame)
+
 -- what no MAC covers
 abbrev pub stuff_text : List ℕ → List ℕ
 stuff_text frame = if is_zeros (slice_range frame 0 196) 196 then [] else codes ", stuff not zeros"
@@ -76,7 +83,7 @@ unfoldable pub checks_text : ℕ → List (List ℕ) → Option (List ℕ) → O
 checks_text i frames key asked =
     let frame = get_or frames i [] in
     codes ", nonce " ++ nonce_text asked frame ++ codes ", MAC " ++ mac_text (i + 1 == length frames) key frames frame
-    ++ stuff_text frame ++ 10 ∷ []
+    ++ data_name frame ++ data_digits frame ++ stuff_text frame ++ 10 ∷ []
 
 -- the line of frame i, counted from 0, under a key and a nonce where they are given
 unfoldable pub frame_line : ℕ → ℕ → List (List ℕ) → Option (List ℕ) → Option (List ℕ) → List ℕ

@@ -1,12 +1,12 @@
 -- What the lines and requests that a client makes are to `rpmbd` and to a partition (VIRTIO 1.2, 5.12.6).
-use Rattle.std.specs.Prelude.{◌≡◌, ◌≢◌, ◌<◌, ◌≤◌, ◌+◌, ◌*◌, ◌^◌, ℕ, Bool, true, false, if◌then◌else◌, List, [], ◌∷◌, length, Some, None}
+use Rattle.std.specs.Prelude.{◌≡◌, ◌≢◌, ◌<◌, ◌≤◌, ◌+◌, ◌*◌, ◌^◌, ℕ, Bool, true, if◌then◌else◌, List, [], ◌∷◌, length, Some, None}
 use Rattle.std.specs.List.{AllByRecursion}
 use Rattle.hex.specs.Hex.{IsBytes}
 use Rattle.script.specs.Line.{line_of, chain}
 use Rattle.rpmb_frame.specs.Codes.{res_ok}
 use Rattle.rpmb_frame.specs.Limits.{Limits}
 use Rattle.rpmb_frame.specs.Partition.{Partition, block_count}
-use Rattle.rpmb_frame.specs.Request.{Request, Command, ProgramKey, GetWriteCounter, DataWrite, DataRead, ResultRead, command_of, request}
+use Rattle.rpmb_frame.specs.Request.{ProgramKey, GetWriteCounter, DataWrite, DataRead, ResultRead, command_of, request}
 use Rattle.rpmb_core.specs.Accept.{is_accepted, partition_after}
 use Rattle.rpmb_core.specs.Laws.{last_count}
 use Rattle.rpmb_core.specs.Reply.{joined}

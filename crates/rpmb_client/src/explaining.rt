@@ -1,7 +1,7 @@
 //! What is said of a reply, a line for each of its frames.
 ghost use Rattle.std.specs.Prelude.{◌≡◌, ◌<◌, ◌≤◌, ◌+◌, ◌++◌, ◌∷◌, ◌==◌, IfOk, OnOk, [], get_or, length, string_bytes};
 ghost use Rattle.std.specs.Io.KnownBytes.{Appends};
-ghost use Rattle.rpmb_client.specs.Explained.{checks_text, fields_text, front_text, frame_line, frame_lines, kind_text, mac_text, no_frames_line, nonce_text, place_text, reply_lines, result_text, stuff_text, two_bytes};
+ghost use Rattle.rpmb_client.specs.Explained.{checks_text, data_digits, data_name, fields_text, front_text, frame_line, frame_lines, kind_text, mac_text, no_frames_line, nonce_text, place_text, reply_lines, result_text, stuff_text, two_bytes};
 
 use crate::answer::{Used, has_nonce, has_right_mac, is_whole};
 use crate::fault::ClientFault;
@@ -88,6 +88,26 @@ fn mac_text(
     }
 }
 
+fn data_name(bytes: &[u8; 512]) -> &'static str
+    ensures { result.now ≡ data_name bytes.now }
+{
+    if Frame::from_bytes(bytes).block_data() == [0; 256] {
+        ""
+    } else {
+        ", data "
+    }
+}
+
+fn data_digits(alloc: Global, bytes: &[u8; 512]) -> Result<String, AllocError>
+    ensures { IfOk result (λ text. string_bytes text ≡ data_digits bytes.now) }
+{
+    let data = Frame::from_bytes(bytes).block_data();
+    if data == [0; 256] {
+        return Ok(String::new(alloc));
+    }
+    hex::encode(alloc, &data)
+}
+
 fn stuff_text(bytes: &[u8; 512]) -> &'static str
     ensures { result.now ≡ stuff_text bytes.now }
 {
@@ -165,9 +185,13 @@ fn write_checks<W: Write>(
     let Ok(nonce) = nonce_text(alloc, nonce, bytes) else {
         return Err(ClientFault::NoMemory);
     };
+    let Ok(digits) = data_digits(alloc, bytes) else {
+        return Err(ClientFault::NoMemory);
+    };
     let mac = mac_text(i + 1 == frames.len(), key, frames, bytes);
+    let data = data_name(bytes);
     let stuff = stuff_text(bytes);
-    match writeln!(out, ", nonce {nonce}, MAC {mac}{stuff}") {
+    match writeln!(out, ", nonce {nonce}, MAC {mac}{data}{digits}{stuff}") {
         Ok(()) => Ok(()),
         Err(_) => Err(ClientFault::FileFault),
     }

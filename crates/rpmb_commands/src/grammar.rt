@@ -133,23 +133,22 @@ fn bare<'a>(alloc: Global) -> Command<'a> {
 
 /// `program` with one command more, if there was memory to make that.
 fn with_command<'a>(
-    program: Result<Command<'a>, AllocError>,
+    program: Command<'a>,
     command: Result<Command<'a>, AllocError>,
 ) -> Result<Command<'a>, AllocError> {
-    match (program, command) {
-        (Ok(program), Ok(command)) => program.subcommand(command),
-        _ => Err(AllocError),
+    match command {
+        Ok(command) => program.subcommand(command),
+        Err(error) => Err(error),
     }
 }
 
 /// The program with all its commands.
 pub fn program<'a>(alloc: Global) -> Result<Command<'a>, AllocError> {
-    let program = Ok(bare(alloc));
-    let program = with_command(program, program_key(alloc));
-    let program = with_command(program, read_counter(alloc));
-    let program = with_command(program, write(alloc));
-    let program = with_command(program, read(alloc));
-    let program = with_command(program, result(alloc));
-    let program = with_command(program, explain(alloc));
+    let program = with_command(bare(alloc), program_key(alloc))?;
+    let program = with_command(program, read_counter(alloc))?;
+    let program = with_command(program, write(alloc))?;
+    let program = with_command(program, read(alloc))?;
+    let program = with_command(program, result(alloc))?;
+    let program = with_command(program, explain(alloc))?;
     with_command(program, read_data(alloc))
 }
