@@ -95,6 +95,19 @@ pub record PopRefused (reason : Type 0) (memory : List ℕ) (ring : RingState) (
 abbrev pub MayGrow : Result (Option Found) ChainFault → ℕ → List Link → Type 0
 MayGrow next size members = ReachesBuffer size false members ⊎ ((found : Found) × (next ≡ Ok (Some found)))
 
+-- the chain that next says, with the bytes of it that are to be read
+pub record FindsChain (next : Result (Option Found) ChainFault) (memory : List ℕ) (popped : Popped) : Type 0 where
+  pub chain : next ≡ Ok (Some (found_of popped))
+  pub request : popped.request.items ≡ take most_gathered (flat_map (bytes_of memory) popped.chain.readable)
+
+-- what a ring answers of the place after those popped, before anything changes
+abbrev pub Finds : Result (Option Found) ChainFault → List Link → List ℕ → Result (Option Popped) RingFault → Type 0
+Finds next members memory (Ok None) = next ≡ Ok None
+Finds next members memory (Ok (Some popped)) = FindsChain next memory popped
+Finds next members memory (Err NoMemory) = MayGrow next (length memory) members
+Finds next members memory (Err (Refused fault)) = next ≡ Err fault
+Finds next members memory (Err OldNumber) = ⊥
+
 -- A pop begins to count its reads, and so many descriptors are read; no more where memory ran out.
 abbrev pub CountsReads : Result (Option Popped) RingFault → ReadCount → ReadCount → ℕ → Type 0
 CountsReads (Ok answer) old new count = new ≡ record (cleared old) { count = count }

@@ -2,7 +2,7 @@ ghost use Rattle.std.specs.Prelude.{◌≡◌, ◌≤◌, ◌<◌, ◌+◌, ◌-
 ghost use Rattle.std.specs.List.{position};
 ghost use Rattle.chains.specs.Range.{AreInside};
 ghost use Rattle.chains.specs.Walk.{reads_of};
-ghost use Rattle.chains.specs.Ring.{first_state, is_chain, IsOutstanding, IsFree, Ascend, Pops, CountsReads, Publishes};
+ghost use Rattle.chains.specs.Ring.{first_state, is_chain, IsOutstanding, IsFree, Ascend, Finds, Pops, CountsReads, Publishes};
 ghost use Rattle.packed_ring.specs.Layout.{descriptor_ring, AreasInside, IsRing};
 ghost use Rattle.packed_ring.specs.Available.{next, members, event};
 ghost use Rattle.packed_ring.specs.Used.{used_written};
@@ -106,6 +106,36 @@ impl Ring {
         }
     }
 
+    /// The chain at the place after those popped, with the bytes that it has to be read; `None` where that place
+    /// isn't available. It counts `reads` anew.
+    fn find(
+        &self,
+        alloc: Global,
+        memory: &Memory,
+        reads: &mut Reads,
+    ) -> Result<Option<Popped>, RingFault>
+        requires areas { AreasInside (length memory.now) self.now }
+        ensures finds { Finds (next memory.now self.now) (members memory.now self.now) memory.now result }
+        ensures inside { IfOk result (λ popped. IfSome popped (λ popped. AreInside (length memory.now) popped.chain.writable)) }
+        ensures reads { CountsReads result reads.old reads.new (reads_of (length memory.now) false (members memory.now self.now)) }
+        ensures few { reads.new.count ≤ self.now.size + 1024 }
+    {
+        reads.clear();
+        if !is_next(memory, &self.places, self.size, self.popped) {
+            return Ok(None);
+        }
+        let ring = self.descriptor_ring();
+        let start = index(self.size, self.popped);
+        let walked = walk(alloc, memory, reads, &ring, start)?;
+        let request = walked.chain.gather(alloc, memory)?;
+        Ok(Some(Popped {
+            id: walked.id,
+            places: walked.places,
+            chain: walked.chain,
+            request,
+        }))
+    }
+
     /// Pops the chain at the place after those popped, or answers `None` where that place isn't
     /// available. It writes nothing. The chain is known by `number` from then on; its id is that in its
     /// last descriptor in the ring.
@@ -132,31 +162,21 @@ impl Ring {
         ensures reads { CountsReads result reads.old reads.new (reads_of (length memory.old) false (members memory.old self.old)) }
         ensures few { reads.new.count ≤ self.old.size + 1024 }
     {
-        reads.clear();
         if number <= self.last {
+            reads.clear();
             return Err(RingFault::OldNumber);
         }
-        if !is_next(memory, &self.places, self.size, self.popped) {
+        let Some(popped) = self.find(alloc, memory, reads)? else {
             return Ok(None);
-        }
-        let ring = self.descriptor_ring();
-        let start = index(self.size, self.popped);
-        let walked = walk(alloc, memory, reads, &ring, start)?;
-        let request = walked.chain.gather(alloc, memory)?;
-        let chain = Outstanding {
-            number,
-            id: walked.id,
-            places: walked.places,
         };
-        self.outstanding.push(chain)?;
+        self.outstanding.push(Outstanding {
+            number,
+            id: popped.id,
+            places: popped.places,
+        })?;
         self.last = number;
-        self.popped += walked.places as u128;
-        Ok(Some(Popped {
-            id: walked.id,
-            places: walked.places,
-            chain: walked.chain,
-            request,
-        }))
+        self.popped += popped.places as u128;
+        Ok(Some(popped))
     }
 
     /// Publishes a chain as used: writes one used descriptor at the first place that isn't used, and

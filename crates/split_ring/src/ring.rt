@@ -2,7 +2,7 @@ ghost use Rattle.std.specs.Prelude.{◌≡◌, ◌≤◌, ◌<◌, ◌+◌, ◌-
 ghost use Rattle.std.specs.List.{position};
 ghost use Rattle.chains.specs.Range.{AreInside};
 ghost use Rattle.chains.specs.Walk.{reads_of};
-ghost use Rattle.chains.specs.Ring.{first_state, is_chain, IsOutstanding, IsFree, Ascend, Pops, CountsReads, Publishes};
+ghost use Rattle.chains.specs.Ring.{first_state, is_chain, IsOutstanding, IsFree, Ascend, Finds, Pops, CountsReads, Publishes};
 ghost use Rattle.split_ring.specs.Layout.{descriptor_table, AreasInside, IsRing};
 ghost use Rattle.split_ring.specs.Available.{next, members, event};
 ghost use Rattle.split_ring.specs.Used.{used_written};
@@ -104,6 +104,37 @@ impl Ring {
         }
     }
 
+    /// The chain at the place after those popped, with the bytes that it has to be read; `None` where that place
+    /// isn't available. It counts `reads` anew.
+    fn find(
+        &self,
+        alloc: Global,
+        memory: &Memory,
+        reads: &mut Reads,
+    ) -> Result<Option<Popped>, RingFault>
+        requires areas { AreasInside (length memory.now) self.now }
+        ensures finds { Finds (next memory.now self.now) (members memory.now self.now) memory.now result }
+        ensures inside { IfOk result (λ popped. IfSome popped (λ popped. AreInside (length memory.now) popped.chain.writable)) }
+        ensures reads { CountsReads result reads.old reads.new (reads_of (length memory.now) false (members memory.now self.now)) }
+        ensures few { reads.new.count ≤ self.now.size + 1024 }
+    {
+        reads.clear();
+        let head = match next_head(memory, &self.places, self.size, self.popped) {
+            Ok(Some(head)) => head,
+            Ok(None) => return Ok(None),
+            Err(fault) => return Err(RingFault::Refused(fault)),
+        };
+        let table = self.descriptor_table();
+        let walked = walk(alloc, memory, reads, &table, head as u64)?;
+        let request = walked.chain.gather(alloc, memory)?;
+        Ok(Some(Popped {
+            id: walked.id,
+            places: walked.places,
+            chain: walked.chain,
+            request,
+        }))
+    }
+
     /// Pops the chain at the place after those popped, or answers `None` where that place isn't
     /// available. Both write avail_event, where `VIRTIO_F_EVENT_IDX` was accepted, and nothing else.
     /// The chain is known by `number` from then on.
@@ -131,36 +162,23 @@ impl Ring {
         ensures reads { CountsReads result reads.old reads.new (reads_of (length memory.old) false (members memory.old self.old)) }
         ensures few { reads.new.count ≤ self.old.size + 1024 }
     {
-        reads.clear();
         if number <= self.last {
+            reads.clear();
             return Err(RingFault::OldNumber);
         }
-        let head = match next_head(memory, &self.places, self.size, self.popped) {
-            Ok(Some(head)) => head,
-            Ok(None) => {
-                write_avail_event(memory, &self.places, self.size, self.popped);
-                return Ok(None);
-            }
-            Err(fault) => return Err(RingFault::Refused(fault)),
+        let Some(popped) = self.find(alloc, memory, reads)? else {
+            write_avail_event(memory, &self.places, self.size, self.popped);
+            return Ok(None);
         };
-        let table = self.descriptor_table();
-        let walked = walk(alloc, memory, reads, &table, head as u64)?;
-        let request = walked.chain.gather(alloc, memory)?;
-        let chain = Outstanding {
+        self.outstanding.push(Outstanding {
             number,
-            id: walked.id,
-            places: walked.places,
-        };
-        self.outstanding.push(chain)?;
+            id: popped.id,
+            places: popped.places,
+        })?;
         self.last = number;
-        self.popped += walked.places as u128;
+        self.popped += popped.places as u128;
         write_avail_event(memory, &self.places, self.size, self.popped);
-        Ok(Some(Popped {
-            id: walked.id,
-            places: walked.places,
-            chain: walked.chain,
-            request,
-        }))
+        Ok(Some(popped))
     }
 
     /// Publishes a chain as used: writes the element and the index of the used ring, and nothing
