@@ -22,27 +22,42 @@ fn address<'a>(alloc: Global) -> Arg<'a> {
     option(alloc, "address", "A", "The first block, from 0 on").required(true)
 }
 
+/// `command` with one option more, if there was memory to make that.
+fn with_option<'a>(
+    command: Result<Command<'a>, AllocError>,
+    option: Arg<'a>,
+) -> Result<Command<'a>, AllocError> {
+    match command {
+        Ok(command) => command.arg(option),
+        Err(error) => Err(error),
+    }
+}
+
+/// A command of a guest.
+fn of_guest<'a>(
+    alloc: Global,
+    name: &'a str,
+    about: &'a str,
+) -> Result<Command<'a>, AllocError> {
+    Command::new(alloc, name).about(about).arg(guest(alloc))
+}
+
 fn program_key<'a>(alloc: Global) -> Result<Command<'a>, AllocError> {
-    Command::new(alloc, "program-key")
-        .about("Makes the line that programs the key and asks for the result")
-        .arg(guest(alloc))?
-        .arg(key(alloc).required(true))
+    let command = of_guest(
+        alloc,
+        "program-key",
+        "Makes the line that programs the key and asks for the result",
+    );
+    with_option(command, key(alloc).required(true))
 }
 
 fn read_counter<'a>(alloc: Global) -> Result<Command<'a>, AllocError> {
-    Command::new(alloc, "read-counter")
-        .about("Makes the line that asks for the write counter")
-        .arg(guest(alloc))?
-        .arg(nonce(alloc).required(true))
-}
-
-fn write_front<'a>(alloc: Global) -> Result<Command<'a>, AllocError> {
-    Command::new(alloc, "write")
-        .about("Makes the lines that write blocks")
-        .arg(guest(alloc))?
-        .arg(key(alloc).required(true))?
-        .arg(counter(alloc))?
-        .arg(address(alloc))
+    let command = of_guest(
+        alloc,
+        "read-counter",
+        "Makes the line that asks for the write counter",
+    );
+    with_option(command, nonce(alloc).required(true))
 }
 
 fn counter<'a>(alloc: Global) -> Arg<'a> {
@@ -85,11 +100,14 @@ fn no_result<'a>(alloc: Global) -> Arg<'a> {
 }
 
 fn write<'a>(alloc: Global) -> Result<Command<'a>, AllocError> {
-    write_front(alloc)?
-        .arg(data(alloc))?
-        .arg(file(alloc))?
-        .arg(most(alloc))?
-        .arg(no_result(alloc))
+    let command = of_guest(alloc, "write", "Makes the lines that write blocks");
+    let command = with_option(command, key(alloc).required(true));
+    let command = with_option(command, counter(alloc));
+    let command = with_option(command, address(alloc));
+    let command = with_option(command, data(alloc));
+    let command = with_option(command, file(alloc));
+    let command = with_option(command, most(alloc));
+    with_option(command, no_result(alloc))
 }
 
 fn count<'a>(alloc: Global) -> Arg<'a> {
@@ -97,32 +115,32 @@ fn count<'a>(alloc: Global) -> Arg<'a> {
 }
 
 fn read<'a>(alloc: Global) -> Result<Command<'a>, AllocError> {
-    Command::new(alloc, "read")
-        .about("Makes the line that reads blocks")
-        .arg(guest(alloc))?
-        .arg(address(alloc))?
-        .arg(count(alloc))?
-        .arg(nonce(alloc).required(true))
+    let command = of_guest(alloc, "read", "Makes the line that reads blocks");
+    let command = with_option(command, address(alloc));
+    let command = with_option(command, count(alloc));
+    with_option(command, nonce(alloc).required(true))
 }
 
 fn result<'a>(alloc: Global) -> Result<Command<'a>, AllocError> {
-    Command::new(alloc, "result")
-        .about("Makes the line that asks for the result of the last key or write")
-        .arg(guest(alloc))
+    of_guest(
+        alloc,
+        "result",
+        "Makes the line that asks for the result of the last key or write",
+    )
 }
 
 fn explain<'a>(alloc: Global) -> Result<Command<'a>, AllocError> {
-    Command::new(alloc, "explain")
+    let command = Command::new(alloc, "explain")
         .about("Reads the lines of `rpmbd run`, and says what each reply is")
-        .arg(key(alloc))?
-        .arg(nonce(alloc))
+        .arg(key(alloc));
+    with_option(command, nonce(alloc))
 }
 
 fn read_data<'a>(alloc: Global) -> Result<Command<'a>, AllocError> {
-    Command::new(alloc, "read-data")
+    let command = Command::new(alloc, "read-data")
         .about("Reads the line of a read, and writes its blocks where its MAC and nonce are right")
-        .arg(key(alloc).required(true))?
-        .arg(nonce(alloc).required(true))
+        .arg(key(alloc).required(true));
+    with_option(command, nonce(alloc).required(true))
 }
 
 fn bare<'a>(alloc: Global) -> Command<'a> {
@@ -131,24 +149,24 @@ fn bare<'a>(alloc: Global) -> Command<'a> {
         .subcommand_required(true)
 }
 
-/// `program` with one command more, if there was memory to make that.
+/// `program` with one command more, if there was memory to make both.
 fn with_command<'a>(
-    program: Command<'a>,
+    program: Result<Command<'a>, AllocError>,
     command: Result<Command<'a>, AllocError>,
 ) -> Result<Command<'a>, AllocError> {
-    match command {
-        Ok(command) => program.subcommand(command),
-        Err(error) => Err(error),
+    match (program, command) {
+        (Ok(program), Ok(command)) => program.subcommand(command),
+        _ => Err(AllocError),
     }
 }
 
 /// The program with all its commands.
 pub fn program<'a>(alloc: Global) -> Result<Command<'a>, AllocError> {
-    let program = with_command(bare(alloc), program_key(alloc))?;
-    let program = with_command(program, read_counter(alloc))?;
-    let program = with_command(program, write(alloc))?;
-    let program = with_command(program, read(alloc))?;
-    let program = with_command(program, result(alloc))?;
-    let program = with_command(program, explain(alloc))?;
+    let program = with_command(Ok(bare(alloc)), program_key(alloc));
+    let program = with_command(program, read_counter(alloc));
+    let program = with_command(program, write(alloc));
+    let program = with_command(program, read(alloc));
+    let program = with_command(program, result(alloc));
+    let program = with_command(program, explain(alloc));
     with_command(program, read_data(alloc))
 }
