@@ -1,17 +1,23 @@
-//! What each command of `rpmbd` does, once its files are read: over any disk, and any two writers for
-//! standard output and standard error. The program's faults, and how it tells them, stand here too.
+//! What each command of `rpmbd` does: over any disk, and any two writers for standard output and standard error,
+//! once its files are read. The program's faults, how it tells them, and the way from its words and files to its
+//! status stand here too.
 #![tactic(auto)]
 
 mod answering;
 mod fault;
+mod files;
 mod formatting;
+mod fresh;
 mod parting;
 mod performing;
+mod program;
 mod reporting;
 mod running;
 mod serving;
 mod showing;
 
 pub use fault::Fault;
+pub use files::{create_image, open_image, read_board_file, read_image_board, read_text};
 pub use performing::perform;
+pub use program::{REFUSED, status_of};
 pub use reporting::report;

@@ -1,5 +1,7 @@
 mod boards;
+mod files;
 mod performing;
 mod scripts;
+mod statuses;
 mod texts;
 mod words;

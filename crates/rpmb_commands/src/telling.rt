@@ -7,6 +7,27 @@ use rpmb_client::{ReadAnswer, Used, explain, read_data, read_used, result_text};
 use std::alloc::Global;
 use std::io::Write;
 
+/// Says what the reply of a `used` line is.
+fn explain_used<W: Write>(
+    alloc: Global,
+    used: &Used,
+    key: Option<[u8; 32]>,
+    nonce: Option<[u8; 16]>,
+    out: &mut W,
+) -> Result<(), Refusal> {
+    match explain(alloc, used, key, nonce, out) {
+        Ok(()) => Ok(()),
+        Err(fault) => Err(Refusal::of(fault)),
+    }
+}
+
+fn copy_line<W: Write>(line: &str, out: &mut W) -> Result<(), Refusal> {
+    match writeln!(out, "{line}") {
+        Ok(()) => Ok(()),
+        Err(_) => Err(Refusal::FileFault),
+    }
+}
+
 fn explain_line<W: Write>(
     alloc: Global,
     line: &str,
@@ -15,14 +36,8 @@ fn explain_line<W: Write>(
     out: &mut W,
 ) -> Result<(), Refusal> {
     match read_used(alloc, line) {
-        Ok(Some(used)) => match explain(alloc, &used, key, nonce, out) {
-            Ok(()) => Ok(()),
-            Err(fault) => Err(Refusal::of(fault)),
-        },
-        Ok(None) => match writeln!(out, "{line}") {
-            Ok(()) => Ok(()),
-            Err(_) => Err(Refusal::FileFault),
-        },
+        Ok(Some(used)) => explain_used(alloc, &used, key, nonce, out),
+        Ok(None) => copy_line(line, out),
         Err(_) => Err(Refusal::NoMemory),
     }
 }

@@ -1,9 +1,10 @@
 //! Boards and images in files, as the program opens them.
 
-use crate::files::{create_image, open_image, read_board_file, read_image_board, read_text};
 use board_file::read_board;
 use command_line::Command;
-use commands::{Fault, perform};
+use commands::{
+    Fault, create_image, open_image, perform, read_board_file, read_image_board, read_text,
+};
 use disk::Disk;
 use intent_slots::Layout;
 use rpmb_frame::BoardConfig;

@@ -1,8 +1,8 @@
 //! The files that the words name: the board, the script, and the image.
 ghost use Rattle.std.specs.Prelude.{◌≡◌, IfOk};
 
+use crate::fault::Fault;
 use board_file::{BoardError, read_board};
-use commands::Fault;
 use disk::FileDisk;
 use rpmb_frame::BoardConfig;
 use std::alloc::Global;

@@ -4,7 +4,7 @@ ghost use Rattle.disk.specs.MemDisk.{mem_state};
 ghost use Rattle.intent_slots.specs.Layout.{capacities_of};
 ghost use Rattle.recovery.specs.Format.{IsFormatted};
 
-use commands::Fault;
+use crate::fault::Fault;
 use disk::MemDisk;
 use intent_slots::Layout;
 use recovery::format;
@@ -12,7 +12,7 @@ use rpmb_frame::BoardConfig;
 use std::alloc::Global;
 
 /// A fresh image of the board on a disk in memory. `NoMemory` where memory is refused for it.
-pub fn fresh_disk(alloc: Global, board: &BoardConfig) -> Result<MemDisk, Fault>
+pub(crate) fn fresh_disk(alloc: Global, board: &BoardConfig) -> Result<MemDisk, Fault>
     ensures formatted { IfOk result (λ disk. IsFormatted (capacities_of board.now) (mem_state disk)) }
     ensures only { IfErr result (λ fault. fault ≡ Fault.NoMemory) }
 {

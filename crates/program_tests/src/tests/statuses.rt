@@ -1,6 +1,6 @@
 //! The status that words and the files that they name end with.
 
-use crate::status_of;
+use commands::status_of;
 use std::alloc::Global;
 use std::fs;
 use std::test::Fail;
