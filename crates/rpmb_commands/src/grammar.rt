@@ -34,11 +34,7 @@ fn with_option<'a>(
 }
 
 /// A command of a guest.
-fn of_guest<'a>(
-    alloc: Global,
-    name: &'a str,
-    about: &'a str,
-) -> Result<Command<'a>, AllocError> {
+fn of_guest<'a>(alloc: Global, name: &'a str, about: &'a str) -> Result<Command<'a>, AllocError> {
     Command::new(alloc, name).about(about).arg(guest(alloc))
 }
 
