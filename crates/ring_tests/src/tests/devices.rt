@@ -4,13 +4,13 @@ mod probe;
 mod queue;
 mod registers;
 mod sessions;
-mod step;
+pub mod step;
 
+use mmio_transport::Device;
 use mmio_transport::register::{
     DRIVER_FEATURES, DRIVER_FEATURES_SEL, QUEUE_DESC_LOW, QUEUE_DEVICE_LOW, QUEUE_DRIVER_LOW,
     QUEUE_NUM, QUEUE_READY, STATUS,
 };
-use mmio_transport::{Device, Done, Job, Published};
 use rpmb_frame::GuestConfig;
 use std::alloc::Global;
 use std::test::Fail;
@@ -49,11 +49,12 @@ fn fresh_device(alloc: Global) -> Result<Device, Fail> {
     fresh_device_of(alloc, 7)
 }
 
-// One write of 4 bytes after another.
-fn write_all(device: &mut Device, writes: &[(u32, u32)]) {
+// One write of 4 bytes after another, which always holds.
+fn write_all(device: &mut Device, writes: &[(u32, u32)]) -> bool {
     for (offset, value) in writes {
         device.write(*offset, 4, *value);
     }
+    true
 }
 
 // Features VERSION_1 and EVENT_IDX, and FEATURES_OK.
@@ -75,24 +76,18 @@ const QUEUE: [(u32, u32); 5] = [
     (QUEUE_READY, 1),
 ];
 
-fn negotiate(device: &mut Device) {
+// Up to DRIVER_OK; whether the device is then live.
+fn negotiate(device: &mut Device) -> bool {
     write_all(device, &FEATURES);
     write_all(device, &QUEUE);
-    write_all(device, &[(STATUS, 15)]);
+    device.write(STATUS, 4, 15);
+    is_live(device)
 }
 
 fn live_device_of(alloc: Global, guest: u16) -> Result<Device, Fail> {
     let mut device = fresh_device_of(alloc, guest)?;
-    negotiate(&mut device);
-    if is_live(&device) {
-        Ok(device)
-    } else {
-        Err(Fail::from("the device isn't live"))
-    }
-}
-
-fn live_device(alloc: Global) -> Result<Device, Fail> {
-    live_device_of(alloc, 7)
+    check(negotiate(&mut device), "the device isn't live")?;
+    Ok(device)
 }
 
 fn is_live(device: &Device) -> bool {
@@ -112,53 +107,14 @@ fn fingerprint(device: &Device) -> Option<u64> {
     Some(sum)
 }
 
-// The reply of these bytes to a job, where it has room for them. A job and its reply are dear to prove
-// where a `?` may let them go: what is done with them is told by a value.
-fn answer(alloc: Global, job: Job, bytes: &[u8], need: u64) -> Option<Done> {
-    let reply = bytes.to_vec(alloc).ok()?;
-    if reply.len() as u64 > job.writable() {
-        return None;
-    }
-    Some(Done::of(job, reply, need))
+pub fn stores(device: &mut Device, at: u64, bytes: &[u8]) -> bool {
+    device.store(at, bytes).is_ok()
 }
 
-// Whether the reply of these bytes to a job is written.
-pub fn is_written(alloc: Global, device: &mut Device, job: Job, bytes: &[u8]) -> bool {
-    match answer(alloc, job, bytes, 0) {
-        Some(done) => device.publish(done) != Published::Dropped,
-        None => false,
-    }
-}
-
-fn pop(device: &mut Device) -> Result<Job, Fail> {
-    match device.pop() {
-        Ok(Some(job)) => Ok(job),
-        _ => Err(Fail::from("a job")),
-    }
-}
-
-// Pops a chain of these bytes to be read.
-pub fn pop_of(device: &mut Device, request: &[u8]) -> Result<Job, Fail> {
-    let job = pop(device)?;
-    if job.request() == request {
-        Ok(job)
-    } else {
-        Err(Fail::from("another request"))
-    }
-}
-
-pub fn store(device: &mut Device, at: u64, bytes: &[u8]) -> Result<(), Fail> {
-    match device.store(at, bytes) {
-        Ok(()) => Ok(()),
-        Err(_) => Err(Fail::from("a store outside")),
-    }
-}
-
-// The bytes of guest memory from an address on.
-fn load12(device: &Device, at: u64) -> Result<[u8; 12], Fail> {
-    let mut bytes = [0; 12];
-    device.load(at, &mut bytes).ok().ok_or("a load outside")?;
-    Ok(bytes)
+// Whether these bytes, at most twelve, stand in guest memory.
+fn holds(device: &Device, at: u64, bytes: &[u8]) -> bool {
+    let mut read = [0; 12];
+    device.load(at, &mut read).is_ok() && read.starts_with(bytes)
 }
 
 pub fn check(holds: bool, what: &'static str) -> Result<(), Fail> {

@@ -1,3 +1,5 @@
+use super::descriptors::{check_row, memory_of};
+use super::devices::check;
 use guest_memory::{MemFault, Memory};
 use std::test::Fail;
 
@@ -13,13 +15,17 @@ static RANGES: [(u64, u64, bool); 8] = [
     (1, u64::MAX, false),
 ];
 
-#[test]
-fn ranges(rt: HostRuntime) -> Result<(), Fail> {
-    let memory = Memory::new(rt.alloc(), 16).ok().ok_or("no memory")?;
-    for (at, len, inside) in &RANGES {
-        assert!(rt; memory.contains(*at, *len) == *inside, "{at}, {len}");
+fn has_ranges_as_told(memory: &Memory) -> Result<(), Fail> {
+    for (place, (at, len, inside)) in RANGES.iter().enumerate() {
+        check_row(memory.contains(*at, *len) == *inside, place)?;
     }
     Ok(())
+}
+
+#[test]
+fn ranges(rt: HostRuntime) -> Result<(), Fail> {
+    let memory = memory_of(rt.alloc(), 16)?;
+    has_ranges_as_told(&memory)
 }
 
 fn writes(memory: &mut Memory) -> bool {
@@ -42,16 +48,19 @@ fn puts(memory: &mut Memory) -> bool {
     memory.bytes(11, 3) == [4, 1, 2].as_slice()
 }
 
+fn reads_back(memory: &Memory) -> bool {
+    reads(memory, 13) == (Err(MemFault::OutOfRange), [7, 7, 7, 7])
+        && reads(memory, 12) == (Ok(()), [1, 2, 3, 0])
+}
+
+fn reads_what_it_wrote(memory: &mut Memory) -> bool {
+    writes(memory) && reads_back(memory) && puts(memory)
+}
+
 #[test]
 fn reads_what_was_written(rt: HostRuntime) -> Result<(), Fail> {
-    let mut memory = Memory::new(rt.alloc(), 16).ok().ok_or("no memory")?;
-    assert!(rt; writes(&mut memory));
-    assert!(rt;
-        reads(&memory, 13) == (Err(MemFault::OutOfRange), [7, 7, 7, 7])
-            && reads(&memory, 12) == (Ok(()), [1, 2, 3, 0])
-    );
-    assert!(rt; puts(&mut memory));
-    Ok(())
+    let mut memory = memory_of(rt.alloc(), 16)?;
+    check(reads_what_it_wrote(&mut memory), "other bytes")
 }
 
 #[test]
