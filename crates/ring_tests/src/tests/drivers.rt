@@ -1,6 +1,7 @@
 use super::descriptors::check_row;
+use super::devices::limits::exchanges_bytes;
 use super::devices::step::{Step, goes_as_told};
-use super::devices::{check, stores};
+use super::devices::stores;
 use guest_driver::{Driver, DriverFault};
 use mmio_transport::register::STATUS;
 use mmio_transport::{Device, Job, Published};
@@ -30,12 +31,6 @@ fn pair_of(
         driver,
         ring: config.ring,
     })
-}
-
-pub fn in_service(alloc: Global, guest: u16, config: &GuestConfig) -> Result<Pair, Fail> {
-    let mut pair = pair_of(alloc, guest, config, config)?;
-    check(negotiates(&mut pair), "no negotiation")?;
-    Ok(pair)
 }
 
 fn negotiates(pair: &mut Pair) -> bool {
@@ -78,15 +73,23 @@ fn fails_to_reap(pair: &mut Pair, fault: DriverFault) -> bool {
 }
 
 // What the driver, its guest and the device's host do in turn.
-enum Turn {
+pub enum Turn {
     Offers(&'static [u8], u32, Offer),
     // The chain of this id comes back next, with these bytes; or none does, or a fault.
     Reaps(u16, &'static [u8]),
     ReapsNothing,
     FailsToReap(DriverFault),
-    Negotiates,
+    // Whether the device is in service after a negotiation.
+    Negotiates(bool),
+    // Other bytes stand in the memory.
+    Fills,
     // The guest overwrites all in which its chain stands.
     Overwrites,
+    // The device's first element has this id and this length.
+    Uses(u32, u32),
+    // A chain of so many bytes to be read, with room for its reply of so many, is answered, and the driver
+    // notified or not.
+    Exchanges(usize, usize, bool),
     // A step of the device and its host.
     Device(Step),
 }
@@ -97,8 +100,13 @@ fn goes(alloc: Global, pair: &mut Pair, jobs: &mut Vec<Job>, turn: &Turn) -> boo
         Turn::Reaps(id, bytes) => reaps(pair, *id, bytes),
         Turn::ReapsNothing => reaps_nothing(pair),
         Turn::FailsToReap(fault) => fails_to_reap(pair, *fault),
-        Turn::Negotiates => negotiates(pair),
+        Turn::Negotiates(answer) => negotiates(pair) == *answer,
+        Turn::Fills => fills(&mut pair.device),
         Turn::Overwrites => overwrites(pair),
+        Turn::Uses(id, len) => uses(pair, *id, *len),
+        Turn::Exchanges(length, room, notify) => {
+            exchanges_bytes(alloc, pair, (*length, *room), *notify)
+        }
         Turn::Device(step) => goes_as_told(alloc, &mut pair.device, jobs, step),
     }
 }
@@ -111,12 +119,28 @@ fn take_turns(alloc: Global, pair: &mut Pair, turns: &[Turn]) -> Result<(), Fail
     Ok(())
 }
 
-// Takes the turns so often.
+static IN_SERVICE: [Turn; 1] = [Turn::Negotiates(true)];
+
+// Takes the turns so often, once the device is in service.
 fn take_rounds(alloc: Global, pair: &mut Pair, rounds: u32, turns: &[Turn]) -> Result<(), Fail> {
+    take_turns(alloc, pair, &IN_SERVICE)?;
     for _ in 0..rounds {
         take_turns(alloc, pair, turns)?;
     }
     Ok(())
+}
+
+// Takes the turns of the device of this guest, and a driver that takes another configuration for the
+// device's.
+pub fn go_once(
+    alloc: Global,
+    guest: u16,
+    config: &GuestConfig,
+    taken: &GuestConfig,
+    turns: &[Turn],
+) -> Result<(), Fail> {
+    let mut pair = pair_of(alloc, guest, config, taken)?;
+    take_turns(alloc, &mut pair, turns)
 }
 
 static GUEST: GuestConfig = GuestConfig {
@@ -142,7 +166,8 @@ fn guest_of(form: Form) -> GuestConfig {
 }
 
 fn go(alloc: Global, form: Form, rounds: u32, turns: &[Turn]) -> Result<(), Fail> {
-    let mut pair = in_service(alloc, 0, &guest_of(form))?;
+    let guest = guest_of(form);
+    let mut pair = pair_of(alloc, 0, &guest, &guest)?;
     take_rounds(alloc, &mut pair, rounds, turns)
 }
 
@@ -230,7 +255,7 @@ static OF_A_POPPED_CHAIN: [Turn; 11] = [
     Turn::Offers(&[5, 6, 7], 2, Ok(0)),
     Turn::Device(Step::Keeps(&[5, 6, 7])),
     Turn::Device(Step::Writes(&[(STATUS, 0)])),
-    Turn::Negotiates,
+    Turn::Negotiates(true),
     Turn::Device(Step::Publishes(0, &[8, 9], Published::Dropped)),
     Turn::ReapsNothing,
 ];
@@ -311,8 +336,7 @@ static SMALL: GuestConfig = GuestConfig {
 
 #[test]
 fn a_memory_that_is_too_small(rt: HostRuntime) -> Result<(), Fail> {
-    let mut pair = pair_of(rt.alloc(), 0, &SMALL, &GUEST)?;
-    take_turns(rt.alloc(), &mut pair, &OUT_OF_RANGE)
+    go_once(rt.alloc(), 0, &SMALL, &GUEST, &OUT_OF_RANGE)
 }
 
 fn fills(device: &mut Device) -> bool {
@@ -324,19 +348,23 @@ fn fills(device: &mut Device) -> bool {
     true
 }
 
-fn pops_nothing(device: &mut Device) -> bool {
-    matches!(device.pop(), Ok(None))
-}
+// A negotiation in memory that held other bytes; nothing is offered then.
+static TAKEN: [Turn; 3] = [
+    Turn::Fills,
+    Turn::Negotiates(true),
+    Turn::Device(Step::Pops(Ok(None))),
+];
 
-// Whether a negotiation in memory that held other bytes answers this; nothing is offered then.
-fn negotiates_anew(pair: &mut Pair, answer: bool) -> bool {
-    fills(&mut pair.device) && negotiates(pair) == answer && pops_nothing(&mut pair.device)
-}
+static NOT_TAKEN: [Turn; 3] = [
+    Turn::Fills,
+    Turn::Negotiates(false),
+    Turn::Device(Step::Pops(Ok(None))),
+];
 
 // A queue of this form and so many places, with this feature, and whether a device takes it.
 type Queue = (Form, u16, bool, bool);
 
-fn is_taken_as_told(alloc: Global, queue: &Queue) -> Result<bool, Fail> {
+fn go_with_queue(alloc: Global, queue: &Queue) -> Result<(), Fail> {
     let (form, places, event_idx, answer) = *queue;
     let guest = GuestConfig {
         queue: places,
@@ -344,8 +372,8 @@ fn is_taken_as_told(alloc: Global, queue: &Queue) -> Result<bool, Fail> {
         memory: 8_388_608,
         ..guest_of(form)
     };
-    let mut pair = pair_of(alloc, 0, &guest, &guest)?;
-    Ok(negotiates_anew(&mut pair, answer))
+    let turns = if answer { &TAKEN } else { &NOT_TAKEN };
+    go_once(alloc, 0, &guest, &guest, turns)
 }
 
 // Sizes of split queues are powers of two (VIRTIO 1.2, 2.7), and the device has at most 256 places.
@@ -365,8 +393,8 @@ static QUEUES: [Queue; 11] = [
 
 #[test]
 fn queues_that_a_device_takes(rt: HostRuntime) -> Result<(), Fail> {
-    for (place, queue) in QUEUES.iter().enumerate() {
-        check_row(is_taken_as_told(rt.alloc(), queue)?, place)?;
+    for queue in &QUEUES {
+        go_with_queue(rt.alloc(), queue)?;
     }
     Ok(())
 }
@@ -394,40 +422,53 @@ fn uses(pair: &mut Pair, id: u32, len: u32) -> bool {
     }
 }
 
-// The id and the length of an element, and whether no chain has them.
-type Element = (Form, u32, u32, bool);
-
-// Whether a reap is refused, and once more, or isn't, where the device's first element has this id and this
-// length, while a chain with room for 2 bytes is in flight under the id 0.
-fn refuses_as_told(pair: &mut Pair, element: &Element) -> bool {
-    let (_, id, len, refused) = *element;
-    if !offers(pair, &[5, 6, 7], 2, Ok(0)) || !uses(pair, id, len) {
-        return false;
-    }
-    let first = fails_to_reap(pair, DriverFault::BadUsed);
-    first == refused && (!refused || fails_to_reap(pair, DriverFault::BadUsed))
-}
-
-fn is_refused_as_told(alloc: Global, element: &Element) -> Result<bool, Fail> {
-    let mut pair = in_service(alloc, 0, &guest_of(element.0))?;
-    Ok(refuses_as_told(&mut pair, element))
-}
-
-static ELEMENTS: [Element; 8] = [
-    ((RingKind::Split, false), 0, 2, false),
-    ((RingKind::Split, true), 0, 3, true),
-    ((RingKind::Split, true), 1, 0, true),
-    ((RingKind::Split, false), 65536, 0, true),
-    ((RingKind::Packed, false), 0, 2, false),
-    ((RingKind::Packed, true), 0, 3, true),
-    ((RingKind::Packed, false), 1, 0, true),
-    ((RingKind::Packed, true), 65535, 0, true),
+// While a chain with room for 2 bytes is in flight under the id 0, the device's first element has an id and
+// a length. Where no chain has them a reap is refused, and once more.
+static ELEMENTS: [(Form, &[Turn]); 8] = [
+    (
+        (RingKind::Split, false),
+        &[OFFERED, Turn::Uses(0, 2), REAPED],
+    ),
+    (
+        (RingKind::Split, true),
+        &[OFFERED, Turn::Uses(0, 3), BAD, BAD],
+    ),
+    (
+        (RingKind::Split, true),
+        &[OFFERED, Turn::Uses(1, 0), BAD, BAD],
+    ),
+    (
+        (RingKind::Split, false),
+        &[OFFERED, Turn::Uses(65536, 0), BAD, BAD],
+    ),
+    (
+        (RingKind::Packed, false),
+        &[OFFERED, Turn::Uses(0, 2), REAPED],
+    ),
+    (
+        (RingKind::Packed, true),
+        &[OFFERED, Turn::Uses(0, 3), BAD, BAD],
+    ),
+    (
+        (RingKind::Packed, false),
+        &[OFFERED, Turn::Uses(1, 0), BAD, BAD],
+    ),
+    (
+        (RingKind::Packed, true),
+        &[OFFERED, Turn::Uses(65535, 0), BAD, BAD],
+    ),
 ];
+
+const OFFERED: Turn = Turn::Offers(&[5, 6, 7], 2, Ok(0));
+
+const REAPED: Turn = Turn::Reaps(0, &[0, 0]);
+
+const BAD: Turn = Turn::FailsToReap(DriverFault::BadUsed);
 
 #[test]
 fn elements_that_no_chain_has(rt: HostRuntime) -> Result<(), Fail> {
-    for (place, element) in ELEMENTS.iter().enumerate() {
-        check_row(is_refused_as_told(rt.alloc(), element)?, place)?;
+    for (form, turns) in &ELEMENTS {
+        go(rt.alloc(), *form, 1, turns)?;
     }
     Ok(())
 }

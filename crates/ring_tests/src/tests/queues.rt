@@ -1,6 +1,8 @@
 //! What a driver, its guest and the device do one after another to a ring and its memory, and what it
 //! gives. Both kinds of ring take the same steps.
-use super::descriptors::{Descriptor, describe, holds, holds_word, memory_of, put, set_word};
+use super::descriptors::{
+    Descriptor, check_row, describe, holds, holds_word, memory_of, put, set_word,
+};
 use chains::{ChainFault, Popped, Reads, RingFault};
 use guest_memory::Memory;
 use std::alloc::Global;
@@ -258,6 +260,20 @@ fn goes_in_memory(memory: &mut Memory, step: &Step) -> bool {
     }
 }
 
+// A step with no pop.
+fn goes_without_pops<R: Queue>(memory: &mut Memory, ring: &mut R, step: &Step) -> bool {
+    match step {
+        Step::PublishesAll => publishes_256(memory, ring),
+        Step::Publishes(number, id, places, len, notify) => {
+            ring.give_back(memory, *number, *id, *places, *len) == Some(*notify)
+        }
+        Step::Outstanding(number, id, places, is) => {
+            ring.has_outstanding(*number, *id, *places) == *is
+        }
+        _ => goes_in_memory(memory, step),
+    }
+}
+
 fn goes_as_told<R: Queue>(
     alloc: Global,
     memory: &mut Memory,
@@ -269,14 +285,7 @@ fn goes_as_told<R: Queue>(
         Step::Pops(number, answer) => pops(alloc, memory, ring, reads, (*number, *answer)),
         Step::Reads(count) => reads.count() == *count,
         Step::PopsAll => pops_256(alloc, memory, ring, reads),
-        Step::PublishesAll => publishes_256(memory, ring),
-        Step::Publishes(number, id, places, len, notify) => {
-            ring.give_back(memory, *number, *id, *places, *len) == Some(*notify)
-        }
-        Step::Outstanding(number, id, places, is) => {
-            ring.has_outstanding(*number, *id, *places) == *is
-        }
-        _ => goes_in_memory(memory, step),
+        _ => goes_without_pops(memory, ring, step),
     }
 }
 
@@ -290,7 +299,7 @@ pub fn take<R: Queue>(
     let mut reads = Reads::new();
     for (place, step) in steps.iter().enumerate() {
         if !goes_as_told(alloc, memory, ring, &mut reads, step) {
-            return Err(Fail::new(format_args!("step {place} goes another way")));
+            return check_row(false, place);
         }
     }
     Ok(())

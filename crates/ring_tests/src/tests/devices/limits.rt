@@ -2,7 +2,7 @@
 // longest requests and replies: memory that the host has is refused nowhere.
 use super::step::{pop_of, publishes};
 use crate::tests::descriptors::check_row;
-use crate::tests::drivers::{Pair, in_service, offers, reaps};
+use crate::tests::drivers::{Pair, Turn, go_once, offers, reaps};
 use chains::Range;
 use mmio_transport::{Device, Job, Published};
 use rpmb_frame::{GuestConfig, RingKind};
@@ -64,33 +64,40 @@ fn exchanges(alloc: Global, pair: &mut Pair, request: &[u8], reply: (&[u8], bool
         && reaps(pair, 0, bytes)
 }
 
-fn goes_round(alloc: Global, pair: &mut Pair, lengths: &(usize, usize), notify: bool) -> bool {
+// So many bytes to be read, and so many of the reply.
+pub fn exchanges_bytes(
+    alloc: Global,
+    pair: &mut Pair,
+    lengths: (usize, usize),
+    notify: bool,
+) -> bool {
     let (request, reply) = (bytes_from(5), bytes_from(7));
     let (length, room) = (lengths.0.min(8704), lengths.1.min(8192));
     exchanges(alloc, pair, &request[..length], (&reply[..room], notify))
 }
 
-// How many bytes a request has, and its reply.
-static LENGTHS: [(usize, usize); 4] = [(1, 0), (1, 1), (512, 512), (8704, 8192)];
+static EXCHANGED: [Turn; 5] = [
+    Turn::Negotiates(true),
+    Turn::Exchanges(1, 0, true),
+    Turn::Exchanges(1, 1, true),
+    Turn::Exchanges(512, 512, true),
+    Turn::Exchanges(8704, 8192, true),
+];
 
-// used_event stays 0, which the index passes on the first round alone.
-fn exchange_all(alloc: Global, pair: &mut Pair, event_idx: bool) -> Result<(), Fail> {
-    for (place, lengths) in LENGTHS.iter().enumerate() {
-        let notify = !event_idx || place == 0;
-        check_row(goes_round(alloc, pair, lengths, notify), place)?;
-    }
-    Ok(())
-}
-
-fn serves(alloc: Global, guest: u16, config: &GuestConfig) -> Result<(), Fail> {
-    let mut pair = in_service(alloc, guest, config)?;
-    exchange_all(alloc, &mut pair, config.event_idx)
-}
+// With EVENT_IDX: used_event stays 0, which the index passes on the first round alone.
+static EXCHANGED_WITH_EVENTS: [Turn; 5] = [
+    Turn::Negotiates(true),
+    Turn::Exchanges(1, 0, true),
+    Turn::Exchanges(1, 1, false),
+    Turn::Exchanges(512, 512, false),
+    Turn::Exchanges(8704, 8192, false),
+];
 
 #[test]
 fn the_longest_go_round(rt: HostRuntime) -> Result<(), Fail> {
-    for (guest, config) in [(0, &LEAST), (63, &LEAST), (0, &MOST), (63, &MOST)] {
-        serves(rt.alloc(), guest, config)?;
+    for guest in [0, 63] {
+        go_once(rt.alloc(), guest, &LEAST, &LEAST, &EXCHANGED)?;
+        go_once(rt.alloc(), guest, &MOST, &MOST, &EXCHANGED_WITH_EVENTS)?;
     }
     Ok(())
 }

@@ -1,9 +1,9 @@
 // Replies that come back after a reset, after another readiness, or from nowhere.
 use super::step::{Step, go_live, take_with};
-use super::{AVAIL_IDX, AVAIL_RING, check, live_device_of};
-use chains::{ChainFault, Range};
+use super::{AVAIL_IDX, AVAIL_RING, live_device_of};
+use chains::ChainFault;
 use mmio_transport::register::{QUEUE_READY, STATUS};
-use mmio_transport::{Device, DeviceFault, Job, Published};
+use mmio_transport::{Device, DeviceFault, Published};
 use std::alloc::Global;
 use std::test::Fail;
 
@@ -11,7 +11,7 @@ const DROPPED: Published = Published::Dropped;
 
 const WROTE: Published = Published::Wrote { notify: true };
 
-static OF_ONE_DEVICE: [&[Step]; 7] = [
+static OF_ONE_DEVICE: [&[Step]; 8] = [
     // The same chain is popped again after a reset, so that its id is outstanding. The earlier reply is
     // dropped, and the later one isn't.
     &[
@@ -95,6 +95,16 @@ static OF_ONE_DEVICE: [&[Step]; 7] = [
         Step::Publishes(0, &[5, 6, 7], DROPPED),
         Step::Publishes(0, &[5, 6, 7], DROPPED),
     ],
+    // A job of no device, and as it is kept for the reply, while the chain of its id is outstanding.
+    &[
+        Step::KeepsOfNoDevice,
+        Step::KeepsAgain(0),
+        Step::Tells(1, ((7, 1, 0, 0), (1, 1, 8)), &[]),
+        Step::Offers,
+        Step::Keeps(&[1, 2, 3, 4]),
+        Step::Publishes(1, &[1], DROPPED),
+        Step::Publishes(0, &[1], DROPPED),
+    ],
 ];
 
 #[test]
@@ -111,32 +121,6 @@ static DROPPED_BESIDE: [Step; 3] = [
     Step::Keeps(&[1, 2, 3, 4]),
     Step::Publishes(0, &[5, 6, 7], DROPPED),
 ];
-
-// A job of the session and the chain's id that no pop gave.
-fn job_of_no_device(alloc: Global) -> Result<Vec<Job>, Fail> {
-    let writable = Vec::from_array(alloc, [Range { at: 2000, len: 8 }])?;
-    let job = Job::of(alloc, 7, 1, 1, 1, writable, Vec::new(alloc));
-    let mut jobs = Vec::new(alloc);
-    check(jobs.push(job).is_ok(), "no memory")?;
-    Ok(jobs)
-}
-
-// The job as it is kept for the reply, which is dropped as that to the job itself.
-static OF_NO_DEVICE: [Step; 6] = [
-    Step::KeepsAgain(0),
-    Step::Tells(1, ((7, 1, 0, 0), (1, 1, 8)), &[]),
-    Step::Offers,
-    Step::Keeps(&[1, 2, 3, 4]),
-    Step::Publishes(1, &[1], DROPPED),
-    Step::Publishes(0, &[1], DROPPED),
-];
-
-#[test]
-fn a_reply_to_a_job_of_no_device_is_dropped(rt: HostRuntime) -> Result<(), Fail> {
-    let mut device = live_device_of(rt.alloc(), 7)?;
-    let mut jobs = job_of_no_device(rt.alloc())?;
-    take_with(rt.alloc(), &mut device, &mut jobs, &OF_NO_DEVICE)
-}
 
 // The same chain of guest 8.
 static POPPED_OF_ANOTHER: [Step; 3] = [

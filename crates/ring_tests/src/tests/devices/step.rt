@@ -3,7 +3,8 @@ use super::{
     AVAIL_IDX, AVAIL_RING, fingerprint, fresh_device, holds, live_device_of, negotiate, stores,
     write_all,
 };
-use crate::tests::descriptors::{Descriptor, descriptor};
+use crate::tests::descriptors::{Descriptor, check_row, descriptor};
+use chains::Range;
 use mmio_transport::{Device, DeviceFault, Done, Job, Kick, Published};
 use std::alloc::Global;
 use std::test::Fail;
@@ -17,9 +18,8 @@ pub enum Step {
     Writes(&'static [(u32, u32)]),
     // A write of 4 bytes to a register asks for this.
     Asks(u32, u32, Kick),
-    // A read of 4 bytes from a register gives this, or one of a byte.
+    // A read of 4 bytes from a register gives this.
     Reads(u32, u32),
-    ReadsByte(u32, u32),
     // The host is told this of the interrupt.
     Interrupts(u32),
     // The number of the session is this.
@@ -37,6 +37,8 @@ pub enum Step {
     Offers,
     // A pop gives a job of these bytes to be read, which is kept behind those that are.
     Keeps(&'static [u8]),
+    // A job of the session and the chain's id that no pop gave is kept too.
+    KeepsOfNoDevice,
     // The job at this place is kept a second time, for its reply, behind those that are.
     KeepsAgain(usize),
     // The job at this place tells this, and has these bytes to be read.
@@ -102,6 +104,18 @@ fn kept_again(alloc: Global, jobs: &[Job], place: usize) -> Option<Job> {
 
 fn keeps_again(alloc: Global, jobs: &mut Vec<Job>, place: usize) -> bool {
     match kept_again(alloc, jobs, place) {
+        Some(job) => jobs.push(job).is_ok(),
+        None => false,
+    }
+}
+
+fn job_of_no_device(alloc: Global) -> Option<Job> {
+    let writable = Vec::from_array(alloc, [Range { at: 2000, len: 8 }]).ok()?;
+    Some(Job::of(alloc, 7, 1, 1, 1, writable, Vec::new(alloc)))
+}
+
+fn keeps_of_no_device(alloc: Global, jobs: &mut Vec<Job>) -> bool {
+    match job_of_no_device(alloc) {
         Some(job) => jobs.push(job).is_ok(),
         None => false,
     }
@@ -192,15 +206,21 @@ fn publishes_kept(
     }
 }
 
-/// A step with no job that is kept. Other steps hold.
-fn goes_without_jobs(device: &mut Device, step: &Step) -> bool {
+// A step at the registers, or one with no job that is kept. Other steps hold.
+fn goes_at_registers(device: &mut Device, step: &Step) -> bool {
     match step {
         Step::Writes(writes) => write_all(device, writes),
         Step::Asks(offset, value, kick) => device.write(*offset, 4, *value) == *kick,
         Step::Reads(offset, value) => device.read(*offset, 4) == *value,
-        Step::ReadsByte(offset, value) => device.read(*offset, 1) == *value,
         Step::Interrupts(number) => device.interrupt_status() == *number,
         Step::Session(number) => device.session() == *number,
+        _ => goes_without_jobs(device, step),
+    }
+}
+
+// A step in guest memory, or a pop or a negotiation.
+fn goes_without_jobs(device: &mut Device, step: &Step) -> bool {
+    match step {
         Step::Stores(at, bytes) => stores(device, *at, bytes),
         Step::Describes(at, fields) => stores(device, *at, &descriptor(*fields)),
         Step::Holds(at, bytes) => holds(device, *at, bytes),
@@ -215,12 +235,13 @@ fn goes_without_jobs(device: &mut Device, step: &Step) -> bool {
 pub fn goes_as_told(alloc: Global, device: &mut Device, jobs: &mut Vec<Job>, step: &Step) -> bool {
     match step {
         Step::Keeps(request) => keeps(device, jobs, request),
+        Step::KeepsOfNoDevice => keeps_of_no_device(alloc, jobs),
         Step::KeepsAgain(place) => keeps_again(alloc, jobs, *place),
         Step::Tells(place, told, request) => tells(jobs, *place, told, request),
         Step::Publishes(place, bytes, published) => {
             publishes_kept(alloc, device, jobs, *place, (bytes, *published))
         }
-        _ => goes_without_jobs(device, step),
+        _ => goes_at_registers(device, step),
     }
 }
 
@@ -233,7 +254,7 @@ pub fn take_with(
 ) -> Result<(), Fail> {
     for (place, step) in steps.iter().enumerate() {
         if !goes_as_told(alloc, device, jobs, step) {
-            return Err(Fail::new(format_args!("step {place} goes another way")));
+            return check_row(false, place);
         }
     }
     Ok(())
