@@ -1,3 +1,4 @@
+mod checks;
 mod frames;
 mod limits;
 mod macs;

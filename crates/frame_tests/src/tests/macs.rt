@@ -1,11 +1,15 @@
 ghost use Rattle.std.specs.Prelude.{◌<◌};
 
+use crate::tests::checks::{check_row, same};
 use hmac256::{MacKey, hmac, mac_of};
 use sha2::{Digest, Sha256};
+use std::test::Fail;
+
+type Case = (&'static [u8], &'static [u8], &'static [u8]);
 
 /// The test cases of RFC 4231 whose key has at most 64 bytes (4.2 to 4.6; the last is cut to 128
 /// bits), and a key of a whole block, by Python's hmac: key, text, MAC.
-static CASES: [(&[u8], &[u8], &[u8]); 6] = [
+static CASES: [Case; 6] = [
     (
         &[0x0b; 20],
         b"Hi There",
@@ -93,13 +97,18 @@ fn begins_with(key: &[u8], pieces: &[&[u8]], mac: &[u8]) -> bool {
     key.len() <= 64 && hmac(key, pieces).starts_with(mac)
 }
 
+fn has_mac(case: &Case) -> bool {
+    let (key, text, mac) = *case;
+    let (first, last) = text.split_at(text.len() / 2);
+    begins_with(key, &[first, &[], last], mac) && begins_with(key, &[text], mac)
+}
+
 #[test]
-fn hmac_of_the_cases(rt: HostRuntime) {
-    for &(key, text, mac) in &CASES {
-        let (first, last) = text.split_at(text.len() / 2);
-        assert!(rt; begins_with(key, &[first, &[], last], mac), "{key:?}");
-        assert!(rt; begins_with(key, &[text], mac), "{key:?}");
+fn hmac_of_the_cases() -> Result<(), Fail> {
+    for (place, case) in CASES.iter().enumerate() {
+        check_row(has_mac(case), place)?;
     }
+    Ok(())
 }
 
 /// A frame that writes one of three blocks at address 7, with the byte 0xd0 + `place` in each
@@ -117,20 +126,24 @@ fn frame(place: u8) -> [u8; 512]
     bytes
 }
 
+fn is_mac(key: &MacKey, frames: &[[u8; 512]], mac: &[u8; 32]) -> bool {
+    same(&mac_of(&key.key(), frames), mac) && same(&key.mac(frames), mac)
+}
+
 #[test]
-fn mac_of_frames(rt: HostRuntime) {
+fn mac_of_frames() -> Result<(), Fail> {
     let bytes = [0x11; 32];
     let frames = [frame(0), frame(1), frame(2)];
     let key = MacKey::new(&bytes).copy();
-    assert_eq!(rt; key.key(), bytes);
-    for count in 0..4 {
-        assert_eq!(rt; mac_of(&bytes, &frames[..count]), MACS[count]);
-        assert_eq!(rt; key.mac(&frames[..count]), MACS[count]);
+    check_row(same(&key.key(), &bytes), 4)?;
+    for (count, mac) in MACS.iter().enumerate() {
+        check_row(is_mac(&key, &frames[..count], mac), count)?;
     }
+    Ok(())
 }
 
 /// The first example of FIPS 180-4's SHA-256, and the empty text: text, digest.
-const DIGESTS: [(&[u8], [u8; 32]); 2] = [
+static DIGESTS: [(&[u8], [u8; 32]); 2] = [
     (
         b"abc",
         [
@@ -149,9 +162,14 @@ const DIGESTS: [(&[u8], [u8; 32]); 2] = [
     ),
 ];
 
+fn is_digest(text: &[u8], digest: &[u8; 32]) -> bool {
+    same(&Sha256::digest(text), digest)
+}
+
 #[test]
-fn digests_that_the_macs_rest_on(rt: HostRuntime) {
-    for (text, digest) in DIGESTS {
-        assert_eq!(rt; Sha256::digest(text), digest);
+fn digests_that_the_macs_rest_on() -> Result<(), Fail> {
+    for (place, (text, digest)) in DIGESTS.iter().enumerate() {
+        check_row(is_digest(text, digest), place)?;
     }
+    Ok(())
 }

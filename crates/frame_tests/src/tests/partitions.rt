@@ -6,6 +6,7 @@ mod refusals;
 mod steps;
 mod without_key;
 
+use crate::tests::checks::{check_row, same};
 use crate::tests::limits::limits_of;
 use blocks::{ALONE, BLOCKS, LIMITED};
 use ends::{CAPACITY_2, CAPACITY_128, LAST_COUNTER};
@@ -16,7 +17,7 @@ use rpmb_core::{Partition, fail, failure_kind};
 use rpmb_frame::{Limits, Request};
 use std::alloc::Global;
 use std::test::Fail;
-use steps::{Row, Scenario, Step, are_whole, expected, first_bytes, frames_of, take_steps};
+use steps::{Row, Scenario, Step, first_bytes, frames_of, is_reply, take_steps};
 use without_key::WITHOUT_KEY;
 
 /// The state that steps left: the key, the write counter, the sequence, and the first byte of the
@@ -39,23 +40,27 @@ fn left(partition: &Partition) -> Left {
     )
 }
 
-/// Whether a partition of so many units, and its copy, have this state after the steps.
-fn leave(
-    alloc: Global,
-    capacity: u8,
-    counts: (u8, u8),
-    scenario: &Scenario,
-    state: Left,
-) -> Result<bool, Fail> {
-    let mut partition = Partition::new(alloc, capacity)?;
-    take_steps(&mut partition, limits_of(alloc, counts)?, scenario)?;
+/// Whether a partition of so many units, and its copy, have this state.
+fn is_left(alloc: Global, partition: &Partition, capacity: u8, state: &Left) -> Result<bool, Fail> {
     let copy = partition.copy(alloc)?;
-    Ok(left(&partition) == state && left(&copy) == state && copy.capacity() == capacity)
+    Ok(left(partition) == *state && left(&copy) == *state && copy.capacity() == capacity)
+}
+
+/// The units of a partition, the limits of its guest, and the state that a scenario leaves.
+type Leaving = (u8, (u8, u8), Left);
+
+/// Whether a partition and its copy have this state after the steps.
+fn leaves(alloc: Global, scenario: &Scenario, told: &Leaving) -> Result<bool, Fail> {
+    let (capacity, counts, state) = told;
+    let limits = limits_of(alloc, *counts)?;
+    let mut partition = Partition::new(alloc, *capacity)?;
+    take_steps(&mut partition, limits, scenario)?;
+    is_left(alloc, &partition, *capacity, state)
 }
 
 /// The units of a partition, the limits of its guest, and the state that the scenario of the same place
 /// leaves.
-static STATES: [(u8, (u8, u8), Left); 8] = [
+static STATES: [Leaving; 8] = [
     (1, (16, 16), (None, 0, 0, [0; 5])),
     (1, (16, 16), (KEYED, 0, 1, [0; 5])),
     (1, (16, 16), (KEYED, 2, 3, [0, 0x30, 0x3f, 0xa5, 0])),
@@ -83,9 +88,7 @@ fn scenarios() -> [&'static Scenario; 8] {
 #[test]
 fn replies_and_what_they_leave(rt: HostRuntime) -> Result<(), Fail> {
     for (place, scenario) in scenarios().iter().enumerate() {
-        let (capacity, counts, state) = STATES[place];
-        let is_left = leave(rt.alloc(), capacity, counts, scenario, state)?;
-        assert!(rt; is_left, "row {place}");
+        check_row(leaves(rt.alloc(), scenario, &STATES[place])?, place)?;
     }
     Ok(())
 }
@@ -104,6 +107,19 @@ fn copy_at_the_last_counter(rt: HostRuntime) -> Result<(), Fail> {
     Ok(())
 }
 
+/// Whether a reply of so many blocks of 1,024 bytes becomes this failure reply to a request.
+fn becomes_failure(
+    alloc: Global,
+    request: &Request<'_>,
+    code: u16,
+    blocks: usize,
+    failure: &[u8],
+) -> Result<bool, Fail> {
+    let mut reply = vec![in alloc; 0xee; 1024 * blocks.min(8)]?;
+    fail(&mut reply, failure_kind(request), code);
+    Ok(same(&reply, failure))
+}
+
 /// Whether the failure reply to a request is as told, and whether a reply of so many bytes becomes it.
 fn fails_as_told(
     alloc: Global,
@@ -113,9 +129,20 @@ fn fails_as_told(
 ) -> Result<bool, Fail> {
     let mut out = [0xee; 8192];
     let len = Partition::failure(request, code, &mut out);
-    let mut reply = vec![in alloc; 0xee; 1024 * told.len().min(8)]?;
-    fail(&mut reply, failure_kind(request), code);
-    Ok(len == 512 * told.len().min(16) && out == expected(told) && reply.as_slice() == &out[..len])
+    let is_told = len == 512 * told.len().min(16) && is_reply(&out, told);
+    Ok(is_told && becomes_failure(alloc, request, code, told.len(), &out[..len])?)
+}
+
+/// Whether the failure reply to these bytes is as told.
+fn bytes_fail_as_told(
+    alloc: Global,
+    limits: Limits,
+    step: &Step,
+    bytes: &[u8],
+    reply: &[Row],
+) -> Result<bool, Fail> {
+    let request = Request::classify(bytes, step.1, limits);
+    fails_as_told(alloc, &request, step.2, reply)
 }
 
 /// Whether the failure reply to a step's request is as told.
@@ -126,28 +153,43 @@ fn step_fails_as_told(
     request: &[Row],
     reply: &[Row],
 ) -> Result<bool, Fail> {
-    let (_, writable, code, _) = *step;
     let frames = frames_of(request);
-    let request = Request::classify(first_bytes(&frames, request.len()), writable, limits);
-    fails_as_told(alloc, &request, code, reply)
+    bytes_fail_as_told(
+        alloc,
+        limits,
+        step,
+        first_bytes(&frames, request.len()),
+        reply,
+    )
 }
 
 #[test]
 fn failure_replies(rt: HostRuntime) -> Result<(), Fail> {
     let limits = limits_of(rt.alloc(), (16, 16))?;
-    assert!(rt; are_whole(FAILURES.requests) && are_whole(FAILURES.replies));
     let (mut requests, mut replies) = (FAILURES.requests, FAILURES.replies);
     for (place, step) in FAILURES.steps.iter().enumerate() {
         let (asked, given) = (step.0, step.3);
         let (Some(request), Some(reply)) = (requests.get(..asked), replies.get(..given)) else {
-            return Err(Fail::new(format_args!("step {place} lacks frames")));
+            return check_row(false, place);
         };
         let fails = step_fails_as_told(rt.alloc(), limits, step, request, reply)?;
-        assert!(rt; fails, "step {place}");
+        check_row(fails, place)?;
         requests = &requests[asked..];
         replies = &replies[given..];
     }
     Ok(())
+}
+
+/// The reply to a malformed request: a frame of zeros but for its result, 1.
+static MALFORMED: [Row; 1] = [(0, [0; 4], 0, [0; 2], 0, 0x0000_0000_0001_0000)];
+
+/// Whether these bytes are answered as malformed.
+fn is_malformed(partition: &Partition, limits: Limits, bytes: &[u8]) -> bool {
+    let request = Request::classify(bytes, 512, limits);
+    let mut out = [0xee; 8192];
+    partition.verdict(&request) == 1
+        && partition.reply(&request, 1, None, &mut out) == 512
+        && is_reply(&out, &MALFORMED)
 }
 
 /// Bytes that are no frames are answered as malformed.
@@ -155,14 +197,7 @@ fn failure_replies(rt: HostRuntime) -> Result<(), Fail> {
 fn bytes_that_are_no_frames(rt: HostRuntime) -> Result<(), Fail> {
     let limits = limits_of(rt.alloc(), (16, 16))?;
     let partition = Partition::new(rt.alloc(), 1)?;
-    let mut told = [0xee; 8192];
-    told[..512].copy_from_slice(&[0; 512]);
-    told[509] = 1;
-    for bytes in [&[] as &[u8], &[0; 511], &[0; 513]] {
-        let request = Request::classify(bytes, 512, limits);
-        let mut out = [0xee; 8192];
-        assert!(rt; partition.verdict(&request) == 1);
-        assert!(rt; partition.reply(&request, 1, None, &mut out) == 512 && out == told);
-    }
-    Ok(())
+    check_row(is_malformed(&partition, limits, &[]), 0)?;
+    check_row(is_malformed(&partition, limits, &[0; 511]), 511)?;
+    check_row(is_malformed(&partition, limits, &[0; 513]), 513)
 }

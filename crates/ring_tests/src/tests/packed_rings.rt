@@ -1,9 +1,8 @@
-use super::descriptors::{Descriptor, INDIRECT, NEXT, WRITE, describe, holds, memory_of};
+use super::descriptors::{Descriptor, INDIRECT, NEXT, WRITE};
 use super::queues::{
-    Answer, BAD_RANGE, BAD_TABLE, OLD_NUMBER, ORDER, Queue, Step, TOO_LONG, go, popped_of, take,
+    Answer, BAD_RANGE, BAD_TABLE, OLD_NUMBER, ORDER, Popping, Step, TOO_LONG, go, go_on, steps_of,
 };
-use chains::{Places, Reads};
-use guest_memory::Memory;
+use chains::Places;
 use packed_ring::Ring;
 use std::alloc::Global;
 use std::test::Fail;
@@ -36,13 +35,6 @@ fn ring_at(alloc: Global, places: Places, size: u16) -> Result<Ring, Fail> {
 
 fn ring_of(alloc: Global, size: u16) -> Result<Ring, Fail> {
     ring_at(alloc, places(size), size)
-}
-
-// Whether the descriptor at an index is used: le32 len, le16 id and le16 flags behind its address.
-fn is_used(memory: &Memory, index: u16, len: u16, id: u8, flags: u16) -> bool {
-    let (len, flags) = (len.to_le_bytes(), flags.to_le_bytes());
-    let bytes = [len[0], len[1], 0, 0, id, 0, flags[0], flags[1]];
-    holds(memory, 16 * index as u64 + 8, &bytes)
 }
 
 // One writable buffer of 8 bytes at 200, by the id 7, available where the wrap is 1: it is answered by
@@ -96,6 +88,50 @@ static A_NUMBER_IS_TAKEN_ONCE: [Step; 5] = [
     Step::Pops(u64::MAX, Answer::Chain(3, 1, 1, 0)),
 ];
 
+// Five chains of a readable and a writable descriptor on a ring of 3. A chain is known by the id in its last
+// descriptor, here 6, and not by that in its first. The used descriptor takes the place of the first.
+static OVER_THE_END: [Step; 34] = [
+    Step::Describes(16, (4096, 512, 6, 0x0082)),
+    Step::Describes(0, (2048, 3, 5, 0x0081)),
+    Step::Pops(1, Answer::Chain(6, 2, 3, 512)),
+    Step::Publishes(1, 6, 2, 512, true),
+    Step::Holds(8, &[0, 2, 0, 0, 6, 0, 0x82, 0x80]),
+    Step::Holds(24, &[0, 2, 0, 0, 6, 0, 0x82, 0]),
+    Step::Describes(0, (4096, 512, 6, 0x8002)),
+    Step::Describes(32, (2048, 3, 5, 0x0081)),
+    Step::Pops(2, Answer::Chain(6, 2, 3, 512)),
+    Step::Publishes(2, 6, 2, 512, true),
+    Step::Holds(40, &[0, 2, 0, 0, 6, 0, 0x82, 0x80]),
+    Step::Holds(8, &[0, 2, 0, 0, 6, 0, 0x02, 0x80]),
+    Step::Describes(32, (4096, 512, 6, 0x8002)),
+    Step::Describes(16, (2048, 3, 5, 0x8001)),
+    Step::Pops(3, Answer::Chain(6, 2, 3, 512)),
+    Step::Publishes(3, 6, 2, 512, true),
+    Step::Holds(24, &[0, 2, 0, 0, 6, 0, 0x02, 0]),
+    Step::Holds(40, &[0, 2, 0, 0, 6, 0, 0x02, 0x80]),
+    Step::Describes(16, (4096, 512, 6, 0x0082)),
+    Step::Describes(0, (2048, 3, 5, 0x0081)),
+    Step::Pops(4, Answer::Chain(6, 2, 3, 512)),
+    Step::Publishes(4, 6, 2, 512, true),
+    Step::Holds(8, &[0, 2, 0, 0, 6, 0, 0x82, 0x80]),
+    Step::Holds(24, &[0, 2, 0, 0, 6, 0, 0x82, 0]),
+    Step::Describes(0, (4096, 512, 6, 0x8002)),
+    Step::Describes(32, (2048, 3, 5, 0x0081)),
+    Step::Pops(5, Answer::Chain(6, 2, 3, 512)),
+    Step::Publishes(5, 6, 2, 512, true),
+    Step::Holds(40, &[0, 2, 0, 0, 6, 0, 0x82, 0x80]),
+    Step::Holds(8, &[0, 2, 0, 0, 6, 0, 0x02, 0x80]),
+    // The next place is at index 1, where the wrap is 0.
+    Step::Describes(16, (2048, 3, 5, FIRST_ROUND)),
+    Step::Pops(6, Answer::Nothing),
+    Step::Describes(16, (2048, 3, 5, SECOND_ROUND)),
+    Step::Pops(6, Answer::Chain(5, 1, 3, 0)),
+];
+
+fn go_on_three_places(alloc: Global, steps: &[Step]) -> Result<(), Fail> {
+    go(alloc, 65536, ring_of(alloc, 3)?, steps)
+}
+
 #[test]
 fn chains_of_a_ring_of_3(rt: HostRuntime) -> Result<(), Fail> {
     for steps in [
@@ -104,61 +140,11 @@ fn chains_of_a_ring_of_3(rt: HostRuntime) -> Result<(), Fail> {
         &AN_ID_THAT_IS_REPEATED,
         &A_REFUSAL_CHANGES_NOTHING,
         &A_NUMBER_IS_TAKEN_ONCE,
+        &OVER_THE_END,
     ] {
-        go(rt.alloc(), 65536, ring_of(rt.alloc(), 3)?, steps)?;
+        go_on_three_places(rt.alloc(), steps)?;
     }
     Ok(())
-}
-
-// Five chains of a readable and a writable descriptor on a ring of 3: the indexes and the flags of
-// both, and where the used descriptor stands, with its flags.
-type Round = (u16, u16, u16, u16, u16);
-
-static ROUNDS: [Round; 5] = [
-    (0, 0x0081, 1, 0x0082, 0x8082),
-    (2, 0x0081, 0, 0x8002, 0x8082),
-    (1, 0x8001, 2, 0x8002, 0x0002),
-    (0, 0x0081, 1, 0x0082, 0x8082),
-    (2, 0x0081, 0, 0x8002, 0x8082),
-];
-
-// A chain is known by the id in its last descriptor, here 6, and not by that in its first.
-fn goes_round(
-    alloc: Global,
-    memory: &mut Memory,
-    ring: &mut Ring,
-    round: &Round,
-) -> Result<bool, Fail> {
-    let (first, first_flags, last, last_flags, flags) = *round;
-    describe(memory, 16 * last as u64, (4096, 512, 6, last_flags))?;
-    describe(memory, 16 * first as u64, (2048, 3, 5, first_flags))?;
-    let number = ring.last_number().saturating_add(1);
-    let popped = ring.pop_by(alloc, memory, &mut Reads::new(), number)?;
-    ring.give_back(memory, number, 6, 2, 512)?;
-    Ok(
-        popped == Answer::Chain(6, 2, 3, 512)
-            && is_used(memory, first, 512, 6, flags)
-            && is_used(memory, last, 512, 6, last_flags),
-    )
-}
-
-// The next place is at index 1, where the wrap is 0.
-static NEXT_PLACE: [Step; 4] = [
-    Step::Describes(16, (2048, 3, 5, FIRST_ROUND)),
-    Step::Pops(6, Answer::Nothing),
-    Step::Describes(16, (2048, 3, 5, SECOND_ROUND)),
-    Step::Pops(6, Answer::Chain(5, 1, 3, 0)),
-];
-
-#[test]
-fn chains_over_the_end_of_the_ring(rt: HostRuntime) -> Result<(), Fail> {
-    let mut memory = memory_of(rt.alloc(), 65536)?;
-    let mut ring = ring_of(rt.alloc(), 3)?;
-    for (place, round) in ROUNDS.iter().enumerate() {
-        let goes = goes_round(rt.alloc(), &mut memory, &mut ring, round)?;
-        assert!(rt; goes, "at {place}");
-    }
-    take(rt.alloc(), &mut memory, &mut ring, &NEXT_PLACE)
 }
 
 // A table at 1,024 with an entry to be read and one to be written; neither has NEXT, and the second has
@@ -168,9 +154,8 @@ static WITH_TABLE: [Step; 2] = [
     Step::Describes(1040, (500, 16, 2, WRITE + INDIRECT)),
 ];
 
-// Two descriptors of a ring of 3, the last of which stands twice, and what the pop of the first answers
-// and how many it reads.
-static POPPED: [(Descriptor, Descriptor, Answer, u64); 13] = [
+// Pops of a ring of 3.
+static POPPED: [Popping; 13] = [
     // The flags that make the first available, or not; the last are all but USED, NEXT and INDIRECT.
     (
         (200, 8, 0, 0x0080),
@@ -214,20 +199,28 @@ static POPPED: [(Descriptor, Descriptor, Answer, u64); 13] = [
     ),
 ];
 
+fn pops_as_told(alloc: Global, accepted: Places, popping: &Popping) -> Result<(), Fail> {
+    let ring = ring_at(alloc, accepted, 3)?;
+    go_on(alloc, ring, &WITH_TABLE, &steps_of(popping))
+}
+
 #[test]
 fn flags_that_make_available_and_hostile_chains(rt: HostRuntime) -> Result<(), Fail> {
-    for (place, (first, second, answer, count)) in POPPED.iter().enumerate() {
-        let ring = ring_of(rt.alloc(), 3)?;
-        let popped = popped_of(rt.alloc(), ring, &WITH_TABLE, *first, *second)?;
-        assert!(rt; popped == (*answer, *count), "at {place}");
+    for popping in &POPPED {
+        pops_as_told(rt.alloc(), places(3), popping)?;
     }
     Ok(())
 }
 
-// What a ring that takes no tables answers to one.
-const A_TABLE: Descriptor = (1024, 32, 4, FIRST_ROUND + INDIRECT);
-
 const NO_DESCRIPTOR: Descriptor = (0, 0, 0, 0);
+
+// What a ring that takes no tables answers to one.
+static A_TABLE: Popping = (
+    (1024, 32, 4, FIRST_ROUND + INDIRECT),
+    NO_DESCRIPTOR,
+    BAD_TABLE,
+    1,
+);
 
 #[test]
 fn a_table_that_was_not_accepted(rt: HostRuntime) -> Result<(), Fail> {
@@ -235,8 +228,5 @@ fn a_table_that_was_not_accepted(rt: HostRuntime) -> Result<(), Fail> {
         indirect: false,
         ..places(3)
     };
-    let ring = ring_at(rt.alloc(), accepted, 3)?;
-    let popped = popped_of(rt.alloc(), ring, &WITH_TABLE, A_TABLE, NO_DESCRIPTOR)?;
-    assert!(rt; popped == (BAD_TABLE, 1));
-    Ok(())
+    pops_as_told(rt.alloc(), accepted, &A_TABLE)
 }

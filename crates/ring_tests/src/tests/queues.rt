@@ -1,6 +1,8 @@
 //! What a driver, its guest and the device do one after another to a ring and its memory, and what it
 //! gives. Both kinds of ring take the same steps.
-use super::descriptors::{Descriptor, describe, holds, holds_word, memory_of, put, set_word};
+use super::descriptors::{
+    Descriptor, check_row, describe, holds, holds_word, memory_of, put, set_word,
+};
 use chains::{ChainFault, Popped, Reads, RingFault};
 use guest_memory::Memory;
 use std::alloc::Global;
@@ -13,6 +15,8 @@ pub enum Answer {
     Chain(u16, u16, usize, u64),
     Refused(RingFault),
     Nothing,
+    /// The ring doesn't lie in the memory.
+    Outside,
 }
 
 pub const OLD_NUMBER: Answer = Answer::Refused(RingFault::OldNumber);
@@ -34,10 +38,10 @@ pub trait Queue: Drop {
         memory: &mut Memory,
         reads: &mut Reads,
         number: u64,
-    ) -> Result<Answer, Fail>;
+    ) -> Answer;
 
     /// Gives back the chain of this number, id and so many places, with a reply of so many bytes, and
-    /// answers whether the driver is to be notified.
+    /// answers whether the driver is to be notified; `None` where no such chain is outstanding.
     fn give_back(
         &mut self,
         memory: &mut Memory,
@@ -45,7 +49,7 @@ pub trait Queue: Drop {
         id: u16,
         places: u16,
         len: u32,
-    ) -> Result<bool, Fail>;
+    ) -> Option<bool>;
 
     fn last_number(&self) -> u64;
 
@@ -72,11 +76,12 @@ impl Queue for split_ring::Ring {
         memory: &mut Memory,
         reads: &mut Reads,
         number: u64,
-    ) -> Result<Answer, Fail> {
-        if !self.lies_in(memory) {
-            return Err(Fail::from("the ring isn't inside"));
+    ) -> Answer {
+        if self.lies_in(memory) {
+            answer_of(&self.pop(alloc, memory, reads, number))
+        } else {
+            Answer::Outside
         }
-        Ok(answer_of(&self.pop(alloc, memory, reads, number)))
     }
 
     fn give_back(
@@ -86,11 +91,12 @@ impl Queue for split_ring::Ring {
         id: u16,
         places: u16,
         len: u32,
-    ) -> Result<bool, Fail> {
-        if !self.lies_in(memory) || !self.is_outstanding(number, id, places) {
-            return Err(Fail::from("not outstanding"));
+    ) -> Option<bool> {
+        if self.lies_in(memory) && self.is_outstanding(number, id, places) {
+            Some(self.publish(memory, number, id, places, len))
+        } else {
+            None
         }
-        Ok(self.publish(memory, number, id, places, len))
     }
 
     fn last_number(&self) -> u64 {
@@ -109,11 +115,12 @@ impl Queue for packed_ring::Ring {
         memory: &mut Memory,
         reads: &mut Reads,
         number: u64,
-    ) -> Result<Answer, Fail> {
-        if !self.lies_in(memory) {
-            return Err(Fail::from("the ring isn't inside"));
+    ) -> Answer {
+        if self.lies_in(memory) {
+            answer_of(&self.pop(alloc, memory, reads, number))
+        } else {
+            Answer::Outside
         }
-        Ok(answer_of(&self.pop(alloc, memory, reads, number)))
     }
 
     fn give_back(
@@ -123,11 +130,12 @@ impl Queue for packed_ring::Ring {
         id: u16,
         places: u16,
         len: u32,
-    ) -> Result<bool, Fail> {
-        if !self.lies_in(memory) || !self.is_outstanding(number, id, places) {
-            return Err(Fail::from("not outstanding"));
+    ) -> Option<bool> {
+        if self.lies_in(memory) && self.is_outstanding(number, id, places) {
+            Some(self.publish(memory, number, id, places, len))
+        } else {
+            None
         }
-        Ok(self.publish(memory, number, id, places, len))
     }
 
     fn last_number(&self) -> u64 {
@@ -139,6 +147,7 @@ impl Queue for packed_ring::Ring {
     }
 }
 
+#[derive(Clone, Copy)]
 pub enum Step {
     // The guest stores bytes, a word of 16 bits, or a descriptor.
     Stores(u64, &'static [u8]),
@@ -151,6 +160,10 @@ pub enum Step {
     // The chain of this number, id and so many places is given back with a reply of so many bytes, and
     // the driver is to be notified, or not.
     Publishes(u64, u16, u16, u32, bool),
+    // 256 chains of one byte to be written are popped, each by its place as its id and the place after it
+    // as its number; and are given back, the last popped first.
+    PopsAll,
+    PublishesAll,
     // Whether the chain of this number, id and so many places is outstanding.
     Outstanding(u64, u16, u16, bool),
     // Bytes, or a word of 16 bits, that stand in guest memory.
@@ -158,13 +171,13 @@ pub enum Step {
     HoldsWord(u64, u16),
 }
 
-fn copy(alloc: Global, memory: &Memory) -> Result<Vec<u8>, Fail> {
+fn copy(alloc: Global, memory: &Memory) -> Option<Vec<u8>> {
     let size = memory.size();
-    if !memory.contains(0, size) {
-        return Err(Fail::from("a memory without its bytes"));
+    if memory.contains(0, size) {
+        memory.bytes(0, size).to_vec(alloc).ok()
+    } else {
+        None
     }
-    let bytes = memory.bytes(0, size).to_vec(alloc).ok();
-    Ok(bytes.ok_or("no memory")?)
 }
 
 /// Whether a pop is refused so, and leaves the ring and the memory as they were.
@@ -174,40 +187,90 @@ fn refuses<R: Queue>(
     ring: &mut R,
     reads: &mut Reads,
     pop: (u64, Answer),
-) -> Result<bool, Fail> {
-    let before = copy(alloc, memory)?;
+) -> bool {
+    let Some(before) = copy(alloc, memory) else {
+        return false;
+    };
     let last = ring.last_number();
-    let popped = ring.pop_by(alloc, memory, reads, pop.0)?;
-    Ok(popped == pop.1 && ring.last_number() == last && holds(memory, 0, &before))
+    let popped = ring.pop_by(alloc, memory, reads, pop.0);
+    popped == pop.1 && ring.last_number() == last && holds(memory, 0, &before)
 }
 
 /// Whether a pop by this number gives this. The ring's last number is that of a chain popped.
-fn pops<R: Queue>(
+fn gives<R: Queue>(
     alloc: Global,
     memory: &mut Memory,
     ring: &mut R,
     reads: &mut Reads,
     pop: (u64, Answer),
-) -> Result<bool, Fail> {
+) -> bool {
     let (number, answer) = pop;
-    if matches!(answer, Answer::Refused(_)) {
-        return refuses(alloc, memory, ring, reads, pop);
-    }
     let before = ring.last_number();
     let last = if answer == Answer::Nothing {
         before
     } else {
         number
     };
-    Ok(ring.pop_by(alloc, memory, reads, number)? == answer && ring.last_number() == last)
+    ring.pop_by(alloc, memory, reads, number) == answer && ring.last_number() == last
 }
 
-fn stores(memory: &mut Memory, step: &Step) -> Result<(), Fail> {
+fn pops<R: Queue>(
+    alloc: Global,
+    memory: &mut Memory,
+    ring: &mut R,
+    reads: &mut Reads,
+    pop: (u64, Answer),
+) -> bool {
+    if matches!(pop.1, Answer::Refused(_)) {
+        refuses(alloc, memory, ring, reads, pop)
+    } else {
+        gives(alloc, memory, ring, reads, pop)
+    }
+}
+
+fn pops_256<R: Queue>(alloc: Global, memory: &mut Memory, ring: &mut R, reads: &mut Reads) -> bool {
+    for place in 0..256_u16 {
+        let answer = ring.pop_by(alloc, memory, reads, place as u64 + 1);
+        if answer != Answer::Chain(place, 1, 0, 1) {
+            return false;
+        }
+    }
+    true
+}
+
+fn publishes_256<R: Queue>(memory: &mut Memory, ring: &mut R) -> bool {
+    for place in 0..256_u16 {
+        let id = 255 - place;
+        if ring.give_back(memory, id as u64 + 1, id, 1, 1).is_none() {
+            return false;
+        }
+    }
+    true
+}
+
+/// A step of the guest alone, of its memory. Other steps hold.
+fn goes_in_memory(memory: &mut Memory, step: &Step) -> bool {
     match step {
         Step::Stores(at, bytes) => put(memory, *at, bytes),
         Step::StoresWord(at, word) => set_word(memory, *at, *word),
         Step::Describes(at, fields) => describe(memory, *at, *fields),
-        _ => Ok(()),
+        Step::Holds(at, bytes) => holds(memory, *at, bytes),
+        Step::HoldsWord(at, word) => holds_word(memory, *at, *word),
+        _ => true,
+    }
+}
+
+// A step with no pop.
+fn goes_without_pops<R: Queue>(memory: &mut Memory, ring: &mut R, step: &Step) -> bool {
+    match step {
+        Step::PublishesAll => publishes_256(memory, ring),
+        Step::Publishes(number, id, places, len, notify) => {
+            ring.give_back(memory, *number, *id, *places, *len) == Some(*notify)
+        }
+        Step::Outstanding(number, id, places, is) => {
+            ring.has_outstanding(*number, *id, *places) == *is
+        }
+        _ => goes_in_memory(memory, step),
     }
 }
 
@@ -217,20 +280,12 @@ fn goes_as_told<R: Queue>(
     ring: &mut R,
     reads: &mut Reads,
     step: &Step,
-) -> Result<bool, Fail> {
-    stores(memory, step)?;
+) -> bool {
     match step {
         Step::Pops(number, answer) => pops(alloc, memory, ring, reads, (*number, *answer)),
-        Step::Reads(count) => Ok(reads.count() == *count),
-        Step::Publishes(number, id, places, len, notify) => {
-            Ok(ring.give_back(memory, *number, *id, *places, *len)? == *notify)
-        }
-        Step::Outstanding(number, id, places, is) => {
-            Ok(ring.has_outstanding(*number, *id, *places) == *is)
-        }
-        Step::Holds(at, bytes) => Ok(holds(memory, *at, bytes)),
-        Step::HoldsWord(at, word) => Ok(holds_word(memory, *at, *word)),
-        _ => Ok(true),
+        Step::Reads(count) => reads.count() == *count,
+        Step::PopsAll => pops_256(alloc, memory, ring, reads),
+        _ => goes_without_pops(memory, ring, step),
     }
 }
 
@@ -243,11 +298,21 @@ pub fn take<R: Queue>(
 ) -> Result<(), Fail> {
     let mut reads = Reads::new();
     for (place, step) in steps.iter().enumerate() {
-        if !goes_as_told(alloc, memory, ring, &mut reads, step)? {
-            return Err(Fail::new(format_args!("step {place} goes another way")));
+        if !goes_as_told(alloc, memory, ring, &mut reads, step) {
+            return check_row(false, place);
         }
     }
     Ok(())
+}
+
+/// Steps of a ring and a memory.
+pub fn go_in<R: Queue>(
+    alloc: Global,
+    mut memory: Memory,
+    mut ring: R,
+    steps: &[Step],
+) -> Result<(), Fail> {
+    take(alloc, &mut memory, &mut ring, steps)
 }
 
 /// Steps of a ring and a memory of so many bytes.
@@ -256,42 +321,29 @@ pub fn go<R: Queue>(alloc: Global, size: u64, mut ring: R, steps: &[Step]) -> Re
     take(alloc, &mut memory, &mut ring, steps)
 }
 
-/// What a pop answers of these descriptors, the second of which stands twice, and how many it reads.
-pub fn popped_of<R: Queue>(
+/// Steps of a ring and a memory of 65,536 bytes, which go on from others.
+pub fn go_on<R: Queue>(
     alloc: Global,
     mut ring: R,
+    before: &[Step],
     steps: &[Step],
-    first: Descriptor,
-    second: Descriptor,
-) -> Result<(Answer, u64), Fail> {
+) -> Result<(), Fail> {
     let mut memory = memory_of(alloc, 65536)?;
-    take(alloc, &mut memory, &mut ring, steps)?;
-    describe(&mut memory, 0, first)?;
-    describe(&mut memory, 16, second)?;
-    describe(&mut memory, 32, second)?;
-    let mut reads = Reads::new();
-    let answer = ring.pop_by(alloc, &mut memory, &mut reads, 1)?;
-    Ok((answer, reads.count()))
+    take(alloc, &mut memory, &mut ring, before)?;
+    take(alloc, &mut memory, &mut ring, steps)
 }
 
-/// Pops 256 chains of one byte to be written, each by its place as its id and the place after it as its
-/// number.
-pub fn pops_256<R: Queue>(alloc: Global, memory: &mut Memory, ring: &mut R) -> Result<(), Fail> {
-    let mut reads = Reads::new();
-    for place in 0..256_u16 {
-        let answer = ring.pop_by(alloc, memory, &mut reads, place as u64 + 1)?;
-        if answer != Answer::Chain(place, 1, 0, 1) {
-            return Err(Fail::from("no chain"));
-        }
-    }
-    Ok(())
-}
+/// Two descriptors, what the pop of the first answers, and how many it reads.
+pub type Popping = (Descriptor, Descriptor, Answer, u64);
 
-/// Gives those chains back, the last popped first.
-pub fn publishes_256<R: Queue>(memory: &mut Memory, ring: &mut R) -> Result<(), Fail> {
-    for place in 0..256_u16 {
-        let id = 255 - place;
-        ring.give_back(memory, id as u64 + 1, id, 1, 1)?;
-    }
-    Ok(())
+/// The steps of such a pop, before which the second descriptor is stored twice.
+pub fn steps_of(popping: &Popping) -> [Step; 5] {
+    let (first, second, answer, count) = *popping;
+    [
+        Step::Describes(0, first),
+        Step::Describes(16, second),
+        Step::Describes(32, second),
+        Step::Pops(1, answer),
+        Step::Reads(count),
+    ]
 }

@@ -1,9 +1,11 @@
 use super::descriptors::{
-    Descriptor, INDIRECT, NEXT, WRITE, describe, holds, memory_of, put, set_word,
+    Descriptor, INDIRECT, NEXT, WRITE, check_row, describe, holds, memory_of, put, set_word,
 };
+use super::devices::check;
 use super::split_rings::{pop_one, ring_of};
 use chains::{Area, Chain, ChainFault, Places, Range, Reads, RingFault, Shape, walk};
 use guest_memory::Memory;
+use split_ring::Ring;
 use std::alloc::Global;
 use std::test::Fail;
 
@@ -11,22 +13,39 @@ use std::test::Fail;
 const TABLE: u64 = 1024;
 
 // The chain that a walk finds and its request, and how many descriptors the walk read.
-type Found = (Result<(Chain, Vec<u8>), RingFault>, u64);
+#[derive(Drop)]
+struct Found {
+    chain: Chain,
+    request: Vec<u8>,
+    count: u64,
+}
 
-fn walk_from_0(alloc: Global, memory: &Memory, area: &Area) -> Result<Found, Fail> {
+#[derive(Drop)]
+enum Walk {
+    Found(Found),
+    // A fault, and how many descriptors were read.
+    Refused(RingFault, u64),
+    // No room for the ring in the memory, or for the request on the host.
+    NoRoom,
+}
+
+fn walk_from_0(alloc: Global, memory: &Memory, area: &Area) -> Walk {
     let limit = area.limit;
     if limit == 0 || limit > 256 || !memory.contains(area.base, 16 * limit) {
-        return Err(Fail::from("no room for the ring"));
+        return Walk::NoRoom;
     }
     let mut reads = Reads::new();
-    let found = match walk(alloc, memory, &mut reads, area, 0) {
-        Ok(walked) => {
-            let request = walked.chain.gather(alloc, memory)?;
-            Ok((walked.chain, request))
-        }
-        Err(fault) => Err(fault),
-    };
-    Ok((found, reads.count()))
+    match walk(alloc, memory, &mut reads, area, 0) {
+        Ok(walked) => match walked.chain.gather(alloc, memory) {
+            Ok(request) => Walk::Found(Found {
+                chain: walked.chain,
+                request,
+                count: reads.count(),
+            }),
+            Err(_) => Walk::NoRoom,
+        },
+        Err(fault) => Walk::Refused(fault, reads.count()),
+    }
 }
 
 // What a walk answers.
@@ -44,31 +63,33 @@ const BAD_TABLE: Answer = Err(RingFault::Refused(ChainFault::BadTable));
 // walk from place 0 answers, and how many descriptors it reads.
 type Case = (Descriptor, Descriptor, Descriptor, Descriptor, Answer, u64);
 
-fn put_case(memory: &mut Memory, case: &Case) -> Result<(), Fail> {
+fn put_case(memory: &mut Memory, case: &Case) -> bool {
     let (first, second, entry, last, _, _) = *case;
-    describe(memory, 0, first)?;
-    for place in 1..4 {
-        describe(memory, 16 * place, second)?;
+    describe(memory, 0, first)
+        && describe(memory, 16, second)
+        && describe(memory, 32, second)
+        && describe(memory, 48, second)
+        && describe(memory, TABLE, entry)
+        && describe(memory, TABLE + 16, last)
+}
+
+fn answers_as_told(alloc: Global, memory: &Memory, area: &Area, case: &Case) -> bool {
+    match walk_from_0(alloc, memory, area) {
+        Walk::Found(found) => case.4 == Ok(()) && found.count == case.5,
+        Walk::Refused(fault, count) => case.4 == Err(fault) && count == case.5,
+        Walk::NoRoom => false,
     }
-    describe(memory, TABLE, entry)?;
-    describe(memory, TABLE + 16, last)
 }
 
 fn goes_as_told(alloc: Global, shape: Shape, tables: bool, case: &Case) -> Result<bool, Fail> {
     let mut memory = memory_of(alloc, 65536)?;
-    put_case(&mut memory, case)?;
     let area = Area {
         shape,
         base: 0,
         limit: 4,
         tables,
     };
-    let (found, count) = walk_from_0(alloc, &memory, &area)?;
-    let answer = match found {
-        Ok(_) => Ok(()),
-        Err(fault) => Err(fault),
-    };
-    Ok(answer == case.4 && count == case.5)
+    Ok(put_case(&mut memory, case) && answers_as_told(alloc, &memory, &area, case))
 }
 
 const PLAIN: Descriptor = (2048, 8, 0, 0);
@@ -191,33 +212,31 @@ static PACKED_CHAINS: [Case; 3] = [
     ),
 ];
 
-#[test]
-fn split_tables_and_packed_chains(rt: HostRuntime) -> Result<(), Fail> {
-    for (shape, tables, cases) in [
-        (Shape::SplitRing, true, &SPLIT_TABLES as &[Case]),
-        (Shape::SplitRing, false, &A_TABLE_REFUSED),
-        (Shape::PackedRing, true, &PACKED_CHAINS),
-    ] {
-        for (place, case) in cases.iter().enumerate() {
-            let goes = goes_as_told(rt.alloc(), shape, tables, case)?;
-            assert!(rt; goes, "at {place}, tables {tables}");
-        }
+fn all_go(alloc: Global, shape: Shape, tables: bool, cases: &[Case]) -> Result<(), Fail> {
+    for (place, case) in cases.iter().enumerate() {
+        check_row(goes_as_told(alloc, shape, tables, case)?, place)?;
     }
     Ok(())
 }
 
+#[test]
+fn split_tables_and_packed_chains(rt: HostRuntime) -> Result<(), Fail> {
+    all_go(rt.alloc(), Shape::SplitRing, true, &SPLIT_TABLES)?;
+    all_go(rt.alloc(), Shape::SplitRing, false, &A_TABLE_REFUSED)?;
+    all_go(rt.alloc(), Shape::PackedRing, true, &PACKED_CHAINS)
+}
+
 // A chain of a split ring at 0, of so many places, and its request; and how many descriptors are read.
-fn chain_of(alloc: Global, memory: &Memory, limit: u64) -> Result<(Chain, Vec<u8>, u64), Fail> {
+fn chain_of(alloc: Global, memory: &Memory, limit: u64) -> Option<Found> {
     let area = Area {
         shape: Shape::SplitRing,
         base: 0,
         limit,
         tables: true,
     };
-    let (found, count) = walk_from_0(alloc, memory, &area)?;
-    match found {
-        Ok((chain, request)) => Ok((chain, request, count)),
-        Err(_) => Err(Fail::from("no chain")),
+    match walk_from_0(alloc, memory, &area) {
+        Walk::Found(found) => Some(found),
+        _ => None,
     }
 }
 
@@ -238,9 +257,11 @@ static OFFERED: [Descriptor; 4] = [
     (200, 4, WRITE, 0),
 ];
 
-fn offer(memory: &mut Memory) -> Result<(), Fail> {
+fn offer(memory: &mut Memory) -> bool {
     for (place, fields) in OFFERED.iter().enumerate() {
-        describe(memory, 16 * place as u64, *fields)?;
+        if !describe(memory, 16 * place as u64, *fields) {
+            return false;
+        }
     }
     put(memory, 2048, &[5, 6, 7])
 }
@@ -250,86 +271,96 @@ fn is_cut(request: &[u8]) -> bool {
     request.len() == 8705 && request.last() == Some(&5)
 }
 
-// Whether the request is gathered as far as that, and a reply scattered over both ranges.
-fn is_gathered_and_scattered(alloc: Global, memory: &mut Memory) -> Result<bool, Fail> {
-    offer(memory)?;
-    let (chain, request, _) = chain_of(alloc, memory, 4)?;
-    Ok(
-        is_cut(&request)
-            && scatters(&chain, memory, &[1, 2, 3], 6)
-            && holds(memory, 100, &[1, 2, 0])
-            && holds(memory, 200, &[3, 0, 0]),
-    )
+// Whether a reply is scattered over both ranges.
+fn is_scattered(chain: &Chain, memory: &mut Memory) -> bool {
+    scatters(chain, memory, &[1, 2, 3], 6)
+        && holds(memory, 100, &[1, 2, 0])
+        && holds(memory, 200, &[3, 0, 0])
+}
+
+// Whether the request is gathered as far as that, and a reply scattered.
+fn is_gathered_and_scattered(alloc: Global, memory: &mut Memory) -> bool {
+    match chain_of(alloc, memory, 4) {
+        Some(found) => is_cut(&found.request) && is_scattered(&found.chain, memory),
+        None => false,
+    }
 }
 
 #[test]
 fn gathers_and_scatters(rt: HostRuntime) -> Result<(), Fail> {
     let mut memory = memory_of(rt.alloc(), 65536)?;
-    assert!(rt; is_gathered_and_scattered(rt.alloc(), &mut memory)?);
-    Ok(())
+    let offered = offer(&mut memory);
+    check(
+        offered && is_gathered_and_scattered(rt.alloc(), &mut memory),
+        "other bytes",
+    )
 }
 
 #[test]
 fn a_chain_to_be_written(rt: HostRuntime) -> Result<(), Fail> {
     let ranges = Vec::from_array(rt.alloc(), [Range { at: 7, len: 9 }])?;
-    assert_eq!(rt; Chain::of_writable(rt.alloc(), ranges).writable_len(), 9);
-    Ok(())
+    let room = Chain::of_writable(rt.alloc(), ranges).writable_len();
+    check(room == 9, "another length")
 }
 
 // A ring of 256 descriptors at 0: 255 of one byte to be read, the last of a table at 4,096 of 1,024
 // entries of 9 bytes each, which are more than any reply or request has.
-fn put_ring(memory: &mut Memory) -> Result<(), Fail> {
+fn put_ring(memory: &mut Memory) -> bool {
     for place in 0..255_u16 {
         let at = 40000 + place as u64;
-        describe(memory, 16 * place as u64, (at, 1, NEXT, place + 1))?;
-        put(memory, at, &[(place % 256) as u8])?;
+        if !describe(memory, 16 * place as u64, (at, 1, NEXT, place + 1))
+            || !put(memory, at, &[(place % 256) as u8])
+        {
+            return false;
+        }
     }
     describe(memory, 4080, (4096, 16384, INDIRECT, 0))
 }
 
 // The entries are to be written where `write` is WRITE, and to be read where it is 0.
-fn put_table(memory: &mut Memory, write: u16) -> Result<(), Fail> {
+fn put_table(memory: &mut Memory, write: u16) -> bool {
     for entry in 0..1023_u16 {
         let at = 50000 + 9 * entry as u64;
         let fields = (at, 9, write | NEXT, entry + 1);
-        describe(memory, 4096 + 16 * entry as u64, fields)?;
+        if !describe(memory, 4096 + 16 * entry as u64, fields) {
+            return false;
+        }
     }
     describe(memory, 20464, (59207, 9, write, 0))
 }
 
 fn longest(alloc: Global, write: u16) -> Result<Memory, Fail> {
     let mut memory = memory_of(alloc, 65536)?;
-    put_ring(&mut memory)?;
-    put_table(&mut memory, write)?;
+    let stands = put_ring(&mut memory) && put_table(&mut memory, write);
+    check(stands, "the longest chain")?;
     Ok(memory)
 }
 
 // Whether what is kept of the chain takes the longest reply, which ends where the chain does.
-fn takes_the_longest(alloc: Global, memory: &mut Memory, chain: &Chain) -> Result<bool, Fail> {
-    let kept = chain.for_reply(alloc)?;
-    let reply = vec![in alloc; 7_u8; 9216]?;
-    Ok(
-        scatters(&kept, memory, &reply, 9216)
-            && holds(memory, 50000, &[7])
-            && holds(memory, 59215, &[7, 0]),
-    )
+fn takes_the_longest(alloc: Global, memory: &mut Memory, chain: &Chain) -> bool {
+    match chain.for_reply(alloc) {
+        Ok(kept) => {
+            scatters(&kept, memory, &[7; 9216], 9216)
+                && holds(memory, 50000, &[7])
+                && holds(memory, 59215, &[7, 0])
+        }
+        Err(_) => false,
+    }
 }
 
 // How many descriptors the walk of the longest chain reads, which takes the longest reply.
-fn count_of_longest(alloc: Global, memory: &mut Memory) -> Result<u64, Fail> {
-    let (chain, _, count) = chain_of(alloc, memory, 256)?;
-    if takes_the_longest(alloc, memory, &chain)? {
-        Ok(count)
-    } else {
-        Err(Fail::from("another reply"))
+fn count_of_longest(alloc: Global, memory: &mut Memory) -> Option<u64> {
+    match chain_of(alloc, memory, 256) {
+        Some(found) if takes_the_longest(alloc, memory, &found.chain) => Some(found.count),
+        _ => None,
     }
 }
 
 #[test]
 fn the_longest_chain(rt: HostRuntime) -> Result<(), Fail> {
     let mut memory = longest(rt.alloc(), WRITE)?;
-    assert_eq!(rt; count_of_longest(rt.alloc(), &mut memory)?, 1280);
-    Ok(())
+    let count = count_of_longest(rt.alloc(), &mut memory);
+    check(count == Some(1280), "another count")
 }
 
 // The available ring and the used ring stand behind the table.
@@ -352,16 +383,22 @@ fn is_request_of_longest(request: &[u8]) -> bool {
     true
 }
 
-// The lengths of the request and of the room for a reply, where a ring pops the longest chain first.
-fn lengths_popped(alloc: Global, write: u16) -> Result<(usize, u64), Fail> {
-    let mut memory = longest(alloc, write)?;
-    set_word(&mut memory, 20482, 1)?;
-    let mut ring = ring_of(alloc, BEHIND_THE_TABLE, 256)?;
-    let popped = pop_one(alloc, &mut memory, &mut ring)?;
-    if !is_request_of_longest(&popped.request) {
-        return Err(Fail::from("another request"));
+// The lengths of the request and of the room for a reply of the longest chain, which the ring pops first.
+fn lengths_popped(alloc: Global, memory: &mut Memory, ring: &mut Ring) -> Option<(usize, u64)> {
+    match pop_one(alloc, memory, ring) {
+        Some(popped) if is_request_of_longest(&popped.request) => {
+            Some((popped.request.len(), popped.chain.writable_len()))
+        }
+        _ => None,
     }
-    Ok((popped.request.len(), popped.chain.writable_len()))
+}
+
+// Whether a ring pops the longest chain first, of these lengths.
+fn pops_the_longest(alloc: Global, write: u16, lengths: (usize, u64)) -> Result<bool, Fail> {
+    let mut memory = longest(alloc, write)?;
+    let mut ring = ring_of(alloc, BEHIND_THE_TABLE, 256)?;
+    let offered = set_word(&mut memory, 20482, 1);
+    Ok(offered && lengths_popped(alloc, &mut memory, &mut ring) == Some(lengths))
 }
 
 // The longest chain of 255 ranges to be read and 1,024 to be written, and that of 1,279 ranges to be
@@ -370,9 +407,8 @@ static LONGEST: [(u16, (usize, u64)); 2] = [(WRITE, (255, 9216)), (0, (8705, 0))
 
 #[test]
 fn a_ring_pops_the_longest_chains(rt: HostRuntime) -> Result<(), Fail> {
-    for (write, lengths) in &LONGEST {
-        let popped = lengths_popped(rt.alloc(), *write)?;
-        assert!(rt; popped == *lengths, "{write}");
+    for (place, (write, lengths)) in LONGEST.iter().enumerate() {
+        check_row(pops_the_longest(rt.alloc(), *write, *lengths)?, place)?;
     }
     Ok(())
 }

@@ -1,3 +1,4 @@
+use crate::tests::checks::check_row;
 use crate::tests::limits::limits_of;
 use rpmb_frame::laws::first_row_decides;
 use rpmb_frame::{Command, Request};
@@ -96,11 +97,12 @@ fn told(command: &Command) -> Option<Told> {
 }
 
 fn are_first(frames: &[[u8; 512]]) -> bool {
-    let mut first = true;
     for (place, frame) in frames.iter().enumerate() {
-        first &= frame[0] as usize == place;
+        if frame[0] as usize != place {
+            return false;
+        }
     }
-    first
+    true
 }
 
 /// Whether a request is told as the row says, and keeps its room and limits.
@@ -125,7 +127,7 @@ fn is_decided(alloc: Global, row: &Row) -> Result<bool, Fail> {
 #[test]
 fn rows_of_the_table(rt: HostRuntime) -> Result<(), Fail> {
     for (place, row) in ROWS.iter().enumerate() {
-        assert!(rt; is_decided(rt.alloc(), row)?, "at {place}");
+        check_row(is_decided(rt.alloc(), row)?, place)?;
     }
     Ok(())
 }

@@ -1,3 +1,4 @@
+use crate::tests::checks::check_row;
 use rpmb_frame::{BadBoard, BoardConfig, DriverLayout, GuestConfig, RingKind};
 use std::alloc::Global;
 use std::test::Fail;
@@ -51,7 +52,9 @@ static ROWS: [Row; 35] = [
 
 /// Ring and queue, then where the driver area, the device area, the tables and the buffers begin,
 /// and the length.
-static LAYOUTS: [(RingKind, u16, [u64; 5]); 3] = [
+type Layout = (RingKind, u16, [u64; 5]);
+
+static LAYOUTS: [Layout; 3] = [
     (SPLIT, 16, [256, 304, 448, 960, 271_296]),
     (PACKED, 3, [48, 64, 80, 176, 50_864]),
     (PACKED, 16, [256, 272, 288, 800, 271_136]),
@@ -78,18 +81,24 @@ fn board_of(alloc: Global, guests: &[GuestConfig]) -> Result<Result<BoardConfig,
     Ok(BoardConfig::new(guests.to_vec(alloc)?))
 }
 
-#[test]
-fn layouts(rt: HostRuntime) {
-    for (ring, queue, [driver_area, device_area, tables, buffers, length]) in LAYOUTS {
-        let expected = DriverLayout {
+fn is_laid_out(row: &Layout) -> bool {
+    let (ring, queue, [driver_area, device_area, tables, buffers, length]) = *row;
+    DriverLayout::of(ring, queue)
+        == DriverLayout {
             driver_area,
             device_area,
             tables,
             buffers,
             length,
-        };
-        assert_eq!(rt; DriverLayout::of(ring, queue), expected);
+        }
+}
+
+#[test]
+fn layouts() -> Result<(), Fail> {
+    for (place, row) in LAYOUTS.iter().enumerate() {
+        check_row(is_laid_out(row), place)?;
     }
+    Ok(())
 }
 
 /// Whether a board tells its guests, and a refusal its name.
@@ -104,24 +113,33 @@ fn is_told(
     }
 }
 
+/// Whether a board may have these guests, or may not, as told.
+fn goes_as_told(alloc: Global, guests: &[GuestConfig], accepted: bool) -> Result<bool, Fail> {
+    let board = board_of(alloc, guests)?;
+    Ok(board.is_ok() == accepted && is_told(alloc, &board, guests)?)
+}
+
+fn is_decided(alloc: Global, row: &Row) -> Result<bool, Fail> {
+    goes_as_told(alloc, &[guest_of(&ROWS[0]), guest_of(row)], row.6)
+}
+
 #[test]
 fn ends_of_the_ranges(rt: HostRuntime) -> Result<(), Fail> {
-    let first = guest_of(&ROWS[0]);
     for (place, row) in ROWS.iter().enumerate() {
-        let guests = [first, guest_of(row)];
-        let board = board_of(rt.alloc(), &guests)?;
-        let told = is_told(rt.alloc(), &board, &guests)?;
-        assert!(rt; told && board.is_ok() == row.6, "at {place}");
+        check_row(is_decided(rt.alloc(), row)?, place)?;
     }
     Ok(())
 }
 
+fn are_as_many(alloc: Global, count: usize, accepted: bool) -> Result<bool, Fail> {
+    let guests = vec![in alloc; guest_of(&ROWS[0]); count]?;
+    goes_as_told(alloc, &guests, accepted)
+}
+
 #[test]
 fn numbers_of_guests(rt: HostRuntime) -> Result<(), Fail> {
-    let guests = [guest_of(&ROWS[0]); 65];
-    for (count, accepted) in COUNTS {
-        let board = board_of(rt.alloc(), &guests[..count])?;
-        assert_eq!(rt; board.is_ok(), accepted, "at {count}");
+    for (place, (count, accepted)) in COUNTS.iter().enumerate() {
+        check_row(are_as_many(rt.alloc(), *count, *accepted)?, place)?;
     }
     Ok(())
 }
@@ -129,13 +147,14 @@ fn numbers_of_guests(rt: HostRuntime) -> Result<(), Fail> {
 /// Capacities, and whether a board may have a guest that names its capacity alone.
 static CAPACITIES: [(u8, bool); 4] = [(0, false), (1, true), (128, true), (129, false)];
 
+fn is_alone(alloc: Global, capacity: u8, accepted: bool) -> Result<bool, Fail> {
+    goes_as_told(alloc, &[GuestConfig::of_capacity(capacity)], accepted)
+}
+
 #[test]
 fn guests_that_name_their_capacity(rt: HostRuntime) -> Result<(), Fail> {
-    for (capacity, accepted) in CAPACITIES {
-        let guests = [GuestConfig::of_capacity(capacity)];
-        let board = board_of(rt.alloc(), &guests)?;
-        let told = is_told(rt.alloc(), &board, &guests)?;
-        assert!(rt; told && board.is_ok() == accepted, "at {capacity}");
+    for (place, (capacity, accepted)) in CAPACITIES.iter().enumerate() {
+        check_row(is_alone(rt.alloc(), *capacity, *accepted)?, place)?;
     }
     Ok(())
 }

@@ -1,3 +1,4 @@
+use crate::tests::checks::same;
 use rpmb_frame::Frame;
 
 /// The bytes of a frame: zeros before `from`, and then each the low byte of its own offset.
@@ -11,11 +12,11 @@ fn numbered(from: usize) -> [u8; 512] {
 
 /// Whether the fields that are bytes are these ranges.
 fn has_ranges(frame: &Frame, bytes: &[u8; 512]) -> bool {
-    frame.key_mac().as_slice() == &bytes[196..228]
-        && frame.block_data().as_slice() == &bytes[228..484]
-        && frame.nonce().as_slice() == &bytes[484..500]
-        && frame.body().as_slice() == &bytes[228..512]
-        && frame.to_bytes() == *bytes
+    same(&frame.key_mac(), &bytes[196..228])
+        && same(&frame.block_data(), &bytes[228..484])
+        && same(&frame.nonce(), &bytes[484..500])
+        && same(&frame.body(), &bytes[228..512])
+        && same(&frame.to_bytes(), bytes)
 }
 
 /// Write counter, address, block count, result and type.

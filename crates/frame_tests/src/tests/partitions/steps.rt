@@ -1,12 +1,13 @@
 //! Requests to a partition one after another, with their results and all bytes of their replies.
 
+use crate::tests::checks::same;
 use rpmb_core::{OK, Outcome, Partition, is_change};
 use rpmb_frame::{Limits, Request};
 use std::test::Fail;
 
-/// The fields of a frame in their order, in hexadecimal digits: the byte that stuff repeats, key_mac,
-/// the byte that the data repeat, nonce, write_counter, address, block_count, result and req_resp.
-pub type Row = &'static str;
+/// The fields of a frame in their order: the byte that stuff repeats, key_mac, the byte that the data
+/// repeat, nonce, write_counter; and address, block_count, result and req_resp, as one number.
+pub type Row = (u8, [u64; 4], u8, [u64; 2], u32, u64);
 
 /// How many frames a request has, the writable length in bytes, the result, and how many frames the
 /// reply has.
@@ -19,43 +20,26 @@ pub struct Scenario {
     pub replies: &'static [Row],
 }
 
-/// The bytes that the digits of a row say.
-fn bytes_of(row: Row) -> [u8; 62] {
-    let mut bytes = [0; 62];
-    let mut digits = 0;
-    for letter in row.chars() {
-        if let Some(digit) = letter.to_digit(16) {
-            if digits < 124 {
-                bytes[digits / 2] = (bytes[digits / 2] << 4) | digit as u8;
-                digits += 1;
-            }
+/// Puts words into a frame from an offset on, in big endian.
+fn put_words(bytes: &mut [u8; 512], at: usize, words: &[u64]) {
+    let mut place = at;
+    for word in words {
+        if place <= 504 {
+            bytes[place..place + 8].copy_from_slice(&word.to_be_bytes());
+            place += 8;
         }
     }
-    bytes
-}
-
-/// Whether each row has 124 digits, and the eight spaces between its fields.
-pub fn are_whole(rows: &[Row]) -> bool {
-    let mut whole = true;
-    for row in rows {
-        whole &= row.len() == 132;
-    }
-    whole
-}
-
-/// What a MAC covers: the data, and the fields behind them.
-fn body_of(fields: &[u8; 62]) -> [u8; 284] {
-    let mut body = [fields[33]; 284];
-    body[256..284].copy_from_slice(&fields[34..62]);
-    body
 }
 
 /// The frame that a row says.
-fn frame(row: Row) -> [u8; 512] {
-    let fields = bytes_of(row);
-    let mut bytes = [fields[0]; 512];
-    bytes[196..228].copy_from_slice(&fields[1..33]);
-    bytes[228..512].copy_from_slice(&body_of(&fields));
+fn frame(row: &Row) -> [u8; 512] {
+    let (stuff, key_mac, data, nonce, write_counter, numbers) = *row;
+    let mut bytes = [stuff; 512];
+    bytes[228..484].fill(data);
+    bytes[500..504].copy_from_slice(&write_counter.to_be_bytes());
+    put_words(&mut bytes, 196, &key_mac);
+    put_words(&mut bytes, 484, &nonce);
+    put_words(&mut bytes, 504, &[numbers]);
     bytes
 }
 
@@ -63,7 +47,7 @@ fn frame(row: Row) -> [u8; 512] {
 pub fn frames_of(rows: &[Row]) -> [[u8; 512]; 18] {
     let mut frames = [[0; 512]; 18];
     for (i, row) in rows.iter().take(18).enumerate() {
-        frames[i] = frame(*row);
+        frames[i] = frame(row);
     }
     frames
 }
@@ -74,12 +58,17 @@ pub fn first_bytes(frames: &[[u8; 512]; 18], count: usize) -> &[u8] {
 }
 
 /// A reply, and behind it the bytes 0xee that stood there.
-pub fn expected(rows: &[Row]) -> [u8; 8192] {
-    let mut out = [0xee; 8192];
+pub fn expected(rows: &[Row]) -> [[u8; 512]; 16] {
+    let mut frames = [[0xee; 512]; 16];
     for (i, row) in rows.iter().take(16).enumerate() {
-        out[512 * i..512 * i + 512].copy_from_slice(&frame(*row));
+        frames[i] = frame(row);
     }
-    out
+    frames
+}
+
+/// Whether these bytes are a reply, and behind it the bytes 0xee.
+pub fn is_reply(out: &[u8; 8192], rows: &[Row]) -> bool {
+    same(out, expected(rows).as_flattened())
 }
 
 /// The result of a request and the length of its reply, as a guest gets them.
@@ -114,7 +103,7 @@ pub fn goes_as_told(
     code == told
         && len == 512 * reply.len().min(16)
         && Partition::reply_len(request, code) == len
-        && out == expected(reply)
+        && is_reply(&out, reply)
 }
 
 /// Takes the steps, each of which gives its result and its reply.
@@ -123,9 +112,6 @@ pub fn take_steps(
     limits: Limits,
     scenario: &Scenario,
 ) -> Result<(), Fail> {
-    if !are_whole(scenario.requests) || !are_whole(scenario.replies) {
-        return Err(Fail::from("a row without all its digits"));
-    }
     let mut last = None;
     let (mut requests, mut replies) = (scenario.requests, scenario.replies);
     for (place, (asked, writable, code, given)) in scenario.steps.iter().enumerate() {

@@ -1,9 +1,10 @@
 // The first and the last guest of a board, with the least and the most that a guest may have, and the
 // longest requests and replies: memory that the host has is refused nowhere.
-use super::{check, is_written, pop_of};
-use crate::tests::drivers::{Pair, in_service, offer, reaps};
+use super::step::{pop_of, publishes};
+use crate::tests::descriptors::check_row;
+use crate::tests::drivers::{Pair, Turn, go_once, offers, reaps};
 use chains::Range;
-use mmio_transport::{Device, Job};
+use mmio_transport::{Device, Job, Published};
 use rpmb_frame::{GuestConfig, RingKind};
 use std::alloc::Global;
 use std::test::Fail;
@@ -31,78 +32,89 @@ static MOST: GuestConfig = GuestConfig {
 };
 
 // Bytes of which none is like its neighbours, nor like the one 256 places on.
-fn bytes_from(alloc: Global, first: u8, count: usize) -> Result<Vec<u8>, Fail> {
-    let mut bytes = Vec::new(alloc);
-    for place in 0..count {
-        let byte = (place % 251 + first as usize) % 251;
-        bytes.push(byte as u8).ok().ok_or("no memory")?;
+fn bytes_from(first: u8) -> [u8; 8704] {
+    let mut bytes = [0; 8704];
+    for place in 0..8704 {
+        bytes[place] = ((place % 251 + first as usize) % 251) as u8;
     }
-    Ok(bytes)
+    bytes
 }
 
 // The reply is to what is kept of the job.
-fn answer_kept(
-    alloc: Global,
-    device: &mut Device,
-    request: &[u8],
-    reply: &[u8],
-) -> Result<(), Fail> {
-    let job = pop_of(device, request)?;
-    let kept = job.for_reply(alloc).ok().ok_or("not kept")?;
-    check(is_written(alloc, device, kept, reply), "written")
+fn publishes_kept(alloc: Global, device: &mut Device, job: &Job, reply: (&[u8], bool)) -> bool {
+    let (bytes, notify) = reply;
+    match job.for_reply(alloc) {
+        Ok(kept) => publishes(alloc, device, kept, bytes, Published::Wrote { notify }),
+        Err(_) => false,
+    }
 }
 
-// A chain of these bytes, with room for the reply alone, is answered.
-fn exchange(
+fn answers_kept(alloc: Global, device: &mut Device, request: &[u8], reply: (&[u8], bool)) -> bool {
+    match pop_of(device, request) {
+        Some(job) => publishes_kept(alloc, device, &job, reply),
+        None => false,
+    }
+}
+
+// A chain of these bytes, with room for the reply alone, is answered, and the driver notified or not.
+fn exchanges(alloc: Global, pair: &mut Pair, request: &[u8], reply: (&[u8], bool)) -> bool {
+    let bytes = reply.0;
+    offers(pair, request, bytes.len().min(8192) as u32, Ok(0))
+        && answers_kept(alloc, &mut pair.device, request, reply)
+        && reaps(pair, 0, bytes)
+}
+
+// So many bytes to be read, and so many of the reply.
+pub fn exchanges_bytes(
     alloc: Global,
     pair: &mut Pair,
-    request: &[u8],
-    reply: &[u8],
-    room: u32,
-) -> Result<(), Fail> {
-    check(offer(pair, request, room)? == Ok(0), "an offer")?;
-    answer_kept(alloc, &mut pair.device, request, reply)?;
-    check(reaps(pair, 0, reply), "a reply")
+    lengths: (usize, usize),
+    notify: bool,
+) -> bool {
+    let (request, reply) = (bytes_from(5), bytes_from(7));
+    let (length, room) = (lengths.0.min(8704), lengths.1.min(8192));
+    exchanges(alloc, pair, &request[..length], (&reply[..room], notify))
 }
 
-fn go_round(alloc: Global, pair: &mut Pair, length: usize, room: u32) -> Result<(), Fail> {
-    let request = bytes_from(alloc, 5, length)?;
-    let reply = bytes_from(alloc, 7, room as usize)?;
-    exchange(alloc, pair, &request, &reply, room)
-}
+static EXCHANGED: [Turn; 5] = [
+    Turn::Negotiates(true),
+    Turn::Exchanges(1, 0, true),
+    Turn::Exchanges(1, 1, true),
+    Turn::Exchanges(512, 512, true),
+    Turn::Exchanges(8704, 8192, true),
+];
 
-// How many bytes a request has, and its reply.
-static LENGTHS: [(usize, u32); 4] = [(1, 0), (1, 1), (512, 512), (8704, 8192)];
-
-fn exchange_all(alloc: Global, pair: &mut Pair) -> Result<(), Fail> {
-    for (length, room) in &LENGTHS {
-        go_round(alloc, pair, *length, *room)?;
-    }
-    Ok(())
-}
-
-fn serves(alloc: Global, guest: u16, config: &GuestConfig) -> Result<(), Fail> {
-    let mut pair = in_service(alloc, guest, config)?;
-    exchange_all(alloc, &mut pair)
-}
+// With EVENT_IDX: used_event stays 0, which the index passes on the first round alone.
+static EXCHANGED_WITH_EVENTS: [Turn; 5] = [
+    Turn::Negotiates(true),
+    Turn::Exchanges(1, 0, true),
+    Turn::Exchanges(1, 1, false),
+    Turn::Exchanges(512, 512, false),
+    Turn::Exchanges(8704, 8192, false),
+];
 
 #[test]
 fn the_longest_go_round(rt: HostRuntime) -> Result<(), Fail> {
-    for (guest, config) in [(0, &LEAST), (63, &LEAST), (0, &MOST), (63, &MOST)] {
-        serves(rt.alloc(), guest, config)?;
+    for guest in [0, 63] {
+        go_once(rt.alloc(), guest, &LEAST, &LEAST, &EXCHANGED)?;
+        go_once(rt.alloc(), guest, &MOST, &MOST, &EXCHANGED_WITH_EVENTS)?;
     }
     Ok(())
 }
 
-// Whether what is kept of a job with so many ranges of one byte has room for as many bytes.
-fn is_kept(alloc: Global, count: usize) -> Result<bool, Fail> {
-    let ranges = vec![in alloc; Range { at: 0, len: 1 }; count]?;
+// A job with these ranges, which no device gave.
+fn job_of(alloc: Global, ranges: Vec<Range>) -> Option<Job> {
     if ranges.len() > 65_536 {
-        return Err(Fail::from("more ranges than a job has"));
+        return None;
     }
-    let job = Job::of(alloc, 63, 1, 1, 1, ranges, Vec::new(alloc));
-    let kept = job.for_reply(alloc).ok().ok_or("not kept")?;
-    Ok(kept.writable() == count as u64)
+    Some(Job::of(alloc, 63, 1, 1, 1, ranges, Vec::new(alloc)))
+}
+
+// The room of what is kept of a job with so many ranges of one byte.
+fn room_kept(alloc: Global, count: usize) -> Option<u64> {
+    let ranges = vec![in alloc; Range { at: 0, len: 1 }; count].ok()?;
+    let kept = job_of(alloc, ranges)?.for_reply(alloc).ok()?;
+    Some(kept.writable())
 }
 
 // How many ranges a job has.
@@ -110,8 +122,8 @@ static COUNTS: [usize; 2] = [1_024, 65_536];
 
 #[test]
 fn a_job_of_many_ranges_is_kept(rt: HostRuntime) -> Result<(), Fail> {
-    for count in &COUNTS {
-        assert!(rt; is_kept(rt.alloc(), *count)?, "{count}");
+    for (place, count) in COUNTS.iter().enumerate() {
+        check_row(room_kept(rt.alloc(), *count) == Some(*count as u64), place)?;
     }
     Ok(())
 }

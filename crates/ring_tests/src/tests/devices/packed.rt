@@ -3,12 +3,12 @@
 // round that ends.
 use super::probe::{
     FIND, Queue, VIRTIO_F_RING_PACKED, VIRTIO_F_VERSION_1, VIRTIO_RING_F_EVENT_IDX,
-    VIRTIO_RING_F_INDIRECT_DESC, accept, add_status, begin, device_features, remove, set_up_queue,
+    VIRTIO_RING_F_INDIRECT_DESC, accept, add_status, begin, device_features, set_up_queue,
 };
 use super::step::{Step, take};
-use super::{answer, check, fresh_device, load12, pop_of};
+use super::{check, fresh_device};
 use chains::ChainFault;
-use mmio_transport::register::{QUEUE_NOTIFY, QUEUE_READY, STATUS};
+use mmio_transport::register::{QUEUE_NOTIFY, QUEUE_READY, QUEUE_SEL, STATUS};
 use mmio_transport::{Device, DeviceFault, Kick, Published};
 use std::alloc::Global;
 use std::test::Fail;
@@ -23,123 +23,55 @@ const ACCEPTED: u64 = VIRTIO_F_VERSION_1
 // device's at 64.
 const AREAS: Queue = (3, 48, 64);
 
-// A chain: what the driver stores to add it, the bytes to be read, what the guest stores once it was
-// popped, whether the driver is notified, where the address of its used descriptor ends but for four
-// bytes, and what follows these.
-struct Chain {
-    added: &'static [Step],
-    request: &'static [u8],
-    spoiled: &'static [Step],
-    notify: bool,
-    used: u64,
-    says: [u8; 8],
-}
-
-static CHAINS: [Chain; 3] = [
+// Three chains: what the driver stores to add each, a kick, and its bytes to be read; then what the guest
+// stores once it was popped, and the reply. virtqueue_get_buf_ctx_packed reads the used descriptor at the
+// driver's place, and the bytes of the reply.
+static SERVED: [Step; 37] = [
     // virtqueue_enable_cb_prepare_packed: off_wrap is place 0 with wrap 1, the flags are DESC. Then
     // virtqueue_add_packed: all but the flags of the first descriptor, and then these.
-    Chain {
-        added: &[
-            Step::Stores(48, &[0, 0x80, 2, 0]),
-            Step::Stores(1000, &[1, 2, 3, 4]),
-            Step::Describes(0, (1000, 4, 0, 0)),
-            Step::Describes(16, (2000, 8, 0, 0x0082)),
-            Step::Pops(Ok(None)),
-            Step::Stores(14, &[0x81, 0]),
-        ],
-        request: &[1, 2, 3, 4],
-        // The reply goes to the ranges that were popped, with the id that was popped.
-        spoiled: &[
-            Step::Stores(1000, &[9, 9, 9, 9]),
-            Step::Describes(0, (4000, 1, 9, 0)),
-            Step::Describes(16, (4000, 1, 9, 0)),
-        ],
-        notify: true,
-        used: 4,
-        says: [3, 0, 0, 0, 0, 0, 0x82, 0x80],
-    },
+    Step::Stores(48, &[0, 0x80, 2, 0]),
+    Step::Stores(1000, &[1, 2, 3, 4]),
+    Step::Describes(0, (1000, 4, 0, 0)),
+    Step::Describes(16, (2000, 8, 0, 0x0082)),
+    Step::Pops(Ok(None)),
+    Step::Stores(14, &[0x81, 0]),
+    Step::Asks(QUEUE_NOTIFY, 0, Kick::Notify),
+    Step::Keeps(&[1, 2, 3, 4]),
+    // The reply goes to the ranges that were popped, with the id that was popped.
+    Step::Stores(1000, &[9, 9, 9, 9]),
+    Step::Describes(0, (4000, 1, 9, 0)),
+    Step::Describes(16, (4000, 1, 9, 0)),
+    Step::Publishes(0, &[5, 6, 7], Published::Wrote { notify: true }),
+    Step::Holds(8, &[3, 0, 0, 0, 0, 0, 0x82, 0x80]),
+    Step::Holds(2000, &[5, 6, 7, 0]),
     // virtqueue_add_indirect_packed: the table, and one descriptor that refers to it. off_wrap is place 2.
-    Chain {
-        added: &[
-            Step::Stores(48, &[2, 0x80, 2, 0]),
-            Step::Stores(1000, &[5, 6, 7, 8]),
-            Step::Describes(3000, (1000, 4, 0, 0)),
-            Step::Describes(3016, (2000, 8, 0, 2)),
-            Step::Describes(32, (3000, 32, 1, 0)),
-            Step::Pops(Ok(None)),
-            Step::Stores(46, &[0x84, 0]),
-        ],
-        request: &[5, 6, 7, 8],
-        spoiled: &[],
-        notify: true,
-        used: 36,
-        says: [3, 0, 0, 0, 1, 0, 0x82, 0x80],
-    },
+    Step::Stores(48, &[2, 0x80, 2, 0]),
+    Step::Stores(1000, &[5, 6, 7, 8]),
+    Step::Describes(3000, (1000, 4, 0, 0)),
+    Step::Describes(3016, (2000, 8, 0, 2)),
+    Step::Describes(32, (3000, 32, 1, 0)),
+    Step::Pops(Ok(None)),
+    Step::Stores(46, &[0x84, 0]),
+    Step::Asks(QUEUE_NOTIFY, 0, Kick::Notify),
+    Step::Keeps(&[5, 6, 7, 8]),
+    Step::Publishes(0, &[5, 6, 7], Published::Wrote { notify: true }),
+    Step::Holds(40, &[3, 0, 0, 0, 1, 0, 0x82, 0x80]),
+    Step::Holds(2000, &[5, 6, 7, 0]),
     // The next round begins at index 0, with wrap 0. The driver's event names the place before, so it
     // isn't notified.
-    Chain {
-        added: &[
-            Step::Describes(0, (2000, 8, 2, 0x8082)),
-            Step::Pops(Ok(None)),
-            Step::Stores(14, &[0x02, 0x80]),
-        ],
-        request: &[],
-        spoiled: &[],
-        notify: false,
-        used: 4,
-        says: [3, 0, 0, 0, 2, 0, 0x02, 0],
-    },
+    Step::Describes(0, (2000, 8, 2, 0x8082)),
+    Step::Pops(Ok(None)),
+    Step::Stores(14, &[0x02, 0x80]),
+    Step::Asks(QUEUE_NOTIFY, 0, Kick::Notify),
+    Step::Keeps(&[]),
+    Step::Publishes(0, &[5, 6, 7], Published::Wrote { notify: false }),
+    Step::Holds(8, &[3, 0, 0, 0, 2, 0, 0x02, 0]),
+    Step::Holds(2000, &[5, 6, 7, 0]),
+    // vm_del_vq, vm_reset.
+    Step::Writes(&[(QUEUE_SEL, 0), (QUEUE_READY, 0)]),
+    Step::Reads(QUEUE_READY, 0),
+    Step::Asks(STATUS, 0, Kick::Reset),
 ];
-
-fn negotiate(device: &mut Device) -> Result<(), Fail> {
-    take(device, &FIND)?;
-    begin(device);
-    let features = device_features(device);
-    check(features == ACCEPTED, "features")?;
-    check(accept(device, features), "FEATURES_OK")?;
-    check(set_up_queue(device, AREAS) == 1, "queue 0")?;
-    add_status(device, 4);
-    check(device.read(STATUS, 4) == 15, "DRIVER_OK")
-}
-
-// virtqueue_get_buf_ctx_packed: the used descriptor at the driver's place, and the bytes of the reply.
-fn is_back(device: &Device, chain: &Chain) -> Result<(), Fail> {
-    let used = load12(device, chain.used)?;
-    check(used.ends_with(&chain.says), "the used descriptor")?;
-    let bytes = load12(device, 2000)?;
-    check(bytes.starts_with(&[5, 6, 7, 0]), "the reply")
-}
-
-fn serve(alloc: Global, device: &mut Device, chain: &Chain) -> Result<(), Fail> {
-    take(device, chain.added)?;
-    check(device.write(QUEUE_NOTIFY, 4, 0) == Kick::Notify, "a kick")?;
-    let job = pop_of(device, chain.request)?;
-    take(device, chain.spoiled)?;
-    let done = answer(alloc, job, &[5, 6, 7], 0).ok_or("no reply")?;
-    let published = device.publish(done);
-    check(
-        published
-            == Published::Wrote {
-                notify: chain.notify,
-            },
-        "published",
-    )?;
-    is_back(device, chain)
-}
-
-fn serve_all(alloc: Global, device: &mut Device) -> Result<(), Fail> {
-    negotiate(device)?;
-    for chain in &CHAINS {
-        serve(alloc, device, chain)?;
-    }
-    remove(device)
-}
-
-#[test]
-fn as_linux_does_on_a_packed_ring(rt: HostRuntime) -> Result<(), Fail> {
-    let mut device = fresh_device(rt.alloc())?;
-    serve_all(rt.alloc(), &mut device)
-}
 
 fn wrong_features(wrong: u32) -> u64 {
     match wrong {
@@ -164,15 +96,36 @@ fn wrong_queue(wrong: u32) -> Queue {
     }
 }
 
-// Whether the probe goes on to the end where its n-th step is made wrong.
+// A step that no probe has.
+const NONE: u32 = 9;
+
+// Whether the probe goes on to the end where its n-th step is made wrong. All that is offered is accepted.
 fn goes_on(device: &mut Device, wrong: u32) -> bool {
     begin(device);
+    let offered = device_features(device) == ACCEPTED;
     let accepted = accept(device, wrong_features(wrong));
     let ready = set_up_queue(device, wrong_queue(wrong)) == 1;
     if wrong != 8 {
         add_status(device, 4);
     }
-    accepted && ready && device.read(STATUS, 4) == 15 && device.read(QUEUE_READY, 4) == 1
+    let live = device.read(STATUS, 4) == 15 && device.read(QUEUE_READY, 4) == 1;
+    offered && accepted && ready && live
+}
+
+fn go_on(alloc: Global, device: &mut Device, steps: &[Step]) -> Result<(), Fail> {
+    take(alloc, device, &FIND)?;
+    check(goes_on(device, NONE), "the probe")?;
+    take(alloc, device, steps)
+}
+
+fn go_as_linux(alloc: Global, steps: &[Step]) -> Result<(), Fail> {
+    let mut device = fresh_device(alloc)?;
+    go_on(alloc, &mut device, steps)
+}
+
+#[test]
+fn as_linux_does_on_a_packed_ring(rt: HostRuntime) -> Result<(), Fail> {
+    go_as_linux(rt.alloc(), &SERVED)
 }
 
 // A chain that a device which isn't in service leaves alone.
@@ -181,18 +134,24 @@ static OFFERED: [Step; 2] = [
     Step::Pops(Ok(None)),
 ];
 
-fn stops_at(device: &mut Device, wrong: u32) -> Result<(), Fail> {
+static POPPED: [Step; 1] = [Step::Pops(Ok(Some(3)))];
+
+fn stops_at(alloc: Global, device: &mut Device, wrong: u32) -> Result<(), Fail> {
     check(!goes_on(device, wrong), "a wrong step")?;
-    take(device, &OFFERED)?;
-    check(goes_on(device, 9), "the next probe")?;
-    take(device, &[Step::Pops(Ok(Some(3)))])
+    take(alloc, device, &OFFERED)?;
+    check(goes_on(device, NONE), "the next probe")?;
+    take(alloc, device, &POPPED)
+}
+
+fn stops(alloc: Global, wrong: u32) -> Result<(), Fail> {
+    let mut device = fresh_device(alloc)?;
+    stops_at(alloc, &mut device, wrong)
 }
 
 #[test]
 fn as_linux_does_on_a_packed_ring_but_for_one_step(rt: HostRuntime) -> Result<(), Fail> {
     for wrong in 0..9 {
-        let mut device = fresh_device(rt.alloc())?;
-        stops_at(&mut device, wrong)?;
+        stops(rt.alloc(), wrong)?;
     }
     Ok(())
 }
@@ -239,16 +198,10 @@ static WRONG: [&[Step]; 6] = [
     ],
 ];
 
-fn goes_wrong(device: &mut Device, steps: &[Step]) -> Result<(), Fail> {
-    negotiate(device)?;
-    take(device, steps)
-}
-
 #[test]
 fn wrong_descriptors_of_a_packed_ring(rt: HostRuntime) -> Result<(), Fail> {
     for steps in &WRONG {
-        let mut device = fresh_device(rt.alloc())?;
-        goes_wrong(&mut device, steps)?;
+        go_as_linux(rt.alloc(), steps)?;
     }
     Ok(())
 }

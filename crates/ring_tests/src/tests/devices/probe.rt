@@ -1,10 +1,7 @@
 // The accesses that Linux's virtio_mmio.c and virtio.c make, in their order, from knowledge of that
 // driver: probe, negotiation, set up of queue 0, a request, an interrupt, and removal.
-use super::step::{Step, offer, take};
-use super::{
-    AVAIL_IDX, DEVICE_AREA, DRIVER_AREA, USED_RING, answer, check, fresh_device, is_live, load12,
-    pop,
-};
+use super::step::{Step, take};
+use super::{AVAIL_IDX, DEVICE_AREA, DRIVER_AREA, USED_RING, check, fresh_device, is_live};
 use mmio_transport::register::{
     CONFIG_GENERATION, DEVICE_FEATURES, DEVICE_FEATURES_SEL, DEVICE_ID, DRIVER_FEATURES,
     DRIVER_FEATURES_SEL, INTERRUPT_ACK, INTERRUPT_STATUS, MAGIC_VALUE, QUEUE_DESC_HIGH,
@@ -89,82 +86,37 @@ pub fn begin(device: &mut Device) {
     add_status(device, 2);
 }
 
-// virtqueue_kick_prepare and vm_notify; then the device's host answers.
-fn serve(alloc: Global, device: &mut Device) -> Result<(), Fail> {
-    offer(device)?;
-    check(device.write(QUEUE_NOTIFY, 4, 0) == Kick::Notify, "a kick")?;
-    let job = pop(device)?;
-    let done = answer(alloc, job, &[], 0).ok_or("no reply")?;
-    check(
-        device.publish(done) == Published::Wrote { notify: true },
-        "published",
-    )
-}
+// What follows the negotiation, to the removal of the driver.
+static SERVED: [Step; 12] = [
+    // virtqueue_kick_prepare and vm_notify; then the device's host answers.
+    Step::Offers,
+    Step::Asks(QUEUE_NOTIFY, 0, Kick::Notify),
+    Step::Keeps(&[1, 2, 3, 4]),
+    Step::Publishes(0, &[], Published::Wrote { notify: true }),
+    // vm_interrupt: what is read is acknowledged.
+    Step::Reads(INTERRUPT_STATUS, 1),
+    Step::Interrupts(1),
+    Step::Writes(&[(INTERRUPT_ACK, 1)]),
+    Step::Reads(INTERRUPT_STATUS, 0),
+    Step::Holds(USED_RING, &[0, 0, 1, 0, 1, 0, 0, 0, 0, 0, 0, 0]),
+    // vm_del_vq, vm_reset.
+    Step::Writes(&[(QUEUE_SEL, 0), (QUEUE_READY, 0)]),
+    Step::Reads(QUEUE_READY, 0),
+    Step::Asks(STATUS, 0, Kick::Reset),
+];
 
-// vm_interrupt: what is read is acknowledged.
-fn interrupt(device: &mut Device) -> Result<(), Fail> {
-    let pending = device.read(INTERRUPT_STATUS, 4);
-    check(
-        pending == 1 && device.interrupt_status() == 1,
-        "an interrupt",
-    )?;
-    device.write(INTERRUPT_ACK, 4, pending);
-    check(device.read(INTERRUPT_STATUS, 4) == 0, "acknowledged")?;
-    check(
-        load12(device, USED_RING)? == [0, 0, 1, 0, 1, 0, 0, 0, 0, 0, 0, 0],
-        "used",
-    )
-}
+// Steps that no probe has: all are right, and only the least features are accepted, or those that Linux
+// accepts.
+const NONE: u32 = 9;
 
-// virtio_cread of the three bytes, between two reads of ConfigGeneration.
-fn read_configuration(device: &Device) -> Result<(), Fail> {
-    check(device.read(CONFIG_GENERATION, 4) == 0, "ConfigGeneration")?;
-    for (offset, value) in [(0x100, 1), (0x101, 2), (0x102, 3)] {
-        check(device.read(offset, 1) == value, "the configuration")?;
-    }
-    Ok(())
-}
-
-fn negotiate_as_linux(device: &mut Device) -> Result<(), Fail> {
-    take(device, &FIND)?;
-    begin(device);
-    check(device.read(STATUS, 4) == 3, "acknowledged, with a driver")?;
-    let features = device_features(device);
-    check(features == ACCEPTED | VIRTIO_F_RING_PACKED, "features")?;
-    check(accept(device, ACCEPTED), "FEATURES_OK")?;
-    read_configuration(device)?;
-    check(set_up_queue(device, AREAS) == 1, "queue 0")?;
-    // virtio_device_ready.
-    add_status(device, 4);
-    check(device.read(STATUS, 4) == 15, "DRIVER_OK")
-}
-
-// vm_del_vq, vm_reset.
-pub fn remove(device: &mut Device) -> Result<(), Fail> {
-    device.write(QUEUE_SEL, 4, 0);
-    device.write(QUEUE_READY, 4, 0);
-    check(device.read(QUEUE_READY, 4) == 0, "the queue is gone")?;
-    check(device.write(STATUS, 4, 0) == Kick::Reset, "a reset")
-}
-
-#[test]
-fn as_linux_does(rt: HostRuntime) -> Result<(), Fail> {
-    let mut device = fresh_device(rt.alloc())?;
-    go_as_linux(rt.alloc(), &mut device)
-}
-
-fn go_as_linux(alloc: Global, device: &mut Device) -> Result<(), Fail> {
-    negotiate_as_linux(device)?;
-    serve(alloc, device)?;
-    interrupt(device)?;
-    remove(device)
-}
+const AS_LINUX: u32 = 10;
 
 fn wrong_features(wrong: u32) -> u64 {
     match wrong {
         0 => VIRTIO_RING_F_EVENT_IDX,
         1 => VIRTIO_F_VERSION_1 | 1 << 33,
         2 => VIRTIO_F_VERSION_1 | 1,
+        AS_LINUX => ACCEPTED,
         _ => VIRTIO_F_VERSION_1,
     }
 }
@@ -186,28 +138,72 @@ fn leave_a_queue(device: &mut Device) {
     device.write(QUEUE_READY, 4, 1);
 }
 
+// virtio_cread of the three bytes, between two reads of ConfigGeneration.
+fn has_configuration(device: &Device) -> bool {
+    device.read(CONFIG_GENERATION, 4) == 0
+        && device.read(0x100, 1) == 1
+        && device.read(0x101, 1) == 2
+        && device.read(0x102, 1) == 3
+        && device.read(CONFIG_GENERATION, 4) == 0
+}
+
 // Whether the probe goes on to the end where its n-th step is made wrong.
 fn goes_on(device: &mut Device, wrong: u32) -> bool {
     begin(device);
+    let begun = device.read(STATUS, 4) == 3;
+    let offered = device_features(device) == ACCEPTED | VIRTIO_F_RING_PACKED;
     let accepted = wrong != 3 && accept(device, wrong_features(wrong));
     if wrong == 7 {
         leave_a_queue(device);
     }
+    let configured = has_configuration(device);
     let ready = set_up_queue(device, wrong_size(wrong)) == 1;
+    // virtio_device_ready.
     if wrong != 8 {
         add_status(device, 4);
     }
     let live = device.read(STATUS, 4) == 15;
-    accepted && ready && live
+    begun && offered && accepted && configured && ready && live
 }
 
+fn go_as_linux(alloc: Global, device: &mut Device) -> Result<(), Fail> {
+    take(alloc, device, &FIND)?;
+    check(goes_on(device, AS_LINUX), "the probe")?;
+    take(alloc, device, &SERVED)
+}
+
+#[test]
+fn as_linux_does(rt: HostRuntime) -> Result<(), Fail> {
+    let mut device = fresh_device(rt.alloc())?;
+    go_as_linux(rt.alloc(), &mut device)
+}
+
+static OFFERED: [Step; 2] = [Step::Offers, Step::Pops(Ok(None))];
+
+static OFFERED_TO_A_LIVE_DEVICE: [Step; 1] = [Step::Offers];
+
+static WITHDRAWN: [Step; 1] = [Step::Stores(AVAIL_IDX, &[0, 0])];
+
 // No chain is popped unless the device was brought up in spite of it, and nothing is stopped.
-fn try_a_chain(device: &mut Device) -> Result<(), Fail> {
-    offer(device)?;
-    if !is_live(device) {
-        take(device, &[Step::Pops(Ok(None))])?;
+fn try_a_chain(alloc: Global, device: &mut Device) -> Result<(), Fail> {
+    if is_live(device) {
+        take(alloc, device, &OFFERED_TO_A_LIVE_DEVICE)?;
+    } else {
+        take(alloc, device, &OFFERED)?;
     }
-    take(device, &[Step::Stores(AVAIL_IDX, &[0, 0])])
+    take(alloc, device, &WITHDRAWN)
+}
+
+fn stops_at(alloc: Global, device: &mut Device, wrong: u32) -> Result<(), Fail> {
+    check(!goes_on(device, wrong), "a wrong step")?;
+    try_a_chain(alloc, device)?;
+    // The next probe, made rightly, succeeds.
+    check(goes_on(device, NONE), "the next probe")
+}
+
+fn stops(alloc: Global, wrong: u32) -> Result<(), Fail> {
+    let mut device = fresh_device(alloc)?;
+    stops_at(alloc, &mut device, wrong)
 }
 
 #[test]
@@ -216,16 +212,4 @@ fn as_linux_does_but_for_one_step(rt: HostRuntime) -> Result<(), Fail> {
         stops(rt.alloc(), wrong)?;
     }
     Ok(())
-}
-
-fn stops(alloc: Global, wrong: u32) -> Result<(), Fail> {
-    let mut device = fresh_device(alloc)?;
-    stops_at(&mut device, wrong)
-}
-
-fn stops_at(device: &mut Device, wrong: u32) -> Result<(), Fail> {
-    check(!goes_on(device, wrong), "a wrong step")?;
-    try_a_chain(device)?;
-    // The next probe, made rightly, succeeds.
-    check(goes_on(device, 9), "the next probe")
 }

@@ -1,6 +1,7 @@
 // The register table of VIRTIO 1.2, 4.2.2, and where it leaves a choice.
-use super::step::{Step, take};
-use super::{FEATURES, QUEUE, SIZE, check, fresh_device, write_all};
+use super::step::{Step, go_fresh};
+use super::{DEVICE_AREA, DRIVER_AREA, FEATURES, QUEUE, SIZE, check, fresh_device, write_all};
+use crate::tests::descriptors::check_row;
 use mmio_transport::register::{
     DEVICE_FEATURES, DEVICE_FEATURES_SEL, DRIVER_FEATURES, DRIVER_FEATURES_SEL, INTERRUPT_STATUS,
     MAGIC_VALUE, QUEUE_DESC_HIGH, QUEUE_DESC_LOW, QUEUE_DEVICE_LOW, QUEUE_DRIVER_HIGH,
@@ -51,19 +52,24 @@ static FRESH: [(u32, u8, u32); 35] = [
     (0xffff_ffff, 4, 0),
 ];
 
-fn reads_as_told(device: &Device) -> Result<(), Fail> {
+fn reads_as_told(device: &Device) -> bool {
     for (offset, width, value) in &FRESH {
-        check(device.read(*offset, *width) == *value, "a read")?;
+        if device.read(*offset, *width) != *value {
+            return false;
+        }
     }
-    Ok(())
+    true
+}
+
+// The session begins at 1, and the memory has the size of the configuration.
+fn is_fresh(device: &Device) -> bool {
+    reads_as_told(device) && device.session() == 1 && device.memory_size() == SIZE
 }
 
 #[test]
 fn a_fresh_device_reads(rt: HostRuntime) -> Result<(), Fail> {
     let device = fresh_device(rt.alloc())?;
-    reads_as_told(&device)?;
-    check(device.session() == 1, "the session begins at 1")?;
-    check(device.memory_size() == SIZE, "the size of the memory")
+    check(is_fresh(&device), "a read")
 }
 
 // What Status reads after these writes.
@@ -124,20 +130,32 @@ static STATUS_RULES: [(&[(u32, u32)], u32); 13] = [
 
 #[test]
 fn status_rules(rt: HostRuntime) -> Result<(), Fail> {
-    for (writes, status) in &STATUS_RULES {
-        check(status_after(rt.alloc(), writes)? == *status, "a status")?;
+    for (place, (writes, status)) in STATUS_RULES.iter().enumerate() {
+        check_row(status_after(rt.alloc(), writes)? == *status, place)?;
     }
     Ok(())
 }
 
+// The queue but for QueueReady.
+static AREAS: [(u32, u32); 4] = [
+    (QUEUE_NUM, 4),
+    (QUEUE_DESC_LOW, 0),
+    (QUEUE_DRIVER_LOW, DRIVER_AREA),
+    (QUEUE_DEVICE_LOW, DEVICE_AREA),
+];
+
 // What QueueReady reads after a write of 1, where the queue was set up with one write changed.
 fn ready_with(alloc: Global, change: (u32, u32)) -> Result<u32, Fail> {
     let mut device = fresh_device(alloc)?;
-    write_all(&mut device, &FEATURES);
-    write_all(&mut device, &QUEUE[..4]);
-    write_all(&mut device, &[change]);
-    write_all(&mut device, &QUEUE[4..]);
-    Ok(device.read(QUEUE_READY, 4))
+    Ok(readiness_with(&mut device, change))
+}
+
+fn readiness_with(device: &mut Device, change: (u32, u32)) -> u32 {
+    write_all(device, &FEATURES);
+    write_all(device, &AREAS);
+    write_all(device, &[change]);
+    device.write(QUEUE_READY, 4, 1);
+    device.read(QUEUE_READY, 4)
 }
 
 static CHANGES: [((u32, u32), u32); 23] = [
@@ -171,8 +189,8 @@ static CHANGES: [((u32, u32), u32); 23] = [
 
 #[test]
 fn queues_that_may_be_ready(rt: HostRuntime) -> Result<(), Fail> {
-    for (change, ready) in &CHANGES {
-        check(ready_with(rt.alloc(), *change)? == *ready, "a queue")?;
+    for (place, (change, ready)) in CHANGES.iter().enumerate() {
+        check_row(ready_with(rt.alloc(), *change)? == *ready, place)?;
     }
     Ok(())
 }
@@ -234,8 +252,7 @@ static STEPS: [&[Step]; 3] = [
 #[test]
 fn features_and_queues_step_by_step(rt: HostRuntime) -> Result<(), Fail> {
     for steps in &STEPS {
-        let mut device = fresh_device(rt.alloc())?;
-        take(&mut device, steps)?;
+        go_fresh(rt.alloc(), steps)?;
     }
     Ok(())
 }
@@ -254,25 +271,23 @@ static KICKS: [(u32, u8, u32, Kick); 10] = [
     (MAGIC_VALUE, 4, 9, Kick::None),
 ];
 
-fn asks_as_told(device: &mut Device) -> Result<(), Fail> {
+fn asks_as_told(device: &mut Device) -> bool {
     for (offset, width, value, kick) in &KICKS {
-        check(device.write(*offset, *width, *value) == *kick, "a kick")?;
+        if device.write(*offset, *width, *value) != *kick {
+            return false;
+        }
     }
-    Ok(())
+    true
+}
+
+// Each reset begins a session, and the configuration stays.
+fn asks(device: &mut Device) -> bool {
+    device.write(QUEUE_SEL, 4, 1);
+    asks_as_told(device) && device.session() == 3 && device.read(0x100, 4) == 0x0003_0201
 }
 
 #[test]
 fn what_a_write_asks_for(rt: HostRuntime) -> Result<(), Fail> {
     let mut device = fresh_device(rt.alloc())?;
-    ask(&mut device)
-}
-
-fn ask(device: &mut Device) -> Result<(), Fail> {
-    device.write(QUEUE_SEL, 4, 1);
-    asks_as_told(device)?;
-    check(device.session() == 3, "each reset begins a session")?;
-    check(
-        device.read(0x100, 4) == 0x0003_0201,
-        "the configuration stays",
-    )
+    check(asks(&mut device), "a kick")
 }
