@@ -1,4 +1,5 @@
 mod boards;
+mod cases;
 mod performing;
 mod scripts;
 mod texts;
