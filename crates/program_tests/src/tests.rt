@@ -1,4 +1,5 @@
 mod boards;
+mod cases;
 mod files;
 mod performing;
 mod scripts;

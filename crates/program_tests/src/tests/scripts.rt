@@ -1,238 +1,237 @@
+use super::cases::{Case, check};
 use super::texts::{Piece, text_of};
 use script::{Line, LineError, ScriptError, read_line, read_script};
 use std::alloc::Global;
 use std::test::Fail;
 
-/// What a line of these pieces says on a board of two guests.
-fn line_of(alloc: Global, pieces: &[Piece]) -> Result<Line, Fail> {
-    let text = text_of(alloc, pieces)?;
-    Ok(read_line(alloc, text.as_str(), 2)?)
+/// Bytes, by how many there are and the last of them.
+struct Bytes(usize, Option<u8>);
+
+impl Bytes {
+    fn are(&self, bytes: &[u8]) -> bool {
+        let Bytes(length, last) = self;
+        bytes.len() == *length && bytes.last().copied() == *last
+    }
 }
 
-/// A chain: its guest, how many bytes its readable part has, the last of them, and its writable length.
-type Chain = (u16, usize, Option<u8>, u32);
+/// What a line says on a board of two guests.
+enum Said {
+    /// The guest, the readable part, and the writable length.
+    Chain(u16, Bytes, u32),
+    /// The guest, the address, and the bytes.
+    Store(u16, u64, Bytes),
+    Reset(u16),
+}
 
-static CHAINS: [(&[Piece], Chain); 4] = [
-    (&[("chain 0 - 512", 1)], (0, 0, None, 512)),
-    (&[("chain 1 00ffAb 0", 1)], (1, 3, Some(0xab), 0)),
-    (
-        &[
+impl Said {
+    fn is(&self, line: &Line) -> bool {
+        match (self, line) {
+            (
+                Said::Chain(to, part, room),
+                Line::Chain {
+                    guest,
+                    readable,
+                    writable,
+                },
+            ) => to == guest && part.are(readable) && room == writable,
+            (Said::Store(to, address, stored), Line::Store { guest, at, bytes }) => {
+                to == guest && address == at && stored.are(bytes)
+            }
+            (Said::Reset(to), Line::Reset { guest }) => to == guest,
+            _ => false,
+        }
+    }
+}
+
+/// A line that is read.
+struct Read {
+    line: &'static [Piece],
+    says: Said,
+}
+
+static READ: [Read; 11] = [
+    Read {
+        line: &[("chain 0 - 512", 1)],
+        says: Said::Chain(0, Bytes(0, None), 512),
+    },
+    Read {
+        line: &[("chain 1 00ffAb 0", 1)],
+        says: Said::Chain(1, Bytes(3, Some(0xab)), 0),
+    },
+    Read {
+        line: &[
             ("chain ", 1),
             ("0", 5000),
             ("1 - ", 1),
             ("0", 5000),
             ("8192", 1),
         ],
-        (1, 0, None, 8192),
-    ),
-    (
-        &[("chain 0 ", 1), ("5a", 8704), (" 8192", 1)],
-        (0, 8704, Some(0x5a), 8192),
-    ),
-];
-
-fn chain_of(line: &Line) -> Option<Chain> {
-    match line {
-        Line::Chain {
-            guest,
-            readable,
-            writable,
-        } => Some((*guest, readable.len(), readable.last().copied(), *writable)),
-        _ => None,
-    }
-}
-
-fn reads_chain(alloc: Global, pieces: &[Piece], chain: Chain) -> Result<bool, Fail> {
-    let line = line_of(alloc, pieces)?;
-    Ok(chain_of(&line) == Some(chain))
-}
-
-#[test]
-fn reads_chains(rt: HostRuntime) -> Result<(), Fail> {
-    for (at, (pieces, chain)) in CHAINS.iter().enumerate() {
-        assert!(rt; reads_chain(rt.alloc(), pieces, *chain)?, "at {at}");
-    }
-    Ok(())
-}
-
-/// A store: its guest, its address, how many bytes it has, and the last of them.
-type Store = (u16, u64, usize, Option<u8>);
-
-static STORES: [(&[Piece], Store); 4] = [
-    (&[("store 0 0 07", 1)], (0, 0, 1, Some(7))),
-    (
-        &[("store 1 4294967296 00ffAb", 1)],
-        (1, 4294967296, 3, Some(0xab)),
-    ),
-    (
-        &[
+        says: Said::Chain(1, Bytes(0, None), 8192),
+    },
+    Read {
+        line: &[("chain 0 ", 1), ("5a", 8704), (" 8192", 1)],
+        says: Said::Chain(0, Bytes(8704, Some(0x5a)), 8192),
+    },
+    Read {
+        line: &[("store 0 0 07", 1)],
+        says: Said::Store(0, 0, Bytes(1, Some(7))),
+    },
+    Read {
+        line: &[("store 1 4294967296 00ffAb", 1)],
+        says: Said::Store(1, 4294967296, Bytes(3, Some(0xab))),
+    },
+    Read {
+        line: &[
             ("store ", 1),
             ("0", 5000),
             ("1 ", 1),
             ("0", 5000),
             ("18446744073709551615 00", 1),
         ],
-        (1, 18446744073709551615, 1, Some(0)),
-    ),
-    (
-        &[("store 0 4096 ", 1), ("5a", 20000)],
-        (0, 4096, 20000, Some(0x5a)),
-    ),
+        says: Said::Store(1, 18446744073709551615, Bytes(1, Some(0))),
+    },
+    Read {
+        line: &[("store 0 4096 ", 1), ("5a", 20000)],
+        says: Said::Store(0, 4096, Bytes(20000, Some(0x5a))),
+    },
+    Read {
+        line: &[("reset 0", 1)],
+        says: Said::Reset(0),
+    },
+    Read {
+        line: &[("reset 1", 1)],
+        says: Said::Reset(1),
+    },
+    Read {
+        line: &[("reset 0001", 1)],
+        says: Said::Reset(1),
+    },
 ];
 
-fn store_of(line: &Line) -> Option<Store> {
-    match line {
-        Line::Store { guest, at, bytes } => {
-            Some((*guest, *at, bytes.len(), bytes.last().copied()))
+impl Case for Read {
+    fn holds(&self, alloc: Global) -> Result<bool, Fail> {
+        let text = text_of(alloc, self.line)?;
+        match read_line(alloc, text.as_str(), 2) {
+            Ok(line) => Ok(self.says.is(&line)),
+            Err(_) => Ok(false),
         }
-        _ => None,
-    }
-}
-
-fn reads_store(alloc: Global, pieces: &[Piece], store: Store) -> Result<bool, Fail> {
-    let line = line_of(alloc, pieces)?;
-    Ok(store_of(&line) == Some(store))
-}
-
-#[test]
-fn reads_stores(rt: HostRuntime) -> Result<(), Fail> {
-    for (at, (pieces, store)) in STORES.iter().enumerate() {
-        assert!(rt; reads_store(rt.alloc(), pieces, *store)?, "at {at}");
-    }
-    Ok(())
-}
-
-static RESETS: [(&str, u16); 3] = [("reset 0", 0), ("reset 1", 1), ("reset 0001", 1)];
-
-/// The guest of a `reset` line.
-fn reset_in(alloc: Global, text: &str) -> Option<u16> {
-    match read_line(alloc, text, 2) {
-        Ok(Line::Reset { guest }) => Some(guest),
-        _ => None,
     }
 }
 
 #[test]
-fn reads_resets(rt: HostRuntime) -> Result<(), Fail> {
-    for (text, guest) in &RESETS {
-        assert!(rt; reset_in(rt.alloc(), text) == Some(*guest), "at {text}");
-    }
-    Ok(())
+fn reads_lines(rt: HostRuntime) -> Result<(), Fail> {
+    check(&rt, rt.alloc(), &READ)
 }
 
-static BAD_LINES: [&str; 56] = [
-    "chain +0 - 5",
-    "chain 0 - +5",
-    "chain 0 - -5",
-    "chain 0 - 0x5",
-    "chain 0 - 18446744073709551616",
-    "chain 18446744073709551616 - 1",
-    "chain 0 - 8193",
-    "chain 0 - 0",
-    "chain 2 - 1",
-    "chain - - 1",
-    "chain 0 0 1",
-    "chain 0 0g 1",
-    "chain 0 -- 1",
-    "chain 0  1",
-    "chain 0 - ",
-    "chain 0 - 1 ",
-    "chain 0 - 1 1",
-    "chain 0 - 1\r",
-    "chain  0 - 1",
-    "chain\t0 - 1",
-    " chain 0 - 1",
-    " # a comment",
-    " ",
-    "\r",
-    "chain 0 -",
-    "CHAIN 0 - 1",
-    "store 2 0 00",
-    "store 18446744073709551616 0 00",
-    "store 0 18446744073709551616 00",
-    "store 0 +0 00",
-    "store 0 -1 00",
-    "store 0 0x0 00",
-    "store 0 - 00",
-    "store 0 0 -",
-    "store 0 0 ",
-    "store 0 0 0",
-    "store 0 0 0g",
-    "store 0 0",
-    "store 0 0 00 1",
-    "store 0 0 00 ",
-    "store 0  0 00",
-    "STORE 0 0 00",
-    "store",
-    "reset 2",
-    "reset 18446744073709551616",
-    "reset +0",
-    "reset -",
-    "reset ",
-    "reset",
-    "reset 0 0",
-    "reset 0 ",
-    "reset 0 - 1",
-    "reset 0\r",
-    "RESET 0",
-    "chain 0",
-    "store 0",
+/// A line that is refused: a text, how many zero bytes stand behind it, and what follows.
+struct Bad(&'static str, usize, &'static str);
+
+/// The first has a readable part of 8,705 bytes.
+static BAD: [Bad; 57] = [
+    Bad("chain 0 ", 8705, " 1"),
+    Bad("chain +0 - 5", 0, ""),
+    Bad("chain 0 - +5", 0, ""),
+    Bad("chain 0 - -5", 0, ""),
+    Bad("chain 0 - 0x5", 0, ""),
+    Bad("chain 0 - 18446744073709551616", 0, ""),
+    Bad("chain 18446744073709551616 - 1", 0, ""),
+    Bad("chain 0 - 8193", 0, ""),
+    Bad("chain 0 - 0", 0, ""),
+    Bad("chain 2 - 1", 0, ""),
+    Bad("chain - - 1", 0, ""),
+    Bad("chain 0 0 1", 0, ""),
+    Bad("chain 0 0g 1", 0, ""),
+    Bad("chain 0 -- 1", 0, ""),
+    Bad("chain 0  1", 0, ""),
+    Bad("chain 0 - ", 0, ""),
+    Bad("chain 0 - 1 ", 0, ""),
+    Bad("chain 0 - 1 1", 0, ""),
+    Bad("chain 0 - 1\r", 0, ""),
+    Bad("chain  0 - 1", 0, ""),
+    Bad("chain\t0 - 1", 0, ""),
+    Bad(" chain 0 - 1", 0, ""),
+    Bad(" # a comment", 0, ""),
+    Bad(" ", 0, ""),
+    Bad("\r", 0, ""),
+    Bad("chain 0 -", 0, ""),
+    Bad("CHAIN 0 - 1", 0, ""),
+    Bad("store 2 0 00", 0, ""),
+    Bad("store 18446744073709551616 0 00", 0, ""),
+    Bad("store 0 18446744073709551616 00", 0, ""),
+    Bad("store 0 +0 00", 0, ""),
+    Bad("store 0 -1 00", 0, ""),
+    Bad("store 0 0x0 00", 0, ""),
+    Bad("store 0 - 00", 0, ""),
+    Bad("store 0 0 -", 0, ""),
+    Bad("store 0 0 ", 0, ""),
+    Bad("store 0 0 0", 0, ""),
+    Bad("store 0 0 0g", 0, ""),
+    Bad("store 0 0", 0, ""),
+    Bad("store 0 0 00 1", 0, ""),
+    Bad("store 0 0 00 ", 0, ""),
+    Bad("store 0  0 00", 0, ""),
+    Bad("STORE 0 0 00", 0, ""),
+    Bad("store", 0, ""),
+    Bad("reset 2", 0, ""),
+    Bad("reset 18446744073709551616", 0, ""),
+    Bad("reset +0", 0, ""),
+    Bad("reset -", 0, ""),
+    Bad("reset ", 0, ""),
+    Bad("reset", 0, ""),
+    Bad("reset 0 0", 0, ""),
+    Bad("reset 0 ", 0, ""),
+    Bad("reset 0 - 1", 0, ""),
+    Bad("reset 0\r", 0, ""),
+    Bad("RESET 0", 0, ""),
+    Bad("chain 0", 0, ""),
+    Bad("store 0", 0, ""),
 ];
 
-fn is_bad(alloc: Global, text: &str) -> bool {
-    matches!(read_line(alloc, text, 2), Err(LineError::BadScript))
-}
-
-/// Whether a readable part of 8,705 bytes is refused.
-fn is_too_long(alloc: Global) -> Result<bool, Fail> {
-    let text = text_of(alloc, &[("chain 0 ", 1), ("00", 8705), (" 1", 1)])?;
-    Ok(is_bad(alloc, text.as_str()))
+impl Case for Bad {
+    fn holds(&self, alloc: Global) -> Result<bool, Fail> {
+        let Bad(start, zeros, end) = self;
+        let text = text_of(alloc, &[(start, 1), ("00", *zeros), (end, 1)])?;
+        let read = read_line(alloc, text.as_str(), 2);
+        Ok(matches!(read, Err(LineError::BadScript)))
+    }
 }
 
 #[test]
 fn refuses_lines(rt: HostRuntime) -> Result<(), Fail> {
-    for text in &BAD_LINES {
-        assert!(rt; is_bad(rt.alloc(), text), "at {text:?}");
-    }
-    Ok(())
+    check(&rt, rt.alloc(), &BAD)
 }
 
-#[test]
-fn refuses_a_long_line(rt: HostRuntime) -> Result<(), Fail> {
-    assert!(rt; is_too_long(rt.alloc())?);
-    Ok(())
-}
+/// A script of one guest, with how many lines it has, or which of them is the first bad one.
+struct Script(&'static str, Result<usize, usize>);
 
-/// How many lines a script has, or which of them is the first bad one.
-fn lines_in(alloc: Global, script: &str) -> Result<(usize, usize), Fail> {
-    match read_script(alloc, script, 1) {
-        Ok(lines) => Ok((lines.len(), 0)),
-        Err(ScriptError::BadScript { line }) => Ok((0, line)),
-        Err(fault) => Err(Fail::from(fault)),
-    }
-}
-
-/// Scripts with how many lines they have, or which of them is the first bad one.
-static SCRIPTS: [(&str, (usize, usize)); 10] = [
-    ("", (1, 0)),
-    ("chain 0 - 1", (1, 0)),
-    ("chain 0 - 1\n", (2, 0)),
-    ("# a comment\r\n\nchain 0 - 1\n", (4, 0)),
-    ("store 0 0 00\nreset 0\nchain 0 - 1", (3, 0)),
-    ("chain 0 - 0\n", (0, 1)),
-    ("chain 0 - 1\r\nchain 0 - 1\r\n", (0, 1)),
-    (
+static SCRIPTS: [Script; 10] = [
+    Script("", Ok(1)),
+    Script("chain 0 - 1", Ok(1)),
+    Script("chain 0 - 1\n", Ok(2)),
+    Script("# a comment\r\n\nchain 0 - 1\n", Ok(4)),
+    Script("store 0 0 00\nreset 0\nchain 0 - 1", Ok(3)),
+    Script("chain 0 - 0\n", Err(1)),
+    Script("chain 0 - 1\r\nchain 0 - 1\r\n", Err(1)),
+    Script(
         "# a comment\n\nchain 0 - 1\nchain 1 - 1\nchain 0 - 0",
-        (0, 4),
+        Err(4),
     ),
-    ("chain 0 - 1\n\rchain 0 - 1", (0, 2)),
-    ("store 0 0 00\nreset 0\nreset 1\nstore 0 0 -", (0, 3)),
+    Script("chain 0 - 1\n\rchain 0 - 1", Err(2)),
+    Script("store 0 0 00\nreset 0\nreset 1\nstore 0 0 -", Err(3)),
 ];
+
+impl Case for Script {
+    fn holds(&self, alloc: Global) -> Result<bool, Fail> {
+        let Script(text, lines) = self;
+        match read_script(alloc, text, 1) {
+            Ok(read) => Ok(*lines == Ok(read.len())),
+            Err(ScriptError::BadScript { line }) => Ok(*lines == Err(line)),
+            Err(ScriptError::NoMemory) => Ok(false),
+        }
+    }
+}
 
 #[test]
 fn reads_scripts(rt: HostRuntime) -> Result<(), Fail> {
-    for (script, lines) in &SCRIPTS {
-        assert!(rt; lines_in(rt.alloc(), script)? == *lines, "at {script:?}");
-    }
-    Ok(())
+    check(&rt, rt.alloc(), &SCRIPTS)
 }

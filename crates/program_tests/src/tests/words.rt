@@ -1,129 +1,125 @@
+use super::cases::{Case, check};
 use command_line::{Command, WordsError, read_words};
 use std::alloc::Global;
 use std::test::Fail;
 
-fn reads(alloc: Global, words: &[&str], command: Command<'_>) -> bool {
-    match read_words(alloc, words) {
-        Ok(read) => read == command,
-        Err(_) => false,
-    }
-}
+/// Words that are taken, and the command that they are.
+struct Taken(&'static str, Command<'static>);
 
-static ON_A_SCRIPT: [([&str; 4], Command<'static>); 2] = [
-    (
-        ["rpmbd", "run", "board.toml", "script.txt"],
+static TAKEN: [Taken; 4] = [
+    Taken(
+        "rpmbd run board.toml script.txt",
         Command::Run {
             board: "board.toml",
             script: "script.txt",
         },
     ),
-    (
-        ["rpmbd", "serve", "board.toml", "script.txt"],
+    Taken(
+        "rpmbd serve board.toml script.txt",
         Command::Serve {
             board: "board.toml",
             script: "script.txt",
         },
     ),
-];
-
-#[test]
-fn reads_commands_on_a_script(rt: HostRuntime) -> Result<(), Fail> {
-    for (words, command) in &ON_A_SCRIPT {
-        assert!(rt;
-            reads(rt.alloc(), words.as_slice(), *command),
-            "at {}",
-            words[1]
-        );
-    }
-    Ok(())
-}
-
-static ON_A_BOARD: [([&str; 3], Command<'static>); 2] = [
-    (
-        ["rpmbd", "format", "board.toml"],
+    Taken(
+        "rpmbd format board.toml",
         Command::Format {
             board: "board.toml",
         },
     ),
-    (
-        ["rpmbd", "show", "board.toml"],
+    Taken(
+        "rpmbd show board.toml",
         Command::Show {
             board: "board.toml",
         },
     ),
 ];
 
-#[test]
-fn reads_commands_on_a_board(rt: HostRuntime) -> Result<(), Fail> {
-    for (words, command) in &ON_A_BOARD {
-        assert!(rt;
-            reads(rt.alloc(), words.as_slice(), *command),
-            "at {}",
-            words[1]
-        );
+fn is_taken(alloc: Global, words: &[&str], command: Command<'_>) -> bool {
+    match read_words(alloc, words) {
+        Ok(read) => read == command,
+        Err(_) => false,
     }
-    Ok(())
 }
 
-static REFUSED: [(&str, i32, &str); 30] = [
-    ("rpmbd", 2, "Usage: rpmbd <COMMAND>"),
-    ("rpmbd run", 2, "<BOARD>"),
-    ("rpmbd run board.toml", 2, "<SCRIPT>"),
-    ("rpmbd run board.toml script.txt more", 2, "more"),
-    ("rpmbd run board.toml script.txt --fast", 2, "--fast"),
-    ("rpmbd format", 2, "<BOARD>"),
-    ("rpmbd format board.toml script.txt", 2, "script.txt"),
-    ("rpmbd show", 2, "<BOARD>"),
-    ("rpmbd show board.toml script.txt", 2, "script.txt"),
-    ("rpmbd show --help=board.toml", 2, "--help"),
-    ("rpmbd serve", 2, "<BOARD>"),
-    ("rpmbd serve board.toml", 2, "<SCRIPT>"),
-    ("rpmbd serve board.toml script.txt more", 2, "more"),
-    ("rpmbd help serve", 0, "Usage: rpmbd serve <BOARD> <SCRIPT>"),
-    ("rpmbd serve -h", 0, "all guests at once"),
-    ("rpmbd upgrade board.toml", 2, "upgrade"),
-    ("rpmbd --version", 2, "--version"),
-    ("rpmbd help walk", 2, "walk"),
-    ("rpmbd help", 0, "Usage: rpmbd <COMMAND>"),
-    ("rpmbd -h", 0, "Usage: rpmbd <COMMAND>"),
-    ("rpmbd --help", 0, "Usage: rpmbd <COMMAND>"),
-    ("rpmbd help", 0, "Prints what the image of the board holds"),
-    ("rpmbd help format", 0, "Usage: rpmbd format <BOARD>"),
-    ("rpmbd format --help", 0, "Makes a fresh image of the board"),
-    ("rpmbd help show", 0, "Usage: rpmbd show <BOARD>"),
-    ("rpmbd show -h", 0, "Usage: rpmbd show <BOARD>"),
-    ("rpmbd help run", 0, "Usage: rpmbd run <BOARD> <SCRIPT>"),
-    ("rpmbd run -h", 0, "Usage: rpmbd run <BOARD> <SCRIPT>"),
-    ("rpmbd run --help", 0, "Usage: rpmbd run <BOARD> <SCRIPT>"),
-    (
+impl Case for Taken {
+    fn holds(&self, alloc: Global) -> Result<bool, Fail> {
+        let Taken(line, command) = self;
+        let words: Vec<&str> = line.split(' ').collect(alloc)?;
+        Ok(is_taken(alloc, words.as_slice(), *command))
+    }
+}
+
+#[test]
+fn reads_commands(rt: HostRuntime) -> Result<(), Fail> {
+    check(&rt, rt.alloc(), &TAKEN)
+}
+
+/// Words that are refused, the status, and a part of the text, which is for standard error where the status is
+/// 2.
+struct Refused(&'static str, i32, &'static str);
+
+static REFUSED: [Refused; 30] = [
+    Refused("rpmbd", 2, "Usage: rpmbd <COMMAND>"),
+    Refused("rpmbd run", 2, "<BOARD>"),
+    Refused("rpmbd run board.toml", 2, "<SCRIPT>"),
+    Refused("rpmbd run board.toml script.txt more", 2, "more"),
+    Refused("rpmbd run board.toml script.txt --fast", 2, "--fast"),
+    Refused("rpmbd format", 2, "<BOARD>"),
+    Refused("rpmbd format board.toml script.txt", 2, "script.txt"),
+    Refused("rpmbd show", 2, "<BOARD>"),
+    Refused("rpmbd show board.toml script.txt", 2, "script.txt"),
+    Refused("rpmbd show --help=board.toml", 2, "--help"),
+    Refused("rpmbd serve", 2, "<BOARD>"),
+    Refused("rpmbd serve board.toml", 2, "<SCRIPT>"),
+    Refused("rpmbd serve board.toml script.txt more", 2, "more"),
+    Refused("rpmbd help serve", 0, "Usage: rpmbd serve <BOARD> <SCRIPT>"),
+    Refused("rpmbd serve -h", 0, "all guests at once"),
+    Refused("rpmbd upgrade board.toml", 2, "upgrade"),
+    Refused("rpmbd --version", 2, "--version"),
+    Refused("rpmbd help walk", 2, "walk"),
+    Refused("rpmbd help", 0, "Usage: rpmbd <COMMAND>"),
+    Refused("rpmbd -h", 0, "Usage: rpmbd <COMMAND>"),
+    Refused("rpmbd --help", 0, "Usage: rpmbd <COMMAND>"),
+    Refused("rpmbd help", 0, "Prints what the image of the board holds"),
+    Refused("rpmbd help format", 0, "Usage: rpmbd format <BOARD>"),
+    Refused("rpmbd format --help", 0, "Makes a fresh image of the board"),
+    Refused("rpmbd help show", 0, "Usage: rpmbd show <BOARD>"),
+    Refused("rpmbd show -h", 0, "Usage: rpmbd show <BOARD>"),
+    Refused("rpmbd help run", 0, "Usage: rpmbd run <BOARD> <SCRIPT>"),
+    Refused("rpmbd run -h", 0, "Usage: rpmbd run <BOARD> <SCRIPT>"),
+    Refused("rpmbd run --help", 0, "Usage: rpmbd run <BOARD> <SCRIPT>"),
+    Refused(
         "rpmbd run board.toml --help",
         0,
         "Usage: rpmbd run <BOARD> <SCRIPT>",
     ),
 ];
 
-/// What these words are refused with: the status, whether its text is for standard error, and the text.
-fn refusal(alloc: Global, words: &[&str]) -> Result<(i32, bool, String), Fail> {
+/// Whether an error has this status and this part of a text, on standard error where the status is 2.
+fn says(alloc: Global, error: &clap::Error, status: i32, part: &str) -> Result<bool, Fail> {
+    let text = error.to_string(alloc)?;
+    let is_error = error.use_stderr();
+    Ok(error.exit_code() == status && is_error == (status == 2) && text.contains(part))
+}
+
+/// Whether words are refused so.
+fn is_refused(alloc: Global, words: &[&str], status: i32, part: &str) -> Result<bool, Fail> {
     match read_words(alloc, words) {
-        Err(WordsError::Refused(error)) => {
-            let text = format!(in alloc; "{error}")?;
-            Ok((error.exit_code(), error.use_stderr(), text))
-        }
-        _ => Err("taken").map_err(Fail::from),
+        Err(WordsError::Refused(error)) => says(alloc, &error, status, part),
+        _ => Ok(false),
     }
 }
 
-/// Whether words are refused with this status and this part of a text, on standard error where the status is 2.
-fn is_refused(alloc: Global, line: &str, status: i32, part: &str) -> Result<bool, Fail> {
-    let words: Vec<&str> = line.split(' ').collect(alloc)?;
-    let (found, is_error, text) = refusal(alloc, words.as_slice())?;
-    Ok(found == status && is_error == (status == 2) && text.contains(part))
+impl Case for Refused {
+    fn holds(&self, alloc: Global) -> Result<bool, Fail> {
+        let Refused(line, status, part) = self;
+        let words: Vec<&str> = line.split(' ').collect(alloc)?;
+        is_refused(alloc, words.as_slice(), *status, part)
+    }
 }
 
 #[test]
 fn refuses_with_status_and_text(rt: HostRuntime) -> Result<(), Fail> {
-    for (line, status, part) in &REFUSED {
-        assert!(rt; is_refused(rt.alloc(), line, *status, part)?, "at {line}");
-    }
-    Ok(())
+    check(&rt, rt.alloc(), &REFUSED)
 }

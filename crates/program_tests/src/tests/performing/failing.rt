@@ -1,45 +1,114 @@
 //! Runs over a disk of which one call fails, and what a stop after them leaves.
 
 use super::lines::{LISTINGS, Part, WHOLE, script_of, told_by};
-use super::runs::refuses;
-use super::{DISK_FAULT, ONE, RUN, Runtime, SHOW, Told, board_of, failing_disk, fresh, performed};
-use crate::tests::texts::is_text;
+use super::{DISK_FAULT, Left, ONE, RUN, SHOW, Told, board_of, failing_disk, fresh, performed};
+use crate::tests::cases::Runtime;
+use crate::tests::texts::{Piece, is_text};
 use disk::{CutDisk, Disk, Filler};
 use rpmb_frame::BoardConfig;
 use std::alloc::Global;
 use std::test::Fail;
 
-/// The last call of the opening: a sync, and the reads of header, gate, home and blocks.
-const OPENED: u64 = 5;
-
-/// The last call of all.
-const LAST: u64 = 31;
-
-/// A range of calls, from its first to its last; how many lines are told before one of them, as where none
-/// fails; and how many of the key and the writes are settled then. A key takes eight calls, payload, gate,
-/// home and gate with a sync after each, and is told after the fourth. A write has its blocks written
-/// before the home.
-static CALLS: [(u64, u64, usize, usize); 4] = [
-    (6, 9, 0, 0),
-    (10, 17, 1, 1),
-    (18, 26, 5, 2),
-    (27, 31, 7, 3),
-];
-
-/// Lines that are run over a disk of which a call fails, and what is wanted of them.
-#[derive(Clone, Copy)]
+/// Lines that are run over a fresh image of which a call fails, and what is wanted of them.
 struct Failing {
     part: Part,
     /// What stands in the script after the lines.
-    more: &'static str,
-    call: u64,
-    /// What a stop leaves: a number that picks the filler.
+    more: Piece,
+    /// The calls of which one fails, each in a run of its own, from the first to the last; 0 is none.
+    calls: (u64, u64),
+    /// With the call's number it picks what a stop leaves.
     stop: u64,
     fault: &'static str,
     failures: u64,
     /// How many of the key and the writes are settled.
     settled: usize,
 }
+
+/// All lines, of which a call fails.
+const BROKEN: Failing = Failing {
+    part: WHOLE,
+    more: ("", 0),
+    calls: (0, 0),
+    stop: 0,
+    fault: DISK_FAULT,
+    failures: 1,
+    settled: 0,
+};
+
+/// A line that stores outside the memory, and one behind it.
+const OUTSIDE: Piece = ("store 0 1048576 00\nchain 0 - 16\n", 1);
+
+/// The opening makes calls 1 to 5. A key takes eight calls, payload, gate, home and gate with a sync after each,
+/// and is told after the fourth. A write has its blocks written before the home. A run that has no such call
+/// succeeds, and what it did is settled.
+///
+/// The last two end at a line that stores outside the memory, after they printed what is wanted, and leave what
+/// was settled. A call that fails before is told by failure replies alone, since the run doesn't reach its end.
+static RUNS: [Failing; 7] = [
+    Failing {
+        part: Part {
+            held_at: 0,
+            ..WHOLE
+        },
+        calls: (6, 9),
+        ..BROKEN
+    },
+    Failing {
+        part: Part {
+            held_at: 1,
+            ..WHOLE
+        },
+        calls: (10, 17),
+        settled: 1,
+        ..BROKEN
+    },
+    Failing {
+        part: Part {
+            held_at: 5,
+            ..WHOLE
+        },
+        calls: (18, 26),
+        settled: 2,
+        ..BROKEN
+    },
+    Failing {
+        part: Part {
+            held_at: 7,
+            ..WHOLE
+        },
+        calls: (27, 31),
+        settled: 3,
+        ..BROKEN
+    },
+    Failing {
+        calls: (32, 32),
+        fault: "",
+        failures: 0,
+        settled: 3,
+        ..BROKEN
+    },
+    Failing {
+        part: Part { to: 2, ..WHOLE },
+        more: OUTSIDE,
+        fault: "rpmbd: 1 OutOfRange\n",
+        failures: 0,
+        settled: 2,
+        ..BROKEN
+    },
+    Failing {
+        part: Part {
+            from: 0,
+            to: 2,
+            held_at: 1,
+        },
+        more: OUTSIDE,
+        calls: (10, 10),
+        stop: 2,
+        fault: "rpmbd: 1 OutOfRange\n",
+        settled: 1,
+        ..BROKEN
+    },
+];
 
 /// What a stop leaves: what the last sync left, what reads give, or bytes that shut gates or open them.
 fn filler_of(alloc: Global, stop: u64) -> Result<Filler, Fail> {
@@ -51,206 +120,129 @@ fn filler_of(alloc: Global, stop: u64) -> Result<Filler, Fail> {
     }
 }
 
-/// What a command that succeeded printed.
-fn printed(told: Told) -> Result<Vec<u8>, Fail> {
-    if told.status != 0 {
-        return Err("refused").map_err(Fail::from);
+/// A disk after a stop, of which no call fails any more; and how many have.
+fn after_stop(left: Option<CutDisk>, filler: &Filler) -> Result<(CutDisk, u64), Fail> {
+    match left {
+        Some(mut disk) => {
+            let failures = disk.failures();
+            disk.cut(filler);
+            disk.fail(0);
+            Ok((disk, failures))
+        }
+        None => Err(Fail::new("no disk")),
     }
-    Ok(told.out)
 }
 
-/// What `show` prints after a stop of this disk.
-fn shown_after(
-    rt: &impl Runtime,
-    board: &BoardConfig,
-    disk: CutDisk,
-    filler: &Filler,
-) -> Result<Vec<u8>, Fail> {
-    let mut disk = disk;
-    disk.cut(filler);
-    disk.fail(0);
-    let (shown, _) = performed(rt, SHOW, board, "", disk)?;
-    printed(shown)
-}
-
-/// What a run told, how many calls of its disk failed, and what `show` prints after a stop.
+/// What a run told, how many calls of its disk failed, and what `show` tells after a stop.
 #[derive(Drop)]
 struct Stopped {
     told: Told,
     failures: u64,
-    shown: Vec<u8>,
+    shown: Told,
 }
 
-/// Runs a script over a disk, and stops.
-fn run_and_stop(
-    rt: &impl Runtime,
+/// What `show` tells after a stop.
+fn shown_after<R: Runtime>(
+    rt: &R,
+    alloc: Global,
     board: &BoardConfig,
+    left: Left,
+    filler: &Filler,
+) -> Result<Stopped, Fail> {
+    let (told, disk) = left;
+    let (disk, failures) = after_stop(disk, filler)?;
+    let (shown, _) = performed(rt, alloc, SHOW, board, "", disk)?;
+    Ok(Stopped {
+        told,
+        failures,
+        shown,
+    })
+}
+
+/// Runs a script over a fresh image of which a call fails, and stops.
+fn run_and_stop<R: Runtime>(
+    rt: &R,
+    alloc: Global,
     script: &str,
     disk: CutDisk,
     filler: &Filler,
 ) -> Result<Stopped, Fail> {
-    let (told, disk) = performed(rt, RUN, board, script, disk)?;
-    Ok(Stopped {
-        told,
-        failures: disk.failures(),
-        shown: shown_after(rt, board, disk, filler)?,
-    })
+    let board = board_of(alloc, ONE)?;
+    let left = performed(rt, alloc, RUN, &board, script, disk)?;
+    shown_after(rt, alloc, &board, left, filler)
 }
 
-/// A fresh image of one guest, of which a call will fail.
-fn failing_image(rt: &impl Runtime, call: u64) -> Result<CutDisk, Fail> {
-    let image = fresh(rt, ONE)?;
-    failing_disk(rt.alloc(), image.as_slice(), call)
-}
-
-/// The same over a fresh image, of which a call fails.
-fn stopped_at(
-    rt: &impl Runtime,
-    script: &str,
-    call: u64,
-    filler: &Filler,
-) -> Result<Stopped, Fail> {
-    let board = board_of(rt.alloc(), ONE)?;
-    let disk = failing_image(rt, call)?;
-    run_and_stop(rt, &board, script, disk, filler)
+/// Whether `show` told so many of the key and the writes, or all where there are fewer.
+fn lists(alloc: Global, shown: &Told, count: usize) -> Result<bool, Fail> {
+    Ok(shown.ended("") && is_text(alloc, shown.out.as_slice(), LISTINGS[count.min(3)])?)
 }
 
 impl Failing {
-    fn stopped(self, rt: &impl Runtime) -> Result<Stopped, Fail> {
-        let script = script_of(rt.alloc(), self.part, self.more)?;
-        let filler = filler_of(rt.alloc(), self.stop)?;
-        stopped_at(rt, script.as_str(), self.call, &filler)
+    /// Whether a run printed what is wanted, and ended with its fault.
+    fn is_told(&self, alloc: Global, told: &Told) -> Result<bool, Fail> {
+        let out = told_by(alloc, self.part)?;
+        Ok(told.is(out.as_str(), self.fault))
     }
 
-    /// Whether a stop leaves what is settled, or one more of the key and the writes.
-    fn may_leave(self, alloc: Global, shown: &[u8]) -> Result<bool, Fail> {
+    /// Whether a stop left what is settled, or one more of the key and the writes.
+    fn may_leave(&self, alloc: Global, shown: &Told) -> Result<bool, Fail> {
         let next = self.settled.saturating_add(1);
         Ok(lists(alloc, shown, self.settled)? || lists(alloc, shown, next)?)
     }
 
-    /// Whether a run printed what is wanted, and ended with its fault, or with none where that is empty.
-    fn tells(self, alloc: Global, told: &Told) -> Result<bool, Fail> {
-        let out = told_by(alloc, self.part)?;
-        let status = u8::from(!self.fault.is_empty());
-        Ok(told.is(status, out.as_str(), self.fault))
-    }
-
     /// Whether a run told what is wanted, and left, after a stop, what was settled.
-    fn may_end_so(self, alloc: Global, stopped: &Stopped) -> Result<bool, Fail> {
+    fn may_end_so(&self, alloc: Global, stopped: &Stopped) -> Result<bool, Fail> {
         Ok(
             stopped.failures == self.failures
-                && self.tells(alloc, &stopped.told)?
-                && self.may_leave(alloc, stopped.shown.as_slice())?,
+                && self.is_told(alloc, &stopped.told)?
+                && self.may_leave(alloc, &stopped.shown)?,
         )
     }
 
-    /// Whether a run ends as is wanted.
-    fn ends(self, rt: &impl Runtime) -> Result<bool, Fail> {
-        let stopped = self.stopped(rt)?;
-        self.may_end_so(rt.alloc(), &stopped)
+    /// Whether the run of which this call fails ends as is wanted.
+    fn ends_at<R: Runtime>(
+        &self,
+        rt: &R,
+        alloc: Global,
+        script: &str,
+        image: &[u8],
+        call: u64,
+    ) -> Result<bool, Fail> {
+        let filler = filler_of(alloc, call.saturating_add(self.stop))?;
+        let disk = failing_disk(alloc, image, call)?;
+        let stopped = run_and_stop(rt, alloc, script, disk, &filler)?;
+        self.may_end_so(alloc, &stopped)
     }
-}
 
-/// Whether `show` printed so many of the key and the writes, or all where there are fewer.
-fn lists(alloc: Global, shown: &[u8], count: usize) -> Result<bool, Fail> {
-    is_text(alloc, shown, LISTINGS[count.min(3)])
-}
-
-/// Whether a run of which this call fails ends so.
-fn fails_at(rt: &impl Runtime, call: u64, told: usize, settled: usize) -> Result<bool, Fail> {
-    let run = Failing {
-        part: Part {
-            held_at: told,
-            ..WHOLE
-        },
-        more: "",
-        call,
-        stop: call,
-        fault: DISK_FAULT,
-        failures: 1,
-        settled,
-    };
-    run.ends(rt)
-}
-
-#[test]
-fn fails_at_each_call_in_turn(rt: HostRuntime) -> Result<(), Fail> {
-    for (first, last, told, settled) in &CALLS {
-        for call in *first..=*last {
-            assert!(rt; fails_at(&rt, call, *told, *settled)?, "at {call}");
+    /// The same of each call in turn.
+    fn ends_at_each<R: Runtime>(
+        &self,
+        rt: &R,
+        alloc: Global,
+        script: &str,
+        image: &[u8],
+    ) -> Result<bool, Fail> {
+        let (first, last) = self.calls;
+        for call in first..=last {
+            if !self.ends_at(rt, alloc, script, image, call)? {
+                return Ok(false);
+            }
         }
+        Ok(first <= last)
     }
-    Ok(())
-}
 
-/// Whether a run over a fresh image, of which this call fails, prints nothing, and writes nothing.
-fn fails_untouched(rt: &impl Runtime, script: &str, call: u64) -> Result<bool, Fail> {
-    let image = fresh(rt, ONE)?;
-    refuses(rt, script, image.as_slice(), call, DISK_FAULT, 1)
-}
-
-/// Whether a run of which this call of the opening fails prints nothing, and writes nothing.
-fn fails_to_open_at(rt: &impl Runtime, call: u64) -> Result<bool, Fail> {
-    let script = script_of(rt.alloc(), WHOLE, "")?;
-    fails_untouched(rt, script.as_str(), call)
-}
-
-#[test]
-fn fails_within_the_opening(rt: HostRuntime) -> Result<(), Fail> {
-    for call in 1..=OPENED {
-        assert!(rt; fails_to_open_at(&rt, call)?, "at {call}");
+    /// Whether each run ends as is wanted.
+    fn ends<R: Runtime>(&self, rt: &R, alloc: Global) -> Result<bool, Fail> {
+        let image = fresh(rt, alloc, ONE)?;
+        let script = script_of(alloc, self.part, self.more)?;
+        self.ends_at_each(rt, alloc, script.as_str(), image.as_slice())
     }
-    Ok(())
 }
 
-/// A run that has no such call succeeds, and what it did is settled.
-const BEYOND: Failing = Failing {
-    part: WHOLE,
-    more: "",
-    call: LAST + 1,
-    stop: 0,
-    fault: "",
-    failures: 0,
-    settled: 3,
-};
-
 #[test]
-fn makes_no_call_beyond_the_last(rt: HostRuntime) -> Result<(), Fail> {
-    assert!(rt; BEYOND.ends(&rt)?);
-    Ok(())
-}
-
-/// A run ends at a line that stores outside the memory, after it printed what is wanted, and leaves what was
-/// settled. A call that fails before is told by failure replies alone, since the run doesn't reach its end.
-static ENDED_BY_A_LINE: [Failing; 2] = [
-    Failing {
-        part: Part { to: 2, ..WHOLE },
-        more: "store 0 1048576 00\nchain 0 - 16\n",
-        call: 0,
-        stop: 0,
-        fault: "rpmbd: 1 OutOfRange\n",
-        failures: 0,
-        settled: 2,
-    },
-    Failing {
-        part: Part {
-            from: 0,
-            to: 2,
-            held_at: 1,
-        },
-        more: "store 0 1048576 00\nchain 0 - 16\n",
-        call: 10,
-        stop: 0,
-        fault: "rpmbd: 1 OutOfRange\n",
-        failures: 1,
-        settled: 1,
-    },
-];
-
-#[test]
-fn keeps_what_was_told_before_a_fault(rt: HostRuntime) -> Result<(), Fail> {
-    for run in &ENDED_BY_A_LINE {
-        assert!(rt; run.ends(&rt)?, "at {}", run.call);
+fn leaves_what_was_told_before_a_fault(rt: HostRuntime) -> Result<(), Fail> {
+    for (at, run) in RUNS.iter().enumerate() {
+        assert!(rt; run.ends(&rt, rt.alloc())?, "at run {at}");
     }
     Ok(())
 }

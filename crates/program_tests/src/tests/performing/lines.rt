@@ -264,12 +264,12 @@ impl Part {
 }
 
 /// The script of these lines, and of more text after them.
-pub fn script_of(alloc: Global, part: Part, more: &str) -> Result<String, Fail> {
+pub fn script_of(alloc: Global, part: Part, more: Piece) -> Result<String, Fail> {
     let mut text = String::new(alloc);
     for (place, line) in lines().iter().enumerate() {
         push(&mut text, part.asked(place, line))?;
     }
-    text.push_str(more)?;
+    push(&mut text, &[more])?;
     Ok(text)
 }
 
@@ -282,6 +282,15 @@ pub fn told_by(alloc: Global, part: Part) -> Result<String, Fail> {
     Ok(text)
 }
 
+/// What `show` prints after all lines.
+pub const ALL_LISTED: &[Piece] = &[
+    ("guest 0 capacity 1 key yes counter 2\nblock 0 3 ", 1),
+    ("22", 256),
+    ("\nblock 0 4 ", 1),
+    ("33", 256),
+    ("\n", 1),
+];
+
 /// What `show` prints after none of the key and the writes, and after each.
 pub static LISTINGS: [&[Piece]; 4] = [
     &[("guest 0 capacity 1 key no counter 0\n", 1)],
@@ -291,11 +300,5 @@ pub static LISTINGS: [&[Piece]; 4] = [
         ("22", 256),
         ("\n", 1),
     ],
-    &[
-        ("guest 0 capacity 1 key yes counter 2\nblock 0 3 ", 1),
-        ("22", 256),
-        ("\nblock 0 4 ", 1),
-        ("33", 256),
-        ("\n", 1),
-    ],
+    ALL_LISTED,
 ];
