@@ -98,26 +98,53 @@ impl Acts {
         }
     }
 
+    fn has_stopped(&self) -> bool {
+        matches!(self.events.last(), Some(Event::StopIn(_)))
+    }
+
     /// One more event, unless the stop has come.
     fn add(&mut self, event: Event) -> Result<(), Fail> {
-        if let Some(Event::StopIn(_)) = self.events.last() {
-            return Ok(());
+        if !self.has_stopped() {
+            self.events.push(event)?;
         }
-        Ok(self.events.push(event)?)
+        Ok(())
     }
 
     fn step(&mut self, step: Step) -> Result<(), Fail> {
         self.add(Event::Do(step))
     }
 
-    /// The store's next call, or the stop in its place; and what it means to the book.
-    fn advance(&mut self) -> Result<(), Fail> {
-        if self.left == Some(0) {
-            return self.add(Event::StopIn(filler_of(self.alloc, self.filler)?));
-        }
-        self.left = self.left.map(|left| left.saturating_sub(1));
+    /// The stop in place of the store's next call.
+    fn stop_in(&mut self) -> Result<(), Fail> {
+        let filler = filler_of(self.alloc, self.filler)?;
+        self.add(Event::StopIn(filler))
+    }
+
+    /// The store's next call, and what it means to the book.
+    fn call(&mut self) -> Result<(), Fail> {
         self.step(Step::Advance)?;
         self.step(Step::Settle)
+    }
+
+    /// One advance less until the stop; answers whether it comes now.
+    fn is_due(&mut self) -> bool {
+        match self.left {
+            Some(0) => true,
+            Some(left) => {
+                self.left = Some(left.saturating_sub(1));
+                false
+            }
+            None => false,
+        }
+    }
+
+    /// The store's next call, or the stop in its place.
+    fn advance(&mut self) -> Result<(), Fail> {
+        if self.is_due() {
+            self.stop_in()
+        } else {
+            self.call()
+        }
     }
 
     fn advances(&mut self, times: u32) -> Result<(), Fail> {
@@ -177,10 +204,16 @@ impl Acts {
         self.store(guest, 0x2002, &number.wrapping_add(1).to_le_bytes())
     }
 
+    /// Puts a chain of this request before the device, and makes it available.
+    fn ask(&mut self, guest: u16, asked: Asked) -> Result<(), Fail> {
+        let frames = frames_of(self.alloc, asked)?;
+        self.place(guest, &frames)?;
+        self.offer(guest)
+    }
+
     /// The guest offers a chain of this request, and its job is answered.
     pub fn submit(&mut self, guest: u16, asked: Asked) -> Result<(), Fail> {
-        self.place(guest, &frames_of(self.alloc, asked)?)?;
-        self.offer(guest)?;
+        self.ask(guest, asked)?;
         self.step(Step::Pop(guest))?;
         self.step(Step::Submit(guest))
     }

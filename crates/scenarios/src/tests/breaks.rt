@@ -2,7 +2,7 @@
 
 use crate::tests::image::fresh_store;
 use crate::tests::limits::{hold_64, is_busy};
-use crate::tests::lines::{Asked, Line, fails, play, played};
+use crate::tests::lines::{Asked, Line, fails, play, play_all};
 use crate::tests::scene::{Scene, check, scene_of};
 use disk::CutDisk;
 use flusher::{Marks, Store};
@@ -41,8 +41,7 @@ static BROKEN: [Line; 22] = [
 
 #[test]
 fn a_break_fails_what_is_not_settled(rt: HostRuntime) -> Result<(), Fail> {
-    assert_eq!(rt; played(rt.alloc(), 1, &BROKEN)?, BROKEN.len());
-    Ok(())
+    play_all(rt.alloc(), 1, &BROKEN)
 }
 
 /// Marks of a store that was given nothing move nothing; then it keeps the key.
@@ -70,12 +69,15 @@ fn is_foreign(book: &mut Book, shares: &Shares, marks: Marks) -> bool {
 }
 
 /// Marks above what was taken, and shares of another book, move nothing.
-fn refuses(alloc: Global, scene: &mut Scene, store: &Store<CutDisk>) -> Result<(), Fail> {
-    let mut other = scene_of(alloc, 1)?;
+fn refuses_both(scene: &mut Scene, other: &mut Scene, store: &Store<CutDisk>) -> Result<(), Fail> {
     let above = is_foreign(&mut other.book, &other.shares, store.marks());
     let others = is_foreign(&mut scene.book, &other.shares, store.marks());
     check(above, "a mark above")?;
     check(others, "other shares")
+}
+
+fn refuses(alloc: Global, scene: &mut Scene, store: &Store<CutDisk>) -> Result<(), Fail> {
+    refuses_both(scene, &mut scene_of(alloc, 1)?, store)
 }
 
 fn take_marks(alloc: Global, scene: &mut Scene, store: &mut Store<CutDisk>) -> Result<(), Fail> {
@@ -86,10 +88,13 @@ fn take_marks(alloc: Global, scene: &mut Scene, store: &mut Store<CutDisk>) -> R
     check(settled == SETTLES_TWICE.len(), "its own marks")
 }
 
+fn take_marks_of(alloc: Global, store: &mut Store<CutDisk>) -> Result<(), Fail> {
+    take_marks(alloc, &mut scene_of(alloc, 1)?, store)
+}
+
 #[test]
 fn marks_above_what_was_taken_are_foreign(rt: HostRuntime) -> Result<(), Fail> {
-    let mut store = fresh_store(rt.alloc(), 1)?;
-    take_marks(rt.alloc(), &mut scene_of(rt.alloc(), 1)?, &mut store)
+    take_marks_of(rt.alloc(), &mut fresh_store(rt.alloc(), 1)?)
 }
 
 /// One request of each kind, of guest 1, to a book that is broken: a failure of each, with the type of
@@ -132,8 +137,11 @@ fn answer_each(alloc: Global, scene: &mut Scene, store: &mut Store<CutDisk>) -> 
     check(each_of_64_fails(scene), "64, and no more")
 }
 
+fn answer_each_of(alloc: Global, store: &mut Store<CutDisk>) -> Result<(), Fail> {
+    answer_each(alloc, &mut scene_of(alloc, 2)?, store)
+}
+
 #[test]
 fn a_broken_book_answers_each_request(rt: HostRuntime) -> Result<(), Fail> {
-    let mut store = fresh_store(rt.alloc(), 2)?;
-    answer_each(rt.alloc(), &mut scene_of(rt.alloc(), 2)?, &mut store)
+    answer_each_of(rt.alloc(), &mut fresh_store(rt.alloc(), 2)?)
 }

@@ -58,6 +58,14 @@ fn new_guest(alloc: Global) -> Result<Guest, Fail> {
     })
 }
 
+/// The next reply to the guest.
+fn collected(scene: &mut Scene) -> Result<Done, Fail> {
+    match scene.book.collect(0) {
+        Some(done) => Ok(done),
+        None => Err(Fail::from("no reply")),
+    }
+}
+
 impl Guest {
     fn negotiate(&mut self) -> Result<(), Fail> {
         if self.driver.negotiate(&mut self.device) {
@@ -67,28 +75,35 @@ impl Guest {
         }
     }
 
-    /// Offers a request of these frames with room for one frame, and pops it.
-    fn popped(&mut self, frames: &[[u8; 512]]) -> Result<Job, Fail> {
-        let request = frames.as_flattened();
+    /// Offers a request with room for one frame.
+    fn offer(&mut self, request: &[u8]) -> Result<(), Fail> {
         if request.is_empty() || request.len() > 8704 {
             return Err(Fail::from("no request"));
         }
         self.driver.offer(&mut self.device, request, 512)?;
+        Ok(())
+    }
+
+    /// Offers a request of these frames with room for one frame, and pops it.
+    fn popped(&mut self, frames: &[[u8; 512]]) -> Result<Job, Fail> {
+        self.offer(frames.as_flattened())?;
         match self.device.pop()? {
             Some(job) => Ok(job),
             None => Err(Fail::from("nothing popped")),
         }
     }
 
+    /// What was accepted is kept and settled.
+    fn settle(&mut self) -> Result<(), Fail> {
+        keep_next(&mut self.scene, &mut self.store, 0)?;
+        check(self.scene.settles(self.store.marks()), "settled")
+    }
+
     /// The reply to a job, which leaves once what it shows is settled.
     fn answer(&mut self, alloc: Global, job: Job) -> Result<Done, Fail> {
         accepted(self.scene.offer(alloc, job))?;
-        keep_next(&mut self.scene, &mut self.store, 0)?;
-        check(self.scene.settles(self.store.marks()), "settled")?;
-        match self.scene.book.collect(0) {
-            Some(done) => Ok(done),
-            None => Err(Fail::from("no reply")),
-        }
+        self.settle()?;
+        collected(&mut self.scene)
     }
 
     /// Offers a request of these frames with room for one frame, and answers it.
@@ -97,16 +112,27 @@ impl Guest {
         self.answer(alloc, job)
     }
 
-    /// The reply to a request of these frames.
-    fn ask(&mut self, alloc: Global, frames: &[[u8; 512]]) -> Result<Vec<u8>, Fail> {
-        let done = self.answered(alloc, frames)?;
-        if self.device.publish(done) == Published::Dropped {
-            return Err(Fail::from("dropped"));
-        }
+    /// Publishes a reply; answers whether it wasn't dropped.
+    fn publishes(&mut self, done: Done) -> bool {
+        self.device.publish(done) != Published::Dropped
+    }
+
+    fn reaped(&mut self) -> Result<Vec<u8>, Fail> {
         match self.driver.reap(&self.device)? {
             Some(reaped) => Ok(reaped.bytes),
             None => Err(Fail::from("nothing reaped")),
         }
+    }
+
+    /// The reply to a request of these frames.
+    fn ask(&mut self, alloc: Global, frames: &[[u8; 512]]) -> Result<Vec<u8>, Fail> {
+        let done = self.answered(alloc, frames)?;
+        check(self.publishes(done), "published")?;
+        self.reaped()
+    }
+
+    fn reset(&mut self) {
+        self.device.write(STATUS, 4, 0);
     }
 
     fn used_ring(&self) -> Result<[u8; 134], Fail> {
@@ -116,13 +142,18 @@ impl Guest {
     }
 }
 
+/// A reply that is dropped, and leaves the used ring as it was.
+fn drop_one(guest: &mut Guest, done: Done) -> Result<(), Fail> {
+    let before = guest.used_ring()?;
+    check(!guest.publishes(done), "dropped")?;
+    check(guest.used_ring()? == before, "the used ring is as it was")
+}
+
 /// A reply that is on its way while the device is reset.
 fn drop_a_reply(alloc: Global, guest: &mut Guest) -> Result<(), Fail> {
     let done = guest.answered(alloc, &write_of(0x5a, 0))?;
-    guest.device.write(STATUS, 4, 0);
-    let before = guest.used_ring()?;
-    check(guest.device.publish(done) == Published::Dropped, "dropped")?;
-    check(guest.used_ring()? == before, "the used ring is as it was")
+    guest.reset();
+    drop_one(guest, done)
 }
 
 /// Asks, and looks at the tail of the reply.
@@ -189,8 +220,8 @@ fn look_at_the_reply(guest: &Guest, request: &[u8; 512]) -> Result<(), Fail> {
 /// It goes back under the id that was popped: it is the ring's second.
 fn look_at_the_id(guest: &Guest) -> Result<(), Fail> {
     let used: [u8; 14] = loaded(guest, USED_RING + 2)?;
-    check(&used[..2] == &[2, 0][..], "two chains came back")?;
-    check(&used[10..] == &[0, 0, 0, 0][..], "the id")
+    check(used.starts_with(&[2, 0]), "two chains came back")?;
+    check(used.ends_with(&[0, 0, 0, 0]), "the id")
 }
 
 /// The guest overwrites all that was popped.
@@ -205,13 +236,16 @@ fn overwrite(device: &mut Device) -> Result<(), Fail> {
     Ok(())
 }
 
+fn answer_and_publish(alloc: Global, guest: &mut Guest, job: Job) -> Result<(), Fail> {
+    let done = guest.answer(alloc, job)?;
+    check(guest.publishes(done), "published")
+}
+
 /// A request that is overwritten between its pop and its answer.
 fn answer_late(alloc: Global, guest: &mut Guest, request: &[[u8; 512]; 1]) -> Result<(), Fail> {
     let job = guest.popped(request)?;
     overwrite(&mut guest.device)?;
-    let done = guest.answer(alloc, job)?;
-    let published = guest.device.publish(done);
-    check(published != Published::Dropped, "published")
+    answer_and_publish(alloc, guest, job)
 }
 
 fn overwrite_what_was_popped(alloc: Global, guest: &mut Guest) -> Result<(), Fail> {

@@ -1,6 +1,6 @@
 //! What the store is given, and when replies leave.
 
-use crate::tests::lines::{Asked, Line, played};
+use crate::tests::lines::{Asked, Line, play_all};
 use crate::tests::scene::LIFE;
 use std::test::Fail;
 
@@ -38,8 +38,7 @@ static REPLIES: [Line; 22] = [
 
 #[test]
 fn replies_wait_for_what_they_show(rt: HostRuntime) -> Result<(), Fail> {
-    assert_eq!(rt; played(rt.alloc(), 2, &REPLIES)?, REPLIES.len());
-    Ok(())
+    play_all(rt.alloc(), 2, &REPLIES)
 }
 
 /// Writes of 16 blocks and of one, up to the last block: they are taken whole. A write past it is
@@ -72,7 +71,7 @@ static WHOLE: [&[Line]; 3] = [
 #[test]
 fn writes_are_taken_whole(rt: HostRuntime) -> Result<(), Fail> {
     for lines in &WHOLE {
-        assert_eq!(rt; played(rt.alloc(), 1, *lines)?, lines.len());
+        play_all(rt.alloc(), 1, *lines)?;
     }
     Ok(())
 }
@@ -96,6 +95,5 @@ static GROUPED: [Line; 13] = [
 
 #[test]
 fn four_requests_are_taken_as_one(rt: HostRuntime) -> Result<(), Fail> {
-    assert_eq!(rt; played(rt.alloc(), 1, &GROUPED)?, GROUPED.len());
-    Ok(())
+    play_all(rt.alloc(), 1, &GROUPED)
 }

@@ -10,14 +10,25 @@ use rpmb_frame::BoardConfig;
 use std::alloc::Global;
 use std::test::Fail;
 
-/// A fresh image, on a disk that held something else.
-pub fn formatted(alloc: Global, board: &BoardConfig) -> Result<CutDisk, Fail> {
-    let layout = Layout::of(board);
-    let mut disk = CutDisk::new(alloc, vec![in alloc; 0xee; layout.length() as usize]?)?;
-    if disk.len() != layout.length() {
+/// A disk as long as the image of a board, which holds something else.
+fn other_disk(alloc: Global, board: &BoardConfig) -> Result<CutDisk, Fail> {
+    let length = Layout::of(board).length();
+    let bytes = vec![in alloc; 0xee; length as usize]?;
+    Ok(CutDisk::new(alloc, bytes)?)
+}
+
+/// Makes a fresh image of a disk of its length.
+fn make_image(disk: &mut CutDisk, board: &BoardConfig) -> Result<(), Fail> {
+    if disk.len() != Layout::of(board).length() {
         return Err(Fail::from("another length"));
     }
-    format(&mut disk, board)?;
+    Ok(format(disk, board)?)
+}
+
+/// A fresh image, on a disk that held something else.
+pub fn formatted(alloc: Global, board: &BoardConfig) -> Result<CutDisk, Fail> {
+    let mut disk = other_disk(alloc, board)?;
+    make_image(&mut disk, board)?;
     Ok(disk)
 }
 
@@ -35,8 +46,11 @@ pub fn opened<D: Disk>(
 
 /// The store of a fresh image of so many guests.
 pub fn fresh_store(alloc: Global, guests: usize) -> Result<Store<CutDisk>, Fail> {
-    let board = board_of(alloc, guests)?;
-    let (store, _) = opened(alloc, formatted(alloc, &board)?, &board)?;
+    store_on(alloc, &board_of(alloc, guests)?)
+}
+
+fn store_on(alloc: Global, board: &BoardConfig) -> Result<Store<CutDisk>, Fail> {
+    let (store, _) = opened(alloc, formatted(alloc, board)?, board)?;
     Ok(store)
 }
 

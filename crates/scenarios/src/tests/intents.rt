@@ -34,14 +34,19 @@ fn byte_of(guest: u16, n: u64, k: usize) -> u8 {
 
 /// The address and the blocks that a guest's request n writes; none for the request of its key.
 fn write_of(alloc: Global, guest: u16, n: u64) -> Result<(u16, Vec<u8>), Fail> {
+    match place_of(guest, n) {
+        Some((address, count)) => Ok((address, blocks_of(alloc, guest, n, count)?)),
+        None => Ok((0, Vec::new(alloc))),
+    }
+}
+
+/// The bytes of so many blocks, at most 8, of a guest's request n.
+fn blocks_of(alloc: Global, guest: u16, n: u64, count: usize) -> Result<Vec<u8>, Fail> {
     let mut blocks = Vec::new(alloc);
-    let Some((address, count)) = place_of(guest, n) else {
-        return Ok((0, blocks));
-    };
     for k in 0..256 * count.min(8) {
         blocks.push(byte_of(guest, n, k))?;
     }
-    Ok((address, blocks))
+    Ok(blocks)
 }
 
 fn place_of(guest: u16, n: u64) -> Option<(u16, usize)> {

@@ -6,6 +6,7 @@ use crate::tests::scene::{KEY, board_of, check, scene_of};
 use disk::{CutDisk, Filler};
 use flusher::Store;
 use rpmb_core::Partition;
+use rpmb_frame::BoardConfig;
 use std::alloc::Global;
 use std::test::Fail;
 
@@ -35,12 +36,16 @@ fn kept(alloc: Global) -> Result<Store<CutDisk>, Fail> {
     Ok(store)
 }
 
-/// What opens after a stop.
-fn reopened(alloc: Global, store: Store<CutDisk>) -> Result<Vec<Partition>, Fail> {
+/// What a stop leaves.
+fn stopped(store: Store<CutDisk>) -> CutDisk {
     let mut disk = store.into_disk();
     disk.cut(&Filler::Old);
-    let board = board_of(alloc, 2)?;
-    let (_, partitions) = opened(alloc, disk, &board)?;
+    disk
+}
+
+/// What opens after it.
+fn reopened(alloc: Global, board: &BoardConfig) -> Result<Vec<Partition>, Fail> {
+    let (_, partitions) = opened(alloc, stopped(kept(alloc)?), board)?;
     Ok(partitions)
 }
 
@@ -56,9 +61,16 @@ fn is(partition: Option<&Partition>, key: Option<[u8; 32]>, counter: u32, byte: 
     }
 }
 
-#[test]
-fn the_store_keeps_what_the_book_gives(rt: HostRuntime) -> Result<(), Fail> {
-    let partitions = reopened(rt.alloc(), kept(rt.alloc())?)?;
+fn check_kept(partitions: &[Partition]) -> Result<(), Fail> {
     check(is(partitions.first(), None, 0, 0), "guest 0")?;
     check(is(partitions.get(1), Some(KEY), 2, 0x5a), "guest 1")
+}
+
+fn check_reopened(alloc: Global, board: &BoardConfig) -> Result<(), Fail> {
+    check_kept(&reopened(alloc, board)?)
+}
+
+#[test]
+fn the_store_keeps_what_the_book_gives(rt: HostRuntime) -> Result<(), Fail> {
+    check_reopened(rt.alloc(), &board_of(rt.alloc(), 2)?)
 }

@@ -20,13 +20,18 @@ fn image(alloc: Global, board: &BoardConfig) -> Result<CutDisk, Fail> {
         return Err(Fail::from("no guest"));
     }
     let home = layout.extent(0).home();
-    let bytes = Home::with_key(KEY, COUNTER).encode();
     let mut disk = formatted(alloc, board)?;
+    put_home(&mut disk, home)?;
+    Ok(disk)
+}
+
+/// Puts the home of a partition with the last counter but one where it belongs.
+fn put_home(disk: &mut CutDisk, home: u64) -> Result<(), Fail> {
+    let bytes = Home::with_key(KEY, COUNTER).encode();
     if home > disk.len() || bytes.len() as u64 > disk.len() - home {
         return Err(Fail::from("off the disk"));
     }
-    disk.write_at(home, &bytes)?;
-    Ok(disk)
+    Ok(disk.write_at(home, &bytes)?)
 }
 
 type Opened = (Store<CutDisk>, Partition);
@@ -100,14 +105,27 @@ fn writes_no_more(partition: &mut Partition, limits: Limits) -> bool {
     answers(partition, limits, (0x78, 0xffff_ffff), none) && is_at_the_end(partition, 0x77)
 }
 
+/// The only partition that a disk opens to.
+fn partition_of(alloc: Global, disk: CutDisk, board: &BoardConfig) -> Result<Partition, Fail> {
+    let (_, partition) = opened_one(alloc, disk, board)?;
+    Ok(partition)
+}
+
+fn write_both(partition: &mut Partition, limits: Limits) -> Result<(), Fail> {
+    let made = writes_the_last(partition, limits);
+    check(made, "the last write")?;
+    check(writes_no_more(partition, limits), "the one after")
+}
+
+fn write_on_an_image(alloc: Global, board: &BoardConfig) -> Result<(), Fail> {
+    let limits = limits_of(board)?;
+    let mut partition = partition_of(alloc, image(alloc, board)?, board)?;
+    write_both(&mut partition, limits)
+}
+
 #[test]
 fn the_last_write_and_the_one_after(rt: HostRuntime) -> Result<(), Fail> {
-    let board = board_of(rt.alloc(), 1)?;
-    let limits = limits_of(&board)?;
-    let (_, mut partition) = opened_one(rt.alloc(), image(rt.alloc(), &board)?, &board)?;
-    let made = writes_the_last(&mut partition, limits);
-    check(made, "the last write")?;
-    check(writes_no_more(&mut partition, limits), "the one after")
+    write_on_an_image(rt.alloc(), &board_of(rt.alloc(), 1)?)
 }
 
 /// The intent of the last write, of a block of this byte at address 0.
@@ -128,12 +146,19 @@ fn kept(alloc: Global, board: &BoardConfig) -> Result<CutDisk, Fail> {
     Ok(store.into_disk())
 }
 
+fn write_no_more(partition: &mut Partition, limits: Limits) -> Result<(), Fail> {
+    check(is_at_the_end(partition, 0x77), "the partition")?;
+    let no_more = writes_no_more(partition, limits);
+    check(no_more, "no write after it")
+}
+
+fn write_on_what_is_kept(alloc: Global, board: &BoardConfig) -> Result<(), Fail> {
+    let limits = limits_of(board)?;
+    let mut partition = partition_of(alloc, kept(alloc, board)?, board)?;
+    write_no_more(&mut partition, limits)
+}
+
 #[test]
 fn the_last_write_on_the_disk(rt: HostRuntime) -> Result<(), Fail> {
-    let board = board_of(rt.alloc(), 1)?;
-    let limits = limits_of(&board)?;
-    let (_, mut partition) = opened_one(rt.alloc(), kept(rt.alloc(), &board)?, &board)?;
-    check(is_at_the_end(&partition, 0x77), "the partition")?;
-    let no_more = writes_no_more(&mut partition, limits);
-    check(no_more, "no write after it")
+    write_on_what_is_kept(rt.alloc(), &board_of(rt.alloc(), 1)?)
 }

@@ -1,7 +1,7 @@
 //! How many replies a guest may have held, how many requests a book answers, and whom it knows.
 
 use crate::tests::image::fresh_store;
-use crate::tests::lines::{Asked, Line, played};
+use crate::tests::lines::{Asked, Line, has_no_reply, play_all};
 use crate::tests::scene::{
     KEY, Scene, accepted, check, get_write_counter, job_of, nonce_of, program_key, scene_of,
 };
@@ -63,34 +63,57 @@ fn is_of_nonce_0(collected: Option<Done>) -> bool {
 }
 
 fn offer_the_65th(alloc: Global, scene: &mut Scene) -> Result<(), Fail> {
-    let frames = get_write_counter(64);
-    let offered = scene.offer(alloc, job_of(alloc, 1, 1, &frames)?);
-    let job = given_back(offered, 1, &frames, Refused::Busy)?;
+    let job = refuse_the_65th(alloc, scene)?;
     // Another guest isn't held up.
-    scene.submit(alloc, 0, &frames)?;
-    check(is_of_nonce_0(scene.book.collect(1)), "the first reply")?;
+    go_on(alloc, scene)?;
     accepted(scene.offer(alloc, job))?;
     Ok(())
 }
 
+/// The job of guest 1 that is given back.
+fn refuse_the_65th(alloc: Global, scene: &mut Scene) -> Result<Job, Fail> {
+    let frames = get_write_counter(64);
+    let offered = scene.offer(alloc, job_of(alloc, 1, 1, &frames)?);
+    given_back(offered, 1, &frames, Refused::Busy)
+}
+
+/// Guest 0 has a request answered, and the first reply to guest 1 leaves.
+fn go_on(alloc: Global, scene: &mut Scene) -> Result<(), Fail> {
+    scene.submit(alloc, 0, &get_write_counter(64))?;
+    check(is_of_nonce_0(scene.book.collect(1)), "the first reply")
+}
+
+fn hold_65(alloc: Global, scene: &mut Scene) -> Result<(), Fail> {
+    hold_64(alloc, scene, 1)?;
+    offer_the_65th(alloc, scene)
+}
+
 #[test]
 fn the_65th_held_reply_is_refused(rt: HostRuntime) -> Result<(), Fail> {
-    let alloc = rt.alloc();
-    let mut scene = scene_of(alloc, 2)?;
-    hold_64(alloc, &mut scene, 1)?;
-    offer_the_65th(alloc, &mut scene)
+    hold_65(rt.alloc(), &mut scene_of(rt.alloc(), 2)?)
+}
+
+/// Offers the book a job with the tally of guest 0.
+fn offer_as_0(alloc: Global, scene: &mut Scene, job: Job) -> Result<Receipt, (Job, Refused)> {
+    match scene.tallies.get_mut(0) {
+        Some(tally) => scene.book.submit(alloc, tally, job),
+        None => Err((job, Refused::Busy)),
+    }
 }
 
 /// The job of a guest that is offered with the tally of guest 0, and given back.
 fn foreign(alloc: Global, scene: &mut Scene, guest: u16) -> Result<Job, Fail> {
     let frames = get_write_counter(1);
-    let job = job_of(alloc, guest, 1, &frames)?;
-    let Some(tally) = scene.tallies.get_mut(0) else {
-        return Err(Fail::from("no tally"));
-    };
-    let offered = scene.book.submit(alloc, tally, job);
-    check(tally.count() == 0, "the tally counts none of them")?;
+    let offered = offer_as_0(alloc, scene, job_of(alloc, guest, 1, &frames)?);
     given_back(offered, guest, &frames, Refused::Foreign)
+}
+
+/// Whether the tally of guest 0 counts none of the jobs.
+fn counts_none(scene: &Scene) -> bool {
+    match scene.tallies.first() {
+        Some(tally) => tally.count() == 0,
+        None => false,
+    }
 }
 
 fn knows_no_guest_2(scene: &mut Scene) -> bool {
@@ -110,13 +133,18 @@ fn take_one(alloc: Global, other: &mut Scene) -> Result<(), Fail> {
     check(taken, "a take")
 }
 
-fn offer_to_strangers(alloc: Global, scene: &mut Scene) -> Result<(), Fail> {
+fn offer_of_no_guest(alloc: Global, scene: &mut Scene) -> Result<(), Fail> {
     foreign(alloc, scene, 2)?;
-    check(knows_no_guest_2(scene), "no guest 2")?;
+    check(counts_none(scene), "the tally counts none of them")?;
+    check(knows_no_guest_2(scene), "no guest 2")
+}
+
+fn offer_to_strangers(alloc: Global, scene: &mut Scene) -> Result<(), Fail> {
+    offer_of_no_guest(alloc, scene)?;
     let job = foreign(alloc, scene, 1)?;
     // With its own guest's tally the same job is answered.
     accepted(scene.offer(alloc, job))?;
-    Ok(())
+    check(counts_none(scene), "the tally counts none of them")
 }
 
 #[test]
@@ -124,10 +152,14 @@ fn strangers_are_foreign(rt: HostRuntime) -> Result<(), Fail> {
     offer_to_strangers(rt.alloc(), &mut scene_of(rt.alloc(), 2)?)
 }
 
+/// Marks of which none is above what either book took.
+fn fresh_marks(alloc: Global) -> Result<Marks, Fail> {
+    Ok(fresh_store(alloc, 2)?.marks())
+}
+
 fn refuse_shares_of(alloc: Global, other: &mut Scene) -> Result<(), Fail> {
     take_one(alloc, other)?;
-    // No mark is above what either book took.
-    let marks = fresh_store(alloc, 2)?.marks();
+    let marks = fresh_marks(alloc)?;
     let refused = refuses_shares_of(&mut scene_of(alloc, 2)?, other, marks);
     check(refused, "the shares")
 }
@@ -139,24 +171,31 @@ fn shares_of_another_book_are_foreign(rt: HostRuntime) -> Result<(), Fail> {
 
 fn answer_one(alloc: Global, scene: &mut Scene, number: u32) -> Result<(), Fail> {
     scene.submit(alloc, 0, &get_write_counter(u128::from(number)))?;
-    check(scene.book.collect(0).is_some(), "a reply")
+    check(!has_no_reply(scene, 0), "a reply")
+}
+
+/// The job of guest 0 that comes after all others, and is given back.
+fn one_more(alloc: Global, scene: &mut Scene) -> Result<Job, Fail> {
+    let frames = get_write_counter(16_384);
+    let offered = scene.offer(alloc, job_of(alloc, 0, 1, &frames)?);
+    given_back(offered, 0, &frames, Refused::HistoryFull)
 }
 
 fn refuse_one_more(alloc: Global, scene: &mut Scene) -> Result<(), Fail> {
-    let frames = get_write_counter(16_384);
-    let offered = scene.offer(alloc, job_of(alloc, 0, 1, &frames)?);
-    given_back(offered, 0, &frames, Refused::HistoryFull)?;
-    check(scene.book.collect(0).is_none(), "no reply")
+    one_more(alloc, scene)?;
+    check(has_no_reply(scene, 0), "no reply")
+}
+
+fn answer_all(alloc: Global, scene: &mut Scene) -> Result<(), Fail> {
+    for number in 0..16_384 {
+        answer_one(alloc, scene, number)?;
+    }
+    refuse_one_more(alloc, scene)
 }
 
 #[test]
 fn the_book_answers_16384_requests(rt: HostRuntime) -> Result<(), Fail> {
-    let alloc = rt.alloc();
-    let mut scene = scene_of(alloc, 1)?;
-    for number in 0..16_384 {
-        answer_one(alloc, &mut scene, number)?;
-    }
-    refuse_one_more(alloc, &mut scene)
+    answer_all(rt.alloc(), &mut scene_of(rt.alloc(), 1)?)
 }
 
 /// Guest 0 programs a key, and the result is asked for by guest 1, and by guest 0 in this session and in
@@ -177,6 +216,5 @@ static RESULTS: [Line; 11] = [
 
 #[test]
 fn another_session_forgets_the_outcome(rt: HostRuntime) -> Result<(), Fail> {
-    assert_eq!(rt; played(rt.alloc(), 2, &RESULTS)?, RESULTS.len());
-    Ok(())
+    play_all(rt.alloc(), 2, &RESULTS)
 }

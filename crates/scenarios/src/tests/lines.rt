@@ -89,21 +89,36 @@ fn data_read() -> [u8; 512] {
         .to_bytes()
 }
 
-/// The frames that write so many blocks and ask for the result.
-fn writes_of(alloc: Global, address: u16, count: u8) -> Result<Vec<[u8; 512]>, AllocError> {
-    let mut frames = Vec::with_capacity(alloc, 17)?;
+/// The frame of the block of these bytes, one of so many that are written, without a MAC.
+fn write_frame(byte: u8, address: u16, count: u8) -> [u8; 512] {
+    Frame::zeros()
+        .with_block_data(&[byte; 256])
+        .with_address(address)
+        .with_block_count(u16::from(count))
+        .with_req_resp(0x0003)
+        .to_bytes()
+}
+
+fn push_writes(frames: &mut Vec<[u8; 512]>, address: u16, count: u8) -> Result<(), AllocError> {
     for i in 0..count {
-        let frame = Frame::zeros()
-            .with_block_data(&[i + 1; 256])
-            .with_address(address)
-            .with_block_count(u16::from(count))
-            .with_req_resp(0x0003);
-        frames.push(frame.to_bytes())?;
+        frames.push(write_frame(i + 1, address, count))?;
     }
-    let mac = mac_of(&KEY, &frames);
+    Ok(())
+}
+
+/// Puts the MAC of all frames into the last one.
+fn seal(frames: &mut [[u8; 512]]) {
+    let mac = mac_of(&KEY, frames);
     if let Some(last) = frames.last_mut() {
         *last = Frame::from_bytes(last).with_key_mac(&mac).to_bytes();
     }
+}
+
+/// The frames that write so many blocks and ask for the result.
+fn writes_of(alloc: Global, address: u16, count: u8) -> Result<Vec<[u8; 512]>, AllocError> {
+    let mut frames = Vec::with_capacity(alloc, 17)?;
+    push_writes(&mut frames, address, count)?;
+    seal(&mut frames);
     frames.push(result_read())?;
     Ok(frames)
 }
@@ -204,7 +219,7 @@ fn has_no_intent(scene: &mut Scene, guest: u16) -> bool {
     matches!(scene.book.take(&mut scene.shares, guest), Ok(None))
 }
 
-fn has_no_reply(scene: &mut Scene, guest: u16) -> bool {
+pub fn has_no_reply(scene: &mut Scene, guest: u16) -> bool {
     scene.book.collect(guest).is_none()
 }
 
@@ -243,11 +258,13 @@ fn failure_of(end: [u8; 4]) -> [u8; 512] {
     bytes
 }
 
+fn is_failure(done: &Done, guest: u16, end: [u8; 4]) -> bool {
+    is_answer(done, guest, 1, 0) && done.reply() == failure_of(end).as_slice()
+}
+
 pub fn fails(scene: &mut Scene, guest: u16, end: [u8; 4]) -> bool {
     match scene.book.collect(guest) {
-        Some(done) => {
-            is_answer(&done, guest, 1, 0) && done.reply() == failure_of(end).as_slice()
-        }
+        Some(done) => is_failure(&done, guest, end),
         None => false,
     }
 }
@@ -313,6 +330,16 @@ fn play_on(alloc: Global, guests: usize, scene: &mut Scene, lines: &[Line]) -> R
 }
 
 /// The same of a scene of its own, with so many guests.
-pub fn played(alloc: Global, guests: usize, lines: &[Line]) -> Result<usize, Fail> {
+fn played(alloc: Global, guests: usize, lines: &[Line]) -> Result<usize, Fail> {
     play_on(alloc, guests, &mut scene_of(alloc, guests)?, lines)
+}
+
+/// Plays a scene of its own, with so many guests, whose lines all have to happen as they are told.
+pub fn play_all(alloc: Global, guests: usize, lines: &[Line]) -> Result<(), Fail> {
+    let number = played(alloc, guests, lines)?;
+    if number == lines.len() {
+        Ok(())
+    } else {
+        Err(Fail::new(format_args!("not as told: line {number}")))
+    }
 }

@@ -36,9 +36,12 @@ fn is_programmed(scene: &Scene, receipt: &Receipt) -> bool {
     }
 }
 
+fn program_and_find(alloc: Global, scene: &mut Scene) -> Result<(), Fail> {
+    let receipt = program(alloc, scene)?;
+    check(is_programmed(scene, &receipt), "the reply")
+}
+
 #[test]
 fn a_refused_submit_leaves_the_book(rt: HostRuntime) -> Result<(), Fail> {
-    let mut scene = scene_of(rt.alloc(), 1)?;
-    let receipt = program(rt.alloc(), &mut scene)?;
-    check(is_programmed(&scene, &receipt), "the reply")
+    program_and_find(rt.alloc(), &mut scene_of(rt.alloc(), 1)?)
 }

@@ -5,14 +5,17 @@ use rpmb_book::{Book, Receipt, TurnView};
 use std::alloc::Global;
 use std::test::Fail;
 
-/// Submits of 64 guests in turn, 64 of each, the nonce of each its number.
-fn submit_4096(alloc: Global, scene: &mut Scene) -> Result<Vec<Receipt>, Fail> {
-    let mut receipts = Vec::new(alloc);
+/// A submit, whose nonce is its number.
+fn submit_one(alloc: Global, scene: &mut Scene, number: u16) -> Result<Receipt, Fail> {
+    scene.submit(alloc, number % 64, &get_write_counter(u128::from(number)))
+}
+
+/// Submits of 64 guests in turn, 64 of each.
+fn submit_4096(alloc: Global, scene: &mut Scene, receipts: &mut Vec<Receipt>) -> Result<(), Fail> {
     for number in 0..4096_u16 {
-        let frames = get_write_counter(u128::from(number));
-        receipts.push(scene.submit(alloc, number % 64, &frames)?)?;
+        receipts.push(submit_one(alloc, scene, number)?)?;
     }
-    Ok(receipts)
+    Ok(())
 }
 
 /// Whether it is the turn of the request with this nonce.
@@ -43,12 +46,16 @@ fn are_found(book: &Book, receipts: &[Receipt]) -> bool {
     true
 }
 
+fn find_4096(alloc: Global, scene: &mut Scene) -> Result<(), Fail> {
+    let mut receipts = Vec::new(alloc);
+    submit_4096(alloc, scene, &mut receipts)?;
+    let found = receipts.len() == 4_096 && are_found(&scene.book, &receipts);
+    check(found, "all receipts, and the turn of each")
+}
+
 #[test]
 fn each_of_64_held_replies_of_64_guests_is_found(rt: HostRuntime) -> Result<(), Fail> {
-    let mut scene = scene_of(rt.alloc(), 64)?;
-    let receipts = submit_4096(rt.alloc(), &mut scene)?;
-    check(receipts.len() == 4_096, "all receipts")?;
-    check(are_found(&scene.book, &receipts), "a receipt")
+    find_4096(rt.alloc(), &mut scene_of(rt.alloc(), 64)?)
 }
 
 /// Receipts of another life, of other guests, of the turn that collected the reply, and of turns that

@@ -187,6 +187,26 @@ impl Run {
         Ok(())
     }
 
+    /// Makes so many calls, and has the next one fail where the stop is within it.
+    fn go_to(&mut self, alloc: Global, calls: u32, within: bool) -> Result<(), Fail> {
+        self.go(alloc, calls)?;
+        if within {
+            self.give_all(alloc, calls)?;
+            self.fail()?;
+        }
+        Ok(())
+    }
+
+    /// Makes the first call after an opening, if there is one, or has it fail.
+    fn call_once(&mut self, alloc: Global, fails: bool, tally: &mut Tally) -> Result<(), Fail> {
+        self.give_all(alloc, MANY)?;
+        if self.store.next_call() == Call::None {
+            return Ok(());
+        }
+        tally.calls = tally.calls.wrapping_add(1);
+        self.call(fails)
+    }
+
     /// Makes the next call, or has it fail.
     fn call(&mut self, fails: bool) -> Result<(), Fail> {
         if fails {
@@ -218,11 +238,18 @@ impl Run {
         }
     }
 
+    fn is_one_at(&self, histories: &Histories, guest: u16, partitions: &[Partition]) -> bool {
+        match partitions.get(usize::from(guest)) {
+            Some(partition) => self.is_at(histories, guest, partition),
+            None => false,
+        }
+    }
+
     /// Compares the partitions that an opening gave.
     fn compare(&self, histories: &Histories, partitions: &[Partition]) -> Result<(), Fail> {
         check(partitions.len() == 3, "three partitions")?;
-        for (guest, partition) in partitions.iter().take(3).enumerate() {
-            let same = self.is_at(histories, guest as u16, partition);
+        for guest in 0..3_u16 {
+            let same = self.is_one_at(histories, guest, partitions);
             check(same, "the partition and the mark")?;
         }
         Ok(())
@@ -289,6 +316,19 @@ impl Tally {
         Ok(())
     }
 
+    /// Counts and compares the partitions of all guests.
+    fn compare(
+        &mut self,
+        least: [u64; 3],
+        most: [u64; 3],
+        run: &Run,
+        partitions: &[Partition],
+        histories: &Histories,
+    ) -> Result<(), Fail> {
+        self.count_all(least, run.given, most)?;
+        run.compare(histories, partitions)
+    }
+
     /// Whether each group was found undone and done while it wasn't settled.
     fn has_both(&self, sizes: &[[u64; 4]; 3]) -> bool {
         has_all(&self.before, sizes) && has_all(&self.after, sizes)
@@ -299,8 +339,7 @@ impl Stopped {
     /// Opens the disk and compares each partition.
     fn open(self, alloc: Global, scene: &Scene, tally: &mut Tally) -> Result<Run, Fail> {
         let (run, partitions) = run_from(alloc, scene, self.disk)?;
-        tally.count_all(self.least, run.given, self.most)?;
-        run.compare(&scene.histories, &partitions)?;
+        tally.compare(self.least, self.most, &run, &partitions, &scene.histories)?;
         Ok(run)
     }
 }
@@ -315,13 +354,33 @@ fn stop_again(
     tally: &mut Tally,
 ) -> Result<(), Fail> {
     let mut run = run_on(alloc, scene, image)?;
-    run.give_all(alloc, MANY)?;
-    if run.store.next_call() != Call::None {
-        tally.calls = tally.calls.wrapping_add(1);
-        run.call(within)?;
-    }
+    run.call_once(alloc, within, tally)?;
     run.stopped(filler).open(alloc, scene, tally)?;
     Ok(())
+}
+
+/// Both kinds of stop after the opening of an image.
+fn stop_again_twice(
+    alloc: Global,
+    scene: &Scene,
+    image: &[u8],
+    filler: &Filler,
+    tally: &mut Tally,
+) -> Result<(), Fail> {
+    stop_again(alloc, scene, image, false, filler, tally)?;
+    stop_again(alloc, scene, image, true, filler, tally)
+}
+
+/// Compares what a stop has left, and answers the image that it has left.
+fn compared(
+    alloc: Global,
+    scene: &Scene,
+    stopped: Stopped,
+    tally: &mut Tally,
+) -> Result<Vec<u8>, Fail> {
+    let image = stopped.disk.content().to_vec(alloc)?;
+    stopped.open(alloc, scene, tally)?;
+    Ok(image)
 }
 
 fn stop_twice(
@@ -331,21 +390,14 @@ fn stop_twice(
     filler: &Filler,
     tally: &mut Tally,
 ) -> Result<(), Fail> {
-    let stopped = run.stopped(filler);
-    let image = stopped.disk.content().to_vec(alloc)?;
-    stopped.open(alloc, scene, tally)?;
-    stop_again(alloc, scene, &image, false, filler, tally)?;
-    stop_again(alloc, scene, &image, true, filler, tally)
+    let image = compared(alloc, scene, run.stopped(filler), tally)?;
+    stop_again_twice(alloc, scene, &image, filler, tally)
 }
 
 /// The run after so many calls, or with the next one failed.
 fn run_to(alloc: Global, scene: &Scene, calls: u32, within: bool) -> Result<Run, Fail> {
     let mut run = begun(alloc, scene)?;
-    run.go(alloc, calls)?;
-    if within {
-        run.give_all(alloc, calls)?;
-        run.fail()?;
-    }
+    run.go_to(alloc, calls, within)?;
     Ok(run)
 }
 
@@ -384,9 +436,7 @@ fn stopped_at_each(alloc: Global, scene: &Scene, within: bool) -> Result<Tally, 
 }
 
 /// Three partitions are compared at each place with each of 4 fillers, and then at two second stops.
-fn check_stops(alloc: Global, grouping: &Grouping, within: bool) -> Result<(), Fail> {
-    let scene = new_scene(alloc, grouping)?;
-    let tally = stopped_at_each(alloc, &scene, within)?;
+fn check_tally(tally: &Tally, grouping: &Grouping, within: bool) -> Result<(), Fail> {
     let places = u64::from(grouping.calls) + u64::from(!within);
     let without = u64::from(grouping.without_calls[usize::from(within)]);
     check(
@@ -400,6 +450,11 @@ fn check_stops(alloc: Global, grouping: &Grouping, within: bool) -> Result<(), F
     check(tally.has_both(&grouping.sizes), "before and after")
 }
 
+fn check_stops(alloc: Global, grouping: &Grouping, within: bool) -> Result<(), Fail> {
+    let scene = new_scene(alloc, grouping)?;
+    check_tally(&stopped_at_each(alloc, &scene, within)?, grouping, within)
+}
+
 /// Runs to the end, and says how many calls it took.
 fn calls_of(alloc: Global, run: &mut Run) -> Result<u32, Fail> {
     for calls in 0..MANY {
@@ -411,26 +466,27 @@ fn calls_of(alloc: Global, run: &mut Run) -> Result<u32, Fail> {
     Err(Fail::from("no end"))
 }
 
+/// Runs to the end in so many calls.
+fn take_calls(alloc: Global, run: &mut Run, wanted: u32) -> Result<(), Fail> {
+    check(calls_of(alloc, run)? == wanted, "the calls")
+}
+
 fn run_to_the_end(alloc: Global, scene: &Scene) -> Result<Run, Fail> {
     let mut run = begun(alloc, scene)?;
-    check(
-        calls_of(alloc, &mut run)? == scene.grouping.calls,
-        "the calls",
-    )?;
+    take_calls(alloc, &mut run, scene.grouping.calls)?;
     Ok(run)
 }
 
-fn stopped_at_the_end(alloc: Global, scene: &Scene) -> Result<Stopped, Fail> {
+/// Stops at the end, where all is settled, and compares what opens then.
+fn stop_at_the_end(alloc: Global, scene: &Scene) -> Result<(), Fail> {
     let end = run_to_the_end(alloc, scene)?.stopped(&Filler::Old);
-    check(end.least == [4, 4, 4], "all is settled")?;
-    Ok(end)
+    let least = end.least;
+    end.open(alloc, scene, &mut no_tally())?;
+    check(least == [4, 4, 4], "all is settled")
 }
 
 fn check_undisturbed(alloc: Global, grouping: &Grouping) -> Result<(), Fail> {
-    let scene = new_scene(alloc, grouping)?;
-    let end = stopped_at_the_end(alloc, &scene)?;
-    end.open(alloc, &scene, &mut no_tally())?;
-    Ok(())
+    stop_at_the_end(alloc, &new_scene(alloc, grouping)?)
 }
 
 #[test]
@@ -459,12 +515,17 @@ fn open_again(alloc: Global, scene: &Scene, calls: u32, tally: &mut Tally) -> Re
     Ok(())
 }
 
-fn check_opened_again(alloc: Global, grouping: &Grouping) -> Result<(), Fail> {
-    let scene = new_scene(alloc, grouping)?;
-    let mut tally = no_tally();
-    for calls in 0..grouping.calls {
-        open_again(alloc, &scene, calls, &mut tally)?;
+/// The same after each number of calls.
+fn open_each_again(alloc: Global, scene: &Scene, tally: &mut Tally) -> Result<(), Fail> {
+    for calls in 0..scene.grouping.calls {
+        open_again(alloc, scene, calls, tally)?;
     }
+    Ok(())
+}
+
+fn check_opened_again(alloc: Global, grouping: &Grouping) -> Result<(), Fail> {
+    let mut tally = no_tally();
+    open_each_again(alloc, &new_scene(alloc, grouping)?, &mut tally)?;
     let places = u64::from(grouping.calls);
     check(
         u64::from(tally.partitions) == places * 6,

@@ -4,7 +4,7 @@ use crate::tests::acts::{Acts, Move};
 use crate::tests::lines::Asked;
 use crate::tests::scene::{board_of, check};
 use crate::tests::worlds::world_of;
-use board::{Event, World};
+use board::{Accepted, Event, Publication, World};
 use rpmb_core::{OK, Partition, is_change};
 use rpmb_frame::{Limits, Request};
 use std::alloc::Global;
@@ -89,15 +89,25 @@ fn accept(partition: &mut Partition, request: &Request<'_>) {
 /// A guest's base after all that was accepted.
 fn replayed(alloc: Global, world: &World, guest: u16) -> Result<Partition, Fail> {
     let limits = limits(alloc)?;
-    let Some(base) = world.base(guest) else {
-        return Err(Fail::from("no base"));
-    };
-    let mut partition = base.copy(alloc)?;
-    for accepted in world.accepted(guest) {
-        let request = Request::classify(accepted.request(), accepted.writable(), limits);
-        accept(&mut partition, &request);
-    }
+    let mut partition = base(alloc, world, guest)?;
+    replay(&mut partition, world.accepted(guest), limits);
     Ok(partition)
+}
+
+/// A copy of a guest's base.
+fn base(alloc: Global, world: &World, guest: u16) -> Result<Partition, Fail> {
+    match world.base(guest) {
+        Some(base) => Ok(base.copy(alloc)?),
+        None => Err(Fail::from("no base")),
+    }
+}
+
+/// Puts what was accepted over it.
+fn replay(partition: &mut Partition, requests: &[Accepted], limits: Limits) {
+    for accepted in requests {
+        let request = Request::classify(accepted.request(), accepted.writable(), limits);
+        accept(partition, &request);
+    }
 }
 
 fn is_same(one: &Partition, other: &Partition) -> bool {
@@ -109,25 +119,33 @@ fn is_same(one: &Partition, other: &Partition) -> bool {
     one.key() == other.key() && one.counter() == other.counter()
 }
 
+/// Whether it is the guest's partition.
+fn is_now(world: &World, guest: u16, after: &Partition) -> bool {
+    match world.partition(guest) {
+        Some(now) => is_same(now, after),
+        None => false,
+    }
+}
+
+fn need_at_most(publications: &[Publication], accepted: u64) -> bool {
+    for publication in publications {
+        if publication.need > accepted {
+            return false;
+        }
+    }
+    true
+}
+
 /// Whether every reply that was published needs no more than was accepted.
 fn holds(world: &World, guest: u16) -> bool {
-    let accepted = world.accepted(guest).len() as u64;
-    world
-        .published(guest)
-        .iter()
-        .all(|publication| publication.need <= accepted)
+    need_at_most(world.published(guest), world.accepted(guest).len() as u64)
 }
 
 /// The guest has the partition after what was accepted, which holds what it was shown.
 fn check_guest(alloc: Global, world: &World, guest: u16) -> Result<(), Fail> {
+    check(holds(world, guest), "a need")?;
     let after = replayed(alloc, world, guest)?;
-    check(
-        world
-            .partition(guest)
-            .is_some_and(|now| is_same(now, &after)),
-        "a partition",
-    )?;
-    check(holds(world, guest), "a need")
+    check(is_now(world, guest, &after), "a partition")
 }
 
 /// No guest lost anything by the stop.

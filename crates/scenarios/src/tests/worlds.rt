@@ -4,7 +4,7 @@ use crate::tests::acts::{Acts, Move};
 use crate::tests::image::formatted;
 use crate::tests::lines::Asked;
 use crate::tests::scene::{board_of, check};
-use board::{Event, Refusal, StepFault, World};
+use board::{Event, Publication, Refusal, StepFault, World};
 use flusher::StoreFault;
 use rpmb_core::Partition;
 use rpmb_frame::BoardConfig;
@@ -49,24 +49,46 @@ fn last_need(world: &World) -> Option<u64> {
     Some(world.published(0).last()?.need)
 }
 
+fn accepted(world: &World) -> usize {
+    world.accepted(0).len()
+}
+
+/// How many replies were published, and their needs as digits.
+fn replies(world: &World) -> (usize, u64) {
+    let publications = world.published(0);
+    (publications.len(), needs(publications))
+}
+
+fn holds_eight(world: &World) -> bool {
+    match world.partition(0) {
+        Some(partition) => has_eight(partition),
+        None => false,
+    }
+}
+
 fn left_in(world: &World, refusal: Option<Refusal>) -> Left {
+    let (replies, needs) = replies(world);
     Left {
         refusal,
         openings: world.openings(),
-        accepted: world.accepted(0).len(),
-        replies: world.published(0).len(),
-        needs: needs(world),
+        accepted: accepted(world),
+        replies,
+        needs,
         last_need: last_need(world),
         found: found(world),
-        has_eight: world.partition(0).is_some_and(has_eight),
+        has_eight: holds_eight(world),
     }
+}
+
+/// What these events leave of a world.
+fn run(world: &mut World, events: &[Event]) -> Left {
+    let refusal = world.run(events);
+    left_in(world, refusal)
 }
 
 /// What these events leave of a fresh world. A world is held here alone, since its drop is dear to prove.
 fn left_by(alloc: Global, events: &[Event]) -> Result<Left, Fail> {
-    let mut world = world_of(alloc, 1)?;
-    let refusal = world.run(events);
-    Ok(left_in(&world, refusal))
+    Ok(run(&mut world_of(alloc, 1)?, events))
 }
 
 impl Left {
@@ -135,10 +157,10 @@ fn an_opening_syncs_what_a_failed_sync_left(rt: HostRuntime) -> Result<(), Fail>
     check(left.openings == 3, "openings")
 }
 
-/// The needs of what was published to guest 0, as digits.
-fn needs(world: &World) -> u64 {
+/// The needs of what was published, as digits.
+fn needs(publications: &[Publication]) -> u64 {
     let mut digits = 0_u64;
-    for publication in world.published(0).iter().take(9) {
+    for publication in publications.iter().take(9) {
         digits = digits.saturating_mul(10).saturating_add(publication.need);
     }
     digits

@@ -2,6 +2,8 @@
 mod calls;
 mod many;
 
+ghost use Rattle.std.specs.Prelude.{◌<◌};
+
 use crate::tests::boards::board;
 use crate::tests::disks::write;
 use disk::{CutDisk, Disk, Filler};
@@ -15,6 +17,11 @@ use std::test::Fail;
 
 const KEY: [u8; 32] = [0x4b; 32];
 
+/// The board of one guest.
+fn one_guest(alloc: Global) -> Result<BoardConfig, Fail> {
+    board(alloc, &[1])
+}
+
 /// Formats a disk of the image's length.
 fn format_all(disk: &mut impl Disk, board: &BoardConfig) -> Result<(), Fail> {
     if disk.len() != Layout::of(board).length() {
@@ -23,10 +30,15 @@ fn format_all(disk: &mut impl Disk, board: &BoardConfig) -> Result<(), Fail> {
     Ok(format(disk, board)?)
 }
 
+/// As many other bytes as the image has.
+fn other_bytes(alloc: Global, board: &BoardConfig) -> Result<Vec<u8>, Fail> {
+    let length = Layout::of(board).length();
+    Ok(vec![in alloc; 0xee; length as usize]?)
+}
+
 /// A formatted disk, on which other bytes stood.
 fn fresh(alloc: Global, board: &BoardConfig) -> Result<CutDisk, Fail> {
-    let length = Layout::of(board).length();
-    let mut disk = CutDisk::new(alloc, vec![in alloc; 0xee; length as usize]?)?;
+    let mut disk = CutDisk::new(alloc, other_bytes(alloc, board)?)?;
     format_all(&mut disk, board)?;
     Ok(disk)
 }
@@ -51,11 +63,17 @@ fn store_of(alloc: Global, disk: CutDisk, board: &BoardConfig) -> Result<Store<C
 /// Whether there is a key, the counter, and the first byte of the blocks 0, 7 and 8.
 type Found = (bool, u32, [u8; 3]);
 
+fn first_of(partition: &Partition, address: u16) -> u8
+    requires { address < 512 }
+{
+    partition.block(address)[0]
+}
+
 fn found(partition: &Partition) -> Found {
     let firsts = [
-        partition.block(0)[0],
-        partition.block(7)[0],
-        partition.block(8)[0],
+        first_of(partition, 0),
+        first_of(partition, 7),
+        first_of(partition, 8),
     ];
     (partition.key() == Some(KEY), partition.counter(), firsts)
 }
@@ -93,11 +111,13 @@ fn begun(alloc: Global, board: &BoardConfig) -> Result<Store<CutDisk>, Fail> {
     store_of(alloc, disk, board)
 }
 
-/// Gives an intent where the store takes it.
-fn give(store: &mut Store<CutDisk>, intent: Intent) {
-    if store.takes(&intent) {
-        store.give(intent);
+/// Gives an intent where the store takes it; answers whether it does.
+fn give<D: Disk>(store: &mut Store<D>, intent: Intent) -> bool {
+    if !store.takes(&intent) {
+        return false;
     }
+    store.give(intent);
+    true
 }
 
 fn advance(store: &mut Store<CutDisk>, times: usize) {
@@ -117,13 +137,20 @@ fn is_at_rest(store: &Store<CutDisk>) -> bool {
     (store.next(0), store.next(1), store.next(2)) == (1, 1, 0) && store.next_call() == Call::None
 }
 
+/// Whether the store over a formatted disk is at rest, and its disk has nothing.
+fn has_nothing(alloc: Global, board: &BoardConfig) -> Result<bool, Fail> {
+    let store = begun(alloc, board)?;
+    let at_rest = is_at_rest(&store);
+    Ok(finds(alloc, store.into_disk(), board, &[NOTHING, NOTHING])? && at_rest)
+}
+
+fn two_have_nothing(alloc: Global) -> Result<bool, Fail> {
+    has_nothing(alloc, &board(alloc, &[1, 2])?)
+}
+
 #[test]
 fn formatted(rt: HostRuntime) -> Result<(), Fail> {
-    let alloc = rt.alloc();
-    let board = board(alloc, &[1, 2])?;
-    let store = begun(alloc, &board)?;
-    assert!(rt; is_at_rest(&store));
-    assert!(rt; finds(alloc, store.into_disk(), &board, &[NOTHING, NOTHING])?);
+    assert!(rt; two_have_nothing(rt.alloc())?);
     Ok(())
 }
 
@@ -161,7 +188,7 @@ fn three_guests(alloc: Global, board: &BoardConfig, more: usize) -> Result<CutDi
 /// What a stop before the sync leaves, and what one after it.
 static SYNCED: [[Found; 3]; 2] = [[KEYED, NOTHING, NOTHING], [KEYED, KEYED, NOTHING]];
 
-fn finds_three(
+fn finds_on(
     alloc: Global,
     board: &BoardConfig,
     more: usize,
@@ -172,25 +199,35 @@ fn finds_three(
     finds(alloc, disk, board, wanted)
 }
 
+fn finds_three(alloc: Global, more: usize, wanted: &[Found; 3]) -> Result<bool, Fail> {
+    finds_on(alloc, &board(alloc, &[1, 1, 1])?, more, wanted)
+}
+
 #[test]
 fn stopped_at_a_sync(rt: HostRuntime) -> Result<(), Fail> {
-    let alloc = rt.alloc();
-    let board = board(alloc, &[1, 1, 1])?;
     for (more, wanted) in SYNCED.iter().enumerate() {
-        assert!(rt; finds_three(alloc, &board, more, wanted)?, "{more}");
+        assert!(rt; finds_three(rt.alloc(), more, wanted)?, "{more}");
     }
     Ok(())
 }
 
+/// The write of eight blocks.
+fn eight(alloc: Global) -> Result<Intent, Fail> {
+    Ok(Intent::write(0, KEY, 1, 0, vec![in alloc; 0x77; 2048]?))
+}
+
+/// Settles a key request, and gives a write behind it.
+fn give_behind_a_key(store: &mut Store<CutDisk>, write: Intent) {
+    give(store, Intent::program_key(0, KEY));
+    advance(store, 8);
+    give(store, write);
+}
+
 /// A store that has settled a key request, and was given the write of eight blocks.
 fn eight_given(alloc: Global, board: &BoardConfig) -> Result<Store<CutDisk>, Fail> {
+    let write = eight(alloc)?;
     let mut store = begun(alloc, board)?;
-    give(&mut store, Intent::program_key(0, KEY));
-    advance(&mut store, 8);
-    let blocks = vec![in alloc; 0x77; 2048]?;
-    if blocks.len() == 2048 {
-        give(&mut store, Intent::write(0, KEY, 1, 0, blocks));
-    }
+    give_behind_a_key(&mut store, write);
     Ok(store)
 }
 
@@ -214,10 +251,13 @@ fn finds_eight(alloc: Global, board: &BoardConfig) -> Result<bool, Fail> {
     finds(alloc, disk, board, &[(true, 1, [0x77, 0x77, 0])])
 }
 
+fn one_has_eight(alloc: Global) -> Result<bool, Fail> {
+    finds_eight(alloc, &one_guest(alloc)?)
+}
+
 #[test]
 fn stopped_in_a_write(rt: HostRuntime) -> Result<(), Fail> {
-    let board = board(rt.alloc(), &[1])?;
-    assert!(rt; finds_eight(rt.alloc(), &board)?);
+    assert!(rt; one_has_eight(rt.alloc())?);
     Ok(())
 }
 
@@ -230,25 +270,33 @@ fn failed(alloc: Global, board: &BoardConfig, k: u64) -> Result<CutDisk, Fail> {
     Ok(store.into_disk())
 }
 
-fn finds_after(alloc: Global, board: &BoardConfig, k: u64) -> Result<bool, Fail> {
+fn finds_failed(alloc: Global, board: &BoardConfig, k: u64) -> Result<bool, Fail> {
     let wanted = if k < 4 { NOTHING } else { KEYED };
     let disk = failed(alloc, board, k)?;
     finds(alloc, disk, board, &[wanted])
 }
 
+/// Whether an opening after the failed call of this number finds the key where it has to.
+fn finds_after(alloc: Global, k: u64) -> Result<bool, Fail> {
+    finds_failed(alloc, &one_guest(alloc)?, k)
+}
+
 /// The same after the third, and a stop that leaves the byte of an open gate.
-fn finds_after_a_stop(alloc: Global, board: &BoardConfig) -> Result<bool, Fail> {
+fn finds_stopped(alloc: Global, board: &BoardConfig) -> Result<bool, Fail> {
     let disk = filled(alloc, failed(alloc, board, 3)?, 0xa5)?;
     finds(alloc, disk, board, &[KEYED])
 }
 
+fn finds_after_a_stop(alloc: Global) -> Result<bool, Fail> {
+    finds_stopped(alloc, &one_guest(alloc)?)
+}
+
 #[test]
 fn failed_calls(rt: HostRuntime) -> Result<(), Fail> {
-    let board = board(rt.alloc(), &[1])?;
     for k in 1..9 {
-        assert!(rt; finds_after(rt.alloc(), &board, k)?, "{k}");
+        assert!(rt; finds_after(rt.alloc(), k)?, "{k}");
     }
-    assert!(rt; finds_after_a_stop(rt.alloc(), &board)?);
+    assert!(rt; finds_after_a_stop(rt.alloc())?);
     Ok(())
 }
 
@@ -269,7 +317,7 @@ fn opened_once(alloc: Global, disk: CutDisk, board: &BoardConfig) -> Result<CutD
     Ok(store.into_disk())
 }
 
-fn finds_after_opening(alloc: Global, board: &BoardConfig, opens: bool) -> Result<bool, Fail> {
+fn finds_unsynced(alloc: Global, board: &BoardConfig, opens: bool) -> Result<bool, Fail> {
     let mut disk = gate_unsynced(alloc, board)?;
     let mut wanted = KEYED;
     if opens {
@@ -280,13 +328,16 @@ fn finds_after_opening(alloc: Global, board: &BoardConfig, opens: bool) -> Resul
     finds(alloc, disk, board, &[wanted])
 }
 
+fn finds_after_opening(alloc: Global, opens: bool) -> Result<bool, Fail> {
+    finds_unsynced(alloc, &one_guest(alloc)?, opens)
+}
+
 /// What an opening has found, a stop after it leaves: the opening's sync has stored it. A stop without
 /// an opening takes it.
 #[test]
 fn opened_before_a_stop(rt: HostRuntime) -> Result<(), Fail> {
-    let board = board(rt.alloc(), &[1])?;
-    for opens in [false, true] {
-        assert!(rt; finds_after_opening(rt.alloc(), &board, opens)?, "{opens}");
+    for opens in &[false, true] {
+        assert!(rt; finds_after_opening(rt.alloc(), *opens)?, "{opens}");
     }
     Ok(())
 }
@@ -301,12 +352,14 @@ fn written(alloc: Global, board: &BoardConfig, at: u64, bytes: &[u8]) -> Result<
     Ok(disk)
 }
 
-/// Gives a write of one block at address 8 that leaves the last counter, and settles it.
+/// The write of one block at address 8 that leaves the last counter.
+fn last(alloc: Global) -> Result<Intent, Fail> {
+    Ok(Intent::write(0, KEY, 0xffff_ffff, 8, vec![in alloc; 0x77; 256]?))
+}
+
+/// Gives that write, and settles it.
 fn write_last(alloc: Global, store: &mut Store<CutDisk>) -> Result<(), Fail> {
-    let blocks = vec![in alloc; 0x77; 256]?;
-    if blocks.len() == 256 {
-        give(store, Intent::write(0, KEY, 0xffff_ffff, 8, blocks));
-    }
+    give(store, last(alloc)?);
     advance(store, 4);
     Ok(())
 }
@@ -328,14 +381,26 @@ static LAST_COUNTERS: [(bool, u64, Found); 2] = [
     (true, 0x1_0000_0000, (true, 0xffff_ffff, [0, 0, 0x77])),
 ];
 
+fn finds_marked(
+    alloc: Global,
+    board: &BoardConfig,
+    writes: bool,
+    mark: u64,
+    wanted: &Found,
+) -> Result<bool, Fail> {
+    let store = last_store(alloc, board, writes)?;
+    let marked = store.marks().get(0) == mark;
+    Ok(finds(alloc, store.into_disk(), board, &[*wanted])? && marked)
+}
+
+fn finds_last(alloc: Global, writes: bool, mark: u64, wanted: &Found) -> Result<bool, Fail> {
+    finds_marked(alloc, &one_guest(alloc)?, writes, mark, wanted)
+}
+
 #[test]
 fn last_counter(rt: HostRuntime) -> Result<(), Fail> {
-    let alloc = rt.alloc();
-    let board = board(alloc, &[1])?;
     for (writes, mark, wanted) in &LAST_COUNTERS {
-        let store = last_store(alloc, &board, *writes)?;
-        assert!(rt; store.marks().get(0) == *mark);
-        assert!(rt; finds(alloc, store.into_disk(), &board, &[*wanted])?);
+        assert!(rt; finds_last(rt.alloc(), *writes, *mark, wanted)?);
     }
     Ok(())
 }
@@ -350,25 +415,42 @@ static FAULTS: [(u64, u8, OpenFault); 6] = [
     (1536, 0xa5, OpenFault::NotFormatted),
 ];
 
-fn refuses(
+fn fault_with(
     alloc: Global,
     board: &BoardConfig,
-    change: (u64, u8),
-    fault: OpenFault,
-) -> Result<bool, Fail> {
-    let disk = written(alloc, board, change.0, &[change.1])?;
-    Ok(fault_of(alloc, disk, board) == Some(fault))
+    at: u64,
+    byte: u8,
+) -> Result<Option<OpenFault>, Fail> {
+    let disk = written(alloc, board, at, &[byte])?;
+    Ok(fault_of(alloc, disk, board))
+}
+
+fn refuses(alloc: Global, at: u64, byte: u8, fault: OpenFault) -> Result<bool, Fail> {
+    let found = fault_with(alloc, &board(alloc, &[1, 1])?, at, byte)?;
+    Ok(found == Some(fault))
+}
+
+/// A disk of zeros, which is shorter than an image.
+fn short_disk(alloc: Global) -> Result<CutDisk, Fail> {
+    Ok(CutDisk::new(alloc, vec![in alloc; 0; 1000]?)?)
+}
+
+fn fault_of_short(alloc: Global, board: &BoardConfig) -> Result<Option<OpenFault>, Fail> {
+    let disk = short_disk(alloc)?;
+    Ok(fault_of(alloc, disk, board))
+}
+
+fn refuses_short(alloc: Global) -> Result<bool, Fail> {
+    let found = fault_of_short(alloc, &board(alloc, &[1, 1])?)?;
+    Ok(found == Some(OpenFault::NotFormatted))
 }
 
 #[test]
 fn refused(rt: HostRuntime) -> Result<(), Fail> {
-    let alloc = rt.alloc();
-    let board = board(alloc, &[1, 1])?;
     for (at, byte, fault) in &FAULTS {
-        assert!(rt; refuses(alloc, &board, (*at, *byte), *fault)?, "{at}");
+        assert!(rt; refuses(rt.alloc(), *at, *byte, *fault)?, "{at}");
     }
-    let short = CutDisk::new(alloc, vec![in alloc; 0; 1000]?)?;
-    assert!(rt; fault_of(alloc, short, &board) == Some(OpenFault::NotFormatted));
+    assert!(rt; refuses_short(rt.alloc())?);
     Ok(())
 }
 
@@ -395,14 +477,29 @@ static LENGTHS: [(usize, u64, OpenFault); 7] = [
     (0, 2, OpenFault::NotFormatted),
 ];
 
+fn fault_of_length(
+    alloc: Global,
+    board: &BoardConfig,
+    length: usize,
+    failing: u64,
+) -> Result<Option<OpenFault>, Fail> {
+    let mut disk = resized(alloc, board, length)?;
+    disk.fail(failing);
+    Ok(fault_of(alloc, disk, board))
+}
+
+fn has_fault(alloc: Global, length: usize, failing: u64, fault: OpenFault) -> Result<bool, Fail> {
+    let found = fault_of_length(alloc, &one_guest(alloc)?, length, failing)?;
+    Ok(found == Some(fault))
+}
+
 #[test]
 fn other_lengths(rt: HostRuntime) -> Result<(), Fail> {
-    let alloc = rt.alloc();
-    let board = board(alloc, &[1])?;
     for (length, failing, fault) in &LENGTHS {
-        let mut disk = resized(alloc, &board, *length)?;
-        disk.fail(*failing);
-        assert!(rt; fault_of(alloc, disk, &board) == Some(*fault), "{length}");
+        assert!(rt;
+            has_fault(rt.alloc(), *length, *failing, *fault)?,
+            "{length}"
+        );
     }
     Ok(())
 }
@@ -438,12 +535,18 @@ fn retried(alloc: Global, disk: CutDisk, board: &BoardConfig) -> Result<Store<Cu
     }
 }
 
+fn opens_once_more(alloc: Global, board: &BoardConfig) -> Result<bool, Fail> {
+    let store = retried(alloc, fresh(alloc, board)?, board)?;
+    Ok((store.next(0), store.next(1)) == (1, 1))
+}
+
+fn two_open_once_more(alloc: Global) -> Result<bool, Fail> {
+    opens_once_more(alloc, &board(alloc, &[1, 1])?)
+}
+
 /// With `rt try --test --fail-alloc` each allocation of an opening fails once.
 #[test]
 fn refused_memory(rt: HostRuntime) -> Result<(), Fail> {
-    let alloc = rt.alloc();
-    let board = board(alloc, &[1, 1])?;
-    let store = retried(alloc, fresh(alloc, &board)?, &board)?;
-    assert_eq!(rt; (store.next(0), store.next(1)), (1, 1));
+    assert!(rt; two_open_once_more(rt.alloc())?);
     Ok(())
 }

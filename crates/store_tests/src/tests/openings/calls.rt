@@ -1,12 +1,14 @@
 //! The calls that an opening and a store make, by a disk that writes them down.
 ghost use Rattle.std.specs.Prelude.{◌≡◌, IfOk, length};
 
+use super::give;
 use super::many::formatted;
 use crate::tests::boards::board;
+use crate::tests::intents::add_writes;
 use arrayvec::ArrayVec;
 use disk::{Disk, DiskFault, MemDisk};
 use flusher::{Progress, Store};
-use intent_slots::{Entry, Intent};
+use intent_slots::Intent;
 use rpmb_frame::BoardConfig;
 use std::alloc::Global;
 use std::test::Fail;
@@ -90,12 +92,7 @@ fn fresh(alloc: Global, capacities: &[u8]) -> Result<Store<LogDisk<MemDisk>>, Fa
 
 /// Gives the request that programs a guest's key; answers whether it could be given.
 fn give_key(store: &mut Store<LogDisk<MemDisk>>, number: u16) -> bool {
-    let intent = Intent::program_key(number, [0x11; 32]);
-    if store.next(number) != 1 || !store.takes(&intent) {
-        return false;
-    }
-    store.give(intent);
-    true
+    store.next(number) == 1 && give(store, Intent::program_key(number, [0x11; 32]))
 }
 
 /// Makes so many calls; answers whether none was refused or idle.
@@ -151,12 +148,20 @@ fn takes_eight_calls(store: &mut Store<LogDisk<MemDisk>>) -> bool {
         && store.next(0) == 2
 }
 
+/// Whether the calls of a store's disk, from one of them on, are these.
+fn has_made(store: Store<LogDisk<MemDisk>>, from: usize, wanted: &[Logged]) -> bool {
+    store.into_disk().calls.as_slice().get(from..) == Some(wanted)
+}
+
+fn makes_the_calls_of_a_key(alloc: Global) -> Result<bool, Fail> {
+    let mut store = fresh(alloc, &[1])?;
+    let taken = takes_eight_calls(&mut store);
+    Ok(has_made(store, 0, &KEY_CALLS) && taken)
+}
+
 #[test]
 fn a_key_takes_eight_calls(rt: HostRuntime) -> Result<(), Fail> {
-    let mut store = fresh(rt.alloc(), &[1])?;
-    assert!(rt; takes_eight_calls(&mut store));
-    let disk = store.into_disk();
-    assert!(rt; disk.calls.as_slice() == KEY_CALLS.as_slice());
+    assert!(rt; makes_the_calls_of_a_key(rt.alloc())?);
     Ok(())
 }
 
@@ -174,13 +179,18 @@ fn goes_on(store: &mut Store<LogDisk<MemDisk>>, guest: u16, times: u32) -> bool 
     give_key(store, guest) && advance(store, times)
 }
 
+fn serves_three(store: &mut Store<LogDisk<MemDisk>>) -> bool {
+    goes_on(store, 0, 2)
+        && goes_on(store, 1, 3)
+        && give_key(store, 2)
+        // Guest 0 is at its home record, guest 1 at its gate, guest 2 at its payload.
+        && marks_three(store, 3, [1, 0, 0])
+        && marks_three(store, 1, [1, 1, 0])
+}
+
 #[test]
 fn one_sync_serves_every_phase(rt: HostRuntime) -> Result<(), Fail> {
-    let mut store = fresh(rt.alloc(), &[1, 1, 1])?;
-    assert!(rt; goes_on(&mut store, 0, 2) && goes_on(&mut store, 1, 3) && give_key(&mut store, 2));
-    // Guest 0 is at its home record, guest 1 at its gate, guest 2 at its payload.
-    assert!(rt; marks_three(&mut store, 3, [1, 0, 0]));
-    assert!(rt; marks_three(&mut store, 1, [1, 1, 0]));
+    assert!(rt; serves_three(&mut fresh(rt.alloc(), &[1, 1, 1])?));
     Ok(())
 }
 
@@ -193,13 +203,30 @@ static OPEN_CALLS: [Logged; 5] = [
     Logged::Read(36_352, 131_072),
 ];
 
+/// The image once the gate of a key request is open.
+fn open_gate(alloc: Global) -> Result<MemDisk, Fail> {
+    let mut store = fresh(alloc, &[1])?;
+    let went_on = goes_on(&mut store, 0, 4);
+    let image = store.into_disk().inner;
+    if went_on {
+        Ok(image)
+    } else {
+        Err(Fail::from("no calls"))
+    }
+}
+
+fn reads_it_once(alloc: Global, board: &BoardConfig) -> Result<bool, Fail> {
+    let store = opened(alloc, open_gate(alloc)?, board)?;
+    Ok(has_made(store, 0, &OPEN_CALLS))
+}
+
+fn one_is_read_once(alloc: Global) -> Result<bool, Fail> {
+    reads_it_once(alloc, &board(alloc, &[1])?)
+}
+
 #[test]
 fn an_open_gate_is_read_once(rt: HostRuntime) -> Result<(), Fail> {
-    let alloc = rt.alloc();
-    let mut store = fresh(alloc, &[1])?;
-    assert!(rt; goes_on(&mut store, 0, 4));
-    let store = opened(alloc, store.into_disk().inner, &board(alloc, &[1])?)?;
-    assert!(rt; store.into_disk().calls.as_slice() == OPEN_CALLS.as_slice());
+    assert!(rt; one_is_read_once(rt.alloc())?);
     Ok(())
 }
 
@@ -213,9 +240,7 @@ fn block(alloc: Global, byte: u8) -> Result<Vec<u8>, Fail>
 /// Writes of the first four blocks, as one intent.
 fn four_writes(alloc: Global) -> Result<Intent, Fail> {
     let mut intent = Intent::write(0, [0x11; 32], 1, 0, block(alloc, 0xb0)?);
-    intent.push(Entry::write(1, block(alloc, 0xb1)?));
-    intent.push(Entry::write(2, block(alloc, 0xb2)?));
-    intent.push(Entry::write(3, block(alloc, 0xb3)?));
+    add_writes(alloc, &mut intent, 1, &[(1, 0xb1), (2, 0xb2), (3, 0xb3)])?;
     Ok(intent)
 }
 
@@ -237,26 +262,25 @@ static GROUP_CALLS: [Logged; 12] = [
 
 /// Whether so many calls settle all four at once, by the sync of the gate.
 fn takes_twelve_calls(store: &mut Store<LogDisk<MemDisk>>, intent: Intent) -> bool {
-    if !store.takes(&intent) {
-        return false;
-    }
-    store.give(intent);
-    marks_one(store, &[1, 1, 1, 5, 5, 5, 5, 5, 5, 5, 5, 5]) && is_idle(store)
+    give(store, intent) && marks_one(store, &[1, 1, 1, 5, 5, 5, 5, 5, 5, 5, 5, 5]) && is_idle(store)
 }
 
-/// The calls of a key and of four writes behind it.
-fn calls_of_five(alloc: Global) -> Result<ArrayVec<Logged, 64>, Fail> {
+/// Whether a key and four writes behind it take as many calls as they have to.
+fn takes_both(store: &mut Store<LogDisk<MemDisk>>, four: Intent) -> bool {
+    let first = takes_eight_calls(store);
+    takes_twelve_calls(store, four) && first
+}
+
+/// Whether the calls of the four are those behind the 13 of the opening and the key: 25 in all.
+fn makes_the_calls_of_four(alloc: Global) -> Result<bool, Fail> {
+    let four = four_writes(alloc)?;
     let mut store = fresh(alloc, &[1])?;
-    if !takes_eight_calls(&mut store) || !takes_twelve_calls(&mut store, four_writes(alloc)?) {
-        return Err(Fail::from("other calls"));
-    }
-    Ok(store.into_disk().calls)
+    let taken = takes_both(&mut store, four);
+    Ok(has_made(store, 13, &GROUP_CALLS) && taken)
 }
 
 #[test]
 fn four_writes_take_twelve_calls(rt: HostRuntime) -> Result<(), Fail> {
-    let calls = calls_of_five(rt.alloc())?;
-    assert!(rt; calls.len() == 25);
-    assert!(rt; calls.as_slice().get(13..) == Some(GROUP_CALLS.as_slice()));
+    assert!(rt; makes_the_calls_of_four(rt.alloc())?);
     Ok(())
 }
