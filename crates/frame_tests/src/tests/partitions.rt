@@ -153,7 +153,7 @@ fn step_fails_as_told(
     request: &[Row],
     reply: &[Row],
 ) -> Result<bool, Fail> {
-    let frames = frames_of(request);
+    let frames = frames_of(request, 0);
     bytes_fail_as_told(
         alloc,
         limits,

@@ -2,7 +2,7 @@ use super::descriptors::check_row;
 use super::devices::limits::exchanges_bytes;
 use super::devices::step::{Step, goes_as_told};
 use super::devices::stores;
-use guest_driver::{Driver, DriverFault};
+use guest_driver::{Driver, DriverFault, Reaped};
 use mmio_transport::register::STATUS;
 use mmio_transport::{Device, Job, Published};
 use rpmb_frame::{DriverLayout, GuestConfig, RingKind};
@@ -49,14 +49,14 @@ pub fn offers(pair: &mut Pair, readable: &[u8], room: u32, answer: Offer) -> boo
     pair.driver.offer(&mut pair.device, readable, room) == answer
 }
 
+fn is_of(reaped: &Reaped, id: u16, bytes: &[u8]) -> bool {
+    reaped.id == id && reaped.len as usize == bytes.len() && reaped.bytes.as_slice() == bytes
+}
+
 // Whether the chain of this id comes back next, with these bytes.
 pub fn reaps(pair: &mut Pair, id: u16, bytes: &[u8]) -> bool {
     match pair.driver.reap(&pair.device) {
-        Ok(Some(reaped)) => {
-            reaped.id == id
-                && reaped.len as usize == bytes.len()
-                && reaped.bytes.as_slice() == bytes
-        }
+        Ok(Some(reaped)) => is_of(&reaped, id, bytes),
         _ => false,
     }
 }

@@ -329,10 +329,13 @@ fn put_table(memory: &mut Memory, write: u16) -> bool {
     describe(memory, 20464, (59207, 9, write, 0))
 }
 
+fn put_longest(memory: &mut Memory, write: u16) -> bool {
+    put_ring(memory) && put_table(memory, write)
+}
+
 fn longest(alloc: Global, write: u16) -> Result<Memory, Fail> {
     let mut memory = memory_of(alloc, 65536)?;
-    let stands = put_ring(&mut memory) && put_table(&mut memory, write);
-    check(stands, "the longest chain")?;
+    check(put_longest(&mut memory, write), "the longest chain")?;
     Ok(memory)
 }
 

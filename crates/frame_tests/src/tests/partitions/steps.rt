@@ -43,9 +43,9 @@ fn frame(row: &Row) -> [u8; 512] {
     bytes
 }
 
-/// The frames of a request, and frames of zeros.
-pub fn frames_of(rows: &[Row]) -> [[u8; 512]; 18] {
-    let mut frames = [[0; 512]; 18];
+/// The frames that rows say, and behind them frames of one byte.
+pub fn frames_of(rows: &[Row], behind: u8) -> [[u8; 512]; 18] {
+    let mut frames = [[behind; 512]; 18];
     for (i, row) in rows.iter().take(18).enumerate() {
         frames[i] = frame(row);
     }
@@ -57,18 +57,9 @@ pub fn first_bytes(frames: &[[u8; 512]; 18], count: usize) -> &[u8] {
     frames[..count.min(18)].as_flattened()
 }
 
-/// A reply, and behind it the bytes 0xee that stood there.
-pub fn expected(rows: &[Row]) -> [[u8; 512]; 16] {
-    let mut frames = [[0xee; 512]; 16];
-    for (i, row) in rows.iter().take(16).enumerate() {
-        frames[i] = frame(row);
-    }
-    frames
-}
-
-/// Whether these bytes are a reply, and behind it the bytes 0xee.
+/// Whether these bytes are a reply, and behind it the bytes 0xee that stood there.
 pub fn is_reply(out: &[u8; 8192], rows: &[Row]) -> bool {
-    same(out, expected(rows).as_flattened())
+    same(out, first_bytes(&frames_of(rows, 0xee), 16))
 }
 
 /// The result of a request and the length of its reply, as a guest gets them.
@@ -118,7 +109,7 @@ pub fn take_steps(
         let (Some(request), Some(reply)) = (requests.get(..*asked), replies.get(..*given)) else {
             return Err(Fail::new(format_args!("step {place} lacks frames")));
         };
-        let frames = frames_of(request);
+        let frames = frames_of(request, 0);
         let request = Request::classify(first_bytes(&frames, *asked), *writable, limits);
         if !goes_as_told(partition, &request, &mut last, *code, reply) {
             return Err(Fail::new(format_args!("step {place} goes another way")));

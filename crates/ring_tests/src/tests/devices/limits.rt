@@ -110,11 +110,18 @@ fn job_of(alloc: Global, ranges: Vec<Range>) -> Option<Job> {
     Some(Job::of(alloc, 63, 1, 1, 1, ranges, Vec::new(alloc)))
 }
 
-// The room of what is kept of a job with so many ranges of one byte.
-fn room_kept(alloc: Global, count: usize) -> Option<u64> {
-    let ranges = vec![in alloc; Range { at: 0, len: 1 }; count].ok()?;
+// The room of what is kept of a job with these ranges.
+fn room_of(alloc: Global, ranges: Vec<Range>) -> Option<u64> {
     let kept = job_of(alloc, ranges)?.for_reply(alloc).ok()?;
     Some(kept.writable())
+}
+
+// The room of what is kept of a job with so many ranges of one byte.
+fn room_kept(alloc: Global, count: usize) -> Option<u64> {
+    match vec![in alloc; Range { at: 0, len: 1 }; count] {
+        Ok(ranges) => room_of(alloc, ranges),
+        Err(_) => None,
+    }
 }
 
 // How many ranges a job has.
