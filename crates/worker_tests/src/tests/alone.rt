@@ -1,10 +1,10 @@
 //! What guests are told that are served at once is what each is told by a host that serves one chain at a
 //! time.
 use crate::tests::scene::{
-    Step, board_of, check, formatted, formatted_in_memory, run_on, script_of_steps,
+    Ran, Step, board_of, check, formatted, formatted_in_memory, run_on, script_of_steps,
 };
 use board::Board;
-use disk::{Disk, MemDisk};
+use disk::MemDisk;
 use host::{Answer, Host};
 use rpmb_frame::BoardConfig;
 use std::alloc::Global;
@@ -36,40 +36,8 @@ fn scripts_of(alloc: Global, guests: u8) -> Result<Vec<Script>, Fail> {
     Ok(scripts)
 }
 
-/// Whether an answer has these bytes.
-fn is_told(answer: Option<&Answer>, alone: &[u8]) -> bool {
-    match answer {
-        Some(Answer::Used(reply)) => reply.as_slice() == alone,
-        _ => false,
-    }
-}
-
-/// The host tells the guest the same, one chain after another.
-pub fn check_alone<D: Disk>(
-    host: &mut Host<D>,
-    guest: u16,
-    orders: &[Order],
-    answers: &[Answer],
-) -> Result<(), Fail> {
-    let mut told = 0_usize;
-    for order in orders {
-        match order {
-            Order::Chain(chain) => match host.chain(guest, chain.readable(), chain.writable()) {
-                Ok(Answer::Used(alone)) => {
-                    let same = is_told(answers.get(told), alone.as_slice());
-                    check(same, "another answer than alone")?;
-                    told = told.saturating_add(1);
-                }
-                _ => return Err(Fail::from("no answer alone")),
-            },
-            Order::Reset => check(host.reset(guest).is_ok(), "no such guest")?,
-        }
-    }
-    check(told == answers.len(), "an answer too many")
-}
-
 /// A host on this disk.
-fn host_on<D: Disk>(alloc: Global, disk: D, board: &BoardConfig) -> Result<Host<D>, Fail> {
+fn host_on(alloc: Global, disk: MemDisk, board: &BoardConfig) -> Result<Host<MemDisk>, Fail> {
     match Board::open(alloc, disk, 1, board) {
         Ok(opened) => match Host::new(alloc, opened, board) {
             Ok(host) => Ok(host),
@@ -80,38 +48,112 @@ fn host_on<D: Disk>(alloc: Global, disk: D, board: &BoardConfig) -> Result<Host<
 }
 
 /// A host on a fresh image of so many guests.
-pub fn host_of(alloc: Global, guests: usize) -> Result<Host<MemDisk>, Fail> {
+fn host_of(alloc: Global, guests: usize) -> Result<Host<MemDisk>, Fail> {
     let board = board_of(alloc, guests)?;
     host_on(alloc, formatted_in_memory(alloc, guests)?, &board)
 }
 
-/// The same for each guest, each in turn.
-fn check_each<D: Disk>(
-    host: &mut Host<D>,
-    scripts: &[Script],
-    drivers: &[DriverEnd],
+/// The reply of a host to one chain; none to a reset.
+fn reply_alone(
+    host: &mut Host<MemDisk>,
+    guest: u16,
+    order: &Order,
+) -> Result<Option<Vec<u8>>, Fail> {
+    let Order::Chain(chain) = order else {
+        check(host.reset(guest).is_ok(), "no such guest")?;
+        return Ok(None);
+    };
+    match host.chain(guest, chain.readable(), chain.writable()) {
+        Ok(Answer::Used(reply)) => Ok(Some(reply)),
+        _ => Err(Fail::from("no answer alone")),
+    }
+}
+
+/// What the host tells a guest, one chain after another.
+fn replies_alone(
+    alloc: Global,
+    host: &mut Host<MemDisk>,
+    guest: u16,
+    orders: &[Order],
+) -> Result<Vec<Vec<u8>>, Fail> {
+    let mut replies = Vec::with_capacity(alloc, orders.len())?;
+    for order in orders {
+        if let Some(reply) = reply_alone(host, guest, order)? {
+            replies.push(reply)?;
+        }
+    }
+    Ok(replies)
+}
+
+/// Appends what the host tells a guest.
+fn tell(
+    alloc: Global,
+    host: &mut Host<MemDisk>,
+    guest: u16,
+    orders: &[Order],
+    all: &mut Vec<Vec<Vec<u8>>>,
 ) -> Result<(), Fail> {
-    check(drivers.len() == scripts.len(), "another number of guests")?;
-    for (guest, (script, driver)) in (0..u16::MAX).zip(scripts.iter().zip(drivers.iter())) {
-        check_alone(host, guest, script.orders(), &driver.answers)?;
+    let replies = replies_alone(alloc, host, guest, orders)?;
+    all.push(replies)?;
+    Ok(())
+}
+
+/// The same for all guests, each in turn.
+fn tell_all(
+    alloc: Global,
+    host: &mut Host<MemDisk>,
+    scripts: &[Script],
+    all: &mut Vec<Vec<Vec<u8>>>,
+) -> Result<(), Fail> {
+    for (guest, script) in (0..u16::MAX).zip(scripts.iter()) {
+        tell(alloc, host, guest, script.orders(), all)?;
     }
     Ok(())
 }
 
-/// The guests were told what a host tells each alone.
-fn check_drivers(alloc: Global, scripts: &[Script], drivers: &[DriverEnd]) -> Result<(), Fail> {
+/// What all guests are told alone, by a host on a fresh image.
+pub fn all_alone(alloc: Global, scripts: &[Script]) -> Result<Vec<Vec<Vec<u8>>>, Fail> {
     let mut host = host_of(alloc, scripts.len())?;
-    check_each(&mut host, scripts, drivers)
+    let mut all = Vec::new(alloc);
+    tell_all(alloc, &mut host, scripts, &mut all)?;
+    Ok(all)
+}
+
+/// Whether these are the replies.
+pub fn are_told(answers: &[Answer], replies: &[Vec<u8>]) -> bool {
+    for (answer, reply) in answers.iter().zip(replies.iter()) {
+        match answer {
+            Answer::Used(told) if told.as_slice() == reply.as_slice() => {}
+            _ => return false,
+        }
+    }
+    answers.len() == replies.len()
+}
+
+/// Whether each guest was told what it is told alone.
+pub fn are_all_told(drivers: &[DriverEnd], alone: &[Vec<Vec<u8>>]) -> bool {
+    for (driver, replies) in drivers.iter().zip(alone.iter()) {
+        if !are_told(driver.answers.as_slice(), replies.as_slice()) {
+            return false;
+        }
+    }
+    drivers.len() == alone.len()
+}
+
+/// The guests of a run were told what each is told alone.
+fn check_ran(alloc: Global, ran: &Ran, scripts: &[Script]) -> Result<(), Fail> {
+    ran.check_end()?;
+    let alone = all_alone(alloc, scripts)?;
+    let are_told = are_all_told(&ran.drivers, &alone);
+    check(are_told, "another answer than alone")
 }
 
 /// So many guests are told at once what each is told alone.
 fn are_told_alike<R: Threads + Wait + Sync>(rt: &R, alloc: Global, guests: u8) -> Result<(), Fail> {
     let scripts = scripts_of(alloc, guests)?;
     let disk = formatted(alloc, scripts.len())?;
-    match run_on(rt, alloc, disk, &scripts, &Open)? {
-        Ok(ended) => check_drivers(alloc, &scripts, &ended.drivers),
-        Err(_) => Err(Fail::from("a fault")),
-    }
+    let ran = run_on(rt, alloc, disk, &scripts, &Open)?;
+    check_ran(alloc, &ran, &scripts)
 }
 
 #[test]

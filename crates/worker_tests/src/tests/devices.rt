@@ -1,8 +1,6 @@
 //! Devices that stand in the place of a board's own: with less memory, with another guest's number, or with a queue
 //! that somebody else has made ready.
-use crate::tests::scene::{board_of, formatted, opened, run_of};
-use disk::CutDisk;
-use host::HostFault;
+use crate::tests::scene::{Ran, board_of, formatted, looked_at, opened, run_of};
 use mmio_transport::Device;
 use mmio_transport::feature::VERSION_1;
 use mmio_transport::register::{
@@ -15,7 +13,7 @@ use std::mem;
 use std::sync::Wait;
 use std::test::Fail;
 use std::thread::Threads;
-use workers::{Ended, Gate, Script};
+use workers::{Gate, Script};
 
 /// A descriptor (`struct virtq_desc`, VIRTIO 1.2, 2.7.5).
 pub fn descriptor(addr: u64, len: u32, flags: u16, next: u16) -> [u8; 16] {
@@ -75,10 +73,11 @@ pub fn run_beside<G: Gate + Sync, R: Threads + Wait + Sync>(
     scripts: &[Script],
     gate: &G,
     k: u64,
-) -> Result<Result<Ended<CutDisk>, HostFault>, Fail> {
+) -> Result<Ran, Fail> {
     let board = board_of(alloc, scripts.len())?;
     let mut parts = opened(alloc, formatted(alloc, scripts.len())?, &board)?;
     replace(&mut parts.devices, others);
     parts.store.fail(k);
-    run_of(rt, alloc, parts, &board, scripts, gate)
+    let outcome = run_of(rt, alloc, parts, &board, scripts, gate)?;
+    Ok(looked_at(alloc, outcome))
 }

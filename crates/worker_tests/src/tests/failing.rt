@@ -1,15 +1,15 @@
 //! Guests that are served at once, over a disk of which a call fails.
 use crate::tests::asking::write_of;
+use crate::tests::devices::run_beside;
 use crate::tests::scene::{
-    KEY, Step, chain, check, get_write_counter, program_key, run_failing, tail_of, two_scripts,
+    KEY, Ran, Step, chain, check, get_write_counter, program_key, tail_of, two_scripts,
 };
-use disk::Disk;
 use host::Answer;
 use std::alloc::Global;
 use std::sync::Wait;
 use std::test::Fail;
 use std::thread::Threads;
-use workers::{DriverEnd, Ended, Script};
+use workers::{DriverEnd, Open, Script};
 
 /// The tail of a failure reply.
 fn failure_of(kind: u8, code: u8) -> [u8; 12] {
@@ -40,12 +40,23 @@ fn check_answers(driver: &DriverEnd, broken: bool) -> Result<(), Fail> {
 }
 
 /// Each of two guests has its two answers. Whether a call failed.
-fn has_broken<D: Disk>(ended: &Ended<D>) -> Result<bool, Fail> {
-    check(ended.book.submit_turns() == 4, "another number of turns")?;
-    for driver in ended.drivers.iter() {
-        check_answers(driver, ended.broken)?;
+fn has_broken(ran: &Ran) -> Result<bool, Fail> {
+    ran.check_end()?;
+    check(ran.turns == 4, "another number of turns")?;
+    for driver in ran.drivers.iter() {
+        check_answers(driver, ran.broken)?;
     }
-    Ok(ended.broken)
+    Ok(ran.broken)
+}
+
+/// A run of two guests on a fresh image, whose k-th call after the opening fails.
+fn run_failing<R: Threads + Wait + Sync>(
+    rt: &R,
+    alloc: Global,
+    k: u64,
+    scripts: &[Script; 2],
+) -> Result<Ran, Fail> {
+    run_beside(rt, alloc, &mut [], scripts, &Open, k)
 }
 
 /// A run of two guests, each with a reset between its two chains, of which the k-th call fails: each guest has its
@@ -53,10 +64,8 @@ fn has_broken<D: Disk>(ended: &Ended<D>) -> Result<bool, Fail> {
 fn breaks_at<R: Threads + Wait + Sync>(rt: &R, alloc: Global, k: u64) -> Result<bool, Fail> {
     let steps = [Step::Key, Step::Reset, Step::Counter(1)];
     let scripts = two_scripts(alloc, &steps, &steps)?;
-    match run_failing(rt, alloc, k, &scripts)? {
-        Ok(ended) => has_broken(&ended),
-        Err(_) => Err(Fail::from("a fault")),
-    }
+    let ran = run_failing(rt, alloc, k, &scripts)?;
+    has_broken(&ran)
 }
 
 /// Runs of which one of ten calls fails, from this one on; whether each of them has to meet its failure.
@@ -156,13 +165,14 @@ fn has_failed(answers: &[Answer]) -> Result<bool, Fail> {
 }
 
 /// Each of two guests that write has right answers, and failures only where a call failed. Whether one did.
-fn have_broken<D: Disk>(ended: &Ended<D>) -> Result<bool, Fail> {
-    check(ended.book.submit_turns() == 20, "another number of turns")?;
-    for driver in ended.drivers.iter() {
+fn have_broken(ran: &Ran) -> Result<bool, Fail> {
+    ran.check_end()?;
+    check(ran.turns == 20, "another number of turns")?;
+    for driver in ran.drivers.iter() {
         let failed = has_failed(&driver.answers)?;
-        check(ended.broken || !failed, "a failure without a failed call")?;
+        check(ran.broken || !failed, "a failure without a failed call")?;
     }
-    Ok(ended.broken)
+    Ok(ran.broken)
 }
 
 /// The scripts of two guests that write.
@@ -175,10 +185,8 @@ fn scripts_of_writes(alloc: Global) -> Result<[Script; 2], Fail> {
 /// A run of two guests that write, of which the k-th call fails. Whether a call failed.
 fn writes_break_at<R: Threads + Wait + Sync>(rt: &R, alloc: Global, k: u64) -> Result<bool, Fail> {
     let scripts = scripts_of_writes(alloc)?;
-    match run_failing(rt, alloc, k, &scripts)? {
-        Ok(ended) => have_broken(&ended),
-        Err(_) => Err(Fail::from("a fault")),
-    }
+    let ran = run_failing(rt, alloc, k, &scripts)?;
+    have_broken(&ran)
 }
 
 /// Ten runs of which one call fails, each of which meets its failure.

@@ -1,7 +1,7 @@
 //! Faults of several threads at once: the lowest-numbered guest's is answered.
 use crate::tests::devices::run_beside;
 use crate::tests::full::{script_of_reads, scripts_of};
-use crate::tests::scene::{Step, chain, check, fault_of, result_read, two_scripts};
+use crate::tests::scene::{Step, chain, check, result_read, two_scripts};
 use host::HostFault;
 use mmio_transport::Device;
 use rpmb_frame::GuestConfig;
@@ -40,7 +40,8 @@ fn fault_beside<G: Gate + Sync, R: Threads + Wait + Sync>(
 ) -> Result<Option<HostFault>, Fail> {
     let scripts = two_scripts(alloc, &[Step::Key], &[Step::Key])?;
     let mut others = [None, Some(device)];
-    Ok(fault_of(run_beside(rt, alloc, &mut others, &scripts, gate, k)?))
+    let ran = run_beside(rt, alloc, &mut others, &scripts, gate, k)?;
+    Ok(ran.fault)
 }
 
 #[test]
@@ -115,8 +116,8 @@ fn run_late<R: Threads + Wait + Clock + Sync>(
     };
     let scripts = late_scripts(alloc, driver)?;
     let mut others = late_devices(alloc, driver)?;
-    let fault = fault_of(run_beside(rt, alloc, &mut others, &scripts, &gate, 0)?);
-    Ok((fault, gate.popped.load(Ordering::SeqCst)))
+    let ran = run_beside(rt, alloc, &mut others, &scripts, &gate, 0)?;
+    Ok((ran.fault, gate.popped.load(Ordering::SeqCst)))
 }
 
 /// Such runs, until in one both came to a fault: that one ends with this.
@@ -273,10 +274,10 @@ fn fault_of_both<R: Threads + Wait + Clock + Sync>(
     };
     let scripts = filling_scripts(alloc, full)?;
     let mut others = beside_full(alloc, full)?;
-    let fault = fault_of(run_beside(rt, alloc, &mut others, &scripts, &gate, 0)?);
+    let ran = run_beside(rt, alloc, &mut others, &scripts, &gate, 0)?;
     let late = gate.late.load(Ordering::SeqCst);
     check(!late, "a worker was held in vain")?;
-    Ok(fault)
+    Ok(ran.fault)
 }
 
 #[test]

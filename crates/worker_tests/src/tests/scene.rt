@@ -13,7 +13,7 @@ use std::alloc::Global;
 use std::sync::Wait;
 use std::test::Fail;
 use std::thread::Threads;
-use workers::{Chain, Ended, Gate, Open, Order, Script, parts_of, serve};
+use workers::{Chain, DriverEnd, Ended, Gate, Order, Script, Served, parts_of, serve};
 
 pub const KEY: [u8; 32] = [0x11; 32];
 
@@ -167,8 +167,61 @@ pub fn run_of<D: Disk + Send + Drop, G: Gate + Sync, R: Threads + Wait + Sync>(
     Ok(serve(rt, alloc, parts, board, scripts, gate))
 }
 
-/// A run of these scripts, one a guest, on an image of as many guests.
-pub fn run_on<D: Disk + Send + Drop, G: Gate + Sync, R: Threads + Wait + Sync>(
+/// What is looked at of a run. All else that a run leaves is let go at once, since it is dear to prove that it
+/// goes.
+#[derive(Drop)]
+pub struct Ran {
+    /// The fault that it ended with, where it did; all else is nothing then.
+    pub fault: Option<HostFault>,
+    /// Whether a call of the disk has failed.
+    pub broken: bool,
+    /// How many requests were answered.
+    pub turns: u64,
+    /// What the guests' workers left.
+    pub served: Vec<Served>,
+    /// What became of the guests' chains.
+    pub drivers: Vec<DriverEnd>,
+}
+
+impl Ran {
+    /// Fails where the run ended with a fault.
+    pub fn check_end(&self) -> Result<(), Fail> {
+        check(self.fault.is_none(), "a fault")
+    }
+}
+
+/// What is looked at of an outcome.
+pub fn looked_at<D: Disk + Drop>(alloc: Global, outcome: Result<Ended<D>, HostFault>) -> Ran {
+    match outcome {
+        Ok(ended) => {
+            let Ended {
+                book,
+                served,
+                drivers,
+                shares: _,
+                store: _,
+                broken,
+            } = ended;
+            Ran {
+                fault: None,
+                broken,
+                turns: book.submit_turns(),
+                served,
+                drivers,
+            }
+        }
+        Err(fault) => Ran {
+            fault: Some(fault),
+            broken: false,
+            turns: 0,
+            served: Vec::new(alloc),
+            drivers: Vec::new(alloc),
+        },
+    }
+}
+
+/// What a run of these scripts comes to, one a guest, on an image of as many guests.
+pub fn outcome_on<D: Disk + Send + Drop, G: Gate + Sync, R: Threads + Wait + Sync>(
     rt: &R,
     alloc: Global,
     disk: D,
@@ -180,25 +233,16 @@ pub fn run_on<D: Disk + Send + Drop, G: Gate + Sync, R: Threads + Wait + Sync>(
     run_of(rt, alloc, parts, &board, scripts, gate)
 }
 
-/// The same, on a fresh image whose k-th call after the opening fails.
-pub fn run_failing<R: Threads + Wait + Sync>(
+/// A run of these scripts, one a guest, on an image of as many guests.
+pub fn run_on<D: Disk + Send + Drop, G: Gate + Sync, R: Threads + Wait + Sync>(
     rt: &R,
     alloc: Global,
-    k: u64,
+    disk: D,
     scripts: &[Script],
-) -> Result<Result<Ended<CutDisk>, HostFault>, Fail> {
-    let board = board_of(alloc, scripts.len())?;
-    let mut parts = opened(alloc, formatted(alloc, scripts.len())?, &board)?;
-    parts.store.fail(k);
-    run_of(rt, alloc, parts, &board, scripts, &Open)
-}
-
-/// The fault that a run ended with, where it did.
-pub fn fault_of<D: Disk + Drop>(outcome: Result<Ended<D>, HostFault>) -> Option<HostFault> {
-    match outcome {
-        Ok(_) => None,
-        Err(fault) => Some(fault),
-    }
+    gate: &G,
+) -> Result<Ran, Fail> {
+    let outcome = outcome_on(rt, alloc, disk, scripts, gate)?;
+    Ok(looked_at(alloc, outcome))
 }
 
 /// The last twelve bytes of a reply: write counter, address, block count, result and type.

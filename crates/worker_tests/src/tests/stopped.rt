@@ -1,9 +1,8 @@
 //! A guest whose device has stopped, beside others that go on.
-use crate::tests::alone::{check_alone, host_of, script_of};
+use crate::tests::alone::{all_alone, are_told, script_of};
 use crate::tests::devices::{descriptor, run_beside, with_queue};
-use crate::tests::scene::{KEY, Step, check, get_write_counter, script_of_steps};
-use disk::Disk;
-use host::{Answer, Host, Stuck};
+use crate::tests::scene::{KEY, Ran, Step, check, get_write_counter, script_of_steps};
+use host::{Answer, Stuck};
 use mmio_transport::Device;
 use mmio_transport::register::STATUS;
 use rpmb_frame::GuestConfig;
@@ -11,7 +10,7 @@ use std::alloc::Global;
 use std::sync::Wait;
 use std::test::Fail;
 use std::thread::Threads;
-use workers::{DriverEnd, Ended, Open, Order, Script};
+use workers::{DriverEnd, Open, Script};
 
 /// Where the device finds its queue: behind all that the driver uses.
 const BASE: u32 = 0x8_0000;
@@ -76,46 +75,33 @@ fn check_stuck(answers: &[Answer], stuck: Stuck) -> Result<(), Fail> {
     check(answers.len() == 5, "another number of answers")
 }
 
-/// Behind its reset, a guest that was stuck is told what it is told alone.
-fn check_behind_reset<D: Disk>(
-    host: &mut Host<D>,
-    orders: &[Order],
-    answers: &[Answer],
-) -> Result<(), Fail> {
-    match (orders.get(4..), answers.get(3..)) {
-        (Some(orders), Some(answers)) => check_alone(host, 1, orders, answers),
-        _ => Err(Fail::from("nothing behind the reset")),
-    }
-}
-
-/// Guest 1 is stuck until its reset; all else is what each guest is told alone by this host.
-fn check_told<D: Disk>(
-    host: &mut Host<D>,
-    drivers: &[DriverEnd],
-    scripts: &[Script; 3],
-    stuck: Stuck,
-) -> Result<(), Fail> {
-    let [first, second, third] = drivers else {
+/// Guest 1 is stuck until its reset; all else is what each guest is told alone.
+fn check_told(drivers: &[DriverEnd], alone: &[Vec<Vec<u8>>], stuck: Stuck) -> Result<(), Fail> {
+    let ([first, second, third], [one, two, three]) = (drivers, alone) else {
         return Err(Fail::from("another number of guests"));
     };
-    check_alone(host, 0, scripts[0].orders(), &first.answers)?;
-    check_alone(host, 2, scripts[2].orders(), &third.answers)?;
     check_stuck(&second.answers, stuck)?;
-    check_behind_reset(host, scripts[1].orders(), &second.answers)
+    let behind = second.answers.get(3..).unwrap_or(&[]);
+    check(
+        are_told(&first.answers, one) && are_told(behind, two) && are_told(&third.answers, three),
+        "another answer than alone",
+    )
+}
+
+/// What the guests are told alone, guest 1 behind its reset.
+fn told_alone(alloc: Global) -> Result<Vec<Vec<Vec<u8>>>, Fail> {
+    let first = script_of(alloc, 0)?;
+    let second = script_of_steps(alloc, &KEY, &[Step::Key, Step::Counter(3)])?;
+    let third = script_of(alloc, 2)?;
+    all_alone(alloc, &[first, second, third])
 }
 
 /// The same of what a run left, in which so many requests were answered.
-fn check_ended<D: Disk>(
-    alloc: Global,
-    ended: &Ended<D>,
-    scripts: &[Script; 3],
-    stuck: Stuck,
-    submits: u64,
-) -> Result<(), Fail> {
-    let turns = ended.book.submit_turns();
-    check(turns == submits, "another number of turns")?;
-    let mut host = host_of(alloc, 3)?;
-    check_told(&mut host, &ended.drivers, scripts, stuck)
+fn check_ran(alloc: Global, ran: &Ran, stuck: Stuck, turns: u64) -> Result<(), Fail> {
+    ran.check_end()?;
+    check(ran.turns == turns, "another number of turns")?;
+    let alone = told_alone(alloc)?;
+    check_told(&ran.drivers, &alone, stuck)
 }
 
 /// The scripts of three guests, of which guest 1 resets its device behind its third chain.
@@ -137,10 +123,8 @@ fn is_stuck<R: Threads + Wait + Sync>(
 ) -> Result<(), Fail> {
     let scripts = scripts_of(alloc)?;
     let mut others = [None, Some(device), None];
-    match run_beside(rt, alloc, &mut others, &scripts, &Open, 0)? {
-        Ok(ended) => check_ended(alloc, &ended, &scripts, stuck, submits.saturating_add(14)),
-        Err(_) => Err(Fail::from("a fault")),
-    }
+    let ran = run_beside(rt, alloc, &mut others, &scripts, &Open, 0)?;
+    check_ran(alloc, &ran, stuck, submits.saturating_add(14))
 }
 
 #[test]

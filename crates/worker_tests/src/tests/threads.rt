@@ -1,7 +1,7 @@
 //! Guests that are served at once: what threads do beside each other, and what a run of them leaves.
 use crate::tests::gates::{HoldsOne, HoldsTillSync, TURNS, WaitsInSync, Watch};
 use crate::tests::scene::{
-    KEY, Step, check, fault_of, formatted, get_write_counter, program_key, run_on, tail_of,
+    KEY, Step, check, formatted, get_write_counter, outcome_on, program_key, run_on, tail_of,
     two_scripts,
 };
 use disk::{CutDisk, Disk, HookDisk};
@@ -17,8 +17,7 @@ fn run_held<R: Threads + Wait + Sync>(rt: &R, alloc: Global, held: u16) -> Resul
     let gate = HoldsOne::new(held, TURNS);
     let scripts = two_scripts(alloc, &[Step::Counter(1)], &[Step::Counter(1)])?;
     let disk = formatted(alloc, 2)?;
-    let fault = fault_of(run_on(rt, alloc, disk, &scripts, &gate)?);
-    check(fault.is_none(), "a fault")?;
+    run_on(rt, alloc, disk, &scripts, &gate)?.check_end()?;
     check(!gate.is_late(), "a guest was held in vain")
 }
 
@@ -34,8 +33,7 @@ fn workers_run_beside_a_sync(rt: HostRuntime) -> Result<(), Fail> {
     let watch = Watch::new(TURNS);
     let scripts = two_scripts(alloc, &[Step::Key], &[Step::Counter(1)])?;
     let disk = HookDisk::new(formatted(alloc, 2)?, WaitsInSync(&watch));
-    let fault = fault_of(run_on(&rt, alloc, disk, &scripts, &HoldsTillSync(&watch))?);
-    check(fault.is_none(), "a fault")?;
+    run_on(&rt, alloc, disk, &scripts, &HoldsTillSync(&watch))?.check_end()?;
     check(!watch.is_late(), "the sync was held in vain")
 }
 
@@ -117,9 +115,9 @@ fn check_all_replies(drivers: &[DriverEnd]) -> Result<(), &'static str> {
 }
 
 /// A run came to its end, with two guests served.
-fn check_outcome<D: Disk + Drop>(outcome: Result<Ended<D>, HostFault>) -> Result<(), &'static str> {
+fn check_outcome<D: Disk>(outcome: &Result<Ended<D>, HostFault>) -> Result<(), &'static str> {
     match outcome {
-        Ok(ended) => check_ended(&ended),
+        Ok(ended) => check_ended(ended),
         Err(_) => Err("a fault"),
     }
 }
@@ -131,20 +129,29 @@ fn outcome_of<R: Threads + Wait + Sync>(
     steps: &[Step],
 ) -> Result<Result<Ended<CutDisk>, HostFault>, Fail> {
     let scripts = two_scripts(alloc, steps, steps)?;
-    run_on(rt, alloc, formatted(alloc, 2)?, &scripts, &Open)
+    outcome_on(rt, alloc, formatted(alloc, 2)?, &scripts, &Open)
+}
+
+/// What such a run lacks to one in which two guests are served.
+fn checked<R: Threads + Wait + Sync>(
+    rt: &R,
+    alloc: Global,
+    steps: &[Step],
+) -> Result<Result<(), &'static str>, Fail> {
+    let outcome = outcome_of(rt, alloc, steps)?;
+    Ok(check_outcome(&outcome))
 }
 
 #[test]
 fn two_guests_each_with_a_key_and_a_counter(rt: HostRuntime) -> Result<(), Fail> {
-    let outcome = outcome_of(&rt, rt.alloc(), &[Step::Key, Step::Counter(1)])?;
-    check_outcome(outcome).map_err(Fail::from)
+    checked(&rt, rt.alloc(), &[Step::Key, Step::Counter(1)])?.map_err(Fail::from)
 }
 
 /// A run that serves nobody, and one that always wants memory, don't pass for it.
 #[test]
 fn runs_that_serve_nobody_are_caught(rt: HostRuntime) -> Result<(), Fail> {
-    let nothing = outcome_of(&rt, rt.alloc(), &[])?;
-    check(check_outcome(nothing).is_err(), "a run of nothing passed")?;
+    let nothing = checked(&rt, rt.alloc(), &[])?;
+    check(nothing.is_err(), "a run of nothing passed")?;
     let refused: Result<Ended<CutDisk>, HostFault> = Err(HostFault::NoMemory);
-    check(check_outcome(refused).is_err(), "want of memory passed")
+    check(check_outcome(&refused).is_err(), "want of memory passed")
 }
