@@ -85,24 +85,38 @@ fn replies_alone(
     Ok(replies)
 }
 
+/// Appends what the host tells a guest.
+fn tell(
+    alloc: Global,
+    host: &mut Host<MemDisk>,
+    guest: u16,
+    orders: &[Order],
+    all: &mut Vec<Vec<Vec<u8>>>,
+) -> Result<(), Fail> {
+    let replies = replies_alone(alloc, host, guest, orders)?;
+    all.push(replies)?;
+    Ok(())
+}
+
 /// The same for all guests, each in turn.
-fn all_told(
+fn tell_all(
     alloc: Global,
     host: &mut Host<MemDisk>,
     scripts: &[Script],
-) -> Result<Vec<Vec<Vec<u8>>>, Fail> {
-    let mut all = Vec::with_capacity(alloc, scripts.len())?;
+    all: &mut Vec<Vec<Vec<u8>>>,
+) -> Result<(), Fail> {
     for (guest, script) in (0..u16::MAX).zip(scripts.iter()) {
-        let replies = replies_alone(alloc, host, guest, script.orders())?;
-        all.push(replies)?;
+        tell(alloc, host, guest, script.orders(), all)?;
     }
-    Ok(all)
+    Ok(())
 }
 
 /// What all guests are told alone, by a host on a fresh image.
 pub fn all_alone(alloc: Global, scripts: &[Script]) -> Result<Vec<Vec<Vec<u8>>>, Fail> {
     let mut host = host_of(alloc, scripts.len())?;
-    all_told(alloc, &mut host, scripts)
+    let mut all = Vec::new(alloc);
+    tell_all(alloc, &mut host, scripts, &mut all)?;
+    Ok(all)
 }
 
 /// Whether these are the replies.
@@ -116,23 +130,22 @@ pub fn are_told(answers: &[Answer], replies: &[Vec<u8>]) -> bool {
     answers.len() == replies.len()
 }
 
-/// Each guest was told what it is told alone.
-fn check_told(drivers: &[DriverEnd], alone: &[Vec<Vec<u8>>]) -> Result<(), Fail> {
-    check(drivers.len() == alone.len(), "another number of guests")?;
+/// Whether each guest was told what it is told alone.
+pub fn are_all_told(drivers: &[DriverEnd], alone: &[Vec<Vec<u8>>]) -> bool {
     for (driver, replies) in drivers.iter().zip(alone.iter()) {
-        check(
-            are_told(&driver.answers, replies),
-            "another answer than alone",
-        )?;
+        if !are_told(driver.answers.as_slice(), replies.as_slice()) {
+            return false;
+        }
     }
-    Ok(())
+    drivers.len() == alone.len()
 }
 
 /// The guests of a run were told what each is told alone.
 fn check_ran(alloc: Global, ran: &Ran, scripts: &[Script]) -> Result<(), Fail> {
     ran.check_end()?;
     let alone = all_alone(alloc, scripts)?;
-    check_told(&ran.drivers, &alone)
+    let are_told = are_all_told(&ran.drivers, &alone);
+    check(are_told, "another answer than alone")
 }
 
 /// So many guests are told at once what each is told alone.
