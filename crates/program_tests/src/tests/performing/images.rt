@@ -123,8 +123,8 @@ const SHUT_LISTING: &[Piece] = &[
     ("\n", 1),
 ];
 
-/// Keys, counters and blocks, what a gate that is open leads to, and what all lines of a run leave.
-static LISTED: [Turn; 4] = [
+/// Keys, counters and blocks, what a gate that is open leads to, and what all lines leave, run or served.
+static LISTED: [Turn; 5] = [
     Turn {
         capacities: TWO,
         image: Image::With(TWO, KEYED),
@@ -143,6 +143,11 @@ static LISTED: [Turn; 4] = [
     },
     Turn {
         image: Image::Ran,
+        prints: Prints::Text(ALL_LISTED),
+        ..SHOWN
+    },
+    Turn {
+        image: Image::Served,
         prints: Prints::Text(ALL_LISTED),
         ..SHOWN
     },

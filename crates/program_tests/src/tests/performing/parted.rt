@@ -1,9 +1,10 @@
-//! Lines that are run in two parts, one run after another over one disk.
+//! Lines that are run in two parts, one run after another over one disk, and lines that are served.
 
 use super::lines::{ALL, Part, WHOLE, script_of, told_by};
 use super::turns::left_at;
-use super::{ONE, RUN, Told, content_of, fresh};
+use super::{ONE, RUN, SERVE, Told, content_of, fresh};
 use crate::tests::cases::Runtime;
+use command_line::Command;
 use std::alloc::Global;
 use std::test::Fail;
 
@@ -13,15 +14,16 @@ fn is_told(alloc: Global, told: &Told, part: Part) -> Result<bool, Fail> {
     Ok(told.is(out.as_str(), ""))
 }
 
-/// Runs a script of these lines over a content, and gives what it leaves, if it prints what is wanted.
+/// Performs a script of these lines over a content, and gives what it leaves, if it prints what is wanted.
 fn run_script<R: Runtime>(
     rt: &R,
     alloc: Global,
+    command: Command<'_>,
     part: Part,
     script: &str,
     content: &[u8],
 ) -> Result<Vec<u8>, Fail> {
-    let (told, disk) = left_at(rt, alloc, RUN, ONE, script, content, 0)?;
+    let (told, disk) = left_at(rt, alloc, command, ONE, script, content, 0)?;
     if is_told(alloc, &told, part)? {
         content_of(alloc, disk.as_ref())
     } else {
@@ -29,27 +31,44 @@ fn run_script<R: Runtime>(
     }
 }
 
-/// Runs these lines over a content, and gives what they leave, if they print what is wanted.
+/// Performs these lines over a content, and gives what they leave, if they print what is wanted.
 fn run_part<R: Runtime>(
     rt: &R,
     alloc: Global,
+    command: Command<'_>,
     part: Part,
     content: &[u8],
 ) -> Result<Vec<u8>, Fail> {
     let script = script_of(alloc, part, ("", 0))?;
-    run_script(rt, alloc, part, script.as_str(), content)
+    run_script(rt, alloc, command, part, script.as_str(), content)
 }
 
 /// What all lines leave, parted at a place into two runs over one disk.
 fn run_parted<R: Runtime>(rt: &R, alloc: Global, at: usize, image: &[u8]) -> Result<Vec<u8>, Fail> {
-    let before = run_part(rt, alloc, Part { to: at, ..WHOLE }, image)?;
-    run_part(rt, alloc, Part { from: at, ..WHOLE }, before.as_slice())
+    let before = run_part(rt, alloc, RUN, Part { to: at, ..WHOLE }, image)?;
+    run_part(
+        rt,
+        alloc,
+        RUN,
+        Part { from: at, ..WHOLE },
+        before.as_slice(),
+    )
+}
+
+/// What all lines leave, performed at once.
+fn left_by_all<R: Runtime>(rt: &R, alloc: Global, command: Command<'_>) -> Result<Vec<u8>, Fail> {
+    let image = fresh(rt, alloc, ONE)?;
+    run_part(rt, alloc, command, WHOLE, image.as_slice())
 }
 
 /// What all lines leave in one run.
 pub fn run_whole<R: Runtime>(rt: &R, alloc: Global) -> Result<Vec<u8>, Fail> {
-    let image = fresh(rt, alloc, ONE)?;
-    run_part(rt, alloc, WHOLE, image.as_slice())
+    left_by_all(rt, alloc, RUN)
+}
+
+/// What all lines leave that are served.
+pub fn serve_whole<R: Runtime>(rt: &R, alloc: Global) -> Result<Vec<u8>, Fail> {
+    left_by_all(rt, alloc, SERVE)
 }
 
 /// Whether all lines, parted at this place, leave the same as in one run.

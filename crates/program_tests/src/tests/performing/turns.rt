@@ -1,7 +1,7 @@
 //! A command on a disk, with what it is to tell and to leave.
 
 use super::lines::{ALL, Part, script_of};
-use super::parted::run_whole;
+use super::parted::{run_whole, serve_whole};
 use super::{Left, ONE, RUN, Told, board_of, failing_disk, fresh, performed};
 use crate::tests::cases::Runtime;
 use crate::tests::texts::{Piece, is_text};
@@ -28,6 +28,8 @@ pub enum Image {
     Bytes(u8, usize),
     /// What a run of all lines leaves.
     Ran,
+    /// What all lines leave that are served.
+    Served,
 }
 
 /// Puts bytes over those from a place on.
@@ -60,6 +62,7 @@ impl Image {
             }
             Image::Bytes(byte, length) => Ok(vec![in alloc; byte; length]?),
             Image::Ran => run_whole(rt, alloc),
+            Image::Served => serve_whole(rt, alloc),
         }
     }
 }
