@@ -1,80 +1,71 @@
 -- What one more turn does to the fields of a book.
-use Rattle.std.proofs.Common.{◌≡◌, ◌≢◌, ◌<◌, ◌≤◌, ℕ, zero, suc, ◌+◌, Bool, false, List, [], ◌∷◌, ◌++◌, Option, Some, None, length, set, refl, ap, sym, ◌∙◌, subst, arith, get_or}
+use Rattle.std.proofs.Common.{◌≡◌, ◌≢◌, ◌<◌, ◌≤◌, ℕ, zero, suc, ◌+◌, Bool, true, false, List, [], ◌∷◌, ◌++◌, Option, Some, None, length, set, refl, ap, sym, ◌∙◌, subst, arith, get_or}
 use Rattle.std.specs.Prelude.{slice_get, if◌then◌else◌, count_by}
-use Rattle.std.specs.List.{AllByRecursion}
 use Rattle.std.proofs.lemmas.Bool.Decides.{nat_tests}
 use Rattle.std.proofs.lemmas.List.Sums.{sum_by_push}
 use Rattle.std.proofs.lemmas.Option.{slice_get_read}
 use Rattle.mmio_transport.specs.Job.{Job}
 use Rattle.rpmb_book.specs.Job.{Tally}
-use Rattle.rpmb_book.specs.Guest.{GuestState, fresh}
+use Rattle.rpmb_book.specs.Guest.{GuestState}
 use Rattle.rpmb_book.specs.Turn.{Turn, State, after_turn, IsRight, is_break, is_submit, update}
 use Rattle.rpmb_book.specs.Replay.{replay}
 use Rattle.rpmb_book.specs.History.{HistoryView, settles_in, is_settle}
 use Rattle.rpmb_book.specs.Book.{refusal_at}
-use Rattle.rpmb_book.specs.Kept.{IsRecorded, IsFresh}
-use Rattle.rpmb_book.proofs.Places.{set-update, total}
+use Rattle.rpmb_book.specs.Kept.{IsRecorded, IsTallied}
+use Rattle.rpmb_book.specs.Due.{total, due, unsettled, submits_of}
+use Rattle.rpmb_book.proofs.AskedLemmas.{answered_total}
+use Rattle.rpmb_book.proofs.Places.{set-update}
 use Rattle.rpmb_book.proofs.Replay.{replay-push, legal-push}
-use Rattle.rpmb_book.specs.Sound.{IsSoundGuest}
-use Rattle.rpmb_book.proofs.Room.{IsOpening, Fits, due, unsettled, submits_of, fits, sound, turn_pays, one_if, one_if_le}
+use Rattle.rpmb_book.proofs.Bounding.{most_due}
+use Rattle.rpmb_book.proofs.Room.{Fits, fits, length-replay, sound, turn_pays, one_if, one_if_le}
 
-fresh_guests_open : (gs : List GuestState) → AllByRecursion (λ g. g ≡ fresh g.core.limits g.core.partition) gs
-    → (total due gs ≡ 0) × (total unsettled gs ≡ 0) × (total submits_of gs ≡ 0) × AllByRecursion IsSoundGuest gs
-fresh_guests_open [] all = (refl, refl, refl, tt)
-fresh_guests_open (g ∷ gs) all =
-    let rest = fresh_guests_open gs all.1 in
-    let clean = fresh g.core.limits g.core.partition in
-    let quiet : IsSoundGuest clean = (omega arith, omega arith) in
-    (omega (arith, ap due all.0, rest.0), omega (arith, ap unsettled all.0, rest.1), omega (arith, ap submits_of all.0, rest.2), (subst IsSoundGuest (sym all.0) quiet, rest.3))
-
-pub opens : (s : State) → IsFresh s → IsOpening s
-opens s all =
-    let open_ = fresh_guests_open s.guests all.guests in
-    record { calm = open_.0; settled = open_.1; uncounted = open_.2; sound = open_.3 }
+-- what a history may still use
+pub kept_most : (o : State) (h : HistoryView) (gs : List GuestState) (broken : Bool) (n : ℕ) → IsRecorded o h gs broken n → (total due o.guests ≤ 12288) × (total unsettled o.guests ≤ 4096)
+kept_most o h gs broken n kept = most_due o kept.begins.sound kept.begins.bounded (omega (arith, kept.narrow, ap length kept.guests_are, length-replay o h.turns))
 
 pub kept_fits : (o : State) (h : HistoryView) (gs : List GuestState) (broken : Bool) (n : ℕ) → IsRecorded o h gs broken n → Fits o h.turns
-kept_fits o h gs broken n kept = fits o h.turns (opens o kept.begins).sound kept.legal
+kept_fits o h gs broken n kept = fits o h.turns kept.begins.sound kept.legal
 
 -- at most one turn is a Break
 one_break : (o : State) (ts : List Turn) → Fits o ts → count_by is_break ts ≤ 1
 one_break o ts f = omega (arith, f.breaks, one_if_le (replay o ts).broken)
 
 -- and none, where a Break may come
-no_break : (o : State) (ts : List Turn) → o.broken ≡ false → Fits o ts → (replay o ts).broken ≡ false → count_by is_break ts ≡ 0
-no_break o ts whole f right = omega (arith, f.breaks, ap one_if right)
+no_break : (o : State) (ts : List Turn) → Fits o ts → (replay o ts).broken ≡ false → count_by is_break ts ≡ 0
+no_break o ts f right = omega (arith, f.breaks, ap one_if right)
 
 -- there is room for the turn of a job that isn't refused
-pub room_for_submit : (o : State) (h : HistoryView) (gs : List GuestState) (broken : Bool) (n : ℕ) → IsRecorded o h gs broken n → n ≢ 16384 → length h.turns < 65537
+pub room_for_submit : (o : State) (h : HistoryView) (gs : List GuestState) (broken : Bool) (n : ℕ) → IsRecorded o h gs broken n → n < 16384 → length h.turns < 77825
 room_for_submit o h gs broken n kept more =
     let f = kept_fits o h gs broken n kept in
-    omega (arith, f.turns, (opens o kept.begins).calm, kept.counted, kept.few, one_break o h.turns f)
+    omega (arith, f.turns, (kept_most o h gs broken n kept).0, kept.counted, more, one_break o h.turns f)
 
 -- and for any other that is right
 pub room_for : (o : State) (h : HistoryView) (gs : List GuestState) (broken : Bool) (n : ℕ) → IsRecorded o h gs broken n → (t : Turn) → IsRight (replay o h.turns) t → is_submit t ≡ false → is_break t ≡ false
-    → (length h.turns < 65537) × (settles_in h.turns + one_if (is_settle t) ≤ 16384)
+    → (length h.turns < 77825) × (settles_in h.turns + one_if (is_settle t) ≤ 20480)
 room_for o h gs broken n kept t right other lasts =
     let f = kept_fits o h gs broken n kept in
-    let open_ = opens o kept.begins in
-    let pays = turn_pays (replay o h.turns) t (sound o h.turns open_.sound kept.legal) right in
+    let most = kept_most o h gs broken n kept in
+    let pays = turn_pays (replay o h.turns) t (sound o h.turns kept.begins.sound kept.legal) right in
     let none : one_if (is_submit t) ≡ 0 = ap one_if other in
-    (omega (arith, f.turns, open_.calm, kept.counted, kept.few, pays.turn, none, one_break o h.turns f, ap one_if lasts), omega (arith, f.marks, open_.settled, kept.counted, kept.few, pays.marks, none))
+    (omega (arith, f.turns, most.0, kept.counted, kept.few, pays.turn, none, one_break o h.turns f, ap one_if lasts), omega (arith, f.marks, most.1, kept.counted, kept.few, pays.marks, none))
 
 -- there is room for a Break
-pub room_for_break : (o : State) (h : HistoryView) (gs : List GuestState) (broken : Bool) (n : ℕ) → IsRecorded o h gs broken n → (replay o h.turns).broken ≡ false → length h.turns < 65537
+pub room_for_break : (o : State) (h : HistoryView) (gs : List GuestState) (broken : Bool) (n : ℕ) → IsRecorded o h gs broken n → (replay o h.turns).broken ≡ false → length h.turns < 77825
 room_for_break o h gs broken n kept right =
     let f = kept_fits o h gs broken n kept in
-    omega (arith, f.turns, (opens o kept.begins).calm, kept.counted, kept.few, no_break o h.turns kept.begins.whole f right)
+    omega (arith, f.turns, (kept_most o h gs broken n kept).0, kept.counted, kept.few, no_break o h.turns f right)
 
 -- no guest made more Submits than the history holds
-each_le : (gs : List GuestState) (k : ℕ) (g : GuestState) → slice_get gs k ≡ Some g → g.submits ≤ total submits_of gs
+pub each_le : (gs : List GuestState) (k : ℕ) (g : GuestState) → slice_get gs k ≡ Some g → g.submits ≤ total submits_of gs
 each_le [] k g is = absurd (cc)
 each_le (x ∷ xs) zero g is = (let same : x ≡ g = cc in omega (arith, ap submits_of same))
 each_le (x ∷ xs) (suc k) g is = omega (arith, each_le xs k g is)
 
-pub few_submits : (o : State) (h : HistoryView) (gs : List GuestState) (broken : Bool) (n k : ℕ) (g : GuestState) → IsRecorded o h gs broken n → slice_get (replay o h.turns).guests k ≡ Some g → g.submits ≤ 16384
-few_submits o h gs broken n k g kept at =
+pub few_submits : (o : State) (h : HistoryView) (gs : List GuestState) (broken : Bool) (n k c m : ℕ) (g : GuestState) → IsRecorded o h gs broken n → IsTallied o n c m → slice_get (replay o h.turns).guests k ≡ Some g → g.submits ≤ c
+few_submits o h gs broken n k c m g kept counts at =
     let f = kept_fits o h gs broken n kept in
-    omega (arith, f.count, (opens o kept.begins).uncounted, kept.counted, kept.few, each_le (replay o h.turns).guests k g at)
+    omega (arith, f.count, kept.counted, counts.all, answered_total o.guests, each_le (replay o h.turns).guests k g at)
 
 pub kept_turn : (o : State) (h : HistoryView) (gs : List GuestState) (broken : Bool) (n : ℕ) → IsRecorded o h gs broken n
     → (t : Turn) → IsRight (replay o h.turns) t
@@ -94,12 +85,14 @@ kept_turn o h gs broken n kept t right gs' guests long broken' breaks n' counted
       counted = counted ∙ ap (λ k. k + one_if (is_submit t)) kept.counted ∙ sym (sum_by_push (λ u. if is_submit u then 1 else 0) h.turns t);
       few = few;
       wide = kept.wide ∙ sym long;
+      narrow = omega (arith, kept.narrow, long);
     })
 
 -- what a job that isn't refused tells
-pub not_refused : (standing : ℕ) (tally : Tally) (job : Job) (o : Option GuestState) → refusal_at standing tally job o ≡ None → (g : GuestState) × (o ≡ Some g) × (tally.count ≡ g.submits) × (standing ≢ 16384)
-not_refused standing tally job None is = absurd (cc)
-not_refused standing tally job (Some g) is = (g, refl, grind (arith, nat_tests), grind (arith, nat_tests))
+pub not_refused : (full : Bool) (tally : Tally) (job : Job) (o : Option GuestState) → refusal_at full tally job o ≡ None → (g : GuestState) × (o ≡ Some g) × (tally.count ≡ g.submits) × (full ≡ false) × (length g.held ≢ 64)
+not_refused full tally job None is = absurd (cc)
+not_refused true tally job (Some g) is = absurd (grind (arith, nat_tests))
+not_refused false tally job (Some g) is = (g, refl, grind (arith, nat_tests), refl, grind (arith, nat_tests))
 
 -- the guest that was read is the one that the state has there
 pub known : (gs vs : List GuestState) (at m : ℕ) (v : GuestState) → vs ≡ gs → at ≡ m → at < length vs → v ≡ get_or vs at v → slice_get gs m ≡ Some v

@@ -3,6 +3,7 @@ pub mod Places
 pub mod Replay
 pub mod Turns
 pub mod Room
+pub mod Bounding
 pub mod Kept
 pub mod Submitting
 pub mod Settling
@@ -20,3 +21,10 @@ pub mod AskedLemmas
 pub mod Marking
 pub mod Breaking
 pub mod ByGuest
+pub mod SameCounts
+pub mod Rolling
+pub mod FoldingOne
+pub mod Allowing
+pub mod Leaving
+pub mod Once
+pub mod EntryLemmas

@@ -1,5 +1,5 @@
 -- One more guest of an opening.
-use Rattle.std.proofs.Common.{◌≡◌, ◌<◌, ℕ, zero, suc, ◌+◌, List, [], ◌∷◌, ◌++◌, length, map, take, drop, false, refl, ap, ap₂, sym, ◌∙◌, arith, get_or, add-one, subst}
+use Rattle.std.proofs.Common.{◌≡◌, ◌<◌, ◌≤◌, ℕ, zero, suc, ◌+◌, List, [], ◌∷◌, ◌++◌, length, map, take, drop, false, refl, ap, ap₂, sym, ◌∙◌, arith, get_or, add-one, subst}
 use Rattle.std.specs.List.{AllByRecursion}
 use Rattle.std.proofs.lemmas.List.{take_more, length-map, get_or-drop, drop-drop}
 use Rattle.rpmb_frame.specs.Limits.{Limits, limits_of}
@@ -10,8 +10,11 @@ use Rattle.rpmb_book.specs.Guest.{GuestState, fresh}
 use Rattle.rpmb_book.specs.Opening.{tallies_from}
 use Rattle.rpmb_book.specs.Replay.{fresh_guests}
 use Rattle.rpmb_book.specs.History.{HistoryView}
-use Rattle.rpmb_book.specs.Kept.{IsRecorded}
-use Rattle.rpmb_book.specs.Sound.{IsStorable}
+use Rattle.rpmb_book.specs.Asked.{answered_in}
+use Rattle.rpmb_book.specs.Bounded.{IsBoundedGuest}
+use Rattle.rpmb_book.specs.Due.{total, due}
+use Rattle.rpmb_book.specs.Kept.{IsOpening, IsRecorded, IsTallied}
+use Rattle.rpmb_book.specs.Sound.{IsReady, IsSoundGuest, IsStorable}
 use Rattle.rpmb_book.proofs.OnBoard.{opens_on_board}
 use Rattle.rpmb_frame.specs.Config.{IsGuest}
 use Rattle.std.specs.Prelude.{All}
@@ -74,10 +77,30 @@ held_more ps i p lt read so_far here =
     let more : take (i + 1) ps ≡ take i ps ++ p ∷ [] = take_more ps i p lt ∙ ap (λ x. take i ps ++ x ∷ []) (sym read) in
     subst (AllByRecursion IsStorable) (sym more) (held_push (take i ps) p so_far here)
 
-pub all_fresh : (gs : List GuestConfig) (ps : List Partition) → AllByRecursion (λ g. g ≡ fresh g.core.limits g.core.partition) (fresh_guests gs ps)
-all_fresh [] ps = tt
-all_fresh (g ∷ gs) [] = tt
-all_fresh (g ∷ gs) (p ∷ ps) = (refl, all_fresh gs ps)
+-- guests of whom nothing was asked
+opens : (gs : List GuestConfig) (ps : List Partition) → IsOpening (record { guests = fresh_guests gs ps; broken = false })
+opens gs ps = record { sound = quiet gs ps; ready = ready_all gs ps; bounded = few gs ps }
+  where
+    quiet : (gs : List GuestConfig) (ps : List Partition) → AllByRecursion IsSoundGuest (fresh_guests gs ps)
+    quiet [] ps = tt
+    quiet (g ∷ gs) [] = tt
+    quiet (g ∷ gs) (p ∷ ps) = ((omega arith, omega arith), quiet gs ps)
+
+    ready_all : (gs : List GuestConfig) (ps : List Partition) → AllByRecursion IsReady (fresh_guests gs ps)
+    ready_all [] ps = tt
+    ready_all (g ∷ gs) [] = tt
+    ready_all (g ∷ gs) (p ∷ ps) = (tt, ready_all gs ps)
+
+    few : (gs : List GuestConfig) (ps : List Partition) → AllByRecursion (IsBoundedGuest false) (fresh_guests gs ps)
+    few [] ps = tt
+    few (g ∷ gs) [] = tt
+    few (g ∷ gs) (p ∷ ps) = (record { held = omega arith; unsettled = omega arith; climbs = omega arith }, few gs ps)
+
+-- and nothing is counted of them
+uncounted : (gs : List GuestConfig) (ps : List Partition) → (answered_in (fresh_guests gs ps) ≡ 0) × (total due (fresh_guests gs ps) ≡ 0)
+uncounted [] ps = (refl, refl)
+uncounted (g ∷ gs) [] = (refl, refl)
+uncounted (g ∷ gs) (p ∷ ps) = let rest = uncounted gs ps in (omega (arith, rest.0), omega (arith, rest.1))
 
 pub length-fresh_guests : (gs : List GuestConfig) (ps : List Partition) → length ps ≡ length gs → length (fresh_guests gs ps) ≡ length gs
 length-fresh_guests [] ps same = refl
@@ -86,16 +109,23 @@ length-fresh_guests (g ∷ gs) (p ∷ ps) same = ap suc (length-fresh_guests gs 
 
 -- a book that was opened on these partitions
 pub kept_opening : (config : List GuestConfig) (ps : List Partition) (opening guests : List GuestState) (h : HistoryView) → map (λ p. p.capacity) ps ≡ map (λ g. g.capacity) config
-    → All IsGuest config → AllByRecursion IsStorable ps → opening ≡ fresh_guests config ps → guests ≡ fresh_guests config ps → h ≡ record { guests = length config; turns = [] } → IsRecorded (record { guests = opening; broken = false }) h guests false 0
-kept_opening config ps opening guests h same board held is is' h_is =
+    → All IsGuest config → length config ≤ 64 → AllByRecursion IsStorable ps → opening ≡ fresh_guests config ps → guests ≡ fresh_guests config ps → h ≡ record { guests = length config; turns = [] }
+    → IsRecorded (record { guests = opening; broken = false }) h guests false 0 × IsTallied (record { guests = opening; broken = false }) 0 0 0
+kept_opening config ps opening guests h same board narrow held is is' h_is =
+    let none = uncounted config ps in
     let many : length ps ≡ length config = sym (length-map ps (λ p. p.capacity)) ∙ ap length same ∙ length-map config (λ g. g.capacity) in
-    rw (is, is', h_is) (record {
-      guests_are = refl;
-      legal = tt;
-      begins = record { guests = all_fresh config ps; whole = refl };
-      broken_is = refl;
-      of_board = opens_on_board config ps board held same;
-      counted = refl;
-      few = omega arith;
-      wide = sym (length-fresh_guests config ps many);
-    })
+    let many_guests = length-fresh_guests config ps many in
+    rw (is, is', h_is) (
+      record {
+        guests_are = refl;
+        legal = tt;
+        begins = opens config ps;
+        broken_is = refl;
+        of_board = opens_on_board config ps board held same;
+        counted = refl;
+        few = omega arith;
+        wide = sym many_guests;
+        narrow = omega (arith, narrow, many_guests);
+      },
+      record { all = omega (arith, none.0); small = omega arith; turns = omega (arith, none.0, none.1) },
+    )

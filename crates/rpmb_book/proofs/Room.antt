@@ -1,5 +1,5 @@
 -- The history has room for each turn that may still come: four for each Submit.
-use Rattle.std.proofs.Common.{◌≡◌, ◌<◌, ◌≤◌, ℕ, zero, suc, ◌+◌, ◌-◌, ◌*◌, Bool, true, false, List, [], ◌∷◌, Option, Some, None, length, drop, take, refl, ap, ◌∙◌, arith, length-append, length-drop, inl, inr}
+use Rattle.std.proofs.Common.{◌≡◌, ◌<◌, ◌≤◌, ℕ, zero, suc, ◌+◌, ◌*◌, Bool, true, false, List, [], ◌∷◌, Option, Some, None, length, drop, take, refl, ap, ◌∙◌, arith, length-append, length-drop, inl, inr}
 use Rattle.std.specs.Prelude.{IsSome, map, if◌then◌else◌, ◌==◌, ◌&&◌, ◌||◌, ◌⊎◌, nat_le, nat_lt, count_by}
 use Rattle.std.specs.List.{AllByRecursion}
 use Rattle.std.proofs.lemmas.List.{length-map}
@@ -15,25 +15,8 @@ use Rattle.rpmb_book.specs.Turn.{Turn, Submit, Take, Settle, Collect, Break, Sta
 use Rattle.rpmb_book.specs.Sound.{IsSoundGuest, IsSound}
 use Rattle.rpmb_book.specs.Replay.{replay, IsLegal}
 use Rattle.rpmb_book.specs.History.{is_settle}
-use Rattle.rpmb_book.proofs.Places.{total, total-update, all_at, all-update}
-
--- how many accepted requests aren't settled
-abbrev pub unsettled : GuestState → ℕ
-unsettled g = sequence g.core.partition - g.settled
-
--- how many turns may still come for this guest
-abbrev pub due : GuestState → ℕ
-due g = length g.held + length g.waiting + unsettled g
-
-abbrev pub submits_of : GuestState → ℕ
-submits_of g = g.submits
-
--- a state from which a history may begin
-pub record IsOpening (s : State) : Type 0 where
-  pub calm : total due s.guests ≡ 0
-  pub settled : total unsettled s.guests ≡ 0
-  pub uncounted : total submits_of s.guests ≡ 0
-  pub sound : IsSound s
+use Rattle.rpmb_book.specs.Due.{total, due, unsettled, submits_of}
+use Rattle.rpmb_book.proofs.Places.{length-update, total-update, all_at, all-update}
 
 -- the first of a list and the others are as many as all
 pub length-parts : {X : Type 0} (k : ℕ) (xs : List X) → length (take k xs) + length (drop k xs) ≡ length xs
@@ -42,7 +25,7 @@ length-parts (suc k) [] = omega arith
 length-parts (suc k) (x ∷ xs) = (let rest = length-parts k xs in omega (arith, rest))
 
 -- the test of a Bool, with the equation
-by_test : {P : Type 0} (b : Bool) → (b ≡ true → P) → (b ≡ false → P) → P
+pub by_test : {P : Type 0} (b : Bool) → (b ≡ true → P) → (b ≡ false → P) → P
 by_test true f g = f refl
 by_test false f g = g refl
 
@@ -63,7 +46,7 @@ entry_some c job is = rw is refl
 pub entry_none : (c : GuestCore) (job : Job) → accepts c job ≡ false → entry c job ≡ None
 entry_none c job is = rw is refl
 
-submit_joins : (broken : Bool) (job : Job) (g : GuestState) → (by : ℕ) × (by ≤ 1) × Joins g (submitted broken job g) by
+pub submit_joins : (broken : Bool) (job : Job) (g : GuestState) → (by : ℕ) × (by ≤ 1) × Joins g (submitted broken job g) by
 submit_joins true job g = (0, omega arith, record { long = omega arith; later = omega arith })
 submit_joins false job g =
     by_test (accepts g.core job)
@@ -269,3 +252,23 @@ fits s (t ∷ ts) sound legal =
 pub sound : (s : State) (ts : List Turn) → IsSound s → IsLegal s ts → IsSound (replay s ts)
 sound s [] first legal = first
 sound s (t ∷ ts) first legal = sound (after_turn s t) ts (turn_sound s t first legal.0) legal.1
+
+length-settled : (gs : List GuestState) (ms : List ℕ) → length (settled_all gs ms) ≡ length gs
+length-settled [] ms = refl
+length-settled (g ∷ gs) [] = refl
+length-settled (g ∷ gs) (m ∷ ms) = ap suc (length-settled gs ms)
+
+length-break : (broken : Bool) (s : State) → length (after_break broken s).guests ≡ length s.guests
+length-break true s = refl
+length-break false s = length-map s.guests broken_off
+
+pub length-turn : (s : State) (t : Turn) → length (after_turn s t).guests ≡ length s.guests
+length-turn s (Submit w) = length-update s.guests w.job.guest (submitted s.broken w.job)
+length-turn s (Take n) = length-update s.guests n took
+length-turn s (Settle marks) = length-settled s.guests marks
+length-turn s (Collect n) = length-update s.guests n collected
+length-turn s Break = length-break s.broken s
+
+pub length-replay : (s : State) (ts : List Turn) → length (replay s ts).guests ≡ length s.guests
+length-replay s [] = refl
+length-replay s (t ∷ ts) = length-replay (after_turn s t) ts ∙ length-turn s t

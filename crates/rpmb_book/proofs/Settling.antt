@@ -33,5 +33,5 @@ pub written_back : (n : ℕ) (new old : List GuestState) → n ≡ length old �
 written_back n new old n_is same =
     ap (λ (r : List GuestState). take n (new ++ r)) (drop_all (length new) old (omega (arith, same))) ∙ ap (take n) (append-nil new) ∙ take_all n new (omega (arith, n_is, same))
 
-pub guests_shown : (life : ℕ) (o : State) (h : HistoryView) (gs : List GuestState) (broken : Bool) (n : ℕ) (v : BookView) → IsRecorded o h gs broken n → shown life o h ≡ v → gs ≡ (state v).guests
-guests_shown life o h gs broken n v kept is = kept.guests_are ∙ ap (λ b. (state b).guests) is
+pub guests_shown : (name : ℕ × ℕ) (o : State) (h : HistoryView) (gs : List GuestState) (broken : Bool) (n : ℕ) (v : BookView) → IsRecorded o h gs broken n → shown name o h ≡ v → gs ≡ (state v).guests
+guests_shown name o h gs broken n v kept is = kept.guests_are ∙ ap (λ b. (state b).guests) is

@@ -115,10 +115,10 @@ pushed_marks g rs new ms more ns long wide is is' =
     record { turns = ap₂ (turns_of g) is is' ∙ p.0; many = ap length is' ∙ p.1 ∙ ap (marks_in g) (sym is) }
 
 -- there is room for one Settle more
-pub room_for_settle : (g : ℕ) (rs : List TurnRecord) (ms : List ℕ) (capacity : ℕ) → length ms ≡ marks_in g rs → settles_in (turns_of g rs ms) < 16384 → 16384 * g ≤ capacity → length ms + g ≤ capacity
+pub room_for_settle : (g : ℕ) (rs : List TurnRecord) (ms : List ℕ) (capacity : ℕ) → length ms ≡ marks_in g rs → settles_in (turns_of g rs ms) < 20480 → 20480 * g ≤ capacity → length ms + g ≤ capacity
 room_for_settle g rs ms capacity long below room =
     let n = settles_in (turns_of g rs ms) in
     let marks : length ms ≡ g * n = long ∙ marks_of_settles g rs ms in
     let more : g * (n + 1) ≡ g * n + g * 1 = mul-add g n 1 in
-    let most : g * (n + 1) ≤ g * 16384 = mul-le-mul_left g (omega arith) in
-    omega (arith, marks, more, most, mul-one g, mul_comm g 16384)
+    let most : g * (n + 1) ≤ g * 20480 = mul-le-mul_left g (omega arith) in
+    omega (arith, marks, more, most, mul-one g, mul_comm g 20480)

@@ -1,5 +1,5 @@
 -- A history as it lies in memory: the marks of all Settle turns stand in one list, so many for each as there are guests.
-use Rattle.std.specs.Prelude.{ℕ, ◌≡◌, ◌≤◌, ◌+◌, ◌*◌, Bool, true, false, List, [], ◌∷◌, length, take, drop, count_by}
+use Rattle.std.specs.Prelude.{ℕ, ◌≡◌, ◌≤◌, ◌+◌, ◌*◌, Bool, true, false, Option, Some, None, List, [], ◌∷◌, length, take, drop, count_by}
 use Rattle.rpmb_book.specs.Turn.{Turn, Submit, Take, Settle, Collect, Break}
 use Rattle.rpmb_book.specs.declared.history.TurnRecord.{TurnRecord}
 use Rattle.rpmb_book.specs.declared.history.TurnRecord.TheVariants as kept
@@ -53,8 +53,17 @@ has_marks kept.Settle = true
 has_marks (kept.Collect n) = false
 has_marks kept.Break = false
 
--- each Settle has its marks, and there is room for 65,537 turns, 16,384 of which may be Settles
+-- the guest of the first Submit among records
+abbrev pub first_in : List TurnRecord → Option ℕ
+first_in [] = None
+first_in (kept.Submit w ∷ rs) = Some w.job.guest
+first_in (kept.Take n ∷ rs) = first_in rs
+first_in (kept.Settle ∷ rs) = first_in rs
+first_in (kept.Collect n ∷ rs) = first_in rs
+first_in (kept.Break ∷ rs) = first_in rs
+
+-- each Settle has its marks, and there is room for 77,825 turns, 20,480 of which may be Settles
 pub record IsKeptHistory (guests : ℕ) (records : List TurnRecord) (marks : List ℕ) (capacity marks_capacity : ℕ) : Type 0 where
   pub many : length marks ≡ marks_in guests records
-  pub room : 65537 ≤ capacity
-  pub room_for_marks : 16384 * guests ≤ marks_capacity
+  pub room : 77825 ≤ capacity
+  pub room_for_marks : 20480 * guests ≤ marks_capacity

@@ -5,8 +5,17 @@ pub mod Marks
 pub mod Replay
 pub mod ByGuest
 pub mod Planned
+pub mod GuestPlanned
+pub mod Entries
 pub mod History
+pub mod Asked
+pub mod Left
 pub mod Book
+pub mod Fold
+pub mod Folding
+pub mod Allowed
+pub mod Due
+pub mod Bounded
 pub mod Sound
 pub mod Given
 pub mod Kept
@@ -14,4 +23,3 @@ pub mod Receipt
 pub mod Opening
 pub mod Isolation
 pub mod Outcome
-pub mod Asked

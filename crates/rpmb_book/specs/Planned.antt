@@ -1,8 +1,9 @@
 -- What stands before a job is answered.
-use Rattle.std.specs.Prelude.{◌≡◌, ◌≤◌, true, length}
-use Rattle.rpmb_core.specs.Reply.{reply_length}
+use Rattle.std.specs.Prelude.{◌≡◌, ◌≤◌, ◌<◌, true, length}
+use Rattle.rpmb_core.specs.Reply.{failure_kind, reply_length}
 use Rattle.mmio_transport.specs.Job.{Job, room_of}
-use Rattle.rpmb_book.specs.Guest.{GuestCore, request_of, verdict_of, accepts, blocks_in}
+use Rattle.rpmb_book.specs.Guest.{GuestCore, request_of, verdict_of, accepts, answer_when, blocks_in}
+use Rattle.rpmb_book.specs.declared.guest_core.Failure.{Failure}
 use Rattle.rpmb_book.specs.declared.guest_core.Plan.{Plan}
 
 -- the verdict is found, and all memory of the answer is there
@@ -13,3 +14,11 @@ pub record IsPlanned (c : GuestCore) (job : Job) (p : Plan) : Type 0 where
   pub fits : length p.reply.items ≤ room_of job
   pub copy : length p.copy.items ≡ reply_length (request_of c job).command (request_of c job).writable p.code
   pub blocks : accepts c job ≡ true → p.blocks.items ≡ blocks_in (request_of c job).command
+
+-- the failure reply is made, twice
+pub record IsFailure (c : GuestCore) (job : Job) (f : Failure) : Type 0 where
+  pub reply : f.reply.items ≡ answer_when true c job
+  pub fits : length f.reply.items ≤ room_of job
+  pub frames : 0 < length f.reply.items → 512 ≤ length f.reply.items
+  pub copy : f.copy.items ≡ answer_when true c job
+  pub kind : f.kind ≡ failure_kind (request_of c job).command

@@ -3,7 +3,7 @@ use Rattle.std.specs.Prelude.{ℕ, zero, suc, ◌≡◌, ◌<◌, ◌&&◌, ◌|
 use Rattle.std.specs.Option.{ForSome}
 use Rattle.mmio_transport.specs.Job.{Job}
 use Rattle.rpmb_book.specs.Job.{Submission}
-use Rattle.rpmb_book.specs.Guest.{GuestState, submitted, took, settled_at, collected, broken_off, first_due, first_intent, answer_when}
+use Rattle.rpmb_book.specs.Guest.{GuestState, submitted, took, settled_at, collected, broken_off, first_due, first_intent, answer_when, code_when}
 
 pub data Turn : Type 0 where
   -- a job was answered
@@ -53,6 +53,14 @@ answer_from broken job (Some g) = answer_when broken g.core job
 abbrev pub answer_of : State → Job → List ℕ
 answer_of s job = answer_from s.broken job (slice_get s.guests job.guest)
 
+abbrev pub code_from : Bool → Job → Option GuestState → ℕ
+code_from broken job None = 0
+code_from broken job (Some g) = code_when broken g.core job
+
+-- what is made of a job now
+abbrev pub made_of : State → Job → Submission
+made_of s job = record { job = job; reply = answer_of s job; code = code_from s.broken job (slice_get s.guests job.guest) }
+
 -- no mark is above what was taken
 abbrev pub are_within : List GuestState → List ℕ → Bool
 are_within [] marks = true
@@ -67,7 +75,8 @@ move_some (g ∷ gs) (m ∷ ms) = nat_lt g.settled m || move_some gs ms
 
 -- the turn is one that the book makes in that state, with the answer that it gives there
 abbrev pub IsRight : State → Turn → Type 0
-IsRight s (Submit w) = (w.job.guest < length s.guests) × (w.reply ≡ answer_of s w.job)
+IsRight s (Submit w) =
+    (w.job.guest < length s.guests) × (w ≡ made_of s w.job) × ForSome (slice_get s.guests w.job.guest) (λ g. length g.held < 64)
 IsRight s (Take n) = ForSome (slice_get s.guests n) (λ g. IsSome (first_intent n g)) × (n < length s.guests)
 IsRight s (Settle marks) = (length marks ≡ length s.guests) × (are_within s.guests marks ≡ true) × (move_some s.guests marks ≡ true)
 IsRight s (Collect n) = ForSome (slice_get s.guests n) (λ g. IsSome (first_due g.settled g.held)) × (n < length s.guests)

@@ -1,17 +1,22 @@
-ghost use Rattle.std.specs.Prelude.{◌≡◌, ◌≤◌, ◌+◌, ◌<◌, ℕ, List, [], IfOk, IfErr, OnOk, OnErr, None, Some, if◌then◌else◌, unwrap_or, option_map, map, length};
+ghost use Rattle.std.specs.Prelude.{◌≡◌, ◌≤◌, ◌+◌, ◌<◌, ◌-◌, ℕ, List, [], IfOk, IfErr, OnOk, OnErr, None, Some, if◌then◌else◌, true, unwrap_or, option_map, map, length, slice_get};
 ghost use Rattle.rpmb_frame.specs.Partition.{sequence};
 ghost use Rattle.rpmb_book.specs.Opening.{tallies_from};
 ghost use Rattle.rpmb_book.specs.Replay.{opened, IsLegal};
-ghost use Rattle.rpmb_book.specs.Book.{BookView, state, guest_of, submits_in, with_turn, submit_of, refusal, is_share, is_taken, take_answer, after_take, next_intent, share_moved, are_taken, settle_answer, after_settle, after_break_off, due_of, after_collect, found_by};
-ghost use Rattle.rpmb_book.specs.Guest.{broken_off};
-ghost use Rattle.std.specs.Option.{option_copied};
+ghost use Rattle.rpmb_book.specs.Book.{BookView, state, guest_of, counted_in, is_full, with_turn, submit_of, refusal, is_share, is_taken, take_answer, after_take, next_intent, share_moved, are_taken, settle_answer, after_settle, after_break_off, due_of, after_collect, found_by};
+ghost use Rattle.rpmb_book.specs.Left.{is_collected, first_left};
+ghost use Rattle.rpmb_book.specs.Fold.{after_submit, folded, roomy};
+ghost use Rattle.rpmb_book.specs.Folding.{folded_first, first_may_go};
+ghost use Rattle.rpmb_book.specs.GuestPlanned.{IsGuestPlanned, is_failure};
+ghost use Rattle.rpmb_book.specs.Allowed.{IsAllowed};
+ghost use Rattle.std.specs.Option.{ForSome, option_copied};
 ghost use Rattle.rpmb_book.specs.Asked.{answered_in};
-ghost use Rattle.rpmb_book.specs.Kept.{IsFresh};
+ghost use Rattle.rpmb_book.specs.Kept.{IsOpening};
 ghost use Rattle.rpmb_book.specs.Sound.{AreOfBoard, AreReady, IsSound};
 ghost use Rattle.rpmb_book.specs.Receipt.{turn_seen, submission_seen};
 
-use crate::guest_state::GuestState;
-use crate::history::{History, TurnRecord};
+use crate::folding::break_all;
+use crate::guest_state::{GuestPlan, GuestState};
+use crate::history::{First, History, TurnRecord};
 use crate::marks::{are_within, move_some, settle_each};
 use crate::opening::{copied_guests, guests, sequences, tallies};
 use crate::receipt::{Receipt, TurnView};
@@ -31,30 +36,39 @@ const HELD: usize = 64;
 /// How many Submits a history may hold.
 const SUBMITS: u64 = 16_384;
 
-/// What all guests asked and were answered. Contracts see its life, its opening and its history; the
-/// state is the replay of the history on the opening.
+/// How many Submits a book may answer in one life.
+const COUNTED: u64 = u64::MAX;
+
+/// What all guests asked and were answered. Contracts see its life, how many turns were folded, the
+/// opening after those, and the history since; the state is the replay of the history on the opening.
 #[derive(Drop)]
 pub struct Book {
     life: u64,
     opening: Vec<GuestState>,
+    /// Whether the store had broken at the opening.
+    begun_broken: bool,
     guests: Vec<GuestState>,
     broken: bool,
+    /// How many Submits stand in the history.
     submits: u64,
+    /// How many Submits were answered, folded ones too.
+    counted: u64,
+    /// How many turns were folded into the opening.
+    folded: u128,
     history: History,
     /// Where a reply is built: no request has to clear or make it.
     reply: Box<[u8; 8192]>,
 }
 
 impl Model for Book {
-    ghost use Rattle.std.specs.Prelude.{false};
     ghost use Rattle.rpmb_book.specs.Book.{BookView};
-    ghost use Rattle.rpmb_book.specs.Kept.{IsRecorded};
+    ghost use Rattle.rpmb_book.specs.Kept.{IsRecorded, IsTallied};
 
     ghost Value = { BookView };
 
-    ghost view = { λ b. record { life = b.life; opening = record { guests = b.opening.items; broken = false }; history = b.history.turns } };
+    ghost view = { λ b. record { life = b.life; folded = b.folded; opening = record { guests = b.opening.items; broken = b.begun_broken }; history = b.history.turns } };
 
-    ghost invariant = { λ b. IsRecorded (record { guests = b.opening.items; broken = false }) b.history b.guests.items b.broken b.submits };
+    ghost invariant = { λ b. IsRecorded (record { guests = b.opening.items; broken = b.begun_broken }) b.history b.guests.items b.broken b.submits × IsTallied (record { guests = b.opening.items; broken = b.begun_broken }) b.submits b.counted b.folded };
 }
 
 impl Book {
@@ -67,7 +81,7 @@ impl Book {
         partitions: Vec<Partition>,
     ) -> Result<(Book, Vec<Tally>, Shares), NoMemory>
         requires { map (λ p. p.capacity) partitions.items ≡ map (λ g. g.capacity) config.now }
-        ensures book { IfOk result (λ r. r.0 ≡ record { life = life; opening = opened config.now partitions.items; history = [] }) }
+        ensures book { IfOk result (λ r. r.0 ≡ record { life = life; folded = 0; opening = opened config.now partitions.items; history = [] }) }
         ensures tallies { IfOk result (λ r. r.1.items ≡ tallies_from 0 (length config.now)) }
         ensures shares { IfOk result (λ r. r.2 ≡ map sequence partitions.items) }
     {
@@ -81,13 +95,48 @@ impl Book {
         let book = Book {
             life,
             opening,
+            begun_broken: false,
             guests,
             broken: false,
             submits: 0,
+            counted: 0,
+            folded: 0,
             history,
             reply,
         };
         Ok((book, tallies, Shares::of(sequences)))
+    }
+
+    /// Whether the history has no place for a Submit, even after a fold.
+    #[tactic(auto, unfolding(crate::specs::Book::is_full))]
+    fn is_full(&self) -> bool
+        ensures { result ≡ is_full self.now }
+    {
+        (self.submits == SUBMITS && !self.is_first_collected()) || self.counted == COUNTED
+    }
+
+    /// Whether the first Submit of the history was collected.
+    fn is_first_collected(&self) -> bool
+        ensures { result ≡ first_left (state self.now) self.now.opening self.now.history }
+    {
+        match self.history.first_submit() {
+            None => false,
+            Some(guest) => self.is_collected(guest),
+        }
+    }
+
+    /// Whether the reply to the first Submit of this guest since the opening has left.
+    fn is_collected(&self, guest: u16) -> bool
+        ensures { result ≡ is_collected (slice_get self.now.opening.guests guest) (guest_of self.now guest) }
+    {
+        let at = usize::from(guest);
+        let Some(then) = self.opening.get(at) else {
+            return false;
+        };
+        let Some(now) = self.guests.get(at) else {
+            return false;
+        };
+        then.submits() < now.submits().saturating_sub(now.held_len() as u64)
     }
 
     /// Why a job is refused, whatever memory there is; None where it is not.
@@ -103,27 +152,30 @@ impl Book {
         if guest.held_len() == HELD {
             return Some(Refused::Busy);
         }
-        if self.submits == SUBMITS {
+        if self.is_full() {
             return Some(Refused::HistoryFull);
         }
         None
     }
 
-    /// Answers a job: the partition, the stored outcome and the waiting intents change as its request
-    /// says, and its reply is held until its need is settled. A broken book accepts nothing: the reply
-    /// is a failure, which may leave at once, and nothing else changes. A refusal gives the job back and changes
-    /// nothing. It is the first of these that applies: `Foreign` where the book lacks the job's guest,
-    /// or the tally isn't of that guest, or not its count of Submits; `Busy` where the guest has 64
-    /// held replies; `HistoryFull` where 16,384 Submits stand; `NoMemory`.
+    /// Answers a job: the partition, the stored outcome and what waits for the store change as its
+    /// request says, and its reply is held until its need is settled. A broken book accepts nothing: the
+    /// reply is a failure, which may leave at once, and nothing else changes. Where 16,384 Submits stand,
+    /// the history rolls first: the opening becomes the state after the longest beginning in which every
+    /// Submit was collected, and that beginning goes. A refusal gives the job back and changes nothing. It
+    /// is the first of these that applies: `Foreign` where the book lacks the job's guest, or the tally
+    /// isn't of that guest, or not its count of Submits; `Busy` where the guest has 64 held replies;
+    /// `HistoryFull` where 16,384 Submits stand and the first of them wasn't collected, or where 2^64 - 1
+    /// were counted in this life; `NoMemory`.
     pub fn submit(
         &mut self,
         alloc: Global,
         tally: &mut Tally,
         job: Job,
     ) -> Result<Receipt, (Job, Refused)>
-        ensures made { OnOk result (self.new ≡ with_turn self.old (submit_of self.old job)) }
+        ensures made { OnOk result (self.new ≡ after_submit self.old job) }
         ensures counted { OnOk result (tally.new ≡ record tally.old { count = tally.old.count + 1 }) }
-        ensures named { IfOk result (λ r. r ≡ record { life = self.old.life; guest = job.guest; number = length self.old.history }) }
+        ensures named { IfOk result (λ r. r ≡ record { life = self.old.life; guest = job.guest; number = self.old.folded + length self.old.history }) }
         ensures allowed { OnOk result (refusal self.old tally.old job ≡ None) }
         ensures refused { IfErr result (λ e. e.1 ≡ unwrap_or (refusal self.old tally.old job) Refused.NoMemory) }
         ensures given_back { IfErr result (λ e. e.0 ≡ job) }
@@ -132,20 +184,94 @@ impl Book {
         if let Some(refused) = self.refusal(tally, &job) {
             return Err((job, refused));
         }
+        let Ok(plan) = self.plan(alloc, tally, &job) else {
+            return Err((job, Refused::NoMemory));
+        };
+        self.make_room(alloc, tally, &job);
+        Ok(self.answer(tally, job, plan))
+    }
+
+    /// Makes all the memory that the answer to a job takes.
+    fn plan(&mut self, alloc: Global, tally: &Tally, job: &Job) -> Result<GuestPlan, NoMemory>
+        requires allowed { refusal self.old tally.now job.now ≡ None }
+        ensures same { self.new ≡ self.old }
+        ensures planned { IfOk result (λ p. ForSome (guest_of self.old job.now.guest) (λ g. IsGuestPlanned job.now g p)) }
+        ensures failure { IfOk result (λ p. is_failure p ≡ (state self.old).broken) }
+    {
+        let guest = &self.guests[usize::from(job.guest())];
+        guest.plan(alloc, job, self.broken, &mut self.reply)
+    }
+
+    /// Lets the history roll where it has no place for a Submit.
+    fn make_room(&mut self, alloc: Global, tally: &Tally, job: &Job)
+        requires allowed { refusal self.old tally.now job.now ≡ None }
+        ensures made { self.new ≡ roomy self.old }
+        ensures allowed { IsAllowed self.new tally.now job.now }
+    {
+        if self.submits == SUBMITS {
+            self.fold(alloc);
+        }
+    }
+
+    /// Answers a job as planned. It takes no memory.
+    fn answer(&mut self, tally: &mut Tally, job: Job, plan: GuestPlan) -> Receipt
+        requires allowed { IsAllowed self.old tally.old job }
+        requires plan { ForSome (guest_of self.old job.guest) (λ g. IsGuestPlanned job g plan) }
+        requires failure { is_failure plan ≡ (state self.old).broken }
+        ensures made { self.new ≡ with_turn self.old (submit_of self.old job) }
+        ensures counted { tally.new ≡ record tally.old { count = tally.old.count + 1 } }
+        ensures named { result ≡ record { life = self.old.life; guest = job.guest; number = self.old.folded + length self.old.history } }
+    {
         let receipt = Receipt {
             life: self.life,
             guest: job.guest(),
-            number: self.history.len() as u64,
+            number: self.folded + self.history.len() as u128,
         };
         let guest = &mut self.guests[usize::from(job.guest())];
-        let made = match guest.submit(alloc, job, self.broken, &mut self.reply) {
-            Err(job) => return Err((job, Refused::NoMemory)),
-            Ok(made) => made,
-        };
+        let made = guest.submit(job, plan, &mut self.reply);
         self.history.push(TurnRecord::Submit(made));
         self.submits += 1;
+        self.counted += 1;
         tally.raise();
-        Ok(receipt)
+        receipt
+    }
+
+    /// Whether the first turn may be folded.
+    fn may_fold(&self) -> bool
+        ensures { result ≡ first_may_go (state self.now) self.now.opening self.now.history }
+    {
+        match self.history.first() {
+            First::Nothing => false,
+            First::Submit(guest) => self.is_collected(guest),
+            First::Break | First::Other => true,
+        }
+    }
+
+    /// Folds the first turn into the opening.
+    fn fold_first(&mut self, alloc: Global)
+        requires { first_may_go (state self.old) self.old.opening self.old.history ≡ true }
+        ensures { self.new ≡ folded_first self.old }
+    {
+        let first = self.history.first();
+        self.history
+            .fold_first(alloc, &mut self.opening, self.begun_broken);
+        self.begun_broken |= first.is_break();
+        self.submits -= first.submits();
+        self.folded += 1;
+    }
+
+    /// Makes the opening the state after the longest beginning of the history in which every Submit was
+    /// collected, and lets that beginning go. The state stays. It takes no memory.
+    fn fold(&mut self, alloc: Global)
+        ensures folded { self.new ≡ folded self.old }
+        ensures stays { state self.new ≡ state self.old }
+    {
+        for _ in 0..self.history.len() {
+            if !self.may_fold() {
+                return;
+            }
+            self.fold_first(alloc);
+        }
     }
 
     /// Whether the guest is the book's, and its share is its taken sequence.
@@ -240,16 +366,16 @@ impl Book {
     }
 
     /// The request and the reply of the job that a receipt names, as both were then; None where the
-    /// receipt is of another life, or names no Submit of that guest in this history.
+    /// receipt is of another life, names no Submit of that guest, or names one that was folded.
     pub fn find(&self, receipt: &Receipt) -> Option<TurnView<'_>>
         ensures { option_map turn_seen result ≡ option_map submission_seen (found_by self.now receipt.now) }
     {
-        if receipt.life != self.life {
+        if receipt.life != self.life || receipt.number < self.folded {
             return None;
         }
         match self
             .history
-            .submission(receipt.guest, receipt.number as usize)
+            .submission(receipt.guest, receipt.number - self.folded)
         {
             None => None,
             Some(made) => Some(TurnView {
@@ -267,11 +393,11 @@ impl Book {
         self.life
     }
 
-    /// How many jobs were answered in this life: the Submit turns of the history.
+    /// How many jobs were answered in this life: the Submit turns, those that were folded too.
     pub fn submit_turns(&self) -> u64
-        ensures { result ≡ submits_in self.now }
+        ensures { result ≡ counted_in self.now }
     {
-        self.submits
+        self.counted
     }
 
     /// A guest's partition, after all its requests; None for a guest that the book lacks.
@@ -314,11 +440,11 @@ impl Book {
         ensures ready { AreReady (state self.now) }
         // Each guest has a partition of a board, which a store can hold.
         ensures of_board { AreOfBoard (state self.now) }
-        // It began with guests of whom nothing was asked, on partitions of a board.
-        ensures fresh { IsFresh self.now.opening }
+        // Its history begins with such guests.
+        ensures begins { IsOpening self.now.opening }
         ensures began_of_board { AreOfBoard self.now.opening }
-        // The guests' jobs are counted as the Submits of the history are.
-        ensures counted { answered_in (state self.now).guests ≡ submits_in self.now }
+        // The guests' jobs are counted as the Submits are, folded ones too.
+        ensures counted { answered_in (state self.now).guests ≡ counted_in self.now }
     {
         // A field is read, since only then is it known that the book is as its type says.
         let _life = &self.life;
@@ -343,13 +469,5 @@ fn is_taken(guest: &GuestState, share: Option<u64>) -> bool
     match share {
         Some(share) => guest.taken() == share,
         None => false,
-    }
-}
-
-fn break_all(guests: &mut [GuestState])
-    ensures { guests.new ≡ map broken_off guests.old }
-{
-    for guest in guests.iter_mut() {
-        guest.break_off();
     }
 }

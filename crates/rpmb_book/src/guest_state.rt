@@ -1,19 +1,24 @@
-ghost use Rattle.std.specs.Prelude.{◌≡◌, ◌+◌, ◌++◌, ◌-◌, ◌<◌, ◌≤◌, ◌^◌, IfOk, IfErr, if◌then◌else◌, is_some, length, take, drop};
+ghost use Rattle.std.specs.Prelude.{◌≡◌, ◌+◌, ◌++◌, ◌-◌, ◌<◌, ◌≤◌, ◌^◌, [], IfOk, if◌then◌else◌, is_some, length, take, drop};
 ghost use Rattle.intent_slots.specs.Payload.{EntriesFit};
-ghost use Rattle.rpmb_book.specs.Sound.{IsCoreOfBoard};
-ghost use Rattle.std.specs.Prelude.{Bool, true, false, map};
-ghost use Rattle.rpmb_book.specs.Guest.{submitted, answer_when, took, settled_at, collected, broken_off, kept_or_failed, first_due, first_intent, fresh};
+ghost use Rattle.rpmb_book.specs.Planned.{IsFailure, IsPlanned};
+ghost use Rattle.rpmb_book.specs.GuestPlanned.{IsGuestPlanned, is_failure};
+ghost use Rattle.rpmb_book.specs.Folding.{HasPlaces, IsMade};
+ghost use Rattle.std.specs.Prelude.{true, false, map};
+ghost use Rattle.rpmb_book.specs.Guest.{submitted, answer_when, code_when, took, settled_at, collected, broken_off, kept_or_failed, first_due, first_intent, fresh};
 
-use crate::guest_core::{Answer, Failure, GuestCore};
+use crate::guest_core::{Answer, Failure, GuestCore, Plan, Redone};
 use crate::held::Held;
 use crate::history::Submission;
 use intent_slots::{Entry, Intent};
 use mmio_transport::{Done, Job};
-use rpmb_core::Partition;
+use rpmb_core::{GENERAL_FAILURE, NoMemory, Partition};
 use rpmb_frame::Limits;
-use std::alloc::Global;
+use std::alloc::{AllocError, Global};
 use std::collections::VecDeque;
 use std::marker::Model;
+
+/// How many replies of one guest may wait to leave.
+const HELD: usize = 64;
 
 /// How many requests the store is given as one, at most.
 const MOST: usize = 4;
@@ -22,7 +27,7 @@ const MOST: usize = 4;
 #[derive(Drop)]
 pub struct GuestState {
     core: GuestCore,
-    held: Vec<Held>,
+    held: VecDeque<Held>,
     waiting: VecDeque<Entry>,
     taken: u64,
     settled: u64,
@@ -30,27 +35,45 @@ pub struct GuestState {
 }
 
 impl Model for GuestState {
+    ghost use Rattle.std.specs.Prelude.{◌≤◌};
+    ghost use Rattle.std.specs.VecDeque.{deque_capacity};
     ghost use Rattle.rpmb_book.specs.Guest as model;
 
     ghost Value = { model.GuestState };
 
     ghost view = { λ g. record { core = g.core; held = g.held.items; waiting = g.waiting.items; taken = g.taken; settled = g.settled; submits = g.submits } };
+
+    ghost invariant = { λ g. (64 ≤ deque_capacity g.held) × (64 ≤ deque_capacity g.waiting) };
+}
+
+/// All the memory that the answer to a job takes: the job that its reply goes to, and the rest.
+#[derive(Drop)]
+pub enum GuestPlan {
+    /// A book that is broken answers with a failure, which is made already.
+    Failure(Job, Failure),
+    Answer(Job, Plan),
 }
 
 impl GuestState {
-    /// A guest of whom nothing was asked yet.
-    pub fn fresh(alloc: Global, limits: Limits, partition: Partition) -> GuestState
-        ensures { result ≡ fresh limits partition }
+    /// A guest of whom nothing was asked yet, with places for all replies and entries that it may have.
+    pub fn fresh(
+        alloc: Global,
+        limits: Limits,
+        partition: Partition,
+    ) -> Result<GuestState, NoMemory>
+        ensures { IfOk result (λ g. g ≡ fresh limits partition) }
     {
         let sequence = partition.sequence();
-        GuestState {
+        let held = VecDeque::with_capacity(alloc, HELD)?;
+        let waiting = VecDeque::with_capacity(alloc, HELD)?;
+        Ok(GuestState {
             core: GuestCore::new(limits, partition),
-            held: Vec::new(alloc),
-            waiting: VecDeque::new(alloc),
+            held,
+            waiting,
             taken: sequence,
             settled: sequence,
             submits: 0,
-        }
+        })
     }
 
     pub fn partition(&self) -> &Partition
@@ -83,95 +106,134 @@ impl GuestState {
         self.held.len()
     }
 
-    /// Answers a job of a book that is broken, or isn't. The reply is built in `out`; the job comes
-    /// back where memory is refused. All growths come first.
-    pub fn submit(
-        &mut self,
+    /// Makes all the memory that the answer to a job takes, of a book that is broken, or isn't. A
+    /// failure reply is built in `out`.
+    pub fn plan(
+        &self,
         alloc: Global,
-        job: Job,
+        job: &Job,
         broken: bool,
         out: &mut [u8; 8192],
-    ) -> Result<Submission, Job>
-        requires few { self.old.submits < 2 ^ 64 - 1 }
-        requires board { IsCoreOfBoard self.old.core }
-        ensures ok { IfOk result (λ w. w ≡ record { job = job; reply = answer_when broken self.old.core job }) }
-        ensures state { IfOk result (λ w. self.new ≡ submitted broken job self.old) }
-        ensures err { IfErr result (λ j. (j ≡ job) × (self.new ≡ self.old)) }
+    ) -> Result<GuestPlan, NoMemory>
+        ensures planned { IfOk result (IsGuestPlanned job.now self.now) }
+        ensures failure { IfOk result (λ p. is_failure p ≡ broken) }
     {
+        let Ok(held_job) = job.for_reply(alloc) else {
+            return Err(AllocError);
+        };
         if broken {
-            self.submit_failure(alloc, job, out)
+            let failure = self.core.failure(alloc, job, out)?;
+            Ok(GuestPlan::Failure(held_job, failure))
         } else {
-            self.submit_answer(alloc, job, out)
+            let plan = self.core.plan(alloc, job)?;
+            Ok(GuestPlan::Answer(held_job, plan))
+        }
+    }
+
+    /// Answers a job as planned; the reply is built in `out`. It takes no memory.
+    pub fn submit(&mut self, job: Job, plan: GuestPlan, out: &mut [u8; 8192]) -> Submission
+        requires plan { IsGuestPlanned job self.old plan }
+        requires places { HasPlaces (is_failure plan) self.old }
+        ensures made { result ≡ record { job = job; reply = answer_when (is_failure plan) self.old.core job; code = code_when (is_failure plan) self.old.core job } }
+        ensures state { self.new ≡ submitted (is_failure plan) job self.old }
+    {
+        match plan {
+            GuestPlan::Failure(held_job, failure) => self.submit_failure(job, held_job, failure),
+            GuestPlan::Answer(held_job, plan) => self.submit_answer(job, held_job, plan, out),
         }
     }
 
     /// Answers a job with a failure, since the store broke: nothing is accepted.
-    fn submit_failure(
-        &mut self,
-        alloc: Global,
-        job: Job,
-        out: &mut [u8; 8192],
-    ) -> Result<Submission, Job>
-        requires few { self.old.submits < 2 ^ 64 - 1 }
-        ensures ok { IfOk result (λ w. w ≡ record { job = job; reply = answer_when true self.old.core job }) }
-        ensures state { IfOk result (λ w. self.new ≡ submitted true job self.old) }
-        ensures err { IfErr result (λ j. (j ≡ job) × (self.new ≡ self.old)) }
+    fn submit_failure(&mut self, job: Job, held_job: Job, failure: Failure) -> Submission
+        requires held_job { held_job ≡ record job { readable = []; request = [] } }
+        requires failure { IsFailure self.old.core job failure }
+        requires places { HasPlaces true self.old }
+        ensures made { result ≡ record { job = job; reply = answer_when true self.old.core job; code = code_when true self.old.core job } }
+        ensures state { self.new ≡ submitted true job self.old }
     {
-        let Ok(failure) = self.core.failure(alloc, &job, out) else {
-            return Err(job);
-        };
-        let Ok(held_job) = job.for_reply(alloc) else {
-            return Err(job);
-        };
-        if self.held.reserve(1).is_err() {
-            return Err(job);
-        }
         let Failure { reply, copy, kind } = failure;
-        self.held.push_reserved(Held::of(held_job, reply, 0, kind));
+        self.held
+            .push_back_reserved(Held::of(held_job, reply, 0, kind));
         self.submits += 1;
-        Ok(Submission::of(job, copy))
+        Submission::of(job, copy, GENERAL_FAILURE)
     }
 
     /// Answers a job by its request.
     fn submit_answer(
         &mut self,
-        alloc: Global,
         job: Job,
+        held_job: Job,
+        plan: Plan,
         out: &mut [u8; 8192],
-    ) -> Result<Submission, Job>
-        requires few { self.old.submits < 2 ^ 64 - 1 }
-        requires board { IsCoreOfBoard self.old.core }
-        ensures ok { IfOk result (λ w. w ≡ record { job = job; reply = answer_when false self.old.core job }) }
-        ensures state { IfOk result (λ w. self.new ≡ submitted false job self.old) }
-        ensures err { IfErr result (λ j. (j ≡ job) × (self.new ≡ self.old)) }
+    ) -> Submission
+        requires held_job { held_job ≡ record job { readable = []; request = [] } }
+        requires plan { IsPlanned self.old.core job plan }
+        requires places { HasPlaces false self.old }
+        ensures made { result ≡ record { job = job; reply = answer_when false self.old.core job; code = code_when false self.old.core job } }
+        ensures state { self.new ≡ submitted false job self.old }
     {
-        let Ok(plan) = self.core.plan(alloc, &job) else {
-            return Err(job);
-        };
-        let Ok(held_job) = job.for_reply(alloc) else {
-            return Err(job);
-        };
-        if self.held.reserve(1).is_err() {
-            return Err(job);
-        }
-        if self.waiting.reserve(1).is_err() {
-            return Err(job);
-        }
         let Answer {
             reply,
             copy,
+            code,
             need,
             kind,
             entry,
         } = self.core.carry_out(&job, plan, out);
         self.held
-            .push_reserved(Held::of(held_job, reply, need, kind));
+            .push_back_reserved(Held::of(held_job, reply, need, kind));
         match entry {
             None => {}
             Some(entry) => self.waiting.push_back_reserved(entry),
         }
         self.submits += 1;
-        Ok(Submission::of(job, copy))
+        Submission::of(job, copy, code)
+    }
+
+    /// Makes the change of a Submit that was answered before, in the state where it stood. It takes no
+    /// memory: what is kept is moved out of the Submit.
+    pub fn redo(&mut self, alloc: Global, made: Submission, broken: bool)
+        requires made { IsMade broken made self.old }
+        requires places { HasPlaces broken self.old }
+        ensures { self.new ≡ submitted broken made.job self.old }
+    {
+        if broken {
+            self.redo_failure(made);
+        } else {
+            self.redo_answer(alloc, made);
+        }
+    }
+
+    fn redo_failure(&mut self, made: Submission)
+        requires made { IsMade true made self.old }
+        requires places { HasPlaces true self.old }
+        ensures { self.new ≡ submitted true made.job self.old }
+    {
+        let Submission { job, reply, .. } = made;
+        let kind = self.core.failure_kind(&job);
+        self.held.push_back_reserved(Held::of(job, reply, 0, kind));
+        self.submits += 1;
+    }
+
+    fn redo_answer(&mut self, alloc: Global, made: Submission)
+        requires made { IsMade false made self.old }
+        requires places { HasPlaces false self.old }
+        ensures { self.new ≡ submitted false made.job self.old }
+    {
+        let Submission { job, reply, code } = made;
+        let Redone {
+            job,
+            need,
+            kind,
+            entry,
+        } = self.core.redo(alloc, job, code);
+        self.held
+            .push_back_reserved(Held::of(job, reply, need, kind));
+        match entry {
+            None => {}
+            Some(entry) => self.waiting.push_back_reserved(entry),
+        }
+        self.submits += 1;
     }
 
     /// Gives the requests that come next for the store, at most four, as an intent of the guest with
@@ -207,7 +269,7 @@ impl GuestState {
         ensures { self.new ≡ broken_off self.old }
     {
         self.core.forget();
-        break_held(&mut self.held, self.settled);
+        break_held(self.held.make_contiguous(), self.settled);
     }
 
     /// Gives the first held reply, where its need is settled.
@@ -218,7 +280,10 @@ impl GuestState {
         if self.held.is_empty() || self.settled < self.held[0].need() {
             return None;
         }
-        Some(self.held.remove(0).done())
+        match self.held.pop_front() {
+            None => None,
+            Some(held) => Some(held.done()),
+        }
     }
 }
 

@@ -3,6 +3,8 @@
 #![tactic(auto)]
 
 mod book;
+mod entries;
+mod folding;
 mod guest_core;
 mod guest_state;
 mod held;

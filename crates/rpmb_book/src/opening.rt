@@ -60,7 +60,8 @@ pub fn copied_guests(
     for i in 0..partitions.len() {
         let limits = Limits::of(&config.guests()[i]);
         let partition = partitions[i].copy(alloc)?;
-        guests.push(GuestState::fresh(alloc, limits, partition))?;
+        let guest = GuestState::fresh(alloc, limits, partition)?;
+        guests.push(guest)?;
     }
     Ok(guests)
 }
@@ -77,7 +78,8 @@ pub fn guests(
     let mut guests = Vec::with_capacity(alloc, partitions.len())?;
     for guest in config.guests() {
         let partition = partitions.remove(0);
-        guests.push(GuestState::fresh(alloc, Limits::of(guest), partition))?;
+        let guest = GuestState::fresh(alloc, Limits::of(guest), partition)?;
+        guests.push(guest)?;
     }
     Ok(guests)
 }

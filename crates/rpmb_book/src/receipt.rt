@@ -5,8 +5,8 @@ pub struct Receipt {
     pub life: u64,
     /// The guest whose job it was.
     pub guest: u16,
-    /// The number of the turn in the book's history, counted from 0 at its opening.
-    pub number: u64,
+    /// The number of the turn in this life, counted from 0; folded turns count.
+    pub number: u128,
 }
 
 /// A job of the history with its reply, as both were then.

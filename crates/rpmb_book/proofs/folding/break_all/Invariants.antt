@@ -1,6 +1,6 @@
 use Rattle.std.proofs.Common.{◌≡◌, ◌++◌, map, take, drop}
 use Rattle.rpmb_book.specs.Guest.{broken_off}
-use Rattle.rpmb_book.proofs.book.break_all.Given as goal
+use Rattle.rpmb_book.proofs.folding.break_all.Given as goal
 
 -- the guests so far are broken off, and the others as they were
 abbrev pub invariant-loop-guest : goal.invariant-loop-guest

@@ -1,7 +1,7 @@
 use Rattle.std.proofs.lemmas.List.Edits.{map_over_more}
 use Rattle.rpmb_book.specs.Guest.{broken_off}
 use Rattle.rpmb_book.proofs.Marking.{mapped_whole}
-use Rattle.rpmb_book.proofs.book.break_all.Goals as goal
+use Rattle.rpmb_book.proofs.folding.break_all.Goals as goal
 
 pub loop-guest-preserved : goal.loop-guest-preserved
 loop-guest-preserved c =
