@@ -21,7 +21,9 @@ use Rattle.flusher.specs.SlotInvariant.{IsHeld, guest_settled, settled_by}
 use Rattle.flusher.proofs.Guests.{get_set_same, get_set_other, map_set}
 use Rattle.mmio_transport.specs.Device.{DeviceState}
 use Rattle.mmio_transport.specs.Job.{Job, Done}
-use Rattle.rpmb_book.specs.Book.{BookView, due_of, due_at, guest_of, is_share, first_of, next_intent, refusal, refusal_at, state, submit_of, submits_in, with_turn}
+use Rattle.rpmb_book.specs.Book.{BookView, due_of, due_at, guest_of, is_share, first_of, next_intent, refusal, refusal_at, state, submit_of, is_full, with_turn}
+use Rattle.rpmb_book.specs.Fold.{after_submit}
+use Rattle.rpmb_book.proofs.Rolling.{submit_rolls}
 use Rattle.rpmb_book.specs.ByGuest.{broken_when, guest_after}
 use Rattle.rpmb_book.specs.Guest.{GuestState, collected, first_intent, intent_sequence, submitted, took}
 use Rattle.rpmb_book.specs.Job.{Tally}
@@ -79,9 +81,9 @@ at_each {P = P} n here there g = elim (cases_eq g n) [
 ]
 
 -- a tally that isn't refused is of the job's guest
-pub of_guest : (standing : ℕ) (tally : Tally) (job : Job) (o : Option GuestState) → refusal_at standing tally job o ≡ None → tally.guest ≡ job.guest
-of_guest standing tally job None is = absurd (cc)
-of_guest standing tally job (Some g) is = grind (arith, nat_tests)
+pub of_guest : (full : Bool) (tally : Tally) (job : Job) (o : Option GuestState) → refusal_at full tally job o ≡ None → tally.guest ≡ job.guest
+of_guest full tally job None is = absurd (cc)
+of_guest full tally job (Some g) is = grind (arith, nat_tests)
 
 chosen_list : (n : ℕ) (x y : List Request) → (if n == n then y else x) ≡ y
 chosen_list n x y = rw (same n) refl
@@ -361,13 +363,17 @@ module _ {D : Type 0} (shows : D → DiskState) (config : List GuestConfig) (bas
         let counted = ok.counted in
         let x = in_book n (omega (arith, below, counted)) in
         let tally_is : tally ≡ record { guest = n; count = x.0.submits } = (let is = (ok.each n x.0 x.1).tallied in cc) in
-        sym (ap (λ v. v.guest) tally_is) ∙ of_guest (submits_in old.book) tally job (guest_of old.book job.guest) allowed
+        sym (ap (λ v. v.guest) tally_is) ∙ of_guest (is_full old.book) tally job (guest_of old.book job.guest) allowed
 
-    submits_here : slice_get old.tallies job.guest ≡ Some tally → IsLinkedBoard shows config bases joined parts (record old { book = with_turn old.book answers; tallies = raised; jobs = jobs' })
+    -- whether or not the history rolled
+    rolled : (g : ℕ) (y : GuestState) → slice_get (state (after_submit old.book job)).guests g ≡ Some y → slice_get (state (with_turn old.book answers)).guests g ≡ Some y
+    rolled g y at = ap (λ s. slice_get s.guests g) (sym (submit_rolls old.book job)) ∙ at
+
+    submits_here : slice_get old.tallies job.guest ≡ Some tally → IsLinkedBoard shows config bases joined parts (record old { book = after_submit old.book job; tallies = raised; jobs = jobs' })
     submits_here there = record {
-      each = at_each {P = λ g. (y : GuestState) → slice_get (state (with_turn old.book answers)).guests g ≡ Some y → Answered g y} job.guest (λ y at. answered_here y at there) answered_there;
+      each = at_each {P = λ g. (y : GuestState) → slice_get (state (after_submit old.book job)).guests g ≡ Some y → Answered g y} job.guest (λ y at. answered_here y (rolled job.guest y at) there) (λ g other y at. answered_there g other y (rolled g y at));
       kept = ok.kept;
-      many = as_many old.book answers ∙ ok.many;
+      many = ap (λ s. length s.guests) (submit_rolls old.book job) ∙ as_many old.book answers ∙ ok.many;
       held = ok.held;
       counted = length-set old.tallies job.guest (record tally { count = tally.count + 1 }) ∙ ok.counted;
       places = (let p = ok.places in record { devices = p.devices; jobs = wide; dones = p.dones; intents = p.intents });
@@ -375,8 +381,8 @@ module _ {D : Type 0} (shows : D → DiskState) (config : List GuestConfig) (bas
     }
 
     pub submits_linked : (n : ℕ) → slice_get old.tallies n ≡ Some tally
-        → IsLinkedBoard shows config bases joined parts (record old { book = with_turn old.book answers; tallies = slice_set old.tallies n (record tally { count = tally.count + 1 }); jobs = jobs' })
+        → IsLinkedBoard shows config bases joined parts (record old { book = after_submit old.book job; tallies = slice_set old.tallies n (record tally { count = tally.count + 1 }); jobs = jobs' })
     submits_linked n there =
         let is = its_own n there in
-        subst (λ k. IsLinkedBoard shows config bases joined parts (record old { book = with_turn old.book answers; tallies = slice_set old.tallies k (record tally { count = tally.count + 1 }); jobs = jobs' })) (sym is)
+        subst (λ k. IsLinkedBoard shows config bases joined parts (record old { book = after_submit old.book job; tallies = slice_set old.tallies k (record tally { count = tally.count + 1 }); jobs = jobs' })) (sym is)
         (submits_here (subst (λ k. slice_get old.tallies k ≡ Some tally) is there))

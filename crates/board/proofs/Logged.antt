@@ -14,7 +14,8 @@ use Rattle.flusher.proofs.Guests.{get_set_same, get_set_other}
 use Rattle.mmio_transport.specs.Device.{DeviceState}
 use Rattle.mmio_transport.specs.Job.{Job, Done}
 use Rattle.mmio_transport.specs.declared.done.Published.TheVariants.{Wrote, Dropped}
-use Rattle.rpmb_book.specs.Book.{guest_of, refusal_at, state, submit_of, submits_in, with_turn}
+use Rattle.rpmb_book.specs.Book.{guest_of, refusal_at, state, submit_of, is_full, with_turn}
+use Rattle.rpmb_book.proofs.Rolling.{submit_rolls}
 use Rattle.rpmb_book.specs.Guest.{GuestState, submitted}
 use Rattle.rpmb_book.specs.Job.{Tally}
 use Rattle.board.specs.State.{BoardState, guests, in_place}
@@ -108,7 +109,7 @@ module _ (config : List GuestConfig) (n : ℕ) (answer : Answer) (b b' : BoardSt
       pub its : job.guest ≡ n
       pub known : (x : GuestState) → slice_get (guests b) n ≡ Some x → ¬ (length x.held ≡ 64)
       pub did : answer ≡ Ok Did
-      pub book : b'.book ≡ with_turn b.book (submit_of b.book job)
+      pub after : state b'.book ≡ state (with_turn b.book (submit_of b.book job))
       pub dones : b'.dones ≡ b.dones
 
     -- it went, or all is as it was and nothing is accepted
@@ -120,21 +121,21 @@ module _ (config : List GuestConfig) (n : ℕ) (answer : Answer) (b b' : BoardSt
     went_or_stayed o None lies there does = inr (record { board = does.1; nothing = ap (λ a. answered (step.Submit n) a b) does.0 })
     went_or_stayed None (Some tally) lies there does = inr (record { board = does.1; nothing = ap (λ a. answered (step.Submit n) a b) does.0 })
     went_or_stayed (Some job) (Some tally) lies there does = elim does [
-      | inl went ↦ (let its : job.guest ≡ n = sym (of_guest (submits_in b.book) tally job (guest_of b.book job.guest) went.0) ∙ tallied tally.guest (ap (option_map (λ v. v.guest)) there) in
+      | inl went ↦ (let its : job.guest ≡ n = sym (of_guest (is_full b.book) tally job (guest_of b.book job.guest) went.0) ∙ tallied tally.guest (ap (option_map (λ v. v.guest)) there) in
           inl (record {
             job = job;
             lies = lies;
             its = its;
-            known = λ x found. not_full (submits_in b.book) tally job x (subst (λ o. refusal_at (submits_in b.book) tally job o ≡ None) (ap (slice_get (guests b)) its ∙ found) went.0);
+            known = λ x found. not_full (is_full b.book) tally job x (subst (λ o. refusal_at (is_full b.book) tally job o ≡ None) (ap (slice_get (guests b)) its ∙ found) went.0);
             did = went.1;
-            book = ap (λ v. v.book) went.2;
+            after = ap (λ v. state v.book) went.2 ∙ submit_rolls b.book job;
             dones = ap (λ v. v.dones) went.2;
           }))
       | inr refused ↦ inr (record { board = refused.1; nothing = ap (λ a. answered (step.Submit n) a b) refused.0 })
     ]
       where
-        not_full : (standing : ℕ) (tally : Tally) (job : Job) (x : GuestState) → refusal_at standing tally job (Some x) ≡ None → ¬ (length x.held ≡ 64)
-        not_full standing tally job x allowed = grind (arith, nat_tests)
+        not_full : (full : Bool) (tally : Tally) (job : Job) (x : GuestState) → refusal_at full tally job (Some x) ≡ None → ¬ (length x.held ≡ 64)
+        not_full full tally job x allowed = grind (arith, nat_tests)
 
     -- of the other guests nothing is accepted
     accepted_there : Went ⊎ Stayed → (g : ℕ) → g ≢ n → (rs : ℕ → List Request) → accepted_after (step.Submit n) answer b rs g ≡ rs g
@@ -165,7 +166,7 @@ module _ (config : List GuestConfig) (n : ℕ) (answer : Answer) (b b' : BoardSt
       where
         mine : (y : GuestState) → slice_get (guests b') n ≡ Some y → HasRoom log' y (slice_get b'.dones n)
         mine y there =
-            let x = turned b.book (submit_of b.book went.job) n y (ap (λ v. slice_get (state v).guests n) (sym went.book) ∙ there) in
+            let x = turned b.book (submit_of b.book went.job) n y (ap (λ s. slice_get s.guests n) (sym went.after) ∙ there) in
             let has = room n log x.0 at x.1 in
             let few = has.few in
             let not_full = went.known x.0 x.1 in
@@ -185,7 +186,7 @@ module _ (config : List GuestConfig) (n : ℕ) (answer : Answer) (b b' : BoardSt
 
         others : (g : ℕ) (l : GuestLog) (y : GuestState) → g ≢ n → slice_get logs g ≡ Some l → slice_get (guests b') g ≡ Some y → HasRoom l y (slice_get b'.dones g)
         others g l y differs found there =
-            let before = other_guest b.book (submit_of b.book went.job) went.job.guest (submitted (state b.book).broken went.job) (λ k x. refl) g (λ e. differs (e ∙ went.its)) y (ap (λ v. slice_get (state v).guests g) (sym went.book) ∙ there) in
+            let before = other_guest b.book (submit_of b.book went.job) went.job.guest (submitted (state b.book).broken went.job) (λ k x. refl) g (λ e. differs (e ∙ went.its)) y (ap (λ s. slice_get s.guests g) (sym went.after) ∙ there) in
             subst (HasRoom l y) (ap (λ d. slice_get d g) (sym went.dones)) (room g l y found before)
 
     pub submit_noted : NotesSubmit n answer b b' log log' → IsNoted config (step.Submit n) answer b b' logs Logs'
@@ -276,7 +277,7 @@ module _ (config : List GuestConfig) (n : ℕ) (answer : Answer) (b b' : BoardSt
 
         mine : Emptied ⊎ Idles answer b b' → (y : GuestState) → slice_get (guests b') n ≡ Some y → HasRoom log' y (slice_get b'.dones n)
         mine (inl went) y there =
-            let has = room n log y at (ap (λ v. slice_get (state v).guests n) (sym went.book) ∙ there) in
+            let has = room n log y at (ap (λ s. slice_get s.guests n) (sym went.after) ∙ there) in
             let fits = has.room in
             let long = publish_long answer (λ g. log.published) in
             let is = ap (λ l. length l.published) is_log in
@@ -290,7 +291,7 @@ module _ (config : List GuestConfig) (n : ℕ) (answer : Answer) (b b' : BoardSt
             (subst (λ v. HasRoom log y (slice_get v.dones n)) (sym idle.1) (room n log y at (ap (λ v. slice_get (guests v) n) (sym idle.1) ∙ there)))
 
         others : Emptied ⊎ Idles answer b b' → (g : ℕ) (l : GuestLog) (y : GuestState) → g ≢ n → slice_get logs g ≡ Some l → slice_get (guests b') g ≡ Some y → HasRoom l y (slice_get b'.dones g)
-        others (inl went) g l y differs found there = subst (HasRoom l y) (sym (went.rest g differs)) (room g l y found (ap (λ v. slice_get (state v).guests g) (sym went.book) ∙ there))
+        others (inl went) g l y differs found there = subst (HasRoom l y) (sym (went.rest g differs)) (room g l y found (ap (λ s. slice_get s.guests g) (sym went.after) ∙ there))
         others (inr idle) g l y differs found there = subst (λ v. HasRoom l y (slice_get v.dones g)) (sym idle.1) (room g l y found (ap (λ v. slice_get (guests v) g) (sym idle.1) ∙ there))
 
 -- 4. As the code looks at them

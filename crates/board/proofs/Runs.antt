@@ -25,6 +25,7 @@ use Rattle.mmio_transport.specs.Job.{Job, Done}
 use Rattle.mmio_transport.specs.declared.done.Published.TheVariants.{Wrote, Dropped}
 use Rattle.recovery.specs.Opening.{Untouched, parts_of}
 use Rattle.rpmb_book.specs.Book.{due_of, may_settle, next_intent, state, submit_of, with_turn}
+use Rattle.rpmb_book.proofs.Rolling.{submit_rolls}
 use Rattle.rpmb_book.specs.Job.{Tally}
 use Rattle.rpmb_book.specs.Marks.{marks_for}
 use Rattle.rpmb_book.specs.Turn.{Turn, Collect, Take, Settle, Break, move_some}
@@ -246,15 +247,15 @@ opening_kept d old new told before (inr r) = refuses_kept d old new told before 
 
 -- a step makes at most one turn of the book
 abbrev Turned : BoardState CutState → BoardState CutState → Type 0
-Turned old new = (new.book ≡ old.book) ⊎ ((t : Turn) × (new.book ≡ with_turn old.book t))
+Turned old new = (new.book ≡ old.book) ⊎ ((t : Turn) × (state new.book ≡ state (with_turn old.book t)))
 
 when : (old new : BoardState CutState) (c : Bool) (t : Turn) → new.book ≡ (if c then with_turn old.book t else old.book) → Turned old new
-when old new true t is = inr (t, is)
+when old new true t is = inr (t, ap state is)
 when old new false t is = inl is
 
 unless : (old new : BoardState CutState) (c : Bool) (t : Turn) → new.book ≡ (if c then old.book else with_turn old.book t) → Turned old new
 unless old new true t is = inl is
-unless old new false t is = inr (t, is)
+unless old new false t is = inr (t, ap state is)
 
 module _ (old new : BoardState CutState) (answer : Answer) where
   book_of : (to : BoardState CutState) → new ≡ to → new.book ≡ to.book
@@ -279,7 +280,7 @@ module _ (old new : BoardState CutState) (answer : Answer) where
   submit_turn g job None does = inl (book_of old does.1)
   submit_turn g None (Some tally) does = inl (book_of old does.1)
   submit_turn g (Some job) (Some tally) does = elim does [
-    | inl went ↦ inr (submit_of old.book job, book_of _ went.2)
+    | inl went ↦ inr (submit_of old.book job, ap state (book_of _ went.2) ∙ submit_rolls old.book job)
     | inr refused ↦ inl (book_of old refused.1)
   ]
 

@@ -19,7 +19,8 @@ use Rattle.flusher.specs.declared.progress.StoreFault.TheVariants.{Broken, DiskF
 use Rattle.flusher.specs.Round.{FrontStays, Moves, Round, parts_after, planned, under_way}
 use Rattle.flusher.specs.SlotInvariant.{EachStop, IsHeld}
 use Rattle.flusher.specs.Store.{StoreState, given, is_free}
-use Rattle.rpmb_book.specs.Book.{after_break_off, after_collect, after_settle, after_take, due_of, next_intent, refusal, share_moved, submit_of, with_turn}
+use Rattle.rpmb_book.specs.Book.{after_break_off, after_collect, after_settle, after_take, due_of, next_intent, refusal, share_moved}
+use Rattle.rpmb_book.specs.Fold.{after_submit}
 use Rattle.rpmb_book.specs.Job.{Tally}
 use Rattle.rpmb_book.specs.declared.refused.Refused.TheVariants as refused
 use Rattle.board.specs.State.{BoardState, in_place, put}
@@ -105,7 +106,7 @@ PublishesFrom g (Some done) (Some d) answer old new = PublishesReply g d done an
 abbrev pub SubmitsJob : {D : Type 0} → ℕ → Job → Tally → Answer → BoardState D → BoardState D → Type 0
 SubmitsJob g job tally answer old new =
     ((refusal old.book tally job ≡ None) × (answer ≡ Ok Did)
-    × (new ≡ record old { book = with_turn old.book (submit_of old.book job); tallies = slice_set old.tallies g (record tally { count = tally.count + 1 }); jobs = slice_set old.jobs g None }))
+    × (new ≡ record old { book = after_submit old.book job; tallies = slice_set old.tallies g (record tally { count = tally.count + 1 }); jobs = slice_set old.jobs g None }))
     ⊎ ((answer ≡ Err (fault.Book (unwrap_or (refusal old.book tally job) refused.NoMemory))) × (new ≡ old))
 
 abbrev pub SubmitsFrom : {D : Type 0} → ℕ → Option Job → Option Tally → Answer → BoardState D → BoardState D → Type 0

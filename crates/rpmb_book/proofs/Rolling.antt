@@ -6,14 +6,16 @@ use Rattle.std.proofs.lemmas.List.Sums.{sum_by-cons}
 use Rattle.rpmb_book.specs.Guest.{took, collected}
 use Rattle.rpmb_book.specs.Turn.{Turn, Submit, Take, Settle, Collect, Break, State, after_turn, is_submit}
 use Rattle.rpmb_book.specs.Replay.{replay, IsLegal}
-use Rattle.rpmb_book.specs.Book.{BookView, state, submits_in, counted_in, is_full}
+use Rattle.rpmb_book.specs.Book.{BookView, state, submits_in, counted_in, is_full, submit_of, with_turn}
+use Rattle.mmio_transport.specs.Job.{Job}
 use Rattle.rpmb_book.specs.declared.receipt.Receipt.{Receipt}
 use Rattle.rpmb_book.specs.Left.{may_go, first_submit, first_left}
-use Rattle.rpmb_book.specs.Fold.{AllMayGo, BeginsLeft, IsLongestBeginning, StateStays, folded, folded_from, roomy}
+use Rattle.rpmb_book.specs.Fold.{after_submit, AllMayGo, BeginsLeft, IsLongestBeginning, StateStays, folded, folded_from, roomy}
 use Rattle.rpmb_book.specs.Folding.{first_may_go, folded_first}
 use Rattle.rpmb_book.specs.Due.{total, submits_of}
 use Rattle.rpmb_book.specs.Sound.{IsSound}
 use Rattle.rpmb_book.proofs.AskedLemmas.{answered_total}
+use Rattle.rpmb_book.proofs.Replay.{replay-push}
 use Rattle.rpmb_book.proofs.Room.{by_test, one_if, turn_pays, turn_sound}
 use Rattle.rpmb_book.proofs.SameCounts.{left-break, left-settled, left-update}
 
@@ -248,3 +250,9 @@ longest b = let w = longest_from b.life (state b) b.folded b.opening b.history i
     longest = w.1.longest;
   },
 )
+
+-- the state after a job was answered is that of one turn more, whether or not the history rolled
+pub submit_rolls : (b : BookView) (job : Job) → state (after_submit b job) ≡ state (with_turn b (submit_of b job))
+submit_rolls b job =
+    let t = submit_of b job in
+    replay-push (roomy b).opening (roomy b).history t ∙ ap (λ s. after_turn s t) (rolls b).state ∙ sym (replay-push b.opening b.history t)
