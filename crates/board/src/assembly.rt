@@ -4,6 +4,7 @@ ghost use Rattle.std.specs.Borrow.{sem};
 ghost use Rattle.flusher.specs.Store.{MayGive, is_free};
 ghost use Rattle.intent_slots.specs.Payload.{Intent as IntentSpec};
 ghost use Rattle.rpmb_book.specs.Book.{is_share, may_settle, state};
+ghost use Rattle.rpmb_book.specs.Audit.{HasHistory};
 ghost use Rattle.rpmb_book.specs.Sound.{AreOfBoard, IsSound as IsSoundBook};
 ghost use Rattle.board.specs.State.{emptied, in_place};
 ghost use Rattle.board.specs.Steps.{Does, Acts, AdvancesUnder, advance_answer, report_of, CollectsInto, Drives, GivesWhere, PopsInto, PublishesFrom, SettlesBy, SubmitsFrom, TakesInto};
@@ -259,6 +260,7 @@ impl<D: Disk> Assembly<D> {
     pub(crate) fn what_always_holds(&self)
         ensures sound { IsSoundBook (state self.now.book) }
         ensures of_board { AreOfBoard (state self.now.book) }
+        ensures history { HasHistory self.now.book }
     {
         self.book.what_always_holds();
     }

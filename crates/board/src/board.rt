@@ -12,6 +12,7 @@ ghost use Rattle.recovery.specs.Opening.{AllBegun, Answers, IsAtRest, Untouched,
 ghost use Rattle.recovery.specs.Reading.{is_disk_fault};
 ghost use Rattle.rpmb_book.specs.Replay.{opened};
 ghost use Rattle.rpmb_book.specs.Book.{state};
+ghost use Rattle.rpmb_book.specs.Audit.{HasHistory};
 ghost use Rattle.rpmb_book.specs.Sound.{AreOfBoard, IsSound as IsSoundBook};
 ghost use Rattle.board.specs.State.{HasNothingBetween, guests, in_place};
 ghost use Rattle.board.specs.World.{choosing_call};
@@ -150,6 +151,9 @@ impl<D: Disk> Board<D> {
     /// and a Submit take no memory.
     pub fn step(&mut self, step: &Step) -> Result<Seen, StepFault>
         ensures does { Does D.state D.makes step.now result self.old self.new }
+
+        // As of every book, each turn of its history is right where it stands, and the jobs are counted.
+        ensures history { HasHistory self.old.book }
 
         // The parts stay tied, to what was accepted before and by this step.
         ensures linked { (config : List GuestConfig) (bases : ℕ → model.Partition) (accepted : ℕ → List Request) (parts : ℕ → Part) → IsLinkedBoard D.state config bases accepted parts self.old

@@ -28,3 +28,4 @@ pub mod Allowing
 pub mod Leaving
 pub mod Once
 pub mod EntryLemmas
+pub mod Calm

@@ -14,6 +14,7 @@ pub mod Book
 pub mod Fold
 pub mod Folding
 pub mod Allowed
+pub mod Audit
 pub mod Due
 pub mod Bounded
 pub mod Sound

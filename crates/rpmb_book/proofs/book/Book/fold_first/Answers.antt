@@ -25,8 +25,8 @@ invariant_of-self c =
     let o : State = record { guests = i.opening.items; broken = i.begun_broken } in
     let f = folds_one (i.life, i.folded) o i.history i.guests.items i.broken i.submits i.counted c.args.self.now c.self.invariant.0 c.self.invariant.1 c.self.view_is c.requires in
     let m = f.made c.fold_first.new.opening c.fold_first.new.self (i.submits - c.submits.result) c.is_break.result
-        (c.fold_first.ensures.opening ∙ ap (λ (gs : List GuestState). (after_first (record { guests = gs; broken = i.begun_broken }) i.history.turns).guests) c.deref_mut.ensures.value)
-        c.fold_first.ensures.turns (ap (λ k. i.submits - k) (c.submits.ensures ∙ ap one_if_submit c.first-first.ensures)) (c.is_break.ensures ∙ ap breaks_off c.first-first.ensures) i.opening.len i.opening.ok.0 in
+    (c.fold_first.ensures.opening ∙ ap (λ (gs : List GuestState). (after_first (record { guests = gs; broken = i.begun_broken }) i.history.turns).guests) c.deref_mut.ensures.value)
+    c.fold_first.ensures.turns (ap (λ k. i.submits - k) (c.submits.ensures ∙ ap one_if_submit c.first-first.ensures)) (c.is_break.ensures ∙ ap breaks_off c.first-first.ensures) i.opening.len i.opening.ok.0 in
     m.0
 
 pub returns : goal.returns
@@ -35,6 +35,6 @@ returns c =
     let o : State = record { guests = i.opening.items; broken = i.begun_broken } in
     let f = folds_one (i.life, i.folded) o i.history i.guests.items i.broken i.submits i.counted c.args.self.now c.self.invariant.0 c.self.invariant.1 c.self.view_is c.requires in
     let m = f.made c.fold_first.new.opening c.fold_first.new.self (i.submits - c.submits.result) c.is_break.result
-        (c.fold_first.ensures.opening ∙ ap (λ (gs : List GuestState). (after_first (record { guests = gs; broken = i.begun_broken }) i.history.turns).guests) c.deref_mut.ensures.value)
-        c.fold_first.ensures.turns (ap (λ k. i.submits - k) (c.submits.ensures ∙ ap one_if_submit c.first-first.ensures)) (c.is_break.ensures ∙ ap breaks_off c.first-first.ensures) i.opening.len i.opening.ok.0 in
+    (c.fold_first.ensures.opening ∙ ap (λ (gs : List GuestState). (after_first (record { guests = gs; broken = i.begun_broken }) i.history.turns).guests) c.deref_mut.ensures.value)
+    c.fold_first.ensures.turns (ap (λ k. i.submits - k) (c.submits.ensures ∙ ap one_if_submit c.first-first.ensures)) (c.is_break.ensures ∙ ap breaks_off c.first-first.ensures) i.opening.len i.opening.ok.0 in
     m.1
