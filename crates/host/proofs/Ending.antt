@@ -9,7 +9,8 @@ use Rattle.flusher.specs.CallsLeft.{called, left_of}
 use Rattle.flusher.specs.Round.{AllEmpty, Round, planned}
 use Rattle.flusher.proofs.Countdown.{round_lowers}
 use Rattle.flusher.proofs.Endings.{round_badly, round_idle, round_well}
-use Rattle.rpmb_book.specs.Book.{BookView, after_settle, may_settle, state, submits_in, with_turn}
+use Rattle.rpmb_book.specs.Asked.{answered_in}
+use Rattle.rpmb_book.specs.Book.{BookView, after_settle, may_settle, state, with_turn}
 use Rattle.rpmb_book.specs.Marks.{marks_for}
 use Rattle.rpmb_book.specs.Turn.{Break, Settle, move_some}
 use Rattle.board.specs.State.{BoardState, guests}
@@ -34,7 +35,7 @@ went_by (Err e) = false
 pub record Hears (b b' : BookView) : Type 0 where
   pub broken : (state b').broken ≡ (state b).broken
   pub cores : cores_in (state b').guests ≡ cores_in (state b).guests
-  pub count : submits_in b' ≡ submits_in b
+  pub count : answered_in (state b').guests ≡ answered_in (state b).guests
 
 heard : (b : BookView) (shares marks : List ℕ) → Hears b (after_settle b shares marks)
 heard b shares marks = by (may_settle b shares marks && move_some (state b).guests marks)
@@ -134,7 +135,7 @@ module _ {D : Type 0} (shows : D → DiskState) (makes : D → DiskCall → D �
                 rests = record {
                   listened = record { report = ap (λ v. v.report) is2; broken = ap (λ v. v.store.broken) is2 ∙ ended_well (Synced told) is ∙ sym known };
                   whole = λ yes. whole;
-                  runner = λ yes. runner_is b b2 (ap (λ v. cores_in (guests v)) is2 ∙ h.cores) (ap (λ v. submits_in v.book) is2 ∙ h.count);
+                  runner = λ yes. runner_is b b2 (ap (λ v. cores_in (guests v)) is2 ∙ h.cores) (ap (λ v. answered_in (guests v)) is2 ∙ h.count);
                 };
                 less = λ yes. subst (λ v. left_of v.store.guests < left_of b.store.guests) (sym is2) (lower (Ok (Synced told)) is refl);
                 idle = λ none yes. absurd (let did = went (Ok (Synced told)) is in cc);

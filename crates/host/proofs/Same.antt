@@ -1,7 +1,6 @@
 -- Steps that leave what a waiting guest shows.
 use Rattle.std.proofs.Common.{◌≡◌, inl, inr, ℕ, zero, suc, ◌+◌, Bool, true, false, List, [], ◌∷◌, Option, Some, None, length, map, refl, ap, ap₂, sym, subst, ◌∙◌, arith}
 use Rattle.std.specs.Prelude.{if◌then◌else◌, ◌==◌, slice_get, slice_set}
-use Rattle.std.proofs.lemmas.List.Sums.{sum_by_push}
 use Rattle.std.proofs.lemmas.Option.{slice_get_cases, slice_get_within}
 use Rattle.disk.specs.Disk.{DiskState}
 use Rattle.flusher.specs.declared.guest.Guest.{Guest}
@@ -9,11 +8,14 @@ use Rattle.flusher.specs.Slot.{mark_of, with_intent}
 use Rattle.flusher.specs.Store.{given, given_of}
 use Rattle.flusher.proofs.Guests.{get_set_same, get_set_other}
 use Rattle.intent_slots.specs.Payload.{Intent}
-use Rattle.rpmb_book.specs.Book.{BookView, next_intent, share_moved, state, submits_in, with_turn}
-use Rattle.rpmb_book.specs.Guest.{GuestCore, GuestState, Held, took}
-use Rattle.rpmb_book.specs.Job.{Submission}
-use Rattle.rpmb_book.specs.Turn.{Turn, Submit, Take, after_turn, is_submit, update}
+use Rattle.rpmb_book.specs.Asked.{answered_in}
+use Rattle.rpmb_book.specs.Book.{BookView, next_intent, share_moved, state, submit_of, with_turn}
+use Rattle.rpmb_book.specs.Fold.{after_submit}
+use Rattle.rpmb_book.specs.Guest.{GuestCore, GuestState, Held, broken_off, collected, submitted, took}
+use Rattle.rpmb_book.specs.Turn.{Turn, State, Submit, Take, Settle, Collect, Break, after_break, after_turn, is_submit, settled_all, update}
 use Rattle.rpmb_book.proofs.Replay.{replay-push}
+use Rattle.rpmb_book.proofs.Rolling.{submit_rolls}
+use Rattle.mmio_transport.specs.Job.{Job}
 use Rattle.board.specs.Board.{IsSound}
 use Rattle.board.specs.State.{BoardState, guests, put}
 use Rattle.board.specs.Steps.{Answer, TakesInto, GivesWhere}
@@ -115,22 +117,48 @@ cores_update [] n f keeps = refl
 cores_update (g ∷ gs) zero f keeps = ap (λ c. c ∷ cores_in gs) (keeps g)
 cores_update (g ∷ gs) (suc n) f keeps = ap (λ cs. g.core ∷ cs) (cores_update gs n f keeps)
 
-abbrev counted : Turn → ℕ
-counted t = if is_submit t then 1 else 0
+-- a job that was answered, whether or not the history rolled
+pub submit_state : (b : BookView) (job : Job) → state (after_submit b job) ≡ after_turn (state b) (submit_of b job)
+submit_state b job = submit_rolls b job ∙ state_of b (submit_of b job)
 
-pub count_submit : (b : BookView) (w : Submission) → submits_in (with_turn b (Submit w)) ≡ submits_in b + 1
-count_submit b w = sum_by_push counted b.history (Submit w)
+-- how many jobs were answered
+answered_more : (gs : List GuestState) (n : ℕ) (f : GuestState → GuestState) (x : GuestState) → slice_get gs n ≡ Some x → ((y : GuestState) → (f y).submits ≡ y.submits + 1) → answered_in (update gs n f) ≡ answered_in gs + 1
+answered_more [] n f x at more = absurd (cc)
+answered_more (g ∷ gs) zero f x at more = omega (arith, more g)
+answered_more (g ∷ gs) (suc n) f x at more = omega (arith, answered_more gs n f x at more)
 
-pub count_same : (b : BookView) (t : Turn) → is_submit t ≡ false → submits_in (with_turn b t) ≡ submits_in b
-count_same b t none_is =
-    let push = sum_by_push counted b.history t in
-    let none : counted t ≡ 0 = rw none_is refl in
-    push ∙ rw none (zero_more (submits_in b))
+answered_same : (gs : List GuestState) (n : ℕ) (f : GuestState → GuestState) → ((y : GuestState) → (f y).submits ≡ y.submits) → answered_in (update gs n f) ≡ answered_in gs
+answered_same [] n f same = refl
+answered_same (g ∷ gs) zero f same = omega (arith, same g)
+answered_same (g ∷ gs) (suc n) f same = omega (arith, answered_same gs n f same)
+
+answered_settled : (gs : List GuestState) (ms : List ℕ) → answered_in (settled_all gs ms) ≡ answered_in gs
+answered_settled [] ms = refl
+answered_settled (g ∷ gs) [] = refl
+answered_settled (g ∷ gs) (m ∷ ms) = omega (arith, answered_settled gs ms)
+
+answered_broken : (broken : Bool) (s : State) → answered_in (after_break broken s).guests ≡ answered_in s.guests
+answered_broken true s = refl
+answered_broken false s = off s.guests
   where
-    zero_more : (n : ℕ) → n + 0 ≡ n
-    zero_more n = omega arith
+    off : (gs : List GuestState) → answered_in (map broken_off gs) ≡ answered_in gs
+    off [] = refl
+    off (g ∷ gs) = omega (arith, off gs)
 
-pub runner_is : {D : Type 0} (b b' : BoardState D) → cores_in (guests b') ≡ cores_in (guests b) → submits_in b'.book ≡ submits_in b.book → runner_of b' ≡ runner_of b
+pub count_submit : (b : BookView) (job : Job) (x : GuestState) → slice_get (state b).guests job.guest ≡ Some x → answered_in (state (after_submit b job)).guests ≡ answered_in (state b).guests + 1
+count_submit b job x at = ap (λ s. answered_in s.guests) (submit_state b job) ∙ answered_more (state b).guests job.guest (submitted (state b).broken job) x at (λ y. refl)
+
+pub count_same : (b : BookView) (t : Turn) → is_submit t ≡ false → answered_in (state (with_turn b t)).guests ≡ answered_in (state b).guests
+count_same b t none_is = ap (λ s. answered_in s.guests) (state_of b t) ∙ by t none_is
+  where
+    by : (t : Turn) → is_submit t ≡ false → answered_in (after_turn (state b) t).guests ≡ answered_in (state b).guests
+    by (Submit w) is = absurd (cc)
+    by (Take n) is = answered_same (state b).guests n took (λ y. refl)
+    by (Settle marks) is = answered_settled (state b).guests marks
+    by (Collect n) is = answered_same (state b).guests n collected (λ y. refl)
+    by Break is = answered_broken (state b).broken (state b)
+
+pub runner_is : {D : Type 0} (b b' : BoardState D) → cores_in (guests b') ≡ cores_in (guests b) → answered_in (guests b') ≡ answered_in (guests b) → runner_of b' ≡ runner_of b
 runner_is b b' cores count = ap₂ (λ c k. (let r : RunnerView = record { cores = c; answered = k } in r)) cores count
 
 -- 2. Take

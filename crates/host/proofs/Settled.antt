@@ -14,7 +14,8 @@ use Rattle.flusher.specs.Marks.{marks_of}
 use Rattle.flusher.specs.Round.{Moves, MovedBy, settles}
 use Rattle.flusher.specs.Slot.{mark_of}
 use Rattle.flusher.specs.Store.{StoreState}
-use Rattle.rpmb_book.specs.Book.{BookView, after_settle, may_settle, state, submits_in, waiting_of, with_turn}
+use Rattle.rpmb_book.specs.Asked.{answered_in}
+use Rattle.rpmb_book.specs.Book.{BookView, after_settle, may_settle, state, waiting_of, with_turn}
 use Rattle.rpmb_book.specs.Guest.{GuestState, Held, broken_off, failed_held, kept_or_failed, settled_at}
 use Rattle.rpmb_book.specs.Marks.{marks_for}
 use Rattle.rpmb_book.specs.Turn.{Break, Settle, move_some, settled_all}
@@ -77,7 +78,7 @@ all_marks (m ∷ ms) = ap (λ l. m ∷ l) (all_marks ms)
 pub record IsSettled (b : BookView) (marks : List ℕ) (b' : BookView) : Type 0 where
   pub guests : (state b').guests ≡ settled_all (state b).guests marks
   pub broken : (state b').broken ≡ (state b).broken
-  pub count : submits_in b' ≡ submits_in b
+  pub count : answered_in (state b').guests ≡ answered_in (state b).guests
 
 pub settled_book : (b : BookView) (shares marks : List ℕ) → may_settle b shares marks ≡ true → length marks ≡ length (state b).guests → IsSettled b marks (after_settle b shares marks)
 settled_book b shares marks may many = by (move_some (state b).guests marks) refl

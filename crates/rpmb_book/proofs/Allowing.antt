@@ -57,6 +57,10 @@ pub allowed_after : (name : ℕ × ℕ) (o : State) (h : HistoryView) (gs : List
 allowed_after name o h gs broken n counted gone v w tally job kept counts shows w_is is =
     subst (λ (b : BookView). IsAllowed b tally job) (sym w_is) (allowed_roomy v tally job (subst HasBook shows (has_book name o h gs broken n counted gone kept counts)) is)
 
+pub counted_after : (name : ℕ × ℕ) (o : State) (h : HistoryView) (gs : List GuestState) (broken : Bool) (n : ℕ) (v w : BookView) → IsRecorded o h gs broken n → shown name o h ≡ v → w ≡ roomy v → counted_in w ≡ counted_in v
+counted_after name o h gs broken n v w kept shows w_is =
+    ap counted_in w_is ∙ subst (λ (b : BookView). counted_in (roomy b) ≡ counted_in b) shows (counts_roll (shown name o h) kept.begins.sound kept.legal)
+
 -- which of both a book is
 pub roomy_full : (v w : BookView) (n : ℕ) → n ≡ submits_in v → n ≡ 16384 → w ≡ folded v → w ≡ roomy v
 unfolding roomy

@@ -2,7 +2,7 @@
 use Rattle.std.proofs.Common.{◌≡◌, ◌<◌, ◌≤◌, ℕ, ◌+◌, Bool, true, false, List, [], ◌∷◌, ◌++◌, length, refl, ap, ap₂, sym, ◌∙◌, subst, arith}
 use Rattle.std.proofs.lemmas.Bool.Decides.{nat_tests}
 use Rattle.std.specs.Prelude.{◌==◌, ◌&&◌, ◌||◌, not, if◌then◌else◌, count_by}
-use Rattle.std.proofs.lemmas.List.Sums.{sum_by-cons}
+use Rattle.std.proofs.lemmas.List.Sums.{sum_by-cons, sum_by_push}
 use Rattle.rpmb_book.specs.Guest.{took, collected}
 use Rattle.rpmb_book.specs.Turn.{Turn, Submit, Take, Settle, Collect, Break, State, after_turn, is_submit}
 use Rattle.rpmb_book.specs.Replay.{replay, IsLegal}
@@ -250,6 +250,10 @@ longest b = let w = longest_from b.life (state b) b.folded b.opening b.history i
     longest = w.1.longest;
   },
 )
+
+-- one Submit more is counted
+pub count_one : (b : BookView) (job : Job) → counted_in (with_turn b (submit_of b job)) ≡ counted_in b + 1
+count_one b job = omega (arith, sum_by_push (λ u. one_if (is_submit u)) b.history (submit_of b job))
 
 -- the state after a job was answered is that of one turn more, whether or not the history rolled
 pub submit_rolls : (b : BookView) (job : Job) → state (after_submit b job) ≡ state (with_turn b (submit_of b job))

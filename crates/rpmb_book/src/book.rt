@@ -175,6 +175,7 @@ impl Book {
     ) -> Result<Receipt, (Job, Refused)>
         ensures made { OnOk result (self.new ≡ after_submit self.old job) }
         ensures counted { OnOk result (tally.new ≡ record tally.old { count = tally.old.count + 1 }) }
+        ensures total { OnOk result (counted_in self.new ≡ counted_in self.old + 1) }
         ensures named { IfOk result (λ r. r ≡ record { life = self.old.life; guest = job.guest; number = self.old.folded + length self.old.history }) }
         ensures allowed { OnOk result (refusal self.old tally.old job ≡ None) }
         ensures refused { IfErr result (λ e. e.1 ≡ unwrap_or (refusal self.old tally.old job) Refused.NoMemory) }
@@ -206,6 +207,7 @@ impl Book {
     fn make_room(&mut self, alloc: Global, tally: &Tally, job: &Job)
         requires allowed { refusal self.old tally.now job.now ≡ None }
         ensures made { self.new ≡ roomy self.old }
+        ensures total { counted_in self.new ≡ counted_in self.old }
         ensures allowed { IsAllowed self.new tally.now job.now }
     {
         if self.submits == SUBMITS {
