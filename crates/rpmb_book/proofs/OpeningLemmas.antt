@@ -97,7 +97,7 @@ opens gs ps = record { sound = quiet gs ps; ready = ready_all gs ps; bounded = f
     few (g ∷ gs) (p ∷ ps) = (record { held = omega arith; unsettled = omega arith; climbs = omega arith }, few gs ps)
 
 -- and nothing is counted of them
-uncounted : (gs : List GuestConfig) (ps : List Partition) → (answered_in (fresh_guests gs ps) ≡ 0) × (total due (fresh_guests gs ps) ≡ 0)
+pub uncounted : (gs : List GuestConfig) (ps : List Partition) → (answered_in (fresh_guests gs ps) ≡ 0) × (total due (fresh_guests gs ps) ≡ 0)
 uncounted [] ps = (refl, refl)
 uncounted (g ∷ gs) [] = (refl, refl)
 uncounted (g ∷ gs) (p ∷ ps) = let rest = uncounted gs ps in (omega (arith, rest.0), omega (arith, rest.1))
