@@ -56,11 +56,11 @@ pub nothing_runs : (was : Bool) (h : HostView) (start : Option (List ℕ)) → R
 nothing_runs was h start = λ steps t few at. record { printed = Appends-nil start; after = record { cores = at.cores; ready = all_later steps t.sessions h.guests at.ready }; answered = omega arith }
 
 -- the history is full where a job is refused for it
-full_history : (r : RunnerView) (job : Job) → refusal_of r job ≡ Some refused.HistoryFull → r.answered ≡ 16384
+full_history : (r : RunnerView) (job : Job) → refusal_of r job ≡ Some refused.HistoryFull → r.answered ≡ 18446744073709551615
 unfolding refusal_of
-full_history r job is = by (nat_lt job.guest (length r.cores)) (r.answered == 16384) refl is
+full_history r job is = by (nat_lt job.guest (length r.cores)) (r.answered == 18446744073709551615) refl is
   where
-    by : (known full : Bool) → (r.answered == 16384) ≡ full → first_row ((not known, Some refused.Foreign) ∷ (full, Some refused.HistoryFull) ∷ []) None ≡ Some refused.HistoryFull → r.answered ≡ 16384
+    by : (known full : Bool) → (r.answered == 18446744073709551615) ≡ full → first_row ((not known, Some refused.Foreign) ∷ (full, Some refused.HistoryFull) ∷ []) None ≡ Some refused.HistoryFull → r.answered ≡ 18446744073709551615
     by true true same e = grind (arith, nat_tests, same)
     by true false same e = absurd (cc)
     by false full same e = absurd (cc)

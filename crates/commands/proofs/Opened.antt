@@ -19,6 +19,7 @@ use Rattle.recovery.specs.declared.fault.OpenFault.{OpenFault}
 use Rattle.recovery.specs.declared.fault.OpenFault.TheVariants as image
 use Rattle.rpmb_book.specs.Guest.{GuestCore, GuestState}
 use Rattle.rpmb_book.specs.Replay.{fresh_guests}
+use Rattle.rpmb_book.proofs.OpeningLemmas.{uncounted}
 use Rattle.board.specs.Board.{StaysLinked}
 use Rattle.board.specs.Opening.{Begins, Stands, bases_of}
 use Rattle.board.specs.State.{BoardState, guests}
@@ -76,7 +77,7 @@ opened_host {D = D} shows makes board disk b h life begins stand whole_image unt
   };
   cores = cores;
   ready = record { cores = cores; ready = first.ready };
-  answered = ap (λ r. r.answered) first.runner ∙ ap (λ v. (runner_of v).answered) begins.is;
+  answered = ap (λ r. r.answered) first.runner ∙ ap (λ v. (runner_of v).answered) begins.is ∙ (uncounted board begins.partitions).0;
   linked = links (bases_of begins.partitions) (λ g. []) (record { parts = _; linked = begins.linked });
   whole = ap (λ s. s.broken) first.store ∙ ap (λ v. v.store.broken) begins.is ∙ begins.whole;
   untouched = subst (λ s. Within shows makes (Untouched (shows disk)) disk s.disk) (sym first.store) untouched;

@@ -49,8 +49,8 @@ IsServe (command.Serve board script) = Unit {0}
 abbrev pub IsReadable : List GuestConfig → List ℕ → Type 0
 IsReadable board script = first_bad (length board) (lines_of script) ≡ None
 
--- what a line may come to: a store outside its guest's memory, want of memory, of room in the history, or of room on
--- standard output
+-- what a line may come to: a store outside its guest's memory, want of memory, of room for more requests in one life, or
+-- of room on standard output
 abbrev pub IsOfRunning : Fault → Type 0
 IsOfRunning (fault.BadScript line) = ⊥
 IsOfRunning fault.OutOfRange = Unit {0}
@@ -161,12 +161,12 @@ abbrev pub IsChainNext : List Said → Type 0
 IsChainNext [] = ⊥
 IsChainNext (line ∷ rest) = IsChain line
 
--- Why a run stops where these lines are done and those are left: at a chain, for which the history, of
--- 16,384 requests, or its guest's driver has no room, or memory was refused; memory may be refused before the first line, too.
+-- Why a run stops where these lines are done and those are left: at a chain, for which one life, of 2^64 - 1 requests,
+-- or its guest's driver has no room, or memory was refused; memory may be refused before the first line, too.
 abbrev pub StopsFor : Fault → List Said → List Said → Type 0
 StopsFor fault.NoMemory [] rest = Unit {0}
 StopsFor fault.NoMemory (line ∷ first) rest = IsChainNext rest
-StopsFor fault.HistoryFull first rest = IsChainNext rest × (answered_in first ≡ 16384)
+StopsFor fault.HistoryFull first rest = IsChainNext rest × (answered_in first ≡ 18446744073709551615)
 StopsFor fault.NoRoom first rest = IsChainNext rest
 StopsFor f first rest = ⊥
 

@@ -39,12 +39,12 @@ answered_in [] = 0
 answered_in (line ∷ lines) = answered_by line + answered_in lines
 
 -- The faults that a line may come to where each guest is ready and so many requests were answered: those of a chain alone,
--- for want of memory, of room in the history, which is full at 16,384, or of descriptors; and that standard output took
+-- for want of memory, of room for more requests in one life, which has 2^64 - 1, or of descriptors; and that standard output took
 -- no more.
 abbrev pub MayFail : ℕ → Fault → Said → Type 0
 MayFail answered fault.FileFault line = Unit {0}
 MayFail answered fault.NoMemory line = IsChain line
-MayFail answered fault.HistoryFull line = IsChain line × (answered ≡ 16384)
+MayFail answered fault.HistoryFull line = IsChain line × (answered ≡ 18446744073709551615)
 MayFail answered fault.NoRoom line = IsChain line
 MayFail answered f line = ⊥
 

@@ -21,7 +21,7 @@ pub enum Fault {
     OtherConfig,
     /// A guest has 64 replies that have not left.
     Busy,
-    /// 16,384 requests were answered, by all guests together.
+    /// 2^64 - 1 requests were answered, by all guests together.
     HistoryFull,
     /// A guest's driver has too few free descriptors.
     NoRoom,

@@ -3,7 +3,11 @@ use Rattle.std.proofs.Common.{◌≡◌, ℕ, zero, suc, List, Option, None, len
 use Rattle.std.specs.Prelude.{All}
 use Rattle.disk.specs.Disk.{DiskState}
 use Rattle.rpmb_frame.specs.declared.config.GuestConfig.{GuestConfig}
-use Rattle.rpmb_book.specs.Book.{submits_in}
+use Rattle.rpmb_book.specs.Asked.{answered_in}
+use Rattle.rpmb_book.specs.Book.{counted_in}
+use Rattle.rpmb_book.specs.Replay.{fresh_guests}
+use Rattle.rpmb_book.proofs.OpeningLemmas.{uncounted}
+use Rattle.rpmb_frame.specs.Partition.{Partition}
 use Rattle.rpmb_book.specs.Job.{Tally}
 use Rattle.rpmb_book.specs.Opening.{tallies_from}
 use Rattle.board.specs.State.{BoardState, HasNothingBetween}
@@ -35,5 +39,8 @@ fresh_tallies shows config b just = subst (λ v. All (λ t. t.count ≡ 0) v.tal
 pub many_tallies : {D : Type 0} (shows : D → DiskState) (config : List GuestConfig) (b : BoardState D) → IsJustOpened shows config b → length b.tallies ≡ length config
 many_tallies shows config b just = ap (λ v. length v.tallies) just.begins.is ∙ length_tallies 0 (length config)
 
-pub new_book : {D : Type 0} (shows : D → DiskState) (config : List GuestConfig) (b : BoardState D) → IsJustOpened shows config b → submits_in b.book ≡ 0
-new_book shows config b just = ap (λ v. submits_in v.book) just.begins.is
+pub new_book : {D : Type 0} (shows : D → DiskState) (config : List GuestConfig) (b : BoardState D) → IsJustOpened shows config b → counted_in b.book ≡ 0
+new_book shows config b just = ap (λ v. counted_in v.book) just.begins.is ∙ nothing config just.begins.partitions
+  where
+    nothing : (cs : List GuestConfig) (ps : List Partition) → answered_in (fresh_guests cs ps) + 0 ≡ 0
+    nothing cs ps = omega (arith, (uncounted cs ps).0)

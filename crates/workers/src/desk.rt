@@ -1,6 +1,7 @@
 //! What lies under the book's lock.
 ghost use Rattle.std.specs.Prelude.{◌≡◌, ◌+◌, ◌<◌, IfErr, IfOk, OnErr, OnOk, None, length, option_map, unwrap_or};
-ghost use Rattle.rpmb_book.specs.Book.{BookView, after_break_off, after_collect, after_settle, after_take, due_of, found_by, next_intent, refusal, settle_answer, share_moved, state, submit_of, submits_in, take_answer, with_turn};
+ghost use Rattle.rpmb_book.specs.Book.{BookView, after_break_off, after_collect, after_settle, after_take, due_of, found_by, next_intent, refusal, settle_answer, share_moved, state, counted_in, take_answer};
+ghost use Rattle.rpmb_book.specs.Fold.{after_submit};
 ghost use Rattle.rpmb_book.specs.Receipt.{submission_seen, turn_seen};
 
 use flusher::Marks;
@@ -12,7 +13,7 @@ use std::marker::Model;
 use std::sync::ledger;
 use std::sync::ledger::{Ledger, Share};
 
-/// The book, and a ledger's book whose total is the number of its Submit turns. All threads make their
+/// The book, and a ledger's book whose total is the number of its Submit turns, those that were folded too. All threads make their
 /// calls here, one at a time: each call is the book's, so the state is the replay of one history.
 ///
 /// A contract sees the book.
@@ -24,19 +25,19 @@ pub struct Desk<L: Ledger> {
 
 impl<L: Ledger> Model for Desk<L> {
     ghost use Rattle.std.specs.Prelude.{◌≡◌};
-    ghost use Rattle.rpmb_book.specs.Book.{BookView, submits_in};
+    ghost use Rattle.rpmb_book.specs.Book.{BookView, counted_in};
 
     ghost Value = { BookView };
 
     ghost view = { λ d. d.book };
 
-    ghost invariant = { λ d. submits_in d.book ≡ d.submits.total };
+    ghost invariant = { λ d. counted_in d.book ≡ d.submits.total };
 }
 
 impl<L: Ledger> Desk<L> {
-    /// A desk whose ledger counts what the book's history has.
+    /// A desk whose ledger counts what the book does.
     pub fn new(book: Book, submits: ledger::Book<L>) -> Desk<L>
-        requires { submits_in book ≡ submits.total }
+        requires { counted_in book ≡ submits.total }
         ensures { result ≡ book }
     {
         Desk { book, submits }
@@ -51,10 +52,10 @@ impl<L: Ledger> Desk<L> {
         job: Job,
     ) -> Result<Receipt, (Job, Refused)>
         requires { 0 < share.old.parts }
-        ensures made { OnOk result (self.new ≡ with_turn self.old (submit_of self.old job)) }
+        ensures made { OnOk result (self.new ≡ after_submit self.old job) }
         ensures tally { OnOk result (tally.new ≡ record tally.old { count = tally.old.count + 1 }) }
         ensures counted { OnOk result (share.new.amount ≡ share.old.amount + 1) }
-        ensures named { IfOk result (λ r. r ≡ record { life = self.old.life; guest = job.guest; number = length self.old.history }) }
+        ensures named { IfOk result (λ r. r ≡ record { life = self.old.life; guest = job.guest; number = self.old.folded + length self.old.history }) }
         ensures allowed { OnOk result (refusal self.old tally.old job ≡ None) }
         ensures refused { IfErr result (λ e. e.1 ≡ unwrap_or (refusal self.old tally.old job) Refused.NoMemory) }
         ensures given_back { IfErr result (λ e. e.0 ≡ job) }
@@ -112,10 +113,10 @@ impl<L: Ledger> Desk<L> {
         self.book.find(receipt)
     }
 
-    /// Who holds the whole ledger knows the number of Submit turns.
+    /// Who holds the whole ledger knows the number of Submit turns, those that were folded too.
     pub fn audit(&mut self, all: &mut Share<L>)
         requires { all.old.parts ≡ L.parts }
-        ensures total { submits_in self.old ≡ all.old.amount }
+        ensures total { counted_in self.old ≡ all.old.amount }
         ensures same { (self.new ≡ self.old) × (all.new.amount ≡ all.old.amount) × (all.new.parts ≡ all.old.parts) }
     {
         self.submits.audit(all);

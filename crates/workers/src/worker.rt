@@ -78,7 +78,8 @@ impl<L: Ledger> Worker<L> {
     }
 
     /// Submits the job under the desk's lock; room for its receipt is made before. Whether the book
-    /// answered it: where the guest is busy the worker keeps the job.
+    /// answered it: where the guest is busy, or the history waits for its first reply to leave, the
+    /// worker keeps the job.
     fn submit(
         &mut self,
         rt: &impl Wait,
@@ -106,7 +107,7 @@ impl<L: Ledger> Worker<L> {
                 receipts.push_reserved(receipt);
                 Ok(true)
             }
-            Err((job, Refused::Busy)) => {
+            Err((job, Refused::Busy | Refused::HistoryFull)) => {
                 *place = Some(job);
                 Ok(false)
             }
