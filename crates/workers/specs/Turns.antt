@@ -30,11 +30,11 @@ TakesIn count job true count' job' = (count + lies job ≤ count' + lies job') �
 TakesIn count job false count' job' = (count' ≡ count) × (job' ≡ job)
 
 -- A worker that went on: no job that it held is lost, each was answered or lies there still, and at most one more was
--- popped. One that rests or ends did neither.
+-- popped. One that rests or ends did neither, and one that ends has no job.
 abbrev pub Works : ℕ → Option Job → Next → ℕ → Option Job → Type 0
 Works count job Again count' job' = (count + lies job ≤ count' + lies job') × (count' + lies job' ≤ count + lies job + 1)
 Works count job Rest count' job' = (count' ≡ count) × (job' ≡ job)
-Works count job End count' job' = (count' ≡ count) × (job' ≡ job)
+Works count job End count' job' = (count' ≡ count) × (job ≡ None) × (job' ≡ None)
 
 -- one look for an answer, of which something came, or nothing
 abbrev pub Reaps : ℕ → Bool → ℕ → Type 0

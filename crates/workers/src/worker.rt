@@ -1,5 +1,5 @@
 //! A guest's worker: it pops, submits, and publishes what may leave.
-ghost use Rattle.std.specs.Prelude.{◌≡◌, ◌+◌, ◌<◌, All, IfOk, None, vec_len};
+ghost use Rattle.std.specs.Prelude.{◌≡◌, ◌+◌, ◌<◌, All, IfOk, None, true, vec_len};
 ghost use Rattle.workers.specs.Turns.{HandsIn, Pops, Submits, TakesIn, Works};
 
 use crate::desk::Desk;
@@ -19,6 +19,8 @@ pub struct Worker<L: Ledger> {
     tally: Tally,
     share: Share<L>,
     receipts: Vec<Receipt>,
+    /// How many replies it collected.
+    collected: u64,
     /// A job that the book hasn't answered.
     job: Option<Job>,
     fault: Option<HostFault>,
@@ -51,6 +53,7 @@ impl<L: Ledger> Worker<L> {
             tally,
             share,
             receipts: Vec::new(alloc),
+            collected: 0,
             job: None,
             fault: None,
         }
@@ -98,6 +101,7 @@ impl<L: Ledger> Worker<L> {
             tally,
             share,
             receipts,
+            collected: _,
             job: place,
             fault: _,
         } = self;
@@ -124,9 +128,18 @@ impl<L: Ledger> Worker<L> {
         let Some(done) = due else {
             return false;
         };
+        self.collected = self.collected.saturating_add(1);
         // A reply of an earlier session is dropped.
         let _ = guest.lock(rt).publish(done);
         true
+    }
+
+    /// Whether it has no job, and all replies to those that were answered have left the book: as long as
+    /// one is held, the history can't roll over it.
+    fn has_nothing_left(&self) -> bool
+        ensures { result ≡ true → self.now.job ≡ None }
+    {
+        self.job.is_none() && self.collected == self.tally.count()
     }
 
     /// Submits the job that it has. Whether the book answered it.
@@ -195,7 +208,11 @@ impl<L: Ledger> Worker<L> {
         if !stopped && seat.guest.lock(rt).is_stopped() {
             seat.bell.ring(rt);
         }
-        Ok(if finished { Next::End } else { Next::Rest })
+        Ok(if finished && self.has_nothing_left() {
+            Next::End
+        } else {
+            Next::Rest
+        })
     }
 
     /// Looks for work until the guest's driver has ended and nothing is left, or all are to end.
@@ -248,6 +265,7 @@ impl<L: Ledger> Worker<L> {
             tally,
             share,
             receipts,
+            collected: _,
             job: _,
             fault: _,
         } = self;
