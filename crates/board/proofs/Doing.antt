@@ -1,5 +1,5 @@
 -- Steps as the code makes them.
-use Rattle.std.proofs.Common.{◌≡◌, inr, ℕ, zero, suc, ◌<◌, Bool, true, false, List, [], ◌∷◌, Option, Some, None, Result, Err, length, refl, ap, sym, subst, ◌∙◌}
+use Rattle.std.proofs.Common.{◌≡◌, inl, inr, ℕ, zero, suc, ◌+◌, ◌<◌, Bool, true, false, List, [], ◌∷◌, Option, Some, None, Result, Ok, Err, length, refl, ap, sym, subst, ◌∙◌}
 use Rattle.std.specs.Prelude.{is_some, unwrap_or, slice_get, slice_set, slice_index_or}
 use Rattle.std.proofs.lemmas.Option.{slice_get-get_or}
 use Rattle.disk.specs.Disk.{DiskCall, DiskState, HasRisen, Within}
@@ -12,11 +12,13 @@ use Rattle.flusher.specs.SlotInvariant.{EachStop, IsHeld}
 use Rattle.flusher.specs.Store.{StoreState}
 use Rattle.mmio_transport.specs.Job.{Job}
 use Rattle.rpmb_book.specs.Book.{BookView, refusal}
+use Rattle.rpmb_book.specs.Fold.{after_submit}
 use Rattle.rpmb_book.specs.Job.{Tally}
 use Rattle.rpmb_book.specs.declared.refused.Refused.{Refused}
 use Rattle.rpmb_book.specs.declared.refused.Refused.TheVariants as refused
 use Rattle.board.specs.State.{BoardState, emptied, emptied_at, in_place}
 use Rattle.board.specs.Steps.{AdvancesUnder, Answer, SubmitsFrom, advance_answer, report_of}
+use Rattle.board.specs.declared.step.Seen.TheVariants.{Did}
 use Rattle.board.specs.declared.step.StepFault.TheVariants as fault
 use Rattle.board.specs.declared.step.Report.{Report}
 
@@ -45,6 +47,32 @@ pub full_at : {X : Type 0} (o : Option (Option X)) (x : X) → Some x ≡ in_pla
 full_at None x is = absurd (cc)
 full_at (Some None) x is = absurd (cc)
 full_at (Some (Some y)) x is = (let e : x ≡ y = cc in ap (λ v. Some (Some v)) (sym e))
+
+-- a job that was answered has left its place
+pub did_of : {D : Type 0} (old : BoardState D) (n at : ℕ) (job : Job) (rest : List (Option Job)) (tally tally' : Tally) (book' : BookView)
+    → at ≡ n → Some job ≡ in_place (slice_get old.jobs at) → rest ≡ emptied old.jobs at → at < length old.tallies → tally ≡ slice_index_or old.tallies at tally
+    → refusal old.book tally job ≡ None → book' ≡ after_submit old.book job → tally' ≡ record tally { count = tally.count + 1 }
+    → SubmitsFrom n (in_place (slice_get old.jobs n)) (slice_get old.tallies n) (Ok Did) old (record old { book = book'; tallies = slice_set old.tallies at tally'; jobs = rest })
+did_of {D = D} old n at job rest tally tally' book' same lies left below read allowed made counted =
+    subst (λ k. SubmitsFrom k (in_place (slice_get old.jobs k)) (slice_get old.tallies k) (Ok Did) old new) same
+    (subst (λ o. SubmitsFrom at o (slice_get old.tallies at) (Ok Did) old new) lies
+    (subst (λ o. SubmitsFrom at (Some job) o (Ok Did) old new) (sym there)
+    (inl (allowed, refl, changed))))
+  where
+    new : BoardState D
+    new = record old { book = book'; tallies = slice_set old.tallies at tally'; jobs = rest }
+
+    there : slice_get old.tallies at ≡ Some tally
+    there = slice_get-get_or old.tallies at tally below ∙ ap Some (sym read)
+
+    gone : rest ≡ slice_set old.jobs at None
+    gone = left ∙ ap (emptied_at old.jobs at) (full_at (slice_get old.jobs at) job lies)
+
+    changed : new ≡ record old { book = after_submit old.book job; tallies = slice_set old.tallies at (record tally { count = tally.count + 1 }); jobs = slice_set old.jobs at None }
+    changed =
+        ap (λ (b : BookView). record old { book = b; tallies = slice_set old.tallies at tally'; jobs = rest }) made
+        ∙ ap (λ (t : Tally). record old { book = after_submit old.book job; tallies = slice_set old.tallies at t; jobs = rest }) counted
+        ∙ ap (λ js. record old { book = after_submit old.book job; tallies = slice_set old.tallies at (record tally { count = tally.count + 1 }); jobs = js }) gone
 
 -- a job that was refused lies in its place again
 pub refused_of : {D : Type 0} (old : BoardState D) (n at : ℕ) (job back : Job) (rest : List (Option Job)) (tally tally' : Tally) (book' : BookView) (why : Refused)

@@ -323,7 +323,7 @@ module _ (old new : BoardState CutState) (answer : Answer) where
   settled_before : Turned old new → (g : ℕ) (y : GuestState) → slice_get (guests new) g ≡ Some y → (x : GuestState) × (slice_get (guests old) g ≡ Some x) × (x.settled ≤ y.settled)
   settled_before (inl same) g y at = (y, ap (λ b. slice_get (state b).guests g) (sym same) ∙ at, omega arith)
   settled_before (inr turn) g y at =
-      let x = turned old.book turn.0 g y (ap (λ b. slice_get (state b).guests g) (sym turn.1) ∙ at) in
+      let x = turned old.book turn.0 g y (ap (λ s. slice_get s.guests g) (sym turn.1) ∙ at) in
       let risen = never_falls g (state old.book).broken turn.0 x.0 in
       let is = ap (λ v. v.settled) x.2 in
       (x.0, x.1, omega (arith, risen, is))

@@ -1,9 +1,10 @@
-use Rattle.std.proofs.Common.{arith, subst, sym, ◌∙◌, Err}
+use Rattle.std.proofs.Common.{arith, subst, sym, ◌∙◌, Err, Ok}
 use Rattle.std.specs.Prelude.{slice_get, slice_set, Some}
 use Rattle.board.specs.State.{in_place}
 use Rattle.board.specs.Steps.{SubmitsFrom}
+use Rattle.board.specs.declared.step.Seen.TheVariants.{Did}
 use Rattle.board.specs.declared.step.StepFault.TheVariants as fault
-use Rattle.board.proofs.Doing.{refused_of}
+use Rattle.board.proofs.Doing.{did_of, refused_of}
 use Rattle.board.proofs.assembly.Assembly.submit.Goals as goal
 
 pub returns-in-Err : goal.returns-in-Err
@@ -15,3 +16,13 @@ returns-in-Err g c =
     (refused_of _ c.args.guest c.from-at.result c.in-Some.job c.in-Err.job c.take_from.new.places.items c.index_mut.result.now c.submit.new.tally c.submit.new.self c.in-Err.refused
     c.from-at.ensures (sym c.in-Some.is ∙ c.take_from.ensures.taken) c.take_from.ensures.rest (let below = c.if-at-len.false in let long = c.len.ensures in omega (arith, below, long)) c.index_mut.ensures.value
     e.refused e.given_back e.unchanged.0 e.unchanged.1)
+
+pub returns-in-Ok : goal.returns-in-Ok
+returns-in-Ok g c =
+    let e = c.in-Ok.ensures in
+    let i = c.self.inside in
+    subst (λ v. SubmitsFrom c.args.guest (in_place (slice_get v.jobs c.args.guest)) (slice_get v.tallies c.args.guest) (Ok Did) v
+    (record { devices = i.devices.items; book = c.submit.new.self; tallies = slice_set i.tallies.items c.from-at.result c.submit.new.tally; shares = i.shares; store = i.store; jobs = c.take_from.new.places.items; dones = i.dones.items; intents = i.intents.items; report = i.report })) c.self.view_is
+    (did_of _ c.args.guest c.from-at.result c.in-Some.job c.take_from.new.places.items c.index_mut.result.now c.submit.new.tally c.submit.new.self
+    c.from-at.ensures (sym c.in-Some.is ∙ c.take_from.ensures.taken) c.take_from.ensures.rest (let below = c.if-at-len.false in let long = c.len.ensures in omega (arith, below, long)) c.index_mut.ensures.value
+    e.allowed e.made e.counted)
