@@ -133,6 +133,14 @@ impl Books {
         }
     }
 
+    /// One request of a guest for its counter, from the making of its job to the end of its reply.
+    pub fn ask(&mut self, guest: u16) -> Result<(), Stop> {
+        push_job(self.alloc, &mut self.jobs, guest, Kind::Counter, 0)?;
+        self.submit()?;
+        self.collect(guest)?;
+        self.publish()
+    }
+
     /// What was counted of the disk.
     pub fn into_counts(self) -> Counts {
         let Parts { store, .. } = self.parts;

@@ -2,6 +2,9 @@
 //!
 //! - of `macs`: of MACs;
 //! - of `requests`: of requests for each of 64 guests;
+//! - of `roll`: of requests of 64 guests in all, past where the history rolls: the median, the 99.99th
+//!   percentile and the slowest of their times, and what memory the process has after the first 20,000 and at
+//!   the end;
 //! - of `rings`: of chains of 8,704 bytes, through queues of each form;
 //! - of `device`: of whole requests of each kind, of one guest, from its offer to its reap, through queues of
 //!   each form;
@@ -30,6 +33,7 @@ mod loads;
 mod macs;
 mod requests;
 mod rings;
+mod rolls;
 mod runs;
 mod serve_times;
 mod serving;
@@ -45,6 +49,7 @@ use loads::new_load;
 use macs::{keyed_macs, plain_macs, time_keyed, time_plain};
 use requests::Kind;
 use rings::{FORMS, Form, time_chains, time_copies};
+use rolls::time_rolls;
 use rpmb_frame::BoardConfig;
 use runs::time_script;
 use serve_times::{few_served, time_serve};
@@ -73,7 +78,6 @@ fn time_part(rt: &HostRuntime, board: &BoardConfig, part: u32) -> Result<(), Sto
     print_rows(rt, &[written, counted])
 }
 
-/// A history holds 16,384 requests, one of each guest programs its key, and so COUNT is at most 255.
 fn time_requests(rt: &HostRuntime, board: &BoardConfig, count: u32) -> Result<(), Stop> {
     // Half the load first: where time grows with the requests alone, each takes as long in both.
     time_part(rt, board, count / 2)?;
@@ -118,7 +122,6 @@ fn time_forms(rt: &HostRuntime, kind: Kind, count: u32) -> Result<(), Stop> {
     Ok(())
 }
 
-/// A history holds 16,384 requests, one of which programs the key, and so COUNT is at most 16,383.
 fn time_device(rt: &HostRuntime, count: u32) -> Result<(), Stop> {
     for kind in &KINDS {
         time_forms(rt, *kind, count)?;
@@ -148,14 +151,12 @@ fn time_open(rt: &HostRuntime, board: &BoardConfig, count: u32) -> Result<(), St
     print_rows(rt, &[opened, read])
 }
 
-/// A history holds 16,384 requests, one of each guest programs its key, and so COUNT is at most 255.
 fn time_board(rt: &HostRuntime, board: &BoardConfig, count: u32) -> Result<(), Stop> {
     let rows = time_ways(rt, board, count)?;
     print_rows(rt, &[rows.steps, rows.store, rows.books])
 }
 
-/// Beside a run the calls of its store, and the two MACs of each write: of its frame, and of its reply. A history
-/// holds 16,384 requests, one programs the key, and so COUNT is at most 16,383.
+/// Beside a run the calls of its store, and the two MACs of each write: of its frame, and of its reply.
 fn time_run<R: AllocGlobal + Threads + Wait + Sync>(
     rt: &HostRuntime,
     threads: &R,
@@ -265,6 +266,7 @@ fn time<R: AllocGlobal + Threads + Wait + Sync>(
     match work {
         "macs" => time_macs(rt, count),
         "requests" => time_requests(rt, board, count),
+        "roll" => time_rolls(rt, board, count),
         "rings" => time_rings(rt, count),
         "device" => time_device(rt, count),
         "store" => time_store(rt, board, count),

@@ -19,9 +19,6 @@ use std::time::Duration;
 /// The boards by their numbers of guests.
 static GUESTS: [u16; 3] = [1, 2, 4];
 
-/// The most requests of each guest: a history holds 16,384, those of four guests and their keys.
-const MOST: u32 = 4095;
-
 /// A file of the folder where the program runs, for as long as it is written.
 const FILE: &str = "bench-serve.img";
 
@@ -167,9 +164,6 @@ pub fn time_serve<R: Threads + Wait + Sync>(
     threads: &R,
     count: u32,
 ) -> Result<(), Stop> {
-    if count > MOST {
-        return Err("HistoryFull: at most 4095 requests of each guest");
-    }
     time_kind(rt, threads, Kind::Counter, count)?;
     time_kind(rt, threads, Kind::Write, count)
 }
