@@ -10,6 +10,7 @@ mod limits;
 mod lines;
 mod memory;
 mod receipts;
+mod rolls;
 mod scene;
 mod stops;
 mod sweeps;

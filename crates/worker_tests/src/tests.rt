@@ -9,4 +9,5 @@ mod many;
 mod scene;
 mod stopped;
 mod threads;
+mod waiting;
 mod wrong;

@@ -33,3 +33,20 @@ pub fn is_text(alloc: Global, bytes: &[u8], pieces: &[Piece]) -> Result<bool, Fa
     let text = text_of(alloc, pieces)?;
     Ok(bytes == text.as_bytes())
 }
+
+/// Whether these bytes are the text of these pieces so many times.
+pub fn is_repeated(
+    alloc: Global,
+    bytes: &[u8],
+    pieces: &[Piece],
+    times: usize,
+) -> Result<bool, Fail> {
+    let once = text_of(alloc, pieces)?;
+    is_text_of(alloc, bytes, once.as_str(), times)
+}
+
+fn is_text_of(alloc: Global, bytes: &[u8], once: &str, times: usize) -> Result<bool, Fail> {
+    let mut text = String::new(alloc);
+    push_times(&mut text, once, times)?;
+    Ok(bytes == text.as_bytes())
+}

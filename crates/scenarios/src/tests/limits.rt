@@ -1,7 +1,7 @@
-//! How many replies a guest may have held, how many requests a book answers, and whom it knows.
+//! How many replies a guest may have held, and whom a book knows.
 
 use crate::tests::image::fresh_store;
-use crate::tests::lines::{Asked, Line, has_no_reply, play_all};
+use crate::tests::lines::{Asked, Line, play_all};
 use crate::tests::scene::{
     KEY, Scene, accepted, check, get_write_counter, job_of, nonce_of, program_key, scene_of,
 };
@@ -22,7 +22,7 @@ fn is_the_same(job: &Job, guest: u16, frames: &[[u8; 512]]) -> bool {
 }
 
 /// The job that was given back as it was offered, for this reason.
-fn given_back(
+pub fn given_back(
     offered: Result<Receipt, (Job, Refused)>,
     guest: u16,
     frames: &[[u8; 512]],
@@ -167,35 +167,6 @@ fn refuse_shares_of(alloc: Global, other: &mut Scene) -> Result<(), Fail> {
 #[test]
 fn shares_of_another_book_are_foreign(rt: HostRuntime) -> Result<(), Fail> {
     refuse_shares_of(rt.alloc(), &mut scene_of(rt.alloc(), 2)?)
-}
-
-fn answer_one(alloc: Global, scene: &mut Scene, number: u32) -> Result<(), Fail> {
-    scene.submit(alloc, 0, &get_write_counter(u128::from(number)))?;
-    check(!has_no_reply(scene, 0), "a reply")
-}
-
-/// The job of guest 0 that comes after all others, and is given back.
-fn one_more(alloc: Global, scene: &mut Scene) -> Result<Job, Fail> {
-    let frames = get_write_counter(16_384);
-    let offered = scene.offer(alloc, job_of(alloc, 0, 1, &frames)?);
-    given_back(offered, 0, &frames, Refused::HistoryFull)
-}
-
-fn refuse_one_more(alloc: Global, scene: &mut Scene) -> Result<(), Fail> {
-    one_more(alloc, scene)?;
-    check(has_no_reply(scene, 0), "no reply")
-}
-
-fn answer_all(alloc: Global, scene: &mut Scene) -> Result<(), Fail> {
-    for number in 0..16_384 {
-        answer_one(alloc, scene, number)?;
-    }
-    refuse_one_more(alloc, scene)
-}
-
-#[test]
-fn the_book_answers_16384_requests(rt: HostRuntime) -> Result<(), Fail> {
-    answer_all(rt.alloc(), &mut scene_of(rt.alloc(), 1)?)
 }
 
 /// Guest 0 programs a key, and the result is asked for by guest 1, and by guest 0 in this session and in

@@ -1,9 +1,9 @@
 //! Scenes as tables: what is asked of a book and its store, line by line, and what is seen then.
 
-use crate::tests::image::{fresh_store, settle};
+use crate::tests::image::{fresh_store, keep_next, settle};
 use crate::tests::scene::{
-    KEY, Scene, accepted, get_write_counter, has_tail, job_of, program_key, result_read, scene_of,
-    write_at, write_of,
+    KEY, Scene, accepted, get_write_counter, has_tail, job_of, nonce_of, program_key, result_read,
+    scene_of, write_at, write_of,
 };
 use disk::CutDisk;
 use flusher::Store;
@@ -49,6 +49,13 @@ pub enum Line {
     AskNext(u16, Asked),
     /// The book accepts a guest's request for the result, in a chain that has no room for a reply.
     AskWithoutRoom(u16),
+    /// A guest reads its counter so often, each time after the reply before has left.
+    Reads(u16, u32),
+    /// The same of a book that is broken: each reply is a failure.
+    FailedReads(u16, u32),
+    /// A guest with its key writes block 0 under the counters from this one on, so often. Each write goes
+    /// to the store and is settled, and its reply leaves, before the next.
+    Writes(u16, u32, u32),
     /// The guest's next intent goes to the store.
     Give(u16),
     /// It is this one.
@@ -65,6 +72,10 @@ pub enum Line {
     Settled(u16, u64),
     /// The write counter of the guest's partition.
     Counter(u16, u32),
+    /// Block 0 of the guest's partition is of this byte.
+    Holds(u16, u8),
+    /// How many requests the book has answered.
+    Turns(u64),
     /// The book learns that its store broke.
     BreakOff,
     /// Whether it has learnt that.
@@ -161,6 +172,84 @@ fn ask_without_room(alloc: Global, scene: &mut Scene, guest: u16) -> Result<bool
     Ok(true)
 }
 
+/// Whether the guest's next reply is to a read under this nonce.
+fn is_read(scene: &mut Scene, guest: u16, nonce: u128) -> bool {
+    match scene.book.collect(guest) {
+        Some(done) => nonce_of(done.reply()) == Some(nonce.to_be_bytes().as_slice()),
+        None => false,
+    }
+}
+
+/// A guest reads its counter under this nonce, and the reply leaves: a failure where the book is broken.
+fn read(
+    alloc: Global,
+    scene: &mut Scene,
+    guest: u16,
+    nonce: u128,
+    broken: bool,
+) -> Result<bool, Fail> {
+    scene.submit(alloc, guest, &get_write_counter(nonce))?;
+    if broken {
+        Ok(fails(scene, guest, [0, 1, 2, 0]))
+    } else {
+        Ok(is_read(scene, guest, nonce))
+    }
+}
+
+fn read_all(
+    alloc: Global,
+    scene: &mut Scene,
+    guest: u16,
+    count: u32,
+    broken: bool,
+) -> Result<bool, Fail> {
+    for number in 0..count {
+        if !read(alloc, scene, guest, u128::from(number), broken)? {
+            return Ok(false);
+        }
+    }
+    Ok(true)
+}
+
+/// A guest's write under this counter is kept by the store, and its reply leaves.
+fn write(
+    alloc: Global,
+    scene: &mut Scene,
+    store: &mut Store<CutDisk>,
+    guest: u16,
+    counter: u32,
+) -> Result<bool, Fail> {
+    scene.submit(alloc, guest, &write_of((counter % 256) as u8, counter))?;
+    let kept = keep_next(scene, store, guest)? && scene.settles(store.marks());
+    Ok(kept && writes_reply(scene, guest, counter))
+}
+
+/// Whether the guest's next reply is to a write under this counter.
+fn writes_reply(scene: &mut Scene, guest: u16, counter: u32) -> bool {
+    let mut tail = [0, 0, 0, 0, 0, 0, 0, 1, 0, 0, 3, 0];
+    tail[..4].copy_from_slice(&counter.wrapping_add(1).to_be_bytes());
+    match scene.book.collect(guest) {
+        Some(done) => has_tail(done.reply(), &tail),
+        None => false,
+    }
+}
+
+fn write_all(
+    alloc: Global,
+    scene: &mut Scene,
+    store: &mut Store<CutDisk>,
+    guest: u16,
+    first: u32,
+    count: u32,
+) -> Result<bool, Fail> {
+    for number in 0..count {
+        if !write(alloc, scene, store, guest, first.wrapping_add(number))? {
+            return Ok(false);
+        }
+    }
+    Ok(true)
+}
+
 fn told(intent: &Intent) -> Told {
     let count = intent.entries();
     let entry = intent.entry(0);
@@ -234,6 +323,13 @@ fn has_counter(scene: &Scene, guest: u16, counter: u32) -> bool {
     }
 }
 
+fn holds(scene: &Scene, guest: u16, byte: u8) -> bool {
+    match scene.book.partition(guest) {
+        Some(partition) => partition.block(0) == [byte; 256],
+        None => false,
+    }
+}
+
 fn break_off(scene: &mut Scene) -> bool {
     scene.book.break_off();
     true
@@ -292,6 +388,9 @@ fn happens(
         Line::Ask(guest, asked) => ask(alloc, scene, guest, 1, asked),
         Line::AskNext(guest, asked) => ask(alloc, scene, guest, 2, asked),
         Line::AskWithoutRoom(guest) => ask_without_room(alloc, scene, guest),
+        Line::Reads(guest, count) => read_all(alloc, scene, guest, count, false),
+        Line::FailedReads(guest, count) => read_all(alloc, scene, guest, count, true),
+        Line::Writes(guest, first, count) => write_all(alloc, scene, store, guest, first, count),
         Line::Run => runs(store),
         Line::Give(guest) => Ok(hand_over(scene, store, guest, None)),
         Line::GiveThis(guest, intent) => Ok(hand_over(scene, store, guest, Some(intent))),
@@ -300,6 +399,8 @@ fn happens(
         Line::Settle => Ok(scene.settles(store.marks())),
         Line::Settled(guest, sequence) => Ok(is_settled(scene, guest, sequence)),
         Line::Counter(guest, counter) => Ok(has_counter(scene, guest, counter)),
+        Line::Holds(guest, byte) => Ok(holds(scene, guest, byte)),
+        Line::Turns(count) => Ok(scene.book.submit_turns() == count),
         Line::BreakOff => Ok(break_off(scene)),
         Line::IsBroken(broken) => Ok(scene.book.is_broken() == broken),
         Line::Life(life) => Ok(scene.book.life() == life),

@@ -19,7 +19,7 @@ fn submit_4096(alloc: Global, scene: &mut Scene, receipts: &mut Vec<Receipt>) ->
 }
 
 /// Whether it is the turn of the request with this nonce.
-fn is_of_nonce(turn: &TurnView, nonce: u128) -> bool {
+pub fn is_of_nonce(turn: &TurnView, nonce: u128) -> bool {
     let frames = get_write_counter(nonce);
     turn.request == frames.as_flattened()
         && turn.writable == 512
@@ -28,7 +28,7 @@ fn is_of_nonce(turn: &TurnView, nonce: u128) -> bool {
 }
 
 fn is_found(book: &Book, receipt: &Receipt, number: usize) -> bool {
-    if receipt.number != number as u64 || usize::from(receipt.guest) != number % 64 {
+    if receipt.number != number as u128 || usize::from(receipt.guest) != number % 64 {
         return false;
     }
     match book.find(receipt) {
@@ -60,7 +60,7 @@ fn each_of_64_held_replies_of_64_guests_is_found(rt: HostRuntime) -> Result<(), 
 
 /// Receipts of another life, of other guests, of the turn that collected the reply, and of turns that
 /// aren't there.
-fn strangers(receipt: Receipt) -> [Receipt; 6] {
+fn strangers(receipt: Receipt) -> [Receipt; 7] {
     [
         Receipt {
             life: LIFE + 1,
@@ -83,7 +83,11 @@ fn strangers(receipt: Receipt) -> [Receipt; 6] {
             ..receipt
         },
         Receipt {
-            number: u64::MAX,
+            number: 1 << 64,
+            ..receipt
+        },
+        Receipt {
+            number: u128::MAX,
             ..receipt
         },
     ]

@@ -1,21 +1,18 @@
 //! Faults of several threads at once: the lowest-numbered guest's is answered.
 use crate::tests::devices::run_beside;
-use crate::tests::full::{script_of_reads, scripts_of};
+use crate::tests::full::script_of_reads;
 use crate::tests::scene::{Step, chain, check, result_read, two_scripts};
 use host::HostFault;
 use mmio_transport::Device;
 use rpmb_frame::GuestConfig;
 use std::alloc::Global;
 use std::sync::Wait;
-use std::sync::atomic::{AtomicBool, AtomicU64, Ordering};
+use std::sync::atomic::{AtomicBool, Ordering};
 use std::test::Fail;
 use std::thread;
 use std::thread::Threads;
 use std::time::{Clock, Duration};
 use workers::{Gate, Open, Order, Place, Script, Who};
-
-/// How many requests a history holds.
-const SUBMITS: u16 = 16_384;
 
 /// A device whose jobs are another guest's: at the first the worker comes to `Foreign`.
 fn foreign(alloc: Global) -> Result<Device, Fail> {
@@ -168,7 +165,7 @@ impl<'a, C: Clock> Gate for HoldsTillPublished<'a, C> {
 }
 
 /// Sleeps until the flag stands, for fifty seconds at most.
-fn slept_till(clock: &impl Clock, flag: &AtomicBool) -> bool {
+pub fn slept_till(clock: &impl Clock, flag: &AtomicBool) -> bool {
     for _ in 0..50_000 {
         if flag.load(Ordering::SeqCst) {
             return true;
@@ -191,103 +188,4 @@ fn a_fault_is_answered_where_a_call_of_the_disk_has_failed(rt: HostRuntime) -> R
     check(fault == Some(HostFault::Foreign), "another fault")?;
     check(gate.called.load(Ordering::SeqCst), "no call")?;
     check(gate.published.load(Ordering::SeqCst), "no reply before")
-}
-
-/// Holds two workers at `Popped`, until one stands there with the request that the history has no room for, and the
-/// other with a foreign job. Guest 0's is held longer, so that it is the later to come to its fault.
-#[derive(Drop)]
-struct HoldsBoth<'a, C: Clock> {
-    clock: &'a C,
-    full: u16,
-    pops: AtomicU64,
-    is_full: AtomicBool,
-    is_foreign: AtomicBool,
-    late: AtomicBool,
-}
-
-impl<'a, C: Clock> HoldsBoth<'a, C> {
-    fn wait(&self, flag: &AtomicBool) {
-        if !slept_till(self.clock, flag) {
-            self.late.store(true, Ordering::SeqCst);
-        }
-    }
-
-    /// The worker of this guest has popped.
-    fn popped(&self, guest: u16) {
-        if guest == self.full {
-            if self.pops.fetch_add(1, Ordering::SeqCst) < u64::from(SUBMITS) {
-                return;
-            }
-            self.is_full.store(true, Ordering::SeqCst);
-            self.wait(&self.is_foreign);
-        } else {
-            self.is_foreign.store(true, Ordering::SeqCst);
-            self.wait(&self.is_full);
-        }
-        if guest == 0 {
-            thread::sleep(self.clock, Duration::from_millis(200));
-        }
-    }
-}
-
-impl<'a, C: Clock> Gate for HoldsBoth<'a, C> {
-    fn at(&self, who: Who, place: Place) {
-        if let (Who::Worker(guest), Place::Popped) = (who, place) {
-            self.popped(guest);
-        }
-    }
-}
-
-/// The scripts of two guests, of which this one fills the history.
-fn filling_scripts(alloc: Global, full: u16) -> Result<[Script; 2], Fail> {
-    if full == 0 {
-        scripts_of(alloc, SUBMITS + 1, 1)
-    } else {
-        scripts_of(alloc, 1, SUBMITS + 1)
-    }
-}
-
-/// The devices beside the guest that fills the history: the other's jobs are foreign.
-fn beside_full(alloc: Global, full: u16) -> Result<[Option<Device>; 2], Fail> {
-    let stranger = foreign(alloc)?;
-    if full == 0 {
-        Ok([None, Some(stranger)])
-    } else {
-        Ok([Some(stranger), None])
-    }
-}
-
-/// The fault of a run in which one of two guests fills the history, and the other's job is foreign; both have passed
-/// their last look at what others do before either comes to its fault.
-fn fault_of_both<R: Threads + Wait + Clock + Sync>(
-    rt: &R,
-    alloc: Global,
-    full: u16,
-) -> Result<Option<HostFault>, Fail> {
-    let gate = HoldsBoth {
-        clock: rt,
-        full,
-        pops: AtomicU64::new(0),
-        is_full: AtomicBool::new(false),
-        is_foreign: AtomicBool::new(false),
-        late: AtomicBool::new(false),
-    };
-    let scripts = filling_scripts(alloc, full)?;
-    let mut others = beside_full(alloc, full)?;
-    let ran = run_beside(rt, alloc, &mut others, &scripts, &gate, 0)?;
-    let late = gate.late.load(Ordering::SeqCst);
-    check(!late, "a worker was held in vain")?;
-    Ok(ran.fault)
-}
-
-#[test]
-fn a_full_history_of_the_lower_guest_is_answered(rt: HostRuntime) -> Result<(), Fail> {
-    let fault = fault_of_both(&rt, rt.alloc(), 0)?;
-    check(fault == Some(HostFault::HistoryFull), "another fault")
-}
-
-#[test]
-fn a_foreign_job_of_the_lower_guest_is_answered(rt: HostRuntime) -> Result<(), Fail> {
-    let fault = fault_of_both(&rt, rt.alloc(), 1)?;
-    check(fault == Some(HostFault::Foreign), "another fault")
 }

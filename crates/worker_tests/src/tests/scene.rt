@@ -1,6 +1,6 @@
 //! A board on a fresh disk, the requests that its guests make, and a run of their scripts.
 ghost use Rattle.std.specs.Prelude.{◌≡◌, All, IfOk};
-ghost use Rattle.rpmb_book.specs.Book.{submits_in};
+ghost use Rattle.rpmb_book.specs.Book.{counted_in};
 ghost use Rattle.workers.specs.Following.{Follow};
 
 use board::{Board, Parts};
@@ -138,7 +138,7 @@ pub fn two_scripts(alloc: Global, first: &[Step], second: &[Step]) -> Result<[Sc
 
 /// The parts of a board that was just opened.
 pub fn opened<D: Disk>(alloc: Global, disk: D, board: &BoardConfig) -> Result<Parts<D>, Fail>
-    ensures new_book { IfOk result (λ p. submits_in p.book ≡ 0) }
+    ensures new_book { IfOk result (λ p. counted_in p.book ≡ 0) }
     ensures fresh { IfOk result (λ p. All (λ t. t.count ≡ 0) p.tallies.items) }
     ensures follows { IfOk result (λ p. Follow p.shares p.store.guests) }
 {
@@ -157,7 +157,7 @@ pub fn run_of<D: Disk + Send + Drop, G: Gate + Sync, R: Threads + Wait + Sync>(
     scripts: &[Script],
     gate: &G,
 ) -> Result<Result<Ended<D>, HostFault>, Fail>
-    requires new_book { submits_in parts.book ≡ 0 }
+    requires new_book { counted_in parts.book ≡ 0 }
     requires fresh { All (λ t. t.count ≡ 0) parts.tallies.items }
     requires follows { Follow parts.shares parts.store.guests }
 {

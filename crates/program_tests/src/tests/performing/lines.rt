@@ -129,7 +129,8 @@ const READ: Line = Line {
     failed: NO_BLOCK,
 };
 
-const NO_RESULT: &[Piece] = &[("used 0 512 ", 1), ("00", 508), ("00010000\n", 1)];
+/// A failure of no type: what a chain without a request is told too, with or without a key.
+pub const NO_RESULT: &[Piece] = &[("used 0 512 ", 1), ("00", 508), ("00010000\n", 1)];
 
 /// RESULT_READ of its own, of the outcome of that write.
 const RESULT_READ: Line = Line {

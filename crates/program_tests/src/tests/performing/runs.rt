@@ -1,6 +1,6 @@
 //! Runs over images: with a bad line, over what is no image of the board, and as far as a history goes.
 
-use super::lines::{Part, WHOLE};
+use super::lines::{NO_RESULT, Part, WHOLE};
 use super::turns::{Image, Leaves, Prints, TURN, Turn, check_turns};
 use super::{DISK_FAULT, ONE};
 use std::test::Fail;
@@ -108,22 +108,22 @@ fn fails_within_the_opening(rt: HostRuntime) -> Result<(), Fail> {
     check_turns(&rt, &OPENINGS)
 }
 
-/// As many requests as a history holds, and one more.
+/// One request more than a history holds; and still more, each without a request, which is malformed, and with room for
+/// a frame.
 static HISTORIES: [Turn; 2] = [
     Turn {
-        more: ("chain 0 - 16\n", 16_384),
-        prints: Prints::Text(&[("used 0 0 -\n", 16_384)]),
+        more: ("chain 0 - 16\n", 16_385),
+        prints: Prints::Text(&[("used 0 0 -\n", 16_385)]),
         ..TURN
     },
     Turn {
-        more: ("chain 0 - 16\n", 16_385),
-        prints: Prints::Text(&[("used 0 0 -\n", 16_384)]),
-        fault: "rpmbd: 15 HistoryFull\n",
+        more: ("chain 0 - 512\n", 20_000),
+        prints: Prints::Repeated(NO_RESULT, 20_000),
         ..TURN
     },
 ];
 
 #[test]
-fn answers_a_full_history(rt: HostRuntime) -> Result<(), Fail> {
+fn answers_more_than_a_history_holds(rt: HostRuntime) -> Result<(), Fail> {
     check_turns(&rt, &HISTORIES)
 }

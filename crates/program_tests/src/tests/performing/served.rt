@@ -1,7 +1,7 @@
 //! Guests that are served at once.
 
-use super::lines::WHOLE;
-use super::turns::{Image, Leaves, Prints, TURN, Turn, check_turns};
+use super::lines::{NO_RESULT, WHOLE};
+use super::turns::{Image, Prints, TURN, Turn, check_turns};
 use super::{DISK_FAULT, ONE, SERVE};
 use std::test::Fail;
 
@@ -55,23 +55,22 @@ const SERVED_ALONE: Turn = Turn {
     ..TURN
 };
 
-/// As many requests as a history holds, and one more, at which nothing is printed, and threads lose the disk.
+/// One request more than a history holds, and still more, each told a failure.
 static HISTORIES: [Turn; 2] = [
     Turn {
-        more: ("chain 0 - 16\n", 16_384),
-        prints: Prints::Text(&[("used 0 0 -\n", 16_384)]),
+        more: ("chain 0 - 16\n", 16_385),
+        prints: Prints::Text(&[("used 0 0 -\n", 16_385)]),
         ..SERVED_ALONE
     },
     Turn {
-        more: ("chain 0 - 16\n", 16_385),
-        fault: "rpmbd: 15 HistoryFull\n",
-        leaves: Leaves::Nothing,
+        more: ("chain 0 - 512\n", 20_000),
+        prints: Prints::Repeated(NO_RESULT, 20_000),
         ..SERVED_ALONE
     },
 ];
 
 #[test]
-fn tells_a_full_history(rt: HostRuntime) -> Result<(), Fail> {
+fn serves_more_than_a_history_holds(rt: HostRuntime) -> Result<(), Fail> {
     check_turns(&rt, &HISTORIES)
 }
 

@@ -4,7 +4,7 @@ use super::lines::{ALL, Part, script_of};
 use super::parted::{run_whole, serve_whole};
 use super::{Left, ONE, RUN, Told, board_of, failing_disk, fresh, performed};
 use crate::tests::cases::Runtime;
-use crate::tests::texts::{Piece, is_text};
+use crate::tests::texts::{Piece, is_repeated, is_text};
 use command_line::Command;
 use disk::{CutDisk, Disk};
 use rpmb_frame::BoardConfig;
@@ -71,6 +71,8 @@ impl Image {
 #[derive(Clone, Copy)]
 pub enum Prints {
     Text(&'static [Piece]),
+    /// The same text so many times.
+    Repeated(&'static [Piece], usize),
     /// Any lines, so many.
     Lines(usize),
 }
@@ -87,6 +89,7 @@ impl Prints {
     fn is(self, alloc: Global, out: &[u8]) -> Result<bool, Fail> {
         match self {
             Prints::Text(pieces) => is_text(alloc, out, pieces),
+            Prints::Repeated(pieces, times) => is_repeated(alloc, out, pieces, times),
             Prints::Lines(count) => Ok(has_lines(out, count)),
         }
     }
@@ -99,8 +102,6 @@ pub enum Leaves {
     Bytes,
     /// The bytes that it held.
     TheSame,
-    /// Nothing: threads lost it.
-    Nothing,
 }
 
 impl Leaves {
@@ -111,7 +112,6 @@ impl Leaves {
             (Leaves::TheSame, Some(disk)) => {
                 disk.failures() == failures && disk.content() == content
             }
-            (Leaves::Nothing, None) => true,
             _ => false,
         }
     }

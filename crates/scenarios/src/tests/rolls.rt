@@ -1,0 +1,275 @@
+//! A history that rolls: which requests are answered still, which receipts find their turn, and what is
+//! kept.
+
+use crate::tests::limits::given_back;
+use crate::tests::lines::{Asked, Line, has_no_reply, play_all};
+use crate::tests::receipts::is_of_nonce;
+use crate::tests::scene::{
+    LIFE, Scene, accepted, check, get_write_counter, job_of, nonce_of, scene_of,
+};
+use mmio_transport::{Done, Job};
+use rpmb_book::{Book, Receipt, Refused};
+use std::alloc::Global;
+use std::test::Fail;
+
+/// The receipt of guest 0 for the read of this number, where its first one was this turn and each reply
+/// left before the next read: a read is two turns.
+fn receipt_of(first: u128, number: u32) -> Receipt {
+    Receipt {
+        life: LIFE,
+        guest: 0,
+        number: u128::from(number).wrapping_mul(2).wrapping_add(first),
+    }
+}
+
+fn is_of(collected: Option<Done>, number: u32) -> bool {
+    match collected {
+        Some(done) => {
+            nonce_of(done.reply()) == Some(u128::from(number).to_be_bytes().as_slice())
+        }
+        None => false,
+    }
+}
+
+/// The read of this number, under its nonce: its receipt is the one that is told, and its reply leaves.
+fn answer_one(alloc: Global, scene: &mut Scene, first: u128, number: u32) -> Result<(), Fail> {
+    let receipt = scene.submit(alloc, 0, &get_write_counter(u128::from(number)))?;
+    check(receipt == receipt_of(first, number), "another receipt")?;
+    check(is_of(scene.book.collect(0), number), "its reply")
+}
+
+/// The reads of guest 0 from one number on, up to another.
+fn answer(alloc: Global, scene: &mut Scene, first: u128, from: u32, to: u32) -> Result<(), Fail> {
+    for number in from..to {
+        answer_one(alloc, scene, first, number)?;
+    }
+    Ok(())
+}
+
+/// Whether the receipt of a read finds its request and its reply, or, of one that was folded, nothing.
+fn is_found_from(book: &Book, first: u128, number: u32, folded: u32) -> bool {
+    match book.find(&receipt_of(first, number)) {
+        Some(turn) => folded <= number && is_of_nonce(&turn, u128::from(number)),
+        None => number < folded,
+    }
+}
+
+/// The same of each read from one number on, up to another.
+fn are_found_from(book: &Book, first: u128, from: u32, to: u32, folded: u32) -> bool {
+    for number in from..to {
+        if !is_found_from(book, first, number, folded) {
+            return false;
+        }
+    }
+    true
+}
+
+/// At the 16,385th and the 32,769th read all before it goes.
+fn answer_40000(alloc: Global, scene: &mut Scene) -> Result<(), Fail> {
+    answer(alloc, scene, 0, 0, 40_000)?;
+    check(scene.book.submit_turns() == 40_000, "all are counted")?;
+    let found = are_found_from(&scene.book, 0, 0, 40_000, 32_768);
+    check(found, "what was folded, or wasn't")
+}
+
+#[test]
+fn the_book_answers_40000_requests(rt: HostRuntime) -> Result<(), Fail> {
+    answer_40000(rt.alloc(), &mut scene_of(rt.alloc(), 1)?)
+}
+
+/// Whether it is the request of guest 1, which is found.
+fn is_held(book: &Book, held: &Receipt) -> bool {
+    match book.find(held) {
+        Some(turn) => is_of_nonce(&turn, 99),
+        None => false,
+    }
+}
+
+fn has_tally(scene: &Scene, guest: usize, count: u64) -> bool {
+    match scene.tallies.get(guest) {
+        Some(tally) => tally.count() == count,
+        None => false,
+    }
+}
+
+/// The job of guest 0 that is given back, since the first reply of the history hasn't left.
+fn refuse(alloc: Global, scene: &mut Scene) -> Result<Job, Fail> {
+    let frames = get_write_counter(16_383);
+    let offered = scene.offer(alloc, job_of(alloc, 0, 1, &frames)?);
+    given_back(offered, 0, &frames, Refused::HistoryFull)
+}
+
+/// A refusal counts nothing and folds nothing.
+fn check_unchanged(scene: &mut Scene, held: &Receipt) -> Result<(), Fail> {
+    check(scene.book.submit_turns() == 16_384, "the turns")?;
+    check(has_tally(scene, 0, 16_383), "the tally")?;
+    check(is_held(&scene.book, held), "the first turn")?;
+    let found = are_found_from(&scene.book, 1, 0, 16_383, 0);
+    check(found, "the other turns")?;
+    check(has_no_reply(scene, 0), "no reply")
+}
+
+/// Once the first reply has left, all that was answered goes, and the job is answered.
+fn go_on(alloc: Global, scene: &mut Scene, held: &Receipt, job: Job) -> Result<(), Fail> {
+    check(is_of(scene.book.collect(1), 99), "the first reply")?;
+    let receipt = accepted(scene.offer(alloc, job))?;
+    // One turn more than the reads: that reply's Collect.
+    check(receipt == receipt_of(2, 16_383), "the next number")?;
+    check(is_of(scene.book.collect(0), 16_383), "its reply")?;
+    check(scene.book.find(held).is_none(), "the first turn")?;
+    let found = are_found_from(&scene.book, 1, 0, 16_383, 16_383);
+    check(found, "the other turns")?;
+    check(is_found_from(&scene.book, 2, 16_383, 0), "its turn")
+}
+
+fn wait_for_one(alloc: Global, scene: &mut Scene) -> Result<(), Fail> {
+    let held = scene.submit(alloc, 1, &get_write_counter(99))?;
+    answer(alloc, scene, 1, 0, 16_383)?;
+    let job = refuse(alloc, scene)?;
+    check_unchanged(scene, &held)?;
+    go_on(alloc, scene, &held, job)
+}
+
+#[test]
+fn a_history_waits_for_its_first_reply(rt: HostRuntime) -> Result<(), Fail> {
+    wait_for_one(rt.alloc(), &mut scene_of(rt.alloc(), 2)?)
+}
+
+/// A reply of guest 1 is held behind 10,000 reads of guest 0: these go, and what stands behind them stays.
+fn fold_up_to_one(alloc: Global, scene: &mut Scene) -> Result<(), Fail> {
+    answer(alloc, scene, 0, 0, 10_000)?;
+    let held = scene.submit(alloc, 1, &get_write_counter(99))?;
+    answer(alloc, scene, 1, 10_000, 16_384)?;
+    check(is_held(&scene.book, &held), "what is held")?;
+    let found = are_found_from(&scene.book, 0, 0, 10_000, 10_000)
+        && are_found_from(&scene.book, 1, 10_000, 16_384, 0);
+    check(found, "what was folded, or wasn't")?;
+    check(is_of(scene.book.collect(1), 99), "the held reply")
+}
+
+#[test]
+fn what_stands_behind_a_held_reply_stays(rt: HostRuntime) -> Result<(), Fail> {
+    fold_up_to_one(rt.alloc(), &mut scene_of(rt.alloc(), 2)?)
+}
+
+/// Guest 0 programs its key and writes, and guest 2, which has no key, reads. Of guest 1 a read, its key and another
+/// read are held when the history rolls first. It rolls once more when those have left.
+static KEPT: [Line; 43] = [
+    Line::Ask(0, Asked::Key(0x11)),
+    Line::Give(0),
+    Line::Run,
+    Line::Settle,
+    Line::Reply(0, 1, 1, [0, 0, 0, 0, 0, 0, 0, 1, 0, 0, 1, 0]),
+    Line::Reads(2, 8_000),
+    Line::Writes(0, 0, 30),
+    // two writes that are taken as one
+    Line::Ask(0, Asked::Write(0xa0, 30)),
+    Line::Ask(0, Asked::Write(0xa1, 31)),
+    Line::GiveThis(0, (2, 33, 31, 0, 256, Some(0xa0), Some(0xa0))),
+    Line::Run,
+    Line::Settle,
+    Line::Reply(0, 1, 32, [0, 0, 0, 31, 0, 0, 0, 1, 0, 0, 3, 0]),
+    Line::Reply(0, 1, 33, [0, 0, 0, 32, 0, 0, 0, 1, 0, 0, 3, 0]),
+    Line::Reads(2, 8_200),
+    Line::Ask(1, Asked::Counter(6)),
+    Line::Ask(1, Asked::Key(0x11)),
+    Line::Ask(1, Asked::Counter(7)),
+    Line::Writes(0, 32, 8),
+    Line::Turns(16_244),
+    Line::Reads(2, 150),
+    Line::Turns(16_394),
+    Line::Counter(0, 40),
+    Line::Holds(0, 39),
+    Line::Settled(0, 41),
+    // the last write's outcome is told in its session alone
+    Line::Ask(0, Asked::LastResult),
+    Line::AskNext(0, Asked::LastResult),
+    Line::Reply(0, 1, 41, [0, 0, 0, 40, 0, 0, 0, 1, 0, 0, 3, 0]),
+    Line::Reply(0, 2, 41, [0, 0, 0, 0, 0, 0, 0, 0, 0, 1, 0, 0]),
+    Line::Writes(0, 40, 2),
+    Line::Reply(1, 1, 0, [0, 0, 0, 0, 0, 0, 0, 1, 0, 7, 2, 0]),
+    Line::NoReply(1),
+    Line::GiveThis(1, (1, 1, 0, 0, 0, None, None)),
+    Line::Run,
+    Line::Settle,
+    Line::Reply(1, 1, 1, [0, 0, 0, 0, 0, 0, 0, 1, 0, 0, 1, 0]),
+    Line::Reply(1, 1, 1, [0, 0, 0, 0, 0, 0, 0, 1, 0, 0, 2, 0]),
+    Line::NoReply(1),
+    Line::Reads(2, 16_384),
+    Line::Writes(1, 0, 3),
+    Line::Counter(1, 3),
+    Line::Holds(1, 2),
+    Line::Turns(32_785),
+];
+
+#[test]
+fn what_was_written_stays_where_the_history_rolls(rt: HostRuntime) -> Result<(), Fail> {
+    play_all(rt.alloc(), 3, &KEPT)
+}
+
+/// The store breaks before the history rolls first, and then after it. Of guest 1 a key that is settled, and a write
+/// and a read that aren't, are held over both; when they have left, it rolls once more.
+static BROKEN: [&[Line]; 2] = [
+    &[
+        Line::Reads(0, 16_000),
+        Line::Ask(1, Asked::Key(0x11)),
+        Line::Give(1),
+        Line::Run,
+        Line::Settle,
+        Line::Ask(1, Asked::Write(0xa5, 0)),
+        Line::Ask(1, Asked::Counter(2)),
+        Line::BreakOff,
+        Line::FailedReads(0, 400),
+        Line::Turns(16_403),
+        Line::IsBroken(true),
+        Line::Reply(1, 1, 1, [0, 0, 0, 0, 0, 0, 0, 1, 0, 0, 1, 0]),
+        Line::Failure(1, [0, 5, 3, 0]),
+        Line::Failure(1, [0, 1, 2, 0]),
+        Line::NoReply(1),
+        Line::FailedReads(0, 16_384),
+        Line::IsBroken(true),
+        // what waited still waits, and nothing more is accepted
+        Line::Ask(1, Asked::Write(0x66, 1)),
+        Line::Failure(1, [0, 1, 3, 0]),
+        Line::Counter(1, 1),
+        Line::Holds(1, 0xa5),
+        Line::GiveThis(1, (1, 2, 1, 0, 256, Some(0xa5), Some(0xa5))),
+        Line::NoIntent(1),
+        Line::Turns(32_788),
+    ],
+    &[
+        Line::Reads(0, 16_000),
+        Line::Ask(1, Asked::Key(0x11)),
+        Line::Give(1),
+        Line::Run,
+        Line::Settle,
+        Line::Ask(1, Asked::Write(0xa5, 0)),
+        Line::Ask(1, Asked::Counter(2)),
+        Line::Reads(0, 400),
+        Line::Turns(16_403),
+        Line::IsBroken(false),
+        Line::BreakOff,
+        Line::FailedReads(0, 10),
+        Line::Reply(1, 1, 1, [0, 0, 0, 0, 0, 0, 0, 1, 0, 0, 1, 0]),
+        Line::Failure(1, [0, 5, 3, 0]),
+        Line::Failure(1, [0, 1, 2, 0]),
+        Line::NoReply(1),
+        Line::FailedReads(0, 16_384),
+        Line::IsBroken(true),
+        Line::Ask(1, Asked::Write(0x66, 1)),
+        Line::Failure(1, [0, 1, 3, 0]),
+        Line::Counter(1, 1),
+        Line::Holds(1, 0xa5),
+        Line::GiveThis(1, (1, 2, 1, 0, 256, Some(0xa5), Some(0xa5))),
+        Line::NoIntent(1),
+        Line::Turns(32_798),
+    ],
+];
+
+#[test]
+fn a_broken_book_answers_on_where_the_history_rolls(rt: HostRuntime) -> Result<(), Fail> {
+    for lines in &BROKEN {
+        play_all(rt.alloc(), 2, *lines)?;
+    }
+    Ok(())
+}
