@@ -161,32 +161,32 @@ static KEPT: [Line; 43] = [
     Line::Settle,
     Line::Reply(0, 1, 1, [0, 0, 0, 0, 0, 0, 0, 1, 0, 0, 1, 0]),
     Line::Reads(2, 8_000),
-    Line::Writes(0, 0, 30),
-    // two writes that are taken as one
-    Line::Ask(0, Asked::Write(0xa0, 30)),
-    Line::Ask(0, Asked::Write(0xa1, 31)),
-    Line::GiveThis(0, (2, 33, 31, 0, 256, Some(0xa0), Some(0xa0))),
+    Line::Writes(0, 0, 6),
+    // Two writes are taken as one.
+    Line::Ask(0, Asked::Write(0xa0, 6)),
+    Line::Ask(0, Asked::Write(0xa1, 7)),
+    Line::GiveThis(0, (2, 9, 7, 0, 256, Some(0xa0), Some(0xa0))),
     Line::Run,
     Line::Settle,
-    Line::Reply(0, 1, 32, [0, 0, 0, 31, 0, 0, 0, 1, 0, 0, 3, 0]),
-    Line::Reply(0, 1, 33, [0, 0, 0, 32, 0, 0, 0, 1, 0, 0, 3, 0]),
+    Line::Reply(0, 1, 8, [0, 0, 0, 7, 0, 0, 0, 1, 0, 0, 3, 0]),
+    Line::Reply(0, 1, 9, [0, 0, 0, 8, 0, 0, 0, 1, 0, 0, 3, 0]),
     Line::Reads(2, 8_200),
     Line::Ask(1, Asked::Counter(6)),
     Line::Ask(1, Asked::Key(0x11)),
     Line::Ask(1, Asked::Counter(7)),
-    Line::Writes(0, 32, 8),
-    Line::Turns(16_244),
-    Line::Reads(2, 150),
-    Line::Turns(16_394),
-    Line::Counter(0, 40),
-    Line::Holds(0, 39),
-    Line::Settled(0, 41),
-    // the last write's outcome is told in its session alone
+    Line::Writes(0, 8, 3),
+    Line::Turns(16_215),
+    Line::Reads(2, 180),
+    Line::Turns(16_395),
+    Line::Counter(0, 11),
+    Line::Holds(0, 10),
+    Line::Settled(0, 12),
+    // The last write's outcome is told in its session alone.
     Line::Ask(0, Asked::LastResult),
     Line::AskNext(0, Asked::LastResult),
-    Line::Reply(0, 1, 41, [0, 0, 0, 40, 0, 0, 0, 1, 0, 0, 3, 0]),
-    Line::Reply(0, 2, 41, [0, 0, 0, 0, 0, 0, 0, 0, 0, 1, 0, 0]),
-    Line::Writes(0, 40, 2),
+    Line::Reply(0, 1, 12, [0, 0, 0, 11, 0, 0, 0, 1, 0, 0, 3, 0]),
+    Line::Reply(0, 2, 12, [0, 0, 0, 0, 0, 0, 0, 0, 0, 1, 0, 0]),
+    Line::Writes(0, 11, 1),
     Line::Reply(1, 1, 0, [0, 0, 0, 0, 0, 0, 0, 1, 0, 7, 2, 0]),
     Line::NoReply(1),
     Line::GiveThis(1, (1, 1, 0, 0, 0, None, None)),
@@ -196,10 +196,10 @@ static KEPT: [Line; 43] = [
     Line::Reply(1, 1, 1, [0, 0, 0, 0, 0, 0, 0, 1, 0, 0, 2, 0]),
     Line::NoReply(1),
     Line::Reads(2, 16_384),
-    Line::Writes(1, 0, 3),
-    Line::Counter(1, 3),
-    Line::Holds(1, 2),
-    Line::Turns(32_785),
+    Line::Writes(1, 0, 2),
+    Line::Counter(1, 2),
+    Line::Holds(1, 1),
+    Line::Turns(32_784),
 ];
 
 #[test]
@@ -207,8 +207,8 @@ fn what_was_written_stays_where_the_history_rolls(rt: HostRuntime) -> Result<(),
     play_all(rt.alloc(), 3, &KEPT)
 }
 
-/// The store breaks before the history rolls first, and then after it. Of guest 1 a key that is settled, and a write
-/// and a read that aren't, are held over both; when they have left, it rolls once more.
+/// The store breaks before the history rolls, and then after it. Of guest 1 a key that is settled, and a write and a
+/// read that aren't, are held over both.
 static BROKEN: [&[Line]; 2] = [
     &[
         Line::Reads(0, 16_000),
@@ -226,16 +226,6 @@ static BROKEN: [&[Line]; 2] = [
         Line::Failure(1, [0, 5, 3, 0]),
         Line::Failure(1, [0, 1, 2, 0]),
         Line::NoReply(1),
-        Line::FailedReads(0, 16_384),
-        Line::IsBroken(true),
-        // what waited still waits, and nothing more is accepted
-        Line::Ask(1, Asked::Write(0x66, 1)),
-        Line::Failure(1, [0, 1, 3, 0]),
-        Line::Counter(1, 1),
-        Line::Holds(1, 0xa5),
-        Line::GiveThis(1, (1, 2, 1, 0, 256, Some(0xa5), Some(0xa5))),
-        Line::NoIntent(1),
-        Line::Turns(32_788),
     ],
     &[
         Line::Reads(0, 16_000),
@@ -254,8 +244,10 @@ static BROKEN: [&[Line]; 2] = [
         Line::Failure(1, [0, 5, 3, 0]),
         Line::Failure(1, [0, 1, 2, 0]),
         Line::NoReply(1),
+        // It rolls once more, over the Break.
         Line::FailedReads(0, 16_384),
         Line::IsBroken(true),
+        // What waited still waits, and nothing more is accepted.
         Line::Ask(1, Asked::Write(0x66, 1)),
         Line::Failure(1, [0, 1, 3, 0]),
         Line::Counter(1, 1),

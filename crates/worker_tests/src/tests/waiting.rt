@@ -22,6 +22,8 @@ const SUBMITS: u16 = 16_384;
 #[derive(Drop)]
 struct Watch<'a, C: Clock> {
     clock: &'a C,
+    /// The threads run: the opening of the board made a sync too.
+    running: AtomicBool,
     /// Guest 0's key is in the book.
     asked: AtomicBool,
     /// How many jobs guest 1's worker has popped, and how many the book has answered.
@@ -41,6 +43,7 @@ impl<'a, C: Clock> Watch<'a, C> {
     fn new(clock: &'a C) -> Watch<'a, C> {
         Watch {
             clock,
+            running: AtomicBool::new(false),
             asked: AtomicBool::new(false),
             pops: AtomicU64::new(0),
             submits: AtomicU64::new(0),
@@ -83,8 +86,7 @@ struct HoldsSync<'a, C: Clock>(&'a Watch<'a, C>);
 impl<'a, C: Clock> Hook for HoldsSync<'a, C> {
     fn before_sync(&self) {
         let watch = self.0;
-        // the opening makes a sync too, before all requests
-        if !watch.asked.load(Ordering::SeqCst) || watch.held.load(Ordering::SeqCst) {
+        if !watch.running.load(Ordering::SeqCst) || watch.held.load(Ordering::SeqCst) {
             return;
         }
         watch.wait(&watch.is_full);
@@ -100,6 +102,7 @@ struct Tells<'a, C: Clock>(&'a Watch<'a, C>);
 
 impl<'a, C: Clock> Gate for Tells<'a, C> {
     fn at(&self, who: Who, place: Place) {
+        self.0.running.store(true, Ordering::SeqCst);
         match (who, place) {
             (Who::Worker(0), Place::Submitted) => self.0.asked.store(true, Ordering::SeqCst),
             (Who::Worker(1), Place::Popped) => self.0.popped(),
