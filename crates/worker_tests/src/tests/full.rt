@@ -19,7 +19,7 @@ pub fn script_of_reads(alloc: Global, chains: u16) -> Result<Script, Fail> {
 }
 
 /// The scripts of two guests, with so many chains.
-pub fn scripts_of(alloc: Global, first: u16, second: u16) -> Result<[Script; 2], Fail> {
+fn scripts_of(alloc: Global, first: u16, second: u16) -> Result<[Script; 2], Fail> {
     let first = script_of_reads(alloc, first)?;
     let second = script_of_reads(alloc, second)?;
     Ok([first, second])
@@ -113,7 +113,7 @@ fn check_ended<D: Disk>(ended: &Ended<D>, first: u16, second: u16) -> Result<(),
 }
 
 /// The same of what a run came to, which has no fault.
-pub fn check_outcome<D: Disk>(
+fn check_outcome<D: Disk>(
     outcome: &Result<Ended<D>, HostFault>,
     first: u16,
     second: u16,

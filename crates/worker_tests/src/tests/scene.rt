@@ -13,7 +13,7 @@ use std::alloc::Global;
 use std::sync::Wait;
 use std::test::Fail;
 use std::thread::Threads;
-use workers::{Chain, DriverEnd, Ended, Gate, Order, Script, Served, parts_of, serve};
+use workers::{Chain, DriverEnd, Ended, Gate, Order, Script, parts_of, serve};
 
 pub const KEY: [u8; 32] = [0x11; 32];
 
@@ -177,8 +177,6 @@ pub struct Ran {
     pub broken: bool,
     /// How many requests were answered.
     pub turns: u64,
-    /// What the guests' workers left.
-    pub served: Vec<Served>,
     /// What became of the guests' chains.
     pub drivers: Vec<DriverEnd>,
 }
@@ -196,7 +194,7 @@ pub fn looked_at<D: Disk + Drop>(alloc: Global, outcome: Result<Ended<D>, HostFa
         Ok(ended) => {
             let Ended {
                 book,
-                served,
+                served: _,
                 drivers,
                 shares: _,
                 store: _,
@@ -206,7 +204,6 @@ pub fn looked_at<D: Disk + Drop>(alloc: Global, outcome: Result<Ended<D>, HostFa
                 fault: None,
                 broken,
                 turns: book.submit_turns(),
-                served,
                 drivers,
             }
         }
@@ -214,7 +211,6 @@ pub fn looked_at<D: Disk + Drop>(alloc: Global, outcome: Result<Ended<D>, HostFa
             fault: Some(fault),
             broken: false,
             turns: 0,
-            served: Vec::new(alloc),
             drivers: Vec::new(alloc),
         },
     }
