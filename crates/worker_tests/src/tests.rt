@@ -7,6 +7,7 @@ mod full;
 mod gates;
 mod many;
 mod scene;
+mod staying;
 mod stopped;
 mod threads;
 mod waiting;
