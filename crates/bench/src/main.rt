@@ -1,10 +1,9 @@
 //! Times work of one kind, `bench WORK COUNT`; without arguments it prints checksums alone. COUNT is
 //!
 //! - of `macs`: of MACs;
-//! - of `requests`: of requests for each of 64 guests;
-//! - of `roll`: of requests of 64 guests in all, past where the history rolls: the median, the 99.99th
-//!   percentile and the slowest of their times, and what memory the process has after the first 20,000 and at
-//!   the end;
+//! - of `requests`: of requests for each of 64 guests; and of as many one after another, past where the
+//!   history rolls, the median, the 99.99th percentile and the slowest of their times, and what memory the
+//!   process has after the first 20,000 and at the end;
 //! - of `rings`: of chains of 8,704 bytes, through queues of each form;
 //! - of `device`: of whole requests of each kind, of one guest, from its offer to its reap, through queues of
 //!   each form;
@@ -81,7 +80,8 @@ fn time_part(rt: &HostRuntime, board: &BoardConfig, part: u32) -> Result<(), Sto
 fn time_requests(rt: &HostRuntime, board: &BoardConfig, count: u32) -> Result<(), Stop> {
     // Half the load first: where time grows with the requests alone, each takes as long in both.
     time_part(rt, board, count / 2)?;
-    time_part(rt, board, count)
+    time_part(rt, board, count)?;
+    time_rolls(rt, board, count.saturating_mul(u32::from(GUESTS)))
 }
 
 fn time_rings(rt: &HostRuntime, count: u32) -> Result<(), Stop> {
@@ -266,7 +266,6 @@ fn time<R: AllocGlobal + Threads + Wait + Sync>(
     match work {
         "macs" => time_macs(rt, count),
         "requests" => time_requests(rt, board, count),
-        "roll" => time_rolls(rt, board, count),
         "rings" => time_rings(rt, count),
         "device" => time_device(rt, count),
         "store" => time_store(rt, board, count),
