@@ -78,10 +78,11 @@ fn time_part(rt: &HostRuntime, board: &BoardConfig, part: u32) -> Result<(), Sto
 }
 
 fn time_requests(rt: &HostRuntime, board: &BoardConfig, count: u32) -> Result<(), Stop> {
-    // Half the load first: where time grows with the requests alone, each takes as long in both.
+    // First what holds no more than it needs: the parts keep all their requests ready.
+    time_rolls(rt, board, count.saturating_mul(u32::from(GUESTS)))?;
+    // Half the load before the whole: where time grows with the requests alone, each takes as long in both.
     time_part(rt, board, count / 2)?;
-    time_part(rt, board, count)?;
-    time_rolls(rt, board, count.saturating_mul(u32::from(GUESTS)))
+    time_part(rt, board, count)
 }
 
 fn time_rings(rt: &HostRuntime, count: u32) -> Result<(), Stop> {
