@@ -1,13 +1,19 @@
 //! Devices that stand in the place of a board's own: with less memory, with another guest's number, or with a queue
 //! that somebody else has made ready.
+ghost use Rattle.std.specs.Prelude.{◌≡◌, All, IfOk};
+ghost use Rattle.rpmb_book.specs.Book.{counted_in};
+ghost use Rattle.workers.specs.Following.{Follow};
+
 use crate::tests::scene::{Ran, board_of, formatted, looked_at, opened, run_of};
+use board::Parts;
+use disk::Disk;
 use mmio_transport::Device;
 use mmio_transport::feature::VERSION_1;
 use mmio_transport::register::{
     DRIVER_FEATURES, DRIVER_FEATURES_SEL, QUEUE_DESC_LOW, QUEUE_DEVICE_LOW, QUEUE_DRIVER_LOW,
     QUEUE_NUM, QUEUE_READY, STATUS,
 };
-use rpmb_frame::GuestConfig;
+use rpmb_frame::{BoardConfig, GuestConfig};
 use std::alloc::Global;
 use std::mem;
 use std::sync::Wait;
@@ -64,6 +70,22 @@ fn replace(devices: &mut [Device], others: &mut [Option<Device>]) {
     }
 }
 
+/// The parts of a board that was just opened, with these devices in the place of its own.
+pub fn opened_beside<D: Disk>(
+    alloc: Global,
+    disk: D,
+    board: &BoardConfig,
+    others: &mut [Option<Device>],
+) -> Result<Parts<D>, Fail>
+    ensures new_book { IfOk result (λ p. counted_in p.book ≡ 0) }
+    ensures fresh { IfOk result (λ p. All (λ t. t.count ≡ 0) p.tallies.items) }
+    ensures follows { IfOk result (λ p. Follow p.shares p.store.guests) }
+{
+    let mut parts = opened(alloc, disk, board)?;
+    replace(&mut parts.devices, others);
+    Ok(parts)
+}
+
 /// A run of these scripts on a fresh image, with these devices in the place of the board's own. Of the disk the k-th
 /// call after the opening fails.
 pub fn run_beside<G: Gate + Sync, R: Threads + Wait + Sync>(
@@ -75,8 +97,7 @@ pub fn run_beside<G: Gate + Sync, R: Threads + Wait + Sync>(
     k: u64,
 ) -> Result<Ran, Fail> {
     let board = board_of(alloc, scripts.len())?;
-    let mut parts = opened(alloc, formatted(alloc, scripts.len())?, &board)?;
-    replace(&mut parts.devices, others);
+    let mut parts = opened_beside(alloc, formatted(alloc, scripts.len())?, &board, others)?;
     parts.store.fail(k);
     let outcome = run_of(rt, alloc, parts, &board, scripts, gate)?;
     Ok(looked_at(alloc, outcome))

@@ -1,10 +1,8 @@
 //! A guest whose device stops while its first reply is held, beside one that asks as much as a history holds.
-use crate::tests::devices::{descriptor, with_queue};
+use crate::tests::devices::{descriptor, opened_beside, with_queue};
 use crate::tests::faults::slept_till;
 use crate::tests::full::script_of_reads;
-use crate::tests::scene::{
-    board_of, check, formatted_in_memory, looked_at, opened, program_key, run_of,
-};
+use crate::tests::scene::{board_of, check, formatted_in_memory, looked_at, program_key, run_of};
 use disk::{Hook, HookDisk};
 use mmio_transport::Device;
 use rpmb_frame::GuestConfig;
@@ -100,11 +98,8 @@ fn run_held<R: Threads + Wait + Clock + Sync>(rt: &R, alloc: Global) -> Result<(
     };
     let disk = HookDisk::new(formatted_in_memory(alloc, 2)?, HoldsSync(&watch));
     let board = board_of(alloc, 2)?;
-    let mut parts = opened(alloc, disk, &board)?;
-    let mut device = stopping(alloc)?;
-    if let Some(first) = parts.devices.first_mut() {
-        mem::swap(first, &mut device);
-    }
+    let mut others = [Some(stopping(alloc)?), None];
+    let parts = opened_beside(alloc, disk, &board, &mut others)?;
     let scripts = [script_of_reads(alloc, 1)?, script_of_reads(alloc, SUBMITS)?];
     let outcome = run_of(rt, alloc, parts, &board, &scripts, &Tells(&watch))?;
     let ran = looked_at(alloc, outcome);
