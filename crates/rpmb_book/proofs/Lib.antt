@@ -1,10 +1,11 @@
 pub mod Planning
 pub mod Places
 pub mod Replay
-pub mod Turns
 pub mod Room
 pub mod Bounding
+pub mod Filing
 pub mod Kept
+pub mod Rolled
 pub mod Submitting
 pub mod Settling
 pub mod OpeningLemmas
@@ -23,9 +24,7 @@ pub mod Breaking
 pub mod ByGuest
 pub mod SameCounts
 pub mod Rolling
-pub mod FoldingOne
 pub mod Allowing
 pub mod Leaving
-pub mod Once
-pub mod EntryLemmas
 pub mod Calm
+pub mod Walks

@@ -14,8 +14,7 @@ use Rattle.rpmb_book.specs.Guest.{GuestCore, GuestState, Held, held_when, submit
 use Rattle.rpmb_book.specs.Turn.{Turn, Submit, Take, Settle, Collect, Break, State, after_break, after_turn, IsRight, is_break, is_submit, settled_all, are_within, move_some}
 use Rattle.rpmb_book.specs.Sound.{IsSoundGuest, IsSound}
 use Rattle.rpmb_book.specs.Replay.{replay, IsLegal}
-use Rattle.rpmb_book.specs.History.{is_settle}
-use Rattle.rpmb_book.specs.Due.{total, due, unsettled, submits_of}
+use Rattle.rpmb_book.specs.Due.{total, due, submits_of}
 use Rattle.rpmb_book.proofs.Places.{length-update, total-update, all_at, all-update}
 
 -- the first of a list and the others are as many as all
@@ -72,9 +71,6 @@ submit_cost broken job g =
     let j = submit_joins broken job g in
     omega (arith, j.1, j.2.long, j.2.later, length-append g.held (held_when broken g.core job ∷ []))
 
-submit_unsettled : (broken : Bool) (job : Job) (g : GuestState) → unsettled (submitted broken job g) ≤ unsettled g + 1
-submit_unsettled broken job g = let j = submit_joins broken job g in omega (arith, j.1, j.2.later)
-
 -- what waits leads from the sequence that was taken to the partition's
 abbrev pub IsCounted : GuestState → Type 0
 IsCounted g = g.taken + length g.waiting ≡ sequence g.core.partition
@@ -124,31 +120,31 @@ settles_sound (g ∷ gs) (m ∷ ms) within sound =
     let parts = within_parts m g.taken (are_within gs ms) within in
     ((sound.0.0, omega (arith, parts.0, sound.0.1)), settles_sound gs ms parts.1 sound.1)
 
--- a Settle that moves a mark lowers both counts, and by as much
-settles_le : (gs : List GuestState) (ms : List ℕ) → (total due (settled_all gs ms) ≤ total due gs) × (total unsettled (settled_all gs ms) ≤ total unsettled gs) × (total submits_of (settled_all gs ms) ≡ total submits_of gs)
-settles_le [] ms = (omega arith, omega arith, refl)
-settles_le (g ∷ gs) [] = (omega arith, omega arith, refl)
-settles_le (g ∷ gs) (m ∷ ms) = let rest = settles_le gs ms in (omega (arith, rest.0), omega (arith, rest.1), omega (arith, rest.2))
+-- a Settle that moves a mark lowers what is due
+settles_le : (gs : List GuestState) (ms : List ℕ) → (total due (settled_all gs ms) ≤ total due gs) × (total submits_of (settled_all gs ms) ≡ total submits_of gs)
+settles_le [] ms = (omega arith, refl)
+settles_le (g ∷ gs) [] = (omega arith, refl)
+settles_le (g ∷ gs) (m ∷ ms) = let rest = settles_le gs ms in (omega (arith, rest.0), omega (arith, rest.1))
 
 settles_cost : (gs : List GuestState) (ms : List ℕ) → AllByRecursion IsSoundGuest gs → are_within gs ms ≡ true → move_some gs ms ≡ true
-    → (total due (settled_all gs ms) + 1 ≤ total due gs) × (total unsettled (settled_all gs ms) + 1 ≤ total unsettled gs)
+    → total due (settled_all gs ms) + 1 ≤ total due gs
 settles_cost [] ms sound within some = absurd (cc)
 settles_cost (g ∷ gs) [] sound within some = absurd (cc)
 settles_cost (g ∷ gs) (m ∷ ms) sound within some =
     let parts = within_parts m g.taken (are_within gs ms) within in
     let rest = settles_le gs ms in
     elim (moves_parts m g.settled (move_some gs ms) some) [
-      | inl lt ↦ (omega (arith, rest.0, sound.0.0, lt, parts.0), omega (arith, rest.1, sound.0.0, lt, parts.0))
-      | inr more ↦ (let later = settles_cost gs ms sound.1 parts.1 more in (omega (arith, later.0), omega (arith, later.1)))
+      | inl lt ↦ omega (arith, rest.0, sound.0.0, lt, parts.0)
+      | inr more ↦ omega (arith, settles_cost gs ms sound.1 parts.1 more)
     ]
 
 -- a Break leaves what is due, and what waits
 break_due : (g : GuestState) → due (broken_off g) ≡ due g
 break_due g = omega (arith, length-map g.held (kept_or_failed g.settled))
 
-breaks_le : (gs : List GuestState) → (total due (map broken_off gs) ≡ total due gs) × (total unsettled (map broken_off gs) ≡ total unsettled gs) × (total submits_of (map broken_off gs) ≡ total submits_of gs)
-breaks_le [] = (refl, refl, refl)
-breaks_le (g ∷ gs) = let rest = breaks_le gs in (omega (arith, break_due g, rest.0), omega (arith, rest.1), omega (arith, rest.2))
+breaks_le : (gs : List GuestState) → (total due (map broken_off gs) ≡ total due gs) × (total submits_of (map broken_off gs) ≡ total submits_of gs)
+breaks_le [] = (refl, refl)
+breaks_le (g ∷ gs) = let rest = breaks_le gs in (omega (arith, break_due g, rest.0), omega (arith, rest.1))
 
 breaks_sound : (gs : List GuestState) → AllByRecursion IsSoundGuest gs → AllByRecursion IsSoundGuest (map broken_off gs)
 breaks_sound [] sound = tt
@@ -181,10 +177,9 @@ pub one_if_le : (b : Bool) → one_if b ≤ 1
 one_if_le true = omega arith
 one_if_le false = omega arith
 
--- what a turn costs: of the room for turns, of the room for marks, and of the count of jobs
+-- what a turn costs: of what is due, and of the count of jobs
 pub record Pays (s s' : State) (t : Turn) : Type 0 where
   pub turn : total due s'.guests + 1 ≤ total due s.guests + 4 * one_if (is_submit t) + one_if (is_break t)
-  pub marks : total unsettled s'.guests + one_if (is_settle t) ≤ total unsettled s.guests + one_if (is_submit t)
   pub count : total submits_of s'.guests ≡ total submits_of s.guests + one_if (is_submit t)
   pub breaks : one_if (is_break t) + one_if s.broken ≡ one_if s'.broken
 
@@ -192,13 +187,12 @@ break_pays : (broken : Bool) (s : State) → broken ≡ s.broken → broken ≡ 
 break_pays true s is right = absurd (cc)
 break_pays false s is right =
     let same = breaks_le s.guests in
-    record { turn = omega (arith, same.0); marks = omega (arith, same.1); count = omega (arith, same.2); breaks = omega (arith, ap one_if is) }
+    record { turn = omega (arith, same.0); count = omega (arith, same.1); breaks = omega (arith, ap one_if is) }
 
 pub turn_pays : (s : State) (t : Turn) → IsSound s → IsRight s t → Pays s (after_turn s t) t
 turn_pays s (Submit w) sound right = elim (slice_get_cases s.guests w.job.guest).1 [
   | inl x ↦ record {
     turn = omega (arith, total-update due s.guests w.job.guest (submitted s.broken w.job) x.0 x.2, submit_cost s.broken w.job x.0);
-    marks = omega (arith, total-update unsettled s.guests w.job.guest (submitted s.broken w.job) x.0 x.2, submit_unsettled s.broken w.job x.0);
     count = omega (arith, total-update submits_of s.guests w.job.guest (submitted s.broken w.job) x.0 x.2);
     breaks = omega arith;
   }
@@ -207,7 +201,6 @@ turn_pays s (Submit w) sound right = elim (slice_get_cases s.guests w.job.guest)
 turn_pays s (Take n) sound right = elim (slice_get_cases s.guests n).1 [
   | inl x ↦ record {
     turn = omega (arith, total-update due s.guests n took x.0 x.2, take_cost n x.0 (right.0 x.0 x.2));
-    marks = omega (arith, total-update unsettled s.guests n took x.0 x.2);
     count = omega (arith, total-update submits_of s.guests n took x.0 x.2);
     breaks = omega arith;
   }
@@ -215,11 +208,10 @@ turn_pays s (Take n) sound right = elim (slice_get_cases s.guests n).1 [
 ]
 turn_pays s (Settle marks) sound right =
     let cost = settles_cost s.guests marks sound right.1 right.2 in
-    record { turn = omega (arith, cost.0); marks = omega (arith, cost.1); count = omega (arith, (settles_le s.guests marks).2); breaks = omega arith }
+    record { turn = omega (arith, cost); count = omega (arith, (settles_le s.guests marks).1); breaks = omega arith }
 turn_pays s (Collect n) sound right = elim (slice_get_cases s.guests n).1 [
   | inl x ↦ record {
     turn = omega (arith, total-update due s.guests n collected x.0 x.2, collect_cost x.0 (right.0 x.0 x.2));
-    marks = omega (arith, total-update unsettled s.guests n collected x.0 x.2);
     count = omega (arith, total-update submits_of s.guests n collected x.0 x.2);
     breaks = omega arith;
   }
@@ -230,21 +222,18 @@ turn_pays s Break sound right = break_pays s.broken s refl right
 -- what a history has used and may still use
 pub record Fits (s : State) (ts : List Turn) : Type 0 where
   pub turns : length ts + total due (replay s ts).guests ≤ total due s.guests + 4 * count_by is_submit ts + count_by is_break ts
-  pub marks : count_by is_settle ts + total unsettled (replay s ts).guests ≤ total unsettled s.guests + count_by is_submit ts
   pub count : total submits_of (replay s ts).guests ≡ total submits_of s.guests + count_by is_submit ts
   pub breaks : count_by is_break ts + one_if s.broken ≡ one_if (replay s ts).broken
 
 pub fits : (s : State) (ts : List Turn) → IsSound s → IsLegal s ts → Fits s ts
-fits s [] sound legal = record { turns = omega arith; marks = omega arith; count = omega arith; breaks = omega arith }
+fits s [] sound legal = record { turns = omega arith; count = omega arith; breaks = omega arith }
 fits s (t ∷ ts) sound legal =
     let pays = turn_pays s t sound legal.0 in
     let rest = fits (after_turn s t) ts (turn_sound s t sound legal.0) legal.1 in
     let submits = sum_by-cons (λ u. one_if (is_submit u)) t ts in
-    let settles = sum_by-cons (λ u. one_if (is_settle u)) t ts in
     let breaks = sum_by-cons (λ u. one_if (is_break u)) t ts in
     record {
       turns = omega (arith, rest.turns, pays.turn, submits, breaks);
-      marks = omega (arith, rest.marks, pays.marks, submits, settles);
       count = omega (arith, rest.count, pays.count, submits);
       breaks = omega (arith, rest.breaks, pays.breaks, breaks);
     }

@@ -3,9 +3,8 @@ ghost use Rattle.rpmb_frame.specs.Partition.{sequence};
 ghost use Rattle.rpmb_book.specs.Opening.{tallies_from};
 ghost use Rattle.rpmb_book.specs.Replay.{opened, IsLegal};
 ghost use Rattle.rpmb_book.specs.Book.{BookView, state, guest_of, counted_in, is_full, with_turn, submit_of, refusal, is_share, is_taken, take_answer, after_take, next_intent, share_moved, are_taken, settle_answer, after_settle, after_break_off, due_of, after_collect, found_by};
-ghost use Rattle.rpmb_book.specs.Left.{is_collected, first_left};
+ghost use Rattle.rpmb_book.specs.Left.{first_left};
 ghost use Rattle.rpmb_book.specs.Fold.{after_submit, folded, roomy};
-ghost use Rattle.rpmb_book.specs.Folding.{folded_first, first_may_go};
 ghost use Rattle.rpmb_book.specs.GuestPlanned.{IsGuestPlanned, is_failure};
 ghost use Rattle.rpmb_book.specs.Allowed.{IsAllowed};
 ghost use Rattle.std.specs.Option.{ForSome, option_copied};
@@ -14,14 +13,15 @@ ghost use Rattle.rpmb_book.specs.Kept.{IsOpening};
 ghost use Rattle.rpmb_book.specs.Sound.{AreOfBoard, AreReady, IsSound};
 ghost use Rattle.rpmb_book.specs.Receipt.{turn_seen, submission_seen};
 
-use crate::folding::break_all;
-use crate::guest_state::{GuestPlan, GuestState};
-use crate::history::{First, History, TurnRecord};
+use crate::did::Did;
+use crate::guest_state::{GuestPlan, GuestState, Said, break_all};
+use crate::history::{Filed, History, SUBMITS};
 use crate::marks::{are_within, move_some, settle_each};
-use crate::opening::{copied_guests, guests, sequences, tallies};
+use crate::opening::{guests, sequences, tallies};
 use crate::receipt::{Receipt, TurnView};
 use crate::refused::Refused;
 use crate::tally::{Shares, Tally};
+use crate::told::Told;
 use flusher::Marks;
 use intent_slots::Intent;
 use mmio_transport::{Done, Job};
@@ -33,28 +33,23 @@ use std::marker::Model;
 /// How many replies of one guest may wait to leave.
 const HELD: usize = 64;
 
-/// How many Submits a history may hold.
-const SUBMITS: u64 = 16_384;
-
 /// How many Submits a book may answer in one life.
 const COUNTED: u64 = u64::MAX;
 
 /// What all guests asked and were answered. Contracts see its life, how many turns were folded, the
 /// opening after those, and the history since; the state is the replay of the history on the opening.
+/// In memory are the state, and of the history its Submits, which `find` tells.
 #[derive(Drop)]
 pub struct Book {
+    told: Told,
     life: u64,
-    opening: Vec<GuestState>,
-    /// Whether the store had broken at the opening.
-    begun_broken: bool,
     guests: Vec<GuestState>,
     broken: bool,
-    /// How many Submits stand in the history.
-    submits: u64,
+    /// How many turns there were, folded ones too.
+    turns: u128,
     /// How many Submits were answered, folded ones too.
     counted: u64,
-    /// How many turns were folded into the opening.
-    folded: u128,
+    /// The Submits that stand.
     history: History,
     /// Where a reply is built: no request has to clear or make it.
     reply: Box<[u8; 8192]>,
@@ -62,13 +57,13 @@ pub struct Book {
 
 impl Model for Book {
     ghost use Rattle.rpmb_book.specs.Book.{BookView};
-    ghost use Rattle.rpmb_book.specs.Kept.{IsRecorded, IsTallied};
+    ghost use Rattle.rpmb_book.specs.Kept.{IsKept};
 
     ghost Value = { BookView };
 
-    ghost view = { λ b. record { life = b.life; folded = b.folded; opening = record { guests = b.opening.items; broken = b.begun_broken }; history = b.history.turns } };
+    ghost view = { λ b. b.told.book };
 
-    ghost invariant = { λ b. IsRecorded (record { guests = b.opening.items; broken = b.begun_broken }) b.history b.guests.items b.broken b.submits × IsTallied (record { guests = b.opening.items; broken = b.begun_broken }) b.submits b.counted b.folded };
+    ghost invariant = { λ b. IsKept b.told.book b.life b.guests.items b.broken b.turns b.counted b.history };
 }
 
 impl Book {
@@ -86,21 +81,19 @@ impl Book {
         ensures shares { IfOk result (λ r. r.2 ≡ map sequence partitions.items) }
     {
         let count = config.guests().len();
-        let history = History::new(alloc, count)?;
+        let history = History::new(alloc)?;
         let reply = Box::new(alloc, [0; 8192])?;
         let tallies = tallies(alloc, count)?;
         let sequences = sequences(alloc, &partitions)?;
-        let opening = copied_guests(alloc, config, &partitions)?;
         let guests = guests(alloc, config, partitions)?;
+        let told = Told::of(&life, &guests);
         let book = Book {
+            told,
             life,
-            opening,
-            begun_broken: false,
             guests,
             broken: false,
-            submits: 0,
+            turns: 0,
             counted: 0,
-            folded: 0,
             history,
             reply,
         };
@@ -112,31 +105,14 @@ impl Book {
     fn is_full(&self) -> bool
         ensures { result ≡ is_full self.now }
     {
-        (self.submits == SUBMITS && !self.is_first_collected()) || self.counted == COUNTED
+        (self.history.len() == SUBMITS && !self.is_first_collected()) || self.counted == COUNTED
     }
 
     /// Whether the first Submit of the history was collected.
     fn is_first_collected(&self) -> bool
         ensures { result ≡ first_left (state self.now) self.now.opening self.now.history }
     {
-        match self.history.first_submit() {
-            None => false,
-            Some(guest) => self.is_collected(guest),
-        }
-    }
-
-    /// Whether the reply to the first Submit of this guest since the opening has left.
-    fn is_collected(&self, guest: u16) -> bool
-        ensures { result ≡ is_collected (slice_get self.now.opening.guests guest) (guest_of self.now guest) }
-    {
-        let at = usize::from(guest);
-        let Some(then) = self.opening.get(at) else {
-            return false;
-        };
-        let Some(now) = self.guests.get(at) else {
-            return false;
-        };
-        then.submits() < now.submits().saturating_sub(now.held_len() as u64)
+        self.history.first_has_left(&self.guests)
     }
 
     /// Why a job is refused, whatever memory there is; None where it is not.
@@ -188,8 +164,8 @@ impl Book {
         let Ok(plan) = self.plan(alloc, tally, &job) else {
             return Err((job, Refused::NoMemory));
         };
-        self.make_room(alloc, tally, &job);
-        Ok(self.answer(tally, job, plan))
+        self.make_room(tally, &job);
+        Ok(self.answer(alloc, tally, job, plan))
     }
 
     /// Makes all the memory that the answer to a job takes.
@@ -204,19 +180,25 @@ impl Book {
     }
 
     /// Lets the history roll where it has no place for a Submit.
-    fn make_room(&mut self, alloc: Global, tally: &Tally, job: &Job)
+    fn make_room(&mut self, tally: &Tally, job: &Job)
         requires allowed { refusal self.old tally.now job.now ≡ None }
         ensures made { self.new ≡ roomy self.old }
         ensures total { counted_in self.new ≡ counted_in self.old }
         ensures allowed { IsAllowed self.new tally.now job.now }
     {
-        if self.submits == SUBMITS {
-            self.fold(alloc);
+        if self.history.len() == SUBMITS {
+            self.fold();
         }
     }
 
     /// Answers a job as planned. It takes no memory.
-    fn answer(&mut self, tally: &mut Tally, job: Job, plan: GuestPlan) -> Receipt
+    fn answer(
+        &mut self,
+        alloc: Global,
+        tally: &mut Tally,
+        job: Job,
+        plan: GuestPlan,
+    ) -> Receipt
         requires allowed { IsAllowed self.old tally.old job }
         requires plan { ForSome (guest_of self.old job.guest) (λ g. IsGuestPlanned job g plan) }
         requires failure { is_failure plan ≡ (state self.old).broken }
@@ -224,56 +206,37 @@ impl Book {
         ensures counted { tally.new ≡ record tally.old { count = tally.old.count + 1 } }
         ensures named { result ≡ record { life = self.old.life; guest = job.guest; number = self.old.folded + length self.old.history } }
     {
+        self.told = self.told.then(&Did::Submit(&job));
         let receipt = Receipt {
             life: self.life,
             guest: job.guest(),
-            number: self.folded + self.history.len() as u128,
+            number: self.turns,
         };
-        let guest = &mut self.guests[usize::from(job.guest())];
-        let made = guest.submit(job, plan, &mut self.reply);
-        self.history.push(TurnRecord::Submit(made));
-        self.submits += 1;
+        let writable = job.writable();
+        let guest = &mut self.guests[usize::from(receipt.guest)];
+        let Said { request, reply } = guest.submit(alloc, job, plan, &mut self.reply);
+        self.history.push(Filed {
+            number: self.turns,
+            place: tally.count(),
+            guest: receipt.guest,
+            request,
+            writable,
+            reply,
+        });
+        self.turns += 1;
         self.counted += 1;
         tally.raise();
         receipt
     }
 
-    /// Whether the first turn may be folded.
-    fn may_fold(&self) -> bool
-        ensures { result ≡ first_may_go (state self.now) self.now.opening self.now.history }
-    {
-        match self.history.first() {
-            First::Nothing => false,
-            First::Submit(guest) => self.is_collected(guest),
-            First::Break | First::Other => true,
-        }
-    }
-
-    /// Folds the first turn into the opening.
-    fn fold_first(&mut self, alloc: Global)
-        requires { first_may_go (state self.old) self.old.opening self.old.history ≡ true }
-        ensures { self.new ≡ folded_first self.old }
-    {
-        let first = self.history.first();
-        self.history
-            .fold_first(alloc, &mut self.opening, self.begun_broken);
-        self.begun_broken |= first.is_break();
-        self.submits -= first.submits();
-        self.folded += 1;
-    }
-
     /// Makes the opening the state after the longest beginning of the history in which every Submit was
     /// collected, and lets that beginning go. The state stays. It takes no memory.
-    fn fold(&mut self, alloc: Global)
+    fn fold(&mut self)
         ensures folded { self.new ≡ folded self.old }
         ensures stays { state self.new ≡ state self.old }
     {
-        for _ in 0..self.history.len() {
-            if !self.may_fold() {
-                return;
-            }
-            self.fold_first(alloc);
-        }
+        self.history.roll(&self.guests);
+        self.told = self.told.rolled();
     }
 
     /// Whether the guest is the book's, and its share is its taken sequence.
@@ -305,7 +268,8 @@ impl Book {
             None => Ok(None),
             Some(intent) => {
                 shares.set(at, intent.last_sequence());
-                self.history.push(TurnRecord::Take(guest));
+                self.told = self.told.then(&Did::Take(guest));
+                self.turns += 1;
                 Ok(Some(intent))
             }
         }
@@ -324,7 +288,8 @@ impl Book {
             return Err(Refused::Foreign);
         }
         if move_some(&self.guests, marks) {
-            self.history.push_marks(marks);
+            self.told = self.told.then(&Did::Settle(marks));
+            self.turns += 1;
             settle_each(&mut self.guests, marks);
         }
         Ok(())
@@ -339,7 +304,8 @@ impl Book {
         if self.broken {
             return;
         }
-        self.history.push(TurnRecord::Break);
+        self.told = self.told.then(&Did::Break);
+        self.turns += 1;
         break_all(&mut self.guests);
         self.broken = true;
     }
@@ -363,7 +329,8 @@ impl Book {
         }
         let known = &mut self.guests[at];
         let done = known.collect()?;
-        self.history.push(TurnRecord::Collect(guest));
+        self.told = self.told.then(&Did::Collect(guest));
+        self.turns += 1;
         Some(done)
     }
 
@@ -372,20 +339,11 @@ impl Book {
     pub fn find(&self, receipt: &Receipt) -> Option<TurnView<'_>>
         ensures { option_map turn_seen result ≡ option_map submission_seen (found_by self.now receipt.now) }
     {
-        if receipt.life != self.life || receipt.number < self.folded {
+        if receipt.life != self.life {
             return None;
         }
-        match self
-            .history
-            .submission(receipt.guest, receipt.number - self.folded)
-        {
-            None => None,
-            Some(made) => Some(TurnView {
-                request: made.job().request(),
-                writable: made.job().writable(),
-                reply: made.reply(),
-            }),
-        }
+        let filed = self.history.find(receipt.number)?;
+        filed.seen_by(receipt.guest)
     }
 
     /// The life that the book was opened with.

@@ -4,11 +4,10 @@ ghost use Rattle.rpmb_frame.specs.Partition.{Partition};
 ghost use Rattle.rpmb_core.specs.Verdict.{verdict};
 ghost use Rattle.rpmb_core.specs.Accept.{data_of, is_accepted, partition_after};
 ghost use Rattle.rpmb_core.specs.Reply.{failure_kind};
-ghost use Rattle.rpmb_book.specs.Guest.{stored, core_after, verdict_of, outcome_in, answer, answer_when, need, entry, entry_of, key_of, blocks_in, request_of};
+ghost use Rattle.rpmb_book.specs.Guest.{stored, core_after, outcome_in, answer, answer_when, need, entry, entry_of, key_of, blocks_in, request_of};
 ghost use Rattle.rpmb_book.specs.Sound.{IsCoreOfBoard};
 ghost use Rattle.rpmb_book.specs.Planned.{IsPlanned};
 
-use crate::entries::{change_of, entry_from};
 use intent_slots::Entry;
 use mmio_transport::Job;
 use rpmb_core::{GENERAL_FAILURE, NoMemory, OK, Outcome, Partition, failure_kind, is_change};
@@ -49,24 +48,13 @@ pub struct Plan {
     pub blocks: Vec<u8>,
 }
 
-/// The answer to a job: its reply twice, the verdict, what has to be settled before the reply may
+/// The answer to a job: its reply twice, what has to be settled before the reply may
 /// leave, the type of the failure reply to its request, and what an accepted one is to make of the
 /// partition.
 #[derive(Drop)]
 pub struct Answer {
     pub reply: Vec<u8>,
     pub copy: Vec<u8>,
-    pub code: u16,
-    pub need: u64,
-    pub kind: u16,
-    pub entry: Option<Entry>,
-}
-
-/// What a job that was answered before makes once more: the job without its request, and the others
-/// as in an answer.
-#[derive(Drop)]
-pub struct Redone {
-    pub job: Job,
     pub need: u64,
     pub kind: u16,
     pub entry: Option<Entry>,
@@ -144,7 +132,6 @@ impl GuestCore {
         ensures fits { length result.reply.items ≤ room_of job.now }
         ensures frames { 0 < length result.reply.items → 512 ≤ length result.reply.items }
         ensures copy { result.copy.items ≡ answer self.old job.now }
-        ensures code { result.code ≡ verdict_of self.old job.now }
         ensures need { result.need ≡ need self.old job.now }
         ensures kind { result.kind ≡ failure_kind (request_of self.old job.now).command }
         ensures entry { result.entry ≡ entry self.old job.now }
@@ -169,46 +156,10 @@ impl GuestCore {
         Answer {
             reply,
             copy,
-            code,
             need: self.partition.sequence(),
             kind: failure_kind(&request),
             entry,
         }
-    }
-
-    /// What `carry_out` makes of the partition and the stored outcome, once more, by the verdict that
-    /// was found then. It takes no memory: the entry's blocks are those of the job's own request.
-    pub fn redo(&mut self, alloc: Global, job: Job, code: u16) -> Redone
-        requires code { code ≡ verdict_of self.old job }
-        requires board { IsCoreOfBoard self.old }
-        ensures core { self.new ≡ core_after self.old job }
-        ensures job { result.job ≡ record job { request = [] } }
-        ensures need { result.need ≡ need self.old job }
-        ensures kind { result.kind ≡ failure_kind (request_of self.old job).command }
-        ensures entry { result.entry ≡ entry self.old job }
-    {
-        let request = Request::classify(job.request(), job.writable(), self.limits);
-        let is_accepted = is_accepted(&request, code);
-        let change = change_of(&request, is_accepted);
-        let kind = failure_kind(&request);
-        apply(&mut self.partition, &request, is_accepted);
-        let outcome = Outcome::of(&request, code, self.partition.counter());
-        self.last = keep(self.last, job.session(), outcome);
-        let (job, bytes) = job.without_request(alloc);
-        Redone {
-            job,
-            need: self.partition.sequence(),
-            kind,
-            entry: entry_from(change, bytes),
-        }
-    }
-
-    /// The type of the failure reply to a job.
-    pub fn failure_kind(&self, job: &Job) -> u16
-        ensures { result ≡ failure_kind (request_of self.now job.now).command }
-    {
-        let request = Request::classify(job.request(), job.writable(), self.limits);
-        failure_kind(&request)
     }
 
     /// The failure reply to a job of a broken book, built in `out`.

@@ -2,18 +2,18 @@ ghost use Rattle.std.specs.Prelude.{◌≡◌, ◌+◌, ◌++◌, ◌-◌, ◌<�
 ghost use Rattle.intent_slots.specs.Payload.{EntriesFit};
 ghost use Rattle.rpmb_book.specs.Planned.{IsFailure, IsPlanned};
 ghost use Rattle.rpmb_book.specs.GuestPlanned.{IsGuestPlanned, is_failure};
-ghost use Rattle.rpmb_book.specs.Folding.{HasPlaces, IsMade};
+ghost use Rattle.rpmb_book.specs.Allowed.{HasPlaces};
+ghost use Rattle.rpmb_book.specs.Left.{left_of};
 ghost use Rattle.std.specs.Prelude.{true, false, map};
-ghost use Rattle.rpmb_book.specs.Guest.{submitted, answer_when, code_when, took, settled_at, collected, broken_off, kept_or_failed, first_due, first_intent, fresh};
+ghost use Rattle.rpmb_book.specs.Guest.{submitted, answer_when, took, settled_at, collected, broken_off, kept_or_failed, first_due, first_intent, fresh};
 
-use crate::guest_core::{Answer, Failure, GuestCore, Plan, Redone};
+use crate::guest_core::{Answer, Failure, GuestCore, Plan};
 use crate::held::Held;
-use crate::history::Submission;
 use intent_slots::{Entry, Intent};
 use mmio_transport::{Done, Job};
-use rpmb_core::{GENERAL_FAILURE, NoMemory, Partition};
+use rpmb_core::{NoMemory, Partition};
 use rpmb_frame::Limits;
-use std::alloc::{AllocError, Global};
+use std::alloc::Global;
 use std::collections::VecDeque;
 use std::marker::Model;
 
@@ -46,12 +46,19 @@ impl Model for GuestState {
     ghost invariant = { λ g. (64 ≤ deque_capacity g.held) × (64 ≤ deque_capacity g.waiting) };
 }
 
-/// All the memory that the answer to a job takes: the job that its reply goes to, and the rest.
+/// All the memory that the answer to a job takes.
 #[derive(Drop)]
 pub enum GuestPlan {
     /// A book that is broken answers with a failure, which is made already.
-    Failure(Job, Failure),
-    Answer(Job, Plan),
+    Failure(Failure),
+    Answer(Plan),
+}
+
+/// What a job asked and was answered, for the history.
+#[derive(Drop)]
+pub struct Said {
+    pub request: Vec<u8>,
+    pub reply: Vec<u8>,
 }
 
 impl GuestState {
@@ -106,6 +113,13 @@ impl GuestState {
         self.held.len()
     }
 
+    /// How many of its replies have left.
+    pub fn left(&self) -> u64
+        ensures { result ≡ left_of self.now }
+    {
+        self.submits.saturating_sub(self.held.len() as u64)
+    }
+
     /// Makes all the memory that the answer to a job takes, of a book that is broken, or isn't. A
     /// failure reply is built in `out`.
     pub fn plan(
@@ -118,115 +132,76 @@ impl GuestState {
         ensures planned { IfOk result (IsGuestPlanned job.now self.now) }
         ensures failure { IfOk result (λ p. is_failure p ≡ broken) }
     {
-        let Ok(held_job) = job.for_reply(alloc) else {
-            return Err(AllocError);
-        };
         if broken {
             let failure = self.core.failure(alloc, job, out)?;
-            Ok(GuestPlan::Failure(held_job, failure))
+            Ok(GuestPlan::Failure(failure))
         } else {
             let plan = self.core.plan(alloc, job)?;
-            Ok(GuestPlan::Answer(held_job, plan))
+            Ok(GuestPlan::Answer(plan))
         }
     }
 
-    /// Answers a job as planned; the reply is built in `out`. It takes no memory.
-    pub fn submit(&mut self, job: Job, plan: GuestPlan, out: &mut [u8; 8192]) -> Submission
+    /// Answers a job as planned; the reply is built in `out`. It takes no memory: the job goes along
+    /// with its reply, and its request to the history.
+    pub fn submit(
+        &mut self,
+        alloc: Global,
+        job: Job,
+        plan: GuestPlan,
+        out: &mut [u8; 8192],
+    ) -> Said
         requires plan { IsGuestPlanned job self.old plan }
         requires places { HasPlaces (is_failure plan) self.old }
-        ensures made { result ≡ record { job = job; reply = answer_when (is_failure plan) self.old.core job; code = code_when (is_failure plan) self.old.core job } }
+        ensures request { result.request.items ≡ job.request }
+        ensures reply { result.reply.items ≡ answer_when (is_failure plan) self.old.core job }
         ensures state { self.new ≡ submitted (is_failure plan) job self.old }
     {
         match plan {
-            GuestPlan::Failure(held_job, failure) => self.submit_failure(job, held_job, failure),
-            GuestPlan::Answer(held_job, plan) => self.submit_answer(job, held_job, plan, out),
+            GuestPlan::Failure(failure) => self.submit_failure(alloc, job, failure),
+            GuestPlan::Answer(plan) => self.submit_answer(alloc, job, plan, out),
         }
     }
 
     /// Answers a job with a failure, since the store broke: nothing is accepted.
-    fn submit_failure(&mut self, job: Job, held_job: Job, failure: Failure) -> Submission
-        requires held_job { held_job ≡ record job { readable = []; request = [] } }
+    fn submit_failure(&mut self, alloc: Global, job: Job, failure: Failure) -> Said
         requires failure { IsFailure self.old.core job failure }
         requires places { HasPlaces true self.old }
-        ensures made { result ≡ record { job = job; reply = answer_when true self.old.core job; code = code_when true self.old.core job } }
+        ensures request { result.request.items ≡ job.request }
+        ensures reply { result.reply.items ≡ answer_when true self.old.core job }
         ensures state { self.new ≡ submitted true job self.old }
     {
         let Failure { reply, copy, kind } = failure;
-        self.held
-            .push_back_reserved(Held::of(held_job, reply, 0, kind));
+        let (job, request) = job.without_request(alloc);
+        self.held.push_back_reserved(Held::of(job, reply, 0, kind));
         self.submits += 1;
-        Submission::of(job, copy, GENERAL_FAILURE)
+        Said {
+            request,
+            reply: copy,
+        }
     }
 
     /// Answers a job by its request.
     fn submit_answer(
         &mut self,
+        alloc: Global,
         job: Job,
-        held_job: Job,
         plan: Plan,
         out: &mut [u8; 8192],
-    ) -> Submission
-        requires held_job { held_job ≡ record job { readable = []; request = [] } }
+    ) -> Said
         requires plan { IsPlanned self.old.core job plan }
         requires places { HasPlaces false self.old }
-        ensures made { result ≡ record { job = job; reply = answer_when false self.old.core job; code = code_when false self.old.core job } }
+        ensures request { result.request.items ≡ job.request }
+        ensures reply { result.reply.items ≡ answer_when false self.old.core job }
         ensures state { self.new ≡ submitted false job self.old }
     {
         let Answer {
             reply,
             copy,
-            code,
             need,
             kind,
             entry,
         } = self.core.carry_out(&job, plan, out);
-        self.held
-            .push_back_reserved(Held::of(held_job, reply, need, kind));
-        match entry {
-            None => {}
-            Some(entry) => self.waiting.push_back_reserved(entry),
-        }
-        self.submits += 1;
-        Submission::of(job, copy, code)
-    }
-
-    /// Makes the change of a Submit that was answered before, in the state where it stood. It takes no
-    /// memory: what is kept is moved out of the Submit.
-    pub fn redo(&mut self, alloc: Global, made: Submission, broken: bool)
-        requires made { IsMade broken made self.old }
-        requires places { HasPlaces broken self.old }
-        ensures { self.new ≡ submitted broken made.job self.old }
-    {
-        if broken {
-            self.redo_failure(made);
-        } else {
-            self.redo_answer(alloc, made);
-        }
-    }
-
-    fn redo_failure(&mut self, made: Submission)
-        requires made { IsMade true made self.old }
-        requires places { HasPlaces true self.old }
-        ensures { self.new ≡ submitted true made.job self.old }
-    {
-        let Submission { job, reply, .. } = made;
-        let kind = self.core.failure_kind(&job);
-        self.held.push_back_reserved(Held::of(job, reply, 0, kind));
-        self.submits += 1;
-    }
-
-    fn redo_answer(&mut self, alloc: Global, made: Submission)
-        requires made { IsMade false made self.old }
-        requires places { HasPlaces false self.old }
-        ensures { self.new ≡ submitted false made.job self.old }
-    {
-        let Submission { job, reply, code } = made;
-        let Redone {
-            job,
-            need,
-            kind,
-            entry,
-        } = self.core.redo(alloc, job, code);
+        let (job, request) = job.without_request(alloc);
         self.held
             .push_back_reserved(Held::of(job, reply, need, kind));
         match entry {
@@ -234,6 +209,10 @@ impl GuestState {
             Some(entry) => self.waiting.push_back_reserved(entry),
         }
         self.submits += 1;
+        Said {
+            request,
+            reply: copy,
+        }
     }
 
     /// Gives the requests that come next for the store, at most four, as an intent of the guest with
@@ -292,5 +271,14 @@ fn break_held(held: &mut [Held], settled: u64)
 {
     for reply in held.iter_mut() {
         reply.break_off(settled);
+    }
+}
+
+/// A Break, of all guests.
+pub fn break_all(guests: &mut [GuestState])
+    ensures { guests.new ≡ map broken_off guests.old }
+{
+    for guest in guests.iter_mut() {
+        guest.break_off();
     }
 }

@@ -3,8 +3,7 @@
 #![tactic(auto)]
 
 mod book;
-mod entries;
-mod folding;
+mod did;
 mod guest_core;
 mod guest_state;
 mod held;
@@ -15,6 +14,7 @@ mod opening;
 mod receipt;
 mod refused;
 mod tally;
+mod told;
 
 pub use book::Book;
 pub use receipt::{Receipt, TurnView};
