@@ -175,10 +175,6 @@ pub below_le : (n : ℕ) (fs : List Filed) → below n fs ≤ length fs
 below_le n [] = omega arith
 below_le n (f ∷ fs) = by_test (nat_lt f.number n) (λ is. rw is (omega (arith, below_le n fs))) (λ is. rw is (omega arith))
 
-none_less : (n m : ℕ) (fs : List Filed) → Rise m fs → n ≤ m → below n fs ≡ 0
-none_less n m [] rise le = refl
-none_less n m (f ∷ fs) rise le = (let other : nat_lt f.number n ≡ false = grind (arith, nat_tests, rise.0, le) in not_chosen (nat_lt f.number n) (below n fs + 1) 0 other)
-
 some_same : {x y : Filed} → Some x ≡ Some y → x ≡ y
 some_same e = cc
 
@@ -227,14 +223,6 @@ found_at n m (f ∷ fs) rise = by_test (nat_lt f.number n)
   where
     none_or : (n : ℕ) (f : Filed) (fs : List Filed) → Rise (f.number + 1) fs → n ≤ f.number → found_in n fs ≡ None
     none_or n f fs rise le = none_below n (f.number + 1) fs rise (omega (arith, le))
-
-
--- what a guest's own entry tells
-pub is_of_guest : (g : ℕ) (f : Filed) → f.guest ≡ g → of_guest g (Some f) ≡ Some f
-is_of_guest g f is = (let same : (f.guest == g) ≡ true = grind (arith, nat_tests, is) in chosen (f.guest == g) (Some f) None same)
-
-pub not_of_guest : (g : ℕ) (f : Filed) → f.guest ≢ g → of_guest g (Some f) ≡ None
-not_of_guest g f other = (let differs : (f.guest == g) ≡ false = grind (arith, nat_tests, other) in not_chosen (f.guest == g) (Some f) None differs)
 
 -- one turn of the loop that lets the first Submits go, and its ends
 pub roll_one : (gs : List GuestState) (fs : List Filed) → first_has_left gs fs ≡ true → (still_filed gs (drop 1 fs) ≡ still_filed gs fs) × (length (drop 1 fs) + 1 ≡ length fs)

@@ -192,13 +192,7 @@ impl Book {
     }
 
     /// Answers a job as planned. It takes no memory.
-    fn answer(
-        &mut self,
-        alloc: Global,
-        tally: &mut Tally,
-        job: Job,
-        plan: GuestPlan,
-    ) -> Receipt
+    fn answer(&mut self, alloc: Global, tally: &mut Tally, job: Job, plan: GuestPlan) -> Receipt
         requires allowed { IsAllowed self.old tally.old job }
         requires plan { ForSome (guest_of self.old job.guest) (λ g. IsGuestPlanned job g plan) }
         requires failure { is_failure plan ≡ (state self.old).broken }
@@ -216,7 +210,7 @@ impl Book {
         let guest = &mut self.guests[usize::from(receipt.guest)];
         let Said { request, reply } = guest.submit(alloc, job, plan, &mut self.reply);
         self.history.push(Filed {
-            number: self.turns,
+            number: receipt.number,
             place: tally.count(),
             guest: receipt.guest,
             request,

@@ -143,13 +143,7 @@ impl GuestState {
 
     /// Answers a job as planned; the reply is built in `out`. It takes no memory: the job goes along
     /// with its reply, and its request to the history.
-    pub fn submit(
-        &mut self,
-        alloc: Global,
-        job: Job,
-        plan: GuestPlan,
-        out: &mut [u8; 8192],
-    ) -> Said
+    pub fn submit(&mut self, alloc: Global, job: Job, plan: GuestPlan, out: &mut [u8; 8192]) -> Said
         requires plan { IsGuestPlanned job self.old plan }
         requires places { HasPlaces (is_failure plan) self.old }
         ensures request { result.request.items ≡ job.request }
@@ -181,13 +175,7 @@ impl GuestState {
     }
 
     /// Answers a job by its request.
-    fn submit_answer(
-        &mut self,
-        alloc: Global,
-        job: Job,
-        plan: Plan,
-        out: &mut [u8; 8192],
-    ) -> Said
+    fn submit_answer(&mut self, alloc: Global, job: Job, plan: Plan, out: &mut [u8; 8192]) -> Said
         requires plan { IsPlanned self.old.core job plan }
         requires places { HasPlaces false self.old }
         ensures request { result.request.items ≡ job.request }

@@ -46,7 +46,7 @@ invariant_of-self c =
     let broken : is_failure c.args.plan ≡ i.broken = c.requires.failure ∙ ap (λ b. (state b).broken) (sym c.self.view_is) ∙ sym c.self.invariant.recorded.broken_is in
     let said = c.submit-request.result in
     let filed : ◌≡◌ {A = Filed} (record { number = i.turns; place = c.count.result; guest = c.guest.result; request = said.request.items; writable = c.writable-writable.result; reply = said.reply.items })
-        (record { number = i.turns; place = c.args.tally.now.count; guest = job.guest; request = job.request; writable = room_of job; reply = answer_when i.broken g.core job }) =
+    (record { number = i.turns; place = c.args.tally.now.count; guest = job.guest; request = job.request; writable = room_of job; reply = answer_when i.broken g.core job }) =
     ap₂ (λ (p : ℕ) (q : ℕ). record { number = i.turns; place = p; guest = q; request = said.request.items; writable = c.writable-writable.result; reply = said.reply.items }) c.count.ensures c.guest.ensures
     ∙ ap₂ (λ (p : List ℕ) (q : ℕ). record { number = i.turns; place = c.args.tally.now.count; guest = job.guest; request = p; writable = q; reply = said.reply.items }) c.submit-request.ensures.request c.writable-writable.ensures
     ∙ ap (λ (p : List ℕ). record { number = i.turns; place = c.args.tally.now.count; guest = job.guest; request = job.request; writable = room_of job; reply = p }) (c.submit-request.ensures.reply ∙ ap (λ (x : Bool). answer_when x g.core job) broken) in
