@@ -67,21 +67,26 @@ fn has_left_of(guest: Option<&GuestState>, place: u64) -> bool
 }
 
 /// The Submits of a history, of which contracts see the list, with room for all that may stand.
+///
+/// Those that go stay in memory, in front of those that stand, until their places are needed: so each
+/// Submit that comes gives back what one held, just before it needs as much, and no call gives back all.
 #[derive(Drop)]
 pub struct History {
     filed: VecDeque<Filed>,
+    /// How many of the first have gone.
+    gone: usize,
 }
 
 impl Model for History {
-    ghost use Rattle.std.specs.Prelude.{List, ◌≤◌};
+    ghost use Rattle.std.specs.Prelude.{List, ◌≤◌, drop, length};
     ghost use Rattle.std.specs.VecDeque.{deque_capacity};
     ghost use Rattle.rpmb_book.specs.History as model;
 
     ghost Value = { List model.Filed };
 
-    ghost view = { λ h. h.filed.items };
+    ghost view = { λ h. drop h.gone h.filed.items };
 
-    ghost invariant = { λ h. 16384 ≤ deque_capacity h.filed };
+    ghost invariant = { λ h. (16384 ≤ deque_capacity h.filed) × (h.gone ≤ length h.filed.items) × (length h.filed.items ≤ 16384) };
 }
 
 impl History {
@@ -91,6 +96,7 @@ impl History {
     {
         Ok(History {
             filed: VecDeque::with_capacity(alloc, SUBMITS)?,
+            gone: 0,
         })
     }
 
@@ -98,7 +104,15 @@ impl History {
     pub fn len(&self) -> usize
         ensures { result ≡ length self.now }
     {
-        self.filed.len()
+        self.filed.len() - self.gone
+    }
+
+    /// The Submit in this place among those that stand.
+    fn at(&self, place: usize) -> &Filed
+        requires { place < length self.now }
+        ensures { slice_get self.now place ≡ Some result.now }
+    {
+        &self.filed[self.gone + place]
     }
 
     /// Appends a Submit. It takes no memory.
@@ -106,6 +120,13 @@ impl History {
         requires room { length self.old < 16_384 }
         ensures { self.new ≡ self.old ++ filed ∷ [] }
     {
+        if self.filed.len() < SUBMITS {
+            self.filed.push_back_reserved(filed);
+            return;
+        }
+        // More places are taken than Submits stand, so the first of them has gone.
+        let _gone = self.filed.pop_front();
+        self.gone -= 1;
         self.filed.push_back_reserved(filed);
     }
 
@@ -113,21 +134,21 @@ impl History {
     pub fn first_has_left(&self, guests: &[GuestState]) -> bool
         ensures { result ≡ first_has_left guests.now self.now }
     {
-        match self.filed.front() {
-            None => false,
-            Some(first) => first.has_left(guests),
+        if self.len() == 0 {
+            return false;
         }
+        self.at(0).has_left(guests)
     }
 
     /// Lets the first Submits go whose replies have left.
     pub fn roll(&mut self, guests: &[GuestState])
         ensures { self.new ≡ still_filed guests.now self.old }
     {
-        for _ in 0..self.filed.len() {
+        for _ in 0..self.len() {
             if !self.first_has_left(guests) {
                 return;
             }
-            let _gone = self.filed.pop_front();
+            self.gone += 1;
         }
     }
 
@@ -137,10 +158,10 @@ impl History {
         ensures { result ≡ below number self.now }
     {
         let mut low = 0;
-        let mut high = self.filed.len();
+        let mut high = self.len();
         while low < high {
             let middle = low + (high - low) / 2;
-            if self.filed[middle].number < number {
+            if self.at(middle).number < number {
                 low = middle + 1;
             } else {
                 high = middle;
@@ -154,11 +175,11 @@ impl History {
         requires { Rise 0 self.now }
         ensures { option_copied result ≡ found_in number self.now }
     {
-        let at = self.below(number);
-        if at >= self.filed.len() {
+        let place = self.below(number);
+        if place >= self.len() {
             return None;
         }
-        let filed = &self.filed[at];
+        let filed = self.at(place);
         if filed.number == number {
             Some(filed)
         } else {
