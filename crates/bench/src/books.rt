@@ -133,11 +133,20 @@ impl Books {
         }
     }
 
-    /// One request of a guest for its counter, from the making of its job to the end of its reply.
+    /// That the first reply is a good one to a request of this kind.
+    fn granted(&self, kind: Kind) -> Result<(), Stop> {
+        match self.replies.front() {
+            Some(done) if done.reply().ends_with(&kind.end()) => Ok(()),
+            _ => Err("a refusal"),
+        }
+    }
+
+    /// One request of a guest, which has its key, for its counter, from the making of its job to the end of its reply.
     pub fn ask(&mut self, guest: u16) -> Result<(), Stop> {
         push_job(self.alloc, &mut self.jobs, guest, Kind::Counter, 0)?;
         self.submit()?;
         self.collect(guest)?;
+        self.granted(Kind::Counter)?;
         self.publish()
     }
 

@@ -69,6 +69,17 @@ fn reply_of(answer: Option<&Answer>) -> &[u8] {
     }
 }
 
+/// What was mixed before, and the first byte of the MAC of a good reply to a request of this kind. A MAC stands
+/// 316 bytes before the end of the last frame.
+pub fn mixed_mac(kind: Kind, answer: &Answer, before: u32) -> Result<u32, Stop> {
+    let reply = reply_of(Some(answer));
+    if !reply.ends_with(&kind.end()) {
+        return Err("a refusal");
+    }
+    let at = reply.len().saturating_sub(316);
+    Ok(mixed(before, reply.get(at).copied().unwrap_or(0)))
+}
+
 impl Load {
     pub fn guests(&self) -> u16 {
         (self.config.guests().len() % 65_536) as u16
@@ -138,21 +149,6 @@ impl Load {
         let mut all = before;
         for answer in answers {
             all = mixed_bytes(reply_of(Some(answer)), all);
-        }
-        Ok(all)
-    }
-
-    /// The first bytes of the MACs of what a guest was told behind the reply to its key, mixed. A MAC stands
-    /// 316 bytes before the end of the last frame.
-    pub fn macs(&self, answers: &[Answer]) -> Result<u32, Stop> {
-        let mut all = 0u32;
-        for answer in answers.iter().skip(1) {
-            let reply = reply_of(Some(answer));
-            if !reply.ends_with(&self.kind.end()) {
-                return Err("a refusal");
-            }
-            let at = reply.len().saturating_sub(316);
-            all = mixed(all, reply.get(at).copied().unwrap_or(0));
         }
         Ok(all)
     }

@@ -1,12 +1,15 @@
 //! Times work of one kind, `bench WORK COUNT`; without arguments it prints checksums alone. COUNT is
 //!
 //! - of `macs`: of MACs;
-//! - of `requests`: of requests for each of 64 guests; and of as many one after another, past where the
-//!   history rolls, the median, the 99.99th percentile and the slowest of their times, and what memory the
-//!   process has after the first 20,000 and at the end;
+//! - of `requests`: of requests for each of 64 guests, all of which have their keys; and of as many requests for
+//!   the counter one after another, past where the history rolls, the median, the 99.99th percentile and the
+//!   slowest of their times, and what memory the process has after the first 20,000 and at the end;
 //! - of `rings`: of chains of 8,704 bytes, through queues of each form;
-//! - of `device`: of whole requests of each kind, of one guest, from its offer to its reap, through queues of
-//!   each form;
+//! - of `device`: of whole requests of each kind, of one guest, each from its offer to its reap, through queues of
+//!   each form, against the MACs that they need. The guest has asked for its key and 20,000 requests of the kind
+//!   before, so that the history has rolled once. The requests are made before the clock runs, 256 at a time, and
+//!   each answer is tested and let go while it runs. A line of its own tells how many pages were touched that
+//!   had to be fetched or cleared first, for 1,000 of these requests;
 //! - of `store`: of writes of each of 64 guests, also where 2 and 4 of a guest go as one, with the calls and
 //!   bytes that each way needs;
 //! - of `open`: of openings;
@@ -30,6 +33,7 @@ mod groups;
 mod images;
 mod loads;
 mod macs;
+mod pages;
 mod requests;
 mod rings;
 mod rolls;
@@ -39,30 +43,28 @@ mod serving;
 mod steps;
 mod stores;
 mod ways;
+mod whole;
 
 use books::time_books;
-use clock::{Row, Stop, print_rows};
+use clock::{Stop, print_rows};
 use groups::print_counts;
-use images::{blank_disk, board_of, board_of_form, time_openings, time_reads};
-use loads::new_load;
+use images::{board_of, time_openings, time_reads};
 use macs::{keyed_macs, plain_macs, time_keyed, time_plain};
 use requests::Kind;
-use rings::{FORMS, Form, time_chains, time_copies};
+use rings::{FORMS, time_chains, time_copies};
 use rolls::time_rolls;
 use rpmb_frame::BoardConfig;
 use runs::time_script;
 use serve_times::{few_served, time_serve};
-use serving::alone;
 use std::env;
 use std::process::ExitCode;
 use std::sync::Wait;
 use std::thread::Threads;
 use stores::{new_store, time_puts, time_stored, time_waiting};
 use ways::{calls_of, time_ways};
+use whole::{few_whole, time_device};
 
 const GUESTS: u16 = 64;
-
-static KINDS: [Kind; 3] = [Kind::Counter, Kind::Write, Kind::Read];
 
 fn time_macs(rt: &HostRuntime, count: u32) -> Result<(), Stop> {
     let keyed = time_keyed(rt, "MacKey", count, 1)?;
@@ -90,42 +92,6 @@ fn time_rings(rt: &HostRuntime, count: u32) -> Result<(), Stop> {
     for form in &FORMS {
         let popped = time_chains(rt, form, count)?;
         print_rows(rt, &[popped, copied])?;
-    }
-    Ok(())
-}
-
-/// Times whole requests of a kind of one guest with a queue of this form, that for its key with them.
-fn time_whole(rt: &HostRuntime, kind: Kind, form: &Form, count: u32) -> Result<Row, Stop> {
-    let mut load = new_load(rt.alloc(), kind, 1, count)?;
-    load.config = board_of_form(rt.alloc(), form.ring, form.indirect)?;
-    let one = alone(rt, &load, blank_disk(rt.alloc(), &load.config)?)?;
-    Ok(Row {
-        name: form.name,
-        count: load.all(),
-        took: one.took,
-        sum: u64::from(load.macs(&one.answers)?),
-    })
-}
-
-/// Times whole requests of a kind, and as many MACs as they need, each of as many frames.
-fn time_kind(rt: &HostRuntime, kind: Kind, form: &Form, count: u32) -> Result<(), Stop> {
-    let whole = time_whole(rt, kind, form, count)?;
-    let (calls, frames) = kind.macs();
-    let mut macs = time_keyed(rt, kind.name(), count.saturating_mul(calls), frames)?;
-    macs.count = u64::from(count);
-    print_rows(rt, &[whole, macs])
-}
-
-fn time_forms(rt: &HostRuntime, kind: Kind, count: u32) -> Result<(), Stop> {
-    for form in &FORMS {
-        time_kind(rt, kind, form, count)?;
-    }
-    Ok(())
-}
-
-fn time_device(rt: &HostRuntime, count: u32) -> Result<(), Stop> {
-    for kind in &KINDS {
-        time_forms(rt, *kind, count)?;
     }
     Ok(())
 }
@@ -170,26 +136,6 @@ fn time_run<R: AllocGlobal + Threads + Wait + Sync>(
     own.took = own.took.saturating_add(stored.took);
     own.count = u64::from(count);
     print_rows(rt, &[run, own])
-}
-
-/// Two whole requests of a kind, which are told alike through queues of each form.
-fn told_alike(rt: &HostRuntime, kind: Kind) -> Result<u64, Stop> {
-    let told = time_whole(rt, kind, &FORMS[0], 2)?.sum;
-    for form in &FORMS {
-        if time_whole(rt, kind, form, 2)?.sum != told {
-            return Err("told otherwise");
-        }
-    }
-    Ok(told)
-}
-
-/// Two whole requests of each kind, mixed.
-fn few_whole(rt: &HostRuntime) -> Result<u64, Stop> {
-    let mut all = 0;
-    for kind in &KINDS {
-        all ^= told_alike(rt, *kind)?;
-    }
-    Ok(all)
 }
 
 /// Some chains through a ring, and some copies.

@@ -87,17 +87,34 @@ impl Kind {
         }
     }
 
-    /// A request under a write counter: its frame, and the one that asks for its result.
-    pub fn request(self, alloc: Global, counter: u32) -> Result<Vec<u8>, Stop> {
-        let frame = self.frame(counter);
-        let mut request = Vec::from_slice(alloc, &frame).ok().ok_or(NO_MEMORY)?;
+    /// The bytes of its request.
+    pub fn length(self) -> usize
+        ensures some { 0 < result }
+    {
+        if self.is_stored() { 1024 } else { 512 }
+    }
+
+    /// Puts a request under a write counter behind others: its frame, and the one that asks for its result.
+    pub fn put(self, requests: &mut Vec<u8>, counter: u32) -> Result<(), Stop> {
+        put_frame(requests, &self.frame(counter))?;
         if self.is_stored() {
             let closing = Frame::zeros().with_req_resp(RESULT_READ).to_bytes();
-            let extended = request.extend_from_slice(&closing);
-            extended.ok().ok_or(NO_MEMORY)?;
+            put_frame(requests, &closing)?;
         }
+        Ok(())
+    }
+
+    /// A request under a write counter.
+    pub fn request(self, alloc: Global, counter: u32) -> Result<Vec<u8>, Stop> {
+        let request = Vec::with_capacity(alloc, self.length());
+        let mut request = request.ok().ok_or(NO_MEMORY)?;
+        self.put(&mut request, counter)?;
         Ok(request)
     }
+}
+
+fn put_frame(requests: &mut Vec<u8>, frame: &[u8; 512]) -> Result<(), Stop> {
+    requests.extend_from_slice(frame).ok().ok_or(NO_MEMORY)
 }
 
 /// The write of block 0 under a counter, with its MAC.

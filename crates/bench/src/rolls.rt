@@ -1,39 +1,13 @@
 //! Requests of one life past what a history holds: how long each takes, and what memory they use.
 use crate::books::{Books, new_books};
 use crate::clock::{NO_MEMORY, Stop, now, since};
+use crate::images::guests_of;
+use crate::pages::{Pages, pages_now};
+use crate::ways::keyed;
 use rpmb_frame::BoardConfig;
-use std::fs;
 
 /// After so many requests the history has rolled once.
 const FIRST: usize = 20_000;
-
-/// What the process has had of memory.
-#[derive(Clone, Copy)]
-struct Pages {
-    /// Pages of 4,096 bytes that are in memory.
-    resident: u64,
-    /// How often a page was touched that had to be fetched or cleared first.
-    faults: u64,
-}
-
-/// The number at a place of a text whose words are parted by spaces.
-fn number_at(text: &str, place: usize) -> Result<u64, Stop> {
-    match text.split(' ').nth(place) {
-        Some(word) => word.parse::<u64>().ok().ok_or("no number"),
-        None => Err("too few numbers"),
-    }
-}
-
-/// What the system tells of this process (proc_pid_stat(5): minflt, rss).
-fn pages_now(rt: &HostRuntime) -> Result<Pages, Stop> {
-    let Ok(text) = fs::read_to_string(rt, "/proc/self/stat") else {
-        return Err("no /proc/self/stat");
-    };
-    Ok(Pages {
-        resident: number_at(&text, 23)?,
-        faults: number_at(&text, 9)?,
-    })
-}
 
 /// The nanoseconds of one request for the counter, from the making of its job to the end of its reply.
 fn time_one(rt: &HostRuntime, books: &mut Books, guest: u16) -> Result<u32, Stop> {
@@ -96,12 +70,13 @@ fn time_all(rt: &HostRuntime, books: &mut Books, times: &mut [u32]) -> Result<()
     print_pages(rt, first, last)
 }
 
-/// Times each of so many requests of 64 guests by their book, past where its history rolls.
+/// Times each of so many requests of 64 guests, which have their keys, by their book, past where its history rolls.
 pub fn time_rolls(rt: &HostRuntime, board: &BoardConfig, count: u32) -> Result<(), Stop> {
     let Ok(mut times) = vec![in rt.alloc(); 1u32; count as usize] else {
         return Err(NO_MEMORY);
     };
-    let mut books = new_books(rt.alloc(), board)?;
+    let books = new_books(rt.alloc(), board)?;
+    let mut books = keyed(rt, books, guests_of(board))?;
     time_all(rt, &mut books, &mut times)?;
     times.sort_unstable();
     print_times(rt, &times)

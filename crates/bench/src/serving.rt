@@ -108,7 +108,7 @@ pub struct OneThread {
 
 /// What takes chains to their end. Its method promises nothing, so that what stands above it is proved without a
 /// host's contract.
-trait Chains {
+pub trait Chains {
     fn end_of(&mut self, guest: u16, request: &[u8], kind: Kind) -> Result<Answer, Stop>;
 }
 

@@ -205,6 +205,13 @@ pub fn time_way<W: Way>(
     time_asked(rt, &mut fresh(way, shape), name, kind, rounds)
 }
 
+/// The way once each guest has its key.
+pub fn keyed<W: Way>(rt: &HostRuntime, way: W, guests: u16) -> Result<W, Stop> {
+    let mut asked = fresh_of(way, guests);
+    asked.key(rt)?;
+    Ok(asked.way)
+}
+
 /// The way once each guest has its key and has made so many rounds of writes.
 pub fn written<W: Way>(rt: &HostRuntime, way: W, shape: Shape, rounds: u32) -> Result<W, Stop> {
     let mut asked = fresh(way, shape);
