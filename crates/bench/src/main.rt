@@ -3,13 +3,14 @@
 //! - of `macs`: of MACs;
 //! - of `requests`: of requests for each of 64 guests, all of which have their keys; and of as many requests for
 //!   the counter one after another, past where the history rolls, the median, the 99.99th percentile and the
-//!   slowest of their times, and what memory the process has after the first 20,000 and at the end;
+//!   slowest of their times, what those took at which it rolled, and what memory the process has after the first
+//!   20,000 and at the end;
 //! - of `rings`: of chains of 8,704 bytes, through queues of each form;
 //! - of `device`: of whole requests of each kind, of one guest, each from its offer to its reap, through queues of
 //!   each form, against the MACs that they need. The guest has asked for its key and 20,000 requests of the kind
 //!   before, so that the history has rolled once. The requests are made before the clock runs, 256 at a time, and
-//!   each answer is tested and let go while it runs. A line of its own tells how many pages were touched that
-//!   had to be fetched or cleared first, for 1,000 of these requests;
+//!   each answer is tested and let go while it runs; their MACs are timed after each 256. A line of its own tells
+//!   how many pages were touched that had to be fetched or cleared first, for 1,000 of these requests;
 //! - of `store`: of writes of each of 64 guests, also where 2 and 4 of a guest go as one, with the calls and
 //!   bytes that each way needs;
 //! - of `open`: of openings;

@@ -9,6 +9,12 @@ use rpmb_frame::BoardConfig;
 /// After so many requests the history has rolled once.
 const FIRST: usize = 20_000;
 
+/// How many Submits a history holds.
+const SUBMITS: usize = 16_384;
+
+/// How many of them are for the guests' keys.
+const KEYS: usize = 64;
+
 /// The nanoseconds of one request for the counter, from the making of its job to the end of its reply.
 fn time_one(rt: &HostRuntime, books: &mut Books, guest: u16) -> Result<u32, Stop> {
     let start = now(rt);
@@ -29,20 +35,53 @@ fn time_at(times: &[u32], place: usize) -> u32 {
     times.get(place).copied().unwrap_or(0)
 }
 
-/// Prints the median, the 99.99th percentile and the slowest of times that are in order. The slowest is one
-/// at which the history rolled, so nearly all of it is the fold.
-fn print_times(rt: &HostRuntime, times: &[u32]) -> Result<(), Stop> {
+/// What the requests took at which the history rolled.
+#[derive(Clone, Copy)]
+struct Folds {
+    count: u64,
+    /// Nanoseconds of all.
+    all: u64,
+    slowest: u32,
+}
+
+/// Whether the request of this number finds 16,384 in the history. Each was answered and left before the next,
+/// so a fold leaves none; the first of all were the 64 for the keys.
+fn rolls(number: usize) -> bool {
+    number % SUBMITS == SUBMITS - KEYS
+}
+
+/// What the requests took at which the history rolled, of all in their order.
+fn folds_of(times: &[u32]) -> Folds {
+    let mut folds = Folds {
+        count: 0,
+        all: 0,
+        slowest: 0,
+    };
+    for (number, time) in times.iter().enumerate() {
+        if rolls(number) {
+            folds = Folds {
+                count: folds.count.saturating_add(1),
+                all: folds.all.saturating_add(u64::from(*time)),
+                slowest: folds.slowest.max(*time),
+            };
+        }
+    }
+    folds
+}
+
+/// Prints the median, the 99.99th percentile and the slowest of times that are in order, and what those took at
+/// which the history rolled.
+fn print_times(rt: &HostRuntime, times: &[u32], folds: Folds) -> Result<(), Stop> {
     let last = times.len().saturating_sub(1);
-    let median = time_at(times, times.len() / 2);
-    let slowest = time_at(times, last);
-    let fold = u64::from(slowest.saturating_sub(median));
     let printed = println!(rt;
-        "{} requests: median {} ns, 99.99th percentile {} ns, slowest {} ns, of which the fold has {} percent",
+        "{} requests: median {} ns, 99.99th percentile {} ns, slowest {} ns; at {} the history rolled: mean {} ns, slowest {} ns",
         times.len(),
-        median,
+        time_at(times, times.len() / 2),
         time_at(times, last.saturating_sub(times.len() / 10_000)),
-        slowest,
-        fold.saturating_mul(100) / u64::from(slowest.max(1))
+        time_at(times, last),
+        folds.count,
+        folds.all / folds.count.max(1),
+        folds.slowest
     );
     printed.ok().ok_or("no output")
 }
@@ -78,6 +117,7 @@ pub fn time_rolls(rt: &HostRuntime, board: &BoardConfig, count: u32) -> Result<(
     let books = new_books(rt.alloc(), board)?;
     let mut books = keyed(rt, books, guests_of(board))?;
     time_all(rt, &mut books, &mut times)?;
+    let folds = folds_of(&times);
     times.sort_unstable();
-    print_times(rt, &times)
+    print_times(rt, &times, folds)
 }

@@ -33,22 +33,28 @@ struct Asked {
     timed: u32,
 }
 
-/// What requests came to.
+/// What requests came to, and as many MACs as they need.
 #[derive(Clone, Copy)]
 struct Told {
     took: Duration,
+    /// The time of the MACs, which are made batch by batch too, since a machine's clock isn't steady.
+    macs: Duration,
     /// How many pages were touched that had to be fetched or cleared first, while the clock ran.
     faults: u64,
     /// The first bytes of the MACs of the replies, mixed.
     sum: u32,
+    /// The sum of the MACs.
+    mac_sum: u64,
 }
 
 /// Of no requests.
 fn told_none() -> Told {
     Told {
         took: Duration::from_nanos(0),
+        macs: Duration::from_nanos(0),
         faults: 0,
         sum: 0,
+        mac_sum: 0,
     }
 }
 
@@ -88,6 +94,18 @@ fn time_batch<C: Chains>(
         took: before.took.saturating_add(took),
         faults: before.faults.saturating_add(last.saturating_sub(first)),
         sum,
+        ..before
+    })
+}
+
+/// Makes as many MACs as so many requests need, behind what was told before, with their time.
+fn time_macs(rt: &HostRuntime, kind: Kind, count: u32, before: Told) -> Result<Told, Stop> {
+    let (calls, frames) = kind.macs();
+    let macs = time_keyed(rt, kind.name(), count.saturating_mul(calls), frames)?;
+    Ok(Told {
+        macs: before.macs.saturating_add(macs.took),
+        mac_sum: before.mac_sum ^ macs.sum,
+        ..before
     })
 }
 
@@ -106,6 +124,7 @@ fn time_batches<C: Chains>(
         let more = count.saturating_sub(made).min(BATCH);
         make_batch(batch, kind, first.wrapping_add(made), more)?;
         told = time_batch(rt, host, kind, batch, told)?;
+        told = time_macs(rt, kind, more, told)?;
     }
     Ok(told)
 }
@@ -158,7 +177,7 @@ fn print_faults(rt: &HostRuntime, faults: u64, count: u32) -> Result<(), Stop> {
     printed.ok().ok_or("no output")
 }
 
-/// Times whole requests of a kind, and as many MACs as they need, each of as many frames.
+/// Times whole requests of a kind, beside as many MACs as they need, each of as many frames.
 fn time_kind(rt: &HostRuntime, kind: Kind, form: &Form, count: u32) -> Result<(), Stop> {
     let asked = Asked {
         kind,
@@ -172,9 +191,12 @@ fn time_kind(rt: &HostRuntime, kind: Kind, form: &Form, count: u32) -> Result<()
         took: told.took,
         sum: u64::from(told.sum),
     };
-    let (calls, frames) = kind.macs();
-    let mut macs = time_keyed(rt, kind.name(), count.saturating_mul(calls), frames)?;
-    macs.count = u64::from(count);
+    let macs = Row {
+        name: kind.name(),
+        count: u64::from(count),
+        took: told.macs,
+        sum: told.mac_sum,
+    };
     print_rows(rt, &[whole, macs])?;
     print_faults(rt, told.faults, count)
 }

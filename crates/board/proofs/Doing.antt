@@ -1,13 +1,14 @@
 -- Steps as the code makes them.
-use Rattle.std.proofs.Common.{◌≡◌, inl, inr, ℕ, zero, suc, ◌+◌, ◌<◌, Bool, true, false, List, [], ◌∷◌, Option, Some, None, Result, Ok, Err, length, refl, ap, sym, subst, ◌∙◌}
+use Rattle.std.proofs.Common.{◌≡◌, inl, inr, ℕ, zero, suc, ◌+◌, ◌<◌, Bool, true, false, List, [], ◌∷◌, Option, Some, None, Result, Ok, Err, length, refl, rules, ap, sym, subst, ◌∙◌}
 use Rattle.std.specs.Prelude.{is_some, unwrap_or, slice_get, slice_set, slice_index_or}
 use Rattle.std.proofs.lemmas.Option.{slice_get-get_or}
 use Rattle.disk.specs.Disk.{DiskCall, DiskState, HasRisen, Within}
 use Rattle.intent_slots.specs.Recovered.{Part}
-use Rattle.flusher.specs.declared.progress.Progress.{Progress}
+use Rattle.flusher.specs.declared.guest.Guest.{Guest}
+use Rattle.flusher.specs.declared.progress.Made.{Made}
 use Rattle.flusher.specs.declared.progress.StoreFault.{StoreFault}
 use Rattle.flusher.specs.declared.progress.StoreFault.TheVariants.{Broken, DiskFault}
-use Rattle.flusher.specs.Round.{FrontStays, Moves, Round, parts_after, planned, under_way}
+use Rattle.flusher.specs.Round.{FrontStays, Moves, Round, parts_after, planned, under_way, with_marks}
 use Rattle.flusher.specs.SlotInvariant.{EachStop, IsHeld}
 use Rattle.flusher.specs.Store.{StoreState}
 use Rattle.mmio_transport.specs.Job.{Job}
@@ -103,25 +104,29 @@ refused_of {D = D} old n at job back rest tally tally' book' why same lies left 
         ∙ ap (λ t. record old { tallies = t; jobs = slice_set rest at (Some back) }) (ap (slice_set old.tallies at) counted ∙ set_same old.tallies at tally there)
         ∙ ap (λ j. record old { jobs = j }) jobs_same
 
-pub advances_of : {D : Type 0} (shows : D → DiskState) (makes : D → DiskCall → D → Type 0) (old : BoardState D) (progress : Result Progress StoreFault) (store' : StoreState D) (answer : Answer) (report' : Option Report)
+fault_made : (guests : List Guest) (made : Result Made StoreFault) (e : StoreFault) → with_marks guests made ≡ Err e → made ≡ Err e
+fault_made guests (Ok made) e is = search rules
+fault_made guests (Err fault) e is = search rules
+
+pub advances_of : {D : Type 0} (shows : D → DiskState) (makes : D → DiskCall → D → Type 0) (old : BoardState D) (made : Result Made StoreFault) (store' : StoreState D) (answer : Answer) (report' : Option Report)
     → old.report ≡ None
-    → (old.store.broken ≡ false → Round makes (planned old.store.guests) old.store.disk old.store.guests progress store'.disk store'.guests store'.broken)
-    → (old.store.broken ≡ true → (progress ≡ Err Broken) × (store' ≡ old.store))
-    → (progress ≡ Err DiskFault → HasRisen (shows old.store.disk).failures (shows store'.disk).failures)
-    → Moves progress old.store.guests store'.guests
+    → (old.store.broken ≡ false → Round makes (planned old.store.guests) old.store.disk old.store.guests (with_marks store'.guests made) store'.disk store'.guests store'.broken)
+    → (old.store.broken ≡ true → (made ≡ Err Broken) × (store' ≡ old.store))
+    → (made ≡ Err DiskFault → HasRisen (shows old.store.disk).failures (shows store'.disk).failures)
+    → Moves (with_marks store'.guests made) old.store.guests store'.guests
     → ((parts : ℕ → Part) → IsHeld parts old.store.guests old.store.broken (shows old.store.disk) → Within shows makes (EachStop parts (under_way old.store.guests)) old.store.disk store'.disk)
-    → ((parts : ℕ → Part) → IsHeld parts old.store.guests old.store.broken (shows old.store.disk) → IsHeld (parts_after progress old.store.guests parts) store'.guests store'.broken (shows store'.disk))
+    → ((parts : ℕ → Part) → IsHeld parts old.store.guests old.store.broken (shows old.store.disk) → IsHeld (parts_after (with_marks store'.guests made) old.store.guests parts) store'.guests store'.broken (shows store'.disk))
     → ((shows old.store.disk).faithful ≡ true → Within shows makes (FrontStays (shows old.store.disk)) old.store.disk store'.disk)
-    → answer ≡ advance_answer progress → report' ≡ report_of progress
+    → answer ≡ advance_answer (with_marks store'.guests made) → report' ≡ report_of (with_marks store'.guests made)
     → AdvancesUnder shows makes old.report answer old (record old { store = store'; report = report' })
-advances_of shows makes old progress store' answer report' none round refused cause moves moments held front answers told =
+advances_of shows makes old made store' answer report' none round refused cause moves moments held front answers told =
     subst (λ r. AdvancesUnder shows makes r answer old (record old { store = store'; report = report' })) (sym none)
     (record {
-      progress = progress;
+      progress = with_marks store'.guests made;
       store = store';
       round = round;
-      refused = refused;
-      cause = cause;
+      refused = λ broken. (ap (with_marks store'.guests) (refused broken).0, (refused broken).1);
+      cause = λ failed. cause (fault_made store'.guests made DiskFault failed);
       moves = moves;
       moments = moments;
       held = held;

@@ -1,6 +1,7 @@
 //! What a board is made of, and what each step does to it.
 ghost use Rattle.std.specs.Prelude.{◌≡◌, ◌<◌, ℕ, List, length, slice_get, None, Some, true};
 ghost use Rattle.std.specs.Borrow.{sem};
+ghost use Rattle.flusher.specs.Round.{with_marks};
 ghost use Rattle.flusher.specs.Store.{MayGive, is_free};
 ghost use Rattle.intent_slots.specs.Payload.{Intent as IntentSpec};
 ghost use Rattle.rpmb_book.specs.Book.{is_share, may_settle, state};
@@ -14,7 +15,7 @@ ghost use Rattle.board.specs.declared.step.Report.TheVariants.{Marks as MarksRep
 
 use crate::step::{Act, Report, Seen, Step, StepFault};
 use disk::{CutDisk, Disk};
-use flusher::{Progress, Store, StoreFault};
+use flusher::{Made, Store, StoreFault};
 use intent_slots::Intent;
 use mmio_transport::{Device, Done, Job};
 use rpmb_book::{Book, Shares, Tally};
@@ -66,21 +67,22 @@ fn act_on(device: &mut Device, act: &Act) -> Result<Seen, StepFault>
 }
 
 /// Notes what a call of the store has for the book, and answers what the call did.
-fn tell(
+fn tell<D: Disk>(
     report: &mut Option<Report>,
-    progress: Result<Progress, StoreFault>,
+    store: &Store<D>,
+    made: Result<Made, StoreFault>,
 ) -> Result<Seen, StepFault>
     requires { report.old ≡ None }
-    ensures answer { result ≡ advance_answer progress }
-    ensures report { report.new ≡ report_of progress }
+    ensures answer { result ≡ advance_answer (with_marks store.now.guests made) }
+    ensures report { report.new ≡ report_of (with_marks store.now.guests made) }
 {
-    match progress {
-        Ok(Progress::Wrote) => Ok(Seen::Did),
-        Ok(Progress::Synced(marks)) => {
-            *report = Some(Report::Marks(marks));
+    match made {
+        Ok(Made::Wrote) => Ok(Seen::Did),
+        Ok(Made::Synced) => {
+            *report = Some(Report::Marks(store.marks()));
             Ok(Seen::Did)
         }
-        Ok(Progress::Idle) => Ok(Seen::Nothing),
+        Ok(Made::Idle) => Ok(Seen::Nothing),
         Err(fault) => {
             *report = Some(Report::Fault);
             Err(StepFault::Store(fault))
@@ -232,14 +234,18 @@ impl<D: Disk> Assembly<D> {
         if self.report.is_some() {
             return Ok(Seen::Nothing);
         }
-        let progress = self.store.advance();
-        tell(&mut self.report, progress)
+        let made = self.store.make_call();
+        tell(&mut self.report, &self.store, made)
     }
 
     pub(crate) fn settle(&mut self) -> Result<Seen, StepFault>
         requires { (marks : List ℕ) → self.old.report ≡ Some (MarksReport marks) → may_settle self.old.book self.old.shares marks ≡ true }
         ensures { SettlesBy self.old.report result self.old self.new }
     {
+        // A report is large, and mostly there is none.
+        if self.report.is_none() {
+            return Ok(Seen::Nothing);
+        }
         match self.report.take() {
             None => Ok(Seen::Nothing),
             Some(Report::Marks(marks)) => {

@@ -7,6 +7,8 @@ use Rattle.flusher.specs.declared.plan.Plan.{Plan}
 use Rattle.flusher.specs.declared.plan.Plan.TheVariants.{WriteOf, SyncAll, Nothing}
 use Rattle.flusher.specs.declared.progress.Call.{Call}
 use Rattle.flusher.specs.declared.progress.Call.TheVariants as call
+use Rattle.flusher.specs.declared.progress.Made.{Made}
+use Rattle.flusher.specs.declared.progress.Made.TheVariants as made
 use Rattle.flusher.specs.declared.progress.Progress.{Progress}
 use Rattle.flusher.specs.declared.progress.Progress.TheVariants.{Wrote, Synced, Idle}
 use Rattle.flusher.specs.declared.progress.StoreFault.{StoreFault}
@@ -42,6 +44,16 @@ call_of Nothing = call.None
 abbrev pub Ends : Bool → Progress → Result Progress StoreFault → Bool → Type 0
 Ends true progress result broken = (result ≡ Ok progress) × (broken ≡ false)
 Ends false progress result broken = (result ≡ Err DiskFault) × (broken ≡ true)
+
+-- what an advance tells that made this call, with the marks of the guests after it
+abbrev pub told_of : List Guest → Made → Progress
+told_of guests made.Wrote = Wrote
+told_of guests made.Synced = Synced (marks_of guests)
+told_of guests made.Idle = Idle
+
+abbrev pub with_marks : List Guest → Result Made StoreFault → Result Progress StoreFault
+with_marks guests (Ok made) = Ok (told_of guests made)
+with_marks guests (Err fault) = Err fault
 
 -- the slot's next write was made, and moved the slot however it ended
 pub record WroteSlot {D : Type 0} (makes : D → DiskCall → D → Type 0) (g : ℕ) (old_disk : D) (old : List Guest) (ok : Bool) (new_disk : D) (new : List Guest) : Type 0 where

@@ -3,7 +3,7 @@ ghost use Rattle.flusher.specs.Slot.{is_empty, intent_of, pending_of, marked, gu
 ghost use Rattle.flusher.specs.Store.{pending, FitsGuest};
 
 use crate::phase::Phase;
-use crate::slot::{Slot, skipped};
+use crate::slot::{Slot, move_synced, skipped};
 use intent_slots::{Extent, Intent};
 
 /// What the store holds for one guest: where its partition stands, the sequence up to which its
@@ -117,10 +117,9 @@ impl Guest {
     pub(crate) fn move_written(&mut self)
         ensures { self.new ≡ guest_after_write self.old }
     {
-        self.slot = match self.slot.take() {
-            Some(slot) => Some(slot.after_write()),
-            None => None,
-        };
+        if let Some(slot) = &mut self.slot {
+            slot.move_written();
+        }
     }
 
     /// Moves the slot and the mark as a sync does.
@@ -128,9 +127,6 @@ impl Guest {
         ensures { self.new ≡ guest_after_sync self.old }
     {
         self.mark = self.marked();
-        self.slot = match self.slot.take() {
-            Some(slot) => slot.after_sync(),
-            None => None,
-        };
+        move_synced(&mut self.slot);
     }
 }

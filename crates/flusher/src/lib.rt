@@ -15,5 +15,5 @@ mod writing;
 pub use guest::Guest;
 pub use laws::{calls_run_out, held_is_left, nothing_is_empty};
 pub use marks::Marks;
-pub use progress::{Call, Progress, StoreFault};
+pub use progress::{Call, Made, Progress, StoreFault};
 pub use store::Store;

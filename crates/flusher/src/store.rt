@@ -1,23 +1,24 @@
-ghost use Rattle.std.specs.Prelude.{◌≡◌, ◌+◌, ◌≤◌, ◌↔◌, ℕ, false, true, not, length, is_ok, is_err, IsTrue, Ok, Err};
+ghost use Rattle.std.specs.Prelude.{◌≡◌, ◌+◌, ◌≤◌, ◌↔◌, ℕ, List, false, true, not, length, is_ok, is_err, IsTrue, Ok, Err};
 ghost use Rattle.disk.specs.Disk.{Within, HasRisen};
 ghost use Rattle.intent_slots.specs.Recovered.{Part};
 ghost use Rattle.flusher.specs.SlotInvariant.{IsHeld, EachStop};
-ghost use Rattle.flusher.specs.Round.{planned, Ends, Round, Moves, AllEmpty, FrontStays, under_way, parts_after};
+ghost use Rattle.flusher.specs.Round.{planned, Ends, Round, Moves, AllEmpty, FrontStays, told_of, under_way, parts_after, with_marks};
 ghost use Rattle.flusher.specs.Store.{MayGive, StoreState, AllFit, Fits, Gives, IsOpened, is_free, next_sequence, given, next_call};
 ghost use Rattle.flusher.specs.Marks.{marks_of};
 
 use crate::guest::Guest;
 use crate::marks::Marks;
 use crate::plan::{Plan, planned};
-use crate::progress::{Call, Progress, StoreFault};
+use crate::progress::{Call, Made, Progress, StoreFault};
 use crate::writing::{sync_round, write_round};
 use disk::{CutDisk, Disk, DiskFault};
 use intent_slots::Intent;
 use std::marker::Model;
 
 /// How a call of the disk ends a round.
-fn ended(outcome: Result<(), DiskFault>, done: Progress) -> Result<Progress, StoreFault>
-    ensures { Ends (is_ok outcome) done result (not (is_ok outcome)) }
+fn ended(outcome: Result<(), DiskFault>, done: Made) -> Result<Made, StoreFault>
+    ensures ends { (guests : List Guest) → Ends (is_ok outcome) (told_of guests done) (with_marks guests result) (not (is_ok outcome)) }
+    ensures breaks { is_err result ≡ not (is_ok outcome) }
 {
     match outcome {
         Ok(()) => Ok(done),
@@ -161,9 +162,9 @@ impl<D: Disk> Store<D> {
     }
 
     /// The call of the phase table.
-    fn round(&mut self) -> Result<Progress, StoreFault>
+    fn round(&mut self) -> Result<Made, StoreFault>
         requires { self.old.broken ≡ false }
-        ensures round { Round D.makes (planned self.old.guests) self.old.disk self.old.guests result self.new.disk self.new.guests self.new.broken }
+        ensures round { Round D.makes (planned self.old.guests) self.old.disk self.old.guests (with_marks self.new.guests result) self.new.disk self.new.guests self.new.broken }
         ensures breaks { self.new.broken ≡ is_err result }
         ensures fits { AllFit (D.state self.new.disk).len self.new.guests }
     {
@@ -171,14 +172,55 @@ impl<D: Disk> Store<D> {
             Plan::WriteOf(guest) => {
                 let wrote = write_round(&mut self.disk, &mut self.buffer, &mut self.guests, guest);
                 self.broken = wrote.is_err();
-                ended(wrote, Progress::Wrote)
+                ended(wrote, Made::Wrote)
             }
             Plan::SyncAll => {
                 let synced = sync_round(&mut self.disk, &mut self.guests);
                 self.broken = synced.is_err();
-                ended(synced, Progress::Synced(Marks::of(&self.guests)))
+                ended(synced, Made::Synced)
             }
-            Plan::Nothing => Ok(Progress::Idle),
+            Plan::Nothing => Ok(Made::Idle),
+        }
+    }
+
+    /// Makes the call that `advance` makes, and answers as it does, but for the marks of a sync, which
+    /// `marks` gives: a caller that tells them elsewhere needn't move them. It takes no memory.
+    ///
+    /// Answers `DiskFault` where that call failed, and `Broken`, without a call, ever after. A
+    /// write that failed moves its slot as one that succeeded, since it may have reached any byte
+    /// of its range; a sync that failed moves none.
+    pub fn make_call(&mut self) -> Result<Made, StoreFault>
+        ensures round { self.old.broken ≡ false → Round D.makes (planned self.old.guests) self.old.disk self.old.guests (with_marks self.new.guests result) self.new.disk self.new.guests self.new.broken }
+        ensures refused { self.old.broken ≡ true → (result ≡ Err StoreFault.Broken) × (self.new ≡ self.old) }
+        ensures idle { result ≡ Ok Made.Idle ↔ (self.old.broken ≡ false) × AllEmpty self.old.guests }
+        ensures cause { result ≡ Err StoreFault.DiskFault → HasRisen (D.state self.old.disk).failures (D.state self.new.disk).failures }
+        ensures breaks { self.new.broken ≡ is_err result }
+        ensures moves { Moves (with_marks self.new.guests result) self.old.guests self.new.guests }
+        ensures fits { AllFit (D.state self.new.disk).len self.new.guests }
+
+        // At each moment since the call's start the header is as it was.
+        ensures front { (D.state self.old.disk).faithful ≡ true → Within D.state D.makes (FrontStays (D.state self.old.disk)) self.old.disk self.new.disk }
+
+        // At each moment since the call's start a stop leaves, for each guest, its settled partition, or,
+        // while its gate opens, that with its intent; and never one below its mark.
+        ensures any_moment { (parts : ℕ → Part) → IsHeld parts self.old.guests self.old.broken (D.state self.old.disk) → Within D.state D.makes (EachStop parts (under_way self.old.guests)) self.old.disk self.new.disk }
+        ensures held { (parts : ℕ → Part) → IsHeld parts self.old.guests self.old.broken (D.state self.old.disk) → IsHeld (parts_after (with_marks self.new.guests result) self.old.guests parts) self.new.guests self.new.broken (D.state self.new.disk) }
+    {
+        if self.broken {
+            return Err(StoreFault::Broken);
+        }
+        self.round()
+    }
+
+    /// What an advance tells that ended so.
+    fn told(&self, made: Result<Made, StoreFault>) -> Result<Progress, StoreFault>
+        ensures { result ≡ with_marks self.now.guests made }
+    {
+        match made {
+            Ok(Made::Wrote) => Ok(Progress::Wrote),
+            Ok(Made::Synced) => Ok(Progress::Synced(self.marks())),
+            Ok(Made::Idle) => Ok(Progress::Idle),
+            Err(fault) => Err(fault),
         }
     }
 
@@ -205,10 +247,8 @@ impl<D: Disk> Store<D> {
         ensures any_moment { (parts : ℕ → Part) → IsHeld parts self.old.guests self.old.broken (D.state self.old.disk) → Within D.state D.makes (EachStop parts (under_way self.old.guests)) self.old.disk self.new.disk }
         ensures held { (parts : ℕ → Part) → IsHeld parts self.old.guests self.old.broken (D.state self.old.disk) → IsHeld (parts_after result self.old.guests parts) self.new.guests self.new.broken (D.state self.new.disk) }
     {
-        if self.broken {
-            return Err(StoreFault::Broken);
-        }
-        self.round()
+        let made = self.make_call();
+        self.told(made)
     }
 }
 

@@ -173,6 +173,14 @@ impl Device {
         self.memory.read(at, out)
     }
 
+    /// Lends the `len` bytes of the guest's memory from the address `at` on, without a copy.
+    pub fn bytes(&self, at: u64, len: u64) -> &[u8]
+        requires { IsInside self.now.memory at len }
+        ensures { result.now ≡ bytes_at self.now.memory at len }
+    {
+        self.memory.bytes(at, len)
+    }
+
     /// The size of the guest's memory in bytes, which never changes.
     pub fn memory_size(&self) -> u64
         ensures { result ≡ length self.now.memory }

@@ -1,4 +1,4 @@
-ghost use Rattle.std.specs.Prelude.{◌≡◌, ◌≤◌, ◌<◌, ◌^◌, if◌then◌else◌, IfOk, [], None, Some, true, length};
+ghost use Rattle.std.specs.Prelude.{◌≡◌, ◌≤◌, ◌<◌, ◌^◌, if◌then◌else◌, IfOk, [], None, Some, true, length, vec_capacity};
 ghost use Rattle.mmio_transport.specs.Job.{room_of};
 ghost use Rattle.rpmb_frame.specs.Partition.{Partition};
 ghost use Rattle.rpmb_core.specs.Verdict.{verdict};
@@ -105,10 +105,10 @@ impl GuestCore {
         let code = self.partition.verdict(&request);
         let is_accepted = is_accepted(&request, code);
         let len = Partition::reply_len(&request, code);
-        let Ok(reply) = zeros(alloc, len) else {
+        let Ok(reply) = Vec::with_capacity(alloc, len) else {
             return Err(AllocError);
         };
-        let Ok(copy) = zeros(alloc, len) else {
+        let Ok(copy) = Vec::with_capacity(alloc, len) else {
             return Err(AllocError);
         };
         let Ok(blocks) = blocks_of(alloc, &request, is_accepted) else {
@@ -140,8 +140,8 @@ impl GuestCore {
         let Plan {
             code,
             is_accepted,
-            mut reply,
-            mut copy,
+            reply,
+            copy,
             blocks,
         } = plan;
         apply(&mut self.partition, &request, is_accepted);
@@ -151,11 +151,9 @@ impl GuestCore {
         let len = self
             .partition
             .reply(&request, code, outcome_in(self.last), out);
-        reply.copy_from_slice(&out[..len]);
-        copy.copy_from_slice(&out[..len]);
         Answer {
-            reply,
-            copy,
+            reply: filled(reply, &out[..len]),
+            copy: filled(copy, &out[..len]),
             need: self.partition.sequence(),
             kind: failure_kind(&request),
             entry,
@@ -177,17 +175,11 @@ impl GuestCore {
     {
         let request = Request::classify(job.request(), job.writable(), self.limits);
         let len = Partition::failure(&request, GENERAL_FAILURE, out);
-        let Ok(mut reply) = zeros(alloc, len) else {
-            return Err(AllocError);
-        };
-        let Ok(mut kept) = zeros(alloc, len) else {
-            return Err(AllocError);
-        };
-        reply.copy_from_slice(&out[..len]);
-        kept.copy_from_slice(&out[..len]);
+        let reply = Vec::from_slice(alloc, &out[..len])?;
+        let copy = Vec::from_slice(alloc, &out[..len])?;
         Ok(Failure {
             reply,
-            copy: kept,
+            copy,
             kind: failure_kind(&request),
         })
     }
@@ -255,10 +247,16 @@ fn is_accepted(request: &Request<'_>, code: u16) -> bool
     is_change(request) && code == OK
 }
 
-fn zeros(alloc: Global, len: usize) -> Result<Vec<u8>, NoMemory>
-    ensures { IfOk result (λ bytes. length bytes.items ≡ len) }
+/// These bytes, in the room that was made for them.
+fn filled(mut room: Vec<u8>, bytes: &[u8]) -> Vec<u8>
+    requires empty { room.items ≡ [] }
+    requires fits { length bytes.now ≤ vec_capacity room }
+    ensures { result.items ≡ bytes.now }
 {
-    vec![in alloc; 0; len]
+    if room.extend_from_slice(bytes).is_err() {
+        unreachable!();
+    }
+    room
 }
 
 /// The blocks of a write that is accepted, one after another.

@@ -130,17 +130,28 @@ impl Partition {
     }
 
     /// The same by a number that may lie past the 16 bits of an address.
-    #[tactic(auto, unfolding(rpmb_frame::specs::Partition::block_of))]
     pub(crate) fn block_at(&self, index: usize) -> [u8; 256]
         requires { index ≤ 65_552 }
         ensures { result ≡ block_of self.now index }
     {
-        let at = BLOCK_SIZE * index;
         let mut out = [0; 256];
+        self.copy_block(index, &mut out);
+        out
+    }
+
+    /// Copies the block of this number; zeros past the last one.
+    #[tactic(auto, unfolding(rpmb_frame::specs::Partition::block_of))]
+    pub(crate) fn copy_block(&self, index: usize, out: &mut [u8])
+        requires low { index ≤ 65_552 }
+        requires room { length out.old ≡ 256 }
+        ensures { out.new ≡ block_of self.now index }
+    {
+        let at = BLOCK_SIZE * index;
         if at + BLOCK_SIZE <= self.blocks.len() {
             out.copy_from_slice(&self.blocks[at..at + BLOCK_SIZE]);
+        } else {
+            out.fill(0);
         }
-        out
     }
 
     /// The key with its hashers.

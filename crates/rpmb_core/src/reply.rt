@@ -1,6 +1,7 @@
 ghost use Rattle.std.specs.Prelude.{◌≡◌, ◌≤◌, if◌then◌else◌, ◌*◌, ◌++◌, ◌∷◌, [], ℕ, List, Some, length, drop};
 ghost use Rattle.std.specs.List.{AllByRecursion};
-ghost use Rattle.rpmb_frame.specs.Frame.{block_count_of};
+ghost use Rattle.rpmb_frame.specs.Frame.{block_count_of, with_block_data};
+ghost use Rattle.rpmb_frame.specs.Partition.{block_of};
 ghost use Rattle.rpmb_core.specs.Verdict.{verdict};
 ghost use Rattle.rpmb_core.specs.Reply.{reply, sealed, joined, blocks_from, read_frames, one_frame, GivesBlocks, block_frames, is_answered, reply_length};
 
@@ -12,6 +13,9 @@ use rpmb_frame::{Command, FRAME_SIZE, Frame, Limits, Request};
 
 /// Where the MAC stands in a frame.
 const KEY_MAC: usize = 196;
+
+/// Where the data stands in a frame, 256 bytes.
+const DATA: usize = 228;
 
 impl Partition {
     /// Writes the reply to a request that had this result to the front of `out`, and says its length in
@@ -63,8 +67,8 @@ impl Partition {
             return 0;
         }
         let response = Response::to(request, self.counter(), code, last);
-        let frame = self.sealed(response.frame());
-        out[..FRAME_SIZE].copy_from_slice(&frame.to_bytes());
+        out[..FRAME_SIZE].copy_from_slice(&response.frame().to_bytes());
+        self.seal(1, out);
         FRAME_SIZE
     }
 
@@ -92,7 +96,7 @@ impl Partition {
         let _limit = limits.max_rd_cnt();
         let request = Frame::from_bytes(frame);
         let count = usize::from(request.block_count());
-        let base = Response::to_read(frame, OK).frame();
+        let base = Response::to_read(frame, OK).frame().to_bytes();
         self.put_blocks(&base, usize::from(request.address()), count, out);
         self.seal(count, out);
         FRAME_SIZE * count
@@ -117,7 +121,7 @@ impl Partition {
     }
 
     /// Writes a frame like `base` for each of so many blocks from an address on.
-    fn put_blocks(&self, base: &Frame, address: usize, count: usize, out: &mut [u8; 8192])
+    fn put_blocks(&self, base: &[u8; 512], address: usize, count: usize, out: &mut [u8; 8192])
         requires few { count ≤ 16 }
         requires low { address ≤ 65_535 }
         ensures written { out.new ≡ joined (read_frames base.now (blocks_from self.now address count)) ++ drop (512 * count) out.old }
@@ -125,20 +129,19 @@ impl Partition {
         ensures many { length (read_frames base.now (blocks_from self.now address count)) ≡ count }
     {
         for i in 0..count {
-            let frame = base.with_block_data(&self.block_at(address + i)).to_bytes();
             let at = FRAME_SIZE * i;
-            out[at..at + FRAME_SIZE].copy_from_slice(&frame);
+            self.put_frame(base, address + i, &mut out[at..at + FRAME_SIZE]);
         }
     }
 
-    /// The only frame of a reply, with its MAC where the partition has a key.
-    #[tactic(auto, unfolding(crate::specs::Reply::sealed))]
-    fn sealed(&self, frame: Frame) -> Frame
-        ensures { sealed self.now.key (frame ∷ []) ≡ result ∷ [] }
+    /// Writes a frame like `base` with the block of this number.
+    #[tactic(auto, unfolding(rpmb_frame::specs::Frame::with_block_data))]
+    fn put_frame(&self, base: &[u8; 512], index: usize, room: &mut [u8])
+        requires low { index ≤ 65_552 }
+        requires room { length room.old ≡ 512 }
+        ensures { room.new ≡ with_block_data (block_of self.now index) base.now }
     {
-        match self.mac_key() {
-            Some(key) => frame.with_key_mac(&key.mac(&[frame.to_bytes()])),
-            None => frame,
-        }
+        room.copy_from_slice(base);
+        self.copy_block(index, &mut room[DATA..DATA + 256]);
     }
 }

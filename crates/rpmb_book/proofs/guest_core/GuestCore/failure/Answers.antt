@@ -12,7 +12,7 @@ returns-clause-fits c =
     let room = fit.fits in
     let n = c.failure-len.result in
     let same : n ≡ length (failure (request c.request.result.now c.writable.result limits) 1) = c.failure-len.ensures.len ∙ ap (λ r. length (failure r 1)) c.classify-request.ensures in
-    let long : length c.copy_from_slice.new.self.items ≡ n = ap length c.copy_from_slice.ensures.items ∙ length-front n _ _ _ c.failure-len.ensures.len c.failure-len.ensures.bytes in
+    let long : length c.in_ok-reply.reply.items ≡ n = ap length c.in_ok-reply.ensures.items ∙ length-front n _ _ _ c.failure-len.ensures.len c.failure-len.ensures.bytes in
     omega (arith, long, same, room, c.writable.ensures)
 
 pub returns-clause-frames : goal.returns-clause-frames
@@ -21,6 +21,6 @@ returns-clause-frames c = λ some.
     let fit = failure_fits c.request.result.now c.writable.result limits 1 in
     let n = c.failure-len.result in
     let same : n ≡ length (failure (request c.request.result.now c.writable.result limits) 1) = c.failure-len.ensures.len ∙ ap (λ r. length (failure r 1)) c.classify-request.ensures in
-    let long : length c.copy_from_slice.new.self.items ≡ n = ap length c.copy_from_slice.ensures.items ∙ length-front n _ _ _ c.failure-len.ensures.len c.failure-len.ensures.bytes in
+    let long : length c.in_ok-reply.reply.items ≡ n = ap length c.in_ok-reply.ensures.items ∙ length-front n _ _ _ c.failure-len.ensures.len c.failure-len.ensures.bytes in
     let frame = fit.frame (omega (arith, some, long, same)) in
     omega (arith, long, same, frame)

@@ -16,8 +16,8 @@ returns c =
     record {
       code = c.verdict-code.ensures ∙ ap₂ verdict partition same;
       accepted = accepted;
-      reply = c.in-Ok.ensures ∙ size;
-      fits = omega (arith, fits, c.writable.ensures, c.in-Ok.ensures);
-      copy = c.in-Ok-zeros.ensures ∙ size;
+      fits = omega (arith, fits, c.writable.ensures, size);
+      reply = record { empty = c.in-Ok.ensures.items; room = omega (arith, size, c.in-Ok.ensures.capacity) };
+      copy = record { empty = c.in-Ok-with_capacity.ensures.items; room = omega (arith, size, c.in-Ok-with_capacity.ensures.capacity) };
       blocks = λ is. c.in-Ok-blocks_of.ensures (accepted ∙ is) ∙ ap (λ r. blocks_in r.command) same;
     }

@@ -9,9 +9,8 @@ loop-i-init c = stand_none c.args.base.now c.args.self.now c.args.address c.args
 pub loop-i-preserved : goal.loop-i-preserved
 loop-i-preserved c =
     let k = 512 * c.loop-i.i + 512 - 512 * c.loop-i.i in
-    let is = c.copy_from_slice.ensures.after ∙ c.to_bytes-frame.ensures ∙ c.with_block_data.ensures ∙ ap (λ b. with_block_data b c.args.base.now) c.block_at.ensures in
-    let full : length c.copy_from_slice.new.self ≡ 512 = ap length c.copy_from_slice.ensures.after ∙ (search rules) in
-    stand_more c.args.base.now c.args.self.now c.args.address c.loop-i.i k c.loop-i.out c.args.out.now c.copy_from_slice.new.self c.loop-i.invariant (omega arith) full is
+    let full : length c.put_frame.new.room ≡ 512 = c.put_frame.auto.room ∙ (search rules) in
+    stand_more c.args.base.now c.args.self.now c.args.address c.loop-i.i k c.loop-i.out c.args.out.now c.put_frame.new.room c.loop-i.invariant (omega arith) full c.put_frame.ensures
 
 pub returns : goal.returns
 returns c =
