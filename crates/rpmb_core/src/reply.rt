@@ -67,7 +67,7 @@ impl Partition {
             return 0;
         }
         let response = Response::to(request, self.counter(), code, last);
-        out[..FRAME_SIZE].copy_from_slice(&response.frame().to_bytes());
+        response.put(&mut out[..FRAME_SIZE]);
         self.seal(1, out);
         FRAME_SIZE
     }
@@ -96,7 +96,8 @@ impl Partition {
         let _limit = limits.max_rd_cnt();
         let request = Frame::from_bytes(frame);
         let count = usize::from(request.block_count());
-        let base = Response::to_read(frame, OK).frame().to_bytes();
+        let mut base = [0; 512];
+        Response::to_read(frame, OK).put(&mut base);
         self.put_blocks(&base, usize::from(request.address()), count, out);
         self.seal(count, out);
         FRAME_SIZE * count
