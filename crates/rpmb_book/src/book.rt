@@ -168,15 +168,16 @@ impl Book {
         Ok(self.answer(alloc, tally, job, plan))
     }
 
-    /// Makes all the memory that the answer to a job takes.
+    /// Makes all the memory that the answer to a job takes, but for what a Submit that has gone held.
     fn plan(&mut self, alloc: Global, tally: &Tally, job: &Job) -> Result<GuestPlan, NoMemory>
         requires allowed { refusal self.old tally.now job.now ≡ None }
         ensures same { self.new ≡ self.old }
         ensures planned { IfOk result (λ p. ForSome (guest_of self.old job.now.guest) (λ g. IsGuestPlanned job.now g p)) }
         ensures failure { IfOk result (λ p. is_failure p ≡ (state self.old).broken) }
     {
+        let spare = self.history.spare(alloc);
         let guest = &self.guests[usize::from(job.guest())];
-        guest.plan(alloc, job, self.broken, &mut self.reply)
+        guest.plan(alloc, job, self.broken, spare, &mut self.reply)
     }
 
     /// Lets the history roll where it has no place for a Submit.

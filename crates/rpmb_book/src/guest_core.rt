@@ -6,8 +6,9 @@ ghost use Rattle.rpmb_core.specs.Accept.{data_of, is_accepted, partition_after};
 ghost use Rattle.rpmb_core.specs.Reply.{failure_kind};
 ghost use Rattle.rpmb_book.specs.Guest.{stored, core_after, outcome_in, answer, answer_when, need, entry, entry_of, key_of, blocks_in, request_of};
 ghost use Rattle.rpmb_book.specs.Sound.{IsCoreOfBoard};
-ghost use Rattle.rpmb_book.specs.Planned.{IsPlanned};
+ghost use Rattle.rpmb_book.specs.Planned.{HasRoom, IsPlanned};
 
+use crate::history::Spare;
 use intent_slots::Entry;
 use mmio_transport::Job;
 use rpmb_core::{GENERAL_FAILURE, NoMemory, OK, Outcome, Partition, failure_kind, is_change};
@@ -95,8 +96,10 @@ impl GuestCore {
         }
     }
 
-    /// Finds the verdict on a job, and makes all the memory that its answer takes.
-    pub fn plan(&self, alloc: Global, job: &Job) -> Result<Plan, NoMemory>
+    /// Finds the verdict on a job, and makes all the memory that its answer takes, or takes what is spare.
+    pub fn plan(&self, alloc: Global, job: &Job, spare: Spare) -> Result<Plan, NoMemory>
+        requires request { spare.request.items ≡ [] }
+        requires reply { spare.reply.items ≡ [] }
         ensures { IfOk result (IsPlanned self.now job.now) }
     {
         let request = Request::classify(job.request(), job.writable(), self.limits);
@@ -105,10 +108,10 @@ impl GuestCore {
         let code = self.partition.verdict(&request);
         let is_accepted = is_accepted(&request, code);
         let len = Partition::reply_len(&request, code);
-        let Ok(reply) = Vec::with_capacity(alloc, len) else {
+        let Ok(reply) = room_for(alloc, spare.request, len) else {
             return Err(AllocError);
         };
-        let Ok(copy) = Vec::with_capacity(alloc, len) else {
+        let Ok(copy) = room_for(alloc, spare.reply, len) else {
             return Err(AllocError);
         };
         let Ok(blocks) = blocks_of(alloc, &request, is_accepted) else {
@@ -245,6 +248,18 @@ fn is_accepted(request: &Request<'_>, code: u16) -> bool
     ensures { (p : Partition) → code ≡ verdict p request.now → result ≡ is_accepted p request.now }
 {
     is_change(request) && code == OK
+}
+
+/// Room for so many bytes: the spare one, where it is enough and at most twice as large, so that a small reply
+/// doesn't keep the room of a large one.
+fn room_for(alloc: Global, spare: Vec<u8>, len: usize) -> Result<Vec<u8>, NoMemory>
+    requires { spare.items ≡ [] }
+    ensures { IfOk result (HasRoom len) }
+{
+    if len <= spare.capacity() && spare.capacity() / 2 <= len {
+        return Ok(spare);
+    }
+    Vec::with_capacity(alloc, len)
 }
 
 /// These bytes, in the room that was made for them.

@@ -9,6 +9,7 @@ ghost use Rattle.rpmb_book.specs.Guest.{submitted, answer_when, took, settled_at
 
 use crate::guest_core::{Answer, Failure, GuestCore, Plan};
 use crate::held::Held;
+use crate::history::Spare;
 use intent_slots::{Entry, Intent};
 use mmio_transport::{Done, Job};
 use rpmb_core::{NoMemory, Partition};
@@ -120,15 +121,18 @@ impl GuestState {
         self.submits.saturating_sub(self.held.len() as u64)
     }
 
-    /// Makes all the memory that the answer to a job takes, of a book that is broken, or isn't. A
-    /// failure reply is built in `out`.
+    /// Makes all the memory that the answer to a job takes, or takes what is spare, of a book that is broken,
+    /// or isn't. A failure reply is built in `out`.
     pub fn plan(
         &self,
         alloc: Global,
         job: &Job,
         broken: bool,
+        spare: Spare,
         out: &mut [u8; 8192],
     ) -> Result<GuestPlan, NoMemory>
+        requires request { spare.request.items ≡ [] }
+        requires reply { spare.reply.items ≡ [] }
         ensures planned { IfOk result (IsGuestPlanned job.now self.now) }
         ensures failure { IfOk result (λ p. is_failure p ≡ broken) }
     {
@@ -136,7 +140,7 @@ impl GuestState {
             let failure = self.core.failure(alloc, job, out)?;
             Ok(GuestPlan::Failure(failure))
         } else {
-            let plan = self.core.plan(alloc, job)?;
+            let plan = self.core.plan(alloc, job, spare)?;
             Ok(GuestPlan::Answer(plan))
         }
     }

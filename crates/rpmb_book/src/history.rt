@@ -33,6 +33,43 @@ impl Model for Filed {
     ghost view = { λ f. record { number = f.number; place = f.place; guest = f.guest; request = f.request.items; writable = f.writable; reply = f.reply.items } };
 }
 
+/// The memory of a Submit that has gone: two lists without bytes.
+#[derive(Drop)]
+pub struct Spare {
+    pub request: Vec<u8>,
+    pub reply: Vec<u8>,
+}
+
+impl Spare {
+    fn none(alloc: Global) -> Spare
+        ensures request { result.request.items ≡ [] }
+        ensures reply { result.reply.items ≡ [] }
+    {
+        Spare {
+            request: Vec::new(alloc),
+            reply: Vec::new(alloc),
+        }
+    }
+
+    fn of(filed: Filed) -> Spare
+        ensures request { result.request.items ≡ [] }
+        ensures reply { result.reply.items ≡ [] }
+    {
+        Spare {
+            request: emptied(filed.request),
+            reply: emptied(filed.reply),
+        }
+    }
+}
+
+/// The list without its bytes, and with its room.
+fn emptied(mut list: Vec<u8>) -> Vec<u8>
+    ensures { result.items ≡ [] }
+{
+    list.clear();
+    list
+}
+
 impl Filed {
     /// What was asked and answered, where it is the guest's.
     pub fn seen_by(&self, guest: u16) -> Option<TurnView<'_>>
@@ -113,6 +150,23 @@ impl History {
         ensures { slice_get self.now place ≡ Some result.now }
     {
         &self.filed[self.gone + place]
+    }
+
+    /// What a Submit that has gone held, without its bytes, for one that comes; lists without room where none has
+    /// gone, or places are left. What stands stays.
+    pub fn spare(&mut self, alloc: Global) -> Spare
+        ensures same { self.new ≡ self.old }
+        ensures request { result.request.items ≡ [] }
+        ensures reply { result.reply.items ≡ [] }
+    {
+        if self.gone == 0 || self.filed.len() < SUBMITS {
+            return Spare::none(alloc);
+        }
+        self.gone -= 1;
+        match self.filed.pop_front() {
+            None => Spare::none(alloc),
+            Some(filed) => Spare::of(filed),
+        }
     }
 
     /// Appends a Submit. It takes no memory.
