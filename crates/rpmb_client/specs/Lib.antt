@@ -5,3 +5,4 @@ pub mod Explained
 pub mod Seen
 pub mod Lines
 pub mod Laws
+pub mod Values

@@ -1,12 +1,13 @@
-//! The values of options.
+//! The values of options, or why a command is refused without them.
 ghost use Rattle.std.specs.Prelude.{◌≡◌, ◌⊎◌, ◌≤◌, IfErr, IfOk, None, Some};
 ghost use Rattle.std.specs.Option.{option_copied};
-ghost use Rattle.rpmb_commands.specs.Said.{bytes_said, number_said, sized_said, nonce_said};
+ghost use Rattle.rpmb_client.specs.Values.{bytes_said};
+ghost use Rattle.rpmb_commands.specs.Said.{nonce_said, number_said};
 
 use crate::refusal::Refusal;
 use crate::source::Source;
 use hex::FromHexError;
-use script::read_number;
+use rpmb_client::{ValueFault, array_of, bytes_of, number_of, sized};
 use std::alloc::Global;
 
 /// A number of at most `most`, or the refusal.
@@ -17,9 +18,18 @@ pub fn number(word: Option<&str>, most: u64, refusal: Refusal) -> Result<u64, Re
     let Some(word) = word else {
         return Err(Refusal::Incomplete);
     };
-    match read_number(word) {
-        Some(number) if number <= most => Ok(number),
-        _ => Err(refusal),
+    match number_of(word, most) {
+        Some(number) => Ok(number),
+        None => Err(refusal),
+    }
+}
+
+/// The refusal of a word that says no array: for its length, the one that is given.
+fn refused(fault: ValueFault, length: Refusal) -> Refusal {
+    match fault {
+        ValueFault::NoMemory => Refusal::NoMemory,
+        ValueFault::BadHex => Refusal::BadHex,
+        ValueFault::BadLength => length,
     }
 }
 
@@ -28,23 +38,11 @@ pub fn bytes(alloc: Global, word: &str) -> Result<Vec<u8>, Refusal>
     ensures ok { IfOk result (λ bytes. bytes_said word.now ≡ Some bytes.items) }
     ensures err { IfErr result (λ refusal. (refusal ≡ Refusal.NoMemory) ⊎ (refusal ≡ Refusal.BadHex) × (bytes_said word.now ≡ None)) }
 {
-    match hex::decode(alloc, word) {
+    match bytes_of(alloc, word) {
         Ok(bytes) => Ok(bytes),
-        Err(FromHexError::OutOfMemory) => Err(Refusal::NoMemory),
+        Err(ValueFault::NoMemory) => Err(Refusal::NoMemory),
         Err(_) => Err(Refusal::BadHex),
     }
-}
-
-/// The bytes as an array of their length, or the refusal.
-fn sized<const N: usize>(bytes: &[u8], refusal: Refusal) -> Result<[u8; N], Refusal>
-    ensures { result ≡ sized_said N bytes.now refusal }
-{
-    if bytes.len() != N {
-        return Err(refusal);
-    }
-    let mut out = [0; N];
-    out.copy_from_slice(bytes);
-    Ok(out)
 }
 
 /// The nonce that a word writes: 16 bytes in hex digits.
@@ -54,8 +52,10 @@ pub fn nonce(alloc: Global, word: Option<&str>) -> Result<[u8; 16], Refusal>
     let Some(word) = word else {
         return Err(Refusal::Incomplete);
     };
-    let bytes = bytes(alloc, word)?;
-    sized(bytes.as_slice(), Refusal::BadNonce)
+    match array_of(alloc, word) {
+        Ok(nonce) => Ok(nonce),
+        Err(fault) => Err(refused(fault, Refusal::BadNonce)),
+    }
 }
 
 /// The digits of a file, without the end of their line.
@@ -69,11 +69,11 @@ fn digits_of(content: &[u8]) -> &[u8] {
 
 /// The key in a file: its 32 bytes, or their 64 hex digits, behind which a line may end.
 fn key_of_file(alloc: Global, content: &[u8]) -> Result<[u8; 32], Refusal> {
-    if content.len() == 32 {
-        return sized(content, Refusal::BadKey);
+    if let Some(key) = sized(content) {
+        return Ok(key);
     }
     match hex::decode(alloc, digits_of(content)) {
-        Ok(bytes) => sized(bytes.as_slice(), Refusal::BadKey),
+        Ok(bytes) => sized(bytes.as_slice()).ok_or(Refusal::BadKey),
         Err(FromHexError::OutOfMemory) => Err(Refusal::NoMemory),
         Err(_) => Err(Refusal::BadHex),
     }
@@ -89,9 +89,9 @@ pub fn key<S: Source>(alloc: Global, source: &S, word: Option<&str>) -> Result<[
             let content = source.content(alloc, name)?;
             key_of_file(alloc, content.as_slice())
         }
-        None => {
-            let bytes = bytes(alloc, word)?;
-            sized(bytes.as_slice(), Refusal::BadKey)
-        }
+        None => match array_of(alloc, word) {
+            Ok(key) => Ok(key),
+            Err(fault) => Err(refused(fault, Refusal::BadKey)),
+        },
     }
 }
