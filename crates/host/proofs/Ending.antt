@@ -15,21 +15,13 @@ use Rattle.rpmb_book.specs.Marks.{marks_for}
 use Rattle.rpmb_book.specs.Turn.{Break, Settle, move_some}
 use Rattle.board.specs.State.{BoardState, guests}
 use Rattle.board.specs.Steps.{Advances, AdvancesUnder, Answer, SettlesBy, advance_answer, report_of}
-use Rattle.board.specs.declared.step.Seen.TheVariants.{Value, Published, Did, Nothing}
 use Rattle.board.specs.declared.step.Report.TheVariants.{Fault}
+use Rattle.host.specs.Advancing.{went_by}
 use Rattle.host.specs.Calm.{is_broken}
 use Rattle.host.specs.Finishing.{GoesOn, IsListened, Rests}
 use Rattle.host.specs.Runner.{runner_of}
 use Rattle.host.proofs.Same.{cores_in, count_same, runner_is, state_of}
 use Rattle.host.proofs.Settled.{cores_settled}
-
--- whether a call was made, and succeeded
-abbrev pub went_by : Answer → Bool
-went_by (Ok Did) = true
-went_by (Ok Nothing) = false
-went_by (Ok (Value v)) = false
-went_by (Ok (Published p)) = false
-went_by (Err e) = false
 
 -- what a book that heard of a sync keeps
 pub record Hears (b b' : BookView) : Type 0 where

@@ -1,5 +1,5 @@
--- One round of Take, Give, Advance and Settle.
-use Rattle.std.proofs.Common.{◌≡◌, ◌<◌, ℕ, suc, ◌+◌, Bool, true, false, List, [], Some, None, Result, Ok, Err, refl, ap, ap₂, sym, subst, ◌∙◌, arith}
+-- One round of Take, Give, Advances and Settle.
+use Rattle.std.proofs.Common.{◌≡◌, ◌<◌, ◌≤◌, inl, inr, ℕ, suc, ◌+◌, Bool, true, false, List, [], Some, None, Result, Ok, Err, refl, ap, ap₂, sym, subst, ◌∙◌, arith}
 use Rattle.std.specs.Prelude.{slice_get}
 use Rattle.std.proofs.lemmas.Option.{slice_get_within}
 use Rattle.rpmb_frame.specs.Request.{Request}
@@ -18,11 +18,13 @@ use Rattle.rpmb_book.specs.Book.{waiting_of}
 use Rattle.rpmb_book.specs.Guest.{GuestState, Held}
 use Rattle.board.specs.Board.{IsLinkedBoard, IsSound, StaysLinked}
 use Rattle.board.specs.State.{BoardState, guests, in_place}
-use Rattle.board.specs.Steps.{Advances, AdvancesUnder, Answer, GivesWhere, SettlesBy, TakesInto, report_of}
+use Rattle.board.specs.Steps.{Advances, Answer, GivesWhere, SettlesBy, TakesInto, report_of}
 use Rattle.board.specs.declared.step.Report.TheVariants.{Fault}
+use Rattle.host.specs.Advancing.{AdvancesOn}
 use Rattle.host.specs.Calm.{is_broken}
 use Rattle.host.specs.Waiting.{IsLate, Waits, WritesOn}
 use Rattle.host.specs.Work.{between_calls, waiting_calls, work_of}
+use Rattle.host.proofs.Unheard.{unheard_same}
 use Rattle.host.proofs.Same.{Same, also_there, give_same, same_waits, take_same}
 use Rattle.flusher.specs.Round.{settles}
 use Rattle.flusher.proofs.Endings.{round_badly, round_idle, round_well}
@@ -56,7 +58,12 @@ module _ {D : Type 0} (shows : D → DiskState) (makes : D → DiskCall → D �
   -- Advance and Settle, as one
   pub record Moved (b b' : BoardState D) : Type 0 where
     pub waits : W b'
+    pub most : work_of g b' ≤ work_of g b
     pub less : is_broken b ≡ false → (AllEmpty b.store.guests → ⊥) → work_of g b' < work_of g b
+
+  -- less is left to do
+  moved_less : (b b' : BoardState D) → W b' → work_of g b' < work_of g b → Moved b b'
+  moved_less b b' w less = record { waits = w; most = omega (arith, less); less = λ known busy. less }
 
   -- nothing but the store moved, and its calls left are fewer
   work_less : (b b' : BoardState D) → is_broken b ≡ false → b'.intents ≡ b.intents → waiting_of (slice_get (guests b') g) ≡ waiting_of (slice_get (guests b) g)
@@ -72,12 +79,9 @@ module _ {D : Type 0} (shows : D → DiskState) (makes : D → DiskCall → D �
       by true is mine other = (let none : work_of g b' ≡ 0 = rw is refl in omega (arith, mine, none))
       by false is mine other = (let now : work_of g b' ≡ suc (left_of b'.store.guests + (between_calls (in_place (slice_get b'.intents g)) + waiting_calls (waiting_of (slice_get (guests b') g)))) = rw is refl in omega (arith, mine, now, other, less))
 
-  pub advance_moves : (b b1 b2 : BoardState D) (a1 a2 : Answer) → W b → IsLate g b → IsSound shows b1 → IsSound shows b2 → AdvancesUnder shows makes b.report a1 b b1 → SettlesBy b1.report a2 b1 b2 → Moved b b2
-  advance_moves b b1 b2 a1 a2 w late sound1 sound2 under told_so = from (is_broken b) refl
+  pub advance_moves : (b b1 b2 : BoardState D) (a1 a2 : Answer) → W b → IsLate g b → IsSound shows b1 → IsSound shows b2 → Advances shows makes a1 b b1 → SettlesBy b1.report a2 b1 b2 → Moved b b2
+  advance_moves b b1 b2 a1 a2 w late sound1 sound2 a told_so = from (is_broken b) refl
     where
-      a : Advances shows makes a1 b b1
-      a = subst (λ r. AdvancesUnder shows makes r a1 b b1) w.report under
-
       from : (k : Bool) → is_broken b ≡ k → Moved b b2
       from true broken =
           let old : b.store.broken ≡ true = w.broken ∙ broken in
@@ -85,8 +89,10 @@ module _ {D : Type 0} (shows : D → DiskState) (makes : D → DiskCall → D �
           let is1 : b1 ≡ record b { store = b.store; report = Some Fault } = a.after ∙ ap₂ (λ s p. record b { store = s; report = report_of p }) r.1 r.0 in
           let is2 : b2 ≡ record b { report = None } = (subst (λ v. SettlesBy v.report a2 v b2) is1 told_so).1 ∙ rw broken refl in
           let same : b2 ≡ b = is2 ∙ ap (λ v. record b { report = v }) (sym w.report) in
+          let still : work_of g b2 ≡ work_of g b = ap (work_of g) same in
           record {
             waits = subst W (sym same) w;
+            most = omega (arith, still);
             less = λ whole. absurd (let no = broken in cc);
           }
       from false whole = by a.progress refl
@@ -119,44 +125,54 @@ module _ {D : Type 0} (shows : D → DiskState) (makes : D → DiskCall → D �
           by : (p : Result Progress StoreFault) → a.progress ≡ p → Moved b b2
           by (Ok Wrote) is =
               let q = quiet Wrote is refl refl in
-              record {
-                waits = same_waits shows g start reply b b2 w q.1 sound2;
-                less = λ known busy. subst (λ v. work_of g v < work_of g b) (sym q.0) (work_less b (record b { store = a.store; report = None }) whole refl refl (lower (Ok Wrote) is refl));
-              }
+              moved_less b b2 (same_waits shows g start reply b b2 w q.1 sound2)
+              (subst (λ v. work_of g v < work_of g b) (sym q.0) (work_less b (record b { store = a.store; report = None }) whole refl refl (lower (Ok Wrote) is refl)))
           by (Ok Idle) is =
               let q = quiet Idle is refl refl in
+              let still : work_of g b2 ≡ work_of g b = ap (work_of g) q.0 ∙ ap (λ gs. work_of g (record b { store = record b.store { guests = gs } })) (a.moves.idle is) in
               record {
                 waits = same_waits shows g start reply b b2 w q.1 sound2;
+                most = omega (arith, still);
                 less = λ known busy. absurd (busy (round_idle makes b.store.disk a.store.disk b.store.guests a.store.guests a.store.broken (subst At is round)));
               }
           by (Ok (Synced told)) is =
               let heard = synced_waits shows g start reply b b1 b2 a.store told a2 w whole sound1 sound2 (subst (λ q. Moves q b.store.guests a.store.guests) is a.moves)
               (round_well makes b.store.disk a.store.disk b.store.guests a.store.guests (Synced told) a.store.broken (subst At is round)) (after (Ok (Synced told)) is) told_so in
               let fewer = lower (Ok (Synced told)) is refl in
-              record {
-                waits = heard.is;
-                less = λ known busy. work_less b b2 whole heard.intents (ap (λ l. waiting_of (slice_get l g)) heard.known ∙ waiting_settled (guests b) told g)
-                    (subst (λ s. left_of s.guests < left_of b.store.guests) (sym heard.stored) fewer);
-              }
+              moved_less b b2 heard.is (work_less b b2 whole heard.intents (ap (λ l. waiting_of (slice_get l g)) heard.known ∙ waiting_settled (guests b) told g)
+              (subst (λ s. left_of s.guests < left_of b.store.guests) (sym heard.stored) fewer))
           by (Err e) is =
               let bad = round_badly makes b.store.disk a.store.disk b.store.guests a.store.guests e a.store.broken (subst At is round) in
               let heard = broken_waits shows g start reply b b1 b2 a.store a2 w whole late sound2 bad.0 (after (Err e) is) told_so in
               let broke : is_broken b2 ≡ true = sym heard.0.broken ∙ ap (λ s. s.broken) heard.1 ∙ bad.0 in
               let none : work_of g b2 ≡ 0 = rw broke refl in
               let some : work_of g b ≡ suc (left_of b.store.guests + (between_calls (in_place (slice_get b.intents g)) + waiting_calls (waiting_of (slice_get (guests b) g)))) = rw whole refl in
-              record { waits = heard.0; less = λ known busy. omega (arith, none, some) }
+              moved_less b b2 heard.0 (omega (arith, none, some))
+
+  -- Advances, and then Settle; the guest's reply was late before them
+  advances_moves : (b b1 b2 : BoardState D) (a2 : Answer) → W b → IsLate g b → IsSound shows b1 → IsSound shows b2 → AdvancesOn shows makes b b1 → SettlesBy b1.report a2 b1 b2 → Moved b b2
+  advances_moves b b1 b2 a2 w late sound1 sound2 on settles =
+      let same = unheard_same b on.last on.unheard in
+      let moved = advance_moves on.last b1 b2 on.answer a2 (same_waits shows g start reply b on.last w same on.sound) (late_still g b on.last same late) sound1 sound2 on.does settles in
+      elim on.unheard.left [
+        | inl still ↦ subst (λ v. Moved v b2) still moved
+        | inr fewer ↦ moved_less b b2 moved.waits (
+            let first = work_less b on.last late.whole (ap (λ v. v.intents) on.unheard.only) (ap (λ v. waiting_of (slice_get (guests v) g)) on.unheard.only) fewer in
+            let second = moved.most in
+            omega (arith, first, second))
+      ]
 
   -- the whole round
-  pub writes : (b0 b1 b2 b3 b4 : BoardState D) (a1 a2 a3 a4 : Answer) → W b0 → IsSound shows b1 → IsSound shows b2 → IsSound shows b3 → IsSound shows b4
+  pub writes : (b0 b1 b2 b3 b4 : BoardState D) (a1 a2 a4 : Answer) → W b0 → IsSound shows b1 → IsSound shows b2 → IsSound shows b3 → IsSound shows b4
       → TakesInto g (slice_get b0.intents g) a1 b0 b1 → GivesWhere g (is_free b1.store.guests g) (in_place (slice_get b1.intents g)) a2 b1 b2
-      → AdvancesUnder shows makes b2.report a3 b2 b3 → SettlesBy b3.report a4 b3 b4 → WritesOn shows g start reply b0 b4
-  writes b0 b1 b2 b3 b4 a1 a2 a3 a4 w s1 s2 s3 s4 takes gives advances settles =
+      → (b2.report ≡ None → AdvancesOn shows makes b2 b3) → SettlesBy b3.report a4 b3 b4 → WritesOn shows g start reply b0 b4
+  writes b0 b1 b2 b3 b4 a1 a2 a4 w s1 s2 s3 s4 takes gives advances settles =
       let same1 = take_same g (slice_get b0.intents g) a1 b0 b1 takes in
       let w1 = same_waits shows g start reply b0 b1 w same1 s1 in
       let same2 = give_same g (is_free b1.store.guests g) (in_place (slice_get b1.intents g)) a2 b1 b2 gives in
       let w2 = same_waits shows g start reply b1 b2 w1 same2 s2 in
       let late_then = λ (late : IsLate g b0). late_still g b1 b2 same2 (late_still g b0 b1 same1 late) in
-      let moved = λ (late : IsLate g b0). advance_moves b2 b3 b4 a3 a4 w2 (late_then late) s3 s4 advances settles in
+      let moved = λ (late : IsLate g b0). advances_moves b2 b3 b4 a4 w2 (late_then late) s3 s4 (advances w2.report) settles in
       let taken = take_work shows g w.guest (slice_get b0.intents g) a1 b0 b1 w.sound w.there refl takes in
       let t = s1.linked.each g w1.guest w1.there in
       let given = give_work shows g (is_free b1.store.guests g) (in_place (slice_get b1.intents g)) a2 b1 b2 s1 (slice_get_within b1.store.guests g t.stored t.in_store) refl refl gives in
