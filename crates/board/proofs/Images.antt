@@ -21,8 +21,6 @@ use Rattle.mmio_transport.specs.Device.{DeviceState}
 use Rattle.mmio_transport.specs.Job.{Job, Done}
 use Rattle.rpmb_book.specs.Job.{Tally}
 use Rattle.rpmb_book.specs.declared.refused.Refused.TheVariants as refused
-use Rattle.board.specs.declared.step.Report.{Report}
-use Rattle.board.specs.declared.step.Report.TheVariants.{Marks, Fault}
 use Rattle.board.specs.declared.step.Step.{Step}
 use Rattle.board.specs.declared.step.Step.TheVariants as step
 use Rattle.board.specs.declared.step.StepFault.TheVariants as fault
@@ -33,7 +31,7 @@ use Rattle.recovery.specs.Format.{IsFormatted}
 use Rattle.recovery.proofs.Fresh.{fresh_image}
 use Rattle.recovery.specs.declared.fault.OpenFault.{OpenFault}
 use Rattle.recovery.specs.declared.fault.OpenFault.TheVariants as open_fault
-use Rattle.board.specs.State.{BoardState, in_place}
+use Rattle.board.specs.State.{BoardState, Fault, Marks, Report, in_place}
 use Rattle.board.specs.Board.{IsLinkedBoard, LeavesPrefixes, marks_in}
 use Rattle.board.specs.Images.{AllKnown, HasImage, IsKnown}
 use Rattle.board.specs.Kept.{IsConsistent, IsConsistentAt}

@@ -7,13 +7,12 @@ ghost use Rattle.intent_slots.specs.Payload.{Intent as IntentSpec};
 ghost use Rattle.rpmb_book.specs.Book.{is_share, may_settle, state};
 ghost use Rattle.rpmb_book.specs.Audit.{HasHistory};
 ghost use Rattle.rpmb_book.specs.Sound.{AreOfBoard, IsSound as IsSoundBook};
-ghost use Rattle.board.specs.State.{emptied, in_place};
+ghost use Rattle.board.specs.State.{Marks as MarksReport, emptied, in_place, report_seen};
 ghost use Rattle.board.specs.Steps.{Does, Acts, AdvancesUnder, advance_answer, report_of, CollectsInto, Drives, GivesWhere, PopsInto, PublishesFrom, SettlesBy, SubmitsFrom, TakesInto};
 ghost use Rattle.board.specs.Board.{IsSound};
 ghost use Rattle.board.specs.World.{choosing_call};
-ghost use Rattle.board.specs.declared.step.Report.TheVariants.{Marks as MarksReport};
 
-use crate::step::{Act, Report, Seen, Step, StepFault};
+use crate::step::{Act, Seen, Step, StepFault};
 use disk::{CutDisk, Disk};
 use flusher::{Made, Store, StoreFault};
 use intent_slots::Intent;
@@ -21,6 +20,16 @@ use mmio_transport::{Device, Done, Job};
 use rpmb_book::{Book, Shares, Tally};
 use std::alloc::Global;
 use std::marker::Model;
+
+/// How the store's last call ended, of which the book hasn't heard. The marks of a sync stay with the
+/// store until the book settles them: they are 520 bytes.
+#[derive(Drop)]
+pub(crate) enum Ended {
+    /// It was a sync, and settled what the store's marks say.
+    Synced,
+    /// It failed.
+    Failed,
+}
 
 /// The parts of a board, and what lies between its steps. What ties them is the board's to keep.
 #[derive(Drop)]
@@ -34,15 +43,15 @@ pub struct Assembly<D: Disk> {
     pub(crate) jobs: Vec<Option<Job>>,
     pub(crate) dones: Vec<Option<Done>>,
     pub(crate) intents: Vec<Option<Intent>>,
-    pub(crate) report: Option<Report>,
+    pub(crate) report: Option<Ended>,
 }
 
 impl<D: Disk> Model for Assembly<D> {
-    ghost use Rattle.board.specs.State.{BoardState};
+    ghost use Rattle.board.specs.State.{BoardState, report_seen};
 
     ghost Value = { BoardState D };
 
-    ghost view = { λ a. record { devices = a.devices.items; book = a.book; tallies = a.tallies.items; shares = a.shares; store = a.store; jobs = a.jobs.items; dones = a.dones.items; intents = a.intents.items; report = a.report } };
+    ghost view = { λ a. record { devices = a.devices.items; book = a.book; tallies = a.tallies.items; shares = a.shares; store = a.store; jobs = a.jobs.items; dones = a.dones.items; intents = a.intents.items; report = report_seen a.store.guests a.report } };
 }
 
 /// What a driver's act does to its device.
@@ -68,23 +77,23 @@ fn act_on(device: &mut Device, act: &Act) -> Result<Seen, StepFault>
 
 /// Notes what a call of the store has for the book, and answers what the call did.
 fn tell<D: Disk>(
-    report: &mut Option<Report>,
+    report: &mut Option<Ended>,
     store: &Store<D>,
     made: Result<Made, StoreFault>,
 ) -> Result<Seen, StepFault>
     requires { report.old ≡ None }
     ensures answer { result ≡ advance_answer (with_marks store.now.guests made) }
-    ensures report { report.new ≡ report_of (with_marks store.now.guests made) }
+    ensures report { report_seen store.now.guests report.new ≡ report_of (with_marks store.now.guests made) }
 {
     match made {
         Ok(Made::Wrote) => Ok(Seen::Did),
         Ok(Made::Synced) => {
-            *report = Some(Report::Marks(store.marks()));
+            *report = Some(Ended::Synced);
             Ok(Seen::Did)
         }
         Ok(Made::Idle) => Ok(Seen::Nothing),
         Err(fault) => {
-            *report = Some(Report::Fault);
+            *report = Some(Ended::Failed);
             Err(StepFault::Store(fault))
         }
     }
@@ -242,20 +251,16 @@ impl<D: Disk> Assembly<D> {
         requires { (marks : List ℕ) → self.old.report ≡ Some (MarksReport marks) → may_settle self.old.book self.old.shares marks ≡ true }
         ensures { SettlesBy self.old.report result self.old self.new }
     {
-        // A report is large, and mostly there is none.
-        if self.report.is_none() {
-            return Ok(Seen::Nothing);
-        }
         match self.report.take() {
             None => Ok(Seen::Nothing),
-            Some(Report::Marks(marks)) => {
-                match self.book.settle(&self.shares, marks) {
+            Some(Ended::Synced) => {
+                match self.book.settle(&self.shares, self.store.marks()) {
                     Err(_) => unreachable!(),
                     Ok(()) => {}
                 }
                 Ok(Seen::Did)
             }
-            Some(Report::Fault) => {
+            Some(Ended::Failed) => {
                 self.book.break_off();
                 Ok(Seen::Did)
             }

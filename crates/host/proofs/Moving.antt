@@ -23,11 +23,9 @@ use Rattle.rpmb_book.specs.Book.{state}
 use Rattle.rpmb_book.specs.Job.{Tally}
 use Rattle.rpmb_book.proofs.IsolationLemmas.{by_test}
 use Rattle.board.specs.Board.{IsLinkedBoard, IsSound, LeavesPrefixes, StaysLinked, accepted_after, answered, marks_in}
-use Rattle.board.specs.State.{BoardState, in_place}
+use Rattle.board.specs.State.{BoardState, Fault, Marks, Report, in_place}
 use Rattle.board.specs.Steps.{AdvancesUnder, Answer, CollectsInto, Does, Drives, GivesWhere, PopsInto, PublishesFrom, SettlesBy, SubmitsFrom, TakesInto}
 use Rattle.board.specs.declared.step.Act.{Act}
-use Rattle.board.specs.declared.step.Report.{Report}
-use Rattle.board.specs.declared.step.Report.TheVariants.{Marks, Fault}
 use Rattle.board.specs.declared.step.Step.{Step}
 use Rattle.board.specs.declared.step.Step.TheVariants as step
 use Rattle.board.proofs.Linked.{drives_linked}

@@ -20,9 +20,8 @@ use Rattle.rpmb_book.specs.Guest.{GuestState, Held, broken_off, failed_held, kep
 use Rattle.rpmb_book.specs.Marks.{marks_for}
 use Rattle.rpmb_book.specs.Turn.{Break, Settle, move_some, settled_all}
 use Rattle.board.specs.Board.{IsSound}
-use Rattle.board.specs.State.{BoardState, guests}
+use Rattle.board.specs.State.{BoardState, Fault, Marks, guests}
 use Rattle.board.specs.Steps.{Answer, SettlesBy}
-use Rattle.board.specs.declared.step.Report.TheVariants.{Marks, Fault}
 use Rattle.board.proofs.Linked.{as_many, turned}
 use Rattle.board.proofs.Stays.{marks_at, may_settle_them}
 use Rattle.host.specs.Calm.{is_broken}
