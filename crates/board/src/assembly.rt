@@ -277,6 +277,7 @@ impl<D: Disk> Assembly<D> {
     }
 
     /// One step, of parts that are tied.
+    #[inline(always)]
     pub(crate) fn step(&mut self, step: &Step) -> Result<Seen, StepFault>
         requires sound { IsSound D.state self.old }
         ensures { Does D.state D.makes step.now result self.old self.new }
