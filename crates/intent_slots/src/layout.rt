@@ -1,5 +1,5 @@
 ghost use Rattle.std.specs.Prelude.{◌≡◌, ◌≤◌, ◌<◌, ◌+◌, ◌*◌, ◌^◌, length, slice_index};
-ghost use Rattle.intent_slots.specs.Layout.{capacities_of, region_at, start_of, image_length, slot_region, blocks_at, NeverOverlap, AllInside, PartsNeverOverlap, PartsInside, SlotsBetween};
+ghost use Rattle.intent_slots.specs.Layout.{capacities_of, region_at, start_of, image_length, slot_region, other_side, blocks_at, NeverOverlap, AllInside, PartsNeverOverlap, PartsInside, SlotsBetween};
 
 use crate::extent::Extent;
 use arrayvec::ArrayVec;
@@ -12,7 +12,8 @@ pub const OPEN_GATE: u8 = 0xA5;
 /// The byte that shuts a gate.
 pub const SHUT_GATE: u8 = 0x00;
 
-/// The offset of the version byte in an image. A fresh image has 1 there, and nothing reads it yet.
+/// The offset of the version byte in an image: 2 there means that both slots of each partition are in
+/// use, any other byte slot A alone.
 pub const VERSION_OFFSET: u64 = 512;
 
 /// The length of the header in bytes: what stands before partition 0.
@@ -42,13 +43,25 @@ pub(crate) const GATE_B_OFFSET: u64 = 17_920;
 /// The offset of slot B's payload in a partition, in bytes from its first.
 pub(crate) const PAYLOAD_B_OFFSET: u64 = 18_432;
 
-/// One of a partition's two slots. Slot B has its offsets, and nothing reads it yet.
+/// One of a partition's two slots. In an image of version 1 nothing reads slot B.
 #[derive(Clone, Copy, Debug, PartialEq, Eq)]
 pub enum Side {
-    /// The slot that intents go through.
+    /// The slot that intents go through where both are empty.
     A,
     /// The other one.
     B,
+}
+
+impl Side {
+    /// The other slot.
+    pub fn other(self) -> Side
+        ensures { result ≡ other_side self }
+    {
+        match self {
+            Side::A => Side::B,
+            Side::B => Side::A,
+        }
+    }
 }
 
 /// Where each part of an image stands, in bytes from its first. Contracts see the capacities of the
