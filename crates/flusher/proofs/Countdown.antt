@@ -1,6 +1,6 @@
 -- The calls that a store has before it, one by one.
 use Rattle.std.proofs.Common.{◌≡◌, ◌<◌, ◌≤◌, ◌+◌, Bool, true, false, Option, Some, None, Result, ℕ, zero, suc, List, [], ◌∷◌, map, refl, ap, sym, ◌∙◌, subst, arith}
-use Rattle.std.specs.Prelude.{slice_get, slice_set, if◌then◌else◌}
+use Rattle.std.specs.Prelude.{slice_get, slice_set, if◌then◌else◌, ◌||◌, ◌&&◌, length}
 use Rattle.std.specs.List.{list_any}
 use Rattle.std.proofs.lemmas.List.Quantifiers.{position-Some}
 use Rattle.std.proofs.lemmas.Option.{slice_get_within, get_or_from_slice_get}
@@ -16,11 +16,15 @@ use Rattle.flusher.specs.declared.progress.Progress.{Progress}
 use Rattle.flusher.specs.declared.progress.Progress.TheVariants.{Synced}
 use Rattle.flusher.specs.declared.progress.StoreFault.{StoreFault}
 use Rattle.flusher.specs.Phase.{has_write, open_after, written, synced}
-use Rattle.flusher.specs.Slot.{is_empty, slot_writes, slot_awaits, after_write, after_sync, in_phase, with_intent, guest_has_write, guest_awaits, guest_after_write, guest_after_sync}
+use Rattle.flusher.specs.Slot.{is_empty, slot_writes, slot_awaits, after_write, after_sync, in_phase}
+use Rattle.flusher.specs.Pair.{behind_writes, is_let, turn_by, turn_of, has_turn, moved_in, marked, in_order, with_slots, given_at, with_intent, guest_has_write, guest_awaits, guest_after_write, guest_after_sync}
 use Rattle.flusher.specs.Marks.{marks_of}
 use Rattle.flusher.specs.Round.{plan_at, planned, AllEmpty, Ends, Round}
 use Rattle.flusher.specs.Store.{given, given_of}
-use Rattle.flusher.specs.CallsLeft.{calls_left, slot_left, left_of, called}
+use Rattle.flusher.specs.CallsLeft.{calls_left, slot_left, guest_left, left_of, called}
+use Rattle.flusher.specs.declared.guest.Turn.{Turn}
+use Rattle.flusher.specs.declared.guest.Turn.TheVariants.{First, Second, Neither}
+use Rattle.flusher.proofs.Turns.{turn_behind}
 use Rattle.flusher.specs.Laws.{GivenAdds, NoneLeftIsEmpty}
 
 -- 1. A slot
@@ -92,28 +96,76 @@ some_left Closing i = omega arith
 
 -- 2. All guests
 
-left_of-set : (xs : List Guest) (g : ℕ) (x y : Guest) → slice_get xs g ≡ Some x → left_of (slice_set xs g y) + slot_left x.slot ≡ left_of xs + slot_left y.slot
+turn_first : (a b : Bool) → turn_by a b ≡ First → a ≡ true
+turn_first true b is = refl
+turn_first false true is = absurd (cc)
+turn_first false false is = absurd (cc)
+
+and_left : (a b : Bool) → (a && b) ≡ true → a ≡ true
+and_left true b is = refl
+and_left false b is = absurd (cc)
+
+behind_has : (first behind : Option Slot) → behind_writes first behind ≡ true → slot_writes behind ≡ true
+behind_has first None w = absurd (cc)
+behind_has first (Some s) w = and_left (has_write s.phase) (is_let first s.phase) w
+
+turn_lowers : (t : Turn) (x : Guest) → turn_of x ≡ t → has_turn t ≡ true → guest_left (moved_in t x) < guest_left x
+turn_lowers First x is has = (let fewer = write_lowers x.slot (turn_first (slot_writes x.slot) (behind_writes x.slot x.behind) is) in omega (arith, fewer))
+turn_lowers Second x is has = (let fewer = write_lowers x.behind (behind_has x.slot x.behind (turn_behind (slot_writes x.slot) (behind_writes x.slot x.behind) is)) in omega (arith, fewer))
+turn_lowers Neither x is has = absurd (cc)
+
+guest_write_lowers : (x : Guest) → guest_has_write x ≡ true → guest_left (guest_after_write x) < guest_left x
+guest_write_lowers x has = turn_lowers (turn_of x) x refl has
+
+ordered_left : (x : Guest) (n : ℕ) (slot behind : Option Slot) → guest_left (in_order x n slot behind) ≡ slot_left slot + slot_left behind
+ordered_left x n (Some f) behind = refl
+ordered_left x n None (Some b) = omega arith
+ordered_left x n None None = refl
+
+guest_sync_adds_none : (x : Guest) → guest_left (guest_after_sync x) ≤ guest_left x
+guest_sync_adds_none x =
+    let sum = ordered_left x (marked x) (after_sync x.slot) (after_sync x.behind) in
+    let one = sync_adds_none x.slot in
+    let two = sync_adds_none x.behind in
+    omega (arith, sum, one, two)
+
+guest_sync_lowers : (x : Guest) → guest_awaits x ≡ true → guest_left (guest_after_sync x) < guest_left x
+guest_sync_lowers x waits = by (slot_awaits x.slot) refl
+  where
+    sum : guest_left (guest_after_sync x) ≡ slot_left (after_sync x.slot) + slot_left (after_sync x.behind)
+    sum = ordered_left x (marked x) (after_sync x.slot) (after_sync x.behind)
+
+    by : (b : Bool) → slot_awaits x.slot ≡ b → guest_left (guest_after_sync x) < guest_left x
+    by true is = (let one = sync_lowers x.slot is in let two = sync_adds_none x.behind in let all = sum in omega (arith, all, one, two))
+    by false is = (
+        let later : slot_awaits x.behind ≡ true = sym (ap (λ (v : Bool). v || slot_awaits x.behind) is) ∙ waits in
+        let one = sync_adds_none x.slot in
+        let two = sync_lowers x.behind later in
+        let all = sum in
+        omega (arith, all, one, two))
+
+left_of-set : (xs : List Guest) (g : ℕ) (x y : Guest) → slice_get xs g ≡ Some x → left_of (slice_set xs g y) + guest_left x ≡ left_of xs + guest_left y
 unfolding left_of
 left_of-set [] zero x y at = absurd (cc)
 left_of-set [] (suc g) x y at = absurd (cc)
-left_of-set (z ∷ xs) zero x y at = (let same : slot_left z.slot ≡ slot_left x.slot = (let e : z ≡ x = cc in ap (λ (v : Guest). slot_left v.slot) e) in omega (arith, same))
+left_of-set (z ∷ xs) zero x y at = (let same : guest_left z ≡ guest_left x = (let e : z ≡ x = cc in ap guest_left e) in omega (arith, same))
 left_of-set (z ∷ xs) (suc g) x y at = (let rest = left_of-set xs g x y at in omega (arith, rest))
 
 left_of-sync : (xs : List Guest) → left_of (map guest_after_sync xs) ≤ left_of xs
 unfolding left_of
 left_of-sync [] = omega arith
-left_of-sync (x ∷ xs) = (let first = sync_adds_none x.slot in let rest = left_of-sync xs in omega (arith, first, rest))
+left_of-sync (x ∷ xs) = (let first = guest_sync_adds_none x in let rest = left_of-sync xs in omega (arith, first, rest))
 
 left_of-sync-lower : (xs : List Guest) → list_any guest_awaits xs ≡ true → left_of (map guest_after_sync xs) < left_of xs
 unfolding left_of
 left_of-sync-lower [] waits = absurd (cc)
-left_of-sync-lower (x ∷ xs) waits = of (slot_awaits x.slot) refl (left_of-sync-lower xs)
+left_of-sync-lower (x ∷ xs) waits = of (guest_awaits x) refl (left_of-sync-lower xs)
   where
-    of : (b : Bool) → slot_awaits x.slot ≡ b → (list_any guest_awaits xs ≡ true → left_of (map guest_after_sync xs) < left_of xs) → left_of (map guest_after_sync (x ∷ xs)) < left_of (x ∷ xs)
-    of true is later = (let first = sync_lowers x.slot is in let rest = left_of-sync xs in omega (arith, first, rest))
+    of : (b : Bool) → guest_awaits x ≡ b → (list_any guest_awaits xs ≡ true → left_of (map guest_after_sync xs) < left_of xs) → left_of (map guest_after_sync (x ∷ xs)) < left_of (x ∷ xs)
+    of true is later = (let first = guest_sync_lowers x is in let rest = left_of-sync xs in omega (arith, first, rest))
     of false is later = (
         let waits_later : list_any guest_awaits xs ≡ true = cc in
-        let first = sync_adds_none x.slot in
+        let first = guest_sync_adds_none x in
         let rest = later waits_later in
         omega (arith, first, rest))
 
@@ -133,7 +185,7 @@ write_of : (old : List Guest) (g : ℕ) (x : Guest) → planned old ≡ WriteOf 
 write_of old g x plan at =
     let first = position-Some guest_has_write old g x (plan_write _ _ g plan) in
     let has = sym (ap guest_has_write (get_or_from_slice_get old g x x at)) ∙ first.1 in
-    let fewer = write_lowers x.slot has in
+    let fewer = guest_write_lowers x has in
     let whole = left_of-set old g x (guest_after_write x) at in
     omega (arith, fewer, whole)
 
@@ -152,14 +204,23 @@ module _ {D : Type 0} (makes : D → DiskCall → D → Type 0) (od : D) (old : 
 
 -- 4. An intent that is given
 
+room_left : (x : Guest) (i : Intent) (slot behind : Option Slot) → (if x.paired then is_empty behind else is_empty slot) ≡ true → guest_left (given_at (with_slots x slot behind) i slot) ≡ guest_left (with_slots x slot behind) + (length i.group.entries + 8)
+room_left x i None behind room = omega arith
+room_left x i (Some f) None room = omega arith
+room_left x i (Some f) (Some b) room = absurd (by x.paired room)
+  where
+    by : (pair : Bool) → (if pair then false else false) ≡ true → ⊥
+    by true is = absurd (cc)
+    by false is = absurd (cc)
+
 pub given_adds : GivenAdds
 unfolding given
-given_adds guests i x at none =
+given_adds guests i x at room =
     let whole = left_of-set guests i.guest x (with_intent x i) at in
-    let before : slot_left x.slot ≡ 0 = ap slot_left none in
+    let more = room_left x i x.slot x.behind room in
     let is : given guests i ≡ slice_set guests i.guest (with_intent x i) = ap (given_of guests i) at in
     let after = ap left_of is in
-    omega (arith, whole, before, after)
+    omega (arith, whole, more, after)
 
 -- 5. None left
 
@@ -178,16 +239,19 @@ empty_where_none [] none (suc g) x at = absurd (cc)
 empty_where_none (z ∷ xs) none zero x at = (
     let e : z ≡ x = cc in
     let first : slot_left z.slot ≡ 0 = omega (arith, none) in
-    empty_of x.slot (sym (ap (λ (v : Guest). slot_left v.slot) e) ∙ first))
+    let second : slot_left z.behind ≡ 0 = omega (arith, none) in
+    (empty_of x.slot (sym (ap (λ (v : Guest). slot_left v.slot) e) ∙ first), empty_of x.behind (sym (ap (λ (v : Guest). slot_left v.behind) e) ∙ second)))
 empty_where_none (z ∷ xs) none (suc g) x at = (let rest : left_of xs ≡ 0 = omega (arith, none) in empty_where_none xs rest g x at)
 
 none_where_empty : (xs : List Guest) → AllEmpty xs → left_of xs ≡ 0
 unfolding left_of
 none_where_empty [] all = refl
 none_where_empty (z ∷ xs) all = (
-    let first = none_of z.slot (all 0 z refl) in
+    let both = all 0 z refl in
+    let first = none_of z.slot both.0 in
+    let second = none_of z.behind both.1 in
     let rest = none_where_empty xs (λ g x at. all (suc g) x at) in
-    omega (arith, first, rest))
+    omega (arith, first, second, rest))
 
 pub none_left_is_empty : NoneLeftIsEmpty
 none_left_is_empty guests = (empty_where_none guests, none_where_empty guests)

@@ -1,7 +1,6 @@
 -- What a whole round keeps, over any disk.
 use Rattle.std.proofs.Common.{◌≡◌, Bool, true, false, not, Option, Some, None, Result, Ok, ℕ, List, map, refl, ap, sym, ◌∙◌, ⊎_elim, subst}
 use Rattle.std.specs.Prelude.{slice_get, slice_set, if◌then◌else◌}
-use Rattle.disk.specs.Content.{Content}
 use Rattle.disk.specs.Disk.{DiskState, DiskCall, Write, Sync, Effect, during, Within, Still, Then, Writes, Syncs}
 use Rattle.flusher.specs.declared.guest.Guest.{Guest}
 use Rattle.flusher.specs.declared.progress.Progress.{Progress}
@@ -9,40 +8,37 @@ use Rattle.flusher.specs.declared.progress.Progress.TheVariants.{Wrote, Synced}
 use Rattle.flusher.specs.declared.progress.StoreFault.{StoreFault}
 use Rattle.flusher.specs.Marks.{marks_of}
 use Rattle.intent_slots.specs.Recovered.{Part}
-use Rattle.flusher.specs.Slot.{region_of, guest_write, guest_after_write, guest_after_sync}
+use Rattle.flusher.specs.Pair.{region_of, guest_write, guest_after_write, guest_after_sync}
 use Rattle.flusher.specs.SlotInvariant.{IsKept, guest_row, guest_seen, guest_settled, settled_by, IsHeld, EachStop}
 use Rattle.flusher.specs.declared.plan.Plan.{Plan}
 use Rattle.flusher.specs.declared.plan.Plan.TheVariants.{WriteOf, SyncAll, Nothing}
 use Rattle.flusher.specs.Round.{planned, Ends, Round, written_at, under_way_by, under_way, parts_after}
 use Rattle.flusher.proofs.Guests.{set_cases}
-use Rattle.flusher.proofs.Table.{t_range, t_write, t_seen, t_stands, kept_written, t_frame, t_seen_frame, t_synced, t_synced_seen}
+use Rattle.flusher.proofs.Table.{t_range, t_write, t_seen, t_stands, t_moved, t_frame, t_seen_frame, t_synced, t_synced_seen, region_moved, region_synced}
 use Rattle.flusher.proofs.Held.{Touches, touches_written, touches_during}
 use Rattle.flusher.proofs.Held as held_of
 
-t_moved : (p : Part) (x : Guest) (c : Content) → guest_row p x c → IsKept p (guest_after_write x) c
-t_moved p x c r = kept_written p x c (t_stands p x c r)
-
 module _ (parts : ℕ → Part) (xs : List Guest) (s t : DiskState) where
   pub stops : (broken : Bool) → IsHeld parts xs broken s → EachStop parts xs s
-  stops = held_of.stops region_of guest_row guest_seen guest_write guest_after_write guest_after_sync guest_settled IsKept (λ x. refl) (λ x. refl) t_frame t_seen_frame t_range t_write t_seen t_synced t_synced_seen t_stands t_moved parts xs s t
+  stops = held_of.stops region_of guest_row guest_seen guest_write guest_after_write guest_after_sync guest_settled IsKept region_moved region_synced t_frame t_seen_frame t_range t_write t_seen t_synced t_synced_seen t_stands t_moved parts xs s t
 
   pub held_write : (g : ℕ) (x : Guest) (at : ℕ) (bytes : List ℕ) → IsHeld parts xs false s → slice_get xs g ≡ Some x → guest_write x ≡ Some (at, bytes) → Touches at bytes s t → (ok : Bool) → Writes at bytes ok s t → IsHeld parts (slice_set xs g (guest_after_write x)) (not ok) t
-  held_write = held_of.held_write region_of guest_row guest_seen guest_write guest_after_write guest_after_sync guest_settled IsKept (λ x. refl) (λ x. refl) t_frame t_seen_frame t_range t_write t_seen t_synced t_synced_seen t_stands t_moved parts xs s t
+  held_write = held_of.held_write region_of guest_row guest_seen guest_write guest_after_write guest_after_sync guest_settled IsKept region_moved region_synced t_frame t_seen_frame t_range t_write t_seen t_synced t_synced_seen t_stands t_moved parts xs s t
 
   pub stops_before : (g : ℕ) (x : Guest) (at : ℕ) (bytes : List ℕ) → IsHeld parts xs false s → slice_get xs g ≡ Some x → guest_write x ≡ Some (at, bytes) → Touches at bytes s t → EachStop parts (slice_set xs g (guest_after_write x)) s
-  stops_before = held_of.stops_before region_of guest_row guest_seen guest_write guest_after_write guest_after_sync guest_settled IsKept (λ x. refl) (λ x. refl) t_frame t_seen_frame t_range t_write t_seen t_synced t_synced_seen t_stands t_moved parts xs s t
+  stops_before = held_of.stops_before region_of guest_row guest_seen guest_write guest_after_write guest_after_sync guest_settled IsKept region_moved region_synced t_frame t_seen_frame t_range t_write t_seen t_synced t_synced_seen t_stands t_moved parts xs s t
 
   pub stops_written : (g : ℕ) (x : Guest) (at : ℕ) (bytes : List ℕ) → IsHeld parts xs false s → slice_get xs g ≡ Some x → guest_write x ≡ Some (at, bytes) → Touches at bytes s t → EachStop parts (slice_set xs g (guest_after_write x)) t
-  stops_written = held_of.stops_written region_of guest_row guest_seen guest_write guest_after_write guest_after_sync guest_settled IsKept (λ x. refl) (λ x. refl) t_frame t_seen_frame t_range t_write t_seen t_synced t_synced_seen t_stands t_moved parts xs s t
+  stops_written = held_of.stops_written region_of guest_row guest_seen guest_write guest_after_write guest_after_sync guest_settled IsKept region_moved region_synced t_frame t_seen_frame t_range t_write t_seen t_synced t_synced_seen t_stands t_moved parts xs s t
 
   pub stops_synced : (ok : Bool) → Syncs ok s t → s.faithful ≡ true → (broken : Bool) → IsHeld parts xs broken s → EachStop parts xs t
-  stops_synced = held_of.stops_synced region_of guest_row guest_seen guest_write guest_after_write guest_after_sync guest_settled IsKept (λ x. refl) (λ x. refl) t_frame t_seen_frame t_range t_write t_seen t_synced t_synced_seen t_stands t_moved parts xs s t
+  stops_synced = held_of.stops_synced region_of guest_row guest_seen guest_write guest_after_write guest_after_sync guest_settled IsKept region_moved region_synced t_frame t_seen_frame t_range t_write t_seen t_synced t_synced_seen t_stands t_moved parts xs s t
 
   pub held_failed : (ok : Bool) → Syncs ok s t → s.faithful ≡ true → IsHeld parts xs false s → IsHeld parts xs true t
-  held_failed = held_of.held_failed region_of guest_row guest_seen guest_write guest_after_write guest_after_sync guest_settled IsKept (λ x. refl) (λ x. refl) t_frame t_seen_frame t_range t_write t_seen t_synced t_synced_seen t_stands t_moved parts xs s t
+  held_failed = held_of.held_failed region_of guest_row guest_seen guest_write guest_after_write guest_after_sync guest_settled IsKept region_moved region_synced t_frame t_seen_frame t_range t_write t_seen t_synced t_synced_seen t_stands t_moved parts xs s t
 
   pub held_synced : (ok : Bool) → Syncs ok s t → s.faithful ≡ true → ok ≡ true → IsHeld parts xs false s → IsHeld (λ g. settled_by guest_settled (slice_get xs g) (parts g)) (map guest_after_sync xs) false t
-  held_synced = held_of.held_synced region_of guest_row guest_seen guest_write guest_after_write guest_after_sync guest_settled IsKept (λ x. refl) (λ x. refl) t_frame t_seen_frame t_range t_write t_seen t_synced t_synced_seen t_stands t_moved parts xs s t
+  held_synced = held_of.held_synced region_of guest_row guest_seen guest_write guest_after_write guest_after_sync guest_settled IsKept region_moved region_synced t_frame t_seen_frame t_range t_write t_seen t_synced t_synced_seen t_stands t_moved parts xs s t
 
 module _ {D : Type 0} (state : D → DiskState) (makes : D → DiskCall → D → Type 0) (effect : (old new : D) (call : DiskCall) → makes old call new → Effect (state old) call (state new))
     (parts : ℕ → Part) (od : D) (old : List Guest) (result : Result Progress StoreFault) (nd : D) (new : List Guest) (broken : Bool) where
@@ -91,20 +87,20 @@ module _ {D : Type 0} (state : D → DiskState) (makes : D → DiskCall → D �
   unfolding under_way
   round_stops = stops_by_plan (planned old)
 
-module _ (parts : ℕ → Part) where
+module _ (parts : ℕ → Part) (broken : Bool) (xs : List Guest) (s : DiskState) (held : IsHeld parts xs broken s) where
   -- A store that is broken makes no call; what stands is told of the guests as if it made it.
-  way_stands : (p : Plan) (xs : List Guest) (s : DiskState) → EachStop parts xs s → EachStop parts (under_way_by p xs) s
-  way_stands (WriteOf g) xs s each = of (slice_get xs g) refl
+  way_stands : (p : Plan) → EachStop parts (under_way_by p xs) s
+  way_stands (WriteOf g) = of (slice_get xs g) refl
     where
       of : (o : Option Guest) → slice_get xs g ≡ o → EachStop parts (written_at xs g o) s
-      of None at = each
+      of None at = stops parts xs s s broken held
       of (Some x) at = λ h y here c left. ⊎_elim
-          (λ e. subst (λ (v : Guest). IsKept (parts h) v c) (sym e.1) (kept_written (parts h) x c (each h x (ap (slice_get xs) e.0 ∙ at) c left)))
-          (λ e. each h y e.1 c left)
+          (λ e. subst (λ (v : Guest). IsKept (parts h) v c) (sym e.1) (t_moved (parts h) x c (held.rows h x (ap (slice_get xs) e.0 ∙ at) c left)))
+          (λ e. stops parts xs s s broken held h y e.1 c left)
           (set_cases xs g h (guest_after_write x) y here)
-  way_stands SyncAll xs s each = each
-  way_stands Nothing xs s each = each
+  way_stands SyncAll = stops parts xs s s broken held
+  way_stands Nothing = stops parts xs s s broken held
 
-  pub broken_stops : (xs : List Guest) (s : DiskState) → EachStop parts xs s → EachStop parts (under_way xs) s
+  pub broken_stops : EachStop parts (under_way xs) s
   unfolding under_way
-  broken_stops xs s = way_stands (planned xs) xs s
+  broken_stops = way_stands (planned xs)

@@ -1,18 +1,24 @@
 -- A guest of the store, as a call finds it, and as one is given an intent.
 use Rattle.std.proofs.Common.{◌≡◌, ◌<◌, ◌≤◌, ℕ, ◌+◌, Bool, true, false, List, length, length-set, get_or, Option, Some, None, refl, ap, sym, ◌∙◌, subst, arith, ⊎_elim}
-use Rattle.std.specs.Prelude.{slice_get, slice_set}
+use Rattle.std.specs.Prelude.{slice_get, slice_set, if◌then◌else◌}
 use Rattle.std.proofs.lemmas.Option.{slice_get-get_or, slice_get_within}
 use Rattle.disk.specs.Content.{Content}
 use Rattle.disk.specs.Disk.{DiskState, MayLeave}
-use Rattle.intent_slots.specs.Layout.{Region, AreApart, end_of}
-use Rattle.intent_slots.specs.Payload.{Intent}
+use Rattle.flusher.specs.declared.phase.Phase.{Phase}
+use Rattle.flusher.specs.declared.phase.Phase.TheVariants.{Given, Written, Ready, Opening, Open, Applying, Applied, Closing}
+use Rattle.flusher.specs.Phase.{is_settled}
+use Rattle.flusher.proofs.Held.{seen_left}
+use Rattle.flusher.proofs.Syncs.{two_row}
+use Rattle.intent_slots.specs.Layout.{SlotRegion, Region, AreApart, end_of}
+use Rattle.intent_slots.specs.Payload.{Intent, GroupFits, last_of}
 use Rattle.intent_slots.specs.Recovered.{Part}
 use Rattle.flusher.specs.declared.guest.Guest.{Guest}
 use Rattle.flusher.specs.declared.slot.Slot.{Slot}
-use Rattle.flusher.specs.Slot.{is_empty, region_of, side_of, mark_of, with_intent, pending_of}
+use Rattle.flusher.specs.Slot.{is_empty, intent_of, pending_of}
+use Rattle.flusher.specs.Pair.{has_room, region_of, side_of, side_behind, mark_of, with_intent, with_slots, given_slot, given_at, entries_in}
 use Rattle.flusher.specs.Marks.{marks_of}
-use Rattle.flusher.specs.SlotInvariant.{Row, IsHeld, guest_row, guest_seen}
-use Rattle.flusher.specs.Store.{AllFit, GuestFits, Gives, is_free, is_free_of, pending, next_of, next_sequence, Fits, FitsOf, FitsGuest}
+use Rattle.flusher.specs.SlotInvariant.{IsOfVersion, PhaseRow, Behind, Besides, Follows, sequence_of_part, IsHeld, guest_row, guest_seen}
+use Rattle.flusher.specs.Store.{AllFit, GuestFits, Gives, HasSameKey, given, given_of, is_free, is_free_of, next_of, next_sequence, Fits, FitsOf, FitsGuest}
 use Rattle.flusher.proofs.Blocks.{none_past}
 use Rattle.flusher.proofs.Guests.{set_cases, get_set_same, get_set_other, map_set}
 
@@ -26,37 +32,124 @@ pub absent : (xs ys : List Guest) (g k : ℕ) → ys ≡ xs → k ≡ g → leng
 absent xs ys g k same at past =
     subst (λ (n : ℕ). slice_get xs n ≡ None) at (subst (λ (v : List Guest). slice_get v k ≡ None) same (none_past ys k past))
 
-empty_is : (slot : Option Slot) → is_empty slot ≡ true → slot ≡ None
-empty_is None is = refl
-empty_is (Some s) is = absurd (cc)
+pub given_region : (x : Guest) (i : Intent) (slot : Option Slot) → region_of (given_at x i slot) ≡ region_of x
+given_region x i None = refl
+given_region x i (Some f) = refl
+
+pub given_mark : (x : Guest) (i : Intent) (slot : Option Slot) → mark_of (given_at x i slot) ≡ mark_of x
+given_mark x i None = refl
+given_mark x i (Some f) = refl
+
+given_version : (x : Guest) (i : Intent) (c : Content) (slot : Option Slot) → IsOfVersion x c → IsOfVersion (given_at x i slot) c
+given_version x i c None v = record { behind = v.behind; version = v.version }
+given_version x i c (Some f) v = record { behind = v.behind; version = v.version }
+
+-- an intent that comes next comes next after the one in the first slot
+chained_by : (region : Region) (side : SlotRegion) (p between : Part) (n first : ℕ) (phase : Phase) (j : Intent) (c : Content) → PhaseRow region side between phase j.group c → between ≡ p → n ≡ sequence_of_part p
+    → Follows n (if is_settled phase then None else Some j) → first ≡ n + length (entries_in (if is_settled phase then None else Some j)) → first ≡ last_of j.group + 1
+chained_by region side p between n first Given j c r l m f is = (let one = r.2.one in omega (arith, f, is, one))
+chained_by region side p between n first Written j c r l m f is = (let one = r.2.one in omega (arith, f, is, one))
+chained_by region side p between n first Ready j c r l m f is = (let one = r.2.fits.one in omega (arith, f, is, one))
+chained_by region side p between n first Opening j c r l m f is = (let one = r.1.fits.one in omega (arith, f, is, one))
+chained_by region side p between n first (Open k) j c r l m f is = (let e = ap sequence_of_part (r.1 ∙ l) in omega (arith, e, m, is))
+chained_by region side p between n first Applying j c r l m f is = (let e = ap sequence_of_part (r.1 ∙ l) in omega (arith, e, m, is))
+chained_by region side p between n first Applied j c r l m f is = (let e = ap sequence_of_part (r.1 ∙ l) in omega (arith, e, m, is))
+chained_by region side p between n first Closing j c r l m f is = (let e = ap sequence_of_part (r.0 ∙ l) in omega (arith, e, m, is))
 
 -- the row of a guest with an intent given
-given_row : (p : Part) (x : Guest) (i : Intent) (c : Content) → x.slot ≡ None → FitsGuest x i → i.group.first + 1 ≡ next_of (Some x) → guest_row p x c → guest_row p (with_intent x i) c
-given_row p x i c empty fits next r =
-    let was : Row (region_of x) (side_of x) p None c = subst (λ (s : Option Slot). Row (region_of x) (side_of x) p s c) empty r.0 in
-    let after = ap (λ (s : Option Slot). x.mark + pending (pending_of s) + 1) empty in
-    ((was.0, was.1, fits.inside), record { mark = r.1.mark; follows = omega (arith, next, after) })
+module _ (p : Part) (x : Guest) (i : Intent) (c : Content) where
+  abbrev Goes : Option Slot → Option Slot → Type 0
+  Goes slot behind = (if x.paired then is_empty behind else is_empty slot) ≡ true → GroupFits x.extent.size i.group → HasSameKey (intent_of slot) i
+      → i.group.first + 1 ≡ x.mark + (length (entries_in (pending_of slot)) + length (entries_in (pending_of behind))) + 1
+      → two_row p (with_slots x slot behind) c → two_row p (given_at (with_slots x slot behind) i slot) c
 
-module _ (parts : ℕ → Part) (xs : List Guest) (broken : Bool) (s : DiskState) (i : Intent) (x : Guest) (at : slice_get xs i.guest ≡ Some x) (empty : x.slot ≡ None) (fits : FitsGuest x i) (next : i.group.first + 1 ≡ next_of (Some x)) (held : IsHeld parts xs broken s) where
+  abbrev SeenGoes : Option Slot → Option Slot → Type 0
+  SeenGoes slot behind = (if x.paired then is_empty behind else is_empty slot) ≡ true → GroupFits x.extent.size i.group → Besides slot behind
+      → guest_seen p (with_slots x slot behind) c → guest_seen p (given_at (with_slots x slot behind) i slot) c
+
+  full : (pair : Bool) → (if pair then false else false) ≡ true → ⊥
+  full true is = absurd (cc)
+  full false is = absurd (cc)
+
+  paired_is : (pair : Bool) → (if pair then true else false) ≡ true → pair ≡ true
+  paired_is true is = refl
+  paired_is false is = absurd (cc)
+
+  beside : (pair : Bool) → pair ≡ true → Behind pair x.extent (side_behind x) None c → GroupFits x.extent.size i.group → Behind pair x.extent (side_behind x) (given_slot i) c
+  beside true is b fits = (b, fits)
+  beside false is b fits = absurd (cc)
+
+  row_goes : (slot behind : Option Slot) → Goes slot behind
+  row_goes None None room fits key next r = (
+    record { between = r.0.between; leads = r.0.leads; row = (r.0.row.0, r.0.row.1, fits); behind = r.0.behind },
+    record {
+      mark = r.1.mark;
+      follows = omega (arith, next);
+      next_follows = tt;
+      ordered = record { chained = tt; besides = tt; single = λ un. record { alone = refl; side = (r.1.ordered.single un).side } };
+    },
+  )
+  row_goes None (Some b) room fits key next r = absurd r.1.ordered.besides
+  row_goes (Some f) None room fits key next r =
+      let two = paired_is x.paired room in
+      let comes : i.group.first ≡ x.mark + length (entries_in (pending_of (Some f))) = omega (arith, next) in (
+        record { between = r.0.between; leads = r.0.leads; row = r.0.row; behind = beside x.paired two r.0.behind fits },
+        record {
+          mark = r.1.mark;
+          follows = r.1.follows;
+          next_follows = comes;
+          ordered = record {
+            chained = (chained_by x.extent (side_of x) p r.0.between x.mark i.group.first f.phase f.intent c r.0.row r.0.leads r.1.mark r.1.follows comes, key);
+            besides = tt;
+            single = λ un. absurd (cc);
+          };
+        },
+      )
+  row_goes (Some f) (Some b) room fits key next r = absurd (full x.paired room)
+
+  seen_goes : (slot behind : Option Slot) → SeenGoes slot behind
+  seen_goes None None room fits be s = record { between = s.between; leads = s.leads; row = (s.row.0, s.row.1, fits); seen = tt; behind = s.behind; behind_seen = tt }
+  seen_goes None (Some b) room fits be s = absurd be
+  seen_goes (Some f) None room fits be s = record { between = s.between; leads = s.leads; row = s.row; seen = s.seen; behind = beside x.paired (paired_is x.paired room) s.behind fits; behind_seen = tt }
+  seen_goes (Some f) (Some b) room fits be s = absurd (full x.paired room)
+
+  given_row : has_room x ≡ true → FitsGuest x i → i.group.first + 1 ≡ next_of (Some x) → guest_row p x c → guest_row p (with_intent x i) c
+  given_row room fits next r = (let both = row_goes x.slot x.behind room fits.inside fits.key next (r.0, r.1) in (both.0, both.1, given_version x i c x.slot r.2))
+
+  given_seen : has_room x ≡ true → FitsGuest x i → guest_row p x c → guest_seen p x c → guest_seen p (with_intent x i) c
+  given_seen room fits r s = seen_goes x.slot x.behind room fits.inside r.1.ordered.besides s
+
+paired_room : (pair : Bool) → (if pair then false else false) ≡ true → ⊥
+paired_room true is = absurd (cc)
+paired_room false is = absurd (cc)
+
+given_fits : (len : ℕ) (x : Guest) (i : Intent) (slot behind : Option Slot) → (if x.paired then is_empty behind else is_empty slot) ≡ true → GroupFits x.extent.size i.group → GuestFits len i.guest (with_slots x slot behind) → GuestFits len i.guest (given_at (with_slots x slot behind) i slot)
+given_fits len x i None None room fits old = record { behind = old.behind; room = old.room; slot_fits = fits; behind_fits = tt; own = refl; behind_own = tt; mark = old.mark; besides = tt }
+given_fits len x i None (Some b) room fits old = absurd old.besides
+given_fits len x i (Some f) None room fits old = record { behind = old.behind; room = old.room; slot_fits = old.slot_fits; behind_fits = fits; own = old.own; behind_own = refl; mark = old.mark; besides = tt }
+given_fits len x i (Some f) (Some b) room fits old = absurd (paired_room x.paired room)
+
+module _ (parts : ℕ → Part) (xs : List Guest) (broken : Bool) (s : DiskState) (i : Intent) (x : Guest) (at : slice_get xs i.guest ≡ Some x) (room : has_room x ≡ true) (fits : FitsGuest x i) (next : i.group.first + 1 ≡ next_of (Some x)) (held : IsHeld parts xs broken s) where
   abbrev new : Guest
   new = with_intent x i
 
   stood : (h : ℕ) (y : Guest) → slice_get (slice_set xs i.guest new) h ≡ Some y → (z : Guest) × (slice_get xs h ≡ Some z) × (region_of y ≡ region_of z)
   stood h y here = ⊎_elim
-      (λ e. (x, subst (λ (v : ℕ). slice_get xs v ≡ Some x) (sym e.0) at, ap region_of e.1))
+      (λ e. (x, subst (λ (v : ℕ). slice_get xs v ≡ Some x) (sym e.0) at, ap region_of e.1 ∙ given_region x i x.slot))
       (λ e. (y, e.1, refl))
       (set_cases xs i.guest h new y here)
 
   row_given : (h : ℕ) (y : Guest) → slice_get (slice_set xs i.guest new) h ≡ Some y → (c : Content) → MayLeave s c → guest_row (parts h) y c
   row_given h y here c left = ⊎_elim
       (λ e. subst (λ (v : Guest). guest_row (parts h) v c) (sym e.1) (subst (λ (v : ℕ). guest_row (parts v) new c) (sym e.0)
-      (given_row (parts i.guest) x i c empty fits next (held.rows i.guest x at c left))))
+      (given_row (parts i.guest) x i c room fits next (held.rows i.guest x at c left))))
       (λ e. held.rows h y e.1 c left)
       (set_cases xs i.guest h new y here)
 
   seen_given : broken ≡ false → (h : ℕ) (y : Guest) → slice_get (slice_set xs i.guest new) h ≡ Some y → guest_seen (parts h) y s.seen
   seen_given whole h y here = ⊎_elim
-      (λ e. subst (λ (v : Guest). guest_seen (parts h) v s.seen) (sym e.1) tt)
+      (λ e. subst (λ (v : Guest). guest_seen (parts h) v s.seen) (sym e.1) (subst (λ (v : ℕ). guest_seen (parts v) new s.seen) (sym e.0)
+      (given_seen (parts i.guest) x i s.seen room fits (held.rows i.guest x at s.seen (seen_left s)) (held.seen_rows whole i.guest x at))))
       (λ e. held.seen_rows whole h y e.1)
       (set_cases xs i.guest h new y here)
 
@@ -80,6 +173,11 @@ module _ (xs v : List Guest) (i : Intent) (k : ℕ) (x y : Guest) (same : xs ≡
   unfolding is_free
   here = (let below = below_of v i.guest (slice_get v i.guest) refl free in found v xs i.guest k x same at (let l = ap length same in omega (arith, below, at, l)) is)
 
+  -- the guests with it given
+  pub given_there : slice_set xs k y ≡ given v i
+  unfolding given
+  given_there = ap (λ (l : List Guest). slice_set l k y) same ∙ ap (λ (n : ℕ). slice_set v n y) at ∙ ap (slice_set v i.guest) moved ∙ sym (ap (given_of v i) here)
+
   its_own : (z : Guest) → slice_get v i.guest ≡ Some z → slice_get (slice_set v i.guest (with_intent x i)) i.guest ≡ Some (with_intent z i)
   its_own z is_z = (let e : x ≡ z = (let h = here in cc) in get_set_same v i.guest z (with_intent x i) is_z ∙ ap (λ (w : Guest). Some (with_intent w i)) e)
 
@@ -90,25 +188,27 @@ module _ (xs v : List Guest) (i : Intent) (k : ℕ) (x y : Guest) (same : xs ≡
     count = length-set v i.guest (with_intent x i);
     its_own = its_own;
     others = λ g other. get_set_other v i.guest g (with_intent x i) other;
-    marks = map_set mark_of v i.guest x (with_intent x i) here refl;
+    marks = map_set mark_of v i.guest x (with_intent x i) here (given_mark x i x.slot);
   })))
 
   -- A guest whose slot is empty is given an intent.
   pub gives : (parts : ℕ → Part) (broken : Bool) (s : DiskState) → Fits v i → i.group.first + 1 ≡ next_sequence v i.guest → IsHeld parts v broken s → IsHeld parts (slice_set xs k y) broken s
   unfolding is_free next_sequence
   gives parts broken s fits next held =
-      let empty = empty_is x.slot (sym (ap is_free_of here) ∙ free) in
+      let room = sym (ap is_free_of here) ∙ free in
       let good = subst (λ (o : Option Guest). FitsOf o i) here fits in
-      let all = held_given parts v broken s i x here empty good (next ∙ ap next_of here) held in
+      let all = held_given parts v broken s i x here room good (next ∙ ap next_of here) held in
       subst (λ (n : ℕ). IsHeld parts (slice_set xs n y) broken s) (sym at)
       (subst (λ (l : List Guest). IsHeld parts (slice_set l i.guest y) broken s) (sym same) (subst (λ (w : Guest). IsHeld parts (slice_set v i.guest w) broken s) (sym moved) all))
 
   -- it fits there
   pub still_fits : (len : ℕ) → AllFit len v → Fits v i → AllFit len (slice_set xs k y)
+  unfolding is_free
   still_fits len all fits =
       let good = subst (λ (o : Option Guest). FitsOf o i) here fits in
       let old = all.each i.guest x here in
-      let mine : GuestFits len i.guest (with_intent x i) = record { behind = old.behind; room = old.room; slot_fits = good.inside; own = refl; mark = old.mark } in
+      let room = sym (ap is_free_of here) ∙ free in
+      let mine = given_fits len x i x.slot x.behind room good.inside old in
       let whole : AllFit len (slice_set v i.guest (with_intent x i)) = record {
         each = λ g z there. ⊎_elim
             (λ e. subst (λ (w : Guest). GuestFits len g w) (sym e.1) (subst (λ (n : ℕ). GuestFits len n (with_intent x i)) (sym e.0) mine))

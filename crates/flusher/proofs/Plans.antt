@@ -1,6 +1,6 @@
 -- Which call comes next, and what it makes of the guests and of the header.
-use Rattle.std.proofs.Common.{◌≡◌, ◌↔◌, ◌≤◌, inl, inr, ⊎_elim, Bool, true, false, not, Option, Some, None, Result, Ok, ℕ, List, [], ◌∷◌, length, map, length-set, get_or, refl, ap, sym, ◌∙◌, subst, arith}
-use Rattle.std.specs.Prelude.{slice_get, slice_set, position, if◌then◌else◌}
+use Rattle.std.proofs.Common.{◌≡◌, ◌↔◌, ◌≤◌, inl, inr, ⊎_elim, Bool, true, false, not, Option, Some, None, Result, Ok, Err, rules, ℕ, List, [], ◌∷◌, length, map, length-set, get_or, refl, ap, sym, ◌∙◌, subst, arith}
+use Rattle.std.specs.Prelude.{slice_get, slice_set, position, if◌then◌else◌, ◌||◌, ◌&&◌}
 use Rattle.std.specs.List.{list_any, position_or_len}
 use Rattle.std.proofs.lemmas.List.{length-map}
 use Rattle.std.proofs.lemmas.Grind.{common_steps}
@@ -11,29 +11,77 @@ use Rattle.std.proofs.lemmas.Option.{slice_get-get_or, slice_get_within, get_or_
 use Rattle.disk.specs.Disk.{DiskState, DiskCall, Read, Write, Sync, Effect, during, Within, Still, Then}
 use Rattle.flusher.specs.declared.guest.Guest.{Guest}
 use Rattle.flusher.specs.declared.slot.Slot.{Slot}
+use Rattle.flusher.specs.declared.guest.Turn.{Turn}
+use Rattle.flusher.specs.declared.guest.Turn.TheVariants.{First, Second, Neither}
+use Rattle.intent_slots.specs.Layout.{other_side}
 use Rattle.flusher.specs.declared.plan.Plan.{Plan}
 use Rattle.flusher.specs.declared.plan.Plan.TheVariants.{WriteOf, SyncAll, Nothing}
+use Rattle.flusher.specs.declared.progress.Made.{Made}
+use Rattle.flusher.specs.declared.progress.Made.TheVariants as made
 use Rattle.flusher.specs.declared.progress.Progress.{Progress}
 use Rattle.flusher.specs.declared.progress.Progress.TheVariants.{Wrote, Synced, Idle}
 use Rattle.flusher.specs.declared.progress.StoreFault.{StoreFault}
-use Rattle.flusher.specs.Slot.{is_empty, slot_write, slot_writes, slot_awaits, region_of, side_of, guest_write, guest_has_write, guest_awaits, guest_after_write, guest_after_sync}
+use Rattle.flusher.specs.Phase.{has_write}
+use Rattle.flusher.specs.Slot.{is_empty, slot_write, slot_writes, slot_awaits}
+use Rattle.flusher.specs.Pair.{behind_writes, turn_by, turn_of, has_turn, write_in, region_of, side_of, side_behind, guest_write, guest_has_write, guest_awaits, guest_after_write, guest_after_sync}
 use Rattle.flusher.specs.Marks.{marks_of}
-use Rattle.flusher.specs.Round.{plan_at, planned, AllEmpty, Ends, Round, settles, MovedBy, Moves, FrontStays}
+use Rattle.flusher.specs.Round.{plan_at, planned, with_marks, AllEmpty, Ends, Round, settles, MovedBy, Moves, FrontStays}
 use Rattle.flusher.specs.Store.{AllFit}
 use Rattle.flusher.proofs.Guests.{set_cases, map_cases}
 use Rattle.flusher.proofs.Held.{not_in}
-use Rattle.flusher.proofs.Table.{first_side}
+use Rattle.flusher.proofs.Turns.{side_ok}
 use Rattle.flusher.proofs.Writes.{write_fits, within}
 
 -- 1. No call
 
+-- a slot is empty where it neither writes nor waits
 empty_of : (slot : Option Slot) → slot_writes slot ≡ false → slot_awaits slot ≡ false → is_empty slot ≡ true
 empty_of None w a = refl
 empty_of (Some s) w a = absurd (let n = ap not w in cc)
 
-quiet : (slot : Option Slot) → is_empty slot ≡ true → (slot_writes slot ≡ false) × (slot_awaits slot ≡ false)
-quiet None is = (refl, refl)
-quiet (Some s) is = absurd (cc)
+quiet_slot : (slot : Option Slot) → is_empty slot ≡ true → (slot_writes slot ≡ false) × (slot_awaits slot ≡ false)
+quiet_slot None is = (refl, refl)
+quiet_slot (Some s) is = absurd (cc)
+
+no_turn : (a b : Bool) → has_turn (turn_by a b) ≡ false → (a ≡ false) × (b ≡ false)
+no_turn true b is = absurd (cc)
+no_turn false true is = absurd (cc)
+no_turn false false is = (refl, refl)
+
+neither : (a b : Bool) → (a || b) ≡ false → (a ≡ false) × (b ≡ false)
+neither true b is = absurd (cc)
+neither false true is = absurd (cc)
+neither false false is = (refl, refl)
+
+-- behind a slot that is empty nothing waits for a turn
+behind_empty : (first behind : Option Slot) → is_empty first ≡ true → behind_writes first behind ≡ false → slot_awaits behind ≡ false → is_empty behind ≡ true
+behind_empty first None is w a = refl
+behind_empty None (Some s) is w a = absurd (by (has_write s.phase) w a)
+  where
+    by : (b : Bool) → (b && true) ≡ false → not b ≡ false → ⊥
+    by true w a = absurd (cc)
+    by false w a = absurd (cc)
+behind_empty (Some f) (Some s) is w a = absurd (cc)
+
+empty_guest : (x : Guest) → guest_has_write x ≡ false → guest_awaits x ≡ false → (is_empty x.slot ≡ true) × (is_empty x.behind ≡ true)
+empty_guest x w a =
+    let turns = no_turn (slot_writes x.slot) (behind_writes x.slot x.behind) w in
+    let waits = neither (slot_awaits x.slot) (slot_awaits x.behind) a in
+    let first = empty_of x.slot turns.0 waits.0 in
+    (first, behind_empty x.slot x.behind first turns.1 waits.1)
+
+none_behind : (first behind : Option Slot) → is_empty behind ≡ true → behind_writes first behind ≡ false
+none_behind first None is = refl
+none_behind first (Some s) is = absurd (cc)
+
+quiet : (x : Guest) → (is_empty x.slot ≡ true) × (is_empty x.behind ≡ true) → (guest_has_write x ≡ false) × (guest_awaits x ≡ false)
+quiet x is =
+    let one = quiet_slot x.slot is.0 in
+    let two = quiet_slot x.behind is.1 in
+    let behind = none_behind x.slot x.behind is.1 in (
+      ap (λ (b : Bool). has_turn (turn_by b (behind_writes x.slot x.behind))) one.0 ∙ ap (λ (b : Bool). has_turn (turn_by false b)) behind,
+      ap (λ (b : Bool). b || slot_awaits x.behind) one.1 ∙ two.1,
+    )
 
 no_write : (xs : List Guest) → position guest_has_write xs ≡ None → (g : ℕ) (x : Guest) → slice_get xs g ≡ Some x → guest_has_write x ≡ false
 no_write xs none g x at =
@@ -62,14 +110,14 @@ none_writes (y ∷ ys) all = of (position guest_has_write (y ∷ ys)) refl
     of (Some g) is = absurd (
         let first = position-Some guest_has_write (y ∷ ys) g y is in
         let x = get_or (y ∷ ys) g y in
-        let none = (quiet x.slot (all g x (slice_get-get_or (y ∷ ys) g y first.0))).0 in
+        let none = (quiet x (all g x (slice_get-get_or (y ∷ ys) g y first.0))).0 in
         cc (first.1, none))
 
 pub nothing_where_empty : (xs : List Guest) → planned xs ≡ Nothing ↔ AllEmpty xs
 nothing_where_empty xs = (
-  λ is g x at. (let none = plan_nothing _ _ is in empty_of x.slot (no_write xs none.0 g x at) (no_wait xs none.1 g x at)),
+  λ is g x at. (let none = plan_nothing _ _ is in empty_guest x (no_write xs none.0 g x at) (no_wait xs none.1 g x at)),
   λ all. (
-      let waits = list_any_none guest_awaits xs (λ k d lt. (quiet (get_or xs k d).slot (all k (get_or xs k d) (slice_get-get_or xs k d lt))).1) in
+      let waits = list_any_none guest_awaits xs (λ k d lt. (quiet (get_or xs k d) (all k (get_or xs k d) (slice_get-get_or xs k d lt))).1) in
       ap (λ (o : Option ℕ). plan_at o (list_any guest_awaits xs)) (none_writes xs all) ∙ ap (λ (b : Bool). plan_at None b) waits),
 )
 
@@ -143,6 +191,13 @@ module _ {D : Type 0} (makes : D → DiskCall → D → Type 0) (od : D) (old : 
   pub round_idle : Round makes (planned old) od old result nd new broken → result ≡ Ok Idle ↔ AllEmpty old
   round_idle r = (let one = idle_plan (planned old) r in let two = nothing_where_empty old in ((λ is. two.0 (one.0 is)), λ all. one.1 (two.1 all)))
 
+-- what was told is what was made
+pub made_idle : (guests : List Guest) (r : Result Made StoreFault) → with_marks guests r ≡ Ok Idle → r ≡ Ok made.Idle
+made_idle guests (Ok made.Idle) is = refl
+made_idle guests (Ok made.Wrote) is = search rules
+made_idle guests (Ok made.Synced) is = search rules
+made_idle guests (Err e) is = search rules
+
 -- 3. The header
 
 pub at_start : (s : DiskState) → FrontStays s s
@@ -154,11 +209,19 @@ module _ {D : Type 0} (state : D → DiskState) (makes : D → DiskCall → D �
   AtFront = FrontStays (state od)
 
   -- a guest's write goes behind the header
-  goes_behind : (g : ℕ) (x : Guest) (at : ℕ) (bytes : List ℕ) → slice_get old g ≡ Some x → guest_write x ≡ Some (at, bytes) → 1024 ≤ at
-  goes_behind g x at bytes is next =
+  behind_in : (t : Turn) (g : ℕ) (x : Guest) (at : ℕ) (bytes : List ℕ) → slice_get old g ≡ Some x → write_in t x ≡ Some (at, bytes) → 1024 ≤ at
+  behind_in First g x at bytes is next =
       let f = fits.each g x is in
-      let from = (within (region_of x) (side_of x) (first_side (region_of x)) (slot_write x.slot) (at, bytes) (write_fits (region_of x) (side_of x) x.slot (at, bytes) f.slot_fits next) next).0 in
+      let from = (within (region_of x) (side_of x) (side_ok (region_of x) x.side) (slot_write x.slot) (at, bytes) (write_fits (region_of x) (side_of x) x.slot (at, bytes) f.slot_fits next) next).0 in
       omega (arith, from, f.behind)
+  behind_in Second g x at bytes is next =
+      let f = fits.each g x is in
+      let from = (within (region_of x) (side_behind x) (side_ok (region_of x) (other_side x.side)) (slot_write x.behind) (at, bytes) (write_fits (region_of x) (side_behind x) x.behind (at, bytes) f.behind_fits next) next).0 in
+      omega (arith, from, f.behind)
+  behind_in Neither g x at bytes is next = absurd (cc)
+
+  goes_behind : (g : ℕ) (x : Guest) (at : ℕ) (bytes : List ℕ) → slice_get old g ≡ Some x → guest_write x ≡ Some (at, bytes) → 1024 ≤ at
+  goes_behind g x at bytes is next = behind_in (turn_of x) g x at bytes is next
 
   in_write : (at : ℕ) (bytes : List ℕ) (ok : Bool) → 1024 ≤ at → AtFront (during (state od) (Write at bytes ok))
   in_write at bytes ok le k lt = (refl, λ un. not_in at (length bytes) k ((state od).unsynced k) (inl (omega (arith, le, lt))) un)

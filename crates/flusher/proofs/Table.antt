@@ -1,139 +1,334 @@
 -- The rows of one guest, as a round asks for them.
-use Rattle.std.proofs.Common.{◌≡◌, Bool, inl, inr, Option, Some, None, ℕ, ◌+◌, ◌≤◌, List, length, refl, ap, arith}
-use Rattle.std.specs.Prelude.{slice_get, if◌then◌else◌}
+use Rattle.std.proofs.Common.{◌≡◌, inl, inr, Bool, true, false, Option, Some, None, ℕ, ◌+◌, ◌≤◌, List, length, refl, ap, sym, ◌∙◌, subst, arith}
+use Rattle.std.specs.Prelude.{if◌then◌else◌, ◌==◌}
 use Rattle.disk.specs.Content.{Content}
-use Rattle.intent_slots.specs.Layout.{Region, slot_region, IsSlotRegion, end_of}
+use Rattle.intent_slots.specs.declared.layout.Side.{Side}
 use Rattle.intent_slots.specs.declared.layout.Side.TheVariants.{A}
-use Rattle.intent_slots.specs.Payload.{Entry, Group, Intent, last_of}
+use Rattle.intent_slots.specs.Layout.{Region, slot_region, other_side, end_of}
+use Rattle.intent_slots.specs.Payload.{Group, Intent, last_of}
+use Rattle.intent_slots.specs.Recovered.{Part, StandsFor, StandsIn, is_paired}
 use Rattle.intent_slots.proofs.Bytes.{SameOn}
 use Rattle.flusher.specs.declared.phase.Phase.{Phase}
 use Rattle.flusher.specs.declared.phase.Phase.TheVariants.{Given, Written, Ready, Opening, Open, Applying, Applied, Closing}
 use Rattle.flusher.specs.declared.slot.Slot.{Slot}
 use Rattle.flusher.specs.declared.guest.Guest.{Guest}
-use Rattle.intent_slots.specs.Recovered.{Part, after}
-use Rattle.flusher.specs.Phase.{open_after, written, synced, is_opening, is_settled}
-use Rattle.flusher.specs.Slot.{slot_write, in_phase, region_of, side_of, pending_of, settled_after, after_sync, guest_write, guest_after_write, guest_after_sync, after_write}
-use Rattle.flusher.specs.SlotInvariant.{guest_row, guest_seen, guest_settled, BeforeOrAfter, MayStand, Follows, IsMarked, IsKept, sequence_of_part, settled}
-use Rattle.flusher.proofs.Rows.{row_frame, seen_frame, IsWritten, own_write, own_seen, synced_row, synced_seen, row_stands}
+use Rattle.flusher.specs.declared.guest.Turn.{Turn}
+use Rattle.flusher.specs.declared.guest.Turn.TheVariants.{First, Second, Neither}
+use Rattle.flusher.specs.Phase.{is_opening, is_settled}
+use Rattle.flusher.specs.Slot.{slot_write, slot_writes, intent_of, pending_of, opening_in, after_write, after_sync}
+use Rattle.flusher.specs.Pair.{region_of, side_of, side_behind, entries_in, opening_of, or_else, behind_writes, turn_of, write_in, moved_in, guest_write, guest_after_write, guest_after_sync, in_order, marked}
+use Rattle.flusher.specs.SlotInvariant.{PhaseRow, Row, guest_row, guest_seen, guest_settled, PairRow, PairSeen, Behind, LeadsTo, LeadsBy, PhaseBesides, Besides, Chained, BeforeOrAfter, Follows, IsOrdered, IsMarked, IsOfVersion, IsKept, sequence_of_part}
+use Rattle.flusher.specs.Store.{IntentFits}
+use Rattle.flusher.proofs.Rows.{row_frame, seen_frame, Keeps, IsWritten, own_write, own_seen, row_stands}
 use Rattle.flusher.proofs.Writes.{SameOutside, WriteFits, row_fits, write_fits, within, keeps, puts}
+use Rattle.flusher.proofs.Pairs.{behind_row_fits, spares, spares_frame, behind_beside, behind_seen_beside, one_stands, both_move, both_settled}
+use Rattle.flusher.proofs.Turns.{side_ok, turn_behind, pending_written, intent_written, leads_written, first_writes_besides, behind_writes_besides, behind_keeps_first, behind_keeps_first_seen, behind_goes_on, behind_goes_on_seen, may_first, may_behind}
+use Rattle.flusher.proofs.Syncs.{or_none, from_row, sync_goes}
 
-same_above : (p q : Part) (n : ℕ) → n ≡ sequence_of_part p → q ≡ p → n ≤ sequence_of_part q
-same_above p q n is same = (let e = ap sequence_of_part same in omega (arith, is, e))
+-- 1. The write that comes next
 
-pub first_side : (region : Region) → IsSlotRegion region (slot_region region A)
-first_side region = record { behind_home = omega arith; gate_first = omega arith; before_blocks = omega arith }
+behind_fits : (region : Region) (side : Side) (slot : Option Slot) (pair : Bool) (c : Content) → Behind pair region (slot_region region side) slot c → IntentFits region.size (intent_of slot)
+behind_fits region side None pair c b = tt
+behind_fits region side (Some s) pair c b = behind_row_fits region (slot_region region side) s.phase s.intent.group c (from_row pair region (slot_region region side) s c b)
 
-next_fits : (p : Part) (x : Guest) (c : Content) (at : ℕ) (bytes : List ℕ) → guest_row p x c → guest_write x ≡ Some (at, bytes) → WriteFits (region_of x) (slot_write x.slot)
-next_fits p x c at bytes r next = write_fits (region_of x) (side_of x) x.slot (at, bytes) (row_fits (region_of x) (side_of x) p x.slot c r.0) next
+module _ (x : Guest) (at : ℕ) (bytes : List ℕ) where
+  abbrev region : Region
+  region = region_of x
 
-pub t_range : (p : Part) (x : Guest) (c : Content) (at : ℕ) (bytes : List ℕ) → guest_row p x c → guest_write x ≡ Some (at, bytes) → ((region_of x).base ≤ at) × (at + length bytes ≤ end_of (region_of x))
-t_range p x c at bytes r next = within (region_of x) (side_of x) (first_side (region_of x)) (slot_write x.slot) (at, bytes) (next_fits p x c at bytes r next) next
+  first_write_fits : (between : Part) (c : Content) → Row region (side_of x) between x.slot c → write_in First x ≡ Some (at, bytes) → WriteFits region (slot_write x.slot)
+  first_write_fits between c row next = write_fits region (side_of x) x.slot (at, bytes) (row_fits region (side_of x) between x.slot c row) next
+
+  second_write_fits : (c : Content) → Behind x.paired region (side_behind x) x.behind c → write_in Second x ≡ Some (at, bytes) → WriteFits region (slot_write x.behind)
+  second_write_fits c b next = write_fits region (side_behind x) x.behind (at, bytes) (behind_fits region (other_side x.side) x.behind x.paired c b) next
+
+  range_in : (t : Turn) (p : Part) (c : Content) → PairRow p x c → write_in t x ≡ Some (at, bytes) → (region.base ≤ at) × (at + length bytes ≤ end_of region)
+  range_in First p c r next = within region (side_of x) (side_ok region x.side) (slot_write x.slot) (at, bytes) (first_write_fits r.between c r.row next) next
+  range_in Second p c r next = within region (side_behind x) (side_ok region (other_side x.side)) (slot_write x.behind) (at, bytes) (second_write_fits c r.behind next) next
+  range_in Neither p c r next = absurd (cc)
+
+pub t_range : (p : Part) (x : Guest) (c : Content) (at : ℕ) (bytes : List ℕ) → guest_row p x c → guest_write x ≡ Some (at, bytes) → ((region_of x).base ≤ at) × (at + length bytes ≤ end_of (region_of x)) × (1024 ≤ at)
+t_range p x c at bytes r next = (let in_it = range_in x at bytes (turn_of x) p c r.0 next in let far = r.2.behind in (in_it.0, in_it.1, omega (arith, in_it.0, far)))
+
+pub same_version : (x : Guest) (c d : Content) → c 512 ≡ d 512 → IsOfVersion x c → IsOfVersion x d
+unfolding is_paired
+same_version x c d same v = record { behind = v.behind; version = v.version ∙ ap (λ (n : ℕ). n == 2) same }
+
+moved_version : (t : Turn) (x : Guest) (c : Content) → IsOfVersion x c → IsOfVersion (moved_in t x) c
+moved_version First x c v = record { behind = v.behind; version = v.version }
+moved_version Second x c v = record { behind = v.behind; version = v.version }
+moved_version Neither x c v = v
+
+-- 2. Marks
 
 -- a write settles nothing
-open_follows : (n : ℕ) (i : Intent) (k : ℕ) (o : Option Entry) → Follows n (if is_settled (open_after k o) then None else Some i)
-open_follows n i k None = tt
-open_follows n i k (Some e) = tt
+first_marks : (p : Part) (x : Guest) → IsMarked p x → IsMarked p (moved_in First x)
+first_marks p x m = record {
+  mark = m.mark;
+  follows = subst (Follows x.mark) (sym (pending_written x.slot)) m.follows;
+  next_follows = subst (λ (o : Option Intent). Follows (x.mark + length (entries_in o)) (pending_of x.behind)) (sym (pending_written x.slot)) m.next_follows;
+  ordered = record {
+    chained = subst (λ (o : Option Intent). Chained o (intent_of x.behind)) (sym (intent_written x.slot)) m.ordered.chained;
+    besides = first_writes_besides x.slot x.behind m.ordered.besides;
+    single = λ un. record { alone = (m.ordered.single un).alone; side = (m.ordered.single un).side };
+  };
+}
 
-phase_follows : (n : ℕ) (phase : Phase) (i : Intent) → Follows n (if is_settled phase then None else Some i) → Follows n (if is_settled (written phase i.group) then None else Some i)
-phase_follows n Given i f = f
-phase_follows n Written i f = f
-phase_follows n Ready i f = f
-phase_follows n Opening i f = f
-phase_follows n (Open k) i f = open_follows n i k (slice_get i.group.entries k)
-phase_follows n Applying i f = f
-phase_follows n Applied i f = f
-phase_follows n Closing i f = f
+second_marks : (p : Part) (x : Guest) → behind_writes x.slot x.behind ≡ true → IsMarked p x → IsMarked p (moved_in Second x)
+second_marks p x w m = record {
+  mark = m.mark;
+  follows = m.follows;
+  next_follows = subst (Follows (x.mark + length (entries_in (pending_of x.slot)))) (sym (pending_written x.behind)) m.next_follows;
+  ordered = record {
+    chained = subst (Chained (intent_of x.slot)) (sym (intent_written x.behind)) m.ordered.chained;
+    besides = behind_writes_besides x.slot x.behind m.ordered.besides w;
+    single = λ un. record { alone = ap after_write (m.ordered.single un).alone; side = (m.ordered.single un).side };
+  };
+}
 
-written_follows : (n : ℕ) (slot : Option Slot) → Follows n (pending_of slot) → Follows n (pending_of (after_write slot))
-written_follows n None f = f
-written_follows n (Some s) f = phase_follows n s.phase s.intent f
+-- 3. A write
 
-written_mark : (p : Part) (x : Guest) → IsMarked p x → IsMarked p (guest_after_write x)
-written_mark p x m = record { mark = m.mark; follows = written_follows x.mark x.slot m.follows }
+module _ (x : Guest) (at : ℕ) (bytes : List ℕ) (c d : Content) (out : SameOutside c d at bytes) where
+  abbrev area : Region
+  area = region_of x
 
-abbrev Marked : Part → Bool → Intent → ℕ → Option Phase → Type 0
-Marked p opening i n phase = ((if opening then last_of i.group + 1 else n) ≡ sequence_of_part (if opening then after p i.group else p))
-    × Follows (if opening then last_of i.group + 1 else n) (pending_of (in_phase i phase))
+  first_keeps : (between : Part) → Row area (side_of x) between x.slot c → write_in First x ≡ Some (at, bytes) → Keeps area (side_of x) (slot_write x.slot) c d
+  first_keeps between row next = keeps area (side_of x) (side_ok area x.side) (slot_write x.slot) at bytes c d (first_write_fits x at bytes between c row next) next out
 
--- a sync settles the intent in Opening, and no other
-phase_mark : (p : Part) (n : ℕ) (phase : Phase) (i : Intent) → n ≡ sequence_of_part p → Follows n (if is_settled phase then None else Some i) → Marked p (is_opening phase) i n (synced phase i.group)
-phase_mark p n Given i is f = (is, f)
-phase_mark p n Written i is f = (is, f)
-phase_mark p n Ready i is f = (is, f)
-phase_mark p n Opening i is f = (refl, tt)
-phase_mark p n (Open k) i is f = (is, f)
-phase_mark p n Applying i is f = (is, f)
-phase_mark p n Applied i is f = (is, f)
-phase_mark p n Closing i is f = (is, f)
+  second_keeps : Behind x.paired area (side_behind x) x.behind c → write_in Second x ≡ Some (at, bytes) → Keeps area (side_behind x) (slot_write x.behind) c d
+  second_keeps b next = keeps area (side_behind x) (side_ok area (other_side x.side)) (slot_write x.behind) at bytes c d (second_write_fits x at bytes c b next) next out
 
-synced_mark : (p : Part) (n : ℕ) (slot : Option Slot) → n ≡ sequence_of_part p → Follows n (pending_of slot)
-    → (settled_after slot n ≡ sequence_of_part (settled slot p)) × Follows (settled_after slot n) (pending_of (after_sync slot))
-synced_mark p n None is f = (is, f)
-synced_mark p n (Some s) is f = phase_mark p n s.phase s.intent is f
+  version_stays : 1024 ≤ at → IsOfVersion x c → IsOfVersion x d
+  version_stays far v = same_version x c d (sym (out 512 (inl (omega (arith, far))))) v
+
+  write_in_turn : (t : Turn) → turn_of x ≡ t → (p : Part) → write_in t x ≡ Some (at, bytes) → PairRow p x c × IsMarked p x → PairRow p (moved_in t x) d × IsMarked p (moved_in t x)
+  write_in_turn First is p next r =
+      let keep = first_keeps r.0.between r.0.row next in (
+        record {
+          between = r.0.between;
+          leads = r.0.leads;
+          row = own_write area (side_of x) (side_ok area x.side) r.0.between c d x.slot keep r.0.row;
+          behind = behind_beside area c d (side_behind x) (spares area c d x.side (slot_write x.slot) keep) x.paired x.behind r.0.behind;
+        },
+        first_marks p x r.1,
+      )
+  write_in_turn Second is p next r =
+      let keep = second_keeps r.0.behind next in
+      let w = turn_behind (slot_writes x.slot) (behind_writes x.slot x.behind) is in
+      let b = r.1.ordered.besides in (
+        record {
+          between = r.0.between;
+          leads = leads_written r.0.between x.behind p r.0.leads;
+          row = behind_keeps_first x.paired area x.side r.0.between c d x.slot x.behind b w keep r.0.row;
+          behind = behind_goes_on x.paired area x.side r.0.between c d x.slot x.behind b w keep r.0.behind;
+        },
+        second_marks p x w r.1,
+      )
+  write_in_turn Neither is p next r = absurd (cc)
+
+  module _ (put : IsWritten d at bytes) where
+    seen_in_turn : (t : Turn) → turn_of x ≡ t → (p : Part) → write_in t x ≡ Some (at, bytes) → IsMarked p x → PairSeen p x c → PairSeen p (moved_in t x) d
+    seen_in_turn First is p next m s =
+        let keep = first_keeps s.between s.row next in
+        let spare = spares area c d x.side (slot_write x.slot) keep in
+        record {
+          between = s.between;
+          leads = s.leads;
+          row = own_write area (side_of x) (side_ok area x.side) s.between c d x.slot keep s.row;
+          seen = own_seen area (side_of x) (side_ok area x.side) s.between c d x.slot keep
+              (puts area (side_of x) (side_ok area x.side) (slot_write x.slot) at bytes d (first_write_fits x at bytes s.between c s.row next) next put) s.row s.seen;
+          behind = behind_beside area c d (side_behind x) spare x.paired x.behind s.behind;
+          behind_seen = behind_seen_beside area c d (side_behind x) spare x.behind s.behind_seen;
+        }
+    seen_in_turn Second is p next m s =
+        let keep = second_keeps s.behind next in
+        let w = turn_behind (slot_writes x.slot) (behind_writes x.slot x.behind) is in
+        let b = m.ordered.besides in
+        record {
+          between = s.between;
+          leads = leads_written s.between x.behind p s.leads;
+          row = behind_keeps_first x.paired area x.side s.between c d x.slot x.behind b w keep s.row;
+          seen = behind_keeps_first_seen x.paired area x.side s.between c d x.slot x.behind b w keep s.seen;
+          behind = behind_goes_on x.paired area x.side s.between c d x.slot x.behind b w keep s.behind;
+          behind_seen = behind_goes_on_seen x.paired area x.side s.between c d x.slot x.behind b w
+              (puts area (side_behind x) (side_ok area (other_side x.side)) (slot_write x.behind) at bytes d (second_write_fits x at bytes c s.behind next) next put);
+        }
+    seen_in_turn Neither is p next m s = absurd (cc)
 
 pub t_write : (p : Part) (x : Guest) (c d : Content) (at : ℕ) (bytes : List ℕ) → guest_write x ≡ Some (at, bytes) → SameOutside c d at bytes → guest_row p x c → guest_row p (guest_after_write x) d
-t_write p x c d at bytes next out r = (
-  own_write (region_of x) (side_of x) (first_side (region_of x)) p c d x.slot (keeps (region_of x) (side_of x) (first_side (region_of x)) (slot_write x.slot) at bytes c d (next_fits p x c at bytes r next) next out) r.0,
-  written_mark p x r.1,
-)
+t_write p x c d at bytes next out r =
+    let far = (t_range p x c at bytes r next).2 in
+    let both = write_in_turn x at bytes c d out (turn_of x) refl p next (r.0, r.1) in
+    (both.0, both.1, moved_version (turn_of x) x d (version_stays x at bytes c d out far r.2))
 
 pub t_seen : (p : Part) (x : Guest) (c d : Content) (at : ℕ) (bytes : List ℕ) → guest_write x ≡ Some (at, bytes) → SameOutside c d at bytes → IsWritten d at bytes → guest_row p x c → guest_seen p x c → guest_seen p (guest_after_write x) d
-t_seen p x c d at bytes next out put r s = (let fits = next_fits p x c at bytes r next in
-    own_seen (region_of x) (side_of x) (first_side (region_of x)) p c d x.slot (keeps (region_of x) (side_of x) (first_side (region_of x)) (slot_write x.slot) at bytes c d fits next out) (puts (region_of x) (side_of x) (first_side (region_of x)) (slot_write x.slot) at bytes d fits next put) r.0 s)
+t_seen p x c d at bytes next out put r s = seen_in_turn x at bytes c d out put (turn_of x) refl p next r.1 s
 
--- neither the partition before the intent nor the one after it is below the mark
-phase_above : (p q : Part) (n : ℕ) (phase : Phase) (i : Intent) → n ≡ sequence_of_part p → Follows n (if is_settled phase then None else Some i) → BeforeOrAfter (is_opening phase) p i.group q → n ≤ sequence_of_part q
-phase_above p q n Given i is f same = same_above p q n is same
-phase_above p q n Written i is f same = same_above p q n is same
-phase_above p q n Ready i is f same = same_above p q n is same
-phase_above p q n Opening i is f (inl same) = same_above p q n is same
-phase_above p q n Opening i is f (inr same) = (let e = ap sequence_of_part same in omega (arith, is, f, e))
-phase_above p q n (Open k) i is f same = same_above p q n is same
-phase_above p q n Applying i is f same = same_above p q n is same
-phase_above p q n Applied i is f same = same_above p q n is same
-phase_above p q n Closing i is f same = same_above p q n is same
+-- 4. What a stop leaves
 
-above : (p q : Part) (n : ℕ) (slot : Option Slot) → n ≡ sequence_of_part p → Follows n (pending_of slot) → MayStand p slot q → n ≤ sequence_of_part q
-above p q n None is f same = same_above p q n is same
-above p q n (Some s) is f may = phase_above p q n s.phase s.intent is f may
+record StandsAny (paired : Bool) (region : Region) (p : Part) (o : Option Group) (c : Content) : Type 0 where
+  part : Part
+  is : StandsIn paired region c part
+  may : BeforeOrAfter p o part
+
+module _ (region : Region) (side : Side) (p between : Part) (c : Content) where
+  may_at : (o : Option Group) (q : Part) → between ≡ p → BeforeOrAfter between o q → BeforeOrAfter p (or_else o None) q
+  may_at o q is m = subst (λ (v : Option Group). BeforeOrAfter p v q) (sym (or_none o)) (subst (λ (v : Part). BeforeOrAfter v o q) is m)
+
+  alone : (paired : Bool) (slot : Option Slot) → Row region (slot_region region side) between slot c → Behind paired region (slot_region region (other_side side)) None c → between ≡ p → (paired ≡ false → side ≡ A)
+      → StandsAny paired region p (or_else (opening_in slot) None) c
+  alone false slot row b is single =
+      let st = row_stands region (slot_region region side) between slot c row in
+      record { part = st.part; is = subst (λ (v : Side). StandsFor region (slot_region region v) c st.part) (single refl) st.is; may = may_at (opening_in slot) st.part is st.may }
+  alone true slot row b is single =
+      let st = row_stands region (slot_region region side) between slot c row in
+      record { part = st.part; is = one_stands region side c st.part b st.is; may = may_at (opening_in slot) st.part is st.may }
+
+  abbrev opening_if : Bool → Group → Option Group
+  opening_if opening i = if opening then Some i else None
+
+  not_single : true ≡ false → side ≡ A
+  not_single un = absurd (cc)
+
+  settled_quiet : (phase : Phase) → is_settled phase ≡ true → is_opening phase ≡ false
+  settled_quiet Given is = absurd (cc)
+  settled_quiet Written is = absurd (cc)
+  settled_quiet Ready is = absurd (cc)
+  settled_quiet Opening is = absurd (cc)
+  settled_quiet (Open k) is = refl
+  settled_quiet Applying is = refl
+  settled_quiet Applied is = refl
+  settled_quiet Closing is = refl
+
+  both : (f : Slot) (phase : Phase) (j : Intent) → Row region (slot_region region side) between (Some f) c → Behind true region (slot_region region (other_side side)) (Some (record { phase = phase; intent = j })) c
+      → LeadsBy (is_settled phase) between j.group p → Chained (Some f.intent) (Some j) → PhaseBesides f.phase phase
+      → StandsAny true region p (or_else (opening_in (Some f)) (opening_if (is_opening phase) j.group)) c
+  both f Given j row b l ch pb = alone true (Some f) row b.0 l not_single
+  both f Written j row b l ch pb = alone true (Some f) row b.0 l not_single
+  both f Ready j row b l ch pb = alone true (Some f) row b.0 l not_single
+  both f Opening j row b l ch pb =
+      let here = subst (λ (v : Phase). PhaseRow region (slot_region region side) p v f.intent.group c) pb (subst (λ (v : Part). PhaseRow region (slot_region region side) v f.phase f.intent.group c) l row) in
+      let st = both_move region side c p between f.intent.group j.group ch.0 ch.1 here b in
+      record { part = st.0; is = st.1; may = subst (λ (v : Phase). BeforeOrAfter p (or_else (opening_if (is_opening v) f.intent.group) (Some j.group)) st.0) (sym pb) st.2 }
+  both f (Open k) j row b l ch pb =
+      let is = both_settled region side c p between f.intent.group j.group ch.0 ch.1 f.phase pb row b.0 b.1 l in
+      record { part = p; is = is; may = subst (λ (v : Bool). BeforeOrAfter p (or_else (opening_if v f.intent.group) None) p) (sym (settled_quiet f.phase pb)) refl }
+  both f Applying j row b l ch pb = absurd pb
+  both f Applied j row b l ch pb = absurd pb
+  both f Closing j row b l ch pb = absurd pb
+
+  any_stands : (paired : Bool) (slot behind : Option Slot) → Row region (slot_region region side) between slot c → Behind paired region (slot_region region (other_side side)) behind c
+      → LeadsTo between behind p → Chained (intent_of slot) (intent_of behind) → Besides slot behind → (paired ≡ false → (behind ≡ None) × (side ≡ A))
+      → StandsAny paired region p (or_else (opening_in slot) (opening_in behind)) c
+  any_stands paired slot None row b l ch be single = alone paired slot row b l (λ un. (single un).1)
+  any_stands paired None (Some s) row b l ch be single = absurd be
+  any_stands false (Some f) (Some s) row b l ch be single = absurd (let is = (single refl).0 in cc)
+  any_stands true (Some f) (Some s) row b l ch be single = both f s.phase s.intent row b l ch be
+
+pub same_above : (p q : Part) (n : ℕ) → n ≡ sequence_of_part p → q ≡ p → n ≤ sequence_of_part q
+same_above p q n is same = (let e = ap sequence_of_part same in omega (arith, is, e))
+
+-- neither the partition before an intent nor the one after it is below the mark
+phase_above : (m : ℕ) (phase : Phase) (i : Intent) (g : Group) → Follows m (if is_settled phase then None else Some i) → (if is_opening phase then Some i.group else None) ≡ Some g → m ≤ last_of g + 1
+phase_above m Given i g f is = absurd (cc)
+phase_above m Written i g f is = absurd (cc)
+phase_above m Ready i g f is = absurd (cc)
+phase_above m Opening i g f is = (let e : i.group ≡ g = cc in subst (λ (v : Group). m ≤ last_of v + 1) e (omega (arith, f)))
+phase_above m (Open k) i g f is = absurd (cc)
+phase_above m Applying i g f is = absurd (cc)
+phase_above m Applied i g f is = absurd (cc)
+phase_above m Closing i g f is = absurd (cc)
+
+opening_above : (m : ℕ) (slot : Option Slot) (g : Group) → Follows m (pending_of slot) → opening_in slot ≡ Some g → m ≤ last_of g + 1
+opening_above m None g f is = absurd (cc)
+opening_above m (Some s) g f is = phase_above m s.phase s.intent g f is
+
+module _ (p q : Part) (n : ℕ) (slot behind : Option Slot) (is : n ≡ sequence_of_part p) (f : Follows n (pending_of slot)) (g : Follows (n + length (entries_in (pending_of slot))) (pending_of behind)) where
+  above_by : (o u : Option Group) → opening_in slot ≡ o → opening_in behind ≡ u → BeforeOrAfter p (or_else o u) q → n ≤ sequence_of_part q
+  above_by None None at there m = same_above p q n is m
+  above_by (Some i) u at there (inl m) = same_above p q n is m
+  above_by (Some i) u at there (inr m) = (let e = ap sequence_of_part m in let le = opening_above n slot i f at in omega (arith, e, le))
+  above_by None (Some j) at there (inl m) = same_above p q n is m
+  above_by None (Some j) at there (inr m) = (let e = ap sequence_of_part m in let le = opening_above (n + length (entries_in (pending_of slot))) behind j g there in omega (arith, e, le))
+
+  above : BeforeOrAfter p (or_else (opening_in slot) (opening_in behind)) q → n ≤ sequence_of_part q
+  above = above_by (opening_in slot) (opening_in behind) refl refl
 
 pub t_stands : (p : Part) (x : Guest) (c : Content) → guest_row p x c → IsKept p x c
 t_stands p x c r =
-    let st = row_stands (region_of x) (side_of x) p x.slot c r.0 in
-    record { part = st.part; stands = st.is; may = st.may; marked = above p st.part x.mark x.slot r.1.mark r.1.follows st.may }
+    let m = r.1 in
+    let st = any_stands (region_of x) x.side p r.0.between c x.paired x.slot x.behind r.0.row r.0.behind r.0.leads m.ordered.chained m.ordered.besides (λ un. ((m.ordered.single un).alone, (m.ordered.single un).side)) in
+    record { part = st.part; stands = subst (λ (v : Bool). StandsIn v (region_of x) c st.part) r.2.version st.is; may = st.may; marked = above p st.part x.mark x.slot x.behind m.mark m.follows m.next_follows st.may }
 
-open_may : (p q : Part) (i : Group) (k : ℕ) (o : Option Entry) → q ≡ p → BeforeOrAfter (is_opening (open_after k o)) p i q
-open_may p q i k None same = same
-open_may p q i k (Some e) same = same
-
-phase_may : (p q : Part) (phase : Phase) (i : Group) → BeforeOrAfter (is_opening phase) p i q → BeforeOrAfter (is_opening (written phase i)) p i q
-phase_may p q Given i m = m
-phase_may p q Written i m = m
-phase_may p q Ready i m = inl m
-phase_may p q Opening i m = m
-phase_may p q (Open k) i m = open_may p q i k (slice_get i.entries k) m
-phase_may p q Applying i m = m
-phase_may p q Applied i m = m
-phase_may p q Closing i m = m
-
-may_written : (p q : Part) (slot : Option Slot) → MayStand p slot q → MayStand p (after_write slot) q
-may_written p q None m = m
-may_written p q (Some s) m = phase_may p q s.phase s.intent.group m
+-- where no gate opens, the settled partition stands
+pub settled_stands : (p : Part) (x : Guest) (c : Content) → PairRow p x c → IsOrdered x → opening_in x.slot ≡ None → opening_in x.behind ≡ None → StandsIn x.paired (region_of x) c p
+settled_stands p x c r o one two =
+    let st = any_stands (region_of x) x.side p r.between c x.paired x.slot x.behind r.row r.behind r.leads o.chained o.besides (λ un. ((o.single un).alone, (o.single un).side)) in
+    let none : opening_of x ≡ None = ap (λ (v : Option Group). or_else v (opening_in x.behind)) one ∙ two in
+    let same : st.part ≡ p = subst (λ (v : Option Group). BeforeOrAfter p v st.part) none st.may in
+    subst (StandsIn x.paired (region_of x) c) same st.is
 
 -- what stands before a write may stand while it is under way
-pub kept_written : (p : Part) (x : Guest) (c : Content) → IsKept p x c → IsKept p (guest_after_write x) c
-kept_written p x c k = record { part = k.part; stands = k.stands; may = may_written p k.part x.slot k.may; marked = k.marked }
+kept_in_turn : (t : Turn) (p : Part) (x : Guest) (c : Content) → turn_of x ≡ t → Besides x.slot x.behind → IsKept p x c → IsKept p (moved_in t x) c
+kept_in_turn First p x c is b k = record { part = k.part; stands = k.stands; may = may_first p k.part x.slot x.behind b k.may; marked = k.marked }
+kept_in_turn Second p x c is b k = record {
+  part = k.part;
+  stands = k.stands;
+  may = may_behind p k.part x.slot x.behind b (turn_behind (slot_writes x.slot) (behind_writes x.slot x.behind) is) k.may;
+  marked = k.marked;
+}
+kept_in_turn Neither p x c is b k = k
 
-pub t_frame : (p : Part) (x : Guest) (c d : Content) → SameOn (region_of x).base (35328 + (region_of x).size) c d → guest_row p x c → guest_row p x d
-t_frame p x c d same r = (row_frame (region_of x) (side_of x) (first_side (region_of x)) c d same p x.slot r.0, r.1)
+pub t_moved : (p : Part) (x : Guest) (c : Content) → guest_row p x c → IsKept p (guest_after_write x) c
+t_moved p x c r = kept_in_turn (turn_of x) p x c refl r.1.ordered.besides (t_stands p x c r)
+
+-- 5. A call elsewhere, and a sync
+
+pub t_frame : (p : Part) (x : Guest) (c d : Content) → SameOn (region_of x).base (35328 + (region_of x).size) c d → c 512 ≡ d 512 → guest_row p x c → guest_row p x d
+t_frame p x c d same front r = (
+  record {
+    between = r.0.between;
+    leads = r.0.leads;
+    row = row_frame (region_of x) (side_of x) (side_ok (region_of x) x.side) c d same r.0.between x.slot r.0.row;
+    behind = behind_beside (region_of x) c d (side_behind x) (spares_frame (region_of x) (other_side x.side) c d same) x.paired x.behind r.0.behind;
+  },
+  r.1,
+  same_version x c d front r.2,
+)
 
 pub t_seen_frame : (p : Part) (x : Guest) (c d : Content) → SameOn (region_of x).base (35328 + (region_of x).size) c d → guest_seen p x c → guest_seen p x d
-t_seen_frame p x c d same s = seen_frame (region_of x) (side_of x) (first_side (region_of x)) c d same p x.slot s
+t_seen_frame p x c d same s = (let spare = spares_frame (region_of x) (other_side x.side) c d same in record {
+  between = s.between;
+  leads = s.leads;
+  row = row_frame (region_of x) (side_of x) (side_ok (region_of x) x.side) c d same s.between x.slot s.row;
+  seen = seen_frame (region_of x) (side_of x) (side_ok (region_of x) x.side) c d same s.between x.slot s.seen;
+  behind = behind_beside (region_of x) c d (side_behind x) spare x.paired x.behind s.behind;
+  behind_seen = behind_seen_beside (region_of x) c d (side_behind x) spare x.behind s.behind_seen;
+})
+
+ordered_version : (x : Guest) (n : ℕ) (c : Content) (slot behind : Option Slot) → IsOfVersion x c → IsOfVersion (in_order x n slot behind) c
+ordered_version x n c (Some f) behind v = record { behind = v.behind; version = v.version }
+ordered_version x n c None (Some b) v = record { behind = v.behind; version = v.version }
+ordered_version x n c None None v = record { behind = v.behind; version = v.version }
 
 pub t_synced : (p : Part) (x : Guest) (c : Content) → guest_row p x c → guest_seen p x c → guest_row (guest_settled x p) (guest_after_sync x) c
-t_synced p x c r s =
-    let m = synced_mark p x.mark x.slot r.1.mark r.1.follows in
-    (synced_row (region_of x) (side_of x) p x.slot c r.0 s, record { mark = m.0; follows = m.1 })
+t_synced p x c r s = (let both = (sync_goes p x c x.slot x.behind (r.0, r.1) s).0 in (both.0, both.1, ordered_version x (marked x) c (after_sync x.slot) (after_sync x.behind) r.2))
 
 pub t_synced_seen : (p : Part) (x : Guest) (c : Content) → guest_row p x c → guest_seen p x c → guest_seen (guest_settled x p) (guest_after_sync x) c
-t_synced_seen p x c r s = synced_seen (region_of x) (side_of x) p x.slot c r.0 s
+t_synced_seen p x c r s = (sync_goes p x c x.slot x.behind (r.0, r.1) s).1
+
+-- a guest stays where it stands
+moved_region : (t : Turn) (x : Guest) → region_of (moved_in t x) ≡ region_of x
+moved_region First x = refl
+moved_region Second x = refl
+moved_region Neither x = refl
+
+pub region_moved : (x : Guest) → region_of (guest_after_write x) ≡ region_of x
+region_moved x = moved_region (turn_of x) x
+
+ordered_region : (x : Guest) (n : ℕ) (slot behind : Option Slot) → region_of (in_order x n slot behind) ≡ region_of x
+ordered_region x n (Some f) behind = refl
+ordered_region x n None (Some b) = refl
+ordered_region x n None None = refl
+
+pub region_synced : (x : Guest) → region_of (guest_after_sync x) ≡ region_of x
+region_synced x = ordered_region x (marked x) (after_sync x.slot) (after_sync x.behind)

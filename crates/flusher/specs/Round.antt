@@ -14,7 +14,8 @@ use Rattle.flusher.specs.declared.progress.Progress.TheVariants.{Wrote, Synced, 
 use Rattle.flusher.specs.declared.progress.StoreFault.{StoreFault}
 use Rattle.flusher.specs.declared.progress.StoreFault.TheVariants.{DiskFault}
 use Rattle.intent_slots.specs.Recovered.{Part}
-use Rattle.flusher.specs.Slot.{is_empty, guest_write, guest_has_write, guest_awaits, guest_after_write, guest_after_sync}
+use Rattle.flusher.specs.Slot.{is_empty}
+use Rattle.flusher.specs.Pair.{guest_write, guest_has_write, guest_awaits, guest_after_write, guest_after_sync}
 use Rattle.flusher.specs.SlotInvariant.{guest_settled, settled_by}
 use Rattle.flusher.specs.Marks.{marks_of}
 
@@ -31,7 +32,7 @@ planned guests = plan_at (position guest_has_write guests) (list_any guest_await
 
 -- nothing is given, and each slot is empty
 abbrev pub AllEmpty : List Guest → Type 0
-AllEmpty guests = (g : ℕ) (x : Guest) → slice_get guests g ≡ Some x → is_empty x.slot ≡ true
+AllEmpty guests = (g : ℕ) (x : Guest) → slice_get guests g ≡ Some x → (is_empty x.slot ≡ true) × (is_empty x.behind ≡ true)
 
 abbrev pub call_of : Plan → Call
 call_of (WriteOf g) = call.Write

@@ -8,8 +8,9 @@ use Rattle.flusher.specs.declared.progress.Call.{Call}
 use Rattle.flusher.specs.declared.progress.Call.TheVariants as call
 use Rattle.flusher.specs.Round.{planned, call_of}
 use Rattle.flusher.specs.declared.guest.Guest.{Guest}
-use Rattle.flusher.specs.Slot.{is_empty, intent_of, pending_of, region_of, with_intent}
-use Rattle.flusher.specs.SlotInvariant.{IsHeld}
+use Rattle.flusher.specs.Slot.{intent_of, pending_of}
+use Rattle.flusher.specs.Pair.{has_room, entries_in, region_of, with_intent}
+use Rattle.flusher.specs.SlotInvariant.{Besides, IsHeld}
 use Rattle.flusher.specs.Marks.{marks_of}
 
 -- what contracts see of a store
@@ -31,14 +32,17 @@ abbrev pub IsOf : ℕ → Option Intent → Type 0
 IsOf g None = Unit {0}
 IsOf g (Some i) = i.guest ≡ g
 
--- Guest g: its partition lies behind the header on a disk of so many bytes, and its mark is a sequence
--- of a 32-bit counter.
+-- Guest g: its partition lies behind the header on a disk of so many bytes, its mark is a sequence of a
+-- 32-bit counter, and its second slot is as far as the first one lets it be.
 pub record GuestFits (len g : ℕ) (x : Guest) : Type 0 where
   pub behind : 1024 ≤ (region_of x).base
   pub room : end_of (region_of x) ≤ len
   pub slot_fits : IntentFits (region_of x).size (intent_of x.slot)
+  pub behind_fits : IntentFits (region_of x).size (intent_of x.behind)
   pub own : IsOf g (intent_of x.slot)
+  pub behind_own : IsOf g (intent_of x.behind)
   pub mark : x.mark ≤ 2 ^ 32
+  pub besides : Besides x.slot x.behind
 
 pub record AllFit (len : ℕ) (guests : List Guest) : Type 0 where
   pub each : (g : ℕ) (x : Guest) → slice_get guests g ≡ Some x → GuestFits len g x
@@ -71,20 +75,19 @@ pub record IsOpened {D : Type 0} (state : D → DiskState) (makes : D → DiskCa
 
 abbrev pub is_free_of : Option Guest → Bool
 is_free_of None = false
-is_free_of (Some x) = is_empty x.slot
+is_free_of (Some x) = has_room x
 
 -- a guest of the store may be given an intent
 unfoldable pub is_free : List Guest → ℕ → Bool
 is_free guests g = is_free_of (slice_get guests g)
 
 -- how many requests were given that aren't settled yet
-abbrev pub pending : Option Intent → ℕ
-pending None = 0
-pending (Some i) = length i.group.entries
+abbrev pub pending : Guest → ℕ
+pending x = length (entries_in (pending_of x.slot)) + length (entries_in (pending_of x.behind))
 
 abbrev pub next_of : Option Guest → ℕ
 next_of None = 0
-next_of (Some x) = x.mark + pending (pending_of x.slot) + 1
+next_of (Some x) = x.mark + pending x + 1
 
 -- the sequence that comes next: one more than the last that was given, or else settled
 unfoldable pub next_sequence : List Guest → ℕ → ℕ
@@ -99,6 +102,7 @@ HasSameKey (Some j) i = i.group.key ≡ j.group.key
 pub record FitsGuest (x : Guest) (i : Intent) : Type 0 where
   pub inside : GroupFits (region_of x).size i.group
   pub key : HasSameKey (intent_of x.slot) i
+  pub key_behind : HasSameKey (intent_of x.behind) i
 
 abbrev pub FitsOf : Option Guest → Intent → Type 0
 FitsOf None i = ⊥
@@ -116,13 +120,13 @@ given_of guests i (Some x) = slice_set guests i.guest (with_intent x i)
 unfoldable pub given : List Guest → Intent → List Guest
 given guests i = given_of guests i (slice_get guests i.guest)
 
--- an intent may be given: its guest's slot is free, it fits, and its first request comes next
+-- an intent may be given: a slot of its guest is free, it fits, and its first request comes next
 pub record MayGive (guests : List Guest) (i : Intent) : Type 0 where
   pub free : is_free guests i.guest ≡ true
   pub fits : Fits guests i
   pub next : i.group.first + 1 ≡ next_sequence guests i.guest
 
--- What giving an intent makes of the guests: it is in its guest's slot, and nothing else has changed.
+-- What giving an intent makes of the guests: it is in a slot of its guest, and nothing else has changed.
 pub record Gives (i : Intent) (old new : List Guest) : Type 0 where
   pub count : length new ≡ length old
   pub its_own : (x : Guest) → slice_get old i.guest ≡ Some x → slice_get new i.guest ≡ Some (with_intent x i)

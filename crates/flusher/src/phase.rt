@@ -1,5 +1,6 @@
 ghost use Rattle.std.specs.Prelude.{◌≡◌};
-ghost use Rattle.flusher.specs.Phase.{has_write, is_opening, is_settled};
+ghost use Rattle.flusher.specs.Pair.{is_let_beside};
+ghost use Rattle.flusher.specs.Phase.{has_write, is_opening, is_closing, is_settled};
 
 /// How far an intent is on its way to the disk.
 #[derive(Clone, Copy)]
@@ -39,6 +40,24 @@ impl Phase {
         ensures { result ≡ is_opening self }
     {
         matches!(self, Phase::Opening)
+    }
+
+    /// Whether the gate is written shut and not synced.
+    pub(crate) fn is_closing(self) -> bool
+        ensures { result ≡ is_closing self }
+    {
+        matches!(self, Phase::Closing)
+    }
+
+    /// Whether the write of this phase may be made while another slot, of lower sequence, is in that one.
+    pub(crate) fn is_let_beside(self, first: Phase) -> bool
+        ensures { result ≡ is_let_beside first self }
+    {
+        match self {
+            Phase::Given => true,
+            Phase::Ready => first.is_closing(),
+            _ => false,
+        }
     }
 
     /// Whether the gate was known to be open.

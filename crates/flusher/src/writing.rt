@@ -4,11 +4,12 @@ ghost use Rattle.disk.specs.Disk.{Write};
 ghost use Rattle.intent_slots.specs.Payload.{GroupFits};
 ghost use Rattle.intent_slots.specs.Layout.{end_of, slot_region};
 ghost use Rattle.flusher.specs.Phase.{open_write, next_write, has_write};
-ghost use Rattle.flusher.specs.Slot.{spelled, guest_write, guest_has_write, region_of, intent_of};
+ghost use Rattle.flusher.specs.Slot.{spelled, slot_write, slot_writes, intent_of};
+ghost use Rattle.flusher.specs.Pair.{guest_write, guest_has_write, region_of};
 ghost use Rattle.flusher.specs.Round.{WroteSlot, SyncedAll};
 ghost use Rattle.flusher.specs.Store.{AllFit, IntentFits};
 
-use crate::guest::Guest;
+use crate::guest::{Guest, Turn};
 use crate::phase::Phase;
 use crate::plan::sync_all;
 use crate::slot::Slot;
@@ -62,18 +63,44 @@ fn write_slot<D: Disk>(
     }
 }
 
+/// Makes the next write of a slot that has one.
+fn write_from<D: Disk>(
+    disk: &mut D,
+    buffer: &mut [u8],
+    extent: &Extent,
+    side: Side,
+    slot: &Option<Slot>,
+) -> Result<(), DiskFault>
+    requires fits { IntentFits extent.now.size (intent_of slot.now) }
+    requires room { end_of extent.now ≤ (D.state disk.old).len }
+    requires buffer { length buffer.old ≡ 16648 }
+    requires has { IsTrue (slot_writes slot.now) }
+    ensures wrote { MatchOption (spelled extent.now (slot_region extent.now side) (slot_write slot.now)) ⊥ (λ w. D.makes disk.old (Write w.0 w.1 (is_ok result)) disk.new) }
+    ensures buffer { length buffer.new ≡ 16648 }
+{
+    match slot {
+        Some(slot) => write_slot(disk, buffer, extent, side, slot),
+        None => Ok(()),
+    }
+}
+
 /// Makes the guest's next write.
 fn write_next<D: Disk>(disk: &mut D, buffer: &mut [u8], guest: &Guest) -> Result<(), DiskFault>
     requires fits { IntentFits (region_of guest.now).size (intent_of guest.now.slot) }
+    requires behind { IntentFits (region_of guest.now).size (intent_of guest.now.behind) }
     requires room { end_of (region_of guest.now) ≤ (D.state disk.old).len }
     requires buffer { length buffer.old ≡ 16648 }
     requires has { IsTrue (guest_has_write guest.now) }
     ensures wrote { MatchOption (guest_write guest.now) ⊥ (λ w. D.makes disk.old (Write w.0 w.1 (is_ok result)) disk.new) }
     ensures buffer { length buffer.new ≡ 16648 }
 {
-    match &guest.slot {
-        Some(slot) => write_slot(disk, buffer, &guest.extent, Side::A, slot),
-        None => Ok(()),
+    match guest.turn() {
+        Turn::First => write_from(disk, buffer, &guest.extent, guest.side, &guest.slot),
+        Turn::Second => {
+            let side = guest.side.other();
+            write_from(disk, buffer, &guest.extent, side, &guest.behind)
+        }
+        Turn::Neither => Ok(()),
     }
 }
 

@@ -1,10 +1,13 @@
 use Rattle.std.proofs.Common.{◌∙◌, ap}
-use Rattle.flusher.specs.Slot.{guest_after_write}
+use Rattle.flusher.specs.Pair.{guest_after_write}
 use Rattle.flusher.proofs.Writer.{can_write, still_fits, wrote_slot, its_fit, default_is}
 use Rattle.flusher.proofs.writing.write_round.Goals as goal
 
 pub write_next-wrote-requires-clause-fits : goal.write_next-wrote-requires-clause-fits
 write_next-wrote-requires-clause-fits g c = (its_fit c.args.guests.now c.args.guest c.index-guests-guest.result c.requires.next (g.D.Disk.state c.args.disk.now).len c.requires.fits).slot_fits
+
+pub write_next-wrote-requires-clause-behind : goal.write_next-wrote-requires-clause-behind
+write_next-wrote-requires-clause-behind g c = (its_fit c.args.guests.now c.args.guest c.index-guests-guest.result c.requires.next (g.D.Disk.state c.args.disk.now).len c.requires.fits).behind_fits
 
 pub write_next-wrote-requires-clause-room : goal.write_next-wrote-requires-clause-room
 write_next-wrote-requires-clause-room g c = (its_fit c.args.guests.now c.args.guest c.index-guests-guest.result c.requires.next (g.D.Disk.state c.args.disk.now).len c.requires.fits).room

@@ -1,26 +1,15 @@
-use Rattle.std.proofs.Common.{◌≡◌, ◌∙◌, List, Result, Ok, Err, ap, refl, rules, subst, sym}
+use Rattle.std.proofs.Common.{◌∙◌, ap, subst, sym}
 use Rattle.disk.specs.Disk.{Still}
 use Rattle.flusher.specs.SlotInvariant.{IsHeld}
 use Rattle.flusher.specs.Store.{AllFit}
-use Rattle.flusher.proofs.Kept.{stops, broken_stops, round_held, round_stops}
-use Rattle.flusher.proofs.Plans.{at_start, round_moves, round_idle, round_front}
+use Rattle.flusher.proofs.Kept.{broken_stops, round_held, round_stops}
+use Rattle.flusher.proofs.Plans.{made_idle, at_start, round_moves, round_idle, round_front}
 use Rattle.flusher.specs.Round.{with_marks}
-use Rattle.flusher.specs.declared.guest.Guest.{Guest}
-use Rattle.flusher.specs.declared.progress.Made.{Made}
-use Rattle.flusher.specs.declared.progress.Made.TheVariants as made
-use Rattle.flusher.specs.declared.progress.Progress.TheVariants as progress
-use Rattle.flusher.specs.declared.progress.StoreFault.{StoreFault}
 use Rattle.flusher.proofs.store.Store.make_call.Goals as goal
-
-made_idle : (guests : List Guest) (r : Result Made StoreFault) → with_marks guests r ≡ Ok progress.Idle → r ≡ Ok made.Idle
-made_idle guests (Ok made.Idle) is = refl
-made_idle guests (Ok made.Wrote) is = search rules
-made_idle guests (Ok made.Synced) is = search rules
-made_idle guests (Err e) is = search rules
 
 pub returns-then-self-clause-any_moment : goal.returns-then-self-clause-any_moment
 returns-then-self-clause-any_moment g c parts held = (let s = g.D.Disk.state c.args.self.now.disk in
-    Still _ (broken_stops parts c.args.self.now.guests s (stops parts c.args.self.now.guests s s c.args.self.now.broken held)))
+    Still _ (broken_stops parts c.args.self.now.broken c.args.self.now.guests s held))
 
 pub returns-then-self-clause-front : goal.returns-then-self-clause-front
 returns-then-self-clause-front g c known = Still _ (at_start (g.D.Disk.state c.args.self.now.disk))

@@ -1,0 +1,180 @@
+-- The intents of a guest that aren't settled, over its calls.
+use Rattle.std.proofs.Common.{◌≡◌, Bool, true, false, Option, Some, None, ℕ, [], ◌∷◌, ◌++◌, refl, ap, sym, ◌∙◌, subst}
+use Rattle.std.specs.Prelude.{if◌then◌else◌}
+use Rattle.intent_slots.specs.Payload.{Group, Intent}
+use Rattle.flusher.specs.declared.phase.Phase.{Phase}
+use Rattle.flusher.specs.declared.phase.Phase.TheVariants.{Given, Written, Ready, Opening, Open, Applying, Applied, Closing}
+use Rattle.flusher.specs.declared.slot.Slot.{Slot}
+use Rattle.flusher.specs.declared.guest.Guest.{Guest}
+use Rattle.flusher.specs.declared.guest.Turn.{Turn}
+use Rattle.flusher.specs.declared.guest.Turn.TheVariants.{First, Second, Neither}
+use Rattle.flusher.specs.Phase.{synced, is_opening, is_settled}
+use Rattle.flusher.specs.Slot.{is_empty, intent_of, slot_writes, pending_of, opening_in, in_phase, after_sync}
+use Rattle.flusher.specs.Pair.{has_room, behind_writes, listed, pending_intents, or_else, opening_of, mark_of, marked, in_order, moved_in, turn_of, with_slots, given_at, guest_after_write, guest_after_sync, with_intent}
+use Rattle.flusher.specs.SlotInvariant.{Besides, PhaseBesides}
+use Rattle.flusher.specs.Laws.{PendingStays, PendingGrows, PendingSettles, Settles}
+use Rattle.flusher.proofs.Turns.{pending_written, intent_written, turn_behind, first_writes_besides, behind_writes_besides}
+use Rattle.flusher.proofs.Syncs.{synced_order}
+use Rattle.flusher.proofs.Writer.{synced_intent}
+
+-- 1. A write
+
+turn_stays : (t : Turn) (x : Guest) → pending_intents (moved_in t x) ≡ pending_intents x
+turn_stays First x = ap (λ (o : Option Intent). listed o ++ listed (pending_of x.behind)) (pending_written x.slot)
+turn_stays Second x = ap (λ (o : Option Intent). listed (pending_of x.slot) ++ listed o) (pending_written x.behind)
+turn_stays Neither x = refl
+
+turn_mark : (t : Turn) (x : Guest) → mark_of (moved_in t x) ≡ mark_of x
+turn_mark First x = refl
+turn_mark Second x = refl
+turn_mark Neither x = refl
+
+pub pending_stays : PendingStays
+pending_stays x = (turn_stays (turn_of x) x, turn_mark (turn_of x) x)
+
+-- 2. An intent that is given
+
+full : (pair : Bool) → (if pair then false else false) ≡ true → ⊥
+full true is = absurd (cc)
+full false is = absurd (cc)
+
+pending_given : (x : Guest) (i : Intent) (slot behind : Option Slot) → (if x.paired then is_empty behind else is_empty slot) ≡ true → Besides slot behind
+    → (pending_intents (given_at (with_slots x slot behind) i slot) ≡ pending_intents (with_slots x slot behind) ++ i ∷ []) × (mark_of (given_at (with_slots x slot behind) i slot) ≡ mark_of x)
+pending_given x i None None room b = (refl, refl)
+pending_given x i None (Some s) room b = absurd b
+pending_given x i (Some f) None room b = (one (pending_of (Some f)), refl)
+  where
+    one : (o : Option Intent) → listed o ++ i ∷ [] ≡ (listed o ++ []) ++ i ∷ []
+    one None = refl
+    one (Some j) = refl
+pending_given x i (Some f) (Some s) room b = absurd (full x.paired room)
+
+pub pending_grows : PendingGrows
+pending_grows x i room b = pending_given x i x.slot x.behind room b
+
+-- 3. A sync
+
+in_order_pending : (x : Guest) (n : ℕ) (slot behind : Option Slot) → pending_intents (in_order x n slot behind) ≡ listed (pending_of slot) ++ listed (pending_of behind)
+in_order_pending x n (Some f) behind = refl
+in_order_pending x n None None = refl
+in_order_pending x n None (Some b) = nothing (pending_of (Some b))
+  where
+    nothing : (o : Option Intent) → listed o ++ [] ≡ listed o
+    nothing None = refl
+    nothing (Some j) = refl
+
+in_order_mark : (x : Guest) (n : ℕ) (slot behind : Option Slot) → mark_of (in_order x n slot behind) ≡ n
+in_order_mark x n (Some f) behind = refl
+in_order_mark x n None None = refl
+in_order_mark x n None (Some b) = refl
+
+-- a slot that opens no gate keeps what is pending in it
+abbrev if_pending : Bool → Intent → Option Intent
+if_pending settled i = if settled then None else Some i
+
+abbrev opening_if : Bool → Group → Option Group
+opening_if opening i = if opening then Some i else None
+
+quiet_keeps : (phase : Phase) (i : Intent) → is_opening phase ≡ false → pending_of (in_phase i (synced phase i.group)) ≡ if_pending (is_settled phase) i
+quiet_keeps Given i q = refl
+quiet_keeps Written i q = refl
+quiet_keeps Ready i q = refl
+quiet_keeps Opening i q = absurd (cc)
+quiet_keeps (Open k) i q = refl
+quiet_keeps Applying i q = refl
+quiet_keeps Applied i q = refl
+quiet_keeps Closing i q = refl
+
+opening_is : (phase : Phase) → is_opening phase ≡ true → phase ≡ Opening
+opening_is Given is = absurd (cc)
+opening_is Written is = absurd (cc)
+opening_is Ready is = absurd (cc)
+opening_is Opening is = refl
+opening_is (Open k) is = absurd (cc)
+opening_is Applying is = absurd (cc)
+opening_is Applied is = absurd (cc)
+opening_is Closing is = absurd (cc)
+
+abbrev after_phase : Phase → Intent → Option Intent
+after_phase phase i = pending_of (in_phase i (synced phase i.group))
+
+abbrev Both : Phase → Phase → Intent → Intent → Type 0
+Both first phase i j = Settles (or_else (opening_if (is_opening first) i.group) (opening_if (is_opening phase) j.group)) (listed (if_pending (is_settled first) i) ++ listed (if_pending (is_settled phase) j)) (listed (after_phase first i) ++ listed (after_phase phase j))
+
+-- the slot behind opens no gate
+quiet_behind : (first phase : Phase) (i j : Intent) → is_opening phase ≡ false → Both first phase i j
+quiet_behind first phase i j q = by (is_opening first) refl
+  where
+    by : (o : Bool) → is_opening first ≡ o → Both first phase i j
+    by true e = subst (λ (v : Phase). Both v phase i j) (sym (opening_is first e)) (i, ap (λ (o : Option Intent). i ∷ listed o) (sym (quiet_keeps phase j q)), refl)
+    by false e =
+        let one = quiet_keeps first i e in
+        let two = quiet_keeps phase j q in
+        subst (λ (v : Option Group). Settles v (listed (if_pending (is_settled first) i) ++ listed (if_pending (is_settled phase) j)) (listed (after_phase first i) ++ listed (after_phase phase j)))
+        (sym (ap (λ (v : Bool). or_else (opening_if v i.group) (opening_if (is_opening phase) j.group)) e ∙ ap (λ (v : Bool). opening_if v j.group) q))
+        (ap (λ (o : Option Intent). listed o ++ listed (after_phase phase j)) one ∙ ap (λ (o : Option Intent). listed (if_pending (is_settled first) i) ++ listed o) two)
+
+both : (first phase : Phase) (i j : Intent) → PhaseBesides first phase → Both first phase i j
+both first Given i j b = quiet_behind first Given i j refl
+both first Written i j b = quiet_behind first Written i j refl
+both first Ready i j b = quiet_behind first Ready i j refl
+both first Opening i j b = subst (λ (v : Phase). Both v Opening i j) (sym b) (j, refl, refl)
+both first (Open k) i j b = quiet_behind first (Open k) i j refl
+both first Applying i j b = absurd b
+both first Applied i j b = absurd b
+both first Closing i j b = absurd b
+
+alone : (phase : Phase) (i : Intent) → Settles (or_else (opening_if (is_opening phase) i.group) None) (listed (if_pending (is_settled phase) i) ++ []) (listed (after_phase phase i) ++ [])
+alone Given i = refl
+alone Written i = refl
+alone Ready i = refl
+alone Opening i = (i, refl, refl)
+alone (Open k) i = refl
+alone Applying i = refl
+alone Applied i = refl
+alone Closing i = refl
+
+slots_settle : (slot behind : Option Slot) → Besides slot behind → Settles (or_else (opening_in slot) (opening_in behind)) (listed (pending_of slot) ++ listed (pending_of behind)) (listed (pending_of (after_sync slot)) ++ listed (pending_of (after_sync behind)))
+slots_settle None None b = refl
+slots_settle None (Some s) b = absurd b
+slots_settle (Some f) None b = alone f.phase f.intent
+slots_settle (Some f) (Some s) b = both f.phase s.phase f.intent s.intent b
+
+pub pending_settles : PendingSettles
+pending_settles x b = (
+  subst (Settles (opening_of x) (pending_intents x)) (sym (in_order_pending x (marked x) (after_sync x.slot) (after_sync x.behind))) (slots_settle x.slot x.behind b),
+  in_order_mark x (marked x) (after_sync x.slot) (after_sync x.behind),
+)
+
+-- 4. What holds of each intent in a slot, and how far the slot behind is
+
+module _ (P : Option Intent → Type 0) (x : Guest) where
+  abbrev Keeps : Guest → Type 0
+  Keeps y = P (intent_of y.slot) × P (intent_of y.behind) × Besides y.slot y.behind
+
+  turn_keeps : (t : Turn) → turn_of x ≡ t → Keeps x → Keeps (moved_in t x)
+  turn_keeps First is k = (subst P (sym (intent_written x.slot)) k.0, k.1, first_writes_besides x.slot x.behind k.2)
+  turn_keeps Second is k = (k.0, subst P (sym (intent_written x.behind)) k.1, behind_writes_besides x.slot x.behind k.2 (turn_behind (slot_writes x.slot) (behind_writes x.slot x.behind) is))
+  turn_keeps Neither is k = k
+
+  pub write_keeps : Keeps x → Keeps (guest_after_write x)
+  write_keeps k = turn_keeps (turn_of x) refl k
+
+  in_order_keeps : (n : ℕ) (slot behind : Option Slot) → P None → P (intent_of slot) → P (intent_of behind) → P (intent_of (in_order x n slot behind).slot) × P (intent_of (in_order x n slot behind).behind)
+  in_order_keeps n (Some f) behind none one two = (one, two)
+  in_order_keeps n None (Some b) none one two = (two, none)
+  in_order_keeps n None None none one two = (none, none)
+
+  pub sync_keeps : P None → Keeps x → Keeps (guest_after_sync x)
+  sync_keeps none k =
+      let both = in_order_keeps (marked x) (after_sync x.slot) (after_sync x.behind) none (synced_intent P x.slot none k.0) (synced_intent P x.behind none k.1) in
+      (both.0, both.1, synced_order x (marked x) x.slot x.behind k.2)
+
+  given_keeps : (i : Intent) (slot behind : Option Slot) → (if x.paired then is_empty behind else is_empty slot) ≡ true → P (Some i) → Keeps (with_slots x slot behind) → Keeps (given_at (with_slots x slot behind) i slot)
+  given_keeps i None None room new k = (new, k.1, tt)
+  given_keeps i None (Some s) room new k = absurd k.2
+  given_keeps i (Some f) None room new k = (k.0, new, tt)
+  given_keeps i (Some f) (Some s) room new k = absurd (full x.paired room)
+
+  pub give_keeps : (i : Intent) → has_room x ≡ true → P (Some i) → Keeps x → Keeps (with_intent x i)
+  give_keeps i room new k = given_keeps i x.slot x.behind room new k

@@ -1,0 +1,333 @@
+-- A sync of a guest's two slots, each in its phase.
+use Rattle.std.proofs.Common.{◌≡◌, ◌≢◌, ◌⊎◌, inl, inr, Bool, true, false, Option, Some, None, ℕ, ◌+◌, length, refl, ap, sym, ◌∙◌, subst, arith}
+use Rattle.std.specs.Prelude.{if◌then◌else◌}
+use Rattle.disk.specs.Content.{Content}
+use Rattle.intent_slots.specs.declared.layout.Side.{Side}
+use Rattle.intent_slots.specs.declared.layout.Side.TheVariants.{A, B}
+use Rattle.intent_slots.specs.Layout.{Region, SlotRegion, slot_region, other_side}
+use Rattle.intent_slots.specs.Payload.{Group, Intent, last_of}
+use Rattle.intent_slots.specs.Recovered.{Part, HoldsHome, after}
+use Rattle.flusher.specs.declared.phase.Phase.{Phase}
+use Rattle.flusher.specs.declared.phase.Phase.TheVariants.{Given, Written, Ready, Opening, Open, Applying, Applied, Closing}
+use Rattle.flusher.specs.declared.slot.Slot.{Slot}
+use Rattle.flusher.specs.declared.guest.Guest.{Guest}
+use Rattle.flusher.specs.Phase.{skipped, synced, is_opening, is_closing, is_settled}
+use Rattle.flusher.specs.Slot.{after_sync, in_phase, intent_of, pending_of, opening_in}
+use Rattle.flusher.specs.Pair.{entries_in, or_else, mark_after, with_slots, in_order, guest_after_sync, side_of, side_behind}
+use Rattle.flusher.specs.SlotInvariant.{IsShut, Row, Seen, Behind, BehindRow, LeadsTo, LeadsBy, PhaseBesides, Besides, Chained, Follows, IsMarked, PairRow, guest_seen, settled, settled_with, sequence_of_part, guest_settled}
+use Rattle.flusher.proofs.Rows.{synced_row, synced_seen}
+use Rattle.flusher.proofs.Pairs.{promoted_row, promoted_seen, behind_synced, behind_synced_seen}
+use Rattle.flusher.proofs.Turns.{quiet_behind}
+
+-- 1. Words
+
+pub or_none : (o : Option Group) → or_else o None ≡ o
+or_none None = refl
+or_none (Some i) = refl
+
+pub twice : (side : Side) → other_side (other_side side) ≡ side
+twice A = refl
+twice B = refl
+
+-- a sync lets a slot go once its gate is shut, else it stays
+pub record Stays (s : Slot) : Type 0 where
+  pub next : Phase
+  pub is : synced s.phase s.intent.group ≡ Some next
+
+abbrev pub staying : (s : Slot) → Stays s → Slot
+staying s st = record { phase = st.next; intent = s.intent }
+
+pub stays_there : (s : Slot) (st : Stays s) → after_sync (Some s) ≡ Some (staying s st)
+stays_there s st = ap (in_phase s.intent) st.is
+
+pub stays_or_closes : (s : Slot) → (s.phase ≡ Closing) ⊎ Stays s
+stays_or_closes s = by s.phase refl
+  where
+    at : (phase next : Phase) → s.phase ≡ phase → synced phase s.intent.group ≡ Some next → Stays s
+    at phase next here is = record { next = next; is = ap (λ (v : Phase). synced v s.intent.group) here ∙ is }
+
+    by : (phase : Phase) → s.phase ≡ phase → (s.phase ≡ Closing) ⊎ Stays s
+    by Given here = inr (at Given Given here refl)
+    by Written here = inr (at Written Ready here refl)
+    by Ready here = inr (at Ready Ready here refl)
+    by Opening here = inr (at Opening (Open (skipped s.intent.group.entries)) here refl)
+    by (Open k) here = inr (at (Open k) (Open k) here refl)
+    by Applying here = inr (at Applying Applied here refl)
+    by Applied here = inr (at Applied Applied here refl)
+    by Closing here = inl here
+
+pub stays_not : (s : Slot) → Stays s → s.phase ≢ Closing
+stays_not s st is = (let gone : synced s.phase s.intent.group ≡ None = ap (λ (v : Phase). synced v s.intent.group) is in let there = st.is in absurd (cc))
+
+-- 2. Marks
+
+mark_with : (o : Option Group) (n : ℕ) (p : Part) → n ≡ sequence_of_part p → mark_after o n ≡ sequence_of_part (settled_with o p)
+mark_with None n p is = is
+mark_with (Some i) n p is = refl
+
+-- an intent that isn't settled still follows
+follows_first : (n : ℕ) (phase : Phase) (i : Intent) (o : Option Group) → (is_closing phase ≡ false → o ≡ None) → Follows n (if is_settled phase then None else Some i)
+    → Follows (mark_after (or_else (if is_opening phase then Some i.group else None) o) n) (pending_of (in_phase i (synced phase i.group)))
+follows_first n Given i o none f = subst (λ (v : Option Group). i.group.first ≡ mark_after v n) (sym (none refl)) f
+follows_first n Written i o none f = subst (λ (v : Option Group). i.group.first ≡ mark_after v n) (sym (none refl)) f
+follows_first n Ready i o none f = subst (λ (v : Option Group). i.group.first ≡ mark_after v n) (sym (none refl)) f
+follows_first n Opening i o none f = tt
+follows_first n (Open k) i o none f = tt
+follows_first n Applying i o none f = tt
+follows_first n Applied i o none f = tt
+follows_first n Closing i o none f = tt
+
+-- and so does the one behind it
+abbrev after_pending : ℕ → Phase → Intent → Option Group → ℕ
+after_pending n phase i o = mark_after (or_else (if is_opening phase then Some i.group else None) o) n + length (entries_in (pending_of (in_phase i (synced phase i.group))))
+
+pending_same : (n : ℕ) (phase : Phase) (i : Intent) (first : ℕ) → first ≡ last_of i.group + 1 → first ≡ n + length (entries_in (if is_settled phase then None else Some i)) → first ≡ after_pending n phase i None
+pending_same n Given i first chained is = is
+pending_same n Written i first chained is = is
+pending_same n Ready i first chained is = is
+pending_same n Opening i first chained is = omega (arith, chained)
+pending_same n (Open k) i first chained is = is
+pending_same n Applying i first chained is = is
+pending_same n Applied i first chained is = is
+pending_same n Closing i first chained is = is
+
+follows_next : (n : ℕ) (first : Phase) (i : Intent) (phase : Phase) (j : Intent) → j.group.first ≡ last_of i.group + 1 → Follows (n + length (entries_in (if is_settled first then None else Some i))) (if is_settled phase then None else Some j)
+    → Follows (after_pending n first i (if is_opening phase then Some j.group else None)) (pending_of (in_phase j (synced phase j.group)))
+follows_next n first i Given j chained f = pending_same n first i j.group.first chained f
+follows_next n first i Written j chained f = pending_same n first i j.group.first chained f
+follows_next n first i Ready j chained f = pending_same n first i j.group.first chained f
+follows_next n first i Opening j chained f = tt
+follows_next n first i (Open k) j chained f = tt
+follows_next n first i Applying j chained f = tt
+follows_next n first i Applied j chained f = tt
+follows_next n first i Closing j chained f = tt
+
+chained_phases : (i j : Intent) (o p : Option Phase) → Chained (Some i) (Some j) → Chained (intent_of (in_phase i o)) (intent_of (in_phase j p))
+chained_phases i j None p ch = tt
+chained_phases i j (Some a) None ch = tt
+chained_phases i j (Some a) (Some b) ch = ch
+
+still_settled : (phase next : Phase) (i : Group) → synced phase i ≡ Some next → is_settled phase ≡ true → is_settled next ≡ true
+still_settled Given next i s b = absurd (cc)
+still_settled Written next i s b = absurd (cc)
+still_settled Ready next i s b = absurd (cc)
+still_settled Opening next i s b = absurd (cc)
+still_settled (Open k) next i s b = (let e : Open k ≡ next = cc in sym (ap is_settled e))
+still_settled Applying next i s b = (let e : Applied ≡ next = cc in sym (ap is_settled e))
+still_settled Applied next i s b = (let e : Applied ≡ next = cc in sym (ap is_settled e))
+still_settled Closing next i s b = absurd (cc)
+
+synced_besides : (first phase : Phase) (i j : Intent) (next : Phase) → synced first i.group ≡ Some next → PhaseBesides first phase → Besides (Some (record { phase = next; intent = i })) (in_phase j (synced phase j.group))
+synced_besides first Given i j next is b = tt
+synced_besides first Written i j next is b = tt
+synced_besides first Ready i j next is b = tt
+synced_besides first Opening i j next is b = absurd (let gone : synced first i.group ≡ None = ap (λ (v : Phase). synced v i.group) b in cc)
+synced_besides first (Open k) i j next is b = still_settled first next i.group is b
+synced_besides first Applying i j next is b = absurd b
+synced_besides first Applied i j next is b = absurd b
+synced_besides first Closing i j next is b = absurd b
+
+module _ (x : Guest) (n : ℕ) where
+  abbrev InOrder : Option Slot → Option Slot → Type 0
+  InOrder slot behind = Besides (in_order x n slot behind).slot (in_order x n slot behind).behind
+
+  one_in_order : (o : Option Slot) → InOrder o None
+  one_in_order None = tt
+  one_in_order (Some s) = tt
+
+  next_in_order : (o : Option Slot) → InOrder None o
+  next_in_order None = tt
+  next_in_order (Some s) = tt
+
+  -- the slot behind is as far as the first one lets it be
+  pub synced_order : (slot behind : Option Slot) → Besides slot behind → InOrder (after_sync slot) (after_sync behind)
+  synced_order None None b = tt
+  synced_order None (Some s) b = absurd b
+  synced_order (Some f) None b = one_in_order (after_sync (Some f))
+  synced_order (Some f) (Some s) b = elim (stays_or_closes f) [
+    | inl closing ↦ (
+        let gone : after_sync (Some f) ≡ None = ap (λ (v : Phase). in_phase f.intent (synced v f.intent.group)) closing in
+        subst (λ (o : Option Slot). InOrder o (after_sync (Some s))) (sym gone) (next_in_order (after_sync (Some s))))
+    | inr st ↦ subst (λ (o : Option Slot). InOrder o (after_sync (Some s))) (sym (stays_there f st)) (synced_besides f.phase s.phase f.intent s.intent st.next st.is b)
+  ]
+
+-- 3. The rows
+
+abbrev opening_if : Bool → Group → Option Group
+opening_if opening i = if opening then Some i else None
+
+settled_quiet : (phase : Phase) → is_settled phase ≡ true → is_opening phase ≡ false
+settled_quiet Given is = absurd (cc)
+settled_quiet Written is = absurd (cc)
+settled_quiet Ready is = absurd (cc)
+settled_quiet Opening is = absurd (cc)
+settled_quiet (Open k) is = refl
+settled_quiet Applying is = refl
+settled_quiet Applied is = refl
+settled_quiet Closing is = refl
+
+quiet_is : (opening : Bool) (i : Group) → opening_if opening i ≡ None → opening ≡ false
+quiet_is true i is = absurd (cc)
+quiet_is false i is = refl
+
+same_leads : (o : Option Group) (between p : Part) → between ≡ p → settled_with o between ≡ settled_with (or_else o None) p
+same_leads o between p is = ap (settled_with o) is ∙ ap (λ (v : Option Group). settled_with v p) (sym (or_none o))
+
+leads_synced : (first phase : Phase) (i : Group) (j : Intent) (between p : Part) → first ≢ Closing → PhaseBesides first phase → LeadsBy (is_settled phase) between j.group p
+    → LeadsTo (settled_with (opening_if (is_opening first) i) between) (in_phase j (synced phase j.group)) (settled_with (or_else (opening_if (is_opening first) i) (opening_if (is_opening phase) j.group)) p)
+leads_synced first Given i j between p un b l = same_leads (opening_if (is_opening first) i) between p l
+leads_synced first Written i j between p un b l = same_leads (opening_if (is_opening first) i) between p l
+leads_synced first Ready i j between p un b l = same_leads (opening_if (is_opening first) i) between p l
+leads_synced first Opening i j between p un b l = absurd (un b)
+leads_synced first (Open k) i j between p un b l = subst (λ (v : Bool). after (settled_with (opening_if v i) between) j.group ≡ settled_with (or_else (opening_if v i) None) p) (sym (settled_quiet first b)) l
+leads_synced first Applying i j between p un b l = absurd b
+leads_synced first Applied i j between p un b l = absurd b
+leads_synced first Closing i j between p un b l = absurd b
+
+pub from_row : (pair : Bool) (region : Region) (side : SlotRegion) (s : Slot) (c : Content) → Behind pair region side (Some s) c → BehindRow region side s.phase s.intent.group c
+from_row false region side s c b = b
+from_row true region side s c b = b
+
+shut_behind : (pair : Bool) (region : Region) (side : SlotRegion) (c : Content) → IsShut side c → Behind pair region side None c
+shut_behind false region side c shut = tt
+shut_behind true region side c shut = shut
+
+-- both empty: slot A is the first
+both_shut : (region : Region) (c : Content) (side : Side) (pair : Bool) → IsShut (slot_region region side) c → Behind pair region (slot_region region (other_side side)) None c → (pair ≡ false → side ≡ A)
+    → IsShut (slot_region region A) c × Behind pair region (slot_region region B) None c
+both_shut region c A pair mine theirs single = (mine, theirs)
+both_shut region c B true mine theirs single = (theirs, mine)
+both_shut region c B false mine theirs single = absurd (let e : B ≡ A = single refl in cc)
+
+-- the rows of both slots, and the marks
+abbrev pub two_row : Part → Guest → Content → Type 0
+two_row p x c = PairRow p x c × IsMarked p x
+
+module _ (p : Part) (x : Guest) (c : Content) where
+  abbrev Goes : Option Slot → Option Slot → Type 0
+  Goes slot behind = two_row p (with_slots x slot behind) c → guest_seen p (with_slots x slot behind) c
+      → two_row (guest_settled (with_slots x slot behind) p) (guest_after_sync (with_slots x slot behind)) c × guest_seen (guest_settled (with_slots x slot behind) p) (guest_after_sync (with_slots x slot behind)) c
+
+  rests : IsShut (side_of x) c → HoldsHome x.extent c p → Behind x.paired x.extent (side_behind x) None c → x.mark ≡ sequence_of_part p → (x.paired ≡ false → x.side ≡ A)
+      → two_row p (in_order x x.mark None None) c × guest_seen p (in_order x x.mark None None) c
+  rests mine held theirs mark single = (let shut = both_shut x.extent c x.side x.paired mine theirs single in (
+    (
+      record { between = p; leads = refl; row = (shut.0, held); behind = shut.1 },
+      record { mark = mark; follows = tt; next_follows = tt; ordered = record { chained = tt; besides = tt; single = λ un. record { alone = refl; side = refl } } },
+    ),
+    record { between = p; leads = refl; row = (shut.0, held); seen = tt; behind = shut.1; behind_seen = tt },
+  ))
+
+  empty_goes : Goes None None
+  empty_goes r s = rests s.row.0 (subst (HoldsHome x.extent c) s.leads s.row.1) s.behind r.1.mark (λ un. (r.1.ordered.single un).side)
+
+  closed_goes : (i : Intent) → Goes (Some (record { phase = Closing; intent = i })) None
+  closed_goes i r s = rests s.seen (subst (HoldsHome x.extent c) s.leads s.row.2) s.behind r.1.mark (λ un. (r.1.ordered.single un).side)
+
+  -- the first one is empty now, and the one behind it takes its place
+  promoted_goes : (i : Intent) (b : Slot) → Goes (Some (record { phase = Closing; intent = i })) (Some b)
+  promoted_goes i b r s = elim (stays_or_closes b) [
+    | inl closing ↦ absurd (subst (λ (v : Phase). BehindRow x.extent (side_behind x) v b.intent.group c) closing below)
+    | inr st ↦ (
+        let go : Option Slot → Type 0 = λ o. two_row (settled (Some b) p) (in_order x (mark_after (opening_in (Some b)) x.mark) None o) c × guest_seen (settled (Some b) p) (in_order x (mark_after (opening_in (Some b)) x.mark) None o) c in
+        let shut : Behind x.paired x.extent (slot_region x.extent (other_side (other_side x.side))) None c =
+        subst (λ (v : Side). Behind x.paired x.extent (slot_region x.extent v) None c) (sym (twice x.side)) (shut_behind x.paired x.extent (side_of x) c s.seen) in
+        let here = subst (λ (o : Option Slot). Row x.extent (side_behind x) (settled (Some b) p) o c) (stays_there b st) row_after in
+        let seen = subst (λ (o : Option Slot). Seen x.extent (side_behind x) (settled (Some b) p) o c) (stays_there b st) seen_after in
+        let nothing : x.mark + 0 ≡ x.mark = omega arith in
+        let f = subst (λ (n : ℕ). Follows n (pending_of (Some b))) nothing r.1.next_follows in
+        let g = subst (λ (o : Option Group). Follows (mark_after o x.mark) (pending_of (after_sync (Some b)))) (or_none (opening_in (Some b))) (follows_first x.mark b.phase b.intent None (λ un. refl) f) in
+        let marks : IsMarked (settled (Some b) p) (in_order x (mark_after (opening_in (Some b)) x.mark) None (Some (staying b st))) = record {
+          mark = mark_with (opening_in (Some b)) x.mark p r.1.mark;
+          follows = subst (λ (o : Option Slot). Follows (mark_after (opening_in (Some b)) x.mark) (pending_of o)) (stays_there b st) g;
+          next_follows = tt;
+          ordered = record { chained = tt; besides = tt; single = λ un. absurd (let is = (r.1.ordered.single un).alone in cc) };
+        } in
+        subst go (sym (stays_there b st)) (
+          (record { between = settled (Some b) p; leads = refl; row = here; behind = shut }, marks),
+          record { between = settled (Some b) p; leads = refl; row = here; seen = seen; behind = shut; behind_seen = tt },
+        ))
+  ]
+    where
+      below : BehindRow x.extent (side_behind x) b.phase b.intent.group c
+      below = from_row x.paired x.extent (side_behind x) b c s.behind
+
+      row : Row x.extent (side_behind x) p (Some b) c
+      row = promoted_row x.extent (side_behind x) p s.between b c s.row.2 below s.leads
+
+      seen_row : Seen x.extent (side_behind x) p (Some b) c
+      seen_row = promoted_seen x.extent (side_behind x) p s.between b c s.row.2 below s.behind_seen s.leads
+
+      row_after : Row x.extent (side_behind x) (settled (Some b) p) (after_sync (Some b)) c
+      row_after = synced_row x.extent (side_behind x) p (Some b) c row seen_row
+
+      seen_after : Seen x.extent (side_behind x) (settled (Some b) p) (after_sync (Some b)) c
+      seen_after = synced_seen x.extent (side_behind x) p (Some b) c row seen_row
+
+  module _ (f : Slot) (st : Stays f) where
+    abbrev to : Slot
+    to = staying f st
+
+    -- the first one stays, alone
+    alone_goes : Goes (Some f) None
+    alone_goes r s =
+        let o = or_else (opening_in (Some f)) None in
+        let row = subst (λ (v : Option Slot). Row x.extent (side_of x) (settled (Some f) s.between) v c) (stays_there f st) (synced_row x.extent (side_of x) s.between (Some f) c s.row s.seen) in
+        let seen = subst (λ (v : Option Slot). Seen x.extent (side_of x) (settled (Some f) s.between) v c) (stays_there f st) (synced_seen x.extent (side_of x) s.between (Some f) c s.row s.seen) in
+        let leads = same_leads (opening_in (Some f)) s.between p s.leads in
+        let marks : IsMarked (settled_with o p) (in_order x (mark_after o x.mark) (Some to) None) = record {
+          mark = mark_with o x.mark p r.1.mark;
+          follows = subst (λ (v : Option Slot). Follows (mark_after o x.mark) (pending_of v)) (stays_there f st) (follows_first x.mark f.phase f.intent None (λ un. refl) r.1.follows);
+          next_follows = tt;
+          ordered = record { chained = tt; besides = tt; single = λ un. record { alone = refl; side = (r.1.ordered.single un).side } };
+        } in
+        subst (λ (v : Option Slot). two_row (settled_with o p) (in_order x (mark_after o x.mark) v None) c × guest_seen (settled_with o p) (in_order x (mark_after o x.mark) v None) c) (sym (stays_there f st)) (
+          (record { between = settled (Some f) s.between; leads = leads; row = row; behind = s.behind }, marks),
+          record { between = settled (Some f) s.between; leads = leads; row = row; seen = seen; behind = s.behind; behind_seen = tt },
+        )
+
+    -- both stay
+    both_go : (b : Slot) → Goes (Some f) (Some b)
+    both_go b r s =
+        let o = or_else (opening_in (Some f)) (opening_in (Some b)) in
+        let none : opening_in (Some b) ≡ None = quiet_behind f (Some b) (stays_not f st) r.1.ordered.besides in
+        let quiet : is_opening b.phase ≡ false = quiet_is (is_opening b.phase) b.intent.group none in
+        let below = from_row x.paired x.extent (side_behind x) b c s.behind in
+        let row = subst (λ (v : Option Slot). Row x.extent (side_of x) (settled (Some f) s.between) v c) (stays_there f st) (synced_row x.extent (side_of x) s.between (Some f) c s.row s.seen) in
+        let seen = subst (λ (v : Option Slot). Seen x.extent (side_of x) (settled (Some f) s.between) v c) (stays_there f st) (synced_seen x.extent (side_of x) s.between (Some f) c s.row s.seen) in
+        let leads = leads_synced f.phase b.phase f.intent.group b.intent s.between p (stays_not f st) r.1.ordered.besides s.leads in
+        let behind = behind_synced x.extent (side_behind x) b c quiet below s.behind_seen x.paired in
+        let behind_seen = behind_synced_seen x.extent (side_behind x) b c quiet below s.behind_seen in
+        let chain = r.1.ordered.chained in
+        let marks : IsMarked (settled_with o p) (in_order x (mark_after o x.mark) (Some to) (after_sync (Some b))) = record {
+          mark = mark_with o x.mark p r.1.mark;
+          follows = subst (λ (v : Option Slot). Follows (mark_after o x.mark) (pending_of v)) (stays_there f st) (follows_first x.mark f.phase f.intent (opening_in (Some b)) (λ un. none) r.1.follows);
+          next_follows = subst (λ (v : Option Slot). Follows (mark_after o x.mark + length (entries_in (pending_of v))) (pending_of (after_sync (Some b)))) (stays_there f st)
+              (follows_next x.mark f.phase f.intent b.phase b.intent chain.0 r.1.next_follows);
+          ordered = record {
+            chained = subst (λ (v : Option Slot). Chained (intent_of v) (intent_of (after_sync (Some b)))) (stays_there f st)
+                (chained_phases f.intent b.intent (synced f.phase f.intent.group) (synced b.phase b.intent.group) chain);
+            besides = synced_besides f.phase b.phase f.intent b.intent st.next st.is r.1.ordered.besides;
+            single = λ un. absurd (let is = (r.1.ordered.single un).alone in cc);
+          };
+        } in
+        subst (λ (v : Option Slot). two_row (settled_with o p) (in_order x (mark_after o x.mark) v (after_sync (Some b))) c × guest_seen (settled_with o p) (in_order x (mark_after o x.mark) v (after_sync (Some b))) c) (sym (stays_there f st)) (
+          (record { between = settled (Some f) s.between; leads = leads; row = row; behind = behind }, marks),
+          record { between = settled (Some f) s.between; leads = leads; row = row; seen = seen; behind = behind; behind_seen = behind_seen },
+        )
+
+  closing_goes : (i : Intent) (behind : Option Slot) → Goes (Some (record { phase = Closing; intent = i })) behind
+  closing_goes i None = closed_goes i
+  closing_goes i (Some b) = promoted_goes i b
+
+  staying_goes : (f : Slot) → Stays f → (behind : Option Slot) → Goes (Some f) behind
+  staying_goes f st None = alone_goes f st
+  staying_goes f st (Some b) = both_go f st b
+
+  pub sync_goes : (slot behind : Option Slot) → Goes slot behind
+  sync_goes None None = empty_goes
+  sync_goes None (Some b) = λ r s. absurd r.1.ordered.besides
+  sync_goes (Some f) behind = elim (stays_or_closes f) [
+    | inl closing ↦ subst (λ (v : Phase). Goes (Some (record { phase = v; intent = f.intent })) behind) (sym closing) (closing_goes f.intent behind)
+    | inr st ↦ staying_goes f st behind
+  ]
