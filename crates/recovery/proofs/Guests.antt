@@ -1,24 +1,24 @@
 -- All guests of an opening.
-use Rattle.std.proofs.Common.{◌≡◌, ◌≢◌, ⊎_elim, ℕ, suc, ◌<◌, ◌≤◌, true, false, Option, Some, None, List, [], ◌∷◌, ◌++◌, length, map, refl, ap, sym, subst, ◌∙◌, arith}
+use Rattle.std.proofs.Common.{◌≡◌, ◌≢◌, ⊎_elim, ℕ, suc, ◌+◌, ◌<◌, ◌≤◌, true, false, Option, Some, None, List, [], ◌∷◌, ◌++◌, length, map, refl, ap, sym, subst, ◌∙◌, arith}
 use Rattle.std.specs.Prelude.{Result, Ok, Err, OnOk, slice_get, if◌then◌else◌}
 use Rattle.std.proofs.lemmas.Option.{slice_get_within, slice_get_cases}
 use Rattle.rpmb_frame.specs.Partition.{Partition, sequence_of}
 use Rattle.disk.specs.Content.{Content}
 use Rattle.disk.specs.Disk.{DiskState, MayLeave}
 use Rattle.intent_slots.specs.Header.{HasCapacities}
-use Rattle.intent_slots.specs.Layout.{Region, SlotRegion, region_at, slot_region, image_length, end_of, AreApart}
-use Rattle.intent_slots.specs.declared.layout.Side.TheVariants.{A}
-use Rattle.intent_slots.specs.Recovered.{Part, part_of, StandsFor, ByHome, ByPayload}
+use Rattle.intent_slots.specs.Layout.{Region, region_at, image_length, end_of, AreApart}
+use Rattle.intent_slots.specs.Recovered.{Part, part_of, Stands, StandsIn, is_paired}
 use Rattle.intent_slots.proofs.Starts.{lies_inside, overlaps_never}
 use Rattle.flusher.specs.declared.guest.Guest.{Guest}
 use Rattle.flusher.specs.declared.slot.Slot.{Slot}
 use Rattle.flusher.specs.declared.phase.Phase.{Phase}
 use Rattle.flusher.specs.declared.phase.Phase.TheVariants.{Open}
-use Rattle.flusher.specs.Phase.{skipped, is_settled}
-use Rattle.flusher.specs.Slot.{region_of, side_of, mark_of, pending_of}
+use Rattle.flusher.specs.Phase.{skipped, is_settled, is_opening}
+use Rattle.flusher.specs.Slot.{pending_of, opening_in}
+use Rattle.flusher.specs.Pair.{region_of, mark_of, entries_in}
+use Rattle.flusher.proofs.Table.{settled_stands}
 use Rattle.flusher.specs.Marks.{marks_of}
-use Rattle.intent_slots.specs.Payload.{Group}
-use Rattle.flusher.specs.SlotInvariant.{PhaseRow, Row, Seen, IsHeld, guest_row, guest_seen, Follows}
+use Rattle.flusher.specs.SlotInvariant.{PairRow, PairSeen, IsOrdered, IsHeld, guest_row, guest_seen, Follows}
 use Rattle.flusher.specs.Store.{AllFit, GuestFits}
 use Rattle.flusher.proofs.Blocks.{same_content}
 use Rattle.recovery.specs.declared.fault.OpenFault.{OpenFault}
@@ -56,12 +56,14 @@ found_more c xs new ps next x p n count same_count pushed also all last = record
 
 -- 2. What was found stands there
 
-open_stands : (region : Region) (side : SlotRegion) (p : Part) (k : ℕ) (i : Group) (c : Content) → PhaseRow region side p (Open k) i c → StandsFor region side c p
-open_stands region side p k i c r = ByPayload i r.0 r.2 r.1
-
-stands_row : (region : Region) (side : SlotRegion) (p : Part) (slot : Option Slot) (c : Content) → IsFirst slot → Row region side p slot c → StandsFor region side c p
-stands_row region side p None c first r = ByHome r.0 r.1
-stands_row region side p (Some s) c first r = open_stands region side p (skipped s.intent.group.entries) s.intent.group c (subst (λ (f : Phase). PhaseRow region side p f s.intent.group c) first r)
+-- what was found behind a shut or an open gate stands there
+begun_stands : (p : Part) (x : Guest) (c : Content) → PairRow p x c → IsOrdered x → IsFirst x.slot → IsFirst x.behind → x.paired ≡ is_paired c → Stands (region_of x) c p
+begun_stands p x c r o first behind version = subst (λ v. StandsIn v (region_of x) c p) version
+    (settled_stands p x c r o (quiet x.slot first) (quiet x.behind behind))
+  where
+    quiet : (slot : Option Slot) → IsFirst slot → opening_in slot ≡ None
+    quiet None is = refl
+    quiet (Some s) is = ap (λ f. if is_opening f then Some s.intent.group else None) is
 
 follows : (slot : Option Slot) (n : ℕ) → IsFirst slot → Follows n (pending_of slot)
 follows None n first = tt
@@ -82,13 +84,16 @@ module _ (cs : List ℕ) (xs : List Guest) (ps : List Partition) (all : AllBegun
   begun_there g x at = (let p = partition_there g x at in (p.0, p.1, all.each g x p.0 at p.1))
 
   pub all_stand : (c : Content) → AllFound c xs ps → AllStand c xs ps
-  all_stand c found g x p at here = stands_row _ _ _ x.slot c (all.each g x p at here).slot (found.each g x p at here).row
+  all_stand c found g x p at here =
+      let b = all.each g x p at here in
+      let f = found.each g x p at here in
+      begun_stands (part_of p) x c f.row b.ordered b.slot b.behind f.version
 
   pub has_each : (c : Content) → AllFound c xs ps → (g : ℕ) → g < length cs → HasPart cs c g
   has_each c found g lt =
       let x = at_place xs g (omega (arith, lt, all.all_guests)) in
       let p = partition_there g x.0 x.1 in
-      record { part = part_of p.0; stands = subst (λ (v : Region). StandsFor v (slot_region v A) c (part_of p.0)) (all.each g x.0 p.0 x.1 p.1).region (all_stand c found g x.0 p.0 x.1 p.1) }
+      record { part = part_of p.0; stands = subst (λ (v : Region). Stands v c (part_of p.0)) (all.each g x.0 p.0 x.1 p.1).region (all_stand c found g x.0 p.0 x.1 p.1) }
     where
       at_place : {X : Type 0} (ys : List X) (g : ℕ) → g < length ys → (y : X) × (slice_get ys g ≡ Some y)
       at_place ys g lt = ⊎_elim (λ here. (here.0, here.2)) (λ past. absurd (let e = past.0 in omega (arith, lt, e))) (slice_get_cases ys g).1
@@ -101,6 +106,9 @@ module _ (cs : List ℕ) (xs : List Guest) (ps : List Partition) (all : AllBegun
         behind = (let lt = slice_get_within xs g x at in let inside = (lies_inside cs g (omega (arith, lt, all.all_guests))).0 in
             subst (λ (v : Region). 1024 ≤ v.base) (sym b.region) inside);
         own = b.number;
+        behind_own = b.number_behind;
+        behind_fits = b.fits_behind;
+        besides = b.ordered.besides;
         room = (let lt = slice_get_within xs g x at in let inside = (lies_inside cs g (omega (arith, lt, all.all_guests))).1 in
             subst (λ (v : Region). end_of v ≤ len) (sym b.region) (omega (arith, inside, room)));
         slot_fits = b.fits;
@@ -130,13 +138,17 @@ module _ (cs : List ℕ) (xs : List Guest) (ps : List Partition) (all : AllBegun
       row g x at c left (p, here) =
           let b = all.each g x p at here in
           subst (λ (o : Option Partition). guest_row (part_or o) x c) (sym here) (
-            subst (λ (d : Content). Row (region_of x) (side_of x) (part_of p) x.slot d) (same_content s.seen c (λ k. sym (left k (synced k) ∙ u.seen known k))) (found.each g x p at here).row,
-            record { mark = b.mark; follows = follows x.slot x.mark b.slot },
+            subst (PairRow (part_of p) x) (same_content s.seen c (λ k. sym (left k (synced k) ∙ u.seen known k))) (found.each g x p at here).row,
+            record { mark = b.mark; follows = follows x.slot x.mark b.slot; next_follows = follows x.behind (x.mark + length (entries_in (pending_of x.slot))) b.behind; ordered = b.ordered },
+            record {
+              behind = ((all_fit t.len room).each g x at).behind;
+              version = subst (λ (d : Content). x.paired ≡ is_paired d) (same_content s.seen c (λ k. sym (left k (synced k) ∙ u.seen known k))) (found.each g x p at here).version;
+            },
           )
 
       seen : (g : ℕ) (x : Guest) → slice_get xs g ≡ Some x → (p : Partition) × (slice_get ps g ≡ Some p) → guest_seen (parts_of ps g) x t.seen
       seen g x at (p, here) = subst (λ (o : Option Partition). guest_seen (part_or o) x t.seen) (sym here)
-          (subst (λ (d : Content). Seen (region_of x) (side_of x) (part_of p) x.slot d) (same_content s.seen t.seen (λ k. sym (u.seen known k))) (found.each g x p at here).seen)
+          (subst (PairSeen (part_of p) x) (same_content s.seen t.seen (λ k. sym (u.seen known k))) (found.each g x p at here).seen)
 
 -- what two lists of the same length have in common at each index
 same_maps : {X Y : Type 0} (f : X → ℕ) (h : Y → ℕ) (xs : List X) (ys : List Y) → length xs ≡ length ys

@@ -4,14 +4,16 @@ use Rattle.rpmb_frame.specs.Partition.{Partition, sequence_of}
 use Rattle.disk.specs.Content.{Content, zeros}
 use Rattle.disk.specs.Disk.{DiskState, DiskCall, Sync, MayLeave}
 use Rattle.intent_slots.specs.Header.{HasMagic, HasCapacities}
-use Rattle.intent_slots.specs.Layout.{region_at, slot_region, image_length}
-use Rattle.intent_slots.specs.declared.layout.Side.TheVariants.{A}
-use Rattle.intent_slots.specs.Recovered.{Part, part_of, StandsFor}
+use Rattle.intent_slots.specs.Layout.{region_at, image_length}
+use Rattle.intent_slots.specs.Payload.{Intent}
+use Rattle.intent_slots.specs.Recovered.{Part, part_of, Stands}
 use Rattle.flusher.specs.declared.phase.Phase.TheVariants.{Open}
 use Rattle.flusher.specs.declared.slot.Slot.{Slot}
 use Rattle.flusher.specs.declared.guest.Guest.{Guest}
 use Rattle.flusher.specs.Phase.{skipped}
-use Rattle.flusher.specs.Slot.{intent_of, region_of, side_of, mark_of}
+use Rattle.flusher.specs.Slot.{intent_of}
+use Rattle.flusher.specs.Pair.{region_of, mark_of}
+use Rattle.flusher.specs.SlotInvariant.{IsOrdered}
 use Rattle.flusher.specs.Store.{IntentFits, IsOf, OnlyReads, StoreState}
 use Rattle.recovery.specs.declared.fault.OpenFault.{OpenFault}
 use Rattle.recovery.specs.declared.fault.OpenFault.TheVariants as fault
@@ -39,7 +41,7 @@ pub record HasFront (len : ℕ) (c : Content) : Type 0 where
 -- the content stands for some partition of guest g
 pub record HasPart (capacities : List ℕ) (c : Content) (g : ℕ) : Type 0 where
   pub part : Part
-  pub stands : StandsFor (region_at capacities g) (slot_region (region_at capacities g) A) c part
+  pub stands : Stands (region_at capacities g) c part
 
 -- the content stands for some partition of each guest
 abbrev pub HoldsEach : List ℕ → Content → Type 0
@@ -84,6 +86,11 @@ abbrev pub IsFirst : Option Slot → Type 0
 IsFirst None = Unit {0}
 IsFirst (Some s) = s.phase ≡ Open (skipped s.intent.group.entries)
 
+-- an intent in a slot has the partition's key
+abbrev pub HasKey : Option (List ℕ) → Option Intent → Type 0
+HasKey key None = Unit {0}
+HasKey key (Some i) = key ≡ Some i.group.key
+
 -- A guest as an opening leaves it, with its partition: all of it is settled.
 pub record IsBegun (capacities : List ℕ) (g : ℕ) (x : Guest) (p : Partition) : Type 0 where
   pub region : region_of x ≡ region_at capacities g
@@ -91,8 +98,14 @@ pub record IsBegun (capacities : List ℕ) (g : ℕ) (x : Guest) (p : Partition)
   pub mark : mark_of x ≡ sequence_of p.key p.counter
   pub small : mark_of x ≤ 2 ^ 32
   pub slot : IsFirst x.slot
+  pub behind : IsFirst x.behind
   pub number : IsOf g (intent_of x.slot)
+  pub number_behind : IsOf g (intent_of x.behind)
   pub fits : IntentFits (region_of x).size (intent_of x.slot)
+  pub fits_behind : IntentFits (region_of x).size (intent_of x.behind)
+  pub key : HasKey p.key (intent_of x.slot)
+  pub key_behind : HasKey p.key (intent_of x.behind)
+  pub ordered : IsOrdered x
 
 abbrev pub EachBegun : List ℕ → List Guest → List Partition → Type 0
 EachBegun capacities guests partitions = (g : ℕ) (x : Guest) (p : Partition) → slice_get guests g ≡ Some x → slice_get partitions g ≡ Some p → IsBegun capacities g x p
@@ -106,7 +119,7 @@ pub record AllBegun (capacities : List ℕ) (guests : List Guest) (partitions : 
 -- each partition is what the content stands for
 abbrev pub AllStand : Content → List Guest → List Partition → Type 0
 AllStand c guests partitions = (g : ℕ) (x : Guest) (p : Partition) → slice_get guests g ≡ Some x → slice_get partitions g ≡ Some p
-    → StandsFor (region_of x) (side_of x) c (part_of p)
+    → Stands (region_of x) c (part_of p)
 
 -- the partitions' sequences
 abbrev pub sequences_of : List Partition → List ℕ

@@ -79,17 +79,17 @@ fn write_guests<D: Disk>(disk: &mut D, layout: &Layout) -> Result<(), DiskFault>
 }
 
 /// Writes the header and the version byte.
-fn write_header<D: Disk>(disk: &mut D, layout: &Layout) -> Result<(), DiskFault>
+fn write_header<D: Disk>(disk: &mut D, layout: &Layout, version: u8) -> Result<(), DiskFault>
     requires { image_length layout.now ≤ (D.state disk.old).len }
     ensures attempts { Attempts (is_ok result) (D.state disk.old) (D.state disk.new) }
-    ensures header { OnOk result ((D.state disk.old).faithful ≡ true → Holds zeros (D.state disk.old).len (D.state disk.old).seen → Holds (formatted layout.now) (D.state disk.old).len (D.state disk.new).seen) }
+    ensures header { OnOk result ((D.state disk.old).faithful ≡ true → Holds zeros (D.state disk.old).len (D.state disk.old).seen → Holds (formatted version layout.now) (D.state disk.old).len (D.state disk.new).seen) }
     ensures empty { IsBlank layout.now (D.state disk.old) → StaysEmpty D.state D.makes layout.now disk.old disk.new }
 {
     match disk.write_at(0, layout.header().as_slice()) {
         Ok(()) => {}
         Err(fault) => return Err(fault),
     }
-    disk.write_at(VERSION_OFFSET, &[1])
+    disk.write_at(VERSION_OFFSET, &[version])
 }
 
 /// Makes all durable.
@@ -111,7 +111,7 @@ fn sync<D: Disk>(disk: &mut D) -> Result<(), DiskFault>
 /// Answers `DiskFault` where a call failed. Other faults never come.
 pub fn format<D: Disk>(disk: &mut D, board: &BoardConfig) -> Result<(), OpenFault>
     requires { (D.state disk.old).len ≡ image_length (capacities_of board.now) }
-    ensures formatted { OnOk result ((D.state disk.old).faithful ≡ true → IsFormatted (capacities_of board.now) (D.state disk.new)) }
+    ensures formatted { OnOk result ((D.state disk.old).faithful ≡ true → IsFormatted 1 (capacities_of board.now) (D.state disk.new)) }
     ensures only { (fault : OpenFault) → result ≡ Err fault → fault ≡ OpenFault.DiskFault }
     ensures cause { OnErr result (HasRisen (D.state disk.old).failures (D.state disk.new).failures) }
     ensures unfailed { OnOk result ((D.state disk.new).failures ≡ (D.state disk.old).failures) }
@@ -120,24 +120,45 @@ pub fn format<D: Disk>(disk: &mut D, board: &BoardConfig) -> Result<(), OpenFaul
     // empty partitions.
     ensures order { ClearsFirst D.state D.makes (capacities_of board.now) disk.old disk.new }
 {
-    match write_image(disk, &Layout::of(board)) {
+    match write_image(disk, &Layout::of(board), 1) {
+        Ok(()) => Ok(()),
+        Err(_) => Err(OpenFault::DiskFault),
+    }
+}
+
+/// Makes a fresh image of version 2, in which both slots of each partition are in use: as `format`, with
+/// the version byte 2.
+///
+/// Answers `DiskFault` where a call failed. Other faults never come.
+pub fn format2<D: Disk>(disk: &mut D, board: &BoardConfig) -> Result<(), OpenFault>
+    requires { (D.state disk.old).len ≡ image_length (capacities_of board.now) }
+    ensures formatted { OnOk result ((D.state disk.old).faithful ≡ true → IsFormatted 2 (capacities_of board.now) (D.state disk.new)) }
+    ensures only { (fault : OpenFault) → result ≡ Err fault → fault ≡ OpenFault.DiskFault }
+    ensures cause { OnErr result (HasRisen (D.state disk.old).failures (D.state disk.new).failures) }
+    ensures unfailed { OnOk result ((D.state disk.new).failures ≡ (D.state disk.old).failures) }
+
+    // However it ends: until a sync succeeds it writes zeros alone, and from then on every stop leaves
+    // empty partitions.
+    ensures order { ClearsFirst D.state D.makes (capacities_of board.now) disk.old disk.new }
+{
+    match write_image(disk, &Layout::of(board), 2) {
         Ok(()) => Ok(()),
         Err(_) => Err(OpenFault::DiskFault),
     }
 }
 
 /// Writes a fresh image.
-fn write_image<D: Disk>(disk: &mut D, layout: &Layout) -> Result<(), DiskFault>
+fn write_image<D: Disk>(disk: &mut D, layout: &Layout, version: u8) -> Result<(), DiskFault>
     requires { (D.state disk.old).len ≡ image_length layout.now }
     ensures attempts { Attempts (is_ok result) (D.state disk.old) (D.state disk.new) }
-    ensures formatted { OnOk result ((D.state disk.old).faithful ≡ true → IsFormatted layout.now (D.state disk.new)) }
+    ensures formatted { OnOk result ((D.state disk.old).faithful ≡ true → IsFormatted version layout.now (D.state disk.new)) }
     ensures order { ClearsFirst D.state D.makes layout.now disk.old disk.new }
 {
     match clear(disk, layout) {
         Ok(()) => {}
         Err(fault) => return Err(fault),
     }
-    match write_header(disk, layout) {
+    match write_header(disk, layout, version) {
         Ok(()) => {}
         Err(fault) => return Err(fault),
     }

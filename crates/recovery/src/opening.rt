@@ -3,6 +3,7 @@ ghost use Rattle.std.specs.Prelude.{◌≡◌, ◌≤◌, ◌<◌, ◌+◌, ◌*
 ghost use Rattle.disk.specs.Content.{Content};
 ghost use Rattle.disk.specs.Disk.{Within, HasRisen};
 ghost use Rattle.intent_slots.specs.Layout.{capacities_of, image_length};
+ghost use Rattle.intent_slots.specs.Recovered.{is_paired};
 ghost use Rattle.flusher.specs.SlotInvariant.{IsHeld};
 ghost use Rattle.flusher.specs.Marks.{marks_of};
 ghost use Rattle.flusher.specs.Store.{AllFit, IsSynced};
@@ -11,7 +12,7 @@ ghost use Rattle.recovery.specs.Reading.{Gives, Passes, Opens, AllFound, FindsAl
 ghost use Rattle.recovery.specs.Space.{AreSpaces};
 
 use crate::fault::OpenFault;
-use crate::reading::{read, read_guest};
+use crate::reading::{read, read_guest, read_version};
 use crate::space::{Space, Supplies};
 use disk::Disk;
 use flusher::{Guest, Store};
@@ -46,6 +47,7 @@ fn read_header<D: Disk>(disk: &mut D, layout: &Layout) -> Result<(), OpenFault>
 fn read_guests<D: Disk>(
     disk: &mut D,
     layout: &Layout,
+    paired: bool,
     spaces: Vec<Space>,
     buffer: &mut [u8],
     guests: &mut Vec<Guest>,
@@ -61,12 +63,12 @@ fn read_guests<D: Disk>(
     ensures passes { Passes D.state D.makes disk.old disk.new (is_disk_fault result) }
     ensures memory { ¬ result ≡ Err OpenFault.NoMemory }
     ensures begun { OnOk result (AllBegun layout.now guests.new.items partitions.new.items) }
-    ensures finds { (c : Content) → Gives (D.state disk.old) c → FindsAll layout.now c guests.new.items partitions.new.items result }
+    ensures finds { (c : Content) → Gives (D.state disk.old) c → paired ≡ is_paired c → FindsAll layout.now c guests.new.items partitions.new.items result }
 {
     let mut spaces = spaces;
     for number in 0..layout.guests() {
         let space = spaces.remove(0);
-        match read_guest(disk, layout, number as u16, space, buffer) {
+        match read_guest(disk, layout, number as u16, paired, space, buffer) {
             Ok((guest, partition)) => {
                 guests.push_reserved(guest);
                 partitions.push_reserved(partition);
@@ -112,19 +114,28 @@ fn read_image<D: Disk>(
     if disk.len() != layout.length() {
         return Err(OpenFault::NotFormatted);
     }
-    read_guests(disk, layout, spaces, buffer, guests, partitions)
+    let paired = match read_version(disk) {
+        Ok(paired) => paired,
+        Err(_) => return Err(OpenFault::DiskFault),
+    };
+    read_guests(disk, layout, paired, spaces, buffer, guests, partitions)
 }
 
 /// Opens an image that a stop may have left: the store over it, and the partition of each guest of the
 /// board. It takes all its memory first, then makes a sync, and only after its success it reads.
 /// Nothing is written. Where a gate is open, the slot is `Open` with none of its blocks written, so that
-/// the store's `advance` writes them again.
+/// the store's `advance` writes them again. An image of version 2 has a second slot for each guest.
+///
+/// It takes for each guest its blocks and room for two intents of 16 KiB each, whatever the version,
+/// since that is read after all memory is taken, and one buffer of 16,648 bytes. Room that holds no
+/// intent is given back at the end.
 ///
 /// Answers `NoMemory` before any call, and `DiskFault` where a call failed. Else it answers, in this
 /// order, `NotFormatted` where the disk is shorter than 1,024 bytes or has another magic;
 /// `OtherConfig` where the header has another number of guests, or for a guest another capacity than
-/// the board; and `NotFormatted` where the disk hasn't the length of the board's image, or the home
-/// behind a shut gate or the payload behind an open gate (0xA5) isn't well formed.
+/// the board; and `NotFormatted` where the disk hasn't the length of the board's image, the home
+/// behind shut gates or the payload behind an open gate (0xA5) isn't well formed, or of two open
+/// payloads neither comes next after the other under the same key.
 pub fn open<D: Disk>(
     alloc: Global,
     disk: D,

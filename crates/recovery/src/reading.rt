@@ -1,19 +1,19 @@
 //! What stands in the image for one guest.
-ghost use Rattle.std.specs.Prelude.{◌≡◌, ◌≤◌, ◌<◌, ◌+◌, ◌*◌, ◌^◌, ℕ, length, is_ok, not, IfOk, OnOk};
+ghost use Rattle.std.specs.Prelude.{◌≡◌, ◌≤◌, ◌<◌, ◌+◌, ◌*◌, ◌^◌, ℕ, true, false, length, is_ok, not, IfOk, OnOk, Err};
 ghost use Rattle.disk.specs.Content.{Content, bytes_at, content_of};
 ghost use Rattle.intent_slots.specs.Layout.{region_at, slot_region, image_length};
+ghost use Rattle.intent_slots.specs.Layout.{other_side};
 ghost use Rattle.intent_slots.specs.declared.layout.Side.TheVariants.{A};
-ghost use Rattle.flusher.specs.SlotInvariant.{IsShut, IsWideOpen};
-ghost use Rattle.intent_slots.specs.Payload.{GroupFits};
-ghost use Rattle.intent_slots.specs.Recovered.{redo};
+ghost use Rattle.intent_slots.specs.Payload.{GroupFits, last_of};
+ghost use Rattle.intent_slots.specs.Recovered.{redo, is_paired, HasPayload};
 ghost use Rattle.recovery.specs.Opening.{IsBegun};
-ghost use Rattle.recovery.specs.Reading.{Gives, Passes, Finds, is_disk_fault};
+ghost use Rattle.recovery.specs.Reading.{Gives, Passes, Finds, GateIs, GatesAre, GatesFit, FindsPayload, gates_of, is_disk_fault};
 
 use crate::fault::OpenFault;
 use crate::space::Space;
 use disk::{Disk, DiskFault};
 use flusher::Guest;
-use intent_slots::{HOME_LENGTH, Home, Intent, Layout, OPEN_GATE, Side};
+use intent_slots::{HOME_LENGTH, Home, Intent, Layout, OPEN_GATE, Room, Side, VERSION_OFFSET};
 use rpmb_core::Partition;
 
 /// Reads a range.
@@ -44,11 +44,108 @@ fn redo(blocks: &mut Vec<u8>, intent: &Intent)
     intent.redo(blocks.as_mut_slice());
 }
 
-/// The guest whose gate is shut: its home and its blocks as they stand.
+/// Which gates of a partition are open.
+#[derive(Clone, Copy)]
+pub(crate) enum Gates {
+    /// None.
+    Shut,
+    /// This slot's alone.
+    One(Side),
+    /// Both.
+    Both,
+}
+
+/// Whether a gate is open.
+fn read_gate<D: Disk>(
+    disk: &mut D,
+    layout: &Layout,
+    number: u16,
+    side: Side,
+) -> Result<bool, DiskFault>
+    requires guest { number < length layout.now }
+    requires room { image_length layout.now ≤ (D.state disk.old).len }
+    ensures passes { Passes D.state D.makes disk.old disk.new (not (is_ok result)) }
+    ensures tells { IfOk result (λ wide. (c : Content) → Gives (D.state disk.old) c → GateIs wide (slot_region (region_at layout.now number) side) c) }
+{
+    let mut gate = [0; 1];
+    match read(disk, layout.extent(number).gate(side), &mut gate) {
+        Ok(()) => Ok(gate[0] == OPEN_GATE),
+        Err(fault) => Err(fault),
+    }
+}
+
+/// Which gates are open; in an image of version 1 only slot A's is looked at.
+fn read_gates<D: Disk>(
+    disk: &mut D,
+    layout: &Layout,
+    number: u16,
+    paired: bool,
+) -> Result<Gates, DiskFault>
+    requires guest { number < length layout.now }
+    requires room { image_length layout.now ≤ (D.state disk.old).len }
+    ensures passes { Passes D.state D.makes disk.old disk.new (not (is_ok result)) }
+    ensures sides { IfOk result (λ gates. GatesFit paired gates) }
+    ensures tells { IfOk result (λ gates. (c : Content) → Gives (D.state disk.old) c → GatesAre paired (region_at layout.now number) gates c) }
+{
+    let first = match read_gate(disk, layout, number, Side::A) {
+        Ok(open) => open,
+        Err(fault) => return Err(fault),
+    };
+    if !paired {
+        return Ok(gates_of(first, false));
+    }
+    match read_gate(disk, layout, number, Side::B) {
+        Ok(second) => Ok(gates_of(first, second)),
+        Err(fault) => Err(fault),
+    }
+}
+
+/// Which gates these are.
+fn gates_of(first: bool, second: bool) -> Gates
+    ensures { result ≡ gates_of first second }
+{
+    match (first, second) {
+        (false, false) => Gates::Shut,
+        (true, false) => Gates::One(Side::A),
+        (false, true) => Gates::One(Side::B),
+        (true, true) => Gates::Both,
+    }
+}
+
+/// The intent whose payload stands in a slot.
+fn read_payload<D: Disk>(
+    disk: &mut D,
+    layout: &Layout,
+    number: u16,
+    side: Side,
+    room: Room,
+    buffer: &mut [u8],
+) -> Result<Intent, OpenFault>
+    requires guest { number < length layout.now }
+    requires room { image_length layout.now ≤ (D.state disk.old).len }
+    requires buffer { length buffer.old ≡ 16648 }
+    ensures passes { Passes D.state D.makes disk.old disk.new (is_disk_fault result) }
+    ensures memory { ¬ result ≡ Err OpenFault.NoMemory }
+    ensures own { IfOk result (λ intent. (intent.guest ≡ number) × GroupFits (region_at layout.now number).size intent.group) }
+    ensures finds { (c : Content) → Gives (D.state disk.old) c → FindsPayload (region_at layout.now number) side c result }
+{
+    let extent = layout.extent(number);
+    match read(disk, extent.payload(side), buffer) {
+        Ok(()) => {}
+        Err(_) => return Err(OpenFault::DiskFault),
+    }
+    match Intent::decode(number, &extent, buffer, room) {
+        Some(intent) => Ok(intent),
+        None => Err(OpenFault::NotFormatted),
+    }
+}
+
+/// The guest whose gates are shut: its home and its blocks as they stand.
 fn read_shut<D: Disk>(
     disk: &mut D,
     layout: &Layout,
     number: u16,
+    paired: bool,
     blocks: Vec<u8>,
 ) -> Result<(Guest, Partition), OpenFault>
     requires guest { number < length layout.now }
@@ -57,7 +154,7 @@ fn read_shut<D: Disk>(
     ensures passes { Passes D.state D.makes disk.old disk.new (is_disk_fault result) }
     ensures begun { IfOk result (λ r. IsBegun layout.now number r.0 r.1) }
     ensures memory { ¬ result ≡ Err OpenFault.NoMemory }
-    ensures finds { (c : Content) → Gives (D.state disk.old) c → IsShut (slot_region (region_at layout.now number) A) c → Finds layout.now number c result }
+    ensures finds { (c : Content) → Gives (D.state disk.old) c → paired ≡ is_paired c → GatesAre paired (region_at layout.now number) Gates.Shut c → Finds layout.now number c result }
 {
     let extent = layout.extent(number);
     let mut record = [0; HOME_LENGTH];
@@ -75,12 +172,104 @@ fn read_shut<D: Disk>(
     }
     let capacity = layout.capacity(number);
     let partition = Partition::of(capacity, home.key(), home.counter(), blocks);
-    Ok((Guest::settled(extent, home.sequence()), partition))
+    Ok((Guest::settled(paired, extent, home.sequence()), partition))
 }
 
-/// The guest whose gate is open: its blocks with those of the payload over them. Its home isn't
-/// looked at.
+/// The guest behind one open gate, whose payload is known: its blocks with those of the payload over
+/// them. Its home isn't looked at.
+fn read_one<D: Disk>(
+    disk: &mut D,
+    layout: &Layout,
+    paired: bool,
+    side: Side,
+    intent: Intent,
+    blocks: Vec<u8>,
+) -> Result<(Guest, Partition), OpenFault>
+    requires guest { intent.guest < length layout.now }
+    requires room { image_length layout.now ≤ (D.state disk.old).len }
+    requires size { length blocks.items ≡ (region_at layout.now intent.guest).size }
+    requires fits { GroupFits (region_at layout.now intent.guest).size intent.group }
+    requires side { paired ≡ false → side ≡ A }
+    ensures passes { Passes D.state D.makes disk.old disk.new (is_disk_fault result) }
+    ensures begun { IfOk result (λ r. IsBegun layout.now intent.guest r.0 r.1) }
+    ensures memory { ¬ result ≡ Err OpenFault.NoMemory }
+    ensures finds { (c : Content) → Gives (D.state disk.old) c → paired ≡ is_paired c → GatesAre paired (region_at layout.now intent.guest) (Gates.One side) c → HasPayload (region_at layout.now intent.guest) (slot_region (region_at layout.now intent.guest) side) intent.group c → Finds layout.now intent.guest c result }
+{
+    let extent = layout.extent(intent.guest());
+    let mut blocks = blocks;
+    match read_blocks(disk, extent.blocks(), &mut blocks) {
+        Ok(()) => {}
+        Err(_) => return Err(OpenFault::DiskFault),
+    }
+    redo(&mut blocks, &intent);
+    let capacity = layout.capacity(intent.guest());
+    let partition = Partition::of(capacity, Some(*intent.key()), intent.last_counter(), blocks);
+    Ok((Guest::open(paired, extent, side, intent), partition))
+}
+
+/// The guest behind two open gates, whose payloads are known: its blocks with those of both over them,
+/// in their order.
+fn read_two<D: Disk>(
+    disk: &mut D,
+    layout: &Layout,
+    side: Side,
+    first: Intent,
+    second: Intent,
+    blocks: Vec<u8>,
+) -> Result<(Guest, Partition), OpenFault>
+    requires guest { first.guest < length layout.now }
+    requires same { second.guest ≡ first.guest }
+    requires room { image_length layout.now ≤ (D.state disk.old).len }
+    requires size { length blocks.items ≡ (region_at layout.now first.guest).size }
+    requires fits { GroupFits (region_at layout.now first.guest).size first.group }
+    requires then { GroupFits (region_at layout.now first.guest).size second.group }
+    requires follows { (second.group.first ≡ last_of first.group + 1) × (second.group.key ≡ first.group.key) }
+    ensures passes { Passes D.state D.makes disk.old disk.new (is_disk_fault result) }
+    ensures begun { IfOk result (λ r. IsBegun layout.now first.guest r.0 r.1) }
+    ensures memory { ¬ result ≡ Err OpenFault.NoMemory }
+    ensures finds { (c : Content) → Gives (D.state disk.old) c → true ≡ is_paired c → GatesAre true (region_at layout.now first.guest) Gates.Both c → HasPayload (region_at layout.now first.guest) (slot_region (region_at layout.now first.guest) side) first.group c → HasPayload (region_at layout.now first.guest) (slot_region (region_at layout.now first.guest) (other_side side)) second.group c → Finds layout.now first.guest c result }
+{
+    let extent = layout.extent(first.guest());
+    let mut blocks = blocks;
+    match read_blocks(disk, extent.blocks(), &mut blocks) {
+        Ok(()) => {}
+        Err(_) => return Err(OpenFault::DiskFault),
+    }
+    redo(&mut blocks, &first);
+    redo(&mut blocks, &second);
+    let capacity = layout.capacity(first.guest());
+    let partition = Partition::of(capacity, Some(*second.key()), second.last_counter(), blocks);
+    Ok((Guest::open_two(extent, side, first, second), partition))
+}
+
+/// The guest behind one open gate.
 fn read_open<D: Disk>(
+    disk: &mut D,
+    layout: &Layout,
+    number: u16,
+    paired: bool,
+    side: Side,
+    space: Space,
+    buffer: &mut [u8],
+) -> Result<(Guest, Partition), OpenFault>
+    requires guest { number < length layout.now }
+    requires room { image_length layout.now ≤ (D.state disk.old).len }
+    requires size { length space.blocks.items ≡ (region_at layout.now number).size }
+    requires buffer { length buffer.old ≡ 16648 }
+    requires side { paired ≡ false → side ≡ A }
+    ensures passes { Passes D.state D.makes disk.old disk.new (is_disk_fault result) }
+    ensures begun { IfOk result (λ r. IsBegun layout.now number r.0 r.1) }
+    ensures memory { ¬ result ≡ Err OpenFault.NoMemory }
+    ensures finds { (c : Content) → Gives (D.state disk.old) c → paired ≡ is_paired c → GatesAre paired (region_at layout.now number) (Gates.One side) c → Finds layout.now number c result }
+{
+    match read_payload(disk, layout, number, side, space.room, buffer) {
+        Ok(intent) => read_one(disk, layout, paired, side, intent, space.blocks),
+        Err(fault) => Err(fault),
+    }
+}
+
+/// The guest behind two open gates: the payload of lower sequence comes first.
+fn read_both<D: Disk>(
     disk: &mut D,
     layout: &Layout,
     number: u16,
@@ -94,25 +283,23 @@ fn read_open<D: Disk>(
     ensures passes { Passes D.state D.makes disk.old disk.new (is_disk_fault result) }
     ensures begun { IfOk result (λ r. IsBegun layout.now number r.0 r.1) }
     ensures memory { ¬ result ≡ Err OpenFault.NoMemory }
-    ensures finds { (c : Content) → Gives (D.state disk.old) c → IsWideOpen (slot_region (region_at layout.now number) A) c → Finds layout.now number c result }
+    ensures finds { (c : Content) → Gives (D.state disk.old) c → true ≡ is_paired c → GatesAre true (region_at layout.now number) Gates.Both c → Finds layout.now number c result }
 {
-    let extent = layout.extent(number);
-    match read(disk, extent.payload(Side::A), buffer) {
-        Ok(()) => {}
-        Err(_) => return Err(OpenFault::DiskFault),
-    }
-    let Some(intent) = Intent::decode(number, &extent, buffer, space.room) else {
-        return Err(OpenFault::NotFormatted);
+    let a = match read_payload(disk, layout, number, Side::A, space.room, buffer) {
+        Ok(intent) => intent,
+        Err(fault) => return Err(fault),
     };
-    let mut blocks = space.blocks;
-    match read_blocks(disk, extent.blocks(), &mut blocks) {
-        Ok(()) => {}
-        Err(_) => return Err(OpenFault::DiskFault),
+    let b = match read_payload(disk, layout, number, Side::B, space.second, buffer) {
+        Ok(intent) => intent,
+        Err(fault) => return Err(fault),
+    };
+    if b.comes_after(&a) {
+        read_two(disk, layout, Side::A, a, b, space.blocks)
+    } else if a.comes_after(&b) {
+        read_two(disk, layout, Side::B, b, a, space.blocks)
+    } else {
+        Err(OpenFault::NotFormatted)
     }
-    redo(&mut blocks, &intent);
-    let capacity = layout.capacity(number);
-    let partition = Partition::of(capacity, Some(*intent.key()), intent.last_counter(), blocks);
-    Ok((Guest::open(extent, intent), partition))
 }
 
 /// What stands in the image for one guest.
@@ -120,6 +307,7 @@ pub(crate) fn read_guest<D: Disk>(
     disk: &mut D,
     layout: &Layout,
     number: u16,
+    paired: bool,
     space: Space,
     buffer: &mut [u8],
 ) -> Result<(Guest, Partition), OpenFault>
@@ -130,16 +318,25 @@ pub(crate) fn read_guest<D: Disk>(
     ensures passes { Passes D.state D.makes disk.old disk.new (is_disk_fault result) }
     ensures begun { IfOk result (λ r. IsBegun layout.now number r.0 r.1) }
     ensures memory { ¬ result ≡ Err OpenFault.NoMemory }
-    ensures finds { (c : Content) → Gives (D.state disk.old) c → Finds layout.now number c result }
+    ensures finds { (c : Content) → Gives (D.state disk.old) c → paired ≡ is_paired c → Finds layout.now number c result }
 {
-    let mut gate = [0; 1];
-    match read(disk, layout.extent(number).gate(Side::A), &mut gate) {
-        Ok(()) => {}
-        Err(_) => return Err(OpenFault::DiskFault),
+    match read_gates(disk, layout, number, paired) {
+        Err(_) => Err(OpenFault::DiskFault),
+        Ok(Gates::Shut) => read_shut(disk, layout, number, paired, space.blocks),
+        Ok(Gates::One(side)) => read_open(disk, layout, number, paired, side, space, buffer),
+        Ok(Gates::Both) => read_both(disk, layout, number, space, buffer),
     }
-    if gate[0] == OPEN_GATE {
-        read_open(disk, layout, number, space, buffer)
-    } else {
-        read_shut(disk, layout, number, space.blocks)
+}
+
+/// Whether the image is of version 2.
+pub(crate) fn read_version<D: Disk>(disk: &mut D) -> Result<bool, DiskFault>
+    requires { 1024 ≤ (D.state disk.old).len }
+    ensures passes { Passes D.state D.makes disk.old disk.new (not (is_ok result)) }
+    ensures tells { IfOk result (λ paired. (c : Content) → Gives (D.state disk.old) c → paired ≡ is_paired c) }
+{
+    let mut version = [0; 1];
+    match read(disk, VERSION_OFFSET, &mut version) {
+        Ok(()) => Ok(version[0] == 2),
+        Err(fault) => Err(fault),
     }
 }

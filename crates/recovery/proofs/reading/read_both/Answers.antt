@@ -1,0 +1,68 @@
+use Rattle.std.proofs.Common.{◌≡◌, subst, sym, true, false, IsTrue, arith}
+use Rattle.std.specs.Prelude.{ℕ}
+use Rattle.intent_slots.specs.Layout.{region_at, slot_region, other_side}
+use Rattle.intent_slots.specs.declared.layout.Side.TheVariants.{A, B}
+use Rattle.intent_slots.specs.Recovered.{HasPayload}
+use Rattle.recovery.specs.Reading.{GatesAre, Finds}
+use Rattle.recovery.specs.declared.reading.Gates.TheVariants as gates
+use Rattle.recovery.proofs.Found.{ends_first, ends_second, ends_apart}
+use Rattle.recovery.proofs.Ways.{pass_on, pass_end, gives_on}
+use Rattle.recovery.proofs.reading.read_both.Goals as goal
+
+pub returns-in-Err-clause-finds : goal.returns-in-Err-clause-finds
+returns-in-Err-clause-finds g c content gives version wide = ends_first c.args.layout.now c.args.number content version wide c.in-Err.fault (c.in-Err.ensures.finds content gives)
+
+pub read_payload-requires-2-clause-room : goal.read_payload-requires-2-clause-room
+read_payload-requires-2-clause-room g c = (let one = (pass_end g.D.Disk.state g.D.Disk.makes _ _ _ c.in-Ok.ensures.passes).len in omega (arith, one, c.requires.room))
+
+pub returns-in-Err-read_payload-clause-passes : goal.returns-in-Err-read_payload-clause-passes
+returns-in-Err-read_payload-clause-passes g c = pass_on g.D.Disk.state g.D.Disk.makes _ _ _ _ c.in-Ok.ensures.passes c.in-Err-read_payload.ensures.passes
+
+pub returns-in-Err-read_payload-clause-finds : goal.returns-in-Err-read_payload-clause-finds
+returns-in-Err-read_payload-clause-finds g c content gives version wide =
+    let on = gives_on _ _ content (pass_end g.D.Disk.state g.D.Disk.makes _ _ _ c.in-Ok.ensures.passes) gives in
+    ends_second c.args.layout.now c.args.number content version wide c.in-Err-read_payload.fault (c.in-Err-read_payload.ensures.finds content on)
+
+pub read_two-requires-clause-room : goal.read_two-requires-clause-room
+read_two-requires-clause-room g c =
+    let one = (pass_end g.D.Disk.state g.D.Disk.makes _ _ _ c.in-Ok.ensures.passes).len in
+    let two = (pass_end g.D.Disk.state g.D.Disk.makes _ _ _ c.in-Ok-read_payload.ensures.passes).len in
+    omega (arith, one, two, c.requires.room)
+
+pub read_two-requires-then-comes_after-2-clause-room : goal.read_two-requires-then-comes_after-2-clause-room
+read_two-requires-then-comes_after-2-clause-room g c =
+    let one = (pass_end g.D.Disk.state g.D.Disk.makes _ _ _ c.in-Ok.ensures.passes).len in
+    let two = (pass_end g.D.Disk.state g.D.Disk.makes _ _ _ c.in-Ok-read_payload.ensures.passes).len in
+    omega (arith, one, two, c.requires.room)
+
+pub returns-then-comes_after-clause-passes : goal.returns-then-comes_after-clause-passes
+returns-then-comes_after-clause-passes g c = pass_on g.D.Disk.state g.D.Disk.makes _ _ _ _ (pass_on g.D.Disk.state g.D.Disk.makes _ _ _ _ c.in-Ok.ensures.passes c.in-Ok-read_payload.ensures.passes) c.read_two.ensures.passes
+
+pub returns-then-comes_after-clause-finds : goal.returns-then-comes_after-clause-finds
+returns-then-comes_after-clause-finds g c content gives version wide =
+    let on = gives_on _ _ content (pass_end g.D.Disk.state g.D.Disk.makes _ _ _ c.in-Ok.ensures.passes) gives in
+    let then = gives_on _ _ content (pass_end g.D.Disk.state g.D.Disk.makes _ _ _ c.in-Ok-read_payload.ensures.passes) on in
+    subst (λ (n : ℕ). GatesAre true (region_at c.args.layout.now n) gates.Both content → HasPayload (region_at c.args.layout.now n) (slot_region (region_at c.args.layout.now n) A) c.in-Ok.intent.group content
+    → HasPayload (region_at c.args.layout.now n) (slot_region (region_at c.args.layout.now n) (other_side A)) c.in-Ok-read_payload.intent.group content → Finds c.args.layout.now n content c.read_two.result)
+    c.in-Ok.ensures.own.0 (c.read_two.ensures.finds content then version) wide (c.in-Ok.ensures.finds content gives) (c.in-Ok-read_payload.ensures.finds content on)
+
+pub returns-then-comes_after-2-clause-passes : goal.returns-then-comes_after-2-clause-passes
+returns-then-comes_after-2-clause-passes g c = pass_on g.D.Disk.state g.D.Disk.makes _ _ _ _ (pass_on g.D.Disk.state g.D.Disk.makes _ _ _ _ c.in-Ok.ensures.passes c.in-Ok-read_payload.ensures.passes) c.read_two-then-comes_after-2.ensures.passes
+
+pub returns-then-comes_after-2-clause-finds : goal.returns-then-comes_after-2-clause-finds
+returns-then-comes_after-2-clause-finds g c content gives version wide =
+    let on = gives_on _ _ content (pass_end g.D.Disk.state g.D.Disk.makes _ _ _ c.in-Ok.ensures.passes) gives in
+    let then = gives_on _ _ content (pass_end g.D.Disk.state g.D.Disk.makes _ _ _ c.in-Ok-read_payload.ensures.passes) on in
+    subst (λ (n : ℕ). GatesAre true (region_at c.args.layout.now n) gates.Both content → HasPayload (region_at c.args.layout.now n) (slot_region (region_at c.args.layout.now n) B) c.in-Ok-read_payload.intent.group content
+    → HasPayload (region_at c.args.layout.now n) (slot_region (region_at c.args.layout.now n) (other_side B)) c.in-Ok.intent.group content → Finds c.args.layout.now n content c.read_two-then-comes_after-2.result)
+    c.in-Ok-read_payload.ensures.own.0 (c.read_two-then-comes_after-2.ensures.finds content then version) wide (c.in-Ok-read_payload.ensures.finds content on) (c.in-Ok.ensures.finds content gives)
+
+pub returns-else-comes_after-2-clause-passes : goal.returns-else-comes_after-2-clause-passes
+returns-else-comes_after-2-clause-passes g c = pass_on g.D.Disk.state g.D.Disk.makes _ _ _ _ c.in-Ok.ensures.passes c.in-Ok-read_payload.ensures.passes
+
+pub returns-else-comes_after-2-clause-finds : goal.returns-else-comes_after-2-clause-finds
+returns-else-comes_after-2-clause-finds g c content gives version wide =
+    let on = gives_on _ _ content (pass_end g.D.Disk.state g.D.Disk.makes _ _ _ c.in-Ok.ensures.passes) gives in
+    ends_apart c.args.layout.now c.args.number content version wide c.in-Ok.intent.group c.in-Ok-read_payload.intent.group (c.in-Ok.ensures.finds content gives) (c.in-Ok-read_payload.ensures.finds content on)
+    (λ next. (let is = c.comes_after.ensures.1 next in let not_it = c.if-comes_after.false in cc))
+    (λ next. (let is = c.comes_after-else-comes_after.ensures.1 next in let not_it = c.if-comes_after-2.false in cc))
