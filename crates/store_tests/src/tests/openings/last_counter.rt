@@ -1,0 +1,61 @@
+//! The write that leaves the last counter.
+use super::{Found, KEY, advance, finds, give, one_guest, store_of, written};
+use disk::CutDisk;
+use flusher::Store;
+use intent_slots::{Home, Intent};
+use rpmb_frame::BoardConfig;
+use std::alloc::Global;
+use std::test::Fail;
+
+/// The write of one block at address 8 that leaves the last counter.
+fn last(alloc: Global) -> Result<Intent, Fail> {
+    Ok(Intent::write(0, KEY, 0xffff_ffff, 8, vec![in alloc; 0x77; 256]?))
+}
+
+/// Gives that write, and settles it.
+fn write_last(alloc: Global, store: &mut Store<CutDisk>) -> Result<(), Fail> {
+    give(store, last(alloc)?);
+    advance(store, 4);
+    Ok(())
+}
+
+/// A store whose guest has the last counter but one, or the last one.
+fn last_store(alloc: Global, board: &BoardConfig, writes: bool) -> Result<Store<CutDisk>, Fail> {
+    let home = Home::with_key(KEY, 0xffff_fffe).encode();
+    let disk = written(alloc, board, 1024, &home)?;
+    let mut store = store_of(alloc, disk, board)?;
+    if writes {
+        write_last(alloc, &mut store)?;
+    }
+    Ok(store)
+}
+
+/// Whether the last write is made, the mark, and what an opening finds.
+static LAST_COUNTERS: [(bool, u64, Found); 2] = [
+    (false, 0xffff_ffff, (true, 0xffff_fffe, [0; 3])),
+    (true, 0x1_0000_0000, (true, 0xffff_ffff, [0, 0, 0x77])),
+];
+
+fn finds_marked(
+    alloc: Global,
+    board: &BoardConfig,
+    writes: bool,
+    mark: u64,
+    wanted: &Found,
+) -> Result<bool, Fail> {
+    let store = last_store(alloc, board, writes)?;
+    let marked = store.marks().get(0) == mark;
+    Ok(finds(alloc, store.into_disk(), board, &[*wanted])? && marked)
+}
+
+fn finds_last(alloc: Global, writes: bool, mark: u64, wanted: &Found) -> Result<bool, Fail> {
+    finds_marked(alloc, &one_guest(alloc)?, writes, mark, wanted)
+}
+
+#[test]
+fn last_counter(rt: HostRuntime) -> Result<(), Fail> {
+    for (writes, mark, wanted) in &LAST_COUNTERS {
+        assert!(rt; finds_last(rt.alloc(), *writes, *mark, wanted)?);
+    }
+    Ok(())
+}
