@@ -1,6 +1,6 @@
 -- What was read for one guest is what the content holds.
 use Rattle.std.proofs.Common.{◌≡◌, ◌⊎◌, inl, inr, ⊎_elim, Bool, true, false, Option, Some, None, ℕ, ◌+◌, ◌*◌, ◌^◌, ◌≤◌, ◌<◌, List, length, drop, get_or, refl, ap, sym, ◌∙◌, subst, arith}
-use Rattle.std.specs.Prelude.{slice_index, not, ◌==◌}
+use Rattle.std.specs.Prelude.{slice_index, ◌==◌}
 use Rattle.std.proofs.lemmas.Bool.{cases_lt, cases_eq}
 use Rattle.std.proofs.lemmas.Bool.Decides.{nat_tests}
 use Rattle.std.proofs.lemmas.List.{get_or_past}
@@ -14,7 +14,7 @@ use Rattle.intent_slots.proofs.Decoding.{one_group}
 use Rattle.intent_slots.specs.Fields.{Agree}
 use Rattle.intent_slots.specs.Home.{IsHome}
 use Rattle.intent_slots.specs.Payload.{Group, GroupFits, Intent, IsPayload, last_of, payload_length}
-use Rattle.intent_slots.specs.Recovered.{Part, part_of, HoldsHome, HasPayload, ByHome, ByPayload, StandsForTwo, ByNeither, ByOne, ByBoth, StandsIn, is_paired, redo, redone, blocks_of, after}
+use Rattle.intent_slots.specs.Recovered.{Part, HoldsHome, HasPayload, ByHome, ByPayload, StandsForTwo, ByNeither, ByOne, ByBoth, StandsIn, is_paired, redo, redone, blocks_of, after}
 use Rattle.intent_slots.proofs.Bytes.{length-bytes_at}
 use Rattle.intent_slots.proofs.Over.{get_bytes}
 use Rattle.intent_slots.proofs.ReadsBack.{home_own, payload_own}

@@ -12,8 +12,7 @@ use Rattle.intent_slots.proofs.Starts.{lies_inside, overlaps_never}
 use Rattle.flusher.specs.declared.guest.Guest.{Guest}
 use Rattle.flusher.specs.declared.slot.Slot.{Slot}
 use Rattle.flusher.specs.declared.phase.Phase.{Phase}
-use Rattle.flusher.specs.declared.phase.Phase.TheVariants.{Open}
-use Rattle.flusher.specs.Phase.{skipped, is_settled, is_opening}
+use Rattle.flusher.specs.Phase.{is_settled, is_opening}
 use Rattle.flusher.specs.Slot.{pending_of, opening_in}
 use Rattle.flusher.specs.Pair.{region_of, mark_of, entries_in}
 use Rattle.flusher.proofs.Table.{settled_stands}

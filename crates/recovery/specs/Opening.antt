@@ -1,5 +1,5 @@
 -- What an opening answers, and what it leaves as it was (own).
-use Rattle.std.specs.Prelude.{◌≡◌, ℕ, ◌≤◌, ◌<◌, ◌^◌, Bool, true, false, List, length, map, slice_get, slice_index, Option, Some, None, Result, Ok, Err}
+use Rattle.std.specs.Prelude.{◌≡◌, ℕ, ◌≤◌, ◌<◌, ◌^◌, true, false, List, length, map, slice_get, slice_index, Option, Some, None, Result, Ok, Err}
 use Rattle.rpmb_frame.specs.Partition.{Partition, sequence_of}
 use Rattle.disk.specs.Content.{Content, zeros}
 use Rattle.disk.specs.Disk.{DiskState, DiskCall, Sync, MayLeave}

@@ -22,7 +22,7 @@ use rpmb_frame::BoardConfig;
 use std::alloc::Global;
 
 /// Whether the front of the image is the header of this layout.
-fn read_header<D: Disk>(disk: &mut D, layout: &Layout) -> Result<(), OpenFault>
+pub(crate) fn read_header<D: Disk>(disk: &mut D, layout: &Layout) -> Result<(), OpenFault>
     requires { length layout.now ≤ 64 }
     ensures passes { Passes D.state D.makes disk.old disk.new (is_disk_fault result) }
     ensures memory { ¬ result ≡ Err OpenFault.NoMemory }

@@ -1,6 +1,6 @@
 use Rattle.std.proofs.Common.{◌∙◌, subst, refl, ℕ, arith}
 use Rattle.recovery.specs.Opening.{AnswersFault}
-use Rattle.recovery.proofs.Ways.{untouched_here, opens_failed, opens_went, sync_end, pass_on, pass_end, gives_on, untouched_on, reads_on}
+use Rattle.recovery.proofs.Ways.{untouched_here, opens_failed, opens_went, sync_end, pass_on, pass_end, gives_on, reads_on}
 use Rattle.recovery.proofs.Guests.{header_answers, on_found, all_answers}
 use Rattle.recovery.proofs.Zeros.{on_ok, image_long}
 use Rattle.recovery.proofs.opening.read_image.Goals as goal

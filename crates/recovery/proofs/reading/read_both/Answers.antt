@@ -1,4 +1,4 @@
-use Rattle.std.proofs.Common.{◌≡◌, subst, sym, true, false, IsTrue, arith}
+use Rattle.std.proofs.Common.{subst, true, arith}
 use Rattle.std.specs.Prelude.{ℕ}
 use Rattle.intent_slots.specs.Layout.{region_at, slot_region, other_side}
 use Rattle.intent_slots.specs.declared.layout.Side.TheVariants.{A, B}

@@ -1,0 +1,13 @@
+use Rattle.std.proofs.Common.{refl}
+use Rattle.disk.specs.CutDisk.{CutMakes, cut_state}
+use Rattle.intent_slots.specs.Layout.{capacities_of}
+use Rattle.recovery.specs.Upgrade.{LeavesAsBefore}
+use Rattle.board.proofs.Opened.{within_end}
+use Rattle.board.proofs.upgrading.upgrade_whole.Goals as goal
+
+pub returns : goal.returns
+returns c =
+    let before = c.args.disk.now in
+    let after = c.upgrade.new.disk in
+    let back = within_end cut_state CutMakes (LeavesAsBefore (capacities_of c.args.board.now) (cut_state before)) before after c.upgrade.ensures.any_stop in
+    record { answer = c.upgrade.result; calls = c.upgrade.ensures.calls; answers = c.upgrade.ensures.answers refl; back = back }
