@@ -4,6 +4,7 @@ ghost use Rattle.clap.specs.Words.{App, app_of, rule_of, with_subcommand};
 ghost use Rattle.clap.specs.declared.builder.command.Command.TheViews.{out-Command as fields_of};
 ghost use Rattle.command_line.specs.Program.{bare, on_board, on_script, program, required};
 
+use crate::help;
 use clap::{Arg, Command};
 use std::alloc::{AllocError, Global};
 
@@ -15,19 +16,32 @@ fn required<'a>(alloc: Global, id: &'a str, help: &'a str) -> Arg<'a>
     Arg::new(alloc, id).required(true).help(help)
 }
 
-fn on_board<'a>(alloc: Global, name: &'a str, about: &'a str) -> Result<Command<'a>, AllocError>
+/// A command that takes a board file; `more` stands below its usage.
+fn on_board<'a>(
+    alloc: Global,
+    name: &'a str,
+    about: &'a str,
+    more: &'a str,
+) -> Result<Command<'a>, AllocError>
     ensures shape { IfOk result (λ c. app_of c ≡ on_board name.entry.now) }
     ensures local { IfOk result (λ c. (fields_of c).has_globals ≡ false) }
 {
     let board = required(alloc, "BOARD", "The board file (TOML): what the guests are");
-    Command::new(alloc, name).about(about).arg(board)
+    let command = Command::new(alloc, name).about(about).after_help(more);
+    command.arg(board)
 }
 
-fn on_script<'a>(alloc: Global, name: &'a str, about: &'a str) -> Result<Command<'a>, AllocError>
+/// A command that takes a board file and a script.
+fn on_script<'a>(
+    alloc: Global,
+    name: &'a str,
+    about: &'a str,
+    more: &'a str,
+) -> Result<Command<'a>, AllocError>
     ensures shape { IfOk result (λ c. app_of c ≡ on_script name.entry.now) }
     ensures local { IfOk result (λ c. (fields_of c).has_globals ≡ false) }
 {
-    let command = on_board(alloc, name, about)?;
+    let command = on_board(alloc, name, about, more)?;
     let script = required(
         alloc,
         "SCRIPT",
@@ -43,6 +57,7 @@ fn bare<'a>(alloc: Global) -> Command<'a>
         .about(
             "Performs scripts on virtio RPMB devices, and makes and shows images of their partitions",
         )
+        .after_help(help::PROGRAM)
         .subcommand_required(true)
 }
 
@@ -69,20 +84,28 @@ pub fn program<'a>(alloc: Global) -> Result<Command<'a>, AllocError>
         alloc,
         "format",
         "Makes a fresh image of the board, over what its file holds",
+        help::FORMAT,
     );
     let program = with_command(bare(alloc), format)?;
-    let show = on_board(alloc, "show", "Prints what the image of the board holds");
+    let show = on_board(
+        alloc,
+        "show",
+        "Prints what the image of the board holds",
+        help::SHOW,
+    );
     let program = with_command(program, show)?;
     let run = on_script(
         alloc,
         "run",
         "Performs a script, line by line, and prints a line for each chain",
+        help::RUN,
     );
     let program = with_command(program, run)?;
     let serve = on_script(
         alloc,
         "serve",
         "Performs a script, all guests at once, and prints each guest's lines",
+        help::SERVE,
     );
     with_command(program, serve)
 }

@@ -3,6 +3,7 @@
 
 mod command;
 mod grammar;
+mod help;
 mod words;
 
 pub use command::Command;

@@ -5,15 +5,16 @@ ghost use Rattle.intent_slots.specs.Layout.{capacities_of, image_length};
 ghost use Rattle.commands.specs.Ending.{IsFormat};
 
 use crate::fault::Fault;
-use crate::files::{create_image, open_image, read_board_file, read_image_board, read_text};
+use crate::files::{read_board_file, read_image_board, read_text};
 use crate::fresh::fresh_disk;
+use crate::image_files::{create_image, open_image, open_shown};
 use crate::performing::perform;
 use crate::reporting::report;
 use command_line::{Command, WordsError, read_words};
 use disk::Disk;
 use intent_slots::Layout;
 use rpmb_frame::BoardConfig;
-use std::io::{BufWriter, Write};
+use std::io::{BufWriter, IsTerminal, LineWriter, Write};
 use std::sync::Wait;
 use std::thread::Threads;
 
@@ -63,40 +64,49 @@ fn perform_script<R: AllocGlobal + Threads + Wait + Sync, W: Write>(
 }
 
 /// Reads the files that the command names, and performs it on them.
-fn perform_on_files<R: AllocGlobal + Threads + Wait + Sync>(
+fn perform_on_files<R: AllocGlobal + Threads + Wait + Sync, W: Write>(
     rt: &HostRuntime,
     threads: &R,
     command: Command<'_>,
+    out: &mut W,
 ) -> Result<u8, Fault> {
-    // Nothing is asked for after a file was cut to its length, but what the command itself needs.
-    let Ok(mut out) = BufWriter::new(rt.alloc(), rt.stdout()) else {
-        return Err(Fault::NoMemory);
-    };
     match command {
-        Command::Format { board } => {
-            let (board, image) = read_image_board(rt, board)?;
-            let disk = create_image(rt, image.as_str(), Layout::of(&board).length())?;
-            Ok(perform_on(rt, threads, command, &board, "", disk, &mut out))
+        Command::Format { board: path } => {
+            let (board, image) = read_image_board(rt, path)?;
+            let length = Layout::of(&board).length();
+            let disk = create_image(rt, image.as_str(), path, length)?;
+            Ok(perform_on(rt, threads, command, &board, "", disk, out))
         }
         Command::Show { board } => {
             let (board, image) = read_image_board(rt, board)?;
-            let disk = open_image(rt, image.as_str())?;
-            Ok(perform_on(rt, threads, command, &board, "", disk, &mut out))
+            let disk = open_shown(rt, image.as_str())?;
+            Ok(perform_on(rt, threads, command, &board, "", disk, out))
         }
         Command::Run { board, script } | Command::Serve { board, script } => {
             let (board, image) = read_board_file(rt, board)?;
             let script = read_text(rt, script)?;
-            perform_script(
-                rt,
-                threads,
-                command,
-                &board,
-                script.as_str(),
-                image,
-                &mut out,
-            )
+            perform_script(rt, threads, command, &board, script.as_str(), image, out)
         }
     }
+}
+
+/// Performs the command with what it prints held back: to the end of each line where a person reads it at a
+/// terminal, else until there is much of it. All room is taken before a file is looked at.
+fn perform_with_output<R: AllocGlobal + Threads + Wait + Sync>(
+    rt: &HostRuntime,
+    threads: &R,
+    command: Command<'_>,
+) -> Result<u8, Fault> {
+    if rt.stdout().is_terminal() {
+        let Ok(mut out) = LineWriter::new(rt.alloc(), rt.stdout()) else {
+            return Err(Fault::NoMemory);
+        };
+        return perform_on_files(rt, threads, command, &mut out);
+    }
+    let Ok(mut out) = BufWriter::new(rt.alloc(), rt.stdout()) else {
+        return Err(Fault::NoMemory);
+    };
+    perform_on_files(rt, threads, command, &mut out)
 }
 
 /// Prints why the words give no command, or the help that they ask for.
@@ -129,7 +139,7 @@ pub fn status_of<R: AllocGlobal + Threads + Wait + Sync>(
     words: &[String],
 ) -> u8 {
     match read_words(rt.alloc(), words) {
-        Ok(command) => match perform_on_files(rt, threads, command) {
+        Ok(command) => match perform_with_output(rt, threads, command) {
             Ok(status) => status,
             Err(fault) => report(fault, &mut rt.stderr()),
         },

@@ -1,6 +1,7 @@
 mod boards;
 mod cases;
 mod files;
+mod held;
 mod performing;
 mod scripts;
 mod statuses;

@@ -81,7 +81,7 @@ fn formatted<R: AllocGlobal + Threads + Wait + Sync>(
     path: &str,
 ) -> Result<(u8, Vec<u8>, Vec<u8>), Fail> {
     let board = board_of(rt.alloc(), ONE)?;
-    let disk = create_image(rt, path, Layout::of(&board).length())?;
+    let disk = create_image(rt, path, "no board", Layout::of(&board).length())?;
     perform_on(threads, FORMAT, &board, disk)
 }
 
@@ -193,15 +193,16 @@ fn refuses_images(rt: HostRuntime) -> Result<(), Fail> {
 #[test]
 fn makes_images_for_their_owner_alone(rt: HostRuntime) -> Result<(), Fail> {
     let path = "mode.img";
-    let made = create_image(&rt, path, 1024)?;
+    let made = create_image(&rt, path, "no board", 1024)?;
     assert_eq!(rt; made.len(), 1024);
     assert_eq!(rt;
         fs::metadata(&rt, path)?.permissions().mode() & 0o7777,
         0o600
     );
+    drop(made);
     // A file that is there keeps its mode.
     fs::set_permissions(&rt, path, fs::Permissions::from_mode(0o640))?;
-    let made = create_image(&rt, path, 1024)?;
+    let made = create_image(&rt, path, "no board", 1024)?;
     assert_eq!(rt; made.len(), 1024);
     assert_eq!(rt;
         fs::metadata(&rt, path)?.permissions().mode() & 0o7777,
@@ -216,7 +217,7 @@ fn refuses_files(rt: HostRuntime) -> Result<(), Fail> {
     fs::create_dir(&rt, "folder")?;
     for path in ["missing/image", "folder", ""] {
         assert!(rt;
-            create_image(&rt, path, 1024).err() == Some(Fault::FileFault),
+            create_image(&rt, path, "no board", 1024).err() == Some(Fault::FileFault),
             "at {path}"
         );
         assert!(rt;

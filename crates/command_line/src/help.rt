@@ -1,0 +1,39 @@
+//! The texts that stand below a command's usage in its help.
+
+/// A board and a script, as a reader can type them.
+pub const PROGRAM: &str =
+    r#"A board file says what the guests are, and in which file their image is kept:
+
+    image = "board.img"
+
+    [[guest]]
+    capacity = 1
+
+A script says what they do. Here guest 0 offers a request of no bytes, with 512 bytes
+for the reply, and then its device is reset; rpmb makes the lines of real requests:
+
+    chain 0 - 512
+    reset 0
+
+One image is for one program at a time. Status 0; 1 for a fault, which is told on
+standard error as 'rpmbd: N NAME'; 2 for words that are no command."#;
+
+pub const FORMAT: &str = r"Prints 'formatted LEN', the length of the image in bytes.
+It asks nothing: the keys, counters and blocks that the file held are gone.
+Status 0; 1 for a fault, told on standard error; 2 for words that are no command.";
+
+pub const SHOW: &str =
+    r"Prints for each guest 'guest G capacity C key yes counter N', or 'key no counter 0',
+and then 'block G A HEX' for each of its blocks that isn't all zeros.
+Status 0; 1 for a fault, told on standard error; 2 for words that are no command.";
+
+pub const RUN: &str =
+    r"Prints for each chain 'used G LEN HEX': the guest, and the length and bytes of the reply,
+or '-' for none. Where the guest has spoiled its rings: 'needs-reset G', 'no-answer G',
+'bad-used G'. What a printed line tells is settled in the image.
+Status 0; 1 for a fault, told on standard error; 2 for words that are no command.";
+
+pub const SERVE: &str =
+    r"Prints at its end the lines that 'run' prints, those of guest 0 first, then those of
+guest 1, and so on.
+Status 0; 1 for a fault, told on standard error; 2 for words that are no command.";

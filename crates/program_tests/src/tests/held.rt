@@ -1,0 +1,204 @@
+//! One image is for one program at a time, but that several may show it.
+
+use board_file::read_board;
+use command_line::Command;
+use commands::{Fault, create_image, open_image, open_shown, perform, status_of};
+use disk::Disk;
+use intent_slots::Layout;
+use rpmb_frame::BoardConfig;
+use std::alloc::Global;
+use std::io::Write;
+use std::os::unix::fs::PermissionsExt;
+use std::sync::Wait;
+use std::test::Fail;
+use std::thread::Threads;
+use std::{fs, io};
+
+const BOARD: &str = "image = \"held.img\"\n[[guest]]\ncapacity = 1\n";
+
+const SCRIPT: &str = "chain 0 - 512\n";
+
+// The words of each command over that image, and whether it only looks at it.
+const WORDS: [(&str, bool); 4] = [
+    ("format held.toml", false),
+    ("show held.toml", true),
+    ("run held.toml held.txt", false),
+    ("serve held.toml held.txt", false),
+];
+
+/// A writer that has a second program run as soon as the first one writes, which is while the first holds
+/// its image.
+#[derive(Drop)]
+struct Second<'a, R> {
+    rt: &'a HostRuntime,
+    threads: &'a R,
+    words: &'a [String],
+    status: Option<u8>,
+}
+
+impl<'a, R: AllocGlobal + Threads + Wait + Sync> Write for Second<'a, R> {
+    fn write(&mut self, bytes: &[u8]) -> io::Result<usize> {
+        if self.status.is_none() {
+            self.status = Some(status_of(self.rt, self.threads, self.words));
+        }
+        Ok(bytes.len())
+    }
+
+    fn flush(&mut self) -> io::Result<()> {
+        Ok(())
+    }
+}
+
+fn words_of(alloc: Global, line: &str) -> Result<Vec<String>, Fail> {
+    let mut words = Vec::new(alloc);
+    words.push(String::from_str(alloc, "rpmbd")?)?;
+    for word in line.split(' ') {
+        words.push(String::from_str(alloc, word)?)?;
+    }
+    Ok(words)
+}
+
+/// Performs the first program's command on its disk, and the second one within it, and gives their statuses.
+fn both<R: AllocGlobal + Threads + Wait + Sync, D: Disk + Send + Drop>(
+    threads: &R,
+    command: Command<'_>,
+    board: &BoardConfig,
+    disk: D,
+    second: &mut Second<'_, R>,
+) -> Result<(u8, Option<u8>), Fail> {
+    if disk.len() != Layout::of(board).length() {
+        return Err("another length").map_err(Fail::from);
+    }
+    let mut err = Vec::new(threads.alloc());
+    let (status, _) = perform(threads, command, board, SCRIPT, disk, second, &mut err);
+    Ok((status, second.status))
+}
+
+/// The two statuses, where the first program performs this command.
+fn statuses<R: AllocGlobal + Threads + Wait + Sync>(
+    rt: &HostRuntime,
+    threads: &R,
+    first: usize,
+    second: &mut Second<'_, R>,
+) -> Result<(u8, Option<u8>), Fail> {
+    let (board, _) = read_board(rt.alloc(), BOARD)?;
+    let (path, script) = ("held.toml", "held.txt");
+    match first {
+        0 => {
+            let length = Layout::of(&board).length();
+            let disk = create_image(rt, "held.img", path, length)?;
+            both(
+                threads,
+                Command::Format { board: path },
+                &board,
+                disk,
+                second,
+            )
+        }
+        1 => {
+            let disk = open_shown(rt, "held.img")?;
+            both(threads, Command::Show { board: path }, &board, disk, second)
+        }
+        2 => {
+            let disk = open_image(rt, "held.img")?;
+            let command = Command::Run {
+                board: path,
+                script,
+            };
+            both(threads, command, &board, disk, second)
+        }
+        _ => {
+            let disk = open_image(rt, "held.img")?;
+            let command = Command::Serve {
+                board: path,
+                script,
+            };
+            both(threads, command, &board, disk, second)
+        }
+    }
+}
+
+#[test]
+fn one_program_holds_an_image(rt: HostRuntime) -> Result<(), Fail> {
+    fs::write(&rt, "held.toml", BOARD.as_bytes())?;
+    fs::write(&rt, "held.txt", SCRIPT.as_bytes())?;
+    let words = words_of(rt.alloc(), "format held.toml")?;
+    assert_eq!(rt; status_of(&rt, &rt, words.as_slice()), 0);
+    let image = fs::read(&rt, "held.img")?;
+    for (first, (line, looks)) in WORDS.iter().enumerate() {
+        for (other, beside) in &WORDS {
+            let words = words_of(rt.alloc(), *other)?;
+            let mut second = Second {
+                rt: &rt,
+                threads: &rt,
+                words: words.as_slice(),
+                status: None,
+            };
+            let ended = statuses(&rt, &rt, first, &mut second)?;
+            let refused = if *looks && *beside { 0 } else { 1 };
+            assert_eq!(rt; ended, (0, Some(refused)), "{line} and {other}");
+            // The script's request is malformed, so each command leaves the fresh image.
+            assert!(rt; fs::read(&rt, "held.img")?.as_slice() == image.as_slice());
+        }
+    }
+    for path in ["held.toml", "held.txt", "held.img"] {
+        fs::remove_file(&rt, path)?;
+    }
+    Ok(())
+}
+
+#[test]
+fn an_image_that_is_held_is_refused(rt: HostRuntime) -> Result<(), Fail> {
+    let held = create_image(&rt, "kept.img", "kept.toml", 1024)?;
+    assert_eq!(rt; held.len(), 1024);
+    assert!(rt; open_image(&rt, "kept.img").err() == Some(Fault::FileFault));
+    assert!(rt; open_shown(&rt, "kept.img").err() == Some(Fault::FileFault));
+    let again = create_image(&rt, "kept.img", "kept.toml", 2048);
+    assert!(rt; again.err() == Some(Fault::FileFault));
+    assert_eq!(rt; fs::metadata(&rt, "kept.img")?.len(), 1024);
+    drop(held);
+    // Two may look at it, and then nobody may write.
+    let shown = open_shown(&rt, "kept.img")?;
+    assert_eq!(rt; open_shown(&rt, "kept.img")?.len(), 1024);
+    assert!(rt; open_image(&rt, "kept.img").err() == Some(Fault::FileFault));
+    drop(shown);
+    assert_eq!(rt; open_image(&rt, "kept.img")?.len(), 1024);
+    fs::remove_file(&rt, "kept.img")?;
+    Ok(())
+}
+
+#[test]
+fn a_board_file_is_no_image(rt: HostRuntime) -> Result<(), Fail> {
+    let text = "image = \"own.toml\"\n[[guest]]\ncapacity = 1\n";
+    fs::write(&rt, "own.toml", text.as_bytes())?;
+    for path in ["own.toml", "./own.toml"] {
+        let made = create_image(&rt, path, "own.toml", 1024);
+        assert!(rt; made.err() == Some(Fault::FileFault), "{path}");
+    }
+    let words = words_of(rt.alloc(), "format own.toml")?;
+    assert_eq!(rt; status_of(&rt, &rt, words.as_slice()), 1);
+    assert_eq!(rt; fs::read_to_string(&rt, "own.toml")?.as_str(), text);
+    // What is printed goes there.
+    let output = create_image(&rt, "/dev/stdout", "own.toml", 1024);
+    assert!(rt; output.err() == Some(Fault::FileFault));
+    fs::remove_file(&rt, "own.toml")?;
+    Ok(())
+}
+
+#[test]
+fn an_image_is_shown_where_writing_is_refused(rt: HostRuntime) -> Result<(), Fail> {
+    let board = "image = \"read.img\"\n[[guest]]\ncapacity = 1\n";
+    fs::write(&rt, "read.toml", board.as_bytes())?;
+    let words = words_of(rt.alloc(), "format read.toml")?;
+    assert_eq!(rt; status_of(&rt, &rt, words.as_slice()), 0);
+    fs::set_permissions(&rt, "read.img", fs::Permissions::from_mode(0o400))?;
+    let words = words_of(rt.alloc(), "show read.toml")?;
+    assert_eq!(rt; status_of(&rt, &rt, words.as_slice()), 0);
+    let mut shown = open_shown(&rt, "read.img")?;
+    assert!(rt; shown.sync().is_ok());
+    assert_eq!(rt; shown.len(), 167_424);
+    drop(shown);
+    fs::remove_file(&rt, "read.img")?;
+    fs::remove_file(&rt, "read.toml")?;
+    Ok(())
+}
