@@ -30,13 +30,14 @@ bare =
 -- the program with its commands; `clap` adds `help`, and the flags `-h` and `--help` on each level
 unfoldable pub program : App
 program =
-    with_subcommand (with_subcommand (with_subcommand (with_subcommand bare (on_board (codes "format")).top)
-    (on_board (codes "show")).top) (on_script (codes "run")).top) (on_script (codes "serve")).top
+    with_subcommand (with_subcommand (with_subcommand (with_subcommand (with_subcommand bare (on_board (codes "format")).top)
+    (on_board (codes "show")).top) (on_board (codes "upgrade")).top) (on_script (codes "run")).top) (on_script (codes "serve")).top
 
 -- a command's name and the values of its arguments ask for the command, on its files
 abbrev pub AsksFor : Text → Option Text → Option Text → Command → Type 0
 AsksFor name board script (command.Format b) = (name ≡ codes "format") × (board ≡ Some b.now)
 AsksFor name board script (command.Show b) = (name ≡ codes "show") × (board ≡ Some b.now)
+AsksFor name board script (command.Upgrade b) = (name ≡ codes "upgrade") × (board ≡ Some b.now)
 AsksFor name board script (command.Run b s) =
     (name ≡ codes "run") × (board ≡ Some b.now) × (script ≡ Some s.now)
 AsksFor name board script (command.Serve b s) =

@@ -13,6 +13,11 @@ pub enum Command<'a> {
         /// The path of the board file.
         board: &'a str,
     },
+    /// Makes the image of a board one of version 2.
+    Upgrade {
+        /// The path of the board file.
+        board: &'a str,
+    },
     /// Performs a script on the guests of a board, one line after another.
     Run {
         /// The path of the board file.

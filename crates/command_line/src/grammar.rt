@@ -94,6 +94,13 @@ pub fn program<'a>(alloc: Global) -> Result<Command<'a>, AllocError>
         help::SHOW,
     );
     let program = with_command(program, show)?;
+    let upgrade = on_board(
+        alloc,
+        "upgrade",
+        "Makes the image of the board one of version 2, in place",
+        help::UPGRADE,
+    );
+    let program = with_command(program, upgrade)?;
     let run = on_script(
         alloc,
         "run",

@@ -27,6 +27,12 @@ pub const SHOW: &str =
 and then 'block G A HEX' for each of its blocks that isn't all zeros.
 Status 0; 1 for a fault, told on standard error; 2 for words that are no command.";
 
+pub const UPGRADE: &str =
+    r"Prints 'upgraded', or 'already 2' for an image of version 2, which it leaves as it is.
+Keys, counters and blocks stay, wherever it is stopped; it may be called again. There is
+no way back to version 1.
+Status 0; 1 for a fault, told on standard error; 2 for words that are no command.";
+
 pub const RUN: &str =
     r"Prints for each chain 'used G LEN HEX': the guest, and the length and bytes of the reply,
 or '-' for none. Where the guest has spoiled its rings: 'needs-reset G', 'no-answer G',

@@ -39,6 +39,7 @@ fn command_of<'a>(
     match (name, board, script) {
         ("format", Some(board), _) => Some(Command::Format { board }),
         ("show", Some(board), _) => Some(Command::Show { board }),
+        ("upgrade", Some(board), _) => Some(Command::Upgrade { board }),
         ("run", Some(board), Some(script)) => Some(Command::Run { board, script }),
         ("serve", Some(board), Some(script)) => Some(Command::Serve { board, script }),
         _ => None,

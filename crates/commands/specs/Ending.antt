@@ -19,30 +19,42 @@ use Rattle.commands.specs.Image.{AreOf}
 use Rattle.commands.specs.Running.{AreWithin, IsChain, answered_in}
 use Rattle.commands.specs.Transcript.{IsBadAt, Says, StoresNothing, Told, first_told}
 use Rattle.commands.specs.Serving.{ServeEnds, ServePrints}
+use Rattle.commands.specs.Upgrading.{UpgradeEnds}
 use Rattle.commands.specs.Failing.{HasFailed, IsChainAt, text_when}
 
 abbrev pub IsRun : Command → Type 0
 IsRun (command.Run board script) = Unit {0}
 IsRun (command.Format board) = ⊥
 IsRun (command.Show board) = ⊥
+IsRun (command.Upgrade board) = ⊥
 IsRun (command.Serve board script) = ⊥
 
 abbrev pub IsFormat : Command → Type 0
 IsFormat (command.Run board script) = ⊥
 IsFormat (command.Format board) = Unit {0}
 IsFormat (command.Show board) = ⊥
+IsFormat (command.Upgrade board) = ⊥
 IsFormat (command.Serve board script) = ⊥
 
 abbrev pub IsShow : Command → Type 0
 IsShow (command.Run board script) = ⊥
 IsShow (command.Format board) = ⊥
 IsShow (command.Show board) = Unit {0}
+IsShow (command.Upgrade board) = ⊥
 IsShow (command.Serve board script) = ⊥
+
+abbrev pub IsUpgrade : Command → Type 0
+IsUpgrade (command.Run board script) = ⊥
+IsUpgrade (command.Format board) = ⊥
+IsUpgrade (command.Show board) = ⊥
+IsUpgrade (command.Upgrade board) = Unit {0}
+IsUpgrade (command.Serve board script) = ⊥
 
 abbrev pub IsServe : Command → Type 0
 IsServe (command.Run board script) = ⊥
 IsServe (command.Format board) = ⊥
 IsServe (command.Show board) = ⊥
+IsServe (command.Upgrade board) = ⊥
 IsServe (command.Serve board script) = Unit {0}
 
 -- each line of the script says what a script may say
@@ -144,6 +156,7 @@ abbrev pub Ends : Command → List GuestConfig → List ℕ → DiskState → Di
 Ends (command.Run b s) board script old new f = RunEnds board script old new f
 Ends (command.Format b) board script old new f = FormatEnds (capacities_of board) old new f
 Ends (command.Show b) board script old new f = ShowEnds (capacities_of board) old new f
+Ends (command.Upgrade b) board script old new f = UpgradeEnds (capacities_of board) old new f
 Ends (command.Serve b s) board script old new f = ServeEnds board script old f
 
 -- The disk was not called at all, or synced and then only read.
@@ -260,6 +273,7 @@ abbrev pub Prints : Command → List GuestConfig → List ℕ → DiskState → 
 Prints (command.Run b s) board script old new f start now = RunPrints board script old new f start now
 Prints (command.Format b) board script old new f start now = KeepsUnless f start now
 Prints (command.Show b) board script old new f start now = KeepsUnless f start now
+Prints (command.Upgrade b) board script old new f start now = KeepsUnless f start now
 Prints (command.Serve b s) board script old new f start now = ServePrints board script f start now
 
 -- A writer took the text, or a front of it and then no more.

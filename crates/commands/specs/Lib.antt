@@ -4,6 +4,7 @@ pub mod Transcript
 pub mod Reasons
 pub mod Running
 pub mod Listing
+pub mod Upgrading
 pub mod Ending
 pub mod Moments
 pub mod Failing

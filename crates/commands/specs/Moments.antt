@@ -135,6 +135,7 @@ abbrev pub FaultMoments : {D : Type 0} → (D → DiskState) → (D → DiskCall
 FaultMoments shows makes (command.Run b s) board script old start f new now = (lines : List Said) → Says board script lines → AnyMoment shows makes board lines old start (Err f) new now
 FaultMoments shows makes (command.Format b) board script old start f new now = Unit {0}
 FaultMoments shows makes (command.Show b) board script old start f new now = Unit {0}
+FaultMoments shows makes (command.Upgrade b) board script old start f new now = Unit {0}
 FaultMoments shows makes (command.Serve b s) board script old start f new now = Unit {0}
 
 -- 1. Within a run

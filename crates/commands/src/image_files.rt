@@ -89,12 +89,7 @@ fn sync_folder(rt: &HostRuntime, path: &str) -> io::Result<()> {
 /// is there keeps its mode. `FileFault` where it can't be opened for reading and writing, where another
 /// program holds it, where it is the board file, whose path is `board`, or what standard output writes into:
 /// then its bytes stay; or where the folder can't be synced, or the length can't be set.
-pub fn create_image(
-    rt: &HostRuntime,
-    path: &str,
-    board: &str,
-    len: u64,
-) -> Result<FileDisk, Fault>
+pub fn create_image(rt: &HostRuntime, path: &str, board: &str, len: u64) -> Result<FileDisk, Fault>
     ensures { IfOk result (λ disk. disk.len ≡ len) }
 {
     let (file, is_new) = match open_or_make(rt, path) {

@@ -17,6 +17,7 @@ mod running;
 mod serving;
 mod showing;
 mod shown_file;
+mod upgrading;
 
 pub use fault::Fault;
 pub use files::{read_board_file, read_image_board, read_text};

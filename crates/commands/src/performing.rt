@@ -5,12 +5,14 @@ ghost use Rattle.disk.specs.Disk.{DiskState, Within};
 ghost use Rattle.intent_slots.specs.Layout.{capacities_of, image_length};
 ghost use Rattle.recovery.specs.Format.{IsFormatted};
 ghost use Rattle.recovery.specs.Opening.{IsImage, Untouched};
+ghost use Rattle.recovery.specs.Upgrade.{IsNamed, StandsThroughout};
 ghost use Rattle.script.specs.Line.{Said};
-ghost use Rattle.commands.specs.Ending.{Ends, Fails, IsFormat, IsReadAlone, IsRun, IsServe, IsShow, Prints};
+ghost use Rattle.commands.specs.Ending.{Ends, Fails, IsFormat, IsReadAlone, IsRun, IsServe, IsShow, IsUpgrade, Prints};
 ghost use Rattle.commands.specs.Image.{Ran};
 ghost use Rattle.commands.specs.Listing.{Lists, formatted_line};
 ghost use Rattle.commands.specs.Moments.{AnyMoment, FaultMoments};
 ghost use Rattle.commands.specs.Serving.{IsUnservedAt, ServeEnds, ServeLeaves, ServePrints, ServesAll};
+ghost use Rattle.commands.specs.Upgrading.{PrintsUpgrade};
 ghost use Rattle.commands.specs.Transcript.{IsBadAt, Says, StoresNothing};
 
 use crate::fault::Fault;
@@ -19,6 +21,7 @@ use crate::reporting::report;
 use crate::running::run;
 use crate::serving::serve;
 use crate::showing::show_image;
+use crate::upgrading::upgrade_image;
 use command_line::Command;
 use disk::Disk;
 use rpmb_frame::BoardConfig;
@@ -77,6 +80,11 @@ pub fn perform<R: AllocGlobal + Threads + Wait + Sync, D: Disk + Send + Drop, W:
     // leave before.
     ensures read { IsShow command.entry → IfSome result.1 (IsReadAlone D.makes disk) }
     ensures any_moment { IsShow command.entry → IfSome result.1 (Within D.state D.makes (Untouched (D.state disk)) disk) }
+    // An upgrade leaves an image of version 2 and says whether it made it so; at each moment, however it ends,
+    // every stop leaves what stands for the partitions that stood before.
+    ensures upgraded { IsUpgrade command.entry → result.0 ≡ 0 → IfSome result.1 (λ d. ((D.state disk).faithful ≡ true → IsNamed (D.state d))
+        × PrintsUpgrade (capacities_of board.now) (D.state disk) (W.contents out.old) (W.contents out.new)) }
+    ensures stands { IsUpgrade command.entry → IfSome result.1 (StandsThroughout D.state D.makes (capacities_of board.now) disk) }
     // Nothing is written on standard error unless the status says so.
     ensures quiet { result.0 ≡ 0 → Keeps (E.contents err.old) (E.contents err.new) }
     // Then it is the line of a fault that may end the command. Only a run has printed something before it:
@@ -100,6 +108,7 @@ pub fn perform<R: AllocGlobal + Threads + Wait + Sync, D: Disk + Send + Drop, W:
             let (done, disk) = show_image(alloc, disk, board, out);
             (done, Some(disk))
         }
+        Command::Upgrade { .. } => (upgrade_image(&mut disk, board, out), Some(disk)),
         Command::Run { .. } => {
             let (done, disk) = run(alloc, board, script, disk, out);
             (done, Some(disk))

@@ -82,6 +82,11 @@ fn perform_on_files<R: AllocGlobal + Threads + Wait + Sync, W: Write>(
             let disk = open_shown(rt, image.as_str())?;
             Ok(perform_on(rt, threads, command, &board, "", disk, out))
         }
+        Command::Upgrade { board } => {
+            let (board, image) = read_image_board(rt, board)?;
+            let disk = open_image(rt, image.as_str())?;
+            Ok(perform_on(rt, threads, command, &board, "", disk, out))
+        }
         Command::Run { board, script } | Command::Serve { board, script } => {
             let (board, image) = read_board_file(rt, board)?;
             let script = read_text(rt, script)?;

@@ -85,7 +85,8 @@ fn image_of<R: Files + AllocGlobal + Threads + Wait + Sync>(
     let rt = folder.rt;
     let disk = match (command, &file) {
         (Command::Format { .. }, Some(_)) => blank(rt.alloc(), board)?,
-        (Command::Format { .. } | Command::Show { .. }, None) => return Ok(Err(Fault::BadBoard)),
+        (Command::Format { .. } | Command::Show { .. } | Command::Upgrade { .. }, None) =>
+            return Ok(Err(Fault::BadBoard)),
         (_, Some(name)) => match folder.content(rt.alloc(), name.as_str()) {
             Ok(content) => MemDisk::new(content),
             Err(_) => return Ok(Err(Fault::FileFault)),
@@ -98,7 +99,9 @@ fn image_of<R: Files + AllocGlobal + Threads + Wait + Sync>(
 /// The names of the files of a command: its board, and its script, where it has one.
 fn files_of<'a>(command: Command<'a>) -> (&'a str, Option<&'a str>) {
     match command {
-        Command::Format { board } | Command::Show { board } => (board, None),
+        Command::Format { board } | Command::Show { board } | Command::Upgrade { board } => {
+            (board, None)
+        }
         Command::Run { board, script } | Command::Serve { board, script } => (board, Some(script)),
     }
 }

@@ -29,7 +29,7 @@ static FILES: [(&str, &str); 8] = [
 
 // The words, and the status that they end with: 2 for words that name no command, 1 for a fault, else 0. A
 // board is read before a script, and an image is opened only once both are.
-static WORDS: [(&str, u8); 38] = [
+static WORDS: [(&str, u8); 44] = [
     ("", 2),
     ("run", 2),
     ("run board.toml", 2),
@@ -38,7 +38,10 @@ static WORDS: [(&str, u8); 38] = [
     ("serve", 2),
     ("serve board.toml", 2),
     ("serve board.toml script.txt more", 2),
-    ("upgrade image.toml", 2),
+    ("upgrade", 2),
+    ("upgrade board.toml", 1),
+    ("upgrade image.toml", 1),
+    ("upgrade image.toml script.txt", 2),
     ("--version", 2),
     ("--help", 0),
     ("run --help", 0),
@@ -61,6 +64,9 @@ static WORDS: [(&str, u8); 38] = [
     ("show other.toml", 1),
     ("show missing.toml", 1),
     ("run image.toml script.txt", 0),
+    ("upgrade other.toml", 1),
+    ("upgrade image.toml", 0),
+    ("upgrade image.toml", 0),
     ("serve image.toml script.txt", 0),
     ("serve image.toml store.txt", 1),
     ("run image.toml store.txt", 0),

@@ -6,7 +6,7 @@ use std::test::Fail;
 /// Words that are taken, and the command that they are.
 struct Taken(&'static str, Command<'static>);
 
-static TAKEN: [Taken; 4] = [
+static TAKEN: [Taken; 5] = [
     Taken(
         "rpmbd run board.toml script.txt",
         Command::Run {
@@ -30,6 +30,12 @@ static TAKEN: [Taken; 4] = [
     Taken(
         "rpmbd show board.toml",
         Command::Show {
+            board: "board.toml",
+        },
+    ),
+    Taken(
+        "rpmbd upgrade board.toml",
+        Command::Upgrade {
             board: "board.toml",
         },
     ),
@@ -59,7 +65,7 @@ fn reads_commands(rt: HostRuntime) -> Result<(), Fail> {
 /// 2.
 struct Refused(&'static str, i32, &'static str);
 
-static REFUSED: [Refused; 30] = [
+static REFUSED: [Refused; 32] = [
     Refused("rpmbd", 2, "Usage: rpmbd <COMMAND>"),
     Refused("rpmbd run", 2, "<BOARD>"),
     Refused("rpmbd run board.toml", 2, "<SCRIPT>"),
@@ -75,7 +81,9 @@ static REFUSED: [Refused; 30] = [
     Refused("rpmbd serve board.toml script.txt more", 2, "more"),
     Refused("rpmbd help serve", 0, "Usage: rpmbd serve <BOARD> <SCRIPT>"),
     Refused("rpmbd serve -h", 0, "all guests at once"),
-    Refused("rpmbd upgrade board.toml", 2, "upgrade"),
+    Refused("rpmbd upgrade", 2, "<BOARD>"),
+    Refused("rpmbd help upgrade", 0, "Usage: rpmbd upgrade <BOARD>"),
+    Refused("rpmbd downgrade board.toml", 2, "downgrade"),
     Refused("rpmbd --version", 2, "--version"),
     Refused("rpmbd help walk", 2, "walk"),
     Refused("rpmbd help", 0, "Usage: rpmbd <COMMAND>"),

@@ -1,10 +1,12 @@
 use Rattle.std.proofs.Common.{List, ℕ, Option, Some, ap, subst, sym, ◌∙◌}
 use Rattle.std.specs.Prelude.{IfSome}
 use Rattle.command_line.specs.declared.command.Command.{Command}
-use Rattle.commands.specs.Ending.{Ends, Fails, IsReadAlone, IsShow, Prints}
+use Rattle.intent_slots.specs.Layout.{capacities_of}
+use Rattle.recovery.specs.Upgrade.{StandsThroughout}
+use Rattle.commands.specs.Ending.{Ends, Fails, IsReadAlone, IsShow, IsUpgrade, Prints}
 use Rattle.commands.specs.Moments.{AnyMoment, FaultMoments}
 use Rattle.commands.proofs.Ended.{if_any, known_of}
-use Rattle.commands.proofs.performing.perform.Goals.{in-Format, in-Run, in-Serve, in-Show}
+use Rattle.commands.proofs.performing.perform.Goals.{in-Format, in-Run, in-Serve, in-Show, in-Upgrade}
 use Rattle.commands.proofs.performing.perform.Goals as goal
 
 pub returns-in-Ok-clause-read : goal.returns-in-Ok-clause-read
@@ -12,6 +14,7 @@ returns-in-Ok-clause-read g c shown =
     elim c.match-command.branch [
       | in-Format w ↦ absurd (subst IsShow w.in-Format.is shown)
       | in-Show w ↦ subst (λ d. IfSome d.1 (IsReadAlone g.D.Disk.makes c.args.disk)) (sym w.done-is) w.show_image-done.ensures.calls
+      | in-Upgrade w ↦ absurd (subst IsShow w.in-Upgrade.is shown)
       | in-Run w ↦ absurd (subst IsShow w.in-Run.is shown)
       | in-Serve w ↦ absurd (subst IsShow w.in-Serve.is shown)
     ]
@@ -21,6 +24,7 @@ returns-in-Err-clause-read g c shown =
     elim c.match-command.branch [
       | in-Format w ↦ absurd (subst IsShow w.in-Format.is shown)
       | in-Show w ↦ subst (λ d. IfSome d.1 (IsReadAlone g.D.Disk.makes c.args.disk)) (sym w.done-is) w.show_image-done.ensures.calls
+      | in-Upgrade w ↦ absurd (subst IsShow w.in-Upgrade.is shown)
       | in-Run w ↦ absurd (subst IsShow w.in-Run.is shown)
       | in-Serve w ↦ absurd (subst IsShow w.in-Serve.is shown)
     ]
@@ -49,6 +53,12 @@ returns-in-Err-clause-fault g c one =
           (subst (λ o. whole c.args.command (Some w.show_image-done.result.1) (g.W.Write.contents o)) (sym w.out-is)
           (subst (λ k. whole k (Some w.show_image-done.result.1) (g.W.Write.contents w.show_image-done.new.out)) (sym w.in-Show.is)
           (record { fault = f; told = told; caused = (known_of _ w.show_image-done.result.0 w.show_image-done.ensures.ends f is, known_of _ w.show_image-done.result.0 w.show_image-done.ensures.silent f is, tt) })))
+      | in-Upgrade w ↦
+          let is = sym (ap (λ d. d.0) w.done-is) ∙ c.in-Err.is in
+          subst (λ d. whole c.args.command d.1 (g.W.Write.contents c.match-command.out)) (sym w.done-is)
+          (subst (λ o. whole c.args.command (Some w.upgrade_image.new.disk) (g.W.Write.contents o)) (sym w.out-is)
+          (subst (λ k. whole k (Some w.upgrade_image.new.disk) (g.W.Write.contents w.upgrade_image.new.out)) (sym w.in-Upgrade.is)
+          (record { fault = f; told = told; caused = (known_of _ w.upgrade_image.result w.upgrade_image.ensures.ends f is, known_of _ w.upgrade_image.result w.upgrade_image.ensures.silent f is, tt) })))
       | in-Run w ↦
           let is = sym (ap (λ d. d.0) w.done-is) ∙ c.in-Err.is in
           subst (λ d. whole c.args.command d.1 (g.W.Write.contents c.match-command.out)) (sym w.done-is)
@@ -68,4 +78,24 @@ returns-in-Err-clause-fault g c one =
           (subst (λ o. whole c.args.command w.serve.result.1 (g.W.Write.contents o)) (sym w.out-is)
           (subst (λ k. whole k w.serve.result.1 (g.W.Write.contents w.serve.new.out)) (sym w.in-Serve.is)
           (if_any w.serve.result.1 _ (λ d. record { fault = f; told = told; caused = (known_of _ w.serve.result.0 w.serve.ensures.ends f is, known_of _ w.serve.result.0 w.serve.ensures.prints f is, tt) }))))
+    ]
+
+pub returns-in-Ok-clause-stands : goal.returns-in-Ok-clause-stands
+returns-in-Ok-clause-stands g c upgrades =
+    elim c.match-command.branch [
+      | in-Format w ↦ absurd (subst IsUpgrade w.in-Format.is upgrades)
+      | in-Show w ↦ absurd (subst IsUpgrade w.in-Show.is upgrades)
+      | in-Upgrade w ↦ subst (λ d. IfSome d.1 (StandsThroughout g.D.Disk.state g.D.Disk.makes (capacities_of c.args.board.now) c.args.disk)) (sym w.done-is) w.upgrade_image.ensures.stands
+      | in-Run w ↦ absurd (subst IsUpgrade w.in-Run.is upgrades)
+      | in-Serve w ↦ absurd (subst IsUpgrade w.in-Serve.is upgrades)
+    ]
+
+pub returns-in-Err-clause-stands : goal.returns-in-Err-clause-stands
+returns-in-Err-clause-stands g c upgrades =
+    elim c.match-command.branch [
+      | in-Format w ↦ absurd (subst IsUpgrade w.in-Format.is upgrades)
+      | in-Show w ↦ absurd (subst IsUpgrade w.in-Show.is upgrades)
+      | in-Upgrade w ↦ subst (λ d. IfSome d.1 (StandsThroughout g.D.Disk.state g.D.Disk.makes (capacities_of c.args.board.now) c.args.disk)) (sym w.done-is) w.upgrade_image.ensures.stands
+      | in-Run w ↦ absurd (subst IsUpgrade w.in-Run.is upgrades)
+      | in-Serve w ↦ absurd (subst IsUpgrade w.in-Serve.is upgrades)
     ]

@@ -1,0 +1,52 @@
+//! What `upgrade` does: an image of version 1 becomes one of version 2, and a line says whether it did.
+ghost use Rattle.std.specs.Prelude.{◌≡◌, true, Err, IfErr, OnOk};
+ghost use Rattle.std.specs.Io.KnownBytes.{Appends};
+ghost use Rattle.disk.specs.Disk.{DiskState};
+ghost use Rattle.intent_slots.specs.Layout.{capacities_of};
+ghost use Rattle.recovery.specs.Upgrade.{IsNamed, StandsThroughout};
+ghost use Rattle.commands.specs.Ending.{KeepsUnless};
+ghost use Rattle.commands.specs.Upgrading.{PrintsUpgrade, UpgradeEnds, upgraded_line};
+
+use crate::fault::Fault;
+use disk::Disk;
+use recovery::{Upgraded, upgrade};
+use rpmb_frame::BoardConfig;
+use std::io::Write;
+
+/// Writes the line of an upgrade, and all that is still held back.
+#[tactic(auto, unfolding(crate::specs::Upgrading::upgraded_line))]
+fn write_done<W: Write>(done: Upgraded, out: &mut W) -> Result<(), Fault>
+    ensures printed { OnOk result (Appends (W.contents out.old) (W.contents out.new) (upgraded_line done)) }
+    ensures only { (fault : Fault) → result ≡ Err fault → fault ≡ Fault.FileFault }
+{
+    let written = match done {
+        Upgraded::Already => writeln!(out, "already 2"),
+        Upgraded::Wrote => writeln!(out, "upgraded"),
+    };
+    if written.is_err() {
+        return Err(Fault::FileFault);
+    }
+    match out.flush() {
+        Ok(()) => Ok(()),
+        Err(_) => Err(Fault::FileFault),
+    }
+}
+
+/// Makes the image of the board one of version 2, and prints whether it did. At each moment every stop leaves
+/// what stands for the partitions that stood before.
+pub fn upgrade_image<D: Disk, W: Write>(
+    disk: &mut D,
+    board: &BoardConfig,
+    out: &mut W,
+) -> Result<(), Fault>
+    ensures stands { StandsThroughout D.state D.makes (capacities_of board.now) disk.old disk.new }
+    ensures named { OnOk result ((D.state disk.old).faithful ≡ true → IsNamed (D.state disk.new)) }
+    ensures printed { OnOk result (PrintsUpgrade (capacities_of board.now) (D.state disk.old) (W.contents out.old) (W.contents out.new)) }
+    ensures ends { IfErr result (UpgradeEnds (capacities_of board.now) (D.state disk.old) (D.state disk.new)) }
+    ensures silent { IfErr result (λ fault. KeepsUnless fault (W.contents out.old) (W.contents out.new)) }
+{
+    match upgrade(disk, board) {
+        Ok(done) => write_done(done, out),
+        Err(fault) => Err(Fault::of_image(fault)),
+    }
+}
