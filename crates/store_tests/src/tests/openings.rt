@@ -6,6 +6,7 @@ mod many;
 mod pairs;
 mod payloads;
 mod refusals;
+mod upgrades;
 
 ghost use Rattle.std.specs.Prelude.{◌<◌};
 
