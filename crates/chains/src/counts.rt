@@ -1,7 +1,9 @@
 ghost use Rattle.std.specs.Prelude.{◌≡◌, ◌<◌, ◌^◌, ◌↔◌, IsTrue, OnOk, OnErr, Err};
 ghost use Rattle.std.specs.List.{position};
 ghost use Rattle.chains.specs.Ring.{first_state, after_pop, after_publish, is_chain, IsOutstanding, MayBeUsed, IsFree, Ascend};
+ghost use Rattle.chains.specs.Start.{descriptors_of};
 
+use crate::descriptor::{Area, Shape};
 use crate::fault::RingFault;
 use crate::places::{Outstanding, Places};
 use std::alloc::Global;
@@ -82,6 +84,18 @@ impl Counts {
     {
         let _last = self.last;
         self.used
+    }
+
+    /// The ring's descriptors, laid out in this shape.
+    pub fn descriptors(&self, shape: Shape) -> Area
+        ensures { result ≡ descriptors_of shape self.now }
+    {
+        Area {
+            shape,
+            base: self.places.descriptors,
+            limit: self.size as u64,
+            tables: self.places.indirect,
+        }
     }
 
     /// Whether the chain of this number, of this id and so many places, may be used: it was popped and not
