@@ -216,7 +216,7 @@ impl Acts {
     }
 
     /// Puts a chain of this request before the device, and makes it available.
-    fn ask(&mut self, guest: u16, asked: Asked) -> Result<(), Fail> {
+    pub fn ask(&mut self, guest: u16, asked: Asked) -> Result<(), Fail> {
         let frames = frames_of(self.alloc, asked)?;
         self.place(guest, &frames)?;
         self.offer(guest)
