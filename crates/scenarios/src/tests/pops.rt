@@ -2,6 +2,7 @@
 //! each allocation fail once.
 
 use crate::tests::acts::{Acts, Move};
+use crate::tests::image::Version;
 use crate::tests::lines::Asked;
 use crate::tests::scene::check;
 use crate::tests::worlds::world_of;
@@ -64,7 +65,7 @@ fn check_told(world: &mut World, events: &[Event]) -> Result<(), Fail> {
 fn replies_tell_their_pops(rt: HostRuntime) -> Result<(), Fail> {
     let mut acts = Acts::new(rt.alloc(), None, 0);
     acts.play(0, &TWO_LIVES)?;
-    check_told(&mut world_of(rt.alloc(), 1)?, &acts.events)
+    check_told(&mut world_of(rt.alloc(), 1, Version::One)?, &acts.events)
 }
 
 const NO_MEMORY: Refusal = Refusal::Step(StepFault::Device(DeviceFault::NoMemory));
@@ -113,5 +114,5 @@ fn a_refused_pop_leaves_the_world(rt: HostRuntime) -> Result<(), Fail> {
     let acts = asked(rt.alloc())?;
     let mut pop = Vec::new(rt.alloc());
     pop.push(Event::Do(Step::Pop(0)))?;
-    check_pop(&mut world_of(rt.alloc(), 1)?, &acts.events, &pop)
+    check_pop(&mut world_of(rt.alloc(), 1, Version::One)?, &acts.events, &pop)
 }
