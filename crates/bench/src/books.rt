@@ -2,7 +2,7 @@
 //! what a board's steps are measured against.
 use crate::clock::{NO_MEMORY, Row, Stop};
 use crate::counted::{CountedDisk, Counts};
-use crate::images::{guests_of, new_disk, opened_board};
+use crate::images::{Version, guests_of, new_disk_of, opened_board};
 use crate::requests::{Kind, mixed};
 use crate::stores::give;
 use crate::ways::{Call, Shape, Turn, Way, time_way};
@@ -28,9 +28,14 @@ pub struct Books {
     sum: u32,
 }
 
-/// The book and the store over a fresh image of a board, of which nothing was asked.
+/// The book and the store over a fresh image of a board and of version 1, of which nothing was asked.
 pub fn new_books(alloc: Global, config: &BoardConfig) -> Result<Books, Stop> {
-    let disk = CountedDisk::of(new_disk(alloc, config)?);
+    new_books_on(alloc, config, Version::One)
+}
+
+/// The same over an image of this version.
+pub fn new_books_on(alloc: Global, config: &BoardConfig, version: Version) -> Result<Books, Stop> {
+    let disk = CountedDisk::of(new_disk_of(alloc, config, version)?);
     let board = opened_board(alloc, disk, config)?;
     Ok(Books {
         alloc,
@@ -92,8 +97,11 @@ fn submit(parts: &mut Parts<CountedDisk<MemDisk>>, alloc: Global, job: Job) -> R
     }
 }
 
-/// Gives the store a guest's next intent, where one waits.
+/// Gives the store a guest's next intent, where one waits and a slot is free.
 fn hand_over(parts: &mut Parts<CountedDisk<MemDisk>>, guest: u16) -> Result<(), Stop> {
+    if !parts.store.is_free(guest) {
+        return Ok(());
+    }
     match parts.book.take(&mut parts.shares, guest) {
         Ok(Some(intent)) => give(&mut parts.store, intent),
         Ok(None) => Ok(()),
@@ -148,6 +156,11 @@ impl Books {
         self.collect(guest)?;
         self.granted(Kind::Counter)?;
         self.publish()
+    }
+
+    /// Whether the store may be given the guest's next intent.
+    pub fn is_free(&self, guest: u16) -> bool {
+        self.parts.store.is_free(guest)
     }
 
     /// What was counted of the disk.

@@ -6,7 +6,7 @@ use crate::clock::{NO_MEMORY, Row, Stop, now, since};
 use board::Board;
 use disk::{Disk, MemDisk};
 use intent_slots::Layout;
-use recovery::{format, open};
+use recovery::{format, format2, open};
 use rpmb_frame::{BoardConfig, GuestConfig, RingKind};
 use std::alloc::Global;
 use std::time::Duration;
@@ -45,19 +45,42 @@ pub fn blank_disk(alloc: Global, board: &BoardConfig) -> Result<MemDisk, Stop> {
     Ok(MemDisk::new(bytes.ok().ok_or(NO_MEMORY)?))
 }
 
-/// Makes a fresh image of a board on a disk of its length.
-pub fn make_image<D: Disk>(disk: &mut D, board: &BoardConfig) -> Result<(), Stop> {
+/// The version of an image.
+#[derive(Clone, Copy)]
+pub enum Version {
+    /// One slot of each partition is in use.
+    One,
+    /// Both are.
+    Two,
+}
+
+/// Makes a fresh image of a board and a version on a disk of its length.
+fn make_image_of<D: Disk>(disk: &mut D, board: &BoardConfig, version: Version) -> Result<(), Stop> {
     if disk.len() != Layout::of(board).length() {
         return Err("a disk of another length than its image");
     }
-    format(disk, board).ok().ok_or("no image")
+    let made = match version {
+        Version::One => format(disk, board),
+        Version::Two => format2(disk, board),
+    };
+    made.ok().ok_or("no image")
 }
 
-/// A disk in memory with the fresh image of a board.
-pub fn new_disk(alloc: Global, board: &BoardConfig) -> Result<MemDisk, Stop> {
+/// Makes a fresh image of a board and of version 1 on a disk of its length.
+pub fn make_image<D: Disk>(disk: &mut D, board: &BoardConfig) -> Result<(), Stop> {
+    make_image_of(disk, board, Version::One)
+}
+
+/// A disk in memory with the fresh image of a board and a version.
+pub fn new_disk_of(alloc: Global, board: &BoardConfig, version: Version) -> Result<MemDisk, Stop> {
     let mut disk = blank_disk(alloc, board)?;
-    make_image(&mut disk, board)?;
+    make_image_of(&mut disk, board, version)?;
     Ok(disk)
+}
+
+/// The same of version 1.
+pub fn new_disk(alloc: Global, board: &BoardConfig) -> Result<MemDisk, Stop> {
+    new_disk_of(alloc, board, Version::One)
 }
 
 /// The board over an image, of which no step was made.

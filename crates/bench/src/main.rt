@@ -12,7 +12,8 @@
 //!   each answer is tested and let go while it runs; their MACs are timed after each 256. A line of its own tells
 //!   how many pages were touched that had to be fetched or cleared first, for 1,000 of these requests;
 //! - of `store`: of writes of each of 64 guests, also where 2 and 4 of a guest go as one, with the calls and
-//!   bytes that each way needs;
+//!   bytes that each way needs, and of guests that write on without a pause, on images of both versions, also
+//!   how many syncs come before a record may begin;
 //! - of `open`: of openings;
 //! - of `board`: of writes of each of 64 guests, which a board's steps settle, its book and store, and its
 //!   store alone;
@@ -43,6 +44,7 @@ mod serve_times;
 mod serving;
 mod steps;
 mod stores;
+mod streams;
 mod ways;
 mod whole;
 
@@ -62,6 +64,7 @@ use std::process::ExitCode;
 use std::sync::Wait;
 use std::thread::Threads;
 use stores::{new_store, time_puts, time_stored, time_waiting};
+use streams::print_streams;
 use ways::{calls_of, time_ways};
 use whole::{few_whole, time_device};
 
@@ -110,7 +113,8 @@ fn time_groups(rt: &HostRuntime, board: &BoardConfig, count: u32) -> Result<(), 
     let two = time_waiting(rt, "2 waiting", board, 2, count / 2)?;
     let one = time_waiting(rt, "1 waiting", board, 1, count)?;
     print_rows(rt, &[four, two, one])?;
-    print_counts(rt, board)
+    print_counts(rt, board)?;
+    print_streams(rt, board)
 }
 
 fn time_open(rt: &HostRuntime, board: &BoardConfig, count: u32) -> Result<(), Stop> {
@@ -199,7 +203,8 @@ fn checksums<R: AllocGlobal + Threads + Wait + Sync>(
         (u64::from(run.answers), "\n"),
     ];
     print_numbers(rt, &numbers)?;
-    print_counts(rt, board)
+    print_counts(rt, board)?;
+    print_streams(rt, board)
 }
 
 /// Times the work of this name.

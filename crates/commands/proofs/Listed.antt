@@ -10,9 +10,8 @@ use Rattle.disk.specs.Disk.{DiskState}
 use Rattle.rpmb_frame.specs.Config.{IsBoard, IsGuest}
 use Rattle.rpmb_frame.specs.declared.config.GuestConfig.{GuestConfig}
 use Rattle.rpmb_frame.specs.Partition.{Partition, IsWhole, block_of}
-use Rattle.intent_slots.specs.Layout.{capacities_of, slot_region}
-use Rattle.intent_slots.specs.declared.layout.Side.TheVariants.{A}
-use Rattle.intent_slots.specs.Recovered.{StandsFor, part_of}
+use Rattle.intent_slots.specs.Layout.{capacities_of}
+use Rattle.intent_slots.specs.Recovered.{Stands, part_of}
 use Rattle.flusher.specs.declared.guest.Guest.{Guest}
 use Rattle.recovery.specs.Opening.{AllBegun, AllStand}
 use Rattle.commands.specs.declared.fault.Fault.{Fault}
@@ -69,7 +68,7 @@ lists capacities s guests partitions start now (Ok done) begun stand printed is_
       );
   held = λ known g p at.
       let x = guest_of g p at in
-      subst (λ region. StandsFor region (slot_region region A) s.seen (part_of p)) (begun.each g x.0 p x.1 at).region (stand known g x.0 p x.1 at);
+      subst (λ region. Stands region s.seen (part_of p)) (begun.each g x.0 p x.1 at).region (stand known g x.0 p x.1 at);
   printed = printed;
 }
   where

@@ -14,7 +14,7 @@ use Rattle.disk.specs.Disk.{DiskCall, DiskState, Still, Within}
 use Rattle.recovery.specs.Opening.{Untouched}
 use Rattle.recovery.proofs.Ways.{untouched_here}
 use Rattle.flusher.specs.Marks.{marks_of}
-use Rattle.flusher.specs.Slot.{mark_of}
+use Rattle.flusher.specs.Pair.{mark_of}
 use Rattle.rpmb_book.specs.Guest.{GuestCore, GuestState}
 use Rattle.script.specs.Line.{Said, said}
 use Rattle.script.specs.declared.line.Line.{Line}

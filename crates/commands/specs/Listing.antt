@@ -7,9 +7,8 @@ use Rattle.hex.specs.Hex.{encode_lower}
 use Rattle.disk.specs.Content.{Content}
 use Rattle.disk.specs.Disk.{DiskState}
 use Rattle.rpmb_frame.specs.Partition.{Partition, IsWhole, block_count, block_of}
-use Rattle.intent_slots.specs.Layout.{region_at, slot_region}
-use Rattle.intent_slots.specs.declared.layout.Side.TheVariants.{A}
-use Rattle.intent_slots.specs.Recovered.{StandsFor, part_of}
+use Rattle.intent_slots.specs.Layout.{region_at}
+use Rattle.intent_slots.specs.Recovered.{Stands, part_of}
 
 -- 1. `format`
 
@@ -67,7 +66,7 @@ HaveCapacities capacities partitions = (g : ℕ) (p : Partition) → slice_get p
 -- each guest's partition is what the content stands for
 abbrev pub AreHeld : List ℕ → Content → List Partition → Type 0
 AreHeld capacities c partitions = (g : ℕ) (p : Partition) → slice_get partitions g ≡ Some p
-    → StandsFor (region_at capacities g) (slot_region (region_at capacities g) A) c (part_of p)
+    → Stands (region_at capacities g) c (part_of p)
 
 -- What was printed lists the partitions that an image of these capacities holds.
 pub record Lists (capacities : List ℕ) (s : DiskState) (start now : Option (List ℕ)) : Type 0 where

@@ -68,7 +68,7 @@ pub fn perform<R: AllocGlobal + Threads + Wait + Sync, D: Disk + Send + Drop, W:
         → (result.0 ≡ 1) × Keeps (W.contents out.old) (W.contents out.new) × (result.1 ≡ Some disk) }
     // The disk holds a fresh image, and its length was printed.
     ensures formatted { IsFormat command.entry → result.0 ≡ 0 → (D.state disk).faithful ≡ true
-        → IfSome result.1 (λ d. IsFormatted (capacities_of board.now) (D.state d)) }
+        → IfSome result.1 (λ d. IsFormatted 1 (capacities_of board.now) (D.state d)) }
     ensures length { IsFormat command.entry → result.0 ≡ 0
         → Appends (W.contents out.old) (W.contents out.new) (formatted_line (image_length (capacities_of board.now))) }
     // The disk holds an image of the board, and its partitions were printed.

@@ -17,7 +17,7 @@ use Rattle.flusher.specs.declared.progress.Progress.TheVariants.{Synced}
 use Rattle.flusher.specs.declared.progress.StoreFault.{StoreFault}
 use Rattle.flusher.specs.Phase.{has_write, open_after, written, synced}
 use Rattle.flusher.specs.Slot.{is_empty, slot_writes, slot_awaits, after_write, after_sync, in_phase}
-use Rattle.flusher.specs.Pair.{behind_writes, is_let, turn_by, turn_of, has_turn, moved_in, marked, in_order, with_slots, given_at, with_intent, guest_has_write, guest_awaits, guest_after_write, guest_after_sync}
+use Rattle.flusher.specs.Pair.{behind_writes, is_let, turn_by, turn_of, has_turn, moved_in, marked, moved_up, with_slots, given_at, with_intent, guest_has_write, guest_awaits, guest_after_write, guest_after_sync}
 use Rattle.flusher.specs.Marks.{marks_of}
 use Rattle.flusher.specs.Round.{plan_at, planned, AllEmpty, Ends, Round}
 use Rattle.flusher.specs.Store.{given, given_of}
@@ -117,7 +117,7 @@ turn_lowers Neither x is has = absurd (cc)
 guest_write_lowers : (x : Guest) → guest_has_write x ≡ true → guest_left (guest_after_write x) < guest_left x
 guest_write_lowers x has = turn_lowers (turn_of x) x refl has
 
-ordered_left : (x : Guest) (n : ℕ) (slot behind : Option Slot) → guest_left (in_order x n slot behind) ≡ slot_left slot + slot_left behind
+ordered_left : (x : Guest) (n : ℕ) (slot behind : Option Slot) → guest_left (moved_up x n slot behind) ≡ slot_left slot + slot_left behind
 ordered_left x n (Some f) behind = refl
 ordered_left x n None (Some b) = omega arith
 ordered_left x n None None = refl

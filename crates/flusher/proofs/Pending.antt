@@ -10,7 +10,7 @@ use Rattle.flusher.specs.declared.guest.Turn.{Turn}
 use Rattle.flusher.specs.declared.guest.Turn.TheVariants.{First, Second, Neither}
 use Rattle.flusher.specs.Phase.{synced, is_opening, is_settled}
 use Rattle.flusher.specs.Slot.{is_empty, intent_of, slot_writes, pending_of, opening_in, in_phase, after_sync}
-use Rattle.flusher.specs.Pair.{has_room, behind_writes, listed, pending_intents, or_else, opening_of, mark_of, marked, in_order, moved_in, turn_of, with_slots, given_at, guest_after_write, guest_after_sync, with_intent}
+use Rattle.flusher.specs.Pair.{has_room, behind_writes, listed, pending_intents, or_else, opening_of, mark_of, marked, moved_up, moved_in, turn_of, with_slots, given_at, guest_after_write, guest_after_sync, with_intent}
 use Rattle.flusher.specs.SlotInvariant.{Besides, PhaseBesides}
 use Rattle.flusher.specs.Laws.{PendingStays, PendingGrows, PendingSettles, Settles}
 use Rattle.flusher.proofs.Turns.{pending_written, intent_written, turn_behind, first_writes_besides, behind_writes_besides}
@@ -54,19 +54,19 @@ pending_grows x i room b = pending_given x i x.slot x.behind room b
 
 -- 3. A sync
 
-in_order_pending : (x : Guest) (n : ℕ) (slot behind : Option Slot) → pending_intents (in_order x n slot behind) ≡ listed (pending_of slot) ++ listed (pending_of behind)
-in_order_pending x n (Some f) behind = refl
-in_order_pending x n None None = refl
-in_order_pending x n None (Some b) = nothing (pending_of (Some b))
+moved_up_pending : (x : Guest) (n : ℕ) (slot behind : Option Slot) → pending_intents (moved_up x n slot behind) ≡ listed (pending_of slot) ++ listed (pending_of behind)
+moved_up_pending x n (Some f) behind = refl
+moved_up_pending x n None None = refl
+moved_up_pending x n None (Some b) = nothing (pending_of (Some b))
   where
     nothing : (o : Option Intent) → listed o ++ [] ≡ listed o
     nothing None = refl
     nothing (Some j) = refl
 
-in_order_mark : (x : Guest) (n : ℕ) (slot behind : Option Slot) → mark_of (in_order x n slot behind) ≡ n
-in_order_mark x n (Some f) behind = refl
-in_order_mark x n None None = refl
-in_order_mark x n None (Some b) = refl
+moved_up_mark : (x : Guest) (n : ℕ) (slot behind : Option Slot) → mark_of (moved_up x n slot behind) ≡ n
+moved_up_mark x n (Some f) behind = refl
+moved_up_mark x n None None = refl
+moved_up_mark x n None (Some b) = refl
 
 -- a slot that opens no gate keeps what is pending in it
 abbrev if_pending : Bool → Intent → Option Intent
@@ -142,8 +142,8 @@ slots_settle (Some f) (Some s) b = both f.phase s.phase f.intent s.intent b
 
 pub pending_settles : PendingSettles
 pending_settles x b = (
-  subst (Settles (opening_of x) (pending_intents x)) (sym (in_order_pending x (marked x) (after_sync x.slot) (after_sync x.behind))) (slots_settle x.slot x.behind b),
-  in_order_mark x (marked x) (after_sync x.slot) (after_sync x.behind),
+  subst (Settles (opening_of x) (pending_intents x)) (sym (moved_up_pending x (marked x) (after_sync x.slot) (after_sync x.behind))) (slots_settle x.slot x.behind b),
+  moved_up_mark x (marked x) (after_sync x.slot) (after_sync x.behind),
 )
 
 -- 4. What holds of each intent in a slot, and how far the slot behind is
@@ -160,14 +160,14 @@ module _ (P : Option Intent → Type 0) (x : Guest) where
   pub write_keeps : Keeps x → Keeps (guest_after_write x)
   write_keeps k = turn_keeps (turn_of x) refl k
 
-  in_order_keeps : (n : ℕ) (slot behind : Option Slot) → P None → P (intent_of slot) → P (intent_of behind) → P (intent_of (in_order x n slot behind).slot) × P (intent_of (in_order x n slot behind).behind)
-  in_order_keeps n (Some f) behind none one two = (one, two)
-  in_order_keeps n None (Some b) none one two = (two, none)
-  in_order_keeps n None None none one two = (none, none)
+  moved_up_keeps : (n : ℕ) (slot behind : Option Slot) → P None → P (intent_of slot) → P (intent_of behind) → P (intent_of (moved_up x n slot behind).slot) × P (intent_of (moved_up x n slot behind).behind)
+  moved_up_keeps n (Some f) behind none one two = (one, two)
+  moved_up_keeps n None (Some b) none one two = (two, none)
+  moved_up_keeps n None None none one two = (none, none)
 
   pub sync_keeps : P None → Keeps x → Keeps (guest_after_sync x)
   sync_keeps none k =
-      let both = in_order_keeps (marked x) (after_sync x.slot) (after_sync x.behind) none (synced_intent P x.slot none k.0) (synced_intent P x.behind none k.1) in
+      let both = moved_up_keeps (marked x) (after_sync x.slot) (after_sync x.behind) none (synced_intent P x.slot none k.0) (synced_intent P x.behind none k.1) in
       (both.0, both.1, synced_order x (marked x) x.slot x.behind k.2)
 
   given_keeps : (i : Intent) (slot behind : Option Slot) → (if x.paired then is_empty behind else is_empty slot) ≡ true → P (Some i) → Keeps (with_slots x slot behind) → Keeps (given_at (with_slots x slot behind) i slot)

@@ -13,7 +13,7 @@ use Rattle.flusher.specs.declared.slot.Slot.{Slot}
 use Rattle.flusher.specs.declared.guest.Guest.{Guest}
 use Rattle.flusher.specs.Phase.{skipped, synced, is_opening, is_closing, is_settled}
 use Rattle.flusher.specs.Slot.{after_sync, in_phase, intent_of, pending_of, opening_in}
-use Rattle.flusher.specs.Pair.{entries_in, or_else, mark_after, with_slots, in_order, guest_after_sync, side_of, side_behind}
+use Rattle.flusher.specs.Pair.{entries_in, or_else, mark_after, with_slots, moved_up, guest_after_sync, side_of, side_behind}
 use Rattle.flusher.specs.SlotInvariant.{IsShut, Row, Seen, Behind, BehindRow, LeadsTo, LeadsBy, PhaseBesides, Besides, Chained, Follows, IsMarked, PairRow, guest_seen, settled, settled_with, sequence_of_part, guest_settled}
 use Rattle.flusher.proofs.Rows.{synced_row, synced_seen}
 use Rattle.flusher.proofs.Pairs.{promoted_row, promoted_seen, behind_synced, behind_synced_seen}
@@ -129,7 +129,7 @@ synced_besides first Closing i j next is b = absurd b
 
 module _ (x : Guest) (n : ℕ) where
   abbrev InOrder : Option Slot → Option Slot → Type 0
-  InOrder slot behind = Besides (in_order x n slot behind).slot (in_order x n slot behind).behind
+  InOrder slot behind = Besides (moved_up x n slot behind).slot (moved_up x n slot behind).behind
 
   one_in_order : (o : Option Slot) → InOrder o None
   one_in_order None = tt
@@ -209,7 +209,7 @@ module _ (p : Part) (x : Guest) (c : Content) where
       → two_row (guest_settled (with_slots x slot behind) p) (guest_after_sync (with_slots x slot behind)) c × guest_seen (guest_settled (with_slots x slot behind) p) (guest_after_sync (with_slots x slot behind)) c
 
   rests : IsShut (side_of x) c → HoldsHome x.extent c p → Behind x.paired x.extent (side_behind x) None c → x.mark ≡ sequence_of_part p → (x.paired ≡ false → x.side ≡ A)
-      → two_row p (in_order x x.mark None None) c × guest_seen p (in_order x x.mark None None) c
+      → two_row p (moved_up x x.mark None None) c × guest_seen p (moved_up x x.mark None None) c
   rests mine held theirs mark single = (let shut = both_shut x.extent c x.side x.paired mine theirs single in (
     (
       record { between = p; leads = refl; row = (shut.0, held); behind = shut.1 },
@@ -229,7 +229,7 @@ module _ (p : Part) (x : Guest) (c : Content) where
   promoted_goes i b r s = elim (stays_or_closes b) [
     | inl closing ↦ absurd (subst (λ (v : Phase). BehindRow x.extent (side_behind x) v b.intent.group c) closing below)
     | inr st ↦ (
-        let go : Option Slot → Type 0 = λ o. two_row (settled (Some b) p) (in_order x (mark_after (opening_in (Some b)) x.mark) None o) c × guest_seen (settled (Some b) p) (in_order x (mark_after (opening_in (Some b)) x.mark) None o) c in
+        let go : Option Slot → Type 0 = λ o. two_row (settled (Some b) p) (moved_up x (mark_after (opening_in (Some b)) x.mark) None o) c × guest_seen (settled (Some b) p) (moved_up x (mark_after (opening_in (Some b)) x.mark) None o) c in
         let shut : Behind x.paired x.extent (slot_region x.extent (other_side (other_side x.side))) None c =
         subst (λ (v : Side). Behind x.paired x.extent (slot_region x.extent v) None c) (sym (twice x.side)) (shut_behind x.paired x.extent (side_of x) c s.seen) in
         let here = subst (λ (o : Option Slot). Row x.extent (side_behind x) (settled (Some b) p) o c) (stays_there b st) row_after in
@@ -237,7 +237,7 @@ module _ (p : Part) (x : Guest) (c : Content) where
         let nothing : x.mark + 0 ≡ x.mark = omega arith in
         let f = subst (λ (n : ℕ). Follows n (pending_of (Some b))) nothing r.1.next_follows in
         let g = subst (λ (o : Option Group). Follows (mark_after o x.mark) (pending_of (after_sync (Some b)))) (or_none (opening_in (Some b))) (follows_first x.mark b.phase b.intent None (λ un. refl) f) in
-        let marks : IsMarked (settled (Some b) p) (in_order x (mark_after (opening_in (Some b)) x.mark) None (Some (staying b st))) = record {
+        let marks : IsMarked (settled (Some b) p) (moved_up x (mark_after (opening_in (Some b)) x.mark) None (Some (staying b st))) = record {
           mark = mark_with (opening_in (Some b)) x.mark p r.1.mark;
           follows = subst (λ (o : Option Slot). Follows (mark_after (opening_in (Some b)) x.mark) (pending_of o)) (stays_there b st) g;
           next_follows = tt;
@@ -275,13 +275,13 @@ module _ (p : Part) (x : Guest) (c : Content) where
         let row = subst (λ (v : Option Slot). Row x.extent (side_of x) (settled (Some f) s.between) v c) (stays_there f st) (synced_row x.extent (side_of x) s.between (Some f) c s.row s.seen) in
         let seen = subst (λ (v : Option Slot). Seen x.extent (side_of x) (settled (Some f) s.between) v c) (stays_there f st) (synced_seen x.extent (side_of x) s.between (Some f) c s.row s.seen) in
         let leads = same_leads (opening_in (Some f)) s.between p s.leads in
-        let marks : IsMarked (settled_with o p) (in_order x (mark_after o x.mark) (Some to) None) = record {
+        let marks : IsMarked (settled_with o p) (moved_up x (mark_after o x.mark) (Some to) None) = record {
           mark = mark_with o x.mark p r.1.mark;
           follows = subst (λ (v : Option Slot). Follows (mark_after o x.mark) (pending_of v)) (stays_there f st) (follows_first x.mark f.phase f.intent None (λ un. refl) r.1.follows);
           next_follows = tt;
           ordered = record { chained = tt; besides = tt; single = λ un. record { alone = refl; side = (r.1.ordered.single un).side } };
         } in
-        subst (λ (v : Option Slot). two_row (settled_with o p) (in_order x (mark_after o x.mark) v None) c × guest_seen (settled_with o p) (in_order x (mark_after o x.mark) v None) c) (sym (stays_there f st)) (
+        subst (λ (v : Option Slot). two_row (settled_with o p) (moved_up x (mark_after o x.mark) v None) c × guest_seen (settled_with o p) (moved_up x (mark_after o x.mark) v None) c) (sym (stays_there f st)) (
           (record { between = settled (Some f) s.between; leads = leads; row = row; behind = s.behind }, marks),
           record { between = settled (Some f) s.between; leads = leads; row = row; seen = seen; behind = s.behind; behind_seen = tt },
         )
@@ -299,7 +299,7 @@ module _ (p : Part) (x : Guest) (c : Content) where
         let behind = behind_synced x.extent (side_behind x) b c quiet below s.behind_seen x.paired in
         let behind_seen = behind_synced_seen x.extent (side_behind x) b c quiet below s.behind_seen in
         let chain = r.1.ordered.chained in
-        let marks : IsMarked (settled_with o p) (in_order x (mark_after o x.mark) (Some to) (after_sync (Some b))) = record {
+        let marks : IsMarked (settled_with o p) (moved_up x (mark_after o x.mark) (Some to) (after_sync (Some b))) = record {
           mark = mark_with o x.mark p r.1.mark;
           follows = subst (λ (v : Option Slot). Follows (mark_after o x.mark) (pending_of v)) (stays_there f st) (follows_first x.mark f.phase f.intent (opening_in (Some b)) (λ un. none) r.1.follows);
           next_follows = subst (λ (v : Option Slot). Follows (mark_after o x.mark + length (entries_in (pending_of v))) (pending_of (after_sync (Some b)))) (stays_there f st)
@@ -311,7 +311,7 @@ module _ (p : Part) (x : Guest) (c : Content) where
             single = λ un. absurd (let is = (r.1.ordered.single un).alone in cc);
           };
         } in
-        subst (λ (v : Option Slot). two_row (settled_with o p) (in_order x (mark_after o x.mark) v (after_sync (Some b))) c × guest_seen (settled_with o p) (in_order x (mark_after o x.mark) v (after_sync (Some b))) c) (sym (stays_there f st)) (
+        subst (λ (v : Option Slot). two_row (settled_with o p) (moved_up x (mark_after o x.mark) v (after_sync (Some b))) c × guest_seen (settled_with o p) (moved_up x (mark_after o x.mark) v (after_sync (Some b))) c) (sym (stays_there f st)) (
           (record { between = settled (Some f) s.between; leads = leads; row = row; behind = behind }, marks),
           record { between = settled (Some f) s.between; leads = leads; row = row; seen = seen; behind = behind; behind_seen = behind_seen },
         )

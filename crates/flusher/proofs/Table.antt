@@ -16,7 +16,7 @@ use Rattle.flusher.specs.declared.guest.Turn.{Turn}
 use Rattle.flusher.specs.declared.guest.Turn.TheVariants.{First, Second, Neither}
 use Rattle.flusher.specs.Phase.{is_opening, is_settled}
 use Rattle.flusher.specs.Slot.{slot_write, slot_writes, intent_of, pending_of, opening_in, after_write, after_sync}
-use Rattle.flusher.specs.Pair.{region_of, side_of, side_behind, entries_in, opening_of, or_else, behind_writes, turn_of, write_in, moved_in, guest_write, guest_after_write, guest_after_sync, in_order, marked}
+use Rattle.flusher.specs.Pair.{region_of, side_of, side_behind, entries_in, opening_of, or_else, behind_writes, turn_of, write_in, moved_in, guest_write, guest_after_write, guest_after_sync, moved_up, marked}
 use Rattle.flusher.specs.SlotInvariant.{PhaseRow, Row, guest_row, guest_seen, guest_settled, PairRow, PairSeen, Behind, LeadsTo, LeadsBy, PhaseBesides, Besides, Chained, BeforeOrAfter, Follows, IsOrdered, IsMarked, IsOfVersion, IsKept, sequence_of_part}
 use Rattle.flusher.specs.Store.{IntentFits}
 use Rattle.flusher.proofs.Rows.{row_frame, seen_frame, Keeps, IsWritten, own_write, own_seen, row_stands}
@@ -305,7 +305,7 @@ t_seen_frame p x c d same s = (let spare = spares_frame (region_of x) (other_sid
   behind_seen = behind_seen_beside (region_of x) c d (side_behind x) spare x.behind s.behind_seen;
 })
 
-ordered_version : (x : Guest) (n : ℕ) (c : Content) (slot behind : Option Slot) → IsOfVersion x c → IsOfVersion (in_order x n slot behind) c
+ordered_version : (x : Guest) (n : ℕ) (c : Content) (slot behind : Option Slot) → IsOfVersion x c → IsOfVersion (moved_up x n slot behind) c
 ordered_version x n c (Some f) behind v = record { behind = v.behind; version = v.version }
 ordered_version x n c None (Some b) v = record { behind = v.behind; version = v.version }
 ordered_version x n c None None v = record { behind = v.behind; version = v.version }
@@ -325,7 +325,7 @@ moved_region Neither x = refl
 pub region_moved : (x : Guest) → region_of (guest_after_write x) ≡ region_of x
 region_moved x = moved_region (turn_of x) x
 
-ordered_region : (x : Guest) (n : ℕ) (slot behind : Option Slot) → region_of (in_order x n slot behind) ≡ region_of x
+ordered_region : (x : Guest) (n : ℕ) (slot behind : Option Slot) → region_of (moved_up x n slot behind) ≡ region_of x
 ordered_region x n (Some f) behind = refl
 ordered_region x n None (Some b) = refl
 ordered_region x n None None = refl

@@ -16,7 +16,7 @@ use Rattle.flusher.specs.Phase.{open_write, synced, is_opening}
 use Rattle.flusher.specs.declared.guest.Turn.{Turn}
 use Rattle.flusher.specs.declared.guest.Turn.TheVariants.{First, Second, Neither}
 use Rattle.flusher.specs.Slot.{spelled, intent_of, in_phase, opening_in, slot_writes, after_write, after_sync}
-use Rattle.flusher.specs.Pair.{opening_of, or_else, mark_after, marked, in_order, behind_writes, turn_of, moved_in, guest_write, guest_after_write, guest_after_sync, guest_has_write}
+use Rattle.flusher.specs.Pair.{opening_of, or_else, mark_after, marked, moved_up, behind_writes, turn_of, moved_in, guest_write, guest_after_write, guest_after_sync, guest_has_write}
 use Rattle.flusher.specs.Store.{AllFit, GuestFits, IntentFits, IsOf}
 use Rattle.flusher.specs.Round.{WroteSlot}
 use Rattle.flusher.specs.SlotInvariant.{Besides}
@@ -69,7 +69,7 @@ module _ (len g : ℕ) (x : Guest) (f : GuestFits len g x) where
   marked_fits = mark_small (opening_of x) x.extent.size x.mark f.mark (λ i is. either_fits x.extent.size (opening_in x.slot) (opening_in x.behind) i
       (λ j at. slot_opening_fits x.extent.size x.slot j f.slot_fits at) (λ j at. slot_opening_fits x.extent.size x.behind j f.behind_fits at) is)
 
-  ordered_fits : (slot behind : Option Slot) → IntentFits x.extent.size (intent_of slot) → IntentFits x.extent.size (intent_of behind) → IsOf g (intent_of slot) → IsOf g (intent_of behind) → Besides (in_order x (marked x) slot behind).slot (in_order x (marked x) slot behind).behind → GuestFits len g (in_order x (marked x) slot behind)
+  ordered_fits : (slot behind : Option Slot) → IntentFits x.extent.size (intent_of slot) → IntentFits x.extent.size (intent_of behind) → IsOf g (intent_of slot) → IsOf g (intent_of behind) → Besides (moved_up x (marked x) slot behind).slot (moved_up x (marked x) slot behind).behind → GuestFits len g (moved_up x (marked x) slot behind)
   ordered_fits (Some s) behind a b c d e = record { behind = f.behind; room = f.room; slot_fits = a; behind_fits = b; own = c; behind_own = d; mark = marked_fits; besides = e }
   ordered_fits None (Some s) a b c d e = record { behind = f.behind; room = f.room; slot_fits = b; behind_fits = tt; own = d; behind_own = tt; mark = marked_fits; besides = e }
   ordered_fits None None a b c d e = record { behind = f.behind; room = f.room; slot_fits = tt; behind_fits = tt; own = tt; behind_own = tt; mark = marked_fits; besides = e }

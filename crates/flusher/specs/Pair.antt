@@ -119,13 +119,13 @@ abbrev pub marked : Guest → ℕ
 marked x = mark_after (opening_of x) x.mark
 
 -- once the first slot is empty, the one behind it is the first; both empty, slot A is
-abbrev pub in_order : Guest → ℕ → Option Slot → Option Slot → Guest
-in_order x n (Some first) behind = record { extent = x.extent; mark = n; paired = x.paired; side = x.side; slot = Some first; behind = behind }
-in_order x n None (Some behind) = record { extent = x.extent; mark = n; paired = x.paired; side = other_side x.side; slot = Some behind; behind = None }
-in_order x n None None = record { extent = x.extent; mark = n; paired = x.paired; side = A; slot = None; behind = None }
+abbrev pub moved_up : Guest → ℕ → Option Slot → Option Slot → Guest
+moved_up x n (Some first) behind = record { extent = x.extent; mark = n; paired = x.paired; side = x.side; slot = Some first; behind = behind }
+moved_up x n None (Some behind) = record { extent = x.extent; mark = n; paired = x.paired; side = other_side x.side; slot = Some behind; behind = None }
+moved_up x n None None = record { extent = x.extent; mark = n; paired = x.paired; side = A; slot = None; behind = None }
 
 abbrev pub guest_after_sync : Guest → Guest
-guest_after_sync x = in_order x (marked x) (after_sync x.slot) (after_sync x.behind)
+guest_after_sync x = moved_up x (marked x) (after_sync x.slot) (after_sync x.behind)
 
 -- a slot that holds nothing: in version 1 there is one, in version 2 the other one counts too
 abbrev pub has_room : Guest → Bool

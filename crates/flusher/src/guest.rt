@@ -1,6 +1,6 @@
 ghost use Rattle.std.specs.Prelude.{◌≡◌, ◌≤◌, ◌↔◌, ◌+◌, IsTrue, length};
 ghost use Rattle.flusher.specs.Slot.{intent_of, pending_of, opening_in, slot_writes, slot_awaits, after_write};
-ghost use Rattle.flusher.specs.Pair.{has_room, entries_in, mark_after, is_let, behind_writes, turn_of, has_turn, marked, in_order, guest_has_write, guest_awaits, guest_after_write, guest_after_sync, with_intent, resting, redoing, redoing_two};
+ghost use Rattle.flusher.specs.Pair.{has_room, entries_in, mark_after, is_let, behind_writes, turn_of, has_turn, marked, moved_up, guest_has_write, guest_awaits, guest_after_write, guest_after_sync, with_intent, resting, redoing, redoing_two};
 ghost use Rattle.flusher.specs.Store.{pending, HasSameKey, FitsGuest};
 
 use crate::phase::Phase;
@@ -278,12 +278,12 @@ impl Guest {
         self.mark = self.marked();
         move_synced(&mut self.slot);
         move_synced(&mut self.behind);
-        self.put_in_order();
+        self.move_up();
     }
 
     /// Makes the slot behind the first one where that is empty.
-    fn put_in_order(&mut self)
-        ensures { self.new ≡ in_order self.old self.old.mark self.old.slot self.old.behind }
+    fn move_up(&mut self)
+        ensures { self.new ≡ moved_up self.old self.old.mark self.old.slot self.old.behind }
     {
         if self.slot.is_none() {
             self.side = if self.behind.is_none() {

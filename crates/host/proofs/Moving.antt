@@ -13,8 +13,9 @@ use Rattle.intent_slots.specs.Recovered.{Part}
 use Rattle.flusher.specs.declared.guest.Guest.{Guest}
 use Rattle.flusher.specs.declared.progress.Progress.{Progress}
 use Rattle.flusher.specs.declared.progress.StoreFault.{StoreFault}
+use Rattle.flusher.proofs.Pending.{pending_stays}
 use Rattle.flusher.specs.Round.{MovedBy, Round, plan_at, planned, settles}
-use Rattle.flusher.specs.Slot.{guest_after_sync, guest_awaits, guest_has_write, mark_of}
+use Rattle.flusher.specs.Pair.{guest_after_sync, guest_awaits, guest_has_write, mark_of}
 use Rattle.flusher.specs.Store.{is_free}
 use Rattle.flusher.proofs.Endings.{round_badly, round_well}
 use Rattle.mmio_transport.specs.Device.{DeviceState}
@@ -114,7 +115,7 @@ module _ {D : Type 0} (shows : D → DiskState) (makes : D → DiskCall → D �
         let first = ap mark_of same in
         omega (arith, up, last, first)
     moved_up false g y z at (inl is) = (let same = ap mark_of is in omega (arith, same))
-    moved_up false g y z at (inr is) = (let same : mark_of z ≡ mark_of y = ap mark_of is in omega (arith, same))
+    moved_up false g y z at (inr is) = (let same : mark_of z ≡ mark_of y = ap mark_of is ∙ (pending_stays y).1 in omega (arith, same))
 
     drive_goes : (g : ℕ) (act : Act) (answer : Answer) (new : BoardState D) (o : Option DeviceState) → Drives g act o answer old new → Goes shows old new
     drive_goes g act answer new None does = still new old does.1 refl

@@ -7,23 +7,21 @@ use Rattle.rpmb_frame.specs.Partition.{Partition, sequence}
 use Rattle.rpmb_frame.specs.declared.config.GuestConfig.{GuestConfig}
 use Rattle.rpmb_core.specs.Requests.{partition_after_all}
 use Rattle.disk.specs.Disk.{DiskState}
-use Rattle.intent_slots.specs.Payload.{Intent}
+use Rattle.intent_slots.specs.Payload.{Group, Intent}
 use Rattle.intent_slots.specs.Recovered.{Part, part_of}
 use Rattle.flusher.specs.declared.guest.Guest.{Guest}
-use Rattle.flusher.specs.declared.phase.Phase.{Phase}
-use Rattle.flusher.specs.declared.phase.Phase.TheVariants.{Given, Written, Ready, Opening, Open, Applying, Applied, Closing}
-use Rattle.flusher.specs.declared.slot.Slot.{Slot}
 use Rattle.flusher.specs.Marks.{mark, marks_of}
-use Rattle.flusher.specs.Phase.{is_settled, synced}
-use Rattle.flusher.specs.Slot.{after_sync, guest_after_sync, in_phase, mark_of, pending_of, with_intent}
-use Rattle.flusher.specs.SlotInvariant.{guest_settled}
+use Rattle.flusher.specs.Laws.{Settles}
+use Rattle.flusher.proofs.Pending.{pending_settles}
+use Rattle.flusher.specs.Pair.{entries_in, guest_after_sync, mark_of, opening_of, pending_intents, with_intent}
+use Rattle.flusher.specs.SlotInvariant.{Besides, guest_settled}
 use Rattle.flusher.specs.Store.{given, given_of}
 use Rattle.mmio_transport.specs.Job.{Job}
 use Rattle.rpmb_book.specs.Guest.{GuestState, accepts, request_of}
 use Rattle.rpmb_book.specs.Sound.{IsOfBoard}
 use Rattle.rpmb_book.specs.Turn.{State}
 use Rattle.board.specs.Board.{LeavesPrefixes, accepted_by, joined_when}
-use Rattle.board.specs.Link.{IsLinked, IsPrefix, due, entries_in}
+use Rattle.board.specs.Link.{IsLinked, IsPrefix, due, entries_all}
 use Rattle.board.proofs.Links.{sync_links, length-entries}
 use Rattle.host.specs.Moving.{GoOn}
 use Rattle.host.proofs.Same.{given_marks}
@@ -107,20 +105,13 @@ given_rise held i g = marks_rise held (given held i) (length-given held i) (λ k
     let marks : mark_of z ≡ mark_of y = w.2 ∙ ap mark_of same in
     omega (arith, marks)) g
 
--- a sync leaves no more intents that aren't settled
-fewer_in : (phase : Phase) (i : Intent) → length (entries_in (pending_of (in_phase i (synced phase i.group)))) ≤ length (entries_in (if is_settled phase then None else Some i))
-fewer_in Given i = omega arith
-fewer_in Written i = omega arith
-fewer_in Ready i = omega arith
-fewer_in Opening i = omega arith
-fewer_in (Open k) i = omega arith
-fewer_in Applying i = omega arith
-fewer_in Applied i = omega arith
-fewer_in Closing i = omega arith
+-- a sync leaves no more that isn't settled
+fewer_by : (o : Option Group) (before after : List Intent) → Settles o before after → length (entries_all after) ≤ length (entries_all before)
+fewer_by None before after is = (let same = ap (λ l. length (entries_all l)) is in omega (arith, same))
+fewer_by (Some g) before after is = (let same = ap (λ l. length (entries_all l)) is.1 in let sum = length-append is.0.group.entries (entries_all after) in omega (arith, same, sum))
 
-fewer : (slot : Option Slot) → length (entries_in (pending_of (after_sync slot))) ≤ length (entries_in (pending_of slot))
-fewer None = omega arith
-fewer (Some s) = fewer_in s.phase s.intent
+fewer : (held : Guest) → Besides held.slot held.behind → length (entries_all (pending_intents (guest_after_sync held))) ≤ length (entries_all (pending_intents held))
+fewer held b = fewer_by (opening_of held) (pending_intents held) (pending_intents (guest_after_sync held)) (pending_settles held b).0
 
 -- what is settled, and what isn't, is all that was accepted
 counted : (n : ℕ) (base : Partition) (accepted : List Request) (part : Part) (x : GuestState) (held : Guest) (between : Option Intent) → IsLinked n base accepted part x held between
@@ -138,7 +129,7 @@ pub sync_rises : (n : ℕ) (base : Partition) (accepted : List Request) (part : 
 sync_rises n base accepted part x held between board link =
     let before = counted n base accepted part x held between link in
     let after = counted n base accepted (guest_settled held part) x (guest_after_sync held) between (sync_links n base accepted part x held between board link) in
-    let less = fewer held.slot in
-    let one = length-append (entries_in (pending_of held.slot)) (entries_in between ++ x.waiting) in
-    let two = length-append (entries_in (pending_of (after_sync held.slot))) (entries_in between ++ x.waiting) in
+    let less = fewer held link.besides in
+    let one = length-append (entries_all (pending_intents held)) (entries_in between ++ x.waiting) in
+    let two = length-append (entries_all (pending_intents (guest_after_sync held))) (entries_in between ++ x.waiting) in
     omega (arith, before, after, less, one, two)

@@ -3,8 +3,9 @@ use Rattle.std.proofs.Common.{◌≡◌, inl, inr, ℕ, zero, suc, ◌+◌, Bool
 use Rattle.std.specs.Prelude.{if◌then◌else◌, ◌==◌, slice_get, slice_set}
 use Rattle.std.proofs.lemmas.Option.{slice_get_cases, slice_get_within}
 use Rattle.disk.specs.Disk.{DiskState}
+use Rattle.flusher.proofs.Lookups.{given_mark}
 use Rattle.flusher.specs.declared.guest.Guest.{Guest}
-use Rattle.flusher.specs.Slot.{mark_of, with_intent}
+use Rattle.flusher.specs.Pair.{mark_of, with_intent}
 use Rattle.flusher.specs.Store.{given, given_of}
 use Rattle.flusher.proofs.Guests.{get_set_same, get_set_other}
 use Rattle.intent_slots.specs.Payload.{Intent}
@@ -205,7 +206,7 @@ given_marks held i k y' at = by (slice_get held i.guest) refl
     by (Some z) some =
         let now : slice_get (slice_set held i.guest (with_intent z i)) k ≡ Some y' = ap (λ l. slice_get l k) (sym (ap (given_of held i) some)) ∙ at in
         at_each {P = λ m. slice_get (slice_set held i.guest (with_intent z i)) m ≡ Some y' → (y : Guest) × (slice_get held m ≡ Some y) × (mark_of y' ≡ mark_of y)} i.guest
-        (λ here. (let same : with_intent z i ≡ y' = (let a = get_set_same held i.guest z (with_intent z i) some in cc) in (z, some, ap mark_of (sym same))))
+        (λ here. (let same : with_intent z i ≡ y' = (let a = get_set_same held i.guest z (with_intent z i) some in cc) in (z, some, ap mark_of (sym same) ∙ given_mark z i z.slot)))
         (λ m other there. (y', sym (get_set_other held i.guest m (with_intent z i) other) ∙ there, refl)) k now
 
 pub give_same : {D : Type 0} (g : ℕ) (free : Bool) (o : Option Intent) (answer : Answer) (b b' : BoardState D) → GivesWhere g free o answer b b' → Same b b'

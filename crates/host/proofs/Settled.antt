@@ -12,7 +12,7 @@ use Rattle.flusher.specs.declared.progress.Progress.TheVariants.{Synced}
 use Rattle.flusher.specs.declared.progress.StoreFault.{StoreFault}
 use Rattle.flusher.specs.Marks.{marks_of}
 use Rattle.flusher.specs.Round.{Moves, MovedBy, settles}
-use Rattle.flusher.specs.Slot.{mark_of}
+use Rattle.flusher.specs.Pair.{mark_of}
 use Rattle.flusher.specs.Store.{StoreState}
 use Rattle.rpmb_book.specs.Asked.{answered_in}
 use Rattle.rpmb_book.specs.Book.{BookView, after_settle, may_settle, state, waiting_of, with_turn}
@@ -27,6 +27,7 @@ use Rattle.board.proofs.Stays.{marks_at, may_settle_them}
 use Rattle.host.specs.Calm.{is_broken}
 use Rattle.host.specs.Runner.{RunnerView, held_since, runner_of, runner_since, since}
 use Rattle.host.specs.Waiting.{IsLate, Waits}
+use Rattle.flusher.proofs.Pending.{pending_stays}
 use Rattle.host.proofs.Since.{since_whole}
 use Rattle.host.proofs.Same.{Same, also_there, cores_in, count_same, same_guest, state_of}
 
@@ -34,7 +35,7 @@ use Rattle.host.proofs.Same.{Same, also_there, cores_in, count_same, same_guest,
 
 moved_mark : (y y' : Guest) → MovedBy false y y' → mark_of y' ≡ mark_of y
 moved_mark y y' (inl is) = ap mark_of is
-moved_mark y y' (inr is) = ap mark_of is
+moved_mark y y' (inr is) = ap mark_of is ∙ (pending_stays y).1
 
 pub quiet_same : {D : Type 0} (b b' : BoardState D) (progress : Result Progress StoreFault) (store : StoreState D) → settles progress ≡ false → Moves progress b.store.guests store.guests
     → store.broken ≡ b.store.broken → b.report ≡ None → b' ≡ record b { store = store; report = None } → Same b b'

@@ -9,9 +9,9 @@ use Rattle.rpmb_core.proofs.Following.{sequence_of_all}
 use Rattle.disk.specs.Disk.{DiskCall, DiskState}
 use Rattle.intent_slots.specs.Layout.{capacities_of, region_at, slot_region}
 use Rattle.intent_slots.specs.declared.layout.Side.TheVariants.{A}
-use Rattle.intent_slots.specs.Recovered.{StandsFor, part_of}
+use Rattle.intent_slots.specs.Recovered.{Stands, part_of}
 use Rattle.flusher.specs.Marks.{marks_of}
-use Rattle.flusher.specs.Slot.{mark_of}
+use Rattle.flusher.specs.Pair.{mark_of}
 use Rattle.rpmb_book.specs.Guest.{GuestState}
 use Rattle.board.specs.Board.{marks_in}
 use Rattle.board.specs.State.{BoardState, guests}
@@ -57,4 +57,4 @@ leaves_all shows makes old last calm moves whole same config bases accepted link
     let within = left.2.within in
     let full : take left.2.count (accepted g) ≡ accepted g = take_all left.2.count (accepted g) (omega (arith, enough, within, risen, marked, least, settled, all, sequences)) in
     let is : left.0 ≡ part_of x.core.partition = left.2.is ∙ ap (λ rs. part_of (partition_after_all (bases g) rs)) full ∙ ap part_of (sym t.link.partition) in
-    subst (StandsFor (region_at (capacities_of config) g) (slot_region (region_at (capacities_of config) g) A) c) is left.1
+    subst (Stands (region_at (capacities_of config) g) c) is left.1

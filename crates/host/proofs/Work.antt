@@ -11,7 +11,8 @@ use Rattle.flusher.specs.declared.guest.Guest.{Guest}
 use Rattle.flusher.specs.declared.slot.Slot.{Slot}
 use Rattle.flusher.specs.CallsLeft.{left_of}
 use Rattle.flusher.specs.Round.{AllEmpty}
-use Rattle.flusher.specs.Slot.{is_empty, mark_of, with_intent}
+use Rattle.flusher.specs.Slot.{is_empty}
+use Rattle.flusher.specs.Pair.{given_at, has_room, mark_of, with_intent}
 use Rattle.flusher.specs.Store.{given, given_of, is_free, is_free_of}
 use Rattle.flusher.proofs.Countdown.{given_adds}
 use Rattle.flusher.proofs.Guests.{get_set_same}
@@ -41,6 +42,18 @@ also_there_below l k below = elim (slice_get_cases l k).1 [
 empty_slot : (slot : Option Slot) → is_empty slot ≡ true → slot ≡ None
 empty_slot None is = refl
 empty_slot (Some s) is = absurd (cc)
+
+-- a guest whose slots are empty has room, and one that was given an intent has a slot that isn't
+has_room_empty : (z : Guest) → is_empty z.slot ≡ true → is_empty z.behind ≡ true → has_room z ≡ true
+has_room_empty z one two = by z.paired
+  where
+    by : (pair : Bool) → (if pair then is_empty z.behind else is_empty z.slot) ≡ true
+    by true = two
+    by false = one
+
+given_is_not_empty : (z : Guest) (i : Intent) (slot : Option Slot) → is_empty (given_at z i slot).slot ≡ true → ⊥
+given_is_not_empty z i None is = absurd (cc)
+given_is_not_empty z i (Some f) is = absurd (cc)
 
 full_is_not : (i : Intent) → Some (Some i) ≡ Some None → ⊥
 full_is_not i is = absurd (let no : Some i ≡ None = cc in cc)
@@ -152,24 +165,25 @@ give_work shows g false (Some i) answer b b' sound few free place gives = subst 
   rest = λ empty. absurd (
       let z = also_there_below b.store.guests g few in
       let yes = empty g z.0 z.1 in
-      let no : is_empty z.0.slot ≡ false = ap is_free_of (sym z.1) ∙ free in cc);
+      let none : has_room z.0 ≡ false = ap is_free_of (sym z.1) ∙ free in
+      let room = has_room_empty z.0 yes.0 yes.1 in cc);
 })
 give_work shows g true None answer b b' sound few free place gives = subst (IsGiven g b) (sym gives.1) (record { work = refl; rest = λ empty. (refl, place) })
 give_work {D = D} shows g true (Some i) answer b b' sound few free place gives =
     let full = full_at (slice_get b.intents g) i (sym place) in
     let may = may_give_it shows sound.config sound.bases sound.accepted sound.parts b sound.linked g i full free in
     let z = also_there_below b.store.guests g few in
-    let empty : z.0.slot ≡ None = empty_slot z.0.slot (ap is_free_of (sym z.1) ∙ free) in
+    let room : has_room z.0 ≡ true = ap is_free_of (sym z.1) ∙ free in
     let at : slice_get b.store.guests i.guest ≡ Some z.0 = ap (slice_get b.store.guests) may.0 ∙ z.1 in
     let now : BoardState D = record b { store = record b.store { guests = given b.store.guests i }; intents = slice_set b.intents g None } in
-    let left : left_of (given b.store.guests i) ≡ left_of b.store.guests + calls_of i = given_adds b.store.guests i z.0 at empty in
+    let left : left_of (given b.store.guests i) ≡ left_of b.store.guests + calls_of i = given_adds b.store.guests i z.0 at room in
     let one : between_calls (in_place (slice_get b.intents g)) ≡ calls_of i = ap between_calls place in
     let none : between_calls (in_place (slice_get (slice_set b.intents g None) g)) ≡ 0 = ap (λ o. between_calls (in_place o)) (get_set_same b.intents g (Some i) None full) in
     subst (IsGiven g b) (sym gives.1) (record {
       work = work_is g b now refl (omega (arith, left, one, none));
       rest = λ rests. absurd (
           let there : slice_get (given b.store.guests i) i.guest ≡ Some (with_intent z.0 i) = given_there b.store.guests i z.0 at in
-          let yes = rests i.guest (with_intent z.0 i) there in cc);
+          given_is_not_empty z.0 i z.0.slot (rests i.guest (with_intent z.0 i) there).0);
     })
 
 -- 3. Once all slots are empty and nothing waits, all is settled
@@ -183,12 +197,14 @@ pub settled_all_at_rest : {D : Type 0} (shows : D → DiskState) (g : ℕ) (x : 
 settled_all_at_rest shows g x b sound at empty place waits =
     let t = sound.linked.each g x at in
     let l = t.link in
-    let slot = empty_slot t.stored.slot (empty g t.stored t.in_store) in
+    let both = empty g t.stored t.in_store in
+    let slot = empty_slot t.stored.slot both.0 in
+    let behind = empty_slot t.stored.behind both.1 in
     let none : t.intent ≡ None = ap in_place (sym t.in_place) ∙ place in
     let taken = l.taken in
     let mark = l.mark in
     let all : sequence x.core.partition ≡ sequence (sound.bases g) + length (sound.accepted g) = ap sequence l.partition ∙ sequence_of_all (sound.bases g) (sound.accepted g) l.in_turn in
-    let nothing : due t.stored t.intent x ≡ [] = rw (slot, none, waits) refl in
+    let nothing : due t.stored t.intent x ≡ [] = rw (slot, behind, none, waits) refl in
     let rest = empty_entries (drop l.stored (sound.accepted g)) (l.rest ∙ nothing) in
     let long = length-drop l.stored (sound.accepted g) in
     let zero_rest : length (drop l.stored (sound.accepted g)) ≡ 0 = ap length rest in

@@ -9,6 +9,7 @@ mod last_counter;
 mod limits;
 mod lines;
 mod memory;
+mod pops;
 mod receipts;
 mod rolls;
 mod scene;

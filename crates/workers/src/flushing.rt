@@ -51,7 +51,7 @@ impl<D: Disk> Flusher<D> {
         }
     }
 
-    /// Takes what waits for one guest, and gives it to the store where its slot is free. Whether it did.
+    /// Takes what waits for one guest, and gives it to the store where a slot of it is free. Whether it did.
     #[tactic(auto, using(crate::proofs::Following::follow_given))]
     fn take<L: Ledger>(
         &mut self,

@@ -110,6 +110,17 @@ impl Acts {
         Ok(())
     }
 
+    /// Once more a stop, within the first call after the opening, or after that call.
+    pub fn stop_again(&mut self, within: bool) -> Result<(), Fail> {
+        let filler = filler_of(self.alloc, self.filler)?;
+        if within {
+            return Ok(self.events.push(Event::StopIn(filler))?);
+        }
+        self.events.push(Event::Do(Step::Advance))?;
+        self.events.push(Event::Do(Step::Settle))?;
+        Ok(self.events.push(Event::Stop(filler))?)
+    }
+
     fn step(&mut self, step: Step) -> Result<(), Fail> {
         self.add(Event::Do(step))
     }
@@ -205,7 +216,7 @@ impl Acts {
     }
 
     /// Puts a chain of this request before the device, and makes it available.
-    fn ask(&mut self, guest: u16, asked: Asked) -> Result<(), Fail> {
+    pub fn ask(&mut self, guest: u16, asked: Asked) -> Result<(), Fail> {
         let frames = frames_of(self.alloc, asked)?;
         self.place(guest, &frames)?;
         self.offer(guest)

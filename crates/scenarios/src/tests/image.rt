@@ -4,11 +4,20 @@ use crate::tests::scene::{Scene, board_of};
 use disk::{CutDisk, Disk};
 use flusher::{Progress, Store};
 use intent_slots::{Intent, Layout};
-use recovery::{format, open};
+use recovery::{format, format2, open};
 use rpmb_core::Partition;
 use rpmb_frame::BoardConfig;
 use std::alloc::Global;
 use std::test::Fail;
+
+/// The version of an image.
+#[derive(Clone, Copy)]
+pub enum Version {
+    /// One slot of each partition is in use.
+    One,
+    /// Both are.
+    Two,
+}
 
 /// A disk as long as the image of a board, which holds something else.
 fn other_disk(alloc: Global, board: &BoardConfig) -> Result<CutDisk, Fail> {
@@ -18,18 +27,26 @@ fn other_disk(alloc: Global, board: &BoardConfig) -> Result<CutDisk, Fail> {
 }
 
 /// Makes a fresh image of a disk of its length.
-fn make_image(disk: &mut CutDisk, board: &BoardConfig) -> Result<(), Fail> {
+fn make_image(disk: &mut CutDisk, board: &BoardConfig, version: Version) -> Result<(), Fail> {
     if disk.len() != Layout::of(board).length() {
         return Err(Fail::from("another length"));
     }
-    Ok(format(disk, board)?)
+    match version {
+        Version::One => Ok(format(disk, board)?),
+        Version::Two => Ok(format2(disk, board)?),
+    }
 }
 
-/// A fresh image, on a disk that held something else.
-pub fn formatted(alloc: Global, board: &BoardConfig) -> Result<CutDisk, Fail> {
+/// A fresh image of a version, on a disk that held something else.
+pub fn formatted_as(alloc: Global, board: &BoardConfig, version: Version) -> Result<CutDisk, Fail> {
     let mut disk = other_disk(alloc, board)?;
-    make_image(&mut disk, board)?;
+    make_image(&mut disk, board, version)?;
     Ok(disk)
+}
+
+/// The same of version 1.
+pub fn formatted(alloc: Global, board: &BoardConfig) -> Result<CutDisk, Fail> {
+    formatted_as(alloc, board, Version::One)
 }
 
 /// What a disk opens to: the store, and the guests' partitions.

@@ -1,10 +1,12 @@
 //! Three guests whose requests go to the disk side by side, one at a time or several as one, stopped at and
 //! within each call of the disk, and once more at and within the first call after the opening.
 mod ends;
+mod tally;
 
-use crate::tests::image::{formatted, give, opened};
+use crate::tests::image::{Version, formatted_as, give, opened};
 use crate::tests::intents::{Histories, group_of};
 use crate::tests::scene::{board_of, check};
+use crate::tests::stops::tally::{Tally, check_tally, no_tally};
 use disk::{CutDisk, Filler};
 use flusher::{Call, Progress, Store, StoreFault};
 use rpmb_core::Partition;
@@ -12,7 +14,7 @@ use rpmb_frame::BoardConfig;
 use std::alloc::Global;
 use std::test::Fail;
 
-/// How many calls were made when each guest begins: one and two syncs after guest 0.
+/// How many calls were made when each guest begins: with one slot one and two syncs after guest 0.
 const BEGINNINGS: [u32; 3] = [0, 2, 5];
 
 /// More calls than any run has.
@@ -21,6 +23,7 @@ const MANY: u32 = 1000;
 /// How the requests of the guests go to the store, and how many calls that takes.
 #[derive(Clone, Copy)]
 struct Grouping {
+    version: Version,
     /// By guest and request, how many go as one from this request on; 0 where it goes with one before it.
     sizes: [[u64; 4]; 3],
     calls: u32,
@@ -35,6 +38,7 @@ struct Grouping {
 /// last gate shut. Nor does one where 3 of them leave it shut in the last sync, and 2 in the last write, which
 /// what reads give then lacks.
 static SINGLE: Grouping = Grouping {
+    version: Version::One,
     sizes: [[1; 4]; 3],
     calls: 75,
     without_calls: [14, 10],
@@ -43,9 +47,25 @@ static SINGLE: Grouping = Grouping {
 /// A key, a write and two as one; a key and three writes as one; a key and three writes, all as one. A group
 /// takes 4 writes, and one for each write of blocks: 15, 11 and 7, and 12 syncs, four for each group of guest 0.
 static MIXED: Grouping = Grouping {
+    version: Version::One,
     sizes: [[1, 1, 2, 0], [1, 3, 0, 0], [4, 0, 0, 0]],
     calls: 45,
     without_calls: [14, 10],
+};
+
+/// With two slots a guest's next payload and gate go beside those of the request before it, so each request
+/// but the first takes two syncs: 10 for each guest, of which guest 2 begins one sync after the others.
+static PAIRED_SINGLE: Grouping = Grouping {
+    version: Version::Two,
+    calls: 68,
+    ..SINGLE
+};
+
+/// Guest 0 takes four syncs for its key, and two for each of its other groups.
+static PAIRED_MIXED: Grouping = Grouping {
+    version: Version::Two,
+    calls: 41,
+    ..MIXED
 };
 
 /// What a run begins from, and what its partitions are compared with.
@@ -62,7 +82,9 @@ fn new_scene(alloc: Global, grouping: &Grouping) -> Result<Scene, Fail> {
     let board = board_of(alloc, 3)?;
     Ok(Scene {
         grouping: *grouping,
-        image: formatted(alloc, &board)?.content().to_vec(alloc)?,
+        image: formatted_as(alloc, &board, grouping.version)?
+            .content()
+            .to_vec(alloc)?,
         board,
         histories: Histories::new(alloc)?,
     })
@@ -76,35 +98,13 @@ struct Run {
     given: [u64; 3],
 }
 
-/// What a stop has left, and of each guest the least and the most requests that it may have kept.
+/// What a stop has left, and of each guest the least and the most requests that it may have kept: those that
+/// are settled, and besides the group that comes next.
 #[derive(Drop)]
 struct Stopped {
     disk: CutDisk,
     least: [u64; 3],
     most: [u64; 3],
-}
-
-/// What was compared.
-#[derive(Drop)]
-struct Tally {
-    /// How many partitions.
-    partitions: u32,
-    /// How many calls were made after an opening.
-    calls: u32,
-    /// By guest and request, how many openings found the partition before a request that had been
-    /// given and wasn't settled.
-    before: [[u32; 4]; 3],
-    /// How many found the partition after it.
-    after: [[u32; 4]; 3],
-}
-
-fn no_tally() -> Tally {
-    Tally {
-        partitions: 0,
-        calls: 0,
-        before: [[0; 4]; 3],
-        after: [[0; 4]; 3],
-    }
 }
 
 fn sequence_of(partition: Option<&Partition>) -> u64 {
@@ -257,14 +257,31 @@ impl Run {
     }
 }
 
+/// How many requests a guest may have kept: of those given and not settled the next group, whose gate may be
+/// read as open.
+fn most_of(sizes: &[[u64; 4]; 3], guest: u16, settled: u64, given: u64) -> u64 {
+    match size_after(sizes, guest, settled) {
+        Some(size) if settled < given => settled.saturating_add(size),
+        _ => settled,
+    }
+}
+
 impl Run {
+    /// How many of a guest's requests are settled, and how many it may have kept.
+    fn bounds(&self, guest: u16) -> (u64, u64) {
+        let settled = self.store.marks().get(guest);
+        let given = self.given.get(usize::from(guest));
+        let given = given.copied().unwrap_or(settled);
+        (settled, most_of(&self.sizes, guest, settled, given))
+    }
+
     /// What stands on the disk when no more calls are made, without a stop.
     fn left(self) -> Stopped {
-        let marks = self.store.marks();
+        let bounds = [self.bounds(0), self.bounds(1), self.bounds(2)];
         Stopped {
             disk: self.store.into_disk(),
-            least: [marks.get(0), marks.get(1), marks.get(2)],
-            most: self.given,
+            least: [bounds[0].0, bounds[1].0, bounds[2].0],
+            most: [bounds[0].1, bounds[1].1, bounds[2].1],
         }
     }
 
@@ -273,66 +290,6 @@ impl Run {
         let mut stopped = self.left();
         stopped.disk.cut(filler);
         stopped
-    }
-}
-
-/// Whether there are counts of all requests that a group begins with, and of no others.
-fn has_all(counts: &[[u32; 4]; 3], sizes: &[[u64; 4]; 3]) -> bool {
-    let sizes = sizes.as_flattened().iter();
-    let mut both = counts.as_flattened().iter().zip(sizes);
-    both.all(|(count, size)| (*count > 0) == (*size > 0))
-}
-
-impl Tally {
-    /// Counts a partition that was found after so many requests.
-    fn count(&mut self, guest: usize, least: u64, found: u64, most: u64) -> Result<(), Fail> {
-        check(
-            found == least || found == most,
-            "all requests that went as one, or none",
-        )?;
-        self.partitions = self.partitions.wrapping_add(1);
-        if least == most {
-            return Ok(());
-        }
-        let all = if found == least {
-            &mut self.before
-        } else {
-            &mut self.after
-        };
-        match all
-            .as_flattened_mut()
-            .get_mut(4 * guest.min(2) + least as usize % 4)
-        {
-            Some(count) => *count = count.wrapping_add(1),
-            None => return Err(Fail::from("no request")),
-        }
-        Ok(())
-    }
-
-    /// Counts the partitions of all guests.
-    fn count_all(&mut self, least: [u64; 3], found: [u64; 3], most: [u64; 3]) -> Result<(), Fail> {
-        for guest in 0..3 {
-            self.count(guest, least[guest], found[guest], most[guest])?;
-        }
-        Ok(())
-    }
-
-    /// Counts and compares the partitions of all guests.
-    fn compare(
-        &mut self,
-        least: [u64; 3],
-        most: [u64; 3],
-        run: &Run,
-        partitions: &[Partition],
-        histories: &Histories,
-    ) -> Result<(), Fail> {
-        self.count_all(least, run.given, most)?;
-        run.compare(histories, partitions)
-    }
-
-    /// Whether each group was found undone and done while it wasn't settled.
-    fn has_both(&self, sizes: &[[u64; 4]; 3]) -> bool {
-        has_all(&self.before, sizes) && has_all(&self.after, sizes)
     }
 }
 
@@ -434,21 +391,6 @@ fn stopped_at_each(alloc: Global, scene: &Scene, within: bool) -> Result<Tally, 
         stop_at(alloc, scene, calls, within, &mut tally)?;
     }
     Ok(tally)
-}
-
-/// Three partitions are compared at each place with each of 4 fillers, and then at two second stops.
-fn check_tally(tally: &Tally, grouping: &Grouping, within: bool) -> Result<(), Fail> {
-    let places = u64::from(grouping.calls) + u64::from(!within);
-    let without = u64::from(grouping.without_calls[usize::from(within)]);
-    check(
-        u64::from(tally.partitions) == places * 36,
-        "all were compared",
-    )?;
-    check(
-        u64::from(tally.calls) + without == places * 8,
-        "calls after openings",
-    )?;
-    check(tally.has_both(&grouping.sizes), "before and after")
 }
 
 fn check_stops(alloc: Global, grouping: &Grouping, within: bool) -> Result<(), Fail> {

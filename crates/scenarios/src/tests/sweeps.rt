@@ -1,6 +1,8 @@
-//! Three guests side by side, stopped within each of the store's advances in turn, with each filler.
+//! Three guests side by side on images of both versions, stopped within each of the store's advances in turn,
+//! with each filler, and once more at the first call after the opening.
 
 use crate::tests::acts::{Acts, Move};
+use crate::tests::image::Version;
 use crate::tests::lines::Asked;
 use crate::tests::scene::{board_of, check};
 use crate::tests::worlds::world_of;
@@ -148,40 +150,111 @@ fn check_guest(alloc: Global, world: &World, guest: u16) -> Result<(), Fail> {
     check(is_now(world, guest, &after), "a partition")
 }
 
-/// No guest lost anything by the stop.
+/// No guest lost anything by the stops.
 fn check_guests(alloc: Global, world: &World) -> Result<(), Fail> {
-    check(world.openings() == 2, "an opening")?;
     for guest in 0..3 {
         check_guest(alloc, world, guest)?;
     }
     Ok(())
 }
 
-fn all_happens(world: &mut World, events: &[Event]) -> bool {
-    world.run(events).is_none()
-}
-
-fn check_world(alloc: Global, world: &mut World, events: &[Event]) -> Result<(), Fail> {
-    check(all_happens(world, events), "a refusal")?;
+/// So many openings succeed, and what they give holds all that it has to.
+fn check_openings(
+    alloc: Global,
+    world: &mut World,
+    events: &[Event],
+    openings: u64,
+) -> Result<(), Fail> {
+    check(world.run(events).is_none(), "a refusal")?;
+    check(world.openings() == openings, "an opening")?;
     check_guests(alloc, world)
 }
 
-fn check_run(alloc: Global, events: &[Event]) -> Result<(), Fail> {
-    check_world(alloc, &mut world_of(alloc, 3)?, events)
+/// Whether a second stop follows, at the first call after the opening.
+#[derive(Clone, Copy)]
+enum Again {
+    No,
+    Within,
+    After,
 }
 
-fn stopped(alloc: Global, left: u32, filler: u8) -> Result<(), Fail> {
+impl Again {
+    /// How many openings there are, with the first.
+    fn openings(self) -> u64 {
+        match self {
+            Again::No => 2,
+            Again::Within | Again::After => 3,
+        }
+    }
+}
+
+/// The events up to a stop within the advance after `left` others, and to the second stop.
+fn acts_until(alloc: Global, left: u32, filler: u8, again: Again) -> Result<Acts, Fail> {
     let mut acts = Acts::new(alloc, Some(left), filler);
     mixed(&mut acts)?;
-    check_run(alloc, &acts.events)
+    match again {
+        Again::No => {}
+        Again::Within => acts.stop_again(true)?,
+        Again::After => acts.stop_again(false)?,
+    }
+    Ok(acts)
+}
+
+fn check_events(
+    alloc: Global,
+    version: Version,
+    events: &[Event],
+    openings: u64,
+) -> Result<(), Fail> {
+    let mut world = world_of(alloc, 3, version)?;
+    check_openings(alloc, &mut world, events, openings)
+}
+
+fn stopped(
+    alloc: Global,
+    version: Version,
+    left: u32,
+    filler: u8,
+    again: Again,
+) -> Result<(), Fail> {
+    let acts = acts_until(alloc, left, filler, again)?;
+    check_events(alloc, version, &acts.events, again.openings())
+}
+
+/// Stops within each advance, with each filler.
+fn stopped_at_each(alloc: Global, version: Version, again: Again) -> Result<(), Fail> {
+    for place in 0..4 * ADVANCES {
+        stopped(alloc, version, place / 4, (place % 4) as u8, again)?;
+    }
+    Ok(())
 }
 
 #[test]
 fn a_stop_within_each_advance(rt: HostRuntime) -> Result<(), Fail> {
-    for left in 0..ADVANCES {
-        for filler in 0..4 {
-            stopped(rt.alloc(), left, filler)?;
-        }
-    }
-    Ok(())
+    stopped_at_each(rt.alloc(), Version::One, Again::No)
+}
+
+#[test]
+fn a_stop_within_each_advance_of_two_slots(rt: HostRuntime) -> Result<(), Fail> {
+    stopped_at_each(rt.alloc(), Version::Two, Again::No)
+}
+
+#[test]
+fn a_stop_within_the_next_call_too(rt: HostRuntime) -> Result<(), Fail> {
+    stopped_at_each(rt.alloc(), Version::One, Again::Within)
+}
+
+#[test]
+fn a_stop_within_the_next_call_of_two_slots_too(rt: HostRuntime) -> Result<(), Fail> {
+    stopped_at_each(rt.alloc(), Version::Two, Again::Within)
+}
+
+#[test]
+fn a_stop_after_the_next_call_too(rt: HostRuntime) -> Result<(), Fail> {
+    stopped_at_each(rt.alloc(), Version::One, Again::After)
+}
+
+#[test]
+fn a_stop_after_the_next_call_of_two_slots_too(rt: HostRuntime) -> Result<(), Fail> {
+    stopped_at_each(rt.alloc(), Version::Two, Again::After)
 }

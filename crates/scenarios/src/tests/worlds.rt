@@ -1,7 +1,7 @@
 //! Worlds: boards through steps, stops and openings.
 
 use crate::tests::acts::{Acts, Move};
-use crate::tests::image::formatted;
+use crate::tests::image::{Version, formatted_as};
 use crate::tests::lines::Asked;
 use crate::tests::scene::{board_of, check};
 use board::{Event, Publication, Refusal, StepFault, World};
@@ -11,14 +11,14 @@ use rpmb_frame::BoardConfig;
 use std::alloc::Global;
 use std::test::Fail;
 
-fn world_over(alloc: Global, board: BoardConfig) -> Result<World, Fail> {
-    let disk = formatted(alloc, &board)?;
+fn world_over(alloc: Global, board: BoardConfig, version: Version) -> Result<World, Fail> {
+    let disk = formatted_as(alloc, &board, version)?;
     Ok(World::new(alloc, disk, board))
 }
 
 /// A world over a fresh image of so many guests.
-pub fn world_of(alloc: Global, guests: usize) -> Result<World, Fail> {
-    world_over(alloc, board_of(alloc, guests)?)
+pub fn world_of(alloc: Global, guests: usize, version: Version) -> Result<World, Fail> {
+    world_over(alloc, board_of(alloc, guests)?, version)
 }
 
 /// What a list of events left of a world of one guest.
@@ -88,7 +88,7 @@ fn run(world: &mut World, events: &[Event]) -> Left {
 
 /// What these events leave of a fresh world. A world is held here alone, since its drop is dear to prove.
 fn left_by(alloc: Global, events: &[Event]) -> Result<Left, Fail> {
-    Ok(run(&mut world_of(alloc, 1)?, events))
+    Ok(run(&mut world_of(alloc, 1, Version::One)?, events))
 }
 
 impl Left {

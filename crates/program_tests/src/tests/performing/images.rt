@@ -181,7 +181,7 @@ fn refuses_contents(rt: HostRuntime) -> Result<(), Fail> {
 
 /// Over a fresh image each call of the disk fails in turn, and there is none behind the last: eleven writes of
 /// zeros, a home and two gates, a sync, header and version byte, a sync; and a sync, then the reads of header,
-/// gate, home and blocks.
+/// version byte, gate, home and blocks.
 static CALLS: [Turn; 4] = [
     Turn {
         image: Image::Fresh(ONE),
@@ -198,14 +198,14 @@ static CALLS: [Turn; 4] = [
         ..MADE
     },
     Turn {
-        calls: (1, 5),
+        calls: (1, 6),
         prints: Prints::Text(&[]),
         fault: DISK_FAULT,
         failures: 1,
         ..SHOWN
     },
     Turn {
-        calls: (6, 6),
+        calls: (7, 7),
         ..SHOWN
     },
 ];

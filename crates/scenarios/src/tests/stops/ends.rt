@@ -1,7 +1,8 @@
 //! The runs to their end, and stopped at each of their calls.
+use super::tally::{Tally, no_tally};
 use super::{
-    Grouping, MANY, MIXED, Run, SINGLE, Scene, Tally, begun, check_stops, new_scene, no_tally,
-    run_to,
+    Grouping, MANY, MIXED, PAIRED_MIXED, PAIRED_SINGLE, Run, SINGLE, Scene, begun, check_stops,
+    new_scene, run_to,
 };
 use crate::tests::scene::check;
 use disk::Filler;
@@ -50,15 +51,33 @@ fn undisturbed(rt: HostRuntime) -> Result<(), Fail> {
 }
 
 #[test]
+fn undisturbed_with_two_slots(rt: HostRuntime) -> Result<(), Fail> {
+    check_undisturbed(rt.alloc(), &PAIRED_SINGLE)?;
+    check_undisturbed(rt.alloc(), &PAIRED_MIXED)
+}
+
+#[test]
 fn stopped_between_calls(rt: HostRuntime) -> Result<(), Fail> {
     check_stops(rt.alloc(), &SINGLE, false)?;
     check_stops(rt.alloc(), &MIXED, false)
 }
 
 #[test]
+fn stopped_between_calls_with_two_slots(rt: HostRuntime) -> Result<(), Fail> {
+    check_stops(rt.alloc(), &PAIRED_SINGLE, false)?;
+    check_stops(rt.alloc(), &PAIRED_MIXED, false)
+}
+
+#[test]
 fn stopped_within_calls(rt: HostRuntime) -> Result<(), Fail> {
     check_stops(rt.alloc(), &SINGLE, true)?;
     check_stops(rt.alloc(), &MIXED, true)
+}
+
+#[test]
+fn stopped_within_calls_with_two_slots(rt: HostRuntime) -> Result<(), Fail> {
+    check_stops(rt.alloc(), &PAIRED_SINGLE, true)?;
+    check_stops(rt.alloc(), &PAIRED_MIXED, true)
 }
 
 /// A disk with a failed call is opened as it is, and stopped then.
@@ -91,4 +110,10 @@ fn check_opened_again(alloc: Global, grouping: &Grouping) -> Result<(), Fail> {
 fn opened_again_without_a_stop(rt: HostRuntime) -> Result<(), Fail> {
     check_opened_again(rt.alloc(), &SINGLE)?;
     check_opened_again(rt.alloc(), &MIXED)
+}
+
+#[test]
+fn opened_again_without_a_stop_with_two_slots(rt: HostRuntime) -> Result<(), Fail> {
+    check_opened_again(rt.alloc(), &PAIRED_SINGLE)?;
+    check_opened_again(rt.alloc(), &PAIRED_MIXED)
 }

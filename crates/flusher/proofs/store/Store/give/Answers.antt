@@ -6,6 +6,9 @@ use Rattle.flusher.specs.SlotInvariant.{IsHeld}
 use Rattle.flusher.proofs.Lookups.{gives, gives_it, given_there, still_fits}
 use Rattle.flusher.proofs.store.Store.give.Goals as goal
 
+pub returns-clause-fits : goal.returns-clause-fits
+returns-clause-fits g c = subst (λ v. AllFit (g.D.Disk.state v.disk).len v.guests) c.self.view_is c.self.invariant.2
+
 pub returns-clause-gives : goal.returns-clause-gives
 returns-clause-gives g c = gives_it c.self.inside.guests.items c.args.self.now.guests c.args.intent c.from-guest.result c.index_mut.result.now c.take_in.new.self
     (ap (λ s. s.guests) c.self.view_is) (c.from-guest.ensures ∙ c.guest.ensures) c.index_mut.ensures.value c.requires.free c.take_in.ensures

@@ -15,7 +15,10 @@ pub returns-then-self-clause-front : goal.returns-then-self-clause-front
 returns-then-self-clause-front g c known = Still _ (at_start (g.D.Disk.state c.args.self.now.disk))
 
 pub returns-then-self-clause-fits : goal.returns-then-self-clause-fits
-returns-then-self-clause-fits g c = subst (λ v. AllFit (g.D.Disk.state v.disk).len v.guests) c.self.view_is c.self.invariant.2
+returns-then-self-clause-fits g c = (let fits = subst (λ v. AllFit (g.D.Disk.state v.disk).len v.guests) c.self.view_is c.self.invariant.2 in (fits, fits))
+
+pub returns-clause-fits : goal.returns-clause-fits
+returns-clause-fits g c = (subst (λ v. AllFit (g.D.Disk.state v.disk).len v.guests) c.self.view_is c.self.invariant.2, c.round.ensures.fits)
 
 pub returns-clause-idle : goal.returns-clause-idle
 returns-clause-idle g c =

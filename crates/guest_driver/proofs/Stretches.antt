@@ -1,0 +1,792 @@
+-- The stretch of the table that isn't free, as chains are offered and come back.
+use Rattle.std.proofs.Common.{◌≡◌, ◌≢◌, ◌⊎◌, ℕ, ◌+◌, ◌-◌, ◌%◌, ◌<◌, ◌≤◌, inl, inr, Bool, true, false, List, length, get_or, slice_set, Option, Some, None, refl, sym, ap, ◌∙◌, subst, arith}
+use Rattle.std.proofs.Math.Nat.{mod-eq_of_lt, mod_self}
+use Rattle.std.proofs.lemmas.Nat.{mod_below}
+use Rattle.std.proofs.lemmas.Bool.{cases_eq, cases_lt}
+use Rattle.std.proofs.Math.ListN.{get_or-eq_default}
+use Rattle.std.proofs.lemmas.List.{get_or-set_same, get_or-set_other, length-set}
+use Rattle.guest_driver.specs.declared.driver.Flight.{Flight}
+use Rattle.guest_driver.specs.Driver.{no_flight, owner, following, ordered_by, HasNextFree, AreTaken, HasTooFew, last_after, ChoosesNext, ChoosesBy, TakesBy, next_by}
+use Rattle.guest_driver.specs.TableOrder.{turn, turn_of, IsWithin, IsBehind, HaveOne, IsHead, behind, IsInTurn, IsStretch}
+use Rattle.guest_driver.specs.Kinds.{mark_after}
+use Rattle.rpmb_frame.specs.declared.config.RingKind.{RingKind}
+use Rattle.rpmb_frame.specs.declared.config.RingKind.TheVariants.{Split, Packed}
+
+-- the descriptor that follows one
+pub record Follows (size d s : ℕ) : Type 0 where
+  pub next : d + 1 < size → s ≡ d + 1
+  pub first : d + 1 ≡ size → s ≡ 0
+  pub low : s < size
+
+pub follows : (size d : ℕ) → d < size → Follows size d (following size d)
+follows size d low = record {
+  next = λ h. mod-eq_of_lt h;
+  first = λ e. ap (λ x. x % size) e ∙ mod_self size;
+  low = mod_below (d + 1) size (omega (arith, low));
+}
+
+-- the same by cases, as omega takes them
+follow_cases : (size d s : ℕ) → d < size → Follows size d s → ((d + 1 < size) × (s ≡ d + 1)) ⊎ ((d + 1 ≡ size) × (s ≡ 0))
+follow_cases size d s low f =
+    elim (cases_lt (d + 1) size) [
+      | inl near ↦ inl (near, f.next near)
+      | inr far ↦ let e : d + 1 ≡ size = omega (arith, low, far) in inr (e, f.first e)
+    ]
+
+within_cases : (size first many d : ℕ) → IsWithin size first many d → ((first ≤ d) × (d < first + many)) ⊎ ((d < first) × (d + size < first + many))
+within_cases size first many d w =
+    elim (cases_lt d first) [
+      | inl near ↦ inr (near, w.round near)
+      | inr far ↦ inl (far, w.behind far)
+    ]
+
+behind_cases : (size first many next : ℕ) → IsBehind size first many next → ((first + many < size) × (next ≡ first + many)) ⊎ ((size ≤ first + many) × (next + size ≡ first + many))
+behind_cases size first many next b =
+    elim (cases_lt (first + many) size) [
+      | inl near ↦ inl (near, b.behind near)
+      | inr far ↦ inr (far, b.round far)
+    ]
+
+one_cases : (size first many chains t d : ℕ) → HaveOne size first many chains t d → ((first ≤ d) × (chains + d ≤ first + many + t)) ⊎ ((d < first) × (chains + (d + size) ≤ first + many + t))
+one_cases size first many chains t d h =
+    elim (cases_lt d first) [
+      | inl near ↦ inr (near, h.round near)
+      | inr far ↦ inl (far, h.behind far)
+    ]
+
+turn_zero : (used : ℕ) → used < 65536 → turn used used ≡ 0
+unfolding turn
+turn_zero used low = omega (arith, low)
+
+turn_more : (used offered : ℕ) → used < 65536 → offered < 65536 → turn used offered < 65535 → turn used ((offered + 1) % 65536) ≡ turn used offered + 1
+unfolding turn
+turn_more used offered low other few = omega (arith, low, other, few)
+
+turn_less : (used mark : ℕ) → used < 65536 → mark < 65536 → 0 < turn used mark → turn ((used + 1) % 65536) mark + 1 ≡ turn used mark
+unfolding turn
+turn_less used mark low other some = omega (arith, low, other, some)
+
+is_free : (o : Option ℕ) → (o ≡ None) ⊎ (o ≢ None)
+is_free None = inl refl
+is_free (Some x) = inr (λ e. absurd (cc))
+
+some_taken : (o : Option ℕ) (x : ℕ) → o ≡ Some x → o ≢ None
+some_taken o x e n = let z = sym e ∙ n in absurd (cc)
+
+-- 1. Too few are free where the next ones aren't
+
+-- where one descriptor at most is free, it is the next one
+others_within : (size first many next x : ℕ) → first < size → many ≤ size → next < size → IsBehind size first many next → size ≤ many + 1 → x < size → x ≢ next
+    → IsWithin size first many x
+others_within size first many next x a b c e few low other = let p = behind_cases size first many next e in omega arith
+
+all_within : (size first many x : ℕ) → first < size → size ≤ many → x < size → IsWithin size first many x
+all_within size first many x a full low = omega arith
+
+next_within : (size first many next : ℕ) → first < size → many ≤ size → next < size → IsBehind size first many next → IsWithin size first many next → size ≤ many
+next_within size first many next a b c e w = let p = behind_cases size first many next e in let q = within_cases size first many next w in omega arith
+
+follower_within : (size first many next s : ℕ) → first < size → many ≤ size → next < size → IsBehind size first many next → Follows size next s → IsWithin size first many s
+    → size ≤ many + 1
+follower_within size first many next s a b c e f w =
+    let p = behind_cases size first many next e in
+    let q = within_cases size first many s w in
+    let r = follow_cases size next s c f in
+    omega arith
+
+pub all_taken : (size offered used next : ℕ) (owners : List (Option ℕ)) (flights : List Flight) → IsStretch size offered used next owners flights → length owners ≡ size
+    → owner owners next ≢ None → AreTaken owners 0
+all_taken size offered used next owners flights s long is = λ k low below.
+    let w = s.taken next s.next_low is in
+    let full = next_within size s.first s.many next s.first_low s.many_low s.next_low s.ends w in
+    let small : k < size = omega (arith, below, long) in
+    s.covers k small (all_within size s.first s.many k s.first_low full small)
+
+pub too_few : (size offered used next : ℕ) (owners : List (Option ℕ)) (flights : List Flight) (two : Bool) → IsStretch size offered used next owners flights → length owners ≡ size
+    → ¬ HasNextFree owners next two → HasTooFew owners two
+too_few size offered used next owners flights false s long none =
+    let low = s.next_low in
+    all_taken size offered used next owners flights s long (λ free. none (record { below = omega (arith, long, low); free = free }))
+too_few size offered used next owners flights true s long none = λ d below free k above small.
+    let low = s.next_low in
+    let inside : next < length owners = omega (arith, long, low) in
+    let s2 = following (length owners) next in
+    let f : Follows (length owners) next s2 = follows (length owners) next inside in
+    let at : Follows size next s2 = subst (λ v. Follows v next s2) long f in
+    elim (is_free (owner owners next)) [
+      | inr taken ↦ all_taken size offered used next owners flights s long taken k (omega arith) small
+      | inl open_next ↦
+          elim (cases_eq next s2) [
+            | inl same ↦
+                let p = follow_cases size next s2 low at in
+                absurd (omega (arith, p, same, above, small, long, low))
+            | inr differ ↦
+                elim (is_free (owner owners s2)) [
+                  | inl open_second ↦
+                      absurd (none (record { first = record { below = inside; free = open_next }; second = record { below = f.low; free = open_second }; two = differ }))
+                  | inr taken ↦
+                      let w = s.taken s2 at.low taken in
+                      let few = follower_within size s.first s.many next s2 s.first_low s.many_low s.next_low s.ends at w in
+                      let d_low : d < size = omega (arith, below, long) in
+                      let k_low : k < size = omega (arith, small, long) in
+                      elim (cases_eq d next) [
+                        | inl here ↦ s.covers k k_low (others_within size s.first s.many next k s.first_low s.many_low s.next_low s.ends few k_low (λ e. omega (arith, e, here, above)))
+                        | inr other ↦ absurd (s.covers d d_low (others_within size s.first s.many next d s.first_low s.many_low s.next_low s.ends few d_low other) free)
+                      ]
+                ]
+          ]
+    ]
+
+-- 2. A chain is offered
+
+-- the descriptors that a chain takes, from the next one on
+record IsTaken (size next last count : ℕ) (owners : List (Option ℕ)) : Type 0 where
+  pub low : last < size
+  pub free : owner owners next ≡ None
+  pub last_free : owner owners last ≡ None
+  pub is : ((last ≡ next) × (count ≡ 1)) ⊎ ((last ≡ following size next) × (last ≢ next) × (count ≡ 2))
+
+record Numbers (size first many next last count behind : ℕ) : Type 0 where
+  first_low : first < size
+  many_low : many + count ≤ size
+  next_low : next < size
+  last_low : last < size
+  ends : ((first + many < size) × (next ≡ first + many)) ⊎ ((size ≤ first + many) × (next + size ≡ first + many))
+  spans : ((last ≡ next) × (count ≡ 1)) ⊎ ((next + 1 < size) × (last ≡ next + 1) × (count ≡ 2)) ⊎ ((next + 1 ≡ size) × (last ≡ 0) × (last ≢ next) × (count ≡ 2))
+  follower : ((last + 1 < size) × (behind ≡ last + 1)) ⊎ ((last + 1 ≡ size) × (behind ≡ 0))
+
+last_by : (size next last count : ℕ) → next < size → Follows size next (following size next) → ((last ≡ next) × (count ≡ 1)) ⊎ ((last ≡ following size next) × (last ≢ next) × (count ≡ 2))
+    → ((last ≡ next) × (count ≡ 1)) ⊎ ((next + 1 < size) × (last ≡ next + 1) × (count ≡ 2)) ⊎ ((next + 1 ≡ size) × (last ≡ 0) × (last ≢ next) × (count ≡ 2))
+last_by size next last count low f (inl one) = inl one
+last_by size next last count low f (inr two) =
+    elim (follow_cases size next (following size next) low f) [
+      | inl near ↦ inr (inl (near.0, two.0 ∙ near.1, two.2))
+      | inr far ↦ inr (inr (far.0, two.0 ∙ far.1, two.1, two.2))
+    ]
+
+-- there is room for it
+room_for : (size offered used next last count : ℕ) (owners : List (Option ℕ)) (flights : List Flight) → (s : IsStretch size offered used next owners flights) → IsTaken size next last count owners
+    → s.many + count ≤ size
+room_for size offered used next last count owners flights s t =
+    let a = s.first_low in
+    let b = s.many_low in
+    let c = s.next_low in
+    let some : s.many < size =
+    elim (cases_lt s.many size) [
+      | inl less ↦ less
+      | inr full ↦ absurd (s.covers next c (all_within size s.first s.many next a full c) t.free)
+    ] in
+    elim t.is [
+      | inl one ↦ let k = one.1 in omega (arith, k, some)
+      | inr two ↦
+          let k = two.2 in
+          elim (cases_lt (s.many + 1) size) [
+            | inl less ↦ omega (arith, k, less)
+            | inr full ↦
+                absurd (s.covers last t.low (others_within size s.first s.many next last a b c s.ends (omega (arith, full)) t.low two.1) t.last_free)
+          ]
+    ]
+
+ends_more : (size first many next last count behind : ℕ) → Numbers size first many next last count behind → IsBehind size first (many + count) behind
+ends_more size first many next last count behind n =
+    let a = n.first_low in
+    let b = n.many_low in
+    let c = n.next_low in
+    let d = n.last_low in
+    let e = n.ends in
+    let f = n.spans in
+    let g = n.follower in
+    omega (arith, a, b, c, d, e, f, g)
+
+within_more : (size first many next last count behind d : ℕ) → Numbers size first many next last count behind → IsWithin size first many d → IsWithin size first (many + count) d
+within_more size first many next last count behind d n w =
+    let q = within_cases size first many d w in
+    omega (arith, q)
+
+next_is_within : (size first many next last count behind : ℕ) → Numbers size first many next last count behind → IsWithin size first (many + count) next
+next_is_within size first many next last count behind n =
+    let a = n.first_low in
+    let b = n.many_low in
+    let c = n.next_low in
+    let e = n.ends in
+    let f = n.spans in
+    omega (arith, a, b, c, e, f)
+
+last_is_within : (size first many next last count behind : ℕ) → Numbers size first many next last count behind → IsWithin size first (many + count) last
+last_is_within size first many next last count behind n =
+    let a = n.first_low in
+    let b = n.many_low in
+    let c = n.next_low in
+    let e = n.ends in
+    let f = n.spans in
+    omega (arith, a, b, c, e, f)
+
+others_were : (size first many next last count behind d : ℕ) → Numbers size first many next last count behind → d < size → d ≢ next → d ≢ last
+    → IsWithin size first (many + count) d → IsWithin size first many d
+others_were size first many next last count behind d n low p q w =
+    let a = n.first_low in
+    let b = n.many_low in
+    let c = n.next_low in
+    let e = n.ends in
+    let f = n.spans in
+    let g = within_cases size first (many + count) d w in
+    omega (arith, a, b, c, e, f, g, low, p, q)
+
+-- each chain has a descriptor of its own
+few_of : (size offered used next : ℕ) (owners : List (Option ℕ)) (flights : List Flight) → (s : IsStretch size offered used next owners flights) → turn used offered ≤ s.many
+few_of size offered used next owners flights s =
+    elim (cases_lt 0 (turn used offered)) [
+      | inl some ↦
+          let old = s.oldest some in
+          let h = s.room s.first s.first_low old.0 in
+          let zero = old.1 in
+          let p = one_cases size s.first s.many (turn used offered) (turn_of used flights s.first) s.first h in
+          omega (arith, p, zero)
+      | inr none ↦ omega (arith, none)
+    ]
+
+room_old : (size first many count chains t d : ℕ) → 0 < count → HaveOne size first many chains t d → HaveOne size first (many + count) (chains + 1) t d
+room_old size first many count chains t d some h =
+    let p = one_cases size first many chains t d h in
+    omega (arith, p, some)
+
+room_new : (size first many next last count behind chains t : ℕ) → 0 < count → t ≡ chains → Numbers size first many next last count behind → HaveOne size first (many + count) (chains + 1) t next
+room_new size first many next last count behind chains t some is n =
+    let a = n.first_low in
+    let c = n.next_low in
+    let b = n.many_low in
+    let e = n.ends in
+    omega (arith, a, b, c, e, some, is)
+
+-- what the owners and the flights are with the chain
+record Gains (size next last : ℕ) (owners owners' : List (Option ℕ)) (flights flights' : List Flight) (f : Flight) : Type 0 where
+  head : owner owners' next ≡ Some next
+  tail : owner owners' last ≡ Some next
+  others : (d : ℕ) → d ≢ next → d ≢ last → owner owners' d ≡ owner owners d
+  flight : get_or flights' next no_flight ≡ f
+  flown : (d : ℕ) → d ≢ next → get_or flights' d no_flight ≡ get_or flights d no_flight
+
+gains : (size next last : ℕ) (owners : List (Option ℕ)) (flights : List Flight) (f : Flight) → length owners ≡ size → length flights ≡ size → next < size → last < size
+    → Gains size next last owners (slice_set (slice_set owners next (Some next)) last (Some next)) flights (slice_set flights next f) f
+gains size next last owners flights f long wide low last_low =
+    let first = slice_set owners next (Some next) in
+    let long' = length-set owners next (Some next) in
+    let here : owner (slice_set first last (Some next)) last ≡ Some next = get_or-set_same first last (Some next) None (omega (arith, last_low, long, long')) in
+    record {
+      head = elim (cases_eq next last) [
+        | inl same ↦ ap (owner (slice_set first last (Some next))) same ∙ here
+        | inr other ↦ get_or-set_other first last next (Some next) None other ∙ get_or-set_same owners next (Some next) None (omega (arith, low, long))
+      ];
+      tail = here;
+      others = λ d p q. get_or-set_other first last d (Some next) None q ∙ get_or-set_other owners next d (Some next) None p;
+      flight = get_or-set_same flights next f no_flight (omega (arith, low, wide));
+      flown = λ d p. get_or-set_other flights next d f no_flight p;
+    }
+
+some_same : (a b : ℕ) (o : Option ℕ) → o ≡ Some a → o ≡ Some b → a ≡ b
+some_same a b o p q = let e = sym p ∙ q in cc
+
+-- a descriptor with an owner isn't free
+apart : (owners : List (Option ℕ)) (d x h : ℕ) → owner owners d ≡ Some h → owner owners x ≡ None → d ≢ x
+apart owners d x h p q e = let z = sym p ∙ ap (owner owners) e ∙ q in absurd (cc)
+
+-- a chain that was in flight stays in its turn
+turn_stays : (size offered used next last count : ℕ) (owners owners' : List (Option ℕ)) (flights flights' : List Flight) (f : Flight) (d : ℕ)
+    → (s : IsStretch size offered used next owners flights) → size ≤ 65535 → IsTaken size next last count owners → Gains size next last owners owners' flights flights' f → f.place ≡ offered
+    → d ≢ next → d < size → IsHead owners d → IsInTurn size offered used next owners flights d → turn used ((offered + 1) % 65536) ≡ turn used offered + 1
+    → IsInTurn size ((offered + 1) % 65536) used (following size last) owners' flights' d
+turn_stays size offered used next last count owners owners' flights flights' f d s small t g at p low head old more =
+    let same = g.flown d p in
+    let before = old.before in
+    let turns : turn_of used flights' d ≡ turn_of used flights d = ap (λ (v : Flight). turn used v.place) same in
+    let lasts : (get_or flights' d no_flight).last ≡ (get_or flights d no_flight).last = ap (λ (v : Flight). v.last) same in
+    let b = behind size flights d in
+    let behinds : behind size flights' d ≡ b = ap (following size) lasts in
+    let l = (get_or flights d no_flight).last in
+    let stays : owner owners' l ≡ owner owners l = g.others l (apart owners l next d old.owned t.free) (apart owners l last d old.owned t.last_free) in
+    let older_old : turn_of used flights d + 1 < turn used offered → IsHead owners' b × (turn_of used flights' b ≡ turn_of used flights d + 1) = λ less.
+    (let o = old.older less in (
+      g.others b (apart owners b next b o.0 t.free) (apart owners b last b o.0 t.last_free) ∙ o.0,
+      ap (λ (v : Flight). turn used v.place) (g.flown b (apart owners b next b o.0 t.free)) ∙ o.1,
+    )) in
+    let older_new : turn_of used flights d + 1 ≡ turn used offered → IsHead owners' b × (turn_of used flights' b ≡ turn_of used flights d + 1) = λ e.
+    (let n : b ≡ next = old.newest e in (
+      ap (owner owners') n ∙ g.head ∙ ap Some (sym n),
+      ap (turn_of used flights') n ∙ ap (λ (v : Flight). turn used v.place) g.flight ∙ ap (turn used) at ∙ sym e,
+    )) in
+    let older_both : IsHead owners' b × (turn_of used flights' b ≡ turn_of used flights d + 1) =
+    elim (cases_lt (turn_of used flights d + 1) (turn used offered)) [
+      | inl less ↦ older_old less
+      | inr far ↦ older_new (omega (arith, far, before))
+    ] in
+    record {
+      one = ap (λ (v : Flight). v.places) same ∙ old.one;
+      low = let e = ap (λ (v : Flight). v.place) same in let h = old.low in omega (arith, e, h);
+      before = omega (arith, turns, before, more);
+      spans = elim old.spans [ inl e ↦ inl (lasts ∙ e) | inr e ↦ inr (lasts ∙ e) ];
+      owned = ap (owner owners') lasts ∙ stays ∙ old.owned;
+      older = λ _. (ap (owner owners') behinds ∙ older_both.0 ∙ ap Some (sym behinds), ap (turn_of used flights') behinds ∙ older_both.1 ∙ ap (λ v. v + 1) (sym turns));
+      newest = λ e. absurd (omega (arith, e, turns, before, more));
+    }
+
+-- the new chain has the last turn
+turn_joins : (size offered used next last count : ℕ) (owners owners' : List (Option ℕ)) (flights flights' : List Flight) (f : Flight)
+    → offered < 65536 → IsTaken size next last count owners → Gains size next last owners owners' flights flights' f → f.place ≡ offered → f.last ≡ last → f.places ≡ 1
+    → turn used ((offered + 1) % 65536) ≡ turn used offered + 1
+    → IsInTurn size ((offered + 1) % 65536) used (following size last) owners' flights' next
+turn_joins size offered used next last count owners owners' flights flights' f low t g at ends one more =
+    let turns : turn_of used flights' next ≡ turn used offered = ap (λ (v : Flight). turn used v.place) g.flight ∙ ap (turn used) at in
+    let lasts : (get_or flights' next no_flight).last ≡ last = ap (λ (v : Flight). v.last) g.flight ∙ ends in
+    record {
+      one = ap (λ (v : Flight). v.places) g.flight ∙ one;
+      low = let e = ap (λ (v : Flight). v.place) g.flight in omega (arith, e, at, low);
+      before = omega (arith, turns, more);
+      spans = elim t.is [ inl e ↦ inl (lasts ∙ e.0) | inr e ↦ inr (lasts ∙ e.0) ];
+      owned = ap (owner owners') lasts ∙ g.tail;
+      older = λ less. absurd (omega (arith, less, turns, more));
+      newest = λ _. ap (following size) lasts;
+    }
+
+-- a head is the new one, or was one
+head_was : (size next last : ℕ) (owners owners' : List (Option ℕ)) (flights flights' : List Flight) (f : Flight) (d : ℕ) → Gains size next last owners owners' flights flights' f
+    → d ≢ next → IsHead owners' d → IsHead owners d
+head_was size next last owners owners' flights flights' f d g p head =
+    sym (g.others d p (λ e. p (some_same d next (owner owners' d) head (ap (owner owners') e ∙ g.tail)))) ∙ head
+
+stretch_more : (size offered used next last count : ℕ) (owners owners' : List (Option ℕ)) (flights flights' : List Flight) (f : Flight)
+    → IsStretch size offered used next owners flights → size ≤ 65535 → IsTaken size next last count owners → Gains size next last owners owners' flights flights' f
+    → f.place ≡ offered → f.last ≡ last → f.places ≡ 1
+    → IsStretch size ((offered + 1) % 65536) used (following size last) owners' flights'
+stretch_more size offered used next last count owners owners' flights flights' f s small t g at ends one =
+    let room = room_for size offered used next last count owners flights s t in
+    let few = few_of size offered used next owners flights s in
+    let some : 0 < count = elim t.is [ inl e ↦ let k = e.1 in omega (arith, k) | inr e ↦ let k = e.2 in omega (arith, k) ] in
+    let more = turn_more used offered s.used_low s.offered_low (omega (arith, few, room, some, small)) in
+    let behind_of = follows size last t.low in
+    let n : Numbers size s.first s.many next last count (following size last) = record {
+      first_low = s.first_low;
+      many_low = room;
+      next_low = s.next_low;
+      last_low = t.low;
+      ends = behind_cases size s.first s.many next s.ends;
+      spans = last_by size next last count s.next_low (follows size next s.next_low) t.is;
+      follower = follow_cases size last (following size last) t.low behind_of;
+    } in
+    let joins = turn_joins size offered used next last count owners owners' flights flights' f s.offered_low t g at ends one more in
+    let new_turn : turn_of used flights' next ≡ turn used offered = ap (λ (v : Flight). turn used v.place) g.flight ∙ ap (turn used) at in
+    let old_turn : (d : ℕ) → d ≢ next → turn_of used flights' d ≡ turn_of used flights d = λ d p. ap (λ (v : Flight). turn used v.place) (g.flown d p) in
+    let was : (d : ℕ) → d ≢ next → IsHead owners' d → IsHead owners d = λ d p h. head_was size next last owners owners' flights flights' f d g p h in
+    let below : (d : ℕ) → d < size → d ≢ next → IsHead owners' d → turn_of used flights' d < turn used offered = λ d low p h.
+    (let e = old_turn d p in let b = (s.each d low (was d p h)).before in omega (arith, e, b)) in
+    record {
+      first = s.first;
+      many = s.many + count;
+      first_low = s.first_low;
+      many_low = room;
+      used_low = s.used_low;
+      offered_low = mod_below (offered + 1) 65536 (omega arith);
+      next_low = behind_of.low;
+      ends = ends_more size s.first s.many next last count (following size last) n;
+      taken = λ d low is. elim (cases_eq d next) [
+        | inl here ↦ subst (λ v. IsWithin size s.first (s.many + count) v) (sym here) (next_is_within size s.first s.many next last count (following size last) n)
+        | inr p ↦ elim (cases_eq d last) [
+          | inl here ↦ subst (λ v. IsWithin size s.first (s.many + count) v) (sym here) (last_is_within size s.first s.many next last count (following size last) n)
+          | inr q ↦ within_more size s.first s.many next last count (following size last) d n (s.taken d low (λ e. is (g.others d p q ∙ e)))
+        ]
+      ];
+      covers = λ d low w. elim (cases_eq d next) [
+        | inl here ↦ some_taken (owner owners' d) next (ap (owner owners') here ∙ g.head)
+        | inr p ↦ elim (cases_eq d last) [
+          | inl here ↦ some_taken (owner owners' d) next (ap (owner owners') here ∙ g.tail)
+          | inr q ↦ λ e. s.covers d low (others_were size s.first s.many next last count (following size last) d n low p q w) (sym (g.others d p q) ∙ e)
+        ]
+      ];
+      room = λ d low h. elim (cases_eq d next) [
+        | inl here ↦
+            subst (λ v. HaveOne size s.first (s.many + count) (turn used ((offered + 1) % 65536)) (turn_of used flights' v) v) (sym here)
+            (subst (λ v. HaveOne size s.first (s.many + count) v (turn_of used flights' next) next) (sym more)
+            (room_new size s.first s.many next last count (following size last) (turn used offered) (turn_of used flights' next) some new_turn n))
+        | inr p ↦
+            subst (λ v. HaveOne size s.first (s.many + count) v (turn_of used flights' d) d) (sym more)
+            (subst (λ v. HaveOne size s.first (s.many + count) (turn used offered + 1) v d) (sym (old_turn d p))
+            (room_old size s.first s.many count (turn used offered) (turn_of used flights d) d some (s.room d low (was d p h))))
+      ];
+      oldest = λ _. elim (cases_lt 0 (turn used offered)) [
+        | inl already ↦
+            let o = s.oldest already in
+            let p = apart owners s.first next s.first o.0 t.free in
+            let q = apart owners s.first last s.first o.0 t.last_free in
+            (g.others s.first p q ∙ o.0, old_turn s.first p ∙ o.1)
+        | inr none ↦
+            let zero : turn used offered ≡ 0 = omega (arith, none) in
+            let here : s.first ≡ next = s.none zero in
+            (ap (owner owners') here ∙ g.head ∙ ap Some (sym here), ap (turn_of used flights') here ∙ new_turn ∙ zero)
+      ];
+      none = λ e. absurd (omega (arith, e, more));
+      each = λ d low h. elim (cases_eq d next) [
+        | inl here ↦ subst (λ v. IsInTurn size ((offered + 1) % 65536) used (following size last) owners' flights' v) (sym here) joins
+        | inr p ↦ turn_stays size offered used next last count owners owners' flights flights' f d s small t g at p low (was d p h) (s.each d low (was d p h)) more
+      ];
+      once = λ d e low low' h h' same. elim (cases_eq d next) [
+        | inl here ↦ elim (cases_eq e next) [
+          | inl there ↦ here ∙ sym there
+          | inr q ↦ let b = below e low' q h' in let a = ap (turn_of used flights') here ∙ new_turn in absurd (omega (arith, b, a, same))
+        ]
+        | inr p ↦ elim (cases_eq e next) [
+          | inl there ↦ let b = below d low p h in let a = ap (turn_of used flights') there ∙ new_turn in absurd (omega (arith, b, a, same))
+          | inr q ↦ s.once d e low low' (was d p h) (was e q h') (sym (old_turn d p) ∙ same ∙ old_turn e q)
+        ]
+      ];
+    }
+
+taken_of : (size next last : ℕ) (owners : List (Option ℕ)) (two : Bool) → length owners ≡ size → HasNextFree owners next two → last ≡ last_after owners next two
+    → (count : ℕ) × IsTaken size next last count owners
+taken_of size next last owners false long h is = (
+  1,
+  record {
+    low = let b = h.below in omega (arith, b, is, long);
+    free = h.free;
+    last_free = ap (owner owners) is ∙ h.free;
+    is = inl (is, refl);
+  },
+)
+taken_of size next last owners true long h is = (
+  2,
+  record {
+    low = let b = h.second.below in omega (arith, b, is, long);
+    free = h.first.free;
+    last_free = ap (owner owners) is ∙ h.second.free;
+    is = inr (is ∙ ap (λ v. following v next) long, (λ e. h.two (sym e ∙ is)), refl);
+  },
+)
+
+-- the stretch once a chain was offered
+pub stretch_offered : (size offered used next last writable : ℕ) (two : Bool) (owners : List (Option ℕ)) (flights : List Flight)
+    → IsStretch size offered used next owners flights → size ≤ 65535 → length owners ≡ size → length flights ≡ size → HasNextFree owners next two → last ≡ last_after owners next two
+    → IsStretch size ((offered + 1) % 65536) used (following size last) (slice_set (slice_set owners next (Some next)) last (Some next))
+    (slice_set flights next (record { last = last; places = 1; writable = writable; place = offered }))
+stretch_offered size offered used next last writable two owners flights s small long wide free is =
+    let f : Flight = record { last = last; places = 1; writable = writable; place = offered } in
+    let t = taken_of size next last owners two long free is in
+    stretch_more size offered used next last t.0 owners (slice_set (slice_set owners next (Some next)) last (Some next)) flights (slice_set flights next f) f s small t.1
+    (gains size next last owners flights f long wide s.next_low t.1.low) refl refl refl
+
+-- 3. The oldest chain comes back
+
+record Fewer (size first many next last count behind : ℕ) : Type 0 where
+  first_low : first < size
+  many_low : many ≤ size
+  next_low : next < size
+  last_low : last < size
+  enough : count ≤ many
+  ends : ((first + many < size) × (next ≡ first + many)) ⊎ ((size ≤ first + many) × (next + size ≡ first + many))
+  spans : ((last ≡ first) × (count ≡ 1)) ⊎ ((first + 1 < size) × (last ≡ first + 1) × (count ≡ 2)) ⊎ ((first + 1 ≡ size) × (last ≡ 0) × (last ≢ first) × (count ≡ 2))
+  follower : ((last + 1 < size) × (behind ≡ last + 1)) ⊎ ((last + 1 ≡ size) × (behind ≡ 0))
+
+-- the first of the stretch are given back
+ends_less : (size first many next last count behind : ℕ) → Fewer size first many next last count behind → IsBehind size behind (many - count) next
+ends_less size first many next last count behind n =
+    let a = n.first_low in
+    let b = n.many_low in
+    let c = n.next_low in
+    let d = n.enough in
+    let e = n.ends in
+    let f = n.spans in
+    let g = n.follower in
+    omega (arith, a, b, c, d, e, f, g)
+
+within_less : (size first many next last count behind d : ℕ) → Fewer size first many next last count behind → d < size → d ≢ first → d ≢ last → IsWithin size first many d
+    → IsWithin size behind (many - count) d
+within_less size first many next last count behind d n low p q w =
+    let a = n.first_low in
+    let b = n.many_low in
+    let c = n.enough in
+    let f = n.spans in
+    let g = n.follower in
+    let h = within_cases size first many d w in
+    omega (arith, a, b, c, f, g, h, low, p, q)
+
+within_was : (size first many next last count behind d : ℕ) → Fewer size first many next last count behind → d < size → IsWithin size behind (many - count) d → IsWithin size first many d
+within_was size first many next last count behind d n low w =
+    let a = n.first_low in
+    let b = n.many_low in
+    let c = n.enough in
+    let f = n.spans in
+    let g = n.follower in
+    let h = within_cases size behind (many - count) d w in
+    omega (arith, a, b, c, f, g, h, low)
+
+first_left : (size first many next last count behind : ℕ) → Fewer size first many next last count behind → IsWithin size behind (many - count) first → ⊥
+first_left size first many next last count behind n w =
+    let a = n.first_low in
+    let b = n.many_low in
+    let c = n.enough in
+    let f = n.spans in
+    let g = n.follower in
+    let h = within_cases size behind (many - count) first w in
+    omega (arith, a, b, c, f, g, h)
+
+last_left : (size first many next last count behind : ℕ) → Fewer size first many next last count behind → IsWithin size behind (many - count) last → ⊥
+last_left size first many next last count behind n w =
+    let a = n.first_low in
+    let b = n.many_low in
+    let c = n.enough in
+    let f = n.spans in
+    let g = n.follower in
+    let h = within_cases size behind (many - count) last w in
+    omega (arith, a, b, c, f, g, h)
+
+room_less : (size first many next last count behind chains chains' t t' d : ℕ) → Fewer size first many next last count behind → d < size → d ≢ first → d ≢ last → IsWithin size first many d
+    → chains' + 1 ≡ chains → t' + 1 ≡ t → HaveOne size first many chains t d → HaveOne size behind (many - count) chains' t' d
+room_less size first many next last count behind chains chains' t t' d n low p q w less turns h =
+    let a = n.first_low in
+    let b = n.many_low in
+    let c = n.enough in
+    let f = n.spans in
+    let g = n.follower in
+    let i = one_cases size first many chains t d h in
+    let j = within_cases size first many d w in
+    omega (arith, a, b, c, f, g, i, j, low, p, q, less, turns)
+
+record Loses (size id last : ℕ) (owners owners' : List (Option ℕ)) : Type 0 where
+  head : owner owners' id ≡ None
+  tail : owner owners' last ≡ None
+  others : (d : ℕ) → d ≢ id → d ≢ last → owner owners' d ≡ owner owners d
+
+loses : (size id last : ℕ) (owners : List (Option ℕ)) → length owners ≡ size → id < size → last < size → Loses size id last owners (slice_set (slice_set owners id None) last None)
+loses size id last owners long low last_low =
+    let first = slice_set owners id None in
+    let long' = length-set owners id None in
+    let here : owner (slice_set first last None) last ≡ None = get_or-set_same first last None None (omega (arith, last_low, long, long')) in
+    record {
+      head = elim (cases_eq id last) [
+        | inl same ↦ ap (owner (slice_set first last None)) same ∙ here
+        | inr other ↦ get_or-set_other first last id None None other ∙ get_or-set_same owners id None None (omega (arith, low, long))
+      ];
+      tail = here;
+      others = λ d p q. get_or-set_other first last d None None q ∙ get_or-set_other owners id d None None p;
+    }
+
+count_of : (size first last : ℕ) (owners : List (Option ℕ)) → first < size → (last ≡ first) ⊎ (last ≡ following size first)
+    → (count : ℕ) × (((last ≡ first) × (count ≡ 1)) ⊎ ((first + 1 < size) × (last ≡ first + 1) × (count ≡ 2)) ⊎ ((first + 1 ≡ size) × (last ≡ 0) × (last ≢ first) × (count ≡ 2)))
+count_of size first last owners low (inl same) = (1, inl (same, refl))
+count_of size first last owners low (inr e) =
+    elim (cases_eq last first) [
+      | inl same ↦ (1, inl (same, refl))
+      | inr other ↦ elim (follow_cases size first (following size first) low (follows size first low)) [
+        | inl near ↦ (2, inr (inl (near.0, e ∙ near.1, refl)))
+        | inr far ↦ (2, inr (inr (far.0, e ∙ far.1, other, refl)))
+      ]
+    ]
+
+-- a chain that stays in flight stays in its turn, which is one less
+turn_is_less : (size offered used next id last : ℕ) (owners owners' : List (Option ℕ)) (flights : List Flight) (d : ℕ)
+    → IsStretch size offered used next owners flights → owner owners last ≡ Some id → id < size → IsHead owners id → turn_of used flights id ≡ 0 → Loses size id last owners owners'
+    → ((i : ℕ) → i < size → (get_or flights i no_flight).last < size)
+    → d < size → d ≢ id → d ≢ last → IsHead owners d
+    → turn_of ((used + 1) % 65536) flights d + 1 ≡ turn_of used flights d → turn ((used + 1) % 65536) offered + 1 ≡ turn used offered
+    → IsInTurn size offered ((used + 1) % 65536) next owners' flights d
+turn_is_less size offered used next id last owners owners' flights d s tail id_low id_head zero g lasts low p q head less fewer =
+    let old = s.each d low head in
+    let before = old.before in
+    let l = (get_or flights d no_flight).last in
+    let l_not_id : l ≢ id = λ e. p (some_same d id (owner owners id) (ap (owner owners) (sym e) ∙ old.owned) id_head) in
+    let l_not_last : l ≢ last = λ e. p (some_same d id (owner owners last) (ap (owner owners) (sym e) ∙ old.owned) tail) in
+    let b = behind size flights d in
+    let b_low = (follows size l (lasts d low)).low in
+    record {
+      one = old.one;
+      low = old.low;
+      before = omega (arith, before, less, fewer);
+      spans = old.spans;
+      owned = g.others l l_not_id l_not_last ∙ old.owned;
+      older = λ more.
+          (let o = old.older (omega (arith, more, less, fewer)) in
+          let turns = o.1 in
+          let b_not_id : b ≢ id = λ e. (let z = ap (turn_of used flights) e ∙ zero in absurd (omega (arith, z, turns))) in
+          let b_not_last : b ≢ last = λ e. b_not_id (some_same b id (owner owners last) (ap (owner owners) (sym e) ∙ o.0) tail) in
+          let b_turn = s.each b b_low o.0 in
+          let b_less = turn_less used (get_or flights b no_flight).place s.used_low b_turn.low (omega (arith, turns)) in
+          (g.others b b_not_id b_not_last ∙ o.0, omega (arith, b_less, turns, less)));
+      newest = λ e. old.newest (omega (arith, e, less, fewer));
+    }
+
+stretch_less : (size offered used next id last : ℕ) (owners owners' : List (Option ℕ)) (flights : List Flight)
+    → IsStretch size offered used next owners flights → last ≡ (get_or flights id no_flight).last → id < size → IsHead owners id → (get_or flights id no_flight).place ≡ used
+    → ((i : ℕ) → i < size → (get_or flights i no_flight).last < size) → Loses size id last owners owners'
+    → IsStretch size offered ((used + 1) % 65536) next owners' flights
+stretch_less size offered used next id last owners owners' flights s is id_low head place lasts g =
+    let oldest = s.each id id_low head in
+    let zero : turn_of used flights id ≡ 0 = ap (turn used) place ∙ turn_zero used s.used_low in
+    let before = oldest.before in
+    let some : 0 < turn used offered = omega (arith, before, zero) in
+    let o = s.oldest some in
+    let here : id ≡ s.first = s.once id s.first id_low s.first_low head o.0 (zero ∙ sym o.1) in
+    let tail : owner owners last ≡ Some id = ap (owner owners) is ∙ oldest.owned in
+    let last_low : last < size = let e = lasts id id_low in omega (arith, e, is) in
+    let b = following size last in
+    let behinds : behind size flights id ≡ b = ap (following size) (sym is) in
+    let b_follows = follows size last last_low in
+    let spans : (last ≡ s.first) ⊎ (last ≡ following size s.first) = elim oldest.spans [ inl e ↦ inl (is ∙ e ∙ here) | inr e ↦ inr (is ∙ e ∙ ap (following size) here) ] in
+    let counted = count_of size s.first last owners s.first_low spans in
+    let count = counted.0 in
+    let first_within = within_cases size s.first s.many s.first (s.taken s.first s.first_low (some_taken (owner owners s.first) s.first o.0)) in
+    let last_within = within_cases size s.first s.many last (s.taken last last_low (some_taken (owner owners last) id tail)) in
+    let cases = counted.1 in
+    let many_low = s.many_low in
+    let first_low = s.first_low in
+    let n : Fewer size s.first s.many next last count b = record {
+      first_low = s.first_low;
+      many_low = s.many_low;
+      next_low = s.next_low;
+      last_low = last_low;
+      enough = omega (arith, first_within, last_within, cases, many_low, first_low, last_low);
+      ends = behind_cases size s.first s.many next s.ends;
+      spans = counted.1;
+      follower = follow_cases size last b last_low b_follows;
+    } in
+    let used' = (used + 1) % 65536 in
+    let fewer = turn_less used offered s.used_low s.offered_low some in
+    let not_id : (d : ℕ) → owner owners' d ≢ None → d ≢ id = λ d t e. t (ap (owner owners') e ∙ g.head) in
+    let not_last : (d : ℕ) → owner owners' d ≢ None → d ≢ last = λ d t e. t (ap (owner owners') e ∙ g.tail) in
+    let was : (d : ℕ) → IsHead owners' d → IsHead owners d = λ d h.
+    (let t = some_taken (owner owners' d) d h in sym (g.others d (not_id d t) (not_last d t)) ∙ h) in
+    let less : (d : ℕ) → d < size → IsHead owners' d → turn_of used' flights d + 1 ≡ turn_of used flights d = λ d low h.
+    (let old = s.each d low (was d h) in
+    let positive : 0 < turn_of used flights d =
+    elim (cases_lt 0 (turn_of used flights d)) [
+      | inl more ↦ more
+      | inr none ↦
+          let z : turn_of used flights d ≡ 0 = omega (arith, none) in
+          absurd (not_id d (some_taken (owner owners' d) d h) (s.once d id low id_low (was d h) head (z ∙ sym zero)))
+    ] in
+    turn_less used (get_or flights d no_flight).place s.used_low old.low positive) in
+    record {
+      first = b;
+      many = s.many - count;
+      first_low = b_follows.low;
+      many_low = omega (arith, many_low);
+      used_low = mod_below (used + 1) 65536 (omega arith);
+      offered_low = s.offered_low;
+      next_low = s.next_low;
+      ends = ends_less size s.first s.many next last count b n;
+      taken = λ d low t.
+          (let p = not_id d t in
+          let q = not_last d t in
+          within_less size s.first s.many next last count b d n low (λ e. p (e ∙ sym here)) q (s.taken d low (λ e. t (g.others d p q ∙ e))));
+      covers = λ d low w. elim (cases_eq d id) [
+        | inl same ↦ absurd (first_left size s.first s.many next last count b n (subst (λ v. IsWithin size b (s.many - count) v) (same ∙ here) w))
+        | inr p ↦ elim (cases_eq d last) [
+          | inl same ↦ absurd (last_left size s.first s.many next last count b n (subst (λ v. IsWithin size b (s.many - count) v) same w))
+          | inr q ↦ λ e. s.covers d low (within_was size s.first s.many next last count b d n low w) (sym (g.others d p q) ∙ e)
+        ]
+      ];
+      room = λ d low h.
+          (let t = some_taken (owner owners' d) d h in
+          let p = not_id d t in
+          let q = not_last d t in
+          room_less size s.first s.many next last count b (turn used offered) (turn used' offered) (turn_of used flights d) (turn_of used' flights d) d n low (λ e. p (e ∙ sym here)) q
+          (s.taken d low (some_taken (owner owners d) d (was d h))) fewer (less d low h) (s.room d low (was d h)));
+      oldest = λ more.
+          (let next_one = oldest.older (omega (arith, more, fewer, zero)) in
+          let b_head : IsHead owners b = ap (owner owners) (sym behinds) ∙ next_one.0 ∙ ap Some behinds in
+          let b_turn : turn_of used flights b ≡ turn_of used flights id + 1 = ap (turn_of used flights) (sym behinds) ∙ next_one.1 in
+          let p : b ≢ id = λ e. (let z = ap (turn_of used flights) e in absurd (omega (arith, z, b_turn))) in
+          let q : b ≢ last = λ e. p (some_same b id (owner owners last) (ap (owner owners) (sym e) ∙ b_head) tail) in
+          let kept = g.others b p q ∙ b_head in
+          let l = less b b_follows.low kept in
+          (kept, omega (arith, l, b_turn, zero)));
+      none = λ e. sym behinds ∙ oldest.newest (omega (arith, e, fewer, zero));
+      each = λ d low h.
+          (let t = some_taken (owner owners' d) d h in
+          turn_is_less size offered used next id last owners owners' flights d s tail id_low head zero g lasts low (not_id d t) (not_last d t) (was d h) (less d low h) fewer);
+      once = λ d e low low' h h' same. s.once d e low low' (was d h) (was e h') (let x = less d low h in let y = less e low' h' in omega (arith, x, y, same));
+    }
+
+-- the stretch once the oldest chain came back
+pub stretch_back : (size offered used next id : ℕ) (owners : List (Option ℕ)) (flights : List Flight)
+    → IsStretch size offered used next owners flights → length owners ≡ size → id < size → IsHead owners id → (get_or flights id no_flight).place ≡ used
+    → ((i : ℕ) → i < size → (get_or flights i no_flight).last < size)
+    → IsStretch size offered ((used + (get_or flights id no_flight).places) % 65536) next
+    (slice_set (slice_set owners id None) (get_or flights id no_flight).last None) flights
+stretch_back size offered used next id owners flights s long low head place lasts =
+    let last = (get_or flights id no_flight).last in
+    let owners' = slice_set (slice_set owners id None) last None in
+    let one = (s.each id low head).one in
+    subst (λ v. IsStretch size offered ((used + v) % 65536) next owners' flights) (sym one)
+    (stretch_less size offered used next id last owners owners' flights s refl low head place lasts (loses size id last owners long low (lasts id low)))
+
+-- 4. Nothing was offered yet
+
+pub stretch_begins : (size : ℕ) (owners : List (Option ℕ)) (flights : List Flight) → 0 < size → ((d : ℕ) → d < size → owner owners d ≡ None)
+    → IsStretch size 0 0 0 owners flights
+stretch_begins size owners flights some free_all =
+    let none_turn : turn 0 0 ≡ 0 = turn_zero 0 (omega arith) in
+    let no_head : (d : ℕ) → d < size → IsHead owners d → ⊥ = λ d low h. (let z = sym (free_all d low) ∙ h in absurd (cc)) in
+    record {
+      first = 0;
+      many = 0;
+      first_low = some;
+      many_low = omega arith;
+      used_low = omega arith;
+      offered_low = omega arith;
+      next_low = some;
+      ends = omega arith;
+      taken = λ d low t. absurd (t (free_all d low));
+      covers = λ d low w. (let b = w.behind (omega arith) in absurd (omega (arith, b)));
+      room = λ d low h. absurd (no_head d low h);
+      oldest = λ more. absurd (omega (arith, more, none_turn));
+      none = λ _. refl;
+      each = λ d low h. absurd (no_head d low h);
+      once = λ d e low low' h h' same. absurd (no_head d low h);
+    }
+
+-- the order of the table is that of a driver that accepted VIRTIO_F_IN_ORDER
+pub in_order_of : (kind : RingKind) (in_order : Bool) → ordered_by kind in_order ≡ true → in_order ≡ true
+in_order_of Split in_order e = e
+in_order_of Packed in_order e = absurd (cc)
+
+pub ordered_of : (kind : RingKind) (in_order : Bool) → kind ≡ Split → in_order ≡ true → ordered_by kind in_order ≡ true
+ordered_of kind in_order split is = ap (λ k. ordered_by k in_order) split ∙ is
+
+none_of_none : (owners : List (Option ℕ)) (two : Bool) → length owners ≡ 0 → HasTooFew owners two
+none_of_none owners false none = λ k low below. absurd (omega (arith, below, none))
+none_of_none owners true none = λ d below free. absurd (omega (arith, below, none))
+
+-- where the next descriptors aren't free, too few are
+pub chooses_by : (size offered used next : ℕ) (owners : List (Option ℕ)) (flights : List Flight) (two : Bool) (pair : Option (ℕ × ℕ))
+    → (0 < size → IsStretch size offered used next owners flights) → length owners ≡ size → ChoosesNext owners next two pair → ChoosesBy true owners next two pair
+chooses_by size offered used next owners flights two (Some pair) s long h = h
+chooses_by size offered used next owners flights two None s long h =
+    elim (cases_lt 0 size) [
+      | inl some ↦ too_few size offered used next owners flights two (s some) long h
+      | inr none ↦ none_of_none owners two (omega (arith, none, long))
+    ]
+
+-- a descriptor with an owner is one of the ring's
+pub owner_low : (owners : List (Option ℕ)) (d h : ℕ) → owner owners d ≡ Some h → d < length owners
+owner_low owners d h is =
+    elim (cases_lt d (length owners)) [
+      | inl low ↦ low
+      | inr past ↦ let z = sym is ∙ get_or-eq_default owners None past in absurd (cc)
+    ]
+
+-- a split ring's chain has one place
+pub one_place : (kind : RingKind) (in_order : Bool) (size mark places : ℕ) → ordered_by kind in_order ≡ true → mark_after kind size mark places ≡ (mark + places) % 65536
+one_place Split in_order size mark places e = refl
+one_place Packed in_order size mark places e = absurd (cc)
+
+-- the stretch once a driver offered a chain
+pub stretch_by : (size offered used next head last writable next' : ℕ) (two ordered in_order : Bool) (owners : List (Option ℕ)) (flights : List Flight)
+    → ordered ≡ true → in_order ≡ true → (0 < size → IsStretch size offered used next owners flights) → size ≤ 65535 → length owners ≡ size → length flights ≡ size
+    → TakesBy in_order owners next two head last → next' ≡ next_by ordered size next last → next' < size
+    → IsStretch size ((offered + 1) % 65536) used next' (slice_set (slice_set owners head (Some head)) last (Some head))
+    (slice_set flights head (record { last = last; places = 1; writable = writable; place = offered }))
+stretch_by size offered used next head last writable next' two ordered in_order owners flights is order s small long wide takes follows_it low =
+    let t : TakesBy true owners next two head last = subst (λ b. TakesBy b owners next two head last) order takes in
+    let next_is : next' ≡ following size last = follows_it ∙ ap (λ b. next_by b size next last) is in
+    let f : Flight = record { last = last; places = 1; writable = writable; place = offered } in
+    let more = stretch_offered size offered used next last writable two owners flights (s (omega (arith, low))) small long wide t.0 t.2 in
+    let P : ℕ → Type 0 = λ h. IsStretch size ((offered + 1) % 65536) used (following size last) (slice_set (slice_set owners h (Some h)) last (Some h)) (slice_set flights h f) in
+    let Q : ℕ → Type 0 = λ n. IsStretch size ((offered + 1) % 65536) used n (slice_set (slice_set owners head (Some head)) last (Some head)) (slice_set flights head f) in
+    subst Q (sym next_is) (subst P (sym t.1) more)

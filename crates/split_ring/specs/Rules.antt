@@ -1,0 +1,11 @@
+-- The areas of a ring stay where they are.
+use Rattle.std.specs.Prelude.{◌≡◌, ℕ}
+use Rattle.chains.specs.Ring.{RingState}
+use Rattle.split_ring.specs.Layout.{AreasInside}
+
+pub areas_stay : (bytes : ℕ) (old new : RingState) → new.places ≡ old.places → new.size ≡ old.size → AreasInside bytes old → AreasInside bytes new
+areas_stay bytes old new same size inside = record {
+  descriptors = rw (same, size) inside.descriptors;
+  driver = rw (same, size) inside.driver;
+  device = rw (same, size) inside.device;
+}
