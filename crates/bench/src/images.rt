@@ -2,12 +2,13 @@
 ghost use Rattle.std.specs.Prelude.{IfOk};
 ghost use Rattle.host.specs.Opening.{IsJustOpened};
 
+use crate::rings::Form;
 use crate::clock::{NO_MEMORY, Row, Stop, now, since};
 use board::Board;
 use disk::{Disk, MemDisk};
 use intent_slots::Layout;
 use recovery::{format, format2, open};
-use rpmb_frame::{BoardConfig, GuestConfig, RingKind};
+use rpmb_frame::{BoardConfig, GuestConfig};
 use std::alloc::Global;
 use std::time::Duration;
 
@@ -23,10 +24,11 @@ pub fn board_of(alloc: Global, guests: u16) -> Result<BoardConfig, Stop> {
 }
 
 /// A board of one guest with a queue of this form.
-pub fn board_of_form(alloc: Global, ring: RingKind, indirect: bool) -> Result<BoardConfig, Stop> {
+pub fn board_of_form(alloc: Global, form: &Form) -> Result<BoardConfig, Stop> {
     let guest = GuestConfig {
-        ring,
-        indirect,
+        ring: form.ring,
+        indirect: form.indirect,
+        in_order: form.in_order,
         ..GuestConfig::of_capacity(1)
     };
     let guests = Vec::from_slice(alloc, &[guest]).ok().ok_or(NO_MEMORY)?;

@@ -160,7 +160,7 @@ fn take_all<D: Disk>(
 
 /// What a guest with a queue of this form is told, of a fresh image.
 fn told_of(rt: &HostRuntime, form: &Form, asked: Asked) -> Result<Told, Stop> {
-    let config = board_of_form(rt.alloc(), form.ring, form.indirect)?;
+    let config = board_of_form(rt.alloc(), form)?;
     let disk = new_disk(rt.alloc(), &config)?;
     let board = opened_board(rt.alloc(), disk, &config)?;
     take_all(rt, board, &config, asked)
