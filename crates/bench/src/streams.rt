@@ -37,14 +37,14 @@ static NO_SYNCS: Syncs = Syncs {
 
 /// Guests that write, so many times each before they wait for their replies.
 #[derive(Drop)]
-struct Stream {
+struct Writers {
     books: Books,
     guests: u16,
     waiting: u32,
     syncs: Syncs,
 }
 
-impl Stream {
+impl Writers {
     /// Each guest submits its next writes, the first under this counter.
     fn submit(&mut self, alloc: Global, counter: u32) -> Result<(), Stop> {
         for guest in 0..self.guests {
@@ -55,14 +55,23 @@ impl Stream {
             }
         }
         self.syncs = NO_SYNCS;
-        Ok(())
+        self.give()
     }
 
     /// The store is given what waits of each guest that it is free for.
-    fn give(&mut self) -> Result<(), Stop> {
+    fn give_each(&mut self) -> Result<(), Stop> {
         for guest in 0..self.guests {
             self.books.turn(guest, Turn::HandOver)?;
         }
+        Ok(())
+    }
+
+    /// The same for each slot that a guest may have, and of guest 0 how many syncs were made until then.
+    fn give(&mut self) -> Result<(), Stop> {
+        let was_free = self.books.is_free(0);
+        self.give_each()?;
+        self.give_each()?;
+        self.note(was_free);
         Ok(())
     }
 
@@ -78,15 +87,18 @@ impl Stream {
         }
     }
 
-    /// Gives what waits, and makes the store's next call; whether there was one.
+    /// A sync was made: more may be given since.
+    fn synced(&mut self) -> Result<(), Stop> {
+        self.syncs.since = self.syncs.since.saturating_add(1);
+        self.give()
+    }
+
+    /// Makes the store's next call; whether there was one.
     fn go_on(&mut self) -> Result<bool, Stop> {
-        let was_free = self.books.is_free(0);
-        self.give()?;
-        self.note(was_free);
         match self.books.advance()? {
             Call::Nothing => return Ok(false),
             Call::Write => {}
-            Call::Sync => self.syncs.since = self.syncs.since.saturating_add(1),
+            Call::Sync => self.synced()?,
         }
         Ok(true)
     }
@@ -128,9 +140,9 @@ impl Stream {
     }
 }
 
-/// What a stream came to.
+/// What their writes came to.
 #[derive(Clone, Copy)]
-struct Streamed {
+struct Figures {
     counts: Counts,
     syncs: Syncs,
 }
@@ -142,29 +154,29 @@ fn streamed(
     version: Version,
     waiting: u32,
     rounds: u32,
-) -> Result<Streamed, Stop> {
+) -> Result<Figures, Stop> {
     let guests = guests_of(board);
     let books = new_books_on(rt.alloc(), board, version)?;
-    let mut stream = Stream {
+    let mut writers = Writers {
         books: keyed(rt, books, guests)?,
         guests,
         waiting,
         syncs: NO_SYNCS,
     };
-    stream.rounds(rt.alloc(), rounds)?;
-    Ok(Streamed {
-        syncs: stream.syncs,
-        counts: stream.books.into_counts(),
+    writers.rounds(rt.alloc(), rounds)?;
+    Ok(Figures {
+        syncs: writers.syncs,
+        counts: writers.books.into_counts(),
     })
 }
 
 /// The same for as many rounds as the writes take, without what the keys took.
-fn stream(
+fn stream_of(
     rt: &HostRuntime,
     board: &BoardConfig,
     version: Version,
     waiting: u32,
-) -> Result<Streamed, Stop> {
+) -> Result<Figures, Stop> {
     let keys = streamed(rt, board, version, waiting, 0)?;
     let mut all = streamed(rt, board, version, waiting, WRITES / waiting.max(1))?;
     all.counts = all.counts.since(keys.counts);
@@ -184,7 +196,7 @@ fn print_stream(
     version: Version,
     waiting: u32,
 ) -> Result<(), Stop> {
-    let Streamed { counts, syncs } = stream(rt, board, version, waiting)?;
+    let Figures { counts, syncs } = stream_of(rt, board, version, waiting)?;
     let printed = println!(rt;
         "version {}, {waiting} waiting: {} calls, {} syncs, {} bytes; begins after {} syncs, the next after {}",
         number_of(version),
