@@ -2,8 +2,10 @@
 #![tactic(auto)]
 
 mod command;
+mod given;
 mod grammar;
 mod words;
 
 pub use command::Command;
+pub use given::{GivenError, given_words};
 pub use words::{WordsError, read_words};
