@@ -1,5 +1,5 @@
-//! Why a board file isn't read, in words. What is said here no contract speaks of: whether a text is read,
-//! `board.rt` says, and the ranges stand in `rpmb_frame`.
+//! Why a board file isn't read, in words. What is said here no contract speaks of: whether a text
+//! is read, `board.rt` says, and the ranges stand in `rpmb_frame`.
 use crate::guest::GUEST_KEYS;
 use crate::keys::{is_among, ring_kind};
 use rpmb_frame::{DriverLayout, RingKind};

@@ -16,8 +16,8 @@ pub enum BoardVerdict {
     Bad(String),
 }
 
-/// Says whether `read_board` reads the text of a board file. If it doesn't, the text names the first key that
-/// is missing, unknown or out of its range, and what stands there.
+/// Says whether `read_board` reads the text of a board file. If it doesn't, the answer names the
+/// first key that is missing, unknown or out of its range, and what stands there.
 pub fn judge_board(alloc: Global, text: &str) -> Result<BoardVerdict, AllocError>
     ensures { IfOk result (IsVerdict text.now) }
 {

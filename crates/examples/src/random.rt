@@ -258,7 +258,8 @@ fn bits_of(alloc: Global, line: &str) -> Result<u64> {
     }
 }
 
-/// What `rpmb` says of an answer. It ends with 1 where it says that a MAC or a nonce is wrong, else with 0.
+/// What `rpmb` says of an answer. It ends with 1 where it says that a MAC or a nonce is wrong, else
+/// with 0.
 fn explained<R: Files + AllocGlobal>(
     folder: &Folder<'_, R>,
     words: &Words<'_>,

@@ -166,7 +166,8 @@ fn write_front<W: Write>(alloc: Global, bytes: &[u8; 512], out: &mut W) -> Resul
 /// Writes the write counter of a frame whose type carries one.
 #[tactic(auto, unfolding(crate::specs::Explained::counter_text))]
 fn write_counter<W: Write>(bytes: &[u8; 512], out: &mut W) -> Result<(), ClientFault>
-    ensures { OnOk result (Appends (W.contents out.old) (W.contents out.new) (counter_text bytes.now)) }
+    ensures { OnOk result (Appends (W.contents out.old) (W.contents out.new)
+        (counter_text bytes.now)) }
 {
     let frame = Frame::from_bytes(bytes);
     let counter = frame.write_counter();

@@ -37,8 +37,8 @@ fn has_wrong_mac(key: Option<[u8; 32]>, frames: &[[u8; 512]]) -> bool
     }
 }
 
-/// Whether the MAC of a reply is wrong under the key, or a nonce in it isn't the one that was asked with,
-/// where a key or a nonce is given: where `explain` says so of a frame.
+/// Whether the MAC of a reply is wrong under the key, or a nonce in it isn't the one that was asked
+/// with, where a key or a nonce is given: where `explain` says so of a frame.
 #[tactic(auto, unfolding(crate::specs::Explained::is_wrong))]
 pub fn is_wrong(used: &Used, key: Option<[u8; 32]>, nonce: Option<[u8; 16]>) -> bool
     ensures { result ≡ is_wrong used.now.reply.items key nonce }

@@ -43,7 +43,8 @@ fn is_text(bytes: &[u8]) -> bool
 
 /// Writes bytes between what begins a text and what ends its line.
 fn write_quoted<W: Write>(bytes: &[u8], out: &mut W) -> Result<(), ClientFault>
-    ensures { OnOk result (Appends (W.contents out.old) (W.contents out.new) (codes ", text \"" ++ (bytes.now ++ (34 ∷ 10 ∷ [])))) }
+    ensures { OnOk result (Appends (W.contents out.old) (W.contents out.new)
+        (codes ", text \"" ++ (bytes.now ++ (34 ∷ 10 ∷ [])))) }
 {
     if out.write_all(b", text \"").is_err() {
         return Err(ClientFault::FileFault);
@@ -60,7 +61,8 @@ fn write_quoted<W: Write>(bytes: &[u8], out: &mut W) -> Result<(), ClientFault>
 /// Writes the text of a block that is one, and ends the line.
 #[tactic(auto, unfolding(crate::specs::Explained::block_text))]
 pub(crate) fn write_text<W: Write>(block: &[u8; 256], out: &mut W) -> Result<(), ClientFault>
-    ensures { OnOk result (Appends (W.contents out.old) (W.contents out.new) (block_text block.now)) }
+    ensures { OnOk result (Appends (W.contents out.old) (W.contents out.new)
+        (block_text block.now)) }
 {
     if is_text(block) {
         return write_quoted(&block[..printable_length(block)], out);

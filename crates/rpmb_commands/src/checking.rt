@@ -35,7 +35,7 @@ fn check_script<'a, S: Source>(
     }
 }
 
-/// Writes `ok` where the board file, and the script where one is named, are read as `rpmbd run` reads them.
+/// Writes `ok` where `rpmbd run` reads the board file, and the script where one is named.
 pub fn check<'a, S: Source, W: Write>(
     alloc: Global,
     source: &S,

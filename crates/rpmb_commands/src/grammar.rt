@@ -31,6 +31,15 @@ fn nonce<'a>(alloc: Global) -> Arg<'a> {
     )
 }
 
+fn asked_nonce<'a>(alloc: Global) -> Arg<'a> {
+    option(
+        alloc,
+        "nonce",
+        "HEX",
+        "16 bytes in hex digits, those that the request was made with",
+    )
+}
+
 fn address<'a>(alloc: Global) -> Arg<'a> {
     option(alloc, "address", "A", "The first block, from 0 on").required(true)
 }
@@ -182,7 +191,7 @@ fn explain<'a>(alloc: Global) -> Result<Command<'a>, AllocError> {
     let command = Command::new(alloc, "explain")
         .about("Reads the lines of `rpmbd run`, and says what each reply is")
         .arg(keys(alloc));
-    let command = with_option(command, nonce(alloc));
+    let command = with_option(command, asked_nonce(alloc));
     telling(command, EXPLAIN)
 }
 
@@ -199,7 +208,7 @@ fn read_data<'a>(alloc: Global) -> Result<Command<'a>, AllocError> {
     let command = Command::new(alloc, "read-data")
         .about("Reads the lines of `rpmbd run`, and writes the blocks of a read")
         .arg(key(alloc).required(true));
-    let command = with_option(command, nonce(alloc).required(true));
+    let command = with_option(command, asked_nonce(alloc).required(true));
     let command = with_option(command, length(alloc));
     telling(command, READ_DATA)
 }

@@ -1,4 +1,5 @@
-//! What `rpmb` does: its words, and the performing of them over any files and lines, and two writers.
+//! What `rpmb` does: its words, and the performing of them over any files and lines, and two
+//! writers.
 #![tactic(auto)]
 
 mod checking;

@@ -83,7 +83,8 @@ fn refused_file<'a>(file: &'a str, fault: ValueFault) -> Refusal<'a>
     }
 }
 
-/// The key in a file: its 64 hex digits, behind which a line may end. A file of 32 bytes is refused.
+/// The key in a file: its 64 hex digits, behind which a line may end. A file of 32 bytes is
+/// refused.
 pub fn key_in_file<'a>(
     alloc: Global,
     file: &'a str,

@@ -20,8 +20,8 @@ pub enum Number {
     Length,
 }
 
-/// Why nothing more is printed. Each is told by its name, what was expected, and what stands there; of a key
-/// only how long it is.
+/// Why nothing more is printed. Each is told by its name, what was expected, and what stands there;
+/// of a key only how long it is.
 #[derive(Debug, Drop, Error)]
 pub enum Refusal<'a> {
     /// The words name a command, but not what it needs.

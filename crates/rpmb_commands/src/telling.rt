@@ -116,8 +116,8 @@ fn tell_lines<'a, B: BufRead, W: Write>(
     Ok(counts)
 }
 
-/// Says of each `used` line what its reply is, and writes each other line as it is. Refused at the end where a
-/// MAC or a nonce was wrong.
+/// Says of each `used` line what its reply is, and writes each other line as it is. Refused at the
+/// end where a MAC or a nonce was wrong.
 pub fn tell<'a, S: Source, B: BufRead, W: Write>(
     alloc: Global,
     source: &S,

@@ -1,4 +1,5 @@
-//! Why a line isn't read, in words. What is said here no contract speaks of: whether a line is read, `line.rt` says.
+//! Why a line isn't read, in words. What is said here no contract speaks of: whether a line is
+//! read, `line.rt` says.
 use crate::word::{first_words, read_number};
 use std::alloc::{AllocError, Global};
 

@@ -29,8 +29,8 @@ fn line_at<'a>(script: &'a str, number: usize) -> &'a str {
     ""
 }
 
-/// Says whether `read_script` reads a script for a board of so many guests. If it doesn't, the text names the
-/// first line that a script may not say, the word of it, and what stands there.
+/// Says whether `read_script` reads a script for a board of so many guests. If it doesn't, the
+/// answer names the first line that a script may not say, the word of it, and what stands there.
 pub fn judge_script(alloc: Global, script: &str, guests: u16) -> Result<ScriptVerdict, AllocError>
     ensures { IfOk result (IsVerdict guests (lines_of script.now)) }
 {
