@@ -2,9 +2,11 @@
 #![tactic(auto)]
 
 mod command;
+mod given;
 mod grammar;
 mod help;
 mod words;
 
 pub use command::Command;
+pub use given::{GivenError, given_words};
 pub use words::{WordsError, read_words};

@@ -2,7 +2,7 @@
 use anyhow::Result;
 use board_file::{BoardError, read_board};
 use commands::Fault;
-use rpmb_commands::{Refusal, Source, read_file};
+use rpmb_commands::{Source, SourceError, read_file};
 use rpmb_frame::BoardConfig;
 use std::alloc::Global;
 use std::rt::Files;
@@ -76,7 +76,7 @@ impl<'a, R: Files + AllocGlobal> Folder<'a, R> {
                 Ok(text) => Ok(text),
                 Err(_) => Err(Fault::FileFault),
             },
-            Err(Refusal::NoMemory) => Err(Fault::NoMemory),
+            Err(SourceError::NoMemory) => Err(Fault::NoMemory),
             Err(_) => Err(Fault::FileFault),
         }
     }
@@ -93,18 +93,18 @@ impl<'a, R: Files + AllocGlobal> Folder<'a, R> {
 }
 
 impl<'a, R: Files + AllocGlobal> Source for Folder<'a, R> {
-    fn content(&self, alloc: Global, name: &str) -> Result<Vec<u8>, Refusal> {
+    fn content(&self, alloc: Global, name: &str) -> Result<Vec<u8>, SourceError> {
         let place = self.place_of(name);
         if let Some(file) = self.files.get(place) {
             return match Vec::from_slice(alloc, file.bytes.as_slice()) {
                 Ok(bytes) => Ok(bytes),
-                Err(_) => Err(Refusal::NoMemory),
+                Err(_) => Err(SourceError::NoMemory),
             };
         }
         let path = self.path;
         match format!(in alloc; "{path}/{name}") {
             Ok(path) => read_file(self.rt, path.as_str()),
-            Err(_) => Err(Refusal::NoMemory),
+            Err(_) => Err(SourceError::NoMemory),
         }
     }
 }

@@ -258,7 +258,8 @@ fn bits_of(alloc: Global, line: &str) -> Result<u64> {
     }
 }
 
-/// What `rpmb` says of an answer.
+/// What `rpmb` says of an answer. It ends with 1 where it says that a MAC or a nonce is wrong, else
+/// with 0.
 fn explained<R: Files + AllocGlobal>(
     folder: &Folder<'_, R>,
     words: &Words<'_>,
@@ -266,10 +267,13 @@ fn explained<R: Files + AllocGlobal>(
 ) -> Result<String> {
     let alloc = folder.rt.alloc();
     let (mut out, mut err) = (Vec::new(alloc), Vec::new(alloc));
-    if perform(alloc, folder, words, line, &mut out, &mut err) != 0 {
-        bail!("refused words of rpmb");
+    let mut input = line.as_bytes();
+    let status = perform(alloc, folder, words, &mut input, &mut out, &mut err);
+    let text = String::from_utf8(out)?;
+    if (status == 0) == text.contains("wrong") {
+        bail!("another status");
     }
-    Ok(String::from_utf8(out)?)
+    Ok(text)
 }
 
 /// Whether an explanation doubts an answer.

@@ -9,7 +9,7 @@ use anyhow::{Result, bail};
 use command_line::{Command, WordsError};
 use commands::Fault;
 use disk::MemDisk;
-use rpmb_commands::{Refusal, Source};
+use rpmb_commands::Source;
 use rpmb_frame::BoardConfig;
 use std::alloc::Global;
 use std::fmt;
@@ -40,12 +40,6 @@ impl Told {
     fn fault(alloc: Global, fault: Fault) -> Told {
         let mut told = Told::nothing(alloc, 1);
         told.status = commands::report(fault, &mut told.err);
-        told
-    }
-
-    fn refusal(alloc: Global, refusal: Refusal) -> Told {
-        let mut told = Told::nothing(alloc, 1);
-        told.status = rpmb_commands::report(refusal, &mut told.err);
         told
     }
 
@@ -170,12 +164,10 @@ fn client<R: Files + AllocGlobal>(
         Err(rpmb_commands::WordsError::Refused(error)) => return Told::words(alloc, &error),
         Err(_) => bail!("no memory"),
     };
-    let Ok(input) = str::from_utf8(input) else {
-        return Ok(Told::refusal(alloc, Refusal::FileFault));
-    };
     let mut told = Told::nothing(alloc, 0);
+    let mut lines = input;
     let (out, err) = (&mut told.out, &mut told.err);
-    told.status = rpmb_commands::perform(alloc, folder, &words, input, out, err);
+    told.status = rpmb_commands::perform(alloc, folder, &words, &mut lines, out, err);
     Ok(told)
 }
 

@@ -16,8 +16,8 @@ pub fn made_by<R: Files + AllocGlobal>(
     let Ok(words) = read_words(alloc, words.as_slice()) else {
         bail!("no words of rpmb");
     };
-    let mut err = Vec::new(alloc);
-    if perform(alloc, folder, &words, "", script, &mut err) != 0 {
+    let (mut input, mut err) = ("".as_bytes(), Vec::new(alloc));
+    if perform(alloc, folder, &words, &mut input, script, &mut err) != 0 {
         bail!("refused words of rpmb");
     }
     Ok(())

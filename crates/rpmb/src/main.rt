@@ -1,11 +1,13 @@
 //! `rpmb`: makes the requests of scripts for `rpmbd`, and says what its answers are.
 #![tactic(auto)]
 
-use rpmb_commands::{Refusal, Source, Words, WordsError, perform, read_file, read_words, report};
+use command_line::{GivenError, given_words};
+use rpmb_commands::{
+    Refusal, Source, SourceError, Words, WordsError, perform, read_file, read_words, report,
+};
 use std::alloc::Global;
-use std::io::{BufWriter, Read};
+use std::io::{BufReader, BufWriter};
 use std::process::ExitCode;
-use std::{env, io};
 
 /// The status of a command line that is refused.
 const REFUSED: u8 = 2;
@@ -17,28 +19,15 @@ struct System<'a> {
 }
 
 impl<'a> Source for System<'a> {
-    fn content(&self, _alloc: Global, name: &str) -> Result<Vec<u8>, Refusal> {
+    fn content(&self, _alloc: Global, name: &str) -> Result<Vec<u8>, SourceError> {
         read_file(self.rt, name)
     }
 }
 
-/// The lines of standard input, where the command reads them.
-fn lines(rt: &HostRuntime, words: &Words<'_>) -> Result<String, Refusal> {
-    let mut input = String::new(rt.alloc());
-    if !words.reads_lines() {
-        return Ok(input);
-    }
-    match rt.stdin().read_to_string(&mut input) {
-        Ok(_) => Ok(input),
-        Err(error) => match error.kind() {
-            io::ErrorKind::OutOfMemory => Err(Refusal::NoMemory),
-            _ => Err(Refusal::FileFault),
-        },
-    }
-}
-
-fn perform_on_streams(rt: &HostRuntime, words: &Words<'_>) -> Result<u8, Refusal> {
-    let input = lines(rt, words)?;
+fn perform_on_streams<'a>(rt: &HostRuntime, words: &Words<'_>) -> Result<u8, Refusal<'a>> {
+    let Ok(mut input) = BufReader::new(rt.alloc(), rt.stdin()) else {
+        return Err(Refusal::NoMemory);
+    };
     let Ok(mut out) = BufWriter::new(rt.alloc(), rt.stdout()) else {
         return Err(Refusal::NoMemory);
     };
@@ -47,7 +36,7 @@ fn perform_on_streams(rt: &HostRuntime, words: &Words<'_>) -> Result<u8, Refusal
         rt.alloc(),
         &source,
         words,
-        input.as_str(),
+        &mut input,
         &mut out,
         &mut rt.stderr(),
     ))
@@ -63,16 +52,11 @@ fn refuse(rt: &HostRuntime, error: WordsError) -> u8 {
             }
             match printed {
                 Ok(()) => 0,
-                Err(_) => report(Refusal::FileFault, &mut rt.stderr()),
+                Err(_) => report(Refusal::NoRoom, &mut rt.stderr()),
             }
         }
         WordsError::NoMemory => report(Refusal::NoMemory, &mut rt.stderr()),
     }
-}
-
-fn words(rt: &HostRuntime) -> io::Result<Vec<String>> {
-    let words = env::args(rt)?.collect(rt.alloc())?;
-    Ok(words)
 }
 
 fn status_of(rt: &HostRuntime, words: &[String]) -> u8 {
@@ -85,13 +69,21 @@ fn status_of(rt: &HostRuntime, words: &[String]) -> u8 {
     }
 }
 
-fn main(rt: HostRuntime) -> ExitCode {
-    let status = match words(&rt) {
-        Ok(words) => status_of(&rt, words.as_slice()),
-        Err(_) => {
+/// Prints why there are no words: memory was refused, or one of them isn't UTF-8.
+fn refuse_words(rt: &HostRuntime, error: GivenError) -> u8 {
+    match error {
+        GivenError::NoMemory => report(Refusal::NoMemory, &mut rt.stderr()),
+        GivenError::NotText => {
             let _ = eprintln!(rt; "error: a word of the command line isn't UTF-8");
             REFUSED
         }
+    }
+}
+
+fn main(rt: HostRuntime) -> ExitCode {
+    let status = match given_words(&rt) {
+        Ok(words) => status_of(&rt, words.as_slice()),
+        Err(error) => refuse_words(&rt, error),
     };
     ExitCode::from(status)
 }

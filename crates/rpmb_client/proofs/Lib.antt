@@ -4,3 +4,4 @@ mod WriteLemmas
 mod SealLemmas
 mod AskLemmas
 mod ChainLemmas
+mod FindLemmas

@@ -3,18 +3,21 @@ use Rattle.std.proofs.Common.{◌≡◌, ℕ, suc, ◌+◌, List, Option, Result
 use Rattle.std.proofs.KnownBytes.{Appends-nil, Appends-trans}
 use Rattle.std.specs.Io.KnownBytes.{Appends}
 use Rattle.std.specs.Prelude.{Bool, [], ◌*◌, get_or, length}
+use Rattle.rpmb_frame.specs.Frame.{block_data_of}
 use Rattle.rpmb_client.specs.Lines.{part_of, write_line, write_lines}
-use Rattle.rpmb_client.specs.Explained.{checks_text, fields_text, front_text, frame_line, frame_lines, place_text}
+use Rattle.rpmb_client.specs.Explained.{block_text, checks_text, counter_text, fields_text, front_text, frame_line, frame_lines, place_text}
 
 -- the parts of a line, the last of which may fail
-pub line_of_parts : {E : Type 0} (r : Result (Unit {0}) E) (start first second third end : Option (List ℕ)) (guest i : ℕ) (frames : List (List ℕ)) (key asked : Option (List ℕ))
+pub line_of_parts : {E : Type 0} (r : Result (Unit {0}) E) (start first second third fourth fifth end : Option (List ℕ)) (guest i : ℕ) (frames : List (List ℕ)) (key asked : Option (List ℕ))
     → Appends start first (place_text guest (i + 1) (length frames)) → Appends first second (front_text (get_or frames i []))
-    → Appends second third (fields_text (get_or frames i []))
-    → OnOk r (Appends third end (checks_text i frames key asked)) → OnOk r (Appends start end (frame_line guest i frames key asked))
+    → Appends second third (counter_text (get_or frames i [])) → Appends third fourth (fields_text (get_or frames i []))
+    → Appends fourth fifth (checks_text i frames key asked)
+    → OnOk r (Appends fifth end (block_text (block_data_of (get_or frames i [])))) → OnOk r (Appends start end (frame_line guest i frames key asked))
 unfolding frame_line
-line_of_parts (Ok u) start first second third end guest i frames key asked place front fields checks =
-    Appends-trans start first end _ _ place (Appends-trans first second end _ _ front (Appends-trans second third end _ _ fields checks))
-line_of_parts (Err e) start first second third end guest i frames key asked place front fields checks = tt
+line_of_parts (Ok u) start first second third fourth fifth end guest i frames key asked place front counter fields checks block =
+    Appends-trans start first end _ _ place (Appends-trans first second end _ _ front (Appends-trans second third end _ _ counter
+    (Appends-trans third fourth end _ _ fields (Appends-trans fourth fifth end _ _ checks block))))
+line_of_parts (Err e) start first second third fourth fifth end guest i frames key asked place front counter fields checks block = tt
 
 pub no_frames_yet : (start : Option (List ℕ)) (guest : ℕ) (frames : List (List ℕ)) (key asked : Option (List ℕ)) → Appends start start (frame_lines guest 0 frames key asked)
 unfolding frame_lines

@@ -65,3 +65,34 @@ read_of key nonce reply =
     ∷ (not (req_resp_of last == resp_data_read), other_response (req_resp_of last))
     ∷ (not (result_of last == res_ok), refused (result_of last))
     ∷ []) (blocks (flat_map block_data_of frames))
+
+-- the reply of a line that gives one, and where a nonce is named, only one whose last frame has it
+abbrev pub if_asked : Bool → Used → Option Used
+if_asked asked used = if asked then Some used else None
+
+abbrev pub is_asked : List ℕ → List ℕ → Bool
+is_asked nonce reply = is_whole reply && is_nonce_right nonce (last_of (frames_of reply))
+
+abbrev pub reply_of : Option (List ℕ) → List ℕ → Option Used
+reply_of None line = used_of line
+reply_of (Some nonce) line = option_and_then (λ used. if_asked (is_asked nonce used.reply) used) (used_of line)
+
+abbrev pub and_then : Option Used → List Used → List Used
+and_then None rest = rest
+and_then (Some used) rest = used ∷ rest
+
+-- the replies of lines, in their order
+unfoldable pub replies_of : Option (List ℕ) → List (List ℕ) → List Used
+replies_of asked [] = []
+replies_of asked (line ∷ lines) = and_then (reply_of asked line) (replies_of asked lines)
+
+-- the only one
+abbrev pub only : List Used → Option Used
+only (used ∷ []) = Some used
+only _ = None
+
+-- the answer among lines: the only reply, or else the only one with the nonce
+unfoldable pub answer_of : List ℕ → List (List ℕ) → Option Used
+answer_of nonce lines =
+    if length (replies_of None lines) == 1 then only (replies_of None lines)
+    else only (replies_of (Some nonce) lines)

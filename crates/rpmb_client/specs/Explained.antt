@@ -1,6 +1,7 @@
 -- What is said of an answer.
-use Rattle.std.specs.Prelude.{ℕ, zero, suc, ◌+◌, ◌==◌, Bool, true, false, if◌then◌else◌, Option, Some, None, List, [], ◌∷◌, ◌++◌, codes, get_or, length, replicate, slice_range}
+use Rattle.std.specs.Prelude.{ℕ, zero, suc, ◌+◌, ◌==◌, ◌&&◌, ◌||◌, not, nat_le, nat_lt, Bool, true, false, if◌then◌else◌, Option, Some, None, List, [], ◌∷◌, ◌++◌, codes, get_or, length, replicate, slice_range}
 use Rattle.std.specs.Fmt.{decimal}
+use Rattle.std.specs.List.{list_all, list_any, position_or_len}
 use Rattle.std.specs.Str.{bytes_eq}
 use Rattle.hex.specs.Hex.{encode_lower}
 use Rattle.rpmb_frame.specs.Codes.{resp_program_key, resp_get_counter, resp_data_write, resp_data_read, res_ok, res_general_failure, res_auth_failure, res_count_failure, res_addr_failure, res_write_failure, res_no_auth_key, res_write_counter_expired}
@@ -39,13 +40,36 @@ two_bytes at frame = encode_lower (slice_range frame at (at + 2))
 abbrev pub is_zeros : List ℕ → ℕ → Bool
 is_zeros bytes n = bytes_eq bytes (replicate n 0)
 
--- only two responses repeat a nonce
+-- only two responses repeat a nonce, and zeros stand in the others
+abbrev pub repeats_nonce : ℕ → Bool
+repeats_nonce kind = kind == resp_get_counter || kind == resp_data_read
+
+unfoldable pub lacks_nonce : List ℕ → Bool
+lacks_nonce frame = is_zeros (nonce_of frame) 16 && not (repeats_nonce (req_resp_of frame))
+
 abbrev pub nonce_text : Option (List ℕ) → List ℕ → List ℕ
 nonce_text None frame = encode_lower (nonce_of frame)
 nonce_text (Some asked) frame = first_row (
     (is_nonce_right asked frame, codes "right")
-    ∷ (is_zeros (nonce_of frame) 16, codes "zeros")
+    ∷ (lacks_nonce frame, codes "zeros")
     ∷ []) (codes "wrong")
+
+-- whether a frame is told to have a wrong nonce, and a reply a wrong MAC or nonce
+abbrev pub is_nonce_wrong : List ℕ → List ℕ → Bool
+is_nonce_wrong asked frame = not (is_nonce_right asked frame) && not (lacks_nonce frame)
+
+abbrev pub has_wrong_nonce : Option (List ℕ) → List (List ℕ) → Bool
+has_wrong_nonce None frames = false
+has_wrong_nonce (Some asked) frames = list_any (is_nonce_wrong asked) frames
+
+abbrev pub has_wrong_mac : Option (List ℕ) → List (List ℕ) → Bool
+has_wrong_mac None frames = false
+has_wrong_mac (Some key) frames = not (is_mac_right key frames)
+
+unfoldable pub is_wrong : List ℕ → Option (List ℕ) → Option (List ℕ) → Bool
+is_wrong reply key asked =
+    let frames = frames_of reply in
+    is_whole reply && (has_wrong_mac key frames || has_wrong_nonce asked frames)
 
 -- the last frame has the MAC of all of them; the others have zeros there
 abbrev pub mac_text : Bool → Option (List ℕ) → List (List ℕ) → List ℕ → List ℕ
@@ -74,22 +98,51 @@ front_text frame =
     kind_text (req_resp_of frame) ++ codes " 0x" ++ two_bytes 510 frame
     ++ codes ", result " ++ result_text (result_of frame) ++ codes " 0x" ++ two_bytes 508 frame
 
+-- the reply to a read carries no write counter, and neither does one without a type
+abbrev pub has_counter : ℕ → Bool
+has_counter kind = not (kind == resp_data_read) && not (kind == 0)
+
+unfoldable pub counter_text : List ℕ → List ℕ
+counter_text frame =
+    if has_counter (req_resp_of frame) then codes ", counter " ++ decimal (write_counter_of frame) else []
+
 unfoldable pub fields_text : List ℕ → List ℕ
 fields_text frame =
-    codes ", counter " ++ decimal (write_counter_of frame) ++ codes ", address " ++ decimal (address_of frame)
-    ++ codes ", blocks " ++ decimal (block_count_of frame)
+    codes ", address " ++ decimal (address_of frame) ++ codes ", blocks " ++ decimal (block_count_of frame)
+
+-- printable ASCII, from a space to a tilde
+abbrev pub is_printable : ℕ → Bool
+is_printable byte = nat_le 32 byte && nat_le byte 126
+
+-- how many bytes stand before the first that isn't printable
+abbrev pub printable_length : List ℕ → ℕ
+printable_length bytes = position_or_len (λ b. not (is_printable b)) bytes
+
+-- a text: printable bytes, at least one, and behind them zeros alone
+unfoldable pub is_text : List ℕ → Bool
+is_text bytes =
+    let count = printable_length bytes in
+    nat_lt 0 count && list_all (λ b. b == 0) (slice_range bytes count (length bytes))
+
+-- the text of a block that is one stands at the end of the line, so that it is no word of ours
+unfoldable pub block_text : List ℕ → List ℕ
+block_text bytes =
+    if is_text bytes
+    then codes ", text \"" ++ (slice_range bytes 0 (printable_length bytes) ++ (34 ∷ 10 ∷ []))
+    else 10 ∷ []
 
 unfoldable pub checks_text : ℕ → List (List ℕ) → Option (List ℕ) → Option (List ℕ) → List ℕ
 checks_text i frames key asked =
     let frame = get_or frames i [] in
     codes ", nonce " ++ nonce_text asked frame ++ codes ", MAC " ++ mac_text (i + 1 == length frames) key frames frame
-    ++ data_name frame ++ data_digits frame ++ stuff_text frame ++ 10 ∷ []
+    ++ data_name frame ++ data_digits frame ++ stuff_text frame
 
 -- the line of frame i, counted from 0, under a key and a nonce where they are given
 unfoldable pub frame_line : ℕ → ℕ → List (List ℕ) → Option (List ℕ) → Option (List ℕ) → List ℕ
 frame_line guest i frames key asked =
     let frame = get_or frames i [] in
-    place_text guest (i + 1) (length frames) ++ (front_text frame ++ (fields_text frame ++ checks_text i frames key asked))
+    place_text guest (i + 1) (length frames) ++ (front_text frame ++ (counter_text frame ++ (fields_text frame
+    ++ (checks_text i frames key asked ++ block_text (block_data_of frame)))))
 
 -- the lines of the first i frames
 unfoldable pub frame_lines : ℕ → ℕ → List (List ℕ) → Option (List ℕ) → Option (List ℕ) → List ℕ

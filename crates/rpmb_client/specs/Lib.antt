@@ -6,3 +6,5 @@ pub mod Seen
 pub mod Lines
 pub mod Laws
 pub mod Values
+pub mod Blocks
+pub mod Keys

@@ -1,8 +1,11 @@
 -- The values that the words of a client's options say.
-use Rattle.std.specs.Prelude.{ℕ, ◌==◌, nat_le, if◌then◌else◌, List, length, Option, Some, None, option_and_then}
+use Rattle.std.specs.Prelude.{ℕ, ◌≡◌, ◌≢◌, ◌-◌, ◌==◌, ⊤, nat_le, not, if◌then◌else◌, List, [], ◌∷◌, length, slice_index, slice_range, Option, Some, None, option_and_then, Ok, Err}
 use Rattle.std.specs.Result.{result_ok}
 use Rattle.hex.specs.Hex.{decode_of}
+use Rattle.rpmb_frame.specs.Table.{first_row}
 use Rattle.script.specs.Words.{number_of}
+use Rattle.rpmb_client.specs.declared.values.ValueFault.{ValueFault}
+use Rattle.rpmb_client.specs.declared.values.ValueFault.TheVariants as fault
 
 -- a number of at most `most`
 abbrev pub at_most : ℕ → Option ℕ → Option ℕ
@@ -23,3 +26,23 @@ sized_said n bytes = if length bytes == n then Some bytes else None
 -- just n bytes in hex digits
 abbrev pub array_said : ℕ → List ℕ → Option (List ℕ)
 array_said n word = option_and_then (sized_said n) (bytes_said word)
+
+-- why digits say no bytes, or not just n
+abbrev pub IsWhyNot : ℕ → List ℕ → ValueFault → Type 0
+IsWhyNot n digits fault.NoMemory = ⊤
+IsWhyNot n digits (fault.BadHex why) = decode_of digits ≡ Err why
+IsWhyNot n digits (fault.BadLength count) =
+    (bytes : List ℕ) × (decode_of digits ≡ Ok bytes) × (length bytes ≡ count) × (count ≢ n)
+
+-- how many bytes the end of a file's line takes: a line feed, or a carriage return and one, or none
+unfoldable pub end_length : List ℕ → ℕ
+end_length content = first_row (
+    (length content == 0, 0)
+    ∷ (not (slice_index content (length content - 1) == 10), 0)
+    ∷ (length content == 1, 1)
+    ∷ (not (slice_index content (length content - 2) == 13), 1)
+    ∷ []) 2
+
+-- the digits in a file, without the end of their line
+abbrev pub digits_of : List ℕ → List ℕ
+digits_of content = slice_range content 0 (length content - end_length content)

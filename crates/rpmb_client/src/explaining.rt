@@ -1,15 +1,17 @@
 //! What is said of a reply, a line for each of its frames.
 ghost use Rattle.std.specs.Prelude.{◌≡◌, ◌<◌, ◌≤◌, ◌+◌, ◌++◌, ◌∷◌, ◌==◌, IfOk, OnOk, [], get_or, length, string_bytes};
 ghost use Rattle.std.specs.Io.KnownBytes.{Appends};
-ghost use Rattle.rpmb_client.specs.Explained.{checks_text, data_digits, data_name, fields_text, front_text, frame_line, frame_lines, kind_text, mac_text, no_frames_line, nonce_text, place_text, reply_lines, result_text, stuff_text, two_bytes};
+ghost use Rattle.rpmb_client.specs.Explained.{checks_text, data_digits, data_name, counter_text, fields_text, front_text, frame_line, frame_lines, kind_text, lacks_nonce, mac_text, no_frames_line, nonce_text, place_text, reply_lines, result_text, stuff_text, two_bytes};
 
 use crate::answer::{Used, has_nonce, has_right_mac, is_whole};
 use crate::fault::ClientFault;
+use crate::texts::write_text;
 use rpmb_frame::Frame;
 use std::alloc::{AllocError, Global};
 use std::io::Write;
 
-fn kind_text(kind: u16) -> &'static str
+/// A type in the standard's words.
+pub fn kind_text(kind: u16) -> &'static str
     ensures { result.now ≡ kind_text kind }
 {
     match kind {
@@ -47,6 +49,16 @@ fn two_bytes(alloc: Global, bytes: &[u8; 512], at: usize) -> Result<String, Allo
     hex::encode(alloc, &bytes[at..at + 2])
 }
 
+/// Whether a frame has zeros for a nonce, and is of a response that repeats none.
+#[tactic(auto, unfolding(crate::specs::Explained::lacks_nonce))]
+pub(crate) fn lacks_nonce(bytes: &[u8; 512]) -> bool
+    ensures { result ≡ lacks_nonce bytes.now }
+{
+    let frame = Frame::from_bytes(bytes);
+    let kind = frame.req_resp();
+    frame.nonce() == [0; 16] && !(kind == 0x0200 || kind == 0x0400)
+}
+
 fn nonce_text(
     alloc: Global,
     nonce: Option<[u8; 16]>,
@@ -60,7 +72,7 @@ fn nonce_text(
     if has_nonce(&nonce, bytes) {
         return String::from_str(alloc, "right");
     }
-    if Frame::from_bytes(bytes).nonce() == [0; 16] {
+    if lacks_nonce(bytes) {
         return String::from_str(alloc, "zeros");
     }
     String::from_str(alloc, "wrong")
@@ -151,24 +163,38 @@ fn write_front<W: Write>(alloc: Global, bytes: &[u8; 512], out: &mut W) -> Resul
     }
 }
 
-/// Writes the numbers of a frame.
+/// Writes the write counter of a frame whose type carries one.
+#[tactic(auto, unfolding(crate::specs::Explained::counter_text))]
+fn write_counter<W: Write>(bytes: &[u8; 512], out: &mut W) -> Result<(), ClientFault>
+    ensures { OnOk result (Appends (W.contents out.old) (W.contents out.new)
+        (counter_text bytes.now)) }
+{
+    let frame = Frame::from_bytes(bytes);
+    let counter = frame.write_counter();
+    match frame.req_resp() {
+        0x0400 | 0x0000 => Ok(()),
+        _ => match write!(out, ", counter {counter}") {
+            Ok(()) => Ok(()),
+            Err(_) => Err(ClientFault::FileFault),
+        },
+    }
+}
+
+/// Writes the numbers that each frame has.
 #[tactic(auto, unfolding(crate::specs::Explained::fields_text))]
 fn write_fields<W: Write>(bytes: &[u8; 512], out: &mut W) -> Result<(), ClientFault>
     ensures { OnOk result (Appends (W.contents out.old) (W.contents out.new) (fields_text bytes.now)) }
 {
     let frame = Frame::from_bytes(bytes);
-    let (counter, address) = (frame.write_counter(), frame.address());
+    let address = frame.address();
     let blocks = frame.block_count();
-    match write!(
-        out,
-        ", counter {counter}, address {address}, blocks {blocks}"
-    ) {
+    match write!(out, ", address {address}, blocks {blocks}") {
         Ok(()) => Ok(()),
         Err(_) => Err(ClientFault::FileFault),
     }
 }
 
-/// Writes what is to be judged of frame i, and ends the line.
+/// Writes what is to be judged of frame i, and its block.
 #[tactic(auto, unfolding(crate::specs::Explained::checks_text))]
 fn write_checks<W: Write>(
     alloc: Global,
@@ -191,7 +217,7 @@ fn write_checks<W: Write>(
     let mac = mac_text(i + 1 == frames.len(), key, frames, bytes);
     let data = data_name(bytes);
     let stuff = stuff_text(bytes);
-    match writeln!(out, ", nonce {nonce}, MAC {mac}{data}{digits}{stuff}") {
+    match write!(out, ", nonce {nonce}, MAC {mac}{data}{digits}{stuff}") {
         Ok(()) => Ok(()),
         Err(_) => Err(ClientFault::FileFault),
     }
@@ -218,11 +244,19 @@ fn write_frame<W: Write>(
         Ok(()) => {}
         Err(fault) => return Err(fault),
     }
+    match write_counter(&frames[i], out) {
+        Ok(()) => {}
+        Err(fault) => return Err(fault),
+    }
     match write_fields(&frames[i], out) {
         Ok(()) => {}
         Err(fault) => return Err(fault),
     }
-    write_checks(alloc, i, frames, key, nonce, out)
+    match write_checks(alloc, i, frames, key, nonce, out) {
+        Ok(()) => {}
+        Err(fault) => return Err(fault),
+    }
+    write_text(&Frame::from_bytes(&frames[i]).block_data(), out)
 }
 
 /// Writes the lines of all frames.

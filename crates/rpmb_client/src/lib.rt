@@ -2,20 +2,29 @@
 #![tactic(auto)]
 
 mod answer;
+mod blocks;
 mod chain;
+mod choosing;
 mod explaining;
 mod fault;
+mod judging;
+mod keys;
 pub mod laws;
 mod lines;
 mod making;
+mod texts;
 mod values;
 
 pub use answer::{ReadAnswer, Used, has_nonce, has_right_mac, read_data, read_used};
+pub use blocks::{cut, pad};
 pub use chain::write_chain;
-pub use explaining::{explain, result_text};
+pub use choosing::{Choice, find_answer};
+pub use explaining::{explain, kind_text, result_text};
 pub use fault::ClientFault;
+pub use judging::is_wrong;
+pub use keys::{GuestKey, Keys, key_at};
 pub use lines::{
     Writer, write_all, write_program_key, write_read, write_read_counter, write_result,
 };
 pub use making::{ask_for_result, join, program_key, read_blocks, read_counter, write_blocks};
-pub use values::{ValueFault, array_of, bytes_of, number_of, sized};
+pub use values::{ValueFault, array_of, bytes_of, digits_of, number_of, sized};

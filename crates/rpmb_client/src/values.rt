@@ -1,24 +1,27 @@
 //! The values that the words of a client's options say.
-ghost use Rattle.std.specs.Prelude.{◌≡◌, ◌⊎◌, ◌≤◌, IfErr, IfOk, IfSome, None, Some};
-ghost use Rattle.rpmb_client.specs.Values.{array_said, bytes_said, number_said, sized_said};
+ghost use Rattle.std.specs.Prelude.{◌≡◌, ◌⊎◌, ◌≤◌, Err, IfErr, IfOk, IfSome, Some, length};
+ghost use Rattle.hex.specs.Hex.{decode_of};
+ghost use Rattle.hex.specs.declared.error.FromHexError.{FromHexError};
+ghost use Rattle.rpmb_client.specs.Values.{IsWhyNot, array_said, bytes_said, digits_of};
+ghost use Rattle.rpmb_client.specs.Values.{end_length, number_said, sized_said};
 
 use hex::FromHexError;
 use script::read_number;
 use std::alloc::Global;
 use thiserror::Error;
 
-/// Why a word says no bytes, or not as many as are wanted.
-#[derive(Clone, Copy, Debug, PartialEq, Eq, Error)]
+/// Why digits say no bytes, or not as many as are wanted.
+#[derive(Clone, Copy, Debug, Error)]
 pub enum ValueFault {
     /// Memory was refused.
     #[error("NoMemory")]
     NoMemory,
-    /// It isn't two hex digits for each byte.
+    /// They aren't two hex digits for each byte.
     #[error("BadHex")]
-    BadHex,
-    /// It says another number of bytes.
+    BadHex(FromHexError),
+    /// They say this many bytes, and another number was wanted.
     #[error("BadLength")]
-    BadLength,
+    BadLength(usize),
 }
 
 /// The number of at most `most` that a word of decimal digits writes; leading zeros are allowed.
@@ -32,15 +35,16 @@ pub fn number_of(word: &str, most: u64) -> Option<u64>
     }
 }
 
-/// The bytes that a word writes in hex digits of either case, two for each byte.
-pub fn bytes_of(alloc: Global, word: &str) -> Result<Vec<u8>, ValueFault>
-    ensures ok { IfOk result (λ bytes. bytes_said word.now ≡ Some bytes.items) }
-    ensures err { IfErr result (λ fault. (fault ≡ ValueFault.NoMemory) ⊎ (fault ≡ ValueFault.BadHex) × (bytes_said word.now ≡ None)) }
+/// The bytes of hex digits of either case, two for each byte.
+pub fn bytes_of(alloc: Global, digits: &[u8]) -> Result<Vec<u8>, ValueFault>
+    ensures ok { IfOk result (λ bytes. bytes_said digits.now ≡ Some bytes.items) }
+    ensures err { IfErr result (λ fault. (fault ≡ ValueFault.NoMemory)
+        ⊎ ((why : FromHexError) × (fault ≡ ValueFault.BadHex why) × (decode_of digits.now ≡ Err why))) }
 {
-    match hex::decode(alloc, word) {
+    match hex::decode(alloc, digits) {
         Ok(bytes) => Ok(bytes),
         Err(FromHexError::OutOfMemory) => Err(ValueFault::NoMemory),
-        Err(_) => Err(ValueFault::BadHex),
+        Err(why) => Err(ValueFault::BadHex(why)),
     }
 }
 
@@ -56,17 +60,46 @@ pub fn sized<const N: usize>(bytes: &[u8]) -> Option<[u8; N]>
     Some(out)
 }
 
-/// The array that a word writes in hex digits: a key, or a nonce.
-pub fn array_of<const N: usize>(alloc: Global, word: &str) -> Result<[u8; N], ValueFault>
-    ensures ok { IfOk result (λ array. array_said N word.now ≡ Some array) }
-    ensures err { IfErr result (λ fault. (fault ≡ ValueFault.NoMemory) ⊎ (array_said N word.now ≡ None)) }
+/// The array that hex digits write: a key, or a nonce.
+pub fn array_of<const N: usize>(alloc: Global, digits: &[u8]) -> Result<[u8; N], ValueFault>
+    ensures ok { IfOk result (λ array. array_said N digits.now ≡ Some array) }
+    ensures err { IfErr result (IsWhyNot N digits.now) }
 {
-    let bytes = match bytes_of(alloc, word) {
+    let bytes = match bytes_of(alloc, digits) {
         Ok(bytes) => bytes,
         Err(fault) => return Err(fault),
     };
     match sized(bytes.as_slice()) {
         Some(array) => Ok(array),
-        None => Err(ValueFault::BadLength),
+        None => Err(ValueFault::BadLength(bytes.len())),
     }
+}
+
+/// How many bytes the end of a file's line takes.
+#[tactic(auto, unfolding(crate::specs::Values::end_length))]
+fn end_length(content: &[u8]) -> usize
+    ensures said { result ≡ end_length content.now }
+    ensures inside { result ≤ length content.now }
+{
+    let count = content.len();
+    if count == 0 {
+        return 0;
+    }
+    if content[count - 1] != b'\n' {
+        return 0;
+    }
+    if count == 1 {
+        return 1;
+    }
+    if content[count - 2] != b'\r' {
+        return 1;
+    }
+    2
+}
+
+/// The digits in a file, without the end of their line: a line feed, or a carriage return and one.
+pub fn digits_of(content: &[u8]) -> &[u8]
+    ensures { result.now ≡ digits_of content.now }
+{
+    &content[..content.len() - end_length(content)]
 }

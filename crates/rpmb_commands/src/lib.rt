@@ -1,7 +1,11 @@
-//! What `rpmb` does: its words, and the performing of them over any files and input, and two writers.
+//! What `rpmb` does: its words, and the performing of them over any files and lines, and two
+//! writers.
 #![tactic(auto)]
 
+mod checking;
 mod grammar;
+mod help;
+mod keys;
 mod making;
 mod performing;
 mod reading;
@@ -11,6 +15,6 @@ mod telling;
 mod words;
 
 pub use performing::{perform, report};
-pub use refusal::Refusal;
-pub use source::{Source, read_file};
+pub use refusal::{Number, Refusal};
+pub use source::{Source, SourceError, read_file};
 pub use words::{Words, WordsError, read_words};

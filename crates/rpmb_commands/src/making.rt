@@ -2,123 +2,159 @@
 ghost use Rattle.std.specs.Prelude.{◌≤◌, IfOk};
 
 use crate::reading::{bytes, key, nonce, number};
-use crate::refusal::Refusal;
-use crate::source::Source;
+use crate::refusal::{Number, Refusal};
+use crate::source::{Source, content_of};
 use crate::words::Words;
 use rpmb_client::{
-    ClientFault, Writer, write_all, write_program_key, write_read, write_read_counter, write_result,
+    ClientFault, Writer, pad, write_all, write_program_key, write_read, write_read_counter,
+    write_result,
 };
 use std::alloc::Global;
 use std::io::Write;
 
-fn told(made: Result<(), ClientFault>) -> Result<(), Refusal> {
+fn told<'a>(made: Result<(), ClientFault>) -> Result<(), Refusal<'a>> {
     match made {
         Ok(()) => Ok(()),
         Err(fault) => Err(Refusal::of(fault)),
     }
 }
 
-fn guest_of(words: &Words<'_>) -> Result<u16, Refusal> {
-    Ok(number(words.guest, 63, Refusal::BadGuest)? as u16)
+fn guest_of<'a>(words: &Words<'a>) -> Result<u16, Refusal<'a>> {
+    Ok(number(words.guest, 63, Number::Guest)? as u16)
 }
 
 /// Makes the line that programs a key.
-pub fn make_program_key<S: Source, W: Write>(
+pub fn make_program_key<'a, S: Source, W: Write>(
     alloc: Global,
     source: &S,
-    words: &Words<'_>,
+    words: &Words<'a>,
     out: &mut W,
-) -> Result<(), Refusal> {
+) -> Result<(), Refusal<'a>> {
     let guest = guest_of(words)?;
-    let key = key(alloc, source, words.key)?;
+    let key = key(alloc, source, words.key())?;
     told(write_program_key(alloc, guest, &key, out))
 }
 
 /// Makes the line that asks for the write counter.
-pub fn make_read_counter<W: Write>(
+pub fn make_read_counter<'a, W: Write>(
     alloc: Global,
-    words: &Words<'_>,
+    words: &Words<'a>,
     out: &mut W,
-) -> Result<(), Refusal> {
+) -> Result<(), Refusal<'a>> {
     let guest = guest_of(words)?;
     let nonce = nonce(alloc, words.nonce)?;
     told(write_read_counter(alloc, guest, &nonce, out))
 }
 
 /// Makes the line that reads blocks.
-pub fn make_read<W: Write>(alloc: Global, words: &Words<'_>, out: &mut W) -> Result<(), Refusal> {
+pub fn make_read<'a, W: Write>(
+    alloc: Global,
+    words: &Words<'a>,
+    out: &mut W,
+) -> Result<(), Refusal<'a>> {
     let guest = guest_of(words)?;
-    let address = number(words.address, 65535, Refusal::BadAddress)?;
-    let count = number(words.count, 16, Refusal::BadCount)?;
+    let address = number(words.address, 65535, Number::Address)?;
+    let count = number(words.count, 16, Number::Count)?;
     if count == 0 {
-        return Err(Refusal::BadCount);
+        return Err(Refusal::Number(Number::Count, "0"));
     }
     if address + count > 65536 {
-        return Err(Refusal::PastEnd);
+        return Err(Refusal::PastEnd(address + count - 1));
     }
     let nonce = nonce(alloc, words.nonce)?;
     told(write_read(alloc, guest, address as u16, count as u16, &nonce, out))
 }
 
 /// Makes the line that asks for a result.
-pub fn make_result<W: Write>(alloc: Global, words: &Words<'_>, out: &mut W) -> Result<(), Refusal> {
+pub fn make_result<'a, W: Write>(
+    alloc: Global,
+    words: &Words<'a>,
+    out: &mut W,
+) -> Result<(), Refusal<'a>> {
     let guest = guest_of(words)?;
     told(write_result(alloc, guest, out))
 }
 
-/// The blocks that are to be written, one after another.
-fn content<S: Source>(alloc: Global, source: &S, words: &Words<'_>) -> Result<Vec<u8>, Refusal> {
+/// The bytes that are to be written.
+fn content<'a, S: Source>(
+    alloc: Global,
+    source: &S,
+    words: &Words<'a>,
+) -> Result<Vec<u8>, Refusal<'a>> {
     match (words.bytes, words.file) {
         (Some(word), None) => bytes(alloc, word),
-        (None, Some(name)) => source.content(alloc, name),
-        _ => Err(Refusal::NoData),
+        (None, Some(name)) => content_of(alloc, source, name),
+        (Some(_), Some(_)) => Err(Refusal::NoData("both")),
+        (None, None) => Err(Refusal::NoData("neither")),
+    }
+}
+
+/// The blocks that are to be written, one after another: with `--pad` zeros fill the last one.
+fn blocks_of<'a, S: Source>(
+    alloc: Global,
+    source: &S,
+    words: &Words<'a>,
+) -> Result<Vec<u8>, Refusal<'a>> {
+    let content = content(alloc, source, words)?;
+    if !words.pad {
+        return Ok(content);
+    }
+    match pad(content) {
+        Ok(blocks) => Ok(blocks),
+        Err(_) => Err(Refusal::NoMemory),
     }
 }
 
 /// The most blocks of one write.
-fn most_of(words: &Words<'_>) -> Result<u16, Refusal>
+fn most_of<'a>(words: &Words<'a>) -> Result<u16, Refusal<'a>>
     ensures { IfOk result (λ most. (1 ≤ most) × (most ≤ 16)) }
 {
     if words.most.is_none() {
         return Ok(16);
     }
-    let most = number(words.most, 16, Refusal::BadMaxBlocks)?;
+    let most = number(words.most, 16, Number::MaxBlocks)?;
     if most == 0 {
-        return Err(Refusal::BadMaxBlocks);
+        return Err(Refusal::Number(Number::MaxBlocks, "0"));
     }
     Ok(most as u16)
 }
 
-fn writer_of<S: Source>(alloc: Global, source: &S, words: &Words<'_>) -> Result<Writer, Refusal> {
+fn writer_of<'a, S: Source>(
+    alloc: Global,
+    source: &S,
+    words: &Words<'a>,
+) -> Result<Writer, Refusal<'a>> {
     Ok(Writer {
         guest: guest_of(words)?,
-        key: key(alloc, source, words.key)?,
-        counter: number(words.counter, 4294967295, Refusal::BadCounter)? as u32,
-        address: number(words.address, 65535, Refusal::BadAddress)? as u16,
+        key: key(alloc, source, words.key())?,
+        counter: number(words.counter, 4294967295, Number::Counter)? as u32,
+        address: number(words.address, 65535, Number::Address)? as u16,
         asks: !words.no_result,
     })
 }
 
 /// Makes the lines that write blocks.
-pub fn make_write<S: Source, W: Write>(
+pub fn make_write<'a, S: Source, W: Write>(
     alloc: Global,
     source: &S,
-    words: &Words<'_>,
+    words: &Words<'a>,
     out: &mut W,
-) -> Result<(), Refusal> {
+) -> Result<(), Refusal<'a>> {
     let writer = writer_of(alloc, source, words)?;
     let most = most_of(words)?;
-    let content = content(alloc, source, words)?;
+    let content = blocks_of(alloc, source, words)?;
     let (blocks, rest) = content.as_slice().as_chunks::<256>();
     if blocks.is_empty() || !rest.is_empty() {
-        return Err(Refusal::BadData);
+        return Err(Refusal::BadData(content.len()));
     }
     if blocks.len() > 65536 - usize::from(writer.address) {
-        return Err(Refusal::PastEnd);
+        let last = u64::from(writer.address).saturating_add(blocks.len() as u64 - 1);
+        return Err(Refusal::PastEnd(last));
     }
     let count = (blocks.len() + usize::from(most) - 1) / usize::from(most);
-    if u64::from(writer.counter) + count as u64 > 4294967296 {
-        return Err(Refusal::CounterEnd);
+    let end = u64::from(writer.counter) + count as u64;
+    if end > 4294967296 {
+        return Err(Refusal::CounterEnd(end - 1));
     }
     told(write_all(alloc, writer, most, blocks, out))
 }

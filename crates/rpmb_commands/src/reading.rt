@@ -1,18 +1,18 @@
 //! The values of options, or why a command is refused without them.
-ghost use Rattle.std.specs.Prelude.{◌≡◌, ◌⊎◌, ◌≤◌, IfErr, IfOk, None, Some};
+ghost use Rattle.std.specs.Prelude.{◌≡◌, ◌≤◌, IfErr, IfOk, Some};
 ghost use Rattle.std.specs.Option.{option_copied};
-ghost use Rattle.rpmb_client.specs.Values.{bytes_said};
-ghost use Rattle.rpmb_commands.specs.Said.{nonce_said, number_said};
+ghost use Rattle.rpmb_client.specs.Values.{bytes_said, digits_of};
+ghost use Rattle.rpmb_commands.specs.Said.{IsWhyNoBytes, IsWhyNoKey, IsWhyNoNonce, hex_key, nonce_said};
+ghost use Rattle.rpmb_commands.specs.Said.{number_said, refusal_of_digits, refusal_of_file, refusal_of_nonce};
 
-use crate::refusal::Refusal;
-use crate::source::Source;
-use hex::FromHexError;
-use rpmb_client::{ValueFault, array_of, bytes_of, number_of, sized};
+use crate::refusal::{Number, Refusal};
+use crate::source::{Source, content_of};
+use rpmb_client::{ValueFault, array_of, bytes_of, digits_of, number_of, sized};
 use std::alloc::Global;
 
 /// A number of at most `most`, or the refusal.
-pub fn number(word: Option<&str>, most: u64, refusal: Refusal) -> Result<u64, Refusal>
-    ensures said { result ≡ number_said (option_copied word.entry) most refusal }
+pub fn number<'a>(word: Option<&'a str>, most: u64, what: Number) -> Result<u64, Refusal<'a>>
+    ensures said { result ≡ number_said word.entry most what }
     ensures bound { IfOk result (λ number. number ≤ most) }
 {
     let Some(word) = word else {
@@ -20,78 +20,118 @@ pub fn number(word: Option<&str>, most: u64, refusal: Refusal) -> Result<u64, Re
     };
     match number_of(word, most) {
         Some(number) => Ok(number),
-        None => Err(refusal),
-    }
-}
-
-/// The refusal of a word that says no array: for its length, the one that is given.
-fn refused(fault: ValueFault, length: Refusal) -> Refusal {
-    match fault {
-        ValueFault::NoMemory => Refusal::NoMemory,
-        ValueFault::BadHex => Refusal::BadHex,
-        ValueFault::BadLength => length,
+        None => Err(Refusal::Number(what, word)),
     }
 }
 
 /// The bytes of hex digits.
-pub fn bytes(alloc: Global, word: &str) -> Result<Vec<u8>, Refusal>
+pub fn bytes<'a>(alloc: Global, word: &str) -> Result<Vec<u8>, Refusal<'a>>
     ensures ok { IfOk result (λ bytes. bytes_said word.now ≡ Some bytes.items) }
-    ensures err { IfErr result (λ refusal. (refusal ≡ Refusal.NoMemory) ⊎ (refusal ≡ Refusal.BadHex) × (bytes_said word.now ≡ None)) }
+    ensures err { IfErr result (IsWhyNoBytes word.now) }
 {
-    match bytes_of(alloc, word) {
+    match bytes_of(alloc, word.as_bytes()) {
         Ok(bytes) => Ok(bytes),
-        Err(ValueFault::NoMemory) => Err(Refusal::NoMemory),
-        Err(_) => Err(Refusal::BadHex),
+        Err(ValueFault::BadHex(why)) => Err(Refusal::BadHex(why)),
+        Err(_) => Err(Refusal::NoMemory),
+    }
+}
+
+/// The refusal of a nonce's digits.
+fn refused_nonce<'a>(fault: ValueFault) -> Refusal<'a>
+    ensures { result ≡ refusal_of_nonce fault }
+{
+    match fault {
+        ValueFault::NoMemory => Refusal::NoMemory,
+        ValueFault::BadHex(why) => Refusal::BadHex(why),
+        ValueFault::BadLength(count) => Refusal::BadNonce(count),
     }
 }
 
 /// The nonce that a word writes: 16 bytes in hex digits.
-pub fn nonce(alloc: Global, word: Option<&str>) -> Result<[u8; 16], Refusal>
-    ensures { IfOk result (λ nonce. nonce_said (option_copied word.entry) ≡ Some nonce) }
+pub fn nonce<'a>(alloc: Global, word: Option<&'a str>) -> Result<[u8; 16], Refusal<'a>>
+    ensures ok { IfOk result (λ nonce. nonce_said (option_copied word.entry) ≡ Some nonce) }
+    ensures err { IfErr result (IsWhyNoNonce (option_copied word.entry)) }
 {
     let Some(word) = word else {
         return Err(Refusal::Incomplete);
     };
-    match array_of(alloc, word) {
+    match array_of(alloc, word.as_bytes()) {
         Ok(nonce) => Ok(nonce),
-        Err(fault) => Err(refused(fault, Refusal::BadNonce)),
+        Err(fault) => Err(refused_nonce(fault)),
     }
 }
 
-/// The digits of a file, without the end of their line.
-fn digits_of(content: &[u8]) -> &[u8] {
-    match content {
-        [digits @ .., b'\r', b'\n'] => digits,
-        [digits @ .., b'\n'] => digits,
-        digits => digits,
+/// The refusal of a key's digits.
+fn refused<'a>(fault: ValueFault) -> Refusal<'a>
+    ensures { result ≡ refusal_of_digits fault }
+{
+    match fault {
+        ValueFault::NoMemory => Refusal::NoMemory,
+        ValueFault::BadHex(why) => Refusal::BadHex(why),
+        ValueFault::BadLength(count) => Refusal::BadKey(count),
     }
 }
 
-/// The key in a file: its 32 bytes, or their 64 hex digits, behind which a line may end.
-fn key_of_file(alloc: Global, content: &[u8]) -> Result<[u8; 32], Refusal> {
-    if let Some(key) = sized(content) {
-        return Ok(key);
-    }
-    match hex::decode(alloc, digits_of(content)) {
-        Ok(bytes) => sized(bytes.as_slice()).ok_or(Refusal::BadKey),
-        Err(FromHexError::OutOfMemory) => Err(Refusal::NoMemory),
-        Err(_) => Err(Refusal::BadHex),
+/// The refusal of a file's digits, which names it.
+fn refused_file<'a>(file: &'a str, fault: ValueFault) -> Refusal<'a>
+    ensures { result ≡ refusal_of_file file.entry fault }
+{
+    match fault {
+        ValueFault::NoMemory => Refusal::NoMemory,
+        ValueFault::BadHex(why) => Refusal::BadHexFile(file, why),
+        ValueFault::BadLength(count) => Refusal::BadKeyFile(file, count),
     }
 }
 
-/// The key that a word writes in hex digits, or names as `@FILE`.
-pub fn key<S: Source>(alloc: Global, source: &S, word: Option<&str>) -> Result<[u8; 32], Refusal> {
+/// The key in a file: its 64 hex digits, behind which a line may end. A file of 32 bytes is
+/// refused.
+pub fn key_in_file<'a>(
+    alloc: Global,
+    file: &'a str,
+    content: &[u8],
+) -> Result<[u8; 32], Refusal<'a>>
+    ensures ok { IfOk result (λ key. hex_key content.now ≡ Some key) }
+    ensures err { IfErr result (IsWhyNoKey file.entry content.now) }
+{
+    if content.len() == 32 {
+        return Err(Refusal::RawKey(file));
+    }
+    match array_of(alloc, digits_of(content)) {
+        Ok(key) => Ok(key),
+        Err(fault) => Err(refused_file(file, fault)),
+    }
+}
+
+fn key_named<'a, S: Source>(
+    alloc: Global,
+    source: &S,
+    name: &'a str,
+) -> Result<[u8; 32], Refusal<'a>> {
+    if let Some(file) = name.strip_prefix("raw:") {
+        let content = content_of(alloc, source, file)?;
+        return match sized(content.as_slice()) {
+            Some(key) => Ok(key),
+            None => Err(Refusal::BadRawKey(file, content.len())),
+        };
+    }
+    let content = content_of(alloc, source, name)?;
+    key_in_file(alloc, name, content.as_slice())
+}
+
+/// The key that a word writes in hex digits, or names as `@FILE` or `@raw:FILE`.
+pub fn key<'a, S: Source>(
+    alloc: Global,
+    source: &S,
+    word: Option<&'a str>,
+) -> Result<[u8; 32], Refusal<'a>> {
     let Some(word) = word else {
         return Err(Refusal::Incomplete);
     };
     match word.strip_prefix('@') {
-        Some(name) => {
-            let content = source.content(alloc, name)?;
-            key_of_file(alloc, content.as_slice())
-        }
-        None => match array_of(alloc, word) {
+        Some(name) => key_named(alloc, source, name),
+        None => match array_of(alloc, word.as_bytes()) {
             Ok(key) => Ok(key),
-            Err(fault) => Err(refused(fault, Refusal::BadKey)),
+            Err(fault) => Err(refused(fault)),
         },
     }
 }

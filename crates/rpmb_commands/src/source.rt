@@ -4,23 +4,58 @@ use std::alloc::Global;
 use std::rt::Files;
 use std::{fs, io};
 
+/// Why a file isn't read.
+#[derive(Clone, Copy, Debug)]
+pub enum SourceError {
+    /// It can't be read.
+    NoFile,
+    /// Memory was refused for its bytes.
+    NoMemory,
+}
+
 /// Gives what files hold, by the names that words give them.
 pub trait Source {
     /// What a file holds.
     ///
     /// # Errors
     ///
-    /// `FileFault` where it can't be read, `NoMemory` where memory is refused for its bytes.
-    fn content(&self, alloc: Global, name: &str) -> Result<Vec<u8>, Refusal>;
+    /// `NoFile` where it can't be read, `NoMemory` where memory is refused for its bytes.
+    fn content(&self, alloc: Global, name: &str) -> Result<Vec<u8>, SourceError>;
 }
 
 /// What the file of a path holds. Refused as by `Source::content`.
-pub fn read_file<R: Files + AllocGlobal>(rt: &R, path: &str) -> Result<Vec<u8>, Refusal> {
+pub fn read_file<R: Files + AllocGlobal>(rt: &R, path: &str) -> Result<Vec<u8>, SourceError> {
     match fs::read(rt, path) {
         Ok(bytes) => Ok(bytes),
         Err(error) => match error.kind() {
-            io::ErrorKind::OutOfMemory => Err(Refusal::NoMemory),
-            _ => Err(Refusal::FileFault),
+            io::ErrorKind::OutOfMemory => Err(SourceError::NoMemory),
+            _ => Err(SourceError::NoFile),
         },
+    }
+}
+
+/// What a file holds, or the refusal that names it.
+pub(crate) fn content_of<'a, S: Source>(
+    alloc: Global,
+    source: &S,
+    name: &'a str,
+) -> Result<Vec<u8>, Refusal<'a>> {
+    match source.content(alloc, name) {
+        Ok(bytes) => Ok(bytes),
+        Err(SourceError::NoFile) => Err(Refusal::NoFile(name)),
+        Err(SourceError::NoMemory) => Err(Refusal::NoMemory),
+    }
+}
+
+/// The text of a file, or the refusal that names it.
+pub(crate) fn text_of<'a, S: Source>(
+    alloc: Global,
+    source: &S,
+    name: &'a str,
+) -> Result<String, Refusal<'a>> {
+    let bytes = content_of(alloc, source, name)?;
+    match String::from_utf8(bytes) {
+        Ok(text) => Ok(text),
+        Err(_) => Err(Refusal::NoText(name)),
     }
 }

@@ -2,15 +2,15 @@
 use crate::grammar::program;
 use clap::ArgMatches;
 use clap::error::ErrorKind;
-use std::alloc::Global;
+use std::alloc::{AllocError, Global};
 use std::convert::AsStr;
 
 /// A command's name, and the values of its options as they were written.
-#[derive(Clone, Copy, Debug)]
+#[derive(Debug, Drop)]
 pub struct Words<'a> {
     pub command: &'a str,
     pub guest: Option<&'a str>,
-    pub key: Option<&'a str>,
+    pub keys: Vec<&'a str>,
     pub nonce: Option<&'a str>,
     pub counter: Option<&'a str>,
     pub address: Option<&'a str>,
@@ -18,13 +18,20 @@ pub struct Words<'a> {
     pub bytes: Option<&'a str>,
     pub file: Option<&'a str>,
     pub most: Option<&'a str>,
+    pub length: Option<&'a str>,
+    pub board: Option<&'a str>,
+    pub script: Option<&'a str>,
     pub no_result: bool,
+    pub pad: bool,
 }
 
 impl<'a> Words<'a> {
-    /// Whether the command reads the lines of `rpmbd run`.
-    pub fn reads_lines(&self) -> bool {
-        self.command == "explain" || self.command == "read-data"
+    /// The key of a command that has one.
+    pub fn key(&self) -> Option<&'a str> {
+        match self.keys.as_slice() {
+            [key, ..] => Some(*key),
+            [] => None,
+        }
     }
 }
 
@@ -38,11 +45,26 @@ pub enum WordsError {
     NoMemory,
 }
 
-fn found<'a>(command: &'a str, matches: &ArgMatches<'a>) -> Words<'a> {
-    Words {
+/// The values of the option `--key`, in their order.
+fn keys<'a>(alloc: Global, matches: &ArgMatches<'a>) -> Result<Vec<&'a str>, AllocError> {
+    let mut keys = Vec::new(alloc);
+    if let Some(words) = matches.get_strs("key") {
+        for word in words {
+            keys.push(*word)?;
+        }
+    }
+    Ok(keys)
+}
+
+fn found<'a>(
+    alloc: Global,
+    command: &'a str,
+    matches: &ArgMatches<'a>,
+) -> Result<Words<'a>, AllocError> {
+    Ok(Words {
         command,
         guest: matches.get_str("guest"),
-        key: matches.get_str("key"),
+        keys: keys(alloc, matches)?,
         nonce: matches.get_str("nonce"),
         counter: matches.get_str("counter"),
         address: matches.get_str("address"),
@@ -50,8 +72,12 @@ fn found<'a>(command: &'a str, matches: &ArgMatches<'a>) -> Words<'a> {
         bytes: matches.get_str("data"),
         file: matches.get_str("file"),
         most: matches.get_str("max-blocks"),
+        length: matches.get_str("length"),
+        board: matches.get_str("BOARD"),
+        script: matches.get_str("SCRIPT"),
         no_result: matches.get_flag("no-result"),
-    }
+        pad: matches.get_flag("pad"),
+    })
 }
 
 fn refused(error: clap::Error) -> WordsError {
@@ -73,7 +99,10 @@ pub fn read_words<'a, S: AsStr>(alloc: Global, words: &'a [S]) -> Result<Words<'
     };
     match command.try_get_matches_from(words) {
         Ok(matches) => match matches.subcommand() {
-            Some((name, inner)) => Ok(found(name, inner)),
+            Some((name, inner)) => match found(alloc, name, inner) {
+                Ok(words) => Ok(words),
+                Err(_) => Err(WordsError::NoMemory),
+            },
             None => Err(WordsError::NoMemory),
         },
         Err(error) => Err(refused(error)),

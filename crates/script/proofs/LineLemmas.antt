@@ -40,3 +40,15 @@ first_none_next reads lines given line read done before lt is bad =
     ∙ length-map given (λ t. t.now) in
     first_none_at reads lines (length given) line read (done ∙ ap (map reads) before) lt (ap reads (sym is) ∙ bad)
     ∙ ap (λ n. Some (n + 1)) (sym as_many)
+
+-- where each line was read, none is bad
+pub all_read : (reads : List ℕ → Option Said) (lines : List (List ℕ)) (read : List Line)
+    → map (λ x. Some (said x)) read ≡ map reads lines → first_none reads lines ≡ None
+unfolding first_none
+all_read reads [] read done = refl
+all_read reads (l ∷ ls) [] done = cc
+all_read reads (l ∷ ls) (x ∷ xs) done =
+    let here : Some (said x) ≡ reads l = cc in
+    let rest : map (λ x. Some (said x)) xs ≡ map reads ls = cc in
+    let later = all_read reads ls xs rest in
+    rw (← here) (rw later refl)

@@ -1,3 +1,4 @@
 pub mod Line
 pub mod Script
 pub mod Words
+pub mod Judged
