@@ -14,7 +14,7 @@
 //! - of `store`: of writes of each of 64 guests, also where 2 and 4 of a guest go as one, with the calls and
 //!   bytes that each way needs, and of guests that write on without a pause, on images of both versions, also
 //!   how many syncs come before a record may begin;
-//! - of `open`: of openings;
+//! - of `open`: of upgrades of an image, and of openings, with the writes and syncs of an upgrade;
 //! - of `board`: of writes of each of 64 guests, which a board's steps settle, its book and store, and its
 //!   store alone;
 //! - of `run`: of writes of one guest by a script, which its store alone settles, too;
@@ -45,6 +45,7 @@ mod serving;
 mod steps;
 mod stores;
 mod streams;
+mod upgrades;
 mod ways;
 mod whole;
 
@@ -118,9 +119,11 @@ fn time_groups(rt: &HostRuntime, board: &BoardConfig, count: u32) -> Result<(), 
 }
 
 fn time_open(rt: &HostRuntime, board: &BoardConfig, count: u32) -> Result<(), Stop> {
+    let upgraded = time_upgrades(rt, board, count)?;
     let opened = time_openings(rt, board, count)?;
     let read = time_reads(rt, board, count)?;
-    print_rows(rt, &[opened, read])
+    print_rows(rt, &[upgraded, opened, read])?;
+    print_upgrade(rt, board)
 }
 
 fn time_board(rt: &HostRuntime, board: &BoardConfig, count: u32) -> Result<(), Stop> {

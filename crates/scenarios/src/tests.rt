@@ -15,4 +15,5 @@ mod rolls;
 mod scene;
 mod stops;
 mod sweeps;
+mod upgrades;
 mod worlds;

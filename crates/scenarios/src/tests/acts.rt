@@ -61,6 +61,9 @@ pub enum Move {
     FailNext,
     /// A stop, with the filler of this number.
     Stop(u8),
+    /// An upgrade of the image, stopped within its call of the first number with the filler of the second;
+    /// whole where it makes no such call.
+    Upgrade(u32, u8),
 }
 
 /// Events in their order, up to one that is to come in place of the store's n-th advance.
@@ -82,6 +85,8 @@ fn filler_of(alloc: Global, number: u8) -> Result<Filler, Fail> {
         1 => Ok(Filler::New),
         2 => Ok(Filler::Fill(Vec::new(alloc))),
         4 => Ok(Filler::Fill(Vec::from_slice(alloc, &[0xa5])?)),
+        5 => Ok(Filler::Fill(Vec::from_slice(alloc, &[0x02])?)),
+        6 => Ok(Filler::Fill(Vec::from_slice(alloc, &[0x77])?)),
         _ => Ok(Filler::Fill(Vec::from_slice(alloc, &[0xff])?)),
     }
 }
@@ -243,6 +248,11 @@ impl Acts {
         self.add(Event::Stop(filler_of(self.alloc, filler)?))
     }
 
+    fn upgrade(&mut self, call: u32, filler: u8) -> Result<(), Fail> {
+        let filler = filler_of(self.alloc, filler)?;
+        self.add(Event::Upgrade(Some((call, filler))))
+    }
+
     fn make(&mut self, guest: u16, next: Move) -> Result<(), Fail> {
         match next {
             Move::Open => self.add(Event::Open),
@@ -253,6 +263,7 @@ impl Acts {
             Move::Reply => self.reply(guest),
             Move::FailNext => self.add(Event::Fail(1)),
             Move::Stop(filler) => self.stop(filler),
+            Move::Upgrade(call, filler) => self.upgrade(call, filler),
         }
     }
 

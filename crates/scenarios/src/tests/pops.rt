@@ -114,5 +114,9 @@ fn a_refused_pop_leaves_the_world(rt: HostRuntime) -> Result<(), Fail> {
     let acts = asked(rt.alloc())?;
     let mut pop = Vec::new(rt.alloc());
     pop.push(Event::Do(Step::Pop(0)))?;
-    check_pop(&mut world_of(rt.alloc(), 1, Version::One)?, &acts.events, &pop)
+    check_pop(
+        &mut world_of(rt.alloc(), 1, Version::One)?,
+        &acts.events,
+        &pop,
+    )
 }

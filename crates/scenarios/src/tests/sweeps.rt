@@ -144,7 +144,7 @@ fn holds(world: &World, guest: u16) -> bool {
 }
 
 /// The guest has the partition after what was accepted, which holds what it was shown.
-fn check_guest(alloc: Global, world: &World, guest: u16) -> Result<(), Fail> {
+pub fn check_guest(alloc: Global, world: &World, guest: u16) -> Result<(), Fail> {
     check(holds(world, guest), "a need")?;
     let after = replayed(alloc, world, guest)?;
     check(is_now(world, guest, &after), "a partition")
