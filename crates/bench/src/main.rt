@@ -66,6 +66,7 @@ use std::sync::Wait;
 use std::thread::Threads;
 use stores::{new_store, time_puts, time_stored, time_waiting};
 use streams::print_streams;
+use upgrades::{print_upgrade, time_upgrades};
 use ways::{calls_of, time_ways};
 use whole::{few_whole, time_device};
 
@@ -207,7 +208,8 @@ fn checksums<R: AllocGlobal + Threads + Wait + Sync>(
     ];
     print_numbers(rt, &numbers)?;
     print_counts(rt, board)?;
-    print_streams(rt, board)
+    print_streams(rt, board)?;
+    print_upgrade(rt, board)
 }
 
 /// Times the work of this name.
