@@ -19,9 +19,10 @@ const BOARD: &str = "image = \"held.img\"\n[[guest]]\ncapacity = 1\n";
 const SCRIPT: &str = "chain 0 - 512\n";
 
 // The words of each command over that image, and whether it only looks at it.
-const WORDS: [(&str, bool); 4] = [
+const WORDS: [(&str, bool); 5] = [
     ("format held.toml", false),
     ("show held.toml", true),
+    ("upgrade held.toml", false),
     ("run held.toml held.txt", false),
     ("serve held.toml held.txt", false),
 ];
@@ -101,6 +102,11 @@ fn statuses<R: AllocGlobal + Threads + Wait + Sync>(
         }
         2 => {
             let disk = open_image(rt, "held.img")?;
+            let command = Command::Upgrade { board: path };
+            both(threads, command, &board, disk, second)
+        }
+        3 => {
+            let disk = open_image(rt, "held.img")?;
             let command = Command::Run {
                 board: path,
                 script,
@@ -125,6 +131,11 @@ fn one_program_holds_an_image(rt: HostRuntime) -> Result<(), Fail> {
     let words = words_of(rt.alloc(), "format held.toml")?;
     assert_eq!(rt; status_of(&rt, &rt, words.as_slice()), 0);
     let image = fs::read(&rt, "held.img")?;
+    // The script's request is malformed, so each command but an upgrade leaves the fresh image.
+    let mut upgraded = image.as_slice().to_vec(rt.alloc())?;
+    if let Some(version) = upgraded.get_mut(512) {
+        *version = 2;
+    }
     for (first, (line, looks)) in WORDS.iter().enumerate() {
         for (other, beside) in &WORDS {
             let words = words_of(rt.alloc(), *other)?;
@@ -134,11 +145,15 @@ fn one_program_holds_an_image(rt: HostRuntime) -> Result<(), Fail> {
                 words: words.as_slice(),
                 status: None,
             };
+            fs::write(&rt, "held.img", image.as_slice())?;
             let ended = statuses(&rt, &rt, first, &mut second)?;
             let refused = if *looks && *beside { 0 } else { 1 };
             assert_eq!(rt; ended, (0, Some(refused)), "{line} and {other}");
-            // The script's request is malformed, so each command leaves the fresh image.
-            assert!(rt; fs::read(&rt, "held.img")?.as_slice() == image.as_slice());
+            let left = if first == 2 { &upgraded } else { &image };
+            assert!(rt;
+                fs::read(&rt, "held.img")?.as_slice() == left.as_slice(),
+                "{line}"
+            );
         }
     }
     for path in ["held.toml", "held.txt", "held.img"] {
