@@ -2,8 +2,8 @@
 ghost use Rattle.std.specs.Prelude.{IfOk};
 ghost use Rattle.host.specs.Opening.{IsJustOpened};
 
-use crate::rings::Form;
 use crate::clock::{NO_MEMORY, Row, Stop, now, since};
+use crate::rings::Form;
 use board::Board;
 use disk::{Disk, MemDisk};
 use intent_slots::Layout;
