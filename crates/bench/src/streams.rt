@@ -170,19 +170,6 @@ fn streamed(
     })
 }
 
-/// The same for as many rounds as the writes take, without what the keys took.
-fn stream_of(
-    rt: &HostRuntime,
-    board: &BoardConfig,
-    version: Version,
-    waiting: u32,
-) -> Result<Figures, Stop> {
-    let keys = streamed(rt, board, version, waiting, 0)?;
-    let mut all = streamed(rt, board, version, waiting, WRITES / waiting.max(1))?;
-    all.counts = all.counts.since(keys.counts);
-    Ok(all)
-}
-
 fn number_of(version: Version) -> u8 {
     match version {
         Version::One => 1,
@@ -190,13 +177,17 @@ fn number_of(version: Version) -> u8 {
     }
 }
 
+/// As many rounds as the writes take, but for what the keys took.
 fn print_stream(
     rt: &HostRuntime,
     board: &BoardConfig,
     version: Version,
     waiting: u32,
+    keys: Counts,
 ) -> Result<(), Stop> {
-    let Figures { counts, syncs } = stream_of(rt, board, version, waiting)?;
+    let rounds = WRITES / waiting.max(1);
+    let Figures { counts, syncs } = streamed(rt, board, version, waiting, rounds)?;
+    let counts = counts.since(keys);
     let printed = println!(rt;
         "version {}, {waiting} waiting: {} calls, {} syncs, {} bytes; begins after {} syncs, the next after {}",
         number_of(version),
@@ -209,14 +200,18 @@ fn print_stream(
     printed.ok().ok_or("no output")
 }
 
+fn print_version(rt: &HostRuntime, board: &BoardConfig, version: Version) -> Result<(), Stop> {
+    let keys = streamed(rt, board, version, 1, 0)?.counts;
+    for waiting in &WAITING {
+        print_stream(rt, board, version, *waiting, keys)?;
+    }
+    Ok(())
+}
+
 /// Prints what eight writes of each guest of a board need that write on without a pause, where 1, 2, 4 or 8 of
 /// a guest wait at once: of the last of them how many syncs came between the guest's Submit and its record, and
 /// between that Submit and the moment at which the next record might begin.
 pub fn print_streams(rt: &HostRuntime, board: &BoardConfig) -> Result<(), Stop> {
-    for version in [Version::One, Version::Two] {
-        for waiting in &WAITING {
-            print_stream(rt, board, version, *waiting)?;
-        }
-    }
-    Ok(())
+    print_version(rt, board, Version::One)?;
+    print_version(rt, board, Version::Two)
 }
