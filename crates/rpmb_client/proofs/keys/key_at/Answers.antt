@@ -1,4 +1,4 @@
-use Rattle.std.proofs.Common.{◌≡◌, ◌∙◌, ap, drop, [], sym, arith, rules}
+use Rattle.std.proofs.Common.{◌∙◌, [], sym, arith, rules}
 use Rattle.std.proofs.lemmas.List.{at_drop_all}
 use Rattle.rpmb_client.specs.Keys.{key_at, pairs_of}
 use Rattle.rpmb_client.proofs.FindLemmas.{key_at_place, key_past_place, no_key}

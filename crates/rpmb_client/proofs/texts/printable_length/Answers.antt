@@ -1,4 +1,4 @@
-use Rattle.std.proofs.Common.{◌≡◌, arith, length, rules, not, sym}
+use Rattle.std.proofs.Common.{arith, length, rules, not, sym}
 use Rattle.std.proofs.lemmas.List.Sums.{position_or_len_is}
 use Rattle.rpmb_client.specs.Explained.{is_printable}
 use Rattle.rpmb_client.proofs.texts.printable_length.Goals as goal
