@@ -3,13 +3,13 @@
 pub const PROGRAM: &str = "\
 The lines that these commands make go into a script, and the lines that `rpmbd run`\n\
 prints of it into explain or read-data:\n\
-\n\
-  rpmb program-key --guest 0 --key @key.hex > script.txt\n\
-  rpmb write --guest 0 --key @key.hex --counter 0 --address 0 --file FILE --pad >> script.txt\n\
-  rpmbd run BOARD script.txt | rpmb explain --key @key.hex\n\
-\n\
-  rpmb read --guest 0 --address 0 --count 4 --nonce HEX > read.txt\n\
-  rpmbd run BOARD read.txt | rpmb read-data --key @key.hex --nonce HEX --length 1000\n\
+\n  \
+rpmb program-key --guest 0 --key @key.hex > script.txt\n  \
+rpmb write --guest 0 --key @key.hex --counter 0 --address 0 --file FILE --pad >> script.txt\n  \
+rpmbd run BOARD script.txt | rpmb explain --key @key.hex\n\
+\n  \
+rpmb read --guest 0 --address 0 --count 4 --nonce HEX > read.txt\n  \
+rpmbd run BOARD read.txt | rpmb read-data --key @key.hex --nonce HEX --length 1000\n\
 \n\
 A block has 256 bytes. A key is programmed once, and can't be taken back. explain and\n\
 read-counter tell the write counter, which the next write has to name. The help of each\n\
