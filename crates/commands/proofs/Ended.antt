@@ -8,7 +8,9 @@ use Rattle.disk.specs.Disk.{DiskCall, DiskState, HasRisen}
 use Rattle.recovery.specs.declared.fault.OpenFault.{OpenFault}
 use Rattle.recovery.specs.declared.fault.OpenFault.TheVariants as image
 use Rattle.recovery.specs.Opening.{AnswersFault, CallsFault}
+use Rattle.recovery.specs.Upgrade.{CallsNotDone, TellsVersionFault}
 use Rattle.commands.specs.Fault.{fault_of_image}
+use Rattle.commands.specs.Upgrading.{UpgradeEnds}
 use Rattle.intent_slots.specs.Layout.{capacities_of}
 use Rattle.commands.specs.Ending.{IsOfReading, IsReadAlone, IsReadable, LinesPrint, OpenedEnds, OpenedPrints, PrintsFront, RunEnds, RunPrints, ShowEnds, Synced, Uncalled}
 use Rattle.commands.specs.Running.{AreWithin}
@@ -26,6 +28,14 @@ show_ends capacities old new image.NoMemory memory cause answers = memory refl
 show_ends capacities old new image.DiskFault memory cause answers = cause refl
 show_ends capacities old new image.NotFormatted memory cause answers = answers
 show_ends capacities old new image.OtherConfig memory cause answers = answers
+
+-- and so a fault of an upgrade
+pub upgrade_ends : {D : Type 0} (makes : D → DiskCall → D → Type 0) (capacities : List ℕ) (a b : D) (old new : DiskState) (f : OpenFault) → CallsNotDone makes capacities a b f
+    → (f ≡ image.DiskFault → HasRisen old.failures new.failures) → (old.faithful ≡ true → TellsVersionFault capacities old.len old.seen f) → UpgradeEnds capacities old new (fault_of_image f)
+upgrade_ends makes capacities a b old new image.NoMemory calls cause answers = absurd calls
+upgrade_ends makes capacities a b old new image.DiskFault calls cause answers = cause refl
+upgrade_ends makes capacities a b old new image.NotFormatted calls cause answers = answers
+upgrade_ends makes capacities a b old new image.OtherConfig calls cause answers = answers
 
 pub read_alone : {D : Type 0} (makes : D → DiskCall → D → Type 0) (old new : D) (f : OpenFault) → CallsFault makes old new f → IsReadAlone makes old new
 read_alone makes old new image.NoMemory calls = Uncalled calls
