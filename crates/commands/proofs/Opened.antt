@@ -12,7 +12,8 @@ use Rattle.disk.specs.Disk.{DiskCall, DiskState, HasRisen, MayLeave, Within}
 use Rattle.disk.specs.declared.disk.DiskFault.{DiskFault}
 use Rattle.disk.proofs.Ways.{within_end}
 use Rattle.intent_slots.specs.Layout.{capacities_of, region_at}
-use Rattle.intent_slots.specs.Recovered.{Stands, part_of}
+use Rattle.intent_slots.specs.Recovered as recovered
+use Rattle.intent_slots.specs.Recovered.{part_of}
 use Rattle.recovery.specs.Opening.{AnswersFault, IsImage, Untouched}
 use Rattle.recovery.specs.declared.fault.OpenFault.{OpenFault}
 use Rattle.recovery.specs.declared.fault.OpenFault.TheVariants as image
@@ -72,7 +73,7 @@ opened_host {D = D} shows makes board disk b h life begins stand whole_image unt
     count = many;
     image = whole_image;
     held = λ known g p at. (let x = fresh_at board begins.partitions g p many at in
-        subst (λ q. Stands (region_at (capacities_of board) g) (shows disk).seen (part_of q)) x.2 (stand known g x.0 (ap (λ v. slice_get (guests v) g) begins.is ∙ x.1)));
+        subst (λ q. recovered.Stands (region_at (capacities_of board) g) (shows disk).seen (part_of q)) x.2 (stand known g x.0 (ap (λ v. slice_get (guests v) g) begins.is ∙ x.1)));
   };
   cores = cores;
   ready = record { cores = cores; ready = first.ready };
@@ -183,7 +184,7 @@ ran_all {D = D} shows makes board disk d h0 h lines start now next opened moves 
       let r2 = last.moves.reaches board (bases_of opened.partitions) r1.now r1.linked in
       let x = guest_of (guests last.last) g p (cores ∙ told.cores) at in
       let faithful : (shows last.last.store.disk).faithful ≡ true = last.moves.faithful ∙ moves.faithful ∙ (within_end shows makes (Untouched (shows disk)) disk h0.board.store.disk opened.untouched).faithful ∙ known in
-      subst (λ q. Stands (region_at (capacities_of board) g) c (part_of q)) x.2
+      subst (λ q. recovered.Stands (region_at (capacities_of board) g) c (part_of q)) x.2
       (last.leaves board (bases_of opened.partitions) r2.now r2.linked faithful g x.0 x.1 c (subst (λ e. MayLeave (shows e) c) last.disk may));
 }
   where
