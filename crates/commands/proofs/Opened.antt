@@ -21,7 +21,7 @@ use Rattle.rpmb_book.specs.Guest.{GuestCore, GuestState}
 use Rattle.rpmb_book.specs.Replay.{fresh_guests}
 use Rattle.rpmb_book.proofs.OpeningLemmas.{uncounted}
 use Rattle.board.specs.Board.{StaysLinked}
-use Rattle.board.specs.Opening.{Begins, Stands as StandsOf, bases_of}
+use Rattle.board.specs.Opening.{Begins, Stands, bases_of}
 use Rattle.board.specs.State.{BoardState, guests}
 use Rattle.script.specs.Line.{Said, said}
 use Rattle.script.specs.declared.line.Line.{Line}
@@ -62,7 +62,7 @@ as_many_cores (c ∷ cs) [] many = absurd (omega (arith, many))
 as_many_cores (c ∷ cs) (p ∷ ps) many = ap suc (as_many_cores cs ps (omega (arith, many)))
 
 pub opened_host : {D : Type 0} (shows : D → DiskState) (makes : D → DiskCall → D → Type 0) (board : List GuestConfig) (disk : D) (b : BoardState D) (h : HostState D) (life : ℕ) → Begins shows life board b
-    → ((shows disk).faithful ≡ true → StandsOf board (shows disk).seen b) → ((shows disk).faithful ≡ true → IsImage (capacities_of board) (shows disk).len (shows disk).seen)
+    → ((shows disk).faithful ≡ true → Stands board (shows disk).seen b) → ((shows disk).faithful ≡ true → IsImage (capacities_of board) (shows disk).len (shows disk).seen)
     → Within shows makes (Untouched (shows disk)) disk b.store.disk → (shows b.store.disk).failures ≡ (shows disk).failures → IsFirstHost board b h
     → ((bases : ℕ → Partition) (accepted : ℕ → List Request) → StaysLinked shows board bases accepted b → StaysLinked shows board bases accepted h.board)
     → IsOpened shows makes board disk h

@@ -7,8 +7,7 @@ use Rattle.rpmb_frame.specs.Partition.{sequence}
 use Rattle.rpmb_core.specs.Requests.{partition_after_all}
 use Rattle.rpmb_core.proofs.Following.{sequence_of_all}
 use Rattle.disk.specs.Disk.{DiskCall, DiskState}
-use Rattle.intent_slots.specs.Layout.{capacities_of, region_at, slot_region}
-use Rattle.intent_slots.specs.declared.layout.Side.TheVariants.{A}
+use Rattle.intent_slots.specs.Layout.{capacities_of, region_at}
 use Rattle.intent_slots.specs.Recovered.{Stands, part_of}
 use Rattle.flusher.specs.Marks.{marks_of}
 use Rattle.flusher.specs.Pair.{mark_of}
