@@ -19,15 +19,10 @@ pub fn format_two(disk: &mut impl Disk, board: &BoardConfig) -> Result<(), Fail>
 }
 
 /// The write of one block, each byte of which is this counter, at the address below it.
-pub fn one(alloc: Global, counter: u32) -> Result<Intent, Fail> {
-    let address = (counter as u16).saturating_sub(1);
-    Ok(Intent::write(
-        0,
-        KEY,
-        counter,
-        address,
-        vec![in alloc; counter as u8; 256]?,
-    ))
+pub fn one(alloc: Global, counter: u8) -> Result<Intent, Fail> {
+    let address = u16::from(counter).saturating_sub(1);
+    let blocks = vec![in alloc; counter; 256]?;
+    Ok(Intent::write(0, KEY, u32::from(counter), address, blocks))
 }
 
 /// The calls of two writes that were given one after the other.
