@@ -5,14 +5,12 @@ use command_line::Command;
 use commands::{Fault, create_image, open_image, open_shown, perform, status_of};
 use disk::Disk;
 use intent_slots::Layout;
-use rpmb_frame::BoardConfig;
 use std::alloc::Global;
-use std::io::Write;
+use std::fs;
 use std::os::unix::fs::PermissionsExt;
 use std::sync::Wait;
 use std::test::Fail;
 use std::thread::Threads;
-use std::{fs, io};
 
 const BOARD: &str = "image = \"held.img\"\n[[guest]]\ncapacity = 1\n";
 
@@ -27,29 +25,6 @@ const WORDS: [(&str, bool); 5] = [
     ("serve held.toml held.txt", false),
 ];
 
-/// A writer that has a second program run as soon as the first one writes, which is while the first holds
-/// its image.
-#[derive(Drop)]
-struct Second<'a, R> {
-    rt: &'a HostRuntime,
-    threads: &'a R,
-    words: &'a [String],
-    status: Option<u8>,
-}
-
-impl<'a, R: AllocGlobal + Threads + Wait + Sync> Write for Second<'a, R> {
-    fn write(&mut self, bytes: &[u8]) -> io::Result<usize> {
-        if self.status.is_none() {
-            self.status = Some(status_of(self.rt, self.threads, self.words));
-        }
-        Ok(bytes.len())
-    }
-
-    fn flush(&mut self) -> io::Result<()> {
-        Ok(())
-    }
-}
-
 fn words_of(alloc: Global, line: &str) -> Result<Vec<String>, Fail> {
     let mut words = Vec::new(alloc);
     words.push(String::from_str(alloc, "rpmbd")?)?;
@@ -59,68 +34,61 @@ fn words_of(alloc: Global, line: &str) -> Result<Vec<String>, Fail> {
     Ok(words)
 }
 
-/// Performs the first program's command on its disk, and the second one within it, and gives their statuses.
+/// The statuses of two programs: the first has opened its image when the second begins, and goes on once that
+/// one has ended.
 fn both<R: AllocGlobal + Threads + Wait + Sync, D: Disk + Send + Drop>(
+    rt: &HostRuntime,
     threads: &R,
     command: Command<'_>,
-    board: &BoardConfig,
     disk: D,
-    second: &mut Second<'_, R>,
-) -> Result<(u8, Option<u8>), Fail> {
-    if disk.len() != Layout::of(board).length() {
+    second: &[String],
+) -> Result<(u8, u8), Fail> {
+    let (board, _) = read_board(rt.alloc(), BOARD)?;
+    if disk.len() != Layout::of(&board).length() {
         return Err("another length").map_err(Fail::from);
     }
-    let mut err = Vec::new(threads.alloc());
-    let (status, _) = perform(threads, command, board, SCRIPT, disk, second, &mut err);
-    Ok((status, second.status))
+    let beside = status_of(rt, threads, second);
+    let mut out = Vec::new(rt.alloc());
+    let mut err = Vec::new(rt.alloc());
+    let (status, _) = perform(threads, command, &board, SCRIPT, disk, &mut out, &mut err);
+    Ok((status, beside))
 }
 
-/// The two statuses, where the first program performs this command.
+const PATH: &str = "held.toml";
+
+const RUN: Command<'static> = Command::Run {
+    board: PATH,
+    script: "held.txt",
+};
+
+const SERVE: Command<'static> = Command::Serve {
+    board: PATH,
+    script: "held.txt",
+};
+
+/// The two statuses, where the first program performs the command of this number.
 fn statuses<R: AllocGlobal + Threads + Wait + Sync>(
     rt: &HostRuntime,
     threads: &R,
     first: usize,
-    second: &mut Second<'_, R>,
-) -> Result<(u8, Option<u8>), Fail> {
-    let (board, _) = read_board(rt.alloc(), BOARD)?;
-    let (path, script) = ("held.toml", "held.txt");
+    second: &[String],
+) -> Result<(u8, u8), Fail> {
+    let image = "held.img";
     match first {
         0 => {
-            let length = Layout::of(&board).length();
-            let disk = create_image(rt, "held.img", path, length)?;
-            both(
-                threads,
-                Command::Format { board: path },
-                &board,
-                disk,
-                second,
-            )
+            let disk = create_image(rt, image, PATH, 167_424)?;
+            both(rt, threads, Command::Format { board: PATH }, disk, second)
         }
         1 => {
-            let disk = open_shown(rt, "held.img")?;
-            both(threads, Command::Show { board: path }, &board, disk, second)
+            let disk = open_shown(rt, image)?;
+            both(rt, threads, Command::Show { board: PATH }, disk, second)
         }
         2 => {
-            let disk = open_image(rt, "held.img")?;
-            let command = Command::Upgrade { board: path };
-            both(threads, command, &board, disk, second)
+            let disk = open_image(rt, image)?;
+            both(rt, threads, Command::Upgrade { board: PATH }, disk, second)
         }
-        3 => {
-            let disk = open_image(rt, "held.img")?;
-            let command = Command::Run {
-                board: path,
-                script,
-            };
-            both(threads, command, &board, disk, second)
-        }
-        _ => {
-            let disk = open_image(rt, "held.img")?;
-            let command = Command::Serve {
-                board: path,
-                script,
-            };
-            both(threads, command, &board, disk, second)
-        }
+        3 => both(rt, threads, RUN, open_image(rt, image)?, second),
+        _ => both(rt, threads, SERVE, open_image(rt, image)?, second),
     }
 }
 
@@ -139,16 +107,10 @@ fn one_program_holds_an_image(rt: HostRuntime) -> Result<(), Fail> {
     for (first, (line, looks)) in WORDS.iter().enumerate() {
         for (other, beside) in &WORDS {
             let words = words_of(rt.alloc(), *other)?;
-            let mut second = Second {
-                rt: &rt,
-                threads: &rt,
-                words: words.as_slice(),
-                status: None,
-            };
             fs::write(&rt, "held.img", image.as_slice())?;
-            let ended = statuses(&rt, &rt, first, &mut second)?;
+            let ended = statuses(&rt, &rt, first, words.as_slice())?;
             let refused = if *looks && *beside { 0 } else { 1 };
-            assert_eq!(rt; ended, (0, Some(refused)), "{line} and {other}");
+            assert_eq!(rt; ended, (0, refused), "{line} and {other}");
             let left = if first == 2 { &upgraded } else { &image };
             assert!(rt;
                 fs::read(&rt, "held.img")?.as_slice() == left.as_slice(),
