@@ -115,29 +115,17 @@ fn write_on(acts: &mut Acts, guest: u16, counter: u32) -> Result<(), Fail> {
     )
 }
 
-/// Each guest's next write, so many counters further on, goes to the store.
-fn write_all_on(
-    acts: &mut Acts,
-    case: &Case,
-    counters: &[u32; 3],
-    further: u32,
-) -> Result<(), Fail> {
-    for guest in 0..case.guests {
-        let counter = counters.get(usize::from(guest)).copied().unwrap_or(0);
-        write_on(acts, guest, counter.saturating_add(further))?;
-    }
-    Ok(())
-}
-
 /// Each guest writes twice, the second time while its first write is under way; and the host stops.
 fn written_on(alloc: Global, case: &Case, counters: &[u32; 3]) -> Result<Acts, Fail> {
     let mut acts = Acts::new(alloc, None, 0);
-    for guest in 0..case.guests {
-        acts.play(guest, &[Move::SetUp])?;
+    for (guest, counter) in counters.iter().enumerate().take(usize::from(case.guests)) {
+        acts.play(guest as u16, &[Move::SetUp])?;
+        write_on(&mut acts, guest as u16, *counter)?;
     }
-    write_all_on(&mut acts, case, counters, 0)?;
     acts.play(0, &[Move::Advances(u32::from(case.guests) + 1)])?;
-    write_all_on(&mut acts, case, counters, 1)?;
+    for (guest, counter) in counters.iter().enumerate().take(usize::from(case.guests)) {
+        write_on(&mut acts, guest as u16, counter.saturating_add(1))?;
+    }
     acts.play(0, &[Move::Advances(case.phase), Move::Stop(case.filler)])?;
     Ok(acts)
 }
@@ -216,7 +204,7 @@ fn three_guests_in_each_phase(rt: HostRuntime) -> Result<(), Fail> {
             phase,
             call: phase % 10,
             filler: 0,
-            byte: if phase % 2 == 0 { 0x5a } else { 0xa5 },
+            byte: 0x5a ^ 0xff * (phase % 2) as u8,
         };
         fill(rt.alloc(), &case)?;
     }
