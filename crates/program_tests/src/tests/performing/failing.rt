@@ -38,7 +38,7 @@ const BROKEN: Failing = Failing {
 /// A line that stores outside the memory, and one behind it.
 const OUTSIDE: Piece = ("store 0 1048576 00\nchain 0 - 16\n", 1);
 
-/// The opening makes calls 1 to 5. A key takes eight calls, payload, gate, home and gate with a sync after each,
+/// The opening makes calls 1 to 6. A key takes eight calls, payload, gate, home and gate with a sync after each,
 /// and is told after the fourth. A write has its blocks written before the home. A run that has no such call
 /// succeeds, and what it did is settled.
 ///
@@ -50,7 +50,7 @@ static RUNS: [Failing; 7] = [
             held_at: 0,
             ..WHOLE
         },
-        calls: (6, 9),
+        calls: (7, 10),
         ..BROKEN
     },
     Failing {
@@ -58,7 +58,7 @@ static RUNS: [Failing; 7] = [
             held_at: 1,
             ..WHOLE
         },
-        calls: (10, 17),
+        calls: (11, 18),
         settled: 1,
         ..BROKEN
     },
@@ -67,7 +67,7 @@ static RUNS: [Failing; 7] = [
             held_at: 5,
             ..WHOLE
         },
-        calls: (18, 26),
+        calls: (19, 27),
         settled: 2,
         ..BROKEN
     },
@@ -76,12 +76,12 @@ static RUNS: [Failing; 7] = [
             held_at: 7,
             ..WHOLE
         },
-        calls: (27, 31),
+        calls: (28, 32),
         settled: 3,
         ..BROKEN
     },
     Failing {
-        calls: (32, 32),
+        calls: (33, 33),
         fault: "",
         failures: 0,
         settled: 3,
@@ -102,8 +102,8 @@ static RUNS: [Failing; 7] = [
             held_at: 1,
         },
         more: OUTSIDE,
-        calls: (10, 10),
-        stop: 2,
+        calls: (11, 11),
+        stop: 1,
         fault: "rpmbd: 1 OutOfRange\n",
         settled: 1,
         ..BROKEN
