@@ -2,6 +2,7 @@ pub mod Choosing
 pub mod CutCalls
 pub mod Fills
 pub mod MemCalls
+pub mod OutboxLemmas
 pub mod Overwriting
 pub mod Reaching
 pub mod Stopping

@@ -1,6 +1,8 @@
 -- The disk in memory that can fail and be cut: exactly what each call does to it, and what a stop
 -- leaves.
-use Rattle.std.specs.Prelude.{◌≡◌, ℕ, zero, suc, ◌+◌, ◌-◌, ◌%◌, ◌^◌, Bool, true, false, not, ◌==◌, ◌&&◌, nat_lt, if◌then◌else◌, List, length, get_or, slice_index, replicate}
+use Rattle.std.specs.Prelude.{◌≡◌, ℕ, zero, suc, ◌+◌, ◌-◌, ◌%◌, ◌^◌, Bool, true, false, not, ◌==◌}
+use Rattle.std.specs.Prelude.{◌&&◌, nat_lt, if◌then◌else◌, List, length, get_or, slice_index}
+use Rattle.std.specs.Prelude.{replicate}
 use Rattle.disk.specs.Content.{Content, content_of, overwritten}
 use Rattle.disk.specs.Disk.{DiskState, DiskCall, Read, Write, Sync, Effect, is_success}
 use Rattle.disk.specs.declared.filler.Filler.{Filler}

@@ -1,6 +1,7 @@
 -- The disk over a file. No contract can say what a file gives and keeps, so it is not known to be
 -- faithful: what it shows is its length, its count of failures, and which calls of the file it made.
-use Rattle.std.specs.Prelude.{◌≡◌, ◌↔◌, ◌+◌, ◌^◌, ◌<◌, ◌≤◌, ℕ, Bool, true, false, List, length, Option, Some, None, Result, Ok, Err, IsTrue}
+use Rattle.std.specs.Prelude.{◌≡◌, ◌↔◌, ◌+◌, ◌^◌, ◌<◌, ◌≤◌, ℕ, Bool, true, false, List, length}
+use Rattle.std.specs.Prelude.{Option, Some, None, Result, Ok, Err, IsTrue}
 use Rattle.disk.specs.Content.{zeros}
 use Rattle.disk.specs.Disk.{DiskState, DiskCall, Effect, is_success}
 
@@ -40,14 +41,16 @@ pub record FileMakes {F : Type 0} (old : FileState F) (call : DiskCall) (new : F
   pub failed : is_success call ≡ false → old.failures + 1 < 2 ^ 64 → new.failures ≡ old.failures + 1
 
 -- The file was read once, there and into all of this, and the read succeeded exactly where it was whole.
-pub record ReadsOnce {F : Type 0} (made : F → FileCall → F → Type 0) (at : ℕ) (out : List ℕ) (old : F) (ok : Bool) (new : F) : Type 0 where
+pub record ReadsOnce {F : Type 0} (made : F → FileCall → F → Type 0) (at : ℕ) (out : List ℕ)
+    (old : F) (ok : Bool) (new : F) : Type 0 where
   pub count : Option ℕ
   pub call : made old (ReadAt at out count) new
   pub whole : IsTrue ok ↔ (count ≡ Some (length out))
 
 -- The file was written once, there and all of these bytes, and the write succeeded exactly where it was
 -- whole.
-pub record WritesOnce {F : Type 0} (made : F → FileCall → F → Type 0) (at : ℕ) (bytes : List ℕ) (old : F) (ok : Bool) (new : F) : Type 0 where
+pub record WritesOnce {F : Type 0} (made : F → FileCall → F → Type 0) (at : ℕ) (bytes : List ℕ)
+    (old : F) (ok : Bool) (new : F) : Type 0 where
   pub count : Option ℕ
   pub call : made old (WriteAt at bytes count) new
   pub whole : IsTrue ok ↔ (count ≡ Some (length bytes))

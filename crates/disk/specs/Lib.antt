@@ -4,3 +4,5 @@ pub mod Disk
 pub mod FileDisk
 pub mod Laws
 pub mod MemDisk
+pub mod Outbox
+pub mod OutboxDisk

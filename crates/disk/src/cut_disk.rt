@@ -1,7 +1,9 @@
-ghost use Rattle.std.specs.Prelude.{◌≡◌, ◌+◌, ◌-◌, ◌≤◌, ◌&&◌, ◌==◌, not, true, if◌then◌else◌, length, is_ok, IfOk, OnOk, OnErr};
+ghost use Rattle.std.specs.Prelude.{◌≡◌, ◌+◌, ◌-◌, ◌≤◌, ◌&&◌, ◌==◌, not, true, if◌then◌else◌};
+ghost use Rattle.std.specs.Prelude.{length, is_ok, IfOk, OnOk, OnErr};
 ghost use Rattle.disk.specs.Content.{bytes_at, content_of};
 ghost use Rattle.disk.specs.Disk.{DiskState, DiskCall, Read, Write, Sync, Effect, MayLeave};
-ghost use Rattle.disk.specs.CutDisk.{cut_state, fresh, goes_on, next_chosen, next_failures, succeeds, counted, after_write, after_sync, CutMakes, Stops};
+ghost use Rattle.disk.specs.CutDisk.{cut_state, fresh, goes_on, next_chosen, next_failures};
+ghost use Rattle.disk.specs.CutDisk.{succeeds, counted, after_write, after_sync, CutMakes, Stops};
 
 use crate::bytes::{copy_out, keep, mark, put};
 use crate::disk::{Disk, DiskFault, NoMemory};

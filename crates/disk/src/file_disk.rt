@@ -1,6 +1,7 @@
 ghost use Rattle.std.specs.Prelude.{◌≡◌, ◌↔◌, ◌+◌, ◌-◌, ◌≤◌, ◌<◌, ◌^◌, true, false, length, is_ok, IfOk, IsTrue, Some};
 ghost use Rattle.disk.specs.Disk.{DiskState, DiskCall, Read, Write, Sync, Effect, HasRisen};
-ghost use Rattle.disk.specs.FileDisk.{file_state, FileMakes, SyncAll, ReadsOnce, WritesOnce, IsEnded, Touches, count_of};
+ghost use Rattle.disk.specs.FileDisk.{file_state, FileMakes, SyncAll, ReadsOnce, WritesOnce};
+ghost use Rattle.disk.specs.FileDisk.{IsEnded, Touches, count_of};
 
 use crate::disk::{Disk, DiskFault};
 use crate::positioned_file::PositionedFile;

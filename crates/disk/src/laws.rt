@@ -1,5 +1,6 @@
 //! Laws of the definitions.
-ghost use Rattle.disk.specs.Laws.{SyncedWritesStay, StopsWithinCover, StopsBeforeAreCovered, ChosenCallFailsAlone, FillersReachAll};
+ghost use Rattle.disk.specs.Laws.{SyncedWritesStay, StopsWithinCover, StopsBeforeAreCovered};
+ghost use Rattle.disk.specs.Laws.{ChosenCallFailsAlone, FillersReachAll};
 
 /// Where a write and then a sync succeeded, every stop leaves the bytes that were written.
 pub fn synced_writes_stay()

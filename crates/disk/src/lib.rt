@@ -1,4 +1,4 @@
-//! A disk, by what reads give and what a stop may leave, and four disks.
+//! A disk, by what reads give and what a stop may leave, and five disks.
 #![tactic(auto)]
 
 mod bytes;
@@ -10,6 +10,8 @@ mod filling;
 mod hook_disk;
 pub mod laws;
 mod mem_disk;
+mod outbox;
+mod outbox_disk;
 mod positioned_file;
 
 pub use cut_disk::CutDisk;
@@ -18,4 +20,6 @@ pub use file_disk::FileDisk;
 pub use filler::Filler;
 pub use hook_disk::{Hook, HookDisk};
 pub use mem_disk::MemDisk;
+pub use outbox::Waiting;
+pub use outbox_disk::{OutboxDisk, Told};
 pub use positioned_file::PositionedFile;

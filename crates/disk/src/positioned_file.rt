@@ -28,16 +28,36 @@ pub trait PositionedFile: Drop {
         ensures { made self.old (SyncAll (is_done result)) self.new };
 }
 
-/// One call of the system each, but that `sync_all` repeats an fsync that a signal interrupted. No contract
-/// says what such a file did.
+// Whether a signal ended the call before it moved a byte.
+fn is_interrupted(outcome: &io::Result<usize>) -> bool {
+    match outcome {
+        Ok(_) => false,
+        Err(error) => error.kind() == io::ErrorKind::Interrupted,
+    }
+}
+
+/// One call of the system each, which is made again where a signal interrupted it before it did anything
+/// (EINTR). No contract says what such a file did.
 impl PositionedFile for File {
     ghost made = { λ old call new. Unit {0} };
 
     fn read_at(&mut self, at: u64, out: &mut [u8]) -> io::Result<usize> {
+        for _ in 0..u64::MAX {
+            let outcome = FileExt::read_at(self, out, at);
+            if !is_interrupted(&outcome) {
+                return outcome;
+            }
+        }
         FileExt::read_at(self, out, at)
     }
 
     fn write_at(&mut self, at: u64, bytes: &[u8]) -> io::Result<usize> {
+        for _ in 0..u64::MAX {
+            let outcome = FileExt::write_at(self, bytes, at);
+            if !is_interrupted(&outcome) {
+                return outcome;
+            }
+        }
         FileExt::write_at(self, bytes, at)
     }
 

@@ -1,0 +1,90 @@
+-- The disk whose writes somebody else makes: each one that it takes waits in its outbox, and a sync answers what its
+-- owner was told. No contract can say what becomes of the writes that leave it, so it isn't known to be faithful.
+use Rattle.std.specs.Prelude.{◌≡◌, ℕ, ◌+◌, ◌-◌, ◌^◌, Bool, true, false, not, ◌&&◌, nat_lt, nat_le}
+use Rattle.std.specs.Prelude.{if◌then◌else◌, List, [], length}
+use Rattle.disk.specs.Content.{zeros}
+use Rattle.disk.specs.Disk.{DiskState, DiskCall, Read, Write, Sync, Effect}
+use Rattle.disk.specs.Outbox.{OutboxView, empty_outbox, has_room, is_none, put_in, taken_from}
+use Rattle.disk.specs.declared.outbox_disk.Told.{Told}
+use Rattle.disk.specs.declared.outbox_disk.Told.TheVariants.{Taken, Synced, Failed, Opened}
+
+pub record OutboxState : Type 0 where
+  -- the length in bytes
+  pub len : ℕ
+  -- what reads give, while the opening lasts
+  pub image : List ℕ
+  pub outbox : OutboxView
+  -- what was told of the next sync, and of the next call of any kind
+  pub synced : Bool
+  pub failed : Bool
+  -- how many calls have failed
+  pub failures : ℕ
+
+-- a disk over the bytes of a file that its owner had synced before it read them
+abbrev pub first_disk : List ℕ → OutboxState
+first_disk image = record {
+  len = length image;
+  image = image;
+  outbox = empty_outbox;
+  synced = true;
+  failed = false;
+  failures = 0;
+}
+
+-- A stop may leave anything; the zeros are nobody's promise.
+abbrev pub outbox_state : OutboxState → DiskState
+outbox_state d = record { len = d.len; seen = zeros; unsynced = λ k. true; failures = d.failures; faithful = false }
+
+-- 1. When a call succeeds
+
+-- a call that could succeed does, where none was told to fail and a further failure can be counted
+unfoldable pub ends : (may failed : Bool) → ℕ → Bool
+ends may failed failures = may && not failed && nat_lt failures (2 ^ 64 - 1)
+
+-- the image is still there
+unfoldable pub read_succeeds : (at n : ℕ) → OutboxState → Bool
+read_succeeds at n d = ends (nat_le (at + n) (length d.image)) d.failed d.failures
+
+unfoldable pub write_succeeds : ℕ → OutboxState → Bool
+write_succeeds n d = ends (has_room n d.outbox) d.failed d.failures
+
+-- a sync was told of, and every write was taken
+unfoldable pub sync_succeeds : OutboxState → Bool
+sync_succeeds d = ends (d.synced && is_none d.outbox.writes) d.failed d.failures
+
+-- 2. What it leaves
+
+-- the count after a call that ended so
+unfoldable pub failures_after : Bool → ℕ → ℕ
+failures_after ok failures = if not ok && nat_lt failures (2 ^ 64 - 1) then failures + 1 else failures
+
+-- a failure that was told is of one call
+unfoldable pub counted : Bool → OutboxState → OutboxState
+counted ok d = record d { failed = false; failures = failures_after ok d.failures }
+
+-- A write that succeeds waits behind all others; a sync that was told of before isn't of it.
+unfoldable pub after_write : ℕ → List ℕ → Bool → OutboxState → OutboxState
+after_write at bytes true d = record (counted true d) { outbox = put_in at bytes d.outbox; synced = false }
+after_write at bytes false d = counted false d
+
+-- what was told of a sync is of one sync
+unfoldable pub after_sync : Bool → OutboxState → OutboxState
+after_sync ok d = record (counted ok d) { synced = false }
+
+abbrev pub outbox_after : DiskCall → OutboxState → OutboxState
+outbox_after (Read ok) d = counted ok d
+outbox_after (Write at bytes ok) d = after_write at bytes ok d
+outbox_after (Sync ok) d = after_sync ok d
+
+-- a call leads from this disk to that one
+pub record OutboxMakes (old : OutboxState) (call : DiskCall) (new : OutboxState) : Type 0 where
+  pub effect : Effect (outbox_state old) call (outbox_state new)
+  pub value : new ≡ outbox_after call old
+
+-- 3. What its owner tells it
+
+unfoldable pub after_told : Told → OutboxState → OutboxState
+after_told Taken d = record d { outbox = taken_from d.outbox }
+after_told Synced d = record d { synced = true }
+after_told Failed d = record d { failed = true }
+after_told Opened d = record d { image = [] }
