@@ -8,7 +8,13 @@ use Rattle.chains.specs.Ring.{RingState}
 
 -- the descriptors of a ring, in this shape
 abbrev pub descriptors_of : Shape → RingState → Area
-descriptors_of shape ring = record { shape = shape; base = ring.places.descriptors; limit = ring.size; tables = ring.places.indirect }
+descriptors_of shape ring =
+    record {
+      shape = shape;
+      base = ring.places.descriptors;
+      limit = ring.size;
+      tables = ring.places.indirect;
+    }
 
 abbrev pub some_found : Result Found ChainFault → Result (Option Found) ChainFault
 some_found (Ok found) = Ok (Some found)

@@ -1,6 +1,7 @@
 ghost use Rattle.std.specs.Prelude.{◌≡◌, ◌<◌, ◌^◌, ◌↔◌, IsTrue, OnOk, OnErr, Err};
 ghost use Rattle.std.specs.List.{position};
-ghost use Rattle.chains.specs.Ring.{first_state, after_pop, after_publish, is_chain, IsOutstanding, MayBeUsed, IsFree, Ascend};
+ghost use Rattle.chains.specs.Ring.{first_state, after_pop, after_publish, is_chain, IsOutstanding};
+ghost use Rattle.chains.specs.Ring.{MayBeUsed, IsFree, Ascend};
 ghost use Rattle.chains.specs.Start.{descriptors_of};
 
 use crate::descriptor::{Area, Shape};
@@ -28,7 +29,14 @@ impl Model for Counts {
 
     ghost Value = { RingState };
 
-    ghost view = { λ r. record { places = r.places; size = r.size; last = r.last; popped = r.popped; used = r.used; outstanding = r.outstanding.items } };
+    ghost view = { λ r. record {
+      places = r.places;
+      size = r.size;
+      last = r.last;
+      popped = r.popped;
+      used = r.used;
+      outstanding = r.outstanding.items;
+    } };
 
     ghost invariant = { λ r. Keeps r.last r.popped r.used r.outstanding.items };
 }

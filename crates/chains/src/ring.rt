@@ -57,6 +57,14 @@ impl<R: Rules> Ring<R> {
         R::lies_in(&self.counts, memory)
     }
 
+    /// Where the ring stands, and how many of its places were popped and used.
+    pub fn counts(&self) -> &Counts
+        ensures counts { result.now ≡ self.now }
+        ensures sound { R.is_ring self.now.places self.now.size }
+    {
+        &self.counts
+    }
+
     /// The number of the chain that was popped last; 0 before the first.
     pub fn last(&self) -> u64
         ensures { result ≡ self.now.last }
@@ -82,8 +90,10 @@ impl<R: Rules> Ring<R> {
     ) -> Result<Option<Popped>, RingFault>
         requires areas { R.areas (length memory.now) self.now }
         ensures finds { Finds (R.next memory.now self.now) (R.members memory.now self.now) memory.now result }
-        ensures inside { IfOk result (λ popped. IfSome popped (λ popped. AreInside (length memory.now) popped.chain.writable)) }
-        ensures reads { CountsReads result reads.old reads.new (reads_of (length memory.now) false (R.members memory.now self.now)) }
+        ensures inside { IfOk result (λ popped.
+            IfSome popped (λ popped. AreInside (length memory.now) popped.chain.writable)) }
+        ensures reads { CountsReads result reads.old reads.new
+            (reads_of (length memory.now) false (R.members memory.now self.now)) }
         ensures few { reads.new.count ≤ self.now.size + 1024 }
     {
         reads.clear();
@@ -126,8 +136,10 @@ impl<R: Rules> Ring<R> {
         ensures old_number { number ≤ self.old.last → result ≡ Err RingFault.OldNumber }
         ensures areas { R.areas (length memory.new) self.new }
         ensures size { length memory.new ≡ length memory.old }
-        ensures inside { IfOk result (λ popped. IfSome popped (λ popped. AreInside (length memory.old) popped.chain.writable)) }
-        ensures reads { CountsReads result reads.old reads.new (reads_of (length memory.old) false (R.members memory.old self.old)) }
+        ensures inside { IfOk result (λ popped.
+            IfSome popped (λ popped. AreInside (length memory.old) popped.chain.writable)) }
+        ensures reads { CountsReads result reads.old reads.new
+            (reads_of (length memory.old) false (R.members memory.old self.old)) }
         ensures few { reads.new.count ≤ self.old.size + 1024 }
     {
         if number <= self.counts.last() {
@@ -159,7 +171,8 @@ impl<R: Rules> Ring<R> {
     ) -> bool
         requires areas { R.areas (length memory.old) self.old }
         requires due { MayBeUsed self.old number id places }
-        ensures publishes { Publishes R.used_written R.tells memory.old self.old number id places len result memory.new self.new }
+        ensures publishes { Publishes R.used_written R.tells memory.old self.old number id places
+            len result memory.new self.new }
         ensures once { IsFree number self.new.outstanding }
         ensures numbered { Ascend 0 self.new.outstanding self.new.last }
         ensures areas { R.areas (length memory.new) self.new }

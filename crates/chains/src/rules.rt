@@ -89,10 +89,14 @@ pub trait Rules: Drop {
         ensures { tells memory.now ring.now places result };
 
     /// The chain at the next place is that which begins there.
-    ghost next_is: { (memory : List ℕ) (ring : RingState) → next memory ring ≡ found_from memory (descriptors_of shape ring) (start memory ring) };
+    ghost next_is: { (memory : List ℕ) (ring : RingState)
+        → next memory ring ≡ found_from memory (descriptors_of shape ring) (start memory ring) };
 
-    ghost members_are: { (memory : List ℕ) (ring : RingState) → members memory ring ≡ members_from memory (descriptors_of shape ring) (start memory ring) };
+    ghost members_are: { (memory : List ℕ) (ring : RingState)
+        → members memory ring ≡ members_from memory (descriptors_of shape ring)
+        (start memory ring) };
 
     /// The areas stay where they are, whatever is popped and used.
-    ghost areas_stay: { (bytes : ℕ) (old new : RingState) → new.places ≡ old.places → new.size ≡ old.size → areas bytes old → areas bytes new };
+    ghost areas_stay: { (bytes : ℕ) (old new : RingState) → new.places ≡ old.places
+        → new.size ≡ old.size → areas bytes old → areas bytes new };
 }

@@ -1,17 +1,20 @@
 -- A guest's two slots (own).
-use Rattle.std.specs.Prelude.{ℕ, ◌+◌, Bool, true, false, ◌||◌, ◌&&◌, List, [], ◌∷◌, ◌++◌, if◌then◌else◌, Option, Some, None}
+use Rattle.std.specs.Prelude.{ℕ, ◌+◌, Bool, true, false, ◌||◌, ◌&&◌, List, [], ◌∷◌, ◌++◌}
+use Rattle.std.specs.Prelude.{if◌then◌else◌, Option, Some, None}
 use Rattle.intent_slots.specs.Layout.{Region, SlotRegion, slot_region, other_side}
 use Rattle.intent_slots.specs.declared.layout.Side.{Side}
 use Rattle.intent_slots.specs.declared.layout.Side.TheVariants.{A}
 use Rattle.intent_slots.specs.Payload.{Group, Entry, Intent, last_of}
 use Rattle.flusher.specs.declared.phase.Phase.{Phase}
-use Rattle.flusher.specs.declared.phase.Phase.TheVariants.{Given, Written, Ready, Opening, Open, Applying, Applied, Closing}
+use Rattle.flusher.specs.declared.phase.Phase.TheVariants.{Given, Written, Ready, Opening, Open}
+use Rattle.flusher.specs.declared.phase.Phase.TheVariants.{Applying, Applied, Closing}
 use Rattle.flusher.specs.declared.slot.Slot.{Slot}
 use Rattle.flusher.specs.declared.guest.Guest.{Guest}
 use Rattle.flusher.specs.declared.guest.Turn.{Turn}
 use Rattle.flusher.specs.declared.guest.Turn.TheVariants.{First, Second, Neither}
 use Rattle.flusher.specs.Phase.{has_write, skipped, is_closing}
-use Rattle.flusher.specs.Slot.{is_empty, pending_of, slot_writes, slot_awaits, slot_write, after_write, after_sync, opening_in, spelled}
+use Rattle.flusher.specs.Slot.{is_empty, pending_of, slot_writes, slot_awaits, slot_write}
+use Rattle.flusher.specs.Slot.{after_write, after_sync, opening_in, spelled}
 
 -- A guest: its partition's region, its mark, and its slots. `slot` has the lower sequence, at `side`;
 -- `behind` is the other one, which is in use only beside it, and in version 1 never.
@@ -92,7 +95,15 @@ abbrev pub guest_write : Guest → Option (ℕ × List ℕ)
 guest_write x = write_in (turn_of x) x
 
 abbrev pub with_slots : Guest → Option Slot → Option Slot → Guest
-with_slots x slot behind = record { extent = x.extent; mark = x.mark; paired = x.paired; side = x.side; slot = slot; behind = behind }
+with_slots x slot behind =
+    record {
+      extent = x.extent;
+      mark = x.mark;
+      paired = x.paired;
+      side = x.side;
+      slot = slot;
+      behind = behind;
+    }
 
 abbrev pub moved_in : Turn → Guest → Guest
 moved_in First x = with_slots x (after_write x.slot) x.behind
@@ -120,8 +131,24 @@ marked x = mark_after (opening_of x) x.mark
 
 -- once the first slot is empty, the one behind it is the first; both empty, slot A is
 abbrev pub moved_up : Guest → ℕ → Option Slot → Option Slot → Guest
-moved_up x n (Some first) behind = record { extent = x.extent; mark = n; paired = x.paired; side = x.side; slot = Some first; behind = behind }
-moved_up x n None (Some behind) = record { extent = x.extent; mark = n; paired = x.paired; side = other_side x.side; slot = Some behind; behind = None }
+moved_up x n (Some first) behind =
+    record {
+      extent = x.extent;
+      mark = n;
+      paired = x.paired;
+      side = x.side;
+      slot = Some first;
+      behind = behind;
+    }
+moved_up x n None (Some behind) =
+    record {
+      extent = x.extent;
+      mark = n;
+      paired = x.paired;
+      side = other_side x.side;
+      slot = Some behind;
+      behind = None;
+    }
 moved_up x n None None = record { extent = x.extent; mark = n; paired = x.paired; side = A; slot = None; behind = None }
 
 abbrev pub guest_after_sync : Guest → Guest
@@ -152,8 +179,24 @@ opened_slot i = record { phase = Open (skipped i.group.entries); intent = i }
 
 -- a guest behind one open gate
 abbrev pub redoing : Bool → Region → Side → Intent → Guest
-redoing paired region side i = record { extent = region; mark = last_of i.group + 1; paired = paired; side = side; slot = Some (opened_slot i); behind = None }
+redoing paired region side i =
+    record {
+      extent = region;
+      mark = last_of i.group + 1;
+      paired = paired;
+      side = side;
+      slot = Some (opened_slot i);
+      behind = None;
+    }
 
 -- a guest behind two open gates, the one of lower sequence at this side
 abbrev pub redoing_two : Region → Side → Intent → Intent → Guest
-redoing_two region side i j = record { extent = region; mark = last_of j.group + 1; paired = true; side = side; slot = Some (opened_slot i); behind = Some (opened_slot j) }
+redoing_two region side i j =
+    record {
+      extent = region;
+      mark = last_of j.group + 1;
+      paired = true;
+      side = side;
+      slot = Some (opened_slot i);
+      behind = Some (opened_slot j);
+    }

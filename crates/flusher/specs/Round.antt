@@ -1,5 +1,7 @@
 -- The one call that an advance makes (own).
-use Rattle.std.specs.Prelude.{◌≡◌, ◌⊎◌, ◌<◌, ℕ, Bool, true, false, List, length, map, slice_get, slice_set, Option, Some, None, Result, Ok, Err, position, if◌then◌else◌}
+use Rattle.std.specs.Prelude.{◌≡◌, ◌⊎◌, ◌<◌, ℕ, Bool, true, false, List, length, map, slice_get}
+use Rattle.std.specs.Prelude.{slice_set, Option, Some, None, Result, Ok, Err, position}
+use Rattle.std.specs.Prelude.{if◌then◌else◌}
 use Rattle.std.specs.List.{list_any}
 use Rattle.disk.specs.Disk.{DiskState, DiskCall, Write, Sync}
 use Rattle.flusher.specs.declared.guest.Guest.{Guest}
@@ -32,7 +34,8 @@ planned guests = plan_at (position guest_has_write guests) (list_any guest_await
 
 -- nothing is given, and each slot is empty
 abbrev pub AllEmpty : List Guest → Type 0
-AllEmpty guests = (g : ℕ) (x : Guest) → slice_get guests g ≡ Some x → (is_empty x.slot ≡ true) × (is_empty x.behind ≡ true)
+AllEmpty guests = (g : ℕ) (x : Guest) → slice_get guests g ≡ Some x
+    → (is_empty x.slot ≡ true) × (is_empty x.behind ≡ true)
 
 abbrev pub call_of : Plan → Call
 call_of (WriteOf g) = call.Write
@@ -57,7 +60,8 @@ with_marks guests (Ok made) = Ok (told_of guests made)
 with_marks guests (Err fault) = Err fault
 
 -- the slot's next write was made, and moved the slot however it ended
-pub record WroteSlot {D : Type 0} (makes : D → DiskCall → D → Type 0) (g : ℕ) (old_disk : D) (old : List Guest) (ok : Bool) (new_disk : D) (new : List Guest) : Type 0 where
+pub record WroteSlot {D : Type 0} (makes : D → DiskCall → D → Type 0) (g : ℕ) (old_disk : D)
+    (old : List Guest) (ok : Bool) (new_disk : D) (new : List Guest) : Type 0 where
   pub guest : Guest
   pub is : slice_get old g ≡ Some guest
   pub at : ℕ
@@ -67,25 +71,33 @@ pub record WroteSlot {D : Type 0} (makes : D → DiskCall → D → Type 0) (g :
   pub slots : new ≡ slice_set old g (guest_after_write guest)
 
 -- a sync was made, and moved every slot where it succeeded
-pub record SyncedAll {D : Type 0} (makes : D → DiskCall → D → Type 0) (old_disk : D) (old : List Guest) (ok : Bool) (new_disk : D) (new : List Guest) : Type 0 where
+pub record SyncedAll {D : Type 0} (makes : D → DiskCall → D → Type 0) (old_disk : D)
+    (old : List Guest) (ok : Bool) (new_disk : D) (new : List Guest) : Type 0 where
   pub call : makes old_disk (Sync ok) new_disk
   pub slots : new ≡ (if ok then map guest_after_sync old else old)
 
-pub record WriteRound {D : Type 0} (makes : D → DiskCall → D → Type 0) (g : ℕ) (old_disk : D) (old : List Guest) (result : Result Progress StoreFault) (new_disk : D) (new : List Guest) (broken : Bool) : Type 0 where
+pub record WriteRound {D : Type 0} (makes : D → DiskCall → D → Type 0) (g : ℕ) (old_disk : D)
+    (old : List Guest) (result : Result Progress StoreFault) (new_disk : D) (new : List Guest)
+    (broken : Bool) : Type 0 where
   pub ok : Bool
   pub wrote : WroteSlot makes g old_disk old ok new_disk new
   pub ends : Ends ok Wrote result broken
 
-pub record SyncRound {D : Type 0} (makes : D → DiskCall → D → Type 0) (old_disk : D) (old : List Guest) (result : Result Progress StoreFault) (new_disk : D) (new : List Guest) (broken : Bool) : Type 0 where
+pub record SyncRound {D : Type 0} (makes : D → DiskCall → D → Type 0) (old_disk : D)
+    (old : List Guest) (result : Result Progress StoreFault) (new_disk : D) (new : List Guest)
+    (broken : Bool) : Type 0 where
   pub ok : Bool
   pub synced : SyncedAll makes old_disk old ok new_disk new
   pub ends : Ends ok (Synced (marks_of new)) result broken
 
 -- what an advance of a store that isn't broken does
-abbrev pub Round : {D : Type 0} → (D → DiskCall → D → Type 0) → Plan → D → List Guest → Result Progress StoreFault → D → List Guest → Bool → Type 0
-Round makes (WriteOf g) old_disk old result new_disk new broken = WriteRound makes g old_disk old result new_disk new broken
+abbrev pub Round : {D : Type 0} → (D → DiskCall → D → Type 0) → Plan → D → List Guest
+    → Result Progress StoreFault → D → List Guest → Bool → Type 0
+Round makes (WriteOf g) old_disk old result new_disk new broken =
+    WriteRound makes g old_disk old result new_disk new broken
 Round makes SyncAll old_disk old result new_disk new broken = SyncRound makes old_disk old result new_disk new broken
-Round makes Nothing old_disk old result new_disk new broken = (result ≡ Ok Idle) × (new_disk ≡ old_disk) × (new ≡ old) × (broken ≡ false)
+Round makes Nothing old_disk old result new_disk new broken =
+    (result ≡ Ok Idle) × (new_disk ≡ old_disk) × (new ≡ old) × (broken ≡ false)
 
 abbrev pub settles : Result Progress StoreFault → Bool
 settles (Ok Wrote) = false
@@ -95,7 +107,8 @@ settles (Err e) = false
 
 -- the settled partitions after an advance
 abbrev pub parts_after : Result Progress StoreFault → List Guest → (ℕ → Part) → ℕ → Part
-parts_after result guests parts g = if settles result then settled_by guest_settled (slice_get guests g) (parts g) else parts g
+parts_after result guests parts g =
+    if settles result then settled_by guest_settled (slice_get guests g) (parts g) else parts g
 
 -- 3. What a caller sees of it, guest by guest
 

@@ -5,7 +5,8 @@ use Rattle.intent_slots.specs.Payload.{Group, Intent, last_of, payload_bytes}
 use Rattle.intent_slots.specs.Home.{home_bytes}
 use Rattle.flusher.specs.declared.phase.Phase.{Phase}
 use Rattle.flusher.specs.declared.slot.Slot.{Slot}
-use Rattle.flusher.specs.Phase.{NextWrite, NoWrite, PayloadWrite, GateWrite, BlocksWrite, HomeWrite, next_write, has_write, written, synced, is_opening, is_settled}
+use Rattle.flusher.specs.Phase.{NextWrite, NoWrite, PayloadWrite, GateWrite, BlocksWrite, HomeWrite}
+use Rattle.flusher.specs.Phase.{next_write, has_write, written, synced, is_opening, is_settled}
 
 abbrev pub is_empty : Option Slot → Bool
 is_empty None = true

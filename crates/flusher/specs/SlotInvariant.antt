@@ -1,5 +1,6 @@
 -- What every stop leaves of each guest (own).
-use Rattle.std.specs.Prelude.{◌≡◌, ◌≢◌, ◌⊎◌, ℕ, ◌≤◌, Bool, true, false, List, length, drop, ◌+◌, slice_get, Option, Some, None}
+use Rattle.std.specs.Prelude.{◌≡◌, ◌≢◌, ◌⊎◌, ℕ, ◌≤◌, Bool, true, false, List, length, drop, ◌+◌}
+use Rattle.std.specs.Prelude.{slice_get, Option, Some, None}
 use Rattle.rpmb_frame.specs.Partition.{sequence_of}
 use Rattle.disk.specs.Content.{Content}
 use Rattle.disk.specs.Disk.{DiskState, MayLeave}
@@ -8,7 +9,8 @@ use Rattle.intent_slots.specs.Layout.{Region, SlotRegion, AreApart, end_of}
 use Rattle.intent_slots.specs.Payload.{Group, GroupFits, Intent, last_of}
 use Rattle.intent_slots.specs.Recovered.{Part, HoldsHome, HasPayload, redone, redo, blocks_of, after, is_paired, Stands}
 use Rattle.flusher.specs.declared.phase.Phase.{Phase}
-use Rattle.flusher.specs.declared.phase.Phase.TheVariants.{Given, Written, Ready, Opening, Open, Applying, Applied, Closing}
+use Rattle.flusher.specs.declared.phase.Phase.TheVariants.{Given, Written, Ready, Opening, Open}
+use Rattle.flusher.specs.declared.phase.Phase.TheVariants.{Applying, Applied, Closing}
 use Rattle.flusher.specs.declared.slot.Slot.{Slot}
 use Rattle.flusher.specs.declared.guest.Guest.{Guest}
 use Rattle.flusher.specs.Phase.{skipped, is_settled}
@@ -31,7 +33,8 @@ PhaseRow region side p Ready i c = IsShut side c × HoldsHome region c p × HasP
 PhaseRow region side p Opening i c = HoldsHome region c p × HasPayload region side i c
 PhaseRow region side p (Open k) i c = IsWideOpen side c × (redone region c i ≡ p) × HasPayload region side i c
 PhaseRow region side p Applying i c = IsWideOpen side c × (redone region c i ≡ p) × HasPayload region side i c
-PhaseRow region side p Applied i c = IsWideOpen side c × (redone region c i ≡ p) × HasPayload region side i c × HoldsHome region c p
+PhaseRow region side p Applied i c =
+    IsWideOpen side c × (redone region c i ≡ p) × HasPayload region side i c × HoldsHome region c p
 PhaseRow region side p Closing i c = (redone region c i ≡ p) × HasPayload region side i c × HoldsHome region c p
 
 abbrev pub Row : Region → SlotRegion → Part → Option Slot → Content → Type 0
@@ -165,10 +168,12 @@ pub record IsMarked (p : Part) (x : Guest) : Type 0 where
   pub ordered : IsOrdered x
 
 -- Each guest's settled partition is held by every stop. X is what the store holds for one guest.
-pub record IsHeldBy {X : Type 0} (region : X → Region) (row seen : Part → X → Content → Type 0) (parts : ℕ → Part) (guests : List X) (broken : Bool) (s : DiskState) : Type 0 where
+pub record IsHeldBy {X : Type 0} (region : X → Region) (row seen : Part → X → Content → Type 0)
+    (parts : ℕ → Part) (guests : List X) (broken : Bool) (s : DiskState) : Type 0 where
   pub known : s.faithful ≡ true
   pub fits : (g : ℕ) (x : X) → slice_get guests g ≡ Some x → end_of (region x) ≤ s.len
-  pub apart : (g h : ℕ) (x y : X) → g ≢ h → slice_get guests g ≡ Some x → slice_get guests h ≡ Some y → AreApart (region x) (region y)
+  pub apart : (g h : ℕ) (x y : X) → g ≢ h → slice_get guests g ≡ Some x
+      → slice_get guests h ≡ Some y → AreApart (region x) (region y)
   pub rows : (g : ℕ) (x : X) → slice_get guests g ≡ Some x → (c : Content) → MayLeave s c → row (parts g) x c
   pub seen_rows : broken ≡ false → (g : ℕ) (x : X) → slice_get guests g ≡ Some x → seen (parts g) x s.seen
 
@@ -213,7 +218,8 @@ pub record IsKept (p : Part) (x : Guest) (c : Content) : Type 0 where
 
 -- every stop leaves, for each guest, such a content
 abbrev pub EachStop : (ℕ → Part) → List Guest → DiskState → Type 0
-EachStop parts guests s = (g : ℕ) (x : Guest) → slice_get guests g ≡ Some x → (c : Content) → MayLeave s c → IsKept (parts g) x c
+EachStop parts guests s = (g : ℕ) (x : Guest) → slice_get guests g ≡ Some x → (c : Content)
+    → MayLeave s c → IsKept (parts g) x c
 
 abbrev pub guest_settled : Guest → Part → Part
 guest_settled x p = settled_with (opening_of x) p

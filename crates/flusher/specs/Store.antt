@@ -1,5 +1,6 @@
 -- The store of all guests (own).
-use Rattle.std.specs.Prelude.{◌≡◌, ◌≢◌, ℕ, ◌+◌, ◌^◌, ◌≤◌, Bool, true, false, List, length, slice_get, slice_set, Option, Some, None}
+use Rattle.std.specs.Prelude.{◌≡◌, ◌≢◌, ℕ, ◌+◌, ◌^◌, ◌≤◌, Bool, true, false, List, length}
+use Rattle.std.specs.Prelude.{slice_get, slice_set, Option, Some, None}
 use Rattle.disk.specs.Disk.{DiskState, DiskCall, Read, Sync}
 use Rattle.intent_slots.specs.Layout.{end_of}
 use Rattle.intent_slots.specs.Payload.{Intent, GroupFits}
@@ -67,7 +68,8 @@ pub record HoldsSome (guests : List Guest) (s : DiskState) : Type 0 where
   pub held : IsHeld parts guests false s
 
 -- What an opening has shown of the guests of a disk: their marks were made by a sync.
-pub record IsOpened {D : Type 0} (state : D → DiskState) (makes : D → DiskCall → D → Type 0) (guests : List Guest) (disk : D) : Type 0 where
+pub record IsOpened {D : Type 0} (state : D → DiskState) (makes : D → DiskCall → D → Type 0)
+    (guests : List Guest) (disk : D) : Type 0 where
   pub synced : IsSynced makes disk
   pub holds : (state disk).faithful ≡ true → HoldsSome guests (state disk)
 

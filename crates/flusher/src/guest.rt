@@ -1,6 +1,9 @@
 ghost use Rattle.std.specs.Prelude.{◌≡◌, ◌≤◌, ◌↔◌, ◌+◌, IsTrue, length};
 ghost use Rattle.flusher.specs.Slot.{intent_of, pending_of, opening_in, slot_writes, slot_awaits, after_write};
-ghost use Rattle.flusher.specs.Pair.{has_room, entries_in, mark_after, is_let, behind_writes, turn_of, has_turn, marked, moved_up, guest_has_write, guest_awaits, guest_after_write, guest_after_sync, with_intent, resting, redoing, redoing_two};
+ghost use Rattle.flusher.specs.Pair.{has_room, entries_in, mark_after, is_let, behind_writes};
+ghost use Rattle.flusher.specs.Pair.{turn_of, has_turn, marked, moved_up, guest_has_write};
+ghost use Rattle.flusher.specs.Pair.{guest_awaits, guest_after_write, guest_after_sync};
+ghost use Rattle.flusher.specs.Pair.{with_intent, resting, redoing, redoing_two};
 ghost use Rattle.flusher.specs.Store.{pending, HasSameKey, FitsGuest};
 
 use crate::phase::Phase;

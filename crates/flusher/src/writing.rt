@@ -26,7 +26,9 @@ fn write_open<D: Disk>(
 ) -> Result<(), DiskFault>
     requires fits { GroupFits extent.now.size intent.now.group }
     requires room { end_of extent.now ≤ (D.state disk.old).len }
-    ensures { MatchOption (spelled extent.now (slot_region extent.now side) (open_write intent.now.group (slice_get intent.now.group.entries done))) ⊥ (λ w. D.makes disk.old (Write w.0 w.1 (is_ok result)) disk.new) }
+    ensures { MatchOption (spelled extent.now (slot_region extent.now side)
+        (open_write intent.now.group (slice_get intent.now.group.entries done))) ⊥ (λ w.
+        D.makes disk.old (Write w.0 w.1 (is_ok result)) disk.new) }
 {
     if done < intent.entries() {
         let entry = intent.entry(done);
@@ -48,7 +50,9 @@ fn write_slot<D: Disk>(
     requires room { end_of extent.now ≤ (D.state disk.old).len }
     requires buffer { length buffer.old ≡ 16648 }
     requires has { IsTrue (has_write slot.now.phase) }
-    ensures wrote { MatchOption (spelled extent.now (slot_region extent.now side) (next_write slot.now.phase slot.now.intent.group)) ⊥ (λ w. D.makes disk.old (Write w.0 w.1 (is_ok result)) disk.new) }
+    ensures wrote { MatchOption (spelled extent.now (slot_region extent.now side)
+        (next_write slot.now.phase slot.now.intent.group)) ⊥ (λ w.
+        D.makes disk.old (Write w.0 w.1 (is_ok result)) disk.new) }
     ensures buffer { length buffer.new ≡ 16648 }
 {
     match slot.phase {
@@ -75,7 +79,8 @@ fn write_from<D: Disk>(
     requires room { end_of extent.now ≤ (D.state disk.old).len }
     requires buffer { length buffer.old ≡ 16648 }
     requires has { IsTrue (slot_writes slot.now) }
-    ensures wrote { MatchOption (spelled extent.now (slot_region extent.now side) (slot_write slot.now)) ⊥ (λ w. D.makes disk.old (Write w.0 w.1 (is_ok result)) disk.new) }
+    ensures wrote { MatchOption (spelled extent.now (slot_region extent.now side)
+        (slot_write slot.now)) ⊥ (λ w. D.makes disk.old (Write w.0 w.1 (is_ok result)) disk.new) }
     ensures buffer { length buffer.new ≡ 16648 }
 {
     match slot {
@@ -91,7 +96,8 @@ fn write_next<D: Disk>(disk: &mut D, buffer: &mut [u8], guest: &Guest) -> Result
     requires room { end_of (region_of guest.now) ≤ (D.state disk.old).len }
     requires buffer { length buffer.old ≡ 16648 }
     requires has { IsTrue (guest_has_write guest.now) }
-    ensures wrote { MatchOption (guest_write guest.now) ⊥ (λ w. D.makes disk.old (Write w.0 w.1 (is_ok result)) disk.new) }
+    ensures wrote { MatchOption (guest_write guest.now) ⊥ (λ w.
+        D.makes disk.old (Write w.0 w.1 (is_ok result)) disk.new) }
     ensures buffer { length buffer.new ≡ 16648 }
 {
     match guest.turn() {

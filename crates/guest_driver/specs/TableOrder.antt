@@ -1,7 +1,8 @@
 -- What a driver keeps. With VIRTIO_F_IN_ORDER the descriptors of a split ring that aren't free are one stretch of its
 -- table, round and round, since chains come back in the order in which they were offered (2.7.9). Section numbers are
 -- those of VIRTIO 1.2.
-use Rattle.std.specs.Prelude.{◌≡◌, ◌≢◌, ◌⊎◌, ℕ, ◌+◌, ◌-◌, ◌%◌, ◌<◌, ◌≤◌, Bool, true, List, length, get_or, Option, Some, None}
+use Rattle.std.specs.Prelude.{◌≡◌, ◌≢◌, ◌⊎◌, ℕ, ◌+◌, ◌-◌, ◌%◌, ◌<◌, ◌≤◌, Bool, true, List, length}
+use Rattle.std.specs.Prelude.{get_or, Option, Some, None}
 use Rattle.guest_driver.specs.declared.driver.Flight.{Flight}
 use Rattle.guest_driver.specs.Driver.{no_flight, owner, following}
 
@@ -36,14 +37,16 @@ abbrev pub turn_of : ℕ → List Flight → ℕ → ℕ
 turn_of used flights d = turn used (get_or flights d no_flight).place
 
 -- A chain in flight has one descriptor or the two from its head on, and the chain whose turn is next begins behind it.
-pub record IsInTurn (size offered used next : ℕ) (owners : List (Option ℕ)) (flights : List Flight) (d : ℕ) : Type 0 where
+pub record IsInTurn (size offered used next : ℕ) (owners : List (Option ℕ)) (flights : List Flight)
+    (d : ℕ) : Type 0 where
   pub one : (get_or flights d no_flight).places ≡ 1
   pub low : (get_or flights d no_flight).place < 65536
   pub before : turn_of used flights d < turn used offered
   pub spans : ((get_or flights d no_flight).last ≡ d) ⊎ ((get_or flights d no_flight).last ≡ following size d)
   pub owned : owner owners (get_or flights d no_flight).last ≡ Some d
   pub older : turn_of used flights d + 1 < turn used offered
-      → IsHead owners (behind size flights d) × (turn_of used flights (behind size flights d) ≡ turn_of used flights d + 1)
+      → IsHead owners (behind size flights d)
+      × (turn_of used flights (behind size flights d) ≡ turn_of used flights d + 1)
   pub newest : turn_of used flights d + 1 ≡ turn used offered → behind size flights d ≡ next
 
 -- The descriptors that aren't free are so many from the first one on, up to the one at which the next chain begins.
@@ -58,19 +61,23 @@ pub record IsStretch (size offered used next : ℕ) (owners : List (Option ℕ))
   pub ends : IsBehind size first many next
   pub taken : (d : ℕ) → d < size → owner owners d ≢ None → IsWithin size first many d
   pub covers : (d : ℕ) → d < size → IsWithin size first many d → owner owners d ≢ None
-  pub room : (d : ℕ) → d < size → IsHead owners d → HaveOne size first many (turn used offered) (turn_of used flights d) d
+  pub room : (d : ℕ) → d < size → IsHead owners d
+      → HaveOne size first many (turn used offered) (turn_of used flights d) d
   pub oldest : 0 < turn used offered → IsHead owners first × (turn_of used flights first ≡ 0)
   pub none : turn used offered ≡ 0 → first ≡ next
   pub each : (d : ℕ) → d < size → IsHead owners d → IsInTurn size offered used next owners flights d
-  pub once : (d e : ℕ) → d < size → e < size → IsHead owners d → IsHead owners e → turn_of used flights d ≡ turn_of used flights e → d ≡ e
+  pub once : (d e : ℕ) → d < size → e < size → IsHead owners d → IsHead owners e
+      → turn_of used flights d ≡ turn_of used flights e → d ≡ e
 
 -- what a driver keeps
-pub record Keeps (ordered : Bool) (size offered used next : ℕ) (owners : List (Option ℕ)) (flights : List Flight) : Type 0 where
+pub record Keeps (ordered : Bool) (size offered used next : ℕ) (owners : List (Option ℕ))
+    (flights : List Flight) : Type 0 where
   pub each_owner : length owners ≡ size
   pub each_flight : length flights ≡ size
   pub size_low : size ≤ 65535
   pub offered_low : offered ≤ 200000
   pub used_low : used ≤ 200000
   pub next_low : 0 < size → next < size
-  pub each : (i : ℕ) → i < size → ((get_or flights i no_flight).last < size) × ((get_or flights i no_flight).writable ≤ 8192)
+  pub each : (i : ℕ) → i < size
+      → ((get_or flights i no_flight).last < size) × ((get_or flights i no_flight).writable ≤ 8192)
   pub stretch : ordered ≡ true → 0 < size → IsStretch size offered used next owners flights

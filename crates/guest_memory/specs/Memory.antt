@@ -18,4 +18,5 @@ IsInside memory at count = at + count ≤ length memory
 pub record Wrote (old : List ℕ) (at : ℕ) (bytes : List ℕ) (new : List ℕ) : Type 0 where
   pub size : length new ≡ length old
   pub same : bytes_at new at (length bytes) ≡ bytes
-  pub apart : (start count : ℕ) → (start + count ≤ at) ⊎ (at + length bytes ≤ start) → bytes_at new start count ≡ bytes_at old start count
+  pub apart : (start count : ℕ) → (start + count ≤ at) ⊎ (at + length bytes ≤ start)
+      → bytes_at new start count ≡ bytes_at old start count

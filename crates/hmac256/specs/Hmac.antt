@@ -1,5 +1,5 @@
--- HMAC (RFC 2104, section 2) with SHA-256 (FIPS 180-4), for keys of at most one block of 64 bytes, and the MAC of frames
--- (VIRTIO 1.2, 5.12.6). K0, ipad and opad are the standard's.
+-- HMAC (RFC 2104, section 2) with SHA-256 (FIPS 180-4), for keys of at most one block of 64 bytes,
+-- and the MAC of frames (VIRTIO 1.2, 5.12.6). K0, ipad and opad are the standard's.
 use Rattle.std.specs.Prelude.{ℕ, ◌-◌, List, ◌++◌, length, map, replicate, bit_xor}
 use Rattle.std.specs.List.{flat_map}
 use Rattle.sha2.specs.Sha256.{sha256}

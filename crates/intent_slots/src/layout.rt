@@ -1,5 +1,8 @@
 ghost use Rattle.std.specs.Prelude.{◌≡◌, ◌≤◌, ◌<◌, ◌+◌, ◌*◌, ◌^◌, length, slice_index};
-ghost use Rattle.intent_slots.specs.Layout.{capacities_of, region_at, start_of, image_length, slot_region, other_side, blocks_at, NeverOverlap, AllInside, PartsNeverOverlap, PartsInside, SlotsBetween};
+ghost use Rattle.intent_slots.specs.Layout.{capacities_of, region_at, start_of, image_length};
+ghost use Rattle.intent_slots.specs.Layout.{slot_region, other_side, blocks_at, NeverOverlap};
+ghost use Rattle.intent_slots.specs.Layout.{AllInside, PartsNeverOverlap, PartsInside};
+ghost use Rattle.intent_slots.specs.Layout.{SlotsBetween};
 
 use crate::extent::Extent;
 use arrayvec::ArrayVec;

@@ -1,13 +1,19 @@
 -- The reply to a request. The standard leaves the fields of refusals open; they are our own.
-use Rattle.std.specs.Prelude.{◌≡◌, ℕ, zero, suc, ◌*◌, ◌-◌, ◌==◌, nat_le, Bool, if◌then◌else◌, Option, Some, None, List, [], ◌∷◌, length, map, replicate, slice_set}
+use Rattle.std.specs.Prelude.{◌≡◌, ℕ, zero, suc, ◌*◌, ◌-◌, ◌==◌, nat_le, Bool, if◌then◌else◌}
+use Rattle.std.specs.Prelude.{Option, Some, None, List, [], ◌∷◌, length, map, replicate, slice_set}
 use Rattle.std.specs.List.{flat_map}
-use Rattle.rpmb_frame.specs.Frame.{address_of, block_count_of, nonce_of, first_of, last_of, zero_frame, with_key_mac, with_block_data, with_nonce, with_write_counter, with_address, with_block_count, with_result, with_req_resp}
-use Rattle.rpmb_frame.specs.Request.{Request, ProgramKey, GetWriteCounter, DataWrite, DataRead, ResultRead, Malformed, Command}
+use Rattle.rpmb_frame.specs.Frame.{address_of, block_count_of, nonce_of, first_of, last_of}
+use Rattle.rpmb_frame.specs.Frame.{zero_frame, with_key_mac, with_block_data, with_nonce}
+use Rattle.rpmb_frame.specs.Frame.{with_write_counter, with_address, with_block_count, with_result}
+use Rattle.rpmb_frame.specs.Frame.{with_req_resp}
+use Rattle.rpmb_frame.specs.Request.{Request, ProgramKey, GetWriteCounter, DataWrite, DataRead}
+use Rattle.rpmb_frame.specs.Request.{ResultRead, Malformed, Command}
 use Rattle.rpmb_frame.specs.Partition.{Partition, block_of}
 use Rattle.hmac256.specs.Hmac.{mac}
 use Rattle.rpmb_core.specs.declared.outcome.Outcome.{Outcome}
 use Rattle.rpmb_core.specs.declared.response.Response.{Response}
-use Rattle.rpmb_frame.specs.Codes.{res_ok, res_general_failure, resp_program_key, resp_get_counter, resp_data_write, resp_data_read}
+use Rattle.rpmb_frame.specs.Codes.{res_ok, res_general_failure, resp_program_key, resp_get_counter}
+use Rattle.rpmb_frame.specs.Codes.{resp_data_write, resp_data_read}
 
 abbrev pub zero_nonce : List ℕ
 zero_nonce = replicate 16 0
@@ -17,20 +23,55 @@ abbrev pub stored_response : Option Outcome → Response
 stored_response None =
     record { nonce = zero_nonce; write_counter = 0; address = 0; block_count = 0; code = res_general_failure; kind = 0 }
 stored_response (Some o) =
-    record { nonce = zero_nonce; write_counter = o.counter; address = o.address; block_count = o.block_count; code = o.code; kind = o.kind }
+    record {
+      nonce = zero_nonce;
+      write_counter = o.counter;
+      address = o.address;
+      block_count = o.block_count;
+      code = o.code;
+      kind = o.kind;
+    }
 
 abbrev pub read_response : List ℕ → ℕ → Response
 read_response frame code =
-    record { nonce = nonce_of frame; write_counter = 0; address = address_of frame; block_count = block_count_of frame; code = code; kind = resp_data_read }
+    record {
+      nonce = nonce_of frame;
+      write_counter = 0;
+      address = address_of frame;
+      block_count = block_count_of frame;
+      code = code;
+      kind = resp_data_read;
+    }
 
 -- the fields of a reply; the partition is the one after the request
 abbrev pub response_to : Partition → Command → ℕ → Option Outcome → Response
 response_to p (ProgramKey frame combined) code last =
-    record { nonce = zero_nonce; write_counter = p.counter; address = 0; block_count = block_count_of frame; code = code; kind = resp_program_key }
+    record {
+      nonce = zero_nonce;
+      write_counter = p.counter;
+      address = 0;
+      block_count = block_count_of frame;
+      code = code;
+      kind = resp_program_key;
+    }
 response_to p (GetWriteCounter frame) code last =
-    record { nonce = nonce_of frame; write_counter = p.counter; address = 0; block_count = block_count_of frame; code = code; kind = resp_get_counter }
+    record {
+      nonce = nonce_of frame;
+      write_counter = p.counter;
+      address = 0;
+      block_count = block_count_of frame;
+      code = code;
+      kind = resp_get_counter;
+    }
 response_to p (DataWrite frames combined) code last =
-    record { nonce = zero_nonce; write_counter = p.counter; address = address_of (first_of frames); block_count = block_count_of (first_of frames); code = code; kind = resp_data_write }
+    record {
+      nonce = zero_nonce;
+      write_counter = p.counter;
+      address = address_of (first_of frames);
+      block_count = block_count_of (first_of frames);
+      code = code;
+      kind = resp_data_write;
+    }
 response_to p (DataRead frame) code last = read_response frame code
 response_to p ResultRead code last = stored_response last
 response_to p Malformed code last = stored_response None

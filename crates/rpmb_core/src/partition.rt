@@ -1,4 +1,5 @@
-ghost use Rattle.std.specs.Prelude.{◌≡◌, ◌≤◌, ◌+◌, ◌*◌, ◌++◌, ℕ, List, None, true, is_none, IfOk, length, drop, vec_len};
+ghost use Rattle.std.specs.Prelude.{◌≡◌, ◌≤◌, ◌+◌, ◌*◌, ◌++◌, ℕ, List, None, true, is_none, IfOk};
+ghost use Rattle.std.specs.Prelude.{length, drop, vec_len};
 ghost use Rattle.std.specs.Option.{option_copied};
 ghost use Rattle.rpmb_frame.specs.Partition.{IsWhole, block_of, overwritten, sequence, empty_partition};
 ghost use Rattle.rpmb_core.specs.Accept.{is_accepted, partition_after, data_of};

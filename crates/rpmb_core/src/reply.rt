@@ -3,7 +3,8 @@ ghost use Rattle.std.specs.List.{AllByRecursion};
 ghost use Rattle.rpmb_frame.specs.Frame.{block_count_of, with_block_data};
 ghost use Rattle.rpmb_frame.specs.Partition.{block_of};
 ghost use Rattle.rpmb_core.specs.Verdict.{verdict};
-ghost use Rattle.rpmb_core.specs.Reply.{reply, sealed, joined, blocks_from, read_frames, one_frame, GivesBlocks, block_frames, is_answered, reply_length};
+ghost use Rattle.rpmb_core.specs.Reply.{reply, sealed, joined, blocks_from, read_frames, one_frame};
+ghost use Rattle.rpmb_core.specs.Reply.{GivesBlocks, block_frames, is_answered, reply_length};
 
 use crate::codes::OK;
 use crate::outcome::Outcome;
@@ -60,8 +61,12 @@ impl Partition {
         out: &mut [u8; 8192],
     ) -> usize
         ensures size { result ≡ (if is_answered request.now.command request.now.writable then 512 else 0) }
-        ensures len { result ≡ length (joined (sealed self.now.key (one_frame self.now request.now.command request.now.writable code last))) }
-        ensures bytes { out.new ≡ joined (sealed self.now.key (one_frame self.now request.now.command request.now.writable code last)) ++ drop result out.old }
+        ensures len { result ≡ length
+            (joined (sealed self.now.key
+            (one_frame self.now request.now.command request.now.writable code last))) }
+        ensures bytes { out.new ≡ joined
+            (sealed self.now.key (one_frame self.now request.now.command request.now.writable code
+            last)) ++ drop result out.old }
     {
         if !is_answered(request) {
             return 0;
@@ -90,7 +95,8 @@ impl Partition {
         requires few { block_count_of frame.now ≤ limits.max_rd_cnt }
         ensures size { result ≡ 512 * block_count_of frame.now }
         ensures len { result ≡ length (joined (sealed self.now.key (block_frames self.now frame.now))) }
-        ensures bytes { out.new ≡ joined (sealed self.now.key (block_frames self.now frame.now)) ++ drop result out.old }
+        ensures bytes { out.new ≡ joined (sealed self.now.key (block_frames self.now frame.now))
+            ++ drop result out.old }
     {
         // The limit is what says that the frames fit the reply.
         let _limit = limits.max_rd_cnt();
@@ -107,7 +113,8 @@ impl Partition {
     fn seal(&self, count: usize, out: &mut [u8; 8192])
         requires some { 1 ≤ count }
         requires few { count ≤ 16 }
-        ensures { (frames : List (List ℕ)) (rest : List ℕ) → AllByRecursion (λ frame. length frame ≡ 512) frames → length frames ≡ count
+        ensures { (frames : List (List ℕ)) (rest : List ℕ)
+            → AllByRecursion (λ frame. length frame ≡ 512) frames → length frames ≡ count
             → out.old ≡ joined frames ++ rest → out.new ≡ joined (sealed self.now.key frames) ++ rest }
     {
         match self.mac_key() {
@@ -125,8 +132,11 @@ impl Partition {
     fn put_blocks(&self, base: &[u8; 512], address: usize, count: usize, out: &mut [u8; 8192])
         requires few { count ≤ 16 }
         requires low { address ≤ 65_535 }
-        ensures written { out.new ≡ joined (read_frames base.now (blocks_from self.now address count)) ++ drop (512 * count) out.old }
-        ensures whole { AllByRecursion (λ frame. length frame ≡ 512) (read_frames base.now (blocks_from self.now address count)) }
+        ensures written { out.new
+            ≡ joined (read_frames base.now (blocks_from self.now address count))
+            ++ drop (512 * count) out.old }
+        ensures whole { AllByRecursion (λ frame. length frame ≡ 512)
+            (read_frames base.now (blocks_from self.now address count)) }
         ensures many { length (read_frames base.now (blocks_from self.now address count)) ≡ count }
     {
         for i in 0..count {

@@ -3,7 +3,8 @@ use Rattle.std.specs.Prelude.{◌≡◌, ℕ}
 use Rattle.chains.specs.Ring.{RingState}
 use Rattle.split_ring.specs.Layout.{AreasInside}
 
-pub areas_stay : (bytes : ℕ) (old new : RingState) → new.places ≡ old.places → new.size ≡ old.size → AreasInside bytes old → AreasInside bytes new
+pub areas_stay : (bytes : ℕ) (old new : RingState) → new.places ≡ old.places → new.size ≡ old.size
+    → AreasInside bytes old → AreasInside bytes new
 areas_stay bytes old new same size inside = record {
   descriptors = rw (same, size) inside.descriptors;
   driver = rw (same, size) inside.driver;
