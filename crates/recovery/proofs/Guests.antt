@@ -23,7 +23,8 @@ use Rattle.flusher.proofs.Blocks.{same_content}
 use Rattle.recovery.specs.declared.fault.OpenFault.{OpenFault}
 use Rattle.recovery.specs.declared.fault.OpenFault.TheVariants as fault
 use Rattle.recovery.specs.Opening.{Untouched, IsBegun, EachBegun, AllBegun, AllStand, IsAtRest, sequences_of, IsFirst, HasFront, HasPart, HasParts, IsImage, IsUnformatted, NoFront, NoParts, Answers, AnswersFault, parts_of, part_or}
-use Rattle.recovery.specs.Reading.{Gives, IsFound, AllFound, FindsFault, FindsAll, FindsAllFault, TellsHeaderFault}
+use Rattle.recovery.specs.Front.{HasNoHeader, NoMagic, OtherLength, TellsVersionFault}
+use Rattle.recovery.specs.Reading.{Gives, IsFound, AllFound, FindsFault, FindsAll, FindsAllFault}
 use Rattle.recovery.proofs.Lists.{Each, none_each, each_more}
 use Rattle.recovery.proofs.Ways.{gives_on}
 
@@ -171,11 +172,15 @@ all_rest cs s t known u synced image = record {
 
 -- 3. The outcomes
 
-pub header_answers : (cs : List ℕ) (len : ℕ) (c : Content) (f : OpenFault) → TellsHeaderFault cs len c f → AnswersFault cs len c f
-header_answers cs len c fault.NotFormatted none = NoFront none
-header_answers cs len c fault.OtherConfig other = other
-header_answers cs len c fault.DiskFault any = tt
-header_answers cs len c fault.NoMemory never = tt
+not_formatted : (cs : List ℕ) (len : ℕ) (c : Content) → HasNoHeader cs len c → IsUnformatted cs len c
+not_formatted cs len c (NoMagic none) = NoFront none
+not_formatted cs len c (OtherLength front header other) = NoParts front header (λ (h : HasParts cs len c). other h.long)
+
+pub front_answers : (cs : List ℕ) (len : ℕ) (c : Content) (f : OpenFault) → TellsVersionFault cs len c f → AnswersFault cs len c f
+front_answers cs len c fault.NotFormatted none = not_formatted cs len c none
+front_answers cs len c fault.OtherConfig other = other
+front_answers cs len c fault.DiskFault any = tt
+front_answers cs len c fault.NoMemory never = tt
 
 pub on_found : (cs : List ℕ) (xs : List Guest) (ps : List Partition) (s t : DiskState) (r : Result (Unit {0}) OpenFault) → Untouched s t
     → ((c : Content) → Gives t c → FindsAll cs c xs ps r) → OnOk r ((c : Content) → Gives s c → AllFound c xs ps)

@@ -1,5 +1,6 @@
 -- What an opening answers, and what it leaves as it was (own).
-use Rattle.std.specs.Prelude.{◌≡◌, ℕ, ◌≤◌, ◌<◌, ◌^◌, true, false, List, length, map, slice_get, slice_index, Option, Some, None, Result, Ok, Err}
+use Rattle.std.specs.Prelude.{◌≡◌, ℕ, ◌≤◌, ◌<◌, ◌^◌, true, false, List, length, map, slice_get}
+use Rattle.std.specs.Prelude.{slice_index, Option, Some, None, Result, Ok, Err}
 use Rattle.rpmb_frame.specs.Partition.{Partition, sequence_of}
 use Rattle.disk.specs.Content.{Content, zeros}
 use Rattle.disk.specs.Disk.{DiskState, DiskCall, Sync, MayLeave}
@@ -108,7 +109,8 @@ pub record IsBegun (capacities : List ℕ) (g : ℕ) (x : Guest) (p : Partition)
   pub ordered : IsOrdered x
 
 abbrev pub EachBegun : List ℕ → List Guest → List Partition → Type 0
-EachBegun capacities guests partitions = (g : ℕ) (x : Guest) (p : Partition) → slice_get guests g ≡ Some x → slice_get partitions g ≡ Some p → IsBegun capacities g x p
+EachBegun capacities guests partitions = (g : ℕ) (x : Guest) (p : Partition)
+    → slice_get guests g ≡ Some x → slice_get partitions g ≡ Some p → IsBegun capacities g x p
 
 -- each guest of the board in its region
 pub record AllBegun (capacities : List ℕ) (guests : List Guest) (partitions : List Partition) : Type 0 where
@@ -118,7 +120,8 @@ pub record AllBegun (capacities : List ℕ) (guests : List Guest) (partitions : 
 
 -- each partition is what the content stands for
 abbrev pub AllStand : Content → List Guest → List Partition → Type 0
-AllStand c guests partitions = (g : ℕ) (x : Guest) (p : Partition) → slice_get guests g ≡ Some x → slice_get partitions g ≡ Some p
+AllStand c guests partitions = (g : ℕ) (x : Guest) (p : Partition) → slice_get guests g ≡ Some x
+    → slice_get partitions g ≡ Some p
     → Stands (region_of x) c (part_of p)
 
 -- the partitions' sequences
@@ -155,7 +158,8 @@ CallsFault makes old new fault.DiskFault = SyncsFirst makes old new
 CallsFault makes old new fault.NotFormatted = SyncsFirst makes old new
 CallsFault makes old new fault.OtherConfig = SyncsFirst makes old new
 
-abbrev pub Calls : {D P : Type 0} → (makes : D → DiskCall → D → Type 0) → D → Result (StoreState D × P) (D × OpenFault) → Type 0
+abbrev pub Calls : {D P : Type 0} → (makes : D → DiskCall → D → Type 0) → D
+    → Result (StoreState D × P) (D × OpenFault) → Type 0
 Calls makes old (Ok opened) = SyncsFirst makes old opened.0.disk
 Calls makes old (Err refused) = CallsFault makes old refused.0 refused.1
 

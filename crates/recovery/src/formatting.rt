@@ -3,7 +3,9 @@ ghost use Rattle.std.specs.Prelude.{◌≡◌, ◌≤◌, ◌<◌, ◌+◌, ◌*
 ghost use Rattle.disk.specs.Content.{zeros};
 ghost use Rattle.disk.specs.Disk.{HasRisen, Sync};
 ghost use Rattle.intent_slots.specs.Layout.{capacities_of, image_length};
-ghost use Rattle.recovery.specs.Format.{Attempts, formatted, Holds, IsFormatted, Zeroes, FormattedIsImage, FormattedIsEmpty, WritesZeros, SyncsZeros, IsBlank, StaysEmpty, ClearsFirst};
+ghost use Rattle.recovery.specs.Format.{Attempts, formatted, Holds, IsFormatted, Zeroes};
+ghost use Rattle.recovery.specs.Format.{FormattedIsImage, FormattedIsEmpty, WritesZeros};
+ghost use Rattle.recovery.specs.Format.{SyncsZeros, IsBlank, StaysEmpty, ClearsFirst};
 
 use crate::fault::OpenFault;
 use disk::{Disk, DiskFault};
@@ -18,7 +20,8 @@ fn write_zeros<D: Disk>(disk: &mut D, at: u64, count: usize) -> Result<(), DiskF
     requires few { count ≤ 16648 }
     requires room { at + count ≤ (D.state disk.old).len }
     ensures attempts { Attempts (is_ok result) (D.state disk.old) (D.state disk.new) }
-    ensures zeros { OnOk result ((D.state disk.old).faithful ≡ true → Zeroes at count (D.state disk.old) (D.state disk.new)) }
+    ensures zeros { OnOk result ((D.state disk.old).faithful ≡ true
+        → Zeroes at count (D.state disk.old) (D.state disk.new)) }
     ensures calls { WritesZeros D.makes disk.old disk.new }
 {
     let zeros = [0; 16_648];
@@ -28,7 +31,8 @@ fn write_zeros<D: Disk>(disk: &mut D, at: u64, count: usize) -> Result<(), DiskF
 /// Writes zeros over the whole disk, in ascending chunks.
 fn write_all_zeros<D: Disk>(disk: &mut D) -> Result<(), DiskFault>
     ensures attempts { Attempts (is_ok result) (D.state disk.old) (D.state disk.new) }
-    ensures zeros { OnOk result ((D.state disk.old).faithful ≡ true → Holds zeros (D.state disk.old).len (D.state disk.new).seen) }
+    ensures zeros { OnOk result ((D.state disk.old).faithful ≡ true
+        → Holds zeros (D.state disk.old).len (D.state disk.new).seen) }
     ensures calls { WritesZeros D.makes disk.old disk.new }
 {
     let len = disk.len();
@@ -47,7 +51,9 @@ fn write_guest<D: Disk>(disk: &mut D, layout: &Layout, guest: u16) -> Result<(),
     requires guest { guest < length layout.now }
     requires room { image_length layout.now ≤ (D.state disk.old).len }
     ensures attempts { Attempts (is_ok result) (D.state disk.old) (D.state disk.new) }
-    ensures zeros { OnOk result ((D.state disk.old).faithful ≡ true → Holds zeros (D.state disk.old).len (D.state disk.old).seen → Holds zeros (D.state disk.old).len (D.state disk.new).seen) }
+    ensures zeros { OnOk result ((D.state disk.old).faithful ≡ true
+        → Holds zeros (D.state disk.old).len (D.state disk.old).seen
+        → Holds zeros (D.state disk.old).len (D.state disk.new).seen) }
     ensures calls { WritesZeros D.makes disk.old disk.new }
 {
     let extent = layout.extent(guest);
@@ -66,7 +72,9 @@ fn write_guest<D: Disk>(disk: &mut D, layout: &Layout, guest: u16) -> Result<(),
 fn write_guests<D: Disk>(disk: &mut D, layout: &Layout) -> Result<(), DiskFault>
     requires { image_length layout.now ≤ (D.state disk.old).len }
     ensures attempts { Attempts (is_ok result) (D.state disk.old) (D.state disk.new) }
-    ensures zeros { OnOk result ((D.state disk.old).faithful ≡ true → Holds zeros (D.state disk.old).len (D.state disk.old).seen → Holds zeros (D.state disk.old).len (D.state disk.new).seen) }
+    ensures zeros { OnOk result ((D.state disk.old).faithful ≡ true
+        → Holds zeros (D.state disk.old).len (D.state disk.old).seen
+        → Holds zeros (D.state disk.old).len (D.state disk.new).seen) }
     ensures calls { WritesZeros D.makes disk.old disk.new }
 {
     for guest in 0..layout.guests() {
@@ -82,7 +90,9 @@ fn write_guests<D: Disk>(disk: &mut D, layout: &Layout) -> Result<(), DiskFault>
 fn write_header<D: Disk>(disk: &mut D, layout: &Layout, version: u8) -> Result<(), DiskFault>
     requires { image_length layout.now ≤ (D.state disk.old).len }
     ensures attempts { Attempts (is_ok result) (D.state disk.old) (D.state disk.new) }
-    ensures header { OnOk result ((D.state disk.old).faithful ≡ true → Holds zeros (D.state disk.old).len (D.state disk.old).seen → Holds (formatted version layout.now) (D.state disk.old).len (D.state disk.new).seen) }
+    ensures header { OnOk result ((D.state disk.old).faithful ≡ true
+        → Holds zeros (D.state disk.old).len (D.state disk.old).seen
+        → Holds (formatted version layout.now) (D.state disk.old).len (D.state disk.new).seen) }
     ensures empty { IsBlank layout.now (D.state disk.old) → StaysEmpty D.state D.makes layout.now disk.old disk.new }
 {
     match disk.write_at(0, layout.header().as_slice()) {
@@ -96,8 +106,10 @@ fn write_header<D: Disk>(disk: &mut D, layout: &Layout, version: u8) -> Result<(
 fn sync<D: Disk>(disk: &mut D) -> Result<(), DiskFault>
     ensures call { D.makes disk.old (Sync (is_ok result)) disk.new }
     ensures attempts { Attempts (is_ok result) (D.state disk.old) (D.state disk.new) }
-    ensures seen { (D.state disk.old).faithful ≡ true → (k : ℕ) → (D.state disk.new).seen k ≡ (D.state disk.old).seen k }
-    ensures durable { OnOk result ((D.state disk.old).faithful ≡ true → (k : ℕ) → (D.state disk.new).unsynced k ≡ false) }
+    ensures seen { (D.state disk.old).faithful ≡ true → (k : ℕ)
+        → (D.state disk.new).seen k ≡ (D.state disk.old).seen k }
+    ensures durable { OnOk result ((D.state disk.old).faithful ≡ true → (k : ℕ)
+        → (D.state disk.new).unsynced k ≡ false) }
 {
     disk.sync()
 }
@@ -111,7 +123,8 @@ fn sync<D: Disk>(disk: &mut D) -> Result<(), DiskFault>
 /// Answers `DiskFault` where a call failed. Other faults never come.
 pub fn format<D: Disk>(disk: &mut D, board: &BoardConfig) -> Result<(), OpenFault>
     requires { (D.state disk.old).len ≡ image_length (capacities_of board.now) }
-    ensures formatted { OnOk result ((D.state disk.old).faithful ≡ true → IsFormatted 1 (capacities_of board.now) (D.state disk.new)) }
+    ensures formatted { OnOk result ((D.state disk.old).faithful ≡ true
+        → IsFormatted 1 (capacities_of board.now) (D.state disk.new)) }
     ensures only { (fault : OpenFault) → result ≡ Err fault → fault ≡ OpenFault.DiskFault }
     ensures cause { OnErr result (HasRisen (D.state disk.old).failures (D.state disk.new).failures) }
     ensures unfailed { OnOk result ((D.state disk.new).failures ≡ (D.state disk.old).failures) }
@@ -132,7 +145,8 @@ pub fn format<D: Disk>(disk: &mut D, board: &BoardConfig) -> Result<(), OpenFaul
 /// Answers `DiskFault` where a call failed. Other faults never come.
 pub fn format2<D: Disk>(disk: &mut D, board: &BoardConfig) -> Result<(), OpenFault>
     requires { (D.state disk.old).len ≡ image_length (capacities_of board.now) }
-    ensures formatted { OnOk result ((D.state disk.old).faithful ≡ true → IsFormatted 2 (capacities_of board.now) (D.state disk.new)) }
+    ensures formatted { OnOk result ((D.state disk.old).faithful ≡ true
+        → IsFormatted 2 (capacities_of board.now) (D.state disk.new)) }
     ensures only { (fault : OpenFault) → result ≡ Err fault → fault ≡ OpenFault.DiskFault }
     ensures cause { OnErr result (HasRisen (D.state disk.old).failures (D.state disk.new).failures) }
     ensures unfailed { OnOk result ((D.state disk.new).failures ≡ (D.state disk.old).failures) }
@@ -151,7 +165,8 @@ pub fn format2<D: Disk>(disk: &mut D, board: &BoardConfig) -> Result<(), OpenFau
 fn write_image<D: Disk>(disk: &mut D, layout: &Layout, version: u8) -> Result<(), DiskFault>
     requires { (D.state disk.old).len ≡ image_length layout.now }
     ensures attempts { Attempts (is_ok result) (D.state disk.old) (D.state disk.new) }
-    ensures formatted { OnOk result ((D.state disk.old).faithful ≡ true → IsFormatted version layout.now (D.state disk.new)) }
+    ensures formatted { OnOk result ((D.state disk.old).faithful ≡ true
+        → IsFormatted version layout.now (D.state disk.new)) }
     ensures order { ClearsFirst D.state D.makes layout.now disk.old disk.new }
 {
     match clear(disk, layout) {
@@ -169,8 +184,10 @@ fn write_image<D: Disk>(disk: &mut D, layout: &Layout, version: u8) -> Result<()
 fn clear<D: Disk>(disk: &mut D, layout: &Layout) -> Result<(), DiskFault>
     requires { (D.state disk.old).len ≡ image_length layout.now }
     ensures attempts { Attempts (is_ok result) (D.state disk.old) (D.state disk.new) }
-    ensures zeros { OnOk result ((D.state disk.old).faithful ≡ true → Holds zeros (D.state disk.old).len (D.state disk.new).seen) }
-    ensures durable { OnOk result ((D.state disk.old).faithful ≡ true → (k : ℕ) → (D.state disk.new).unsynced k ≡ false) }
+    ensures zeros { OnOk result ((D.state disk.old).faithful ≡ true
+        → Holds zeros (D.state disk.old).len (D.state disk.new).seen) }
+    ensures durable { OnOk result ((D.state disk.old).faithful ≡ true → (k : ℕ)
+        → (D.state disk.new).unsynced k ≡ false) }
     ensures cleared { OnOk result (SyncsZeros D.makes true disk.old disk.new) }
     ensures refused { OnErr result (ClearsFirst D.state D.makes layout.now disk.old disk.new) }
 {

@@ -1,47 +1,26 @@
 //! Opening an image that a stop may have left.
-ghost use Rattle.std.specs.Prelude.{◌≡◌, ◌≤◌, ◌<◌, ◌+◌, ◌*◌, ◌^◌, [], ℕ, true, false, length, IfOk, IfErr, OnOk, Err, vec_capacity};
-ghost use Rattle.disk.specs.Content.{Content};
+ghost use Rattle.std.specs.Prelude.{◌≡◌, ◌≤◌, [], ℕ, true, false, length, IfOk, IfErr, OnOk, Err};
+ghost use Rattle.std.specs.Prelude.{vec_capacity};
 ghost use Rattle.disk.specs.Disk.{Within, HasRisen};
 ghost use Rattle.intent_slots.specs.Layout.{capacities_of, image_length};
-ghost use Rattle.intent_slots.specs.Recovered.{is_paired};
 ghost use Rattle.flusher.specs.SlotInvariant.{IsHeld};
 ghost use Rattle.flusher.specs.Marks.{marks_of};
 ghost use Rattle.flusher.specs.Store.{AllFit, IsSynced};
-ghost use Rattle.recovery.specs.Opening.{Untouched, Calls, AllBegun, AllStand, Answers, IsAtRest, parts_of, sequences_of, disk_after, outcome_of};
-ghost use Rattle.recovery.specs.Reading.{Gives, Passes, Opens, AllFound, FindsAll, TellsHeader, is_disk_fault};
+ghost use Rattle.recovery.specs.Opening.{Untouched, Calls, AllBegun, AllStand, Answers, IsAtRest};
+ghost use Rattle.recovery.specs.Opening.{parts_of, sequences_of, disk_after, outcome_of};
+ghost use Rattle.recovery.specs.Reading.{Tells, Passes, Opens, AllFound, FindsAllIn, is_disk_fault};
 ghost use Rattle.recovery.specs.Space.{AreSpaces};
 
 use crate::fault::OpenFault;
-use crate::reading::{read, read_guest, read_version};
+use crate::front::check;
+use crate::reading::read_guest;
 use crate::space::{Space, Supplies};
 use disk::Disk;
 use flusher::{Guest, Store};
-use intent_slots::{HEADER_LENGTH, HeaderFault, Layout};
+use intent_slots::Layout;
 use rpmb_core::Partition;
 use rpmb_frame::BoardConfig;
 use std::alloc::Global;
-
-/// Whether the front of the image is the header of this layout.
-pub(crate) fn read_header<D: Disk>(disk: &mut D, layout: &Layout) -> Result<(), OpenFault>
-    requires { length layout.now ≤ 64 }
-    ensures passes { Passes D.state D.makes disk.old disk.new (is_disk_fault result) }
-    ensures memory { ¬ result ≡ Err OpenFault.NoMemory }
-    ensures tells { (c : Content) → Gives (D.state disk.old) c → TellsHeader layout.now (D.state disk.old).len c result }
-{
-    if disk.len() < HEADER_LENGTH {
-        return Err(OpenFault::NotFormatted);
-    }
-    let mut front = [0; 74];
-    match read(disk, 0, &mut front) {
-        Ok(()) => {}
-        Err(_) => return Err(OpenFault::DiskFault),
-    }
-    match layout.check_header(&front) {
-        Ok(()) => Ok(()),
-        Err(HeaderFault::NotFormatted) => Err(OpenFault::NotFormatted),
-        Err(HeaderFault::OtherConfig) => Err(OpenFault::OtherConfig),
-    }
-}
 
 /// Reads each guest, in ascending order.
 fn read_guests<D: Disk>(
@@ -63,7 +42,8 @@ fn read_guests<D: Disk>(
     ensures passes { Passes D.state D.makes disk.old disk.new (is_disk_fault result) }
     ensures memory { ¬ result ≡ Err OpenFault.NoMemory }
     ensures begun { OnOk result (AllBegun layout.now guests.new.items partitions.new.items) }
-    ensures finds { (c : Content) → Gives (D.state disk.old) c → paired ≡ is_paired c → FindsAll layout.now c guests.new.items partitions.new.items result }
+    ensures finds { Tells (D.state disk.old)
+        (FindsAllIn paired layout.now guests.new.items partitions.new.items result) }
 {
     let mut spaces = spaces;
     for number in 0..layout.guests() {
@@ -99,24 +79,16 @@ fn read_image<D: Disk>(
     ensures begun { OnOk result (AllBegun layout.now guests.new.items partitions.new.items) }
     ensures long { OnOk result ((D.state disk.old).len ≡ image_length layout.now) }
     ensures went { OnOk result (IsSynced D.makes disk.new) }
-    ensures synced { OnOk result ((D.state disk.old).faithful ≡ true → (k : ℕ) → (D.state disk.new).unsynced k ≡ false) }
-    ensures found { OnOk result ((c : Content) → Gives (D.state disk.old) c → AllFound c guests.new.items partitions.new.items) }
-    ensures answers { (c : Content) → Gives (D.state disk.old) c → Answers layout.now (D.state disk.old).len c result }
+    ensures synced { OnOk result ((D.state disk.old).faithful ≡ true → (k : ℕ)
+        → (D.state disk.new).unsynced k ≡ false) }
+    ensures found { OnOk result (Tells (D.state disk.old)
+        (λ c. AllFound c guests.new.items partitions.new.items)) }
+    ensures answers { Tells (D.state disk.old)
+        (λ c. Answers layout.now (D.state disk.old).len c result) }
 {
-    match disk.sync() {
-        Ok(()) => {}
-        Err(_) => return Err(OpenFault::DiskFault),
-    }
-    match read_header(disk, layout) {
-        Ok(()) => {}
-        Err(fault) => return Err(fault),
-    }
-    if disk.len() != layout.length() {
-        return Err(OpenFault::NotFormatted);
-    }
-    let paired = match read_version(disk) {
+    let paired = match check(disk, layout) {
         Ok(paired) => paired,
-        Err(_) => return Err(OpenFault::DiskFault),
+        Err(fault) => return Err(fault),
     };
     read_guests(disk, layout, paired, spaces, buffer, guests, partitions)
 }
@@ -145,11 +117,16 @@ pub fn open<D: Disk>(
     ensures unbroken { IfOk result (λ r. r.0.broken ≡ false) }
     ensures marks { IfOk result (λ r. marks_of r.0.guests ≡ sequences_of r.1.items) }
     ensures fits { IfOk result (λ r. AllFit (D.state r.0.disk).len r.0.guests) }
-    ensures stand { IfOk result (λ r. (D.state disk).faithful ≡ true → AllStand (D.state disk).seen r.0.guests r.1.items) }
-    ensures answers { (D.state disk).faithful ≡ true → Answers (capacities_of board.now) (D.state disk).len (D.state disk).seen (outcome_of result) }
+    ensures stand { IfOk result (λ r. (D.state disk).faithful ≡ true
+        → AllStand (D.state disk).seen r.0.guests r.1.items) }
+    ensures answers { (D.state disk).faithful ≡ true
+        → Answers (capacities_of board.now)
+        (D.state disk).len (D.state disk).seen (outcome_of result) }
     ensures no_memory { IfErr result (λ e. e.1 ≡ OpenFault.NoMemory → e.0 ≡ disk) }
-    ensures cause { IfErr result (λ e. e.1 ≡ OpenFault.DiskFault → HasRisen (D.state disk).failures (D.state e.0).failures) }
-    ensures unfailed { is_disk_fault (outcome_of result) ≡ false → (D.state (disk_after result)).failures ≡ (D.state disk).failures }
+    ensures cause { IfErr result (λ e. e.1 ≡ OpenFault.DiskFault
+        → HasRisen (D.state disk).failures (D.state e.0).failures) }
+    ensures unfailed { is_disk_fault (outcome_of result) ≡ false
+        → (D.state (disk_after result)).failures ≡ (D.state disk).failures }
 
     // The first call is a sync, and only where it succeeded there are others, all of them reads.
     ensures calls { Calls D.makes disk result }
@@ -159,8 +136,10 @@ pub fn open<D: Disk>(
 
     // Nothing is unsynced then, and every stop leaves an image of the board, which stands for these
     // partitions.
-    ensures rest { IfOk result (λ r. (D.state disk).faithful ≡ true → IsAtRest (capacities_of board.now) (D.state r.0.disk)) }
-    ensures held { IfOk result (λ r. (D.state disk).faithful ≡ true → IsHeld (parts_of r.1.items) r.0.guests r.0.broken (D.state r.0.disk)) }
+    ensures rest { IfOk result (λ r. (D.state disk).faithful ≡ true
+        → IsAtRest (capacities_of board.now) (D.state r.0.disk)) }
+    ensures held { IfOk result (λ r. (D.state disk).faithful ≡ true
+        → IsHeld (parts_of r.1.items) r.0.guests r.0.broken (D.state r.0.disk)) }
 {
     let mut disk = disk;
     let layout = Layout::of(board);

@@ -1,26 +1,28 @@
 //! What stands in the image for one guest.
-ghost use Rattle.std.specs.Prelude.{◌≡◌, ◌≤◌, ◌<◌, ◌+◌, ◌*◌, ◌^◌, ℕ, true, false, length, is_ok, not, IfOk, OnOk, Err};
-ghost use Rattle.disk.specs.Content.{Content, bytes_at, content_of};
-ghost use Rattle.intent_slots.specs.Layout.{region_at, slot_region, image_length};
-ghost use Rattle.intent_slots.specs.Layout.{other_side};
+ghost use Rattle.std.specs.Prelude.{◌≡◌, ◌≤◌, ◌<◌, ◌+◌, true, false, length, is_ok, not};
+ghost use Rattle.std.specs.Prelude.{IfOk, OnOk, Err};
+ghost use Rattle.disk.specs.Content.{bytes_at, content_of};
+ghost use Rattle.intent_slots.specs.Layout.{region_at, image_length};
 ghost use Rattle.intent_slots.specs.declared.layout.Side.TheVariants.{A};
 ghost use Rattle.intent_slots.specs.Payload.{GroupFits, last_of};
-ghost use Rattle.intent_slots.specs.Recovered.{redo, is_paired, HasPayload};
+ghost use Rattle.intent_slots.specs.Recovered.{redo};
 ghost use Rattle.recovery.specs.Opening.{IsBegun};
-ghost use Rattle.recovery.specs.Reading.{Gives, Passes, Finds, GateIs, GatesAre, GatesFit, FindsPayload, gates_of, is_disk_fault};
+ghost use Rattle.recovery.specs.Reading.{Passes, Tells, GateIs, GatesAre, GatesFit, FindsBehind};
+ghost use Rattle.recovery.specs.Reading.{FindsIn, FindsOne, FindsPayload, FindsTwo, gates_of};
+ghost use Rattle.recovery.specs.Reading.{is_disk_fault, slot_at};
 
 use crate::fault::OpenFault;
 use crate::space::Space;
 use disk::{Disk, DiskFault};
 use flusher::Guest;
-use intent_slots::{HOME_LENGTH, Home, Intent, Layout, OPEN_GATE, Room, Side, VERSION_OFFSET};
+use intent_slots::{HOME_LENGTH, Home, Intent, Layout, OPEN_GATE, Room, Side};
 use rpmb_core::Partition;
 
 /// Reads a range.
 pub(crate) fn read<D: Disk>(disk: &mut D, at: u64, out: &mut [u8]) -> Result<(), DiskFault>
     requires { at + length out.old ≤ (D.state disk.old).len }
     ensures passes { Passes D.state D.makes disk.old disk.new (not (is_ok result)) }
-    ensures bytes { OnOk result ((c : Content) → Gives (D.state disk.old) c → out.new ≡ bytes_at c at (length out.old)) }
+    ensures bytes { OnOk result (Tells (D.state disk.old) (λ c. out.new ≡ bytes_at c at (length out.old))) }
 {
     disk.read_at(at, out)
 }
@@ -29,7 +31,8 @@ pub(crate) fn read<D: Disk>(disk: &mut D, at: u64, out: &mut [u8]) -> Result<(),
 fn read_blocks<D: Disk>(disk: &mut D, at: u64, blocks: &mut Vec<u8>) -> Result<(), DiskFault>
     requires { at + length blocks.old.items ≤ (D.state disk.old).len }
     ensures passes { Passes D.state D.makes disk.old disk.new (not (is_ok result)) }
-    ensures bytes { OnOk result ((c : Content) → Gives (D.state disk.old) c → blocks.new.items ≡ bytes_at c at (length blocks.old.items)) }
+    ensures bytes { OnOk result (Tells (D.state disk.old)
+        (λ c. blocks.new.items ≡ bytes_at c at (length blocks.old.items))) }
     ensures len { length blocks.new.items ≡ length blocks.old.items }
 {
     read(disk, at, blocks.as_mut_slice())
@@ -65,7 +68,8 @@ fn read_gate<D: Disk>(
     requires guest { number < length layout.now }
     requires room { image_length layout.now ≤ (D.state disk.old).len }
     ensures passes { Passes D.state D.makes disk.old disk.new (not (is_ok result)) }
-    ensures tells { IfOk result (λ wide. (c : Content) → Gives (D.state disk.old) c → GateIs wide (slot_region (region_at layout.now number) side) c) }
+    ensures tells { IfOk result (λ wide. Tells (D.state disk.old)
+        (GateIs wide (slot_at layout.now number side))) }
 {
     let mut gate = [0; 1];
     match read(disk, layout.extent(number).gate(side), &mut gate) {
@@ -85,7 +89,8 @@ fn read_gates<D: Disk>(
     requires room { image_length layout.now ≤ (D.state disk.old).len }
     ensures passes { Passes D.state D.makes disk.old disk.new (not (is_ok result)) }
     ensures sides { IfOk result (λ gates. GatesFit paired gates) }
-    ensures tells { IfOk result (λ gates. (c : Content) → Gives (D.state disk.old) c → GatesAre paired (region_at layout.now number) gates c) }
+    ensures tells { IfOk result (λ gates. Tells (D.state disk.old)
+        (GatesAre paired (region_at layout.now number) gates)) }
 {
     let first = match read_gate(disk, layout, number, Side::A) {
         Ok(open) => open,
@@ -126,8 +131,10 @@ fn read_payload<D: Disk>(
     requires buffer { length buffer.old ≡ 16648 }
     ensures passes { Passes D.state D.makes disk.old disk.new (is_disk_fault result) }
     ensures memory { ¬ result ≡ Err OpenFault.NoMemory }
-    ensures own { IfOk result (λ intent. (intent.guest ≡ number) × GroupFits (region_at layout.now number).size intent.group) }
-    ensures finds { (c : Content) → Gives (D.state disk.old) c → FindsPayload (region_at layout.now number) side c result }
+    ensures guest { IfOk result (λ intent. intent.guest ≡ number) }
+    ensures fits { IfOk result (λ intent. GroupFits (region_at layout.now number).size intent.group) }
+    ensures finds { Tells (D.state disk.old)
+        (λ c. FindsPayload (region_at layout.now number) side c result) }
 {
     let extent = layout.extent(number);
     match read(disk, extent.payload(side), buffer) {
@@ -154,7 +161,8 @@ fn read_shut<D: Disk>(
     ensures passes { Passes D.state D.makes disk.old disk.new (is_disk_fault result) }
     ensures begun { IfOk result (λ r. IsBegun layout.now number r.0 r.1) }
     ensures memory { ¬ result ≡ Err OpenFault.NoMemory }
-    ensures finds { (c : Content) → Gives (D.state disk.old) c → paired ≡ is_paired c → GatesAre paired (region_at layout.now number) Gates.Shut c → Finds layout.now number c result }
+    ensures finds { Tells (D.state disk.old)
+        (FindsBehind paired Gates.Shut layout.now number result) }
 {
     let extent = layout.extent(number);
     let mut record = [0; HOME_LENGTH];
@@ -193,7 +201,7 @@ fn read_one<D: Disk>(
     ensures passes { Passes D.state D.makes disk.old disk.new (is_disk_fault result) }
     ensures begun { IfOk result (λ r. IsBegun layout.now intent.guest r.0 r.1) }
     ensures memory { ¬ result ≡ Err OpenFault.NoMemory }
-    ensures finds { (c : Content) → Gives (D.state disk.old) c → paired ≡ is_paired c → GatesAre paired (region_at layout.now intent.guest) (Gates.One side) c → HasPayload (region_at layout.now intent.guest) (slot_region (region_at layout.now intent.guest) side) intent.group c → Finds layout.now intent.guest c result }
+    ensures finds { Tells (D.state disk.old) (FindsOne paired layout.now side intent result) }
 {
     let extent = layout.extent(intent.guest());
     let mut blocks = blocks;
@@ -227,7 +235,7 @@ fn read_two<D: Disk>(
     ensures passes { Passes D.state D.makes disk.old disk.new (is_disk_fault result) }
     ensures begun { IfOk result (λ r. IsBegun layout.now first.guest r.0 r.1) }
     ensures memory { ¬ result ≡ Err OpenFault.NoMemory }
-    ensures finds { (c : Content) → Gives (D.state disk.old) c → true ≡ is_paired c → GatesAre true (region_at layout.now first.guest) Gates.Both c → HasPayload (region_at layout.now first.guest) (slot_region (region_at layout.now first.guest) side) first.group c → HasPayload (region_at layout.now first.guest) (slot_region (region_at layout.now first.guest) (other_side side)) second.group c → Finds layout.now first.guest c result }
+    ensures finds { Tells (D.state disk.old) (FindsTwo layout.now side first second result) }
 {
     let extent = layout.extent(first.guest());
     let mut blocks = blocks;
@@ -260,7 +268,8 @@ fn read_open<D: Disk>(
     ensures passes { Passes D.state D.makes disk.old disk.new (is_disk_fault result) }
     ensures begun { IfOk result (λ r. IsBegun layout.now number r.0 r.1) }
     ensures memory { ¬ result ≡ Err OpenFault.NoMemory }
-    ensures finds { (c : Content) → Gives (D.state disk.old) c → paired ≡ is_paired c → GatesAre paired (region_at layout.now number) (Gates.One side) c → Finds layout.now number c result }
+    ensures finds { Tells (D.state disk.old)
+        (FindsBehind paired (Gates.One side) layout.now number result) }
 {
     match read_payload(disk, layout, number, side, space.room, buffer) {
         Ok(intent) => read_one(disk, layout, paired, side, intent, space.blocks),
@@ -283,7 +292,8 @@ fn read_both<D: Disk>(
     ensures passes { Passes D.state D.makes disk.old disk.new (is_disk_fault result) }
     ensures begun { IfOk result (λ r. IsBegun layout.now number r.0 r.1) }
     ensures memory { ¬ result ≡ Err OpenFault.NoMemory }
-    ensures finds { (c : Content) → Gives (D.state disk.old) c → true ≡ is_paired c → GatesAre true (region_at layout.now number) Gates.Both c → Finds layout.now number c result }
+    ensures finds { Tells (D.state disk.old)
+        (FindsBehind true Gates.Both layout.now number result) }
 {
     let a = match read_payload(disk, layout, number, Side::A, space.room, buffer) {
         Ok(intent) => intent,
@@ -318,25 +328,12 @@ pub(crate) fn read_guest<D: Disk>(
     ensures passes { Passes D.state D.makes disk.old disk.new (is_disk_fault result) }
     ensures begun { IfOk result (λ r. IsBegun layout.now number r.0 r.1) }
     ensures memory { ¬ result ≡ Err OpenFault.NoMemory }
-    ensures finds { (c : Content) → Gives (D.state disk.old) c → paired ≡ is_paired c → Finds layout.now number c result }
+    ensures finds { Tells (D.state disk.old) (FindsIn paired layout.now number result) }
 {
     match read_gates(disk, layout, number, paired) {
         Err(_) => Err(OpenFault::DiskFault),
         Ok(Gates::Shut) => read_shut(disk, layout, number, paired, space.blocks),
         Ok(Gates::One(side)) => read_open(disk, layout, number, paired, side, space, buffer),
         Ok(Gates::Both) => read_both(disk, layout, number, space, buffer),
-    }
-}
-
-/// Whether the image is of version 2.
-pub(crate) fn read_version<D: Disk>(disk: &mut D) -> Result<bool, DiskFault>
-    requires { 1024 ≤ (D.state disk.old).len }
-    ensures passes { Passes D.state D.makes disk.old disk.new (not (is_ok result)) }
-    ensures tells { IfOk result (λ paired. (c : Content) → Gives (D.state disk.old) c → paired ≡ is_paired c) }
-{
-    let mut version = [0; 1];
-    match read(disk, VERSION_OFFSET, &mut version) {
-        Ok(()) => Ok(version[0] == 2),
-        Err(fault) => Err(fault),
     }
 }

@@ -44,7 +44,7 @@ returns-then-comes_after-clause-finds g c content gives version wide =
     let then = gives_on _ _ content (pass_end g.D.Disk.state g.D.Disk.makes _ _ _ c.in-Ok-read_payload.ensures.passes) on in
     subst (λ (n : ℕ). GatesAre true (region_at c.args.layout.now n) gates.Both content → HasPayload (region_at c.args.layout.now n) (slot_region (region_at c.args.layout.now n) A) c.in-Ok.intent.group content
     → HasPayload (region_at c.args.layout.now n) (slot_region (region_at c.args.layout.now n) (other_side A)) c.in-Ok-read_payload.intent.group content → Finds c.args.layout.now n content c.read_two.result)
-    c.in-Ok.ensures.own.0 (c.read_two.ensures.finds content then version) wide (c.in-Ok.ensures.finds content gives) (c.in-Ok-read_payload.ensures.finds content on)
+    c.in-Ok.ensures.guest (c.read_two.ensures.finds content then version) wide (c.in-Ok.ensures.finds content gives) (c.in-Ok-read_payload.ensures.finds content on)
 
 pub returns-then-comes_after-2-clause-passes : goal.returns-then-comes_after-2-clause-passes
 returns-then-comes_after-2-clause-passes g c = pass_on g.D.Disk.state g.D.Disk.makes _ _ _ _ (pass_on g.D.Disk.state g.D.Disk.makes _ _ _ _ c.in-Ok.ensures.passes c.in-Ok-read_payload.ensures.passes) c.read_two-then-comes_after-2.ensures.passes
@@ -55,7 +55,7 @@ returns-then-comes_after-2-clause-finds g c content gives version wide =
     let then = gives_on _ _ content (pass_end g.D.Disk.state g.D.Disk.makes _ _ _ c.in-Ok-read_payload.ensures.passes) on in
     subst (λ (n : ℕ). GatesAre true (region_at c.args.layout.now n) gates.Both content → HasPayload (region_at c.args.layout.now n) (slot_region (region_at c.args.layout.now n) B) c.in-Ok-read_payload.intent.group content
     → HasPayload (region_at c.args.layout.now n) (slot_region (region_at c.args.layout.now n) (other_side B)) c.in-Ok.intent.group content → Finds c.args.layout.now n content c.read_two-then-comes_after-2.result)
-    c.in-Ok-read_payload.ensures.own.0 (c.read_two-then-comes_after-2.ensures.finds content then version) wide (c.in-Ok-read_payload.ensures.finds content on) (c.in-Ok.ensures.finds content gives)
+    c.in-Ok-read_payload.ensures.guest (c.read_two-then-comes_after-2.ensures.finds content then version) wide (c.in-Ok-read_payload.ensures.finds content on) (c.in-Ok.ensures.finds content gives)
 
 pub returns-else-comes_after-2-clause-passes : goal.returns-else-comes_after-2-clause-passes
 returns-else-comes_after-2-clause-passes g c = pass_on g.D.Disk.state g.D.Disk.makes _ _ _ _ c.in-Ok.ensures.passes c.in-Ok-read_payload.ensures.passes
