@@ -5,20 +5,14 @@ use crate::tests::acts::{Acts, Move};
 use crate::tests::image::Version;
 use crate::tests::lines::Asked;
 use crate::tests::scene::check;
-use crate::tests::worlds::world_of;
+use crate::tests::worlds::{KEYED, world_of};
 use board::{Event, Pop, Publication, Refusal, Step, StepFault, World};
 use mmio_transport::DeviceFault;
 use std::alloc::Global;
 use std::test::Fail;
 
-/// A request in a first life, and two in a second, each answered before the next.
-static TWO_LIVES: [Move; 12] = [
-    Move::Open,
-    Move::SetUp,
-    Move::Submit(Asked::Key(0x11)),
-    Move::HandOver,
-    Move::Advances(8),
-    Move::Reply,
+/// A second life, in which two requests are answered, each before the next.
+static SECOND_LIFE: [Move; 6] = [
     Move::Stop(0),
     Move::SetUp,
     Move::Submit(Asked::Counter(1)),
@@ -27,7 +21,8 @@ static TWO_LIVES: [Move; 12] = [
     Move::Reply,
 ];
 
-/// Their lives, how often the queue was made ready, and the numbers of their pops.
+/// Of a request in a first life and of these two: their lives, how often the queue was made ready,
+/// and the numbers of their pops.
 static TOLD: [(u64, u64, u64); 3] = [(1, 1, 1), (2, 1, 1), (2, 1, 2)];
 
 fn are_told(popped: &[Pop]) -> bool {
@@ -64,7 +59,8 @@ fn check_told(world: &mut World, events: &[Event]) -> Result<(), Fail> {
 #[test]
 fn replies_tell_their_pops(rt: HostRuntime) -> Result<(), Fail> {
     let mut acts = Acts::new(rt.alloc(), None, 0);
-    acts.play(0, &TWO_LIVES)?;
+    acts.play(0, &KEYED)?;
+    acts.play(0, &SECOND_LIFE)?;
     check_told(&mut world_of(rt.alloc(), 1, Version::One)?, &acts.events)
 }
 

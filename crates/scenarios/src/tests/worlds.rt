@@ -6,6 +6,7 @@ use crate::tests::lines::Asked;
 use crate::tests::scene::{board_of, check};
 use board::{Event, Publication, Refusal, StepFault, World};
 use flusher::StoreFault;
+use recovery::OpenFault;
 use rpmb_core::Partition;
 use rpmb_frame::BoardConfig;
 use std::alloc::Global;
@@ -110,7 +111,7 @@ fn left_of(alloc: Global, lists: &[&[Move]], left: Option<u32>, filler: u8) -> R
 }
 
 /// The guest has its key, and the reply to it; the store is idle.
-static KEYED: [Move; 6] = [
+pub(crate) static KEYED: [Move; 6] = [
     Move::Open,
     Move::SetUp,
     Move::Submit(Asked::Key(0x11)),
@@ -155,6 +156,38 @@ fn an_opening_syncs_what_a_failed_sync_left(rt: HostRuntime) -> Result<(), Fail>
     check(left.refusal == Some(Refusal::Step(fault)), "the refusal")?;
     check(left.seen() == Some((1, 2, 1)), "the counter")?;
     check(left.openings == 3, "openings")
+}
+
+/// The opening's sync fails. What is asked then is nothing, since the world is closed; and a stop leaves what
+/// it could leave before.
+static NOT_OPENED: [Move; 5] = [
+    Move::FailNext,
+    Move::Open,
+    Move::Submit(Asked::Counter(3)),
+    Move::Reply,
+    Move::Stop(0),
+];
+
+#[test]
+fn an_opening_that_fails_closes_the_world(rt: HostRuntime) -> Result<(), Fail> {
+    let left = left_of(
+        rt.alloc(),
+        &[&KEYED, &[Move::FailNext, Move::Open]],
+        None,
+        0,
+    )?;
+    let fault = Refusal::Open(OpenFault::DiskFault);
+    check(left.refusal == Some(fault), "the refusal")?;
+    check(left.openings == 1, "openings")?;
+    check(left.found.is_none(), "a partition")
+}
+
+#[test]
+fn an_opening_that_fails_makes_nothing_durable(rt: HostRuntime) -> Result<(), Fail> {
+    let left = left_of(rt.alloc(), &[&KEYED, &UNDER_WAY, &NOT_OPENED], None, 0)?;
+    check(left.seen() == Some((0, 1, 1)), "the old")?;
+    check(left.openings == 2, "openings")?;
+    check(left.replies == 1, "replies")
 }
 
 /// The needs of what was published, as digits.

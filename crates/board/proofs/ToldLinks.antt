@@ -1,0 +1,23 @@
+-- A board whose disk was told something between two steps is tied as before.
+use Rattle.std.proofs.Common.{◌≡◌, ℕ, true, false, List}
+use Rattle.rpmb_frame.specs.Request.{Request}
+use Rattle.rpmb_frame.specs.Partition.{Partition}
+use Rattle.rpmb_frame.specs.declared.config.GuestConfig.{GuestConfig}
+use Rattle.disk.specs.OutboxDisk.{OutboxState, outbox_state}
+use Rattle.disk.specs.declared.outbox_disk.Told.{Told}
+use Rattle.intent_slots.specs.Recovered.{Part}
+use Rattle.board.specs.Board.{IsLinkedBoard}
+use Rattle.board.specs.State.{BoardState}
+use Rattle.board.specs.Telling.{telling}
+
+pub told_linked : (told : Told) (config : List GuestConfig) (bases : ℕ → Partition) (accepted : ℕ → List Request) (parts : ℕ → Part) (b : BoardState OutboxState) → IsLinkedBoard outbox_state config bases accepted parts b
+    → IsLinkedBoard outbox_state config bases accepted parts (telling told b)
+told_linked told config bases accepted parts b l = record {
+  each = l.each;
+  kept = λ known. absurd (let never : false ≡ true = known in cc);
+  many = l.many;
+  held = l.held;
+  counted = l.counted;
+  places = (let p = l.places in record { devices = p.devices; jobs = p.jobs; dones = p.dones; intents = p.intents });
+  reported = l.reported;
+}
