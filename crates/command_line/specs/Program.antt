@@ -2,7 +2,8 @@
 -- parse finds in a command line (`subcommand_of`) and for which kinds of error it refuses one
 -- (`fault_of`).
 use Rattle.std.specs.Prelude.{◌≡◌, ⊤, List, Option, None, Some, codes, true}
-use Rattle.clap.specs.Words.{App, fault_of, subcommand_of, Row, Rule, Text, first_of, new_app, new_rule, with_rule, with_subcommand}
+use Rattle.clap.specs.Words.{App, fault_of, subcommand_of, Row, Rule, Text, first_of, new_app}
+use Rattle.clap.specs.Words.{new_rule, with_rule, with_subcommand}
 use Rattle.clap.specs.Kinds.{IsAmong, Kinds}
 use Rattle.clap.specs.Values.{kind_of}
 use Rattle.command_line.specs.declared.words.WordsError.{WordsError}
@@ -30,8 +31,10 @@ bare =
 -- the program with its commands; `clap` adds `help`, and the flags `-h` and `--help` on each level
 unfoldable pub program : App
 program =
-    with_subcommand (with_subcommand (with_subcommand (with_subcommand (with_subcommand bare (on_board (codes "format")).top)
-    (on_board (codes "show")).top) (on_board (codes "upgrade")).top) (on_script (codes "run")).top) (on_script (codes "serve")).top
+    with_subcommand (with_subcommand
+    (with_subcommand (with_subcommand (with_subcommand bare (on_board (codes "format")).top)
+    (on_board (codes "show")).top) (on_board (codes "upgrade")).top) (on_script (codes "run")).top)
+    (on_script (codes "serve")).top
 
 -- a command's name and the values of its arguments ask for the command, on its files
 abbrev pub AsksFor : Text → Option Text → Option Text → Command → Type 0

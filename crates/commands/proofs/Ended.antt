@@ -8,7 +8,8 @@ use Rattle.disk.specs.Disk.{DiskCall, DiskState, HasRisen}
 use Rattle.recovery.specs.declared.fault.OpenFault.{OpenFault}
 use Rattle.recovery.specs.declared.fault.OpenFault.TheVariants as image
 use Rattle.recovery.specs.Opening.{AnswersFault, CallsFault}
-use Rattle.recovery.specs.Upgrade.{CallsNotDone, TellsVersionFault}
+use Rattle.recovery.specs.Upgrade.{CallsNotDone}
+use Rattle.recovery.specs.Front.{TellsVersionFault}
 use Rattle.commands.specs.Fault.{fault_of_image}
 use Rattle.commands.specs.Upgrading.{UpgradeEnds}
 use Rattle.intent_slots.specs.Layout.{capacities_of}

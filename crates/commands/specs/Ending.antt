@@ -61,8 +61,8 @@ IsServe (command.Serve board script) = Unit {0}
 abbrev pub IsReadable : List GuestConfig → List ℕ → Type 0
 IsReadable board script = first_bad (length board) (lines_of script) ≡ None
 
--- what a line may come to: a store outside its guest's memory, want of memory, of room for more requests in one life, or
--- of room on standard output
+-- what a line may come to: a store outside its guest's memory, want of memory, of room for more
+-- requests in one life, or of room on standard output
 abbrev pub IsOfRunning : Fault → Type 0
 IsOfRunning (fault.BadScript line) = ⊥
 IsOfRunning fault.OutOfRange = Unit {0}
@@ -116,8 +116,11 @@ abbrev pub RunEnds : List GuestConfig → List ℕ → DiskState → DiskState �
 RunEnds board script old new (fault.BadScript line) = IsBadAt board script line
 RunEnds board script old new fault.NoMemory = Unit {0}
 RunEnds board script old new fault.DiskFault = IsReadable board script × HasRisen old.failures new.failures
-RunEnds board script old new fault.NotFormatted = IsReadable board script × (old.faithful ≡ true → IsUnformatted (capacities_of board) old.len old.seen)
-RunEnds board script old new fault.OtherConfig = IsReadable board script × (old.faithful ≡ true → IsOther (capacities_of board) old.len old.seen)
+RunEnds board script old new fault.NotFormatted =
+    IsReadable board script
+    × (old.faithful ≡ true → IsUnformatted (capacities_of board) old.len old.seen)
+RunEnds board script old new fault.OtherConfig =
+    IsReadable board script × (old.faithful ≡ true → IsOther (capacities_of board) old.len old.seen)
 RunEnds board script old new f = IsReadable board script × IsOfRunning f
 
 -- Which faults end the making of an image: a call of the disk failed, or the image is made and
@@ -184,7 +187,8 @@ StopsFor fault.NoRoom first rest = IsChainNext rest
 StopsFor f first rest = ⊥
 
 -- What the first of these lines print was printed, and no more; the next is what the run stopped for.
-pub record PrintsFirst (f : Fault) (text : List Said → List ℕ) (lines : List Said) (start now : Option (List ℕ)) : Type 0 where
+pub record PrintsFirst (f : Fault) (text : List Said → List ℕ) (lines : List Said)
+    (start now : Option (List ℕ)) : Type 0 where
   pub first : List Said
   pub rest : List Said
   pub parts : lines ≡ first ++ rest
@@ -197,13 +201,15 @@ PrintsFirstUnless fault.FileFault text lines start now = Unit {0}
 PrintsFirstUnless f text lines start now = PrintsFirst f text lines start now
 
 -- the first lines of a run are printed, by the line in which a call failed first; the next is what it stopped for
-pub record WroteFirst (f : Fault) (broke : Bool) (t : Told) (lines : List Said) (start now : Option (List ℕ)) : Type 0 where
+pub record WroteFirst (f : Fault) (broke : Bool) (t : Told) (lines : List Said)
+    (start now : Option (List ℕ)) : Type 0 where
   pub failed : Option ℕ
   pub known : (n : ℕ) → failed ≡ Some n → (broke ≡ true) × IsChainAt n lines
   pub prints : PrintsFirstUnless f (text_when failed t) lines start now
 
 -- all lines have printed what they print
-pub record PrintsAllOn (board : List GuestConfig) (old new : DiskState) (lines : List Said) (start now : Option (List ℕ)) : Type 0 where
+pub record PrintsAllOn (board : List GuestConfig) (old new : DiskState) (lines : List Said)
+    (start now : Option (List ℕ)) : Type 0 where
   pub partitions : List Partition
   pub of_image : AreOf board old partitions
   pub failed : Option ℕ
@@ -211,20 +217,23 @@ pub record PrintsAllOn (board : List GuestConfig) (old new : DiskState) (lines :
   pub printed : Appends start now (text_when failed (first_told board partitions) lines)
 
 -- a front of them has, unless standard output took no more
-pub record PrintsFirstOn (board : List GuestConfig) (old new : DiskState) (f : Fault) (lines : List Said) (start now : Option (List ℕ)) : Type 0 where
+pub record PrintsFirstOn (board : List GuestConfig) (old new : DiskState) (f : Fault)
+    (lines : List Said) (start now : Option (List ℕ)) : Type 0 where
   pub partitions : List Partition
   pub of_image : AreOf board old partitions
   pub failed : Option ℕ
   pub has_failed : HasFailed failed lines old new
   pub prints : PrintsFirstUnless f (text_when failed (first_told board partitions)) lines start now
 
--- What a script has printed where each of its lines came to its end, whether a call of the disk failed or not: all of it.
+-- What a script has printed where each of its lines came to its end, whether a call of the disk
+-- failed or not: all of it.
 abbrev pub PrintsWhole : List GuestConfig → List ℕ → DiskState → DiskState → Option (List ℕ) → Option (List ℕ) → Type 0
 PrintsWhole board script old new start now = (lines : List Said) → Says board script lines → StoresNothing lines
     → PrintsAllOn board old new lines start now
 
 -- And where one of them ended the run: a front of the same text.
-abbrev pub PrintsFront : List GuestConfig → List ℕ → DiskState → DiskState → Fault → Option (List ℕ) → Option (List ℕ) → Type 0
+abbrev pub PrintsFront : List GuestConfig → List ℕ → DiskState → DiskState → Fault → Option (List ℕ)
+    → Option (List ℕ) → Type 0
 PrintsFront board script old new f start now = (lines : List Said) → Says board script lines → StoresNothing lines
     → PrintsFirstOn board old new f lines start now
 
@@ -240,36 +249,44 @@ OpenedEnds capacities old new fault.OtherConfig = old.faithful ≡ true → IsOt
 OpenedEnds capacities old new f = IsOfRunning f
 
 -- what their front prints that came before a fault
-abbrev pub LinesPrint : List GuestConfig → List Line → DiskState → DiskState → Fault → Option (List ℕ) → Option (List ℕ) → Type 0
+abbrev pub LinesPrint : List GuestConfig → List Line → DiskState → DiskState → Fault
+    → Option (List ℕ) → Option (List ℕ) → Type 0
 LinesPrint board read old new f start now = AreWithin (length board) read → StoresNothing (map said read)
     → PrintsFirstOn board old new f (map said read) start now
 
 -- and what all of them print
 abbrev pub AllPrint : List GuestConfig → List Line → DiskState → DiskState → Option (List ℕ) → Option (List ℕ) → Type 0
-AllPrint board read old new start now = StoresNothing (map said read) → PrintsAllOn board old new (map said read) start now
+AllPrint board read old new start now = StoresNothing (map said read)
+    → PrintsAllOn board old new (map said read) start now
 
 -- and what it has printed
-abbrev pub OpenedPrints : List GuestConfig → List Line → DiskState → DiskState → Fault → Option (List ℕ) → Option (List ℕ) → Type 0
+abbrev pub OpenedPrints : List GuestConfig → List Line → DiskState → DiskState → Fault
+    → Option (List ℕ) → Option (List ℕ) → Type 0
 OpenedPrints board read old new fault.NotFormatted start now = Keeps start now
 OpenedPrints board read old new fault.OtherConfig start now = Keeps start now
 OpenedPrints board read old new fault.DiskFault start now = Keeps start now ⊎ AllPrint board read old new start now
-OpenedPrints board read old new fault.NoMemory start now = Keeps start now ⊎ LinesPrint board read old new fault.NoMemory start now
+OpenedPrints board read old new fault.NoMemory start now =
+    Keeps start now ⊎ LinesPrint board read old new fault.NoMemory start now
 OpenedPrints board read old new f start now = LinesPrint board read old new f start now
 
 -- 2. Of a script
 
--- What a run that ends with a fault has printed: nothing, where a line is bad or the image isn't opened; all that its lines
--- print, where a call of the disk failed; else what a front of them prints.
-abbrev pub RunPrints : List GuestConfig → List ℕ → DiskState → DiskState → Fault → Option (List ℕ) → Option (List ℕ) → Type 0
+-- What a run that ends with a fault has printed: nothing, where a line is bad or the image isn't
+-- opened; all that its lines print, where a call of the disk failed; else what a front of them
+-- prints.
+abbrev pub RunPrints : List GuestConfig → List ℕ → DiskState → DiskState → Fault → Option (List ℕ)
+    → Option (List ℕ) → Type 0
 RunPrints board script old new (fault.BadScript line) start now = Keeps start now
 RunPrints board script old new fault.NotFormatted start now = Keeps start now
 RunPrints board script old new fault.OtherConfig start now = Keeps start now
 RunPrints board script old new fault.DiskFault start now = Keeps start now ⊎ PrintsWhole board script old new start now
-RunPrints board script old new fault.NoMemory start now = Keeps start now ⊎ PrintsFront board script old new fault.NoMemory start now
+RunPrints board script old new fault.NoMemory start now =
+    Keeps start now ⊎ PrintsFront board script old new fault.NoMemory start now
 RunPrints board script old new f start now = PrintsFront board script old new f start now
 
 -- What a command that ends with a fault has printed.
-abbrev pub Prints : Command → List GuestConfig → List ℕ → DiskState → DiskState → Fault → Option (List ℕ) → Option (List ℕ) → Type 0
+abbrev pub Prints : Command → List GuestConfig → List ℕ → DiskState → DiskState → Fault
+    → Option (List ℕ) → Option (List ℕ) → Type 0
 Prints (command.Run b s) board script old new f start now = RunPrints board script old new f start now
 Prints (command.Format b) board script old new f start now = KeepsUnless f start now
 Prints (command.Show b) board script old new f start now = KeepsUnless f start now

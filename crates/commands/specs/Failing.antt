@@ -1,5 +1,6 @@
 -- What a script prints where a call of the disk fails while it runs.
-use Rattle.std.specs.Prelude.{◌≡◌, ℕ, zero, suc, ◌+◌, ◌<◌, Bool, true, false, List, [], ◌∷◌, ◌++◌, Option, Some, None, get_or}
+use Rattle.std.specs.Prelude.{◌≡◌, ℕ, zero, suc, ◌+◌, ◌<◌, Bool, true, false, List, [], ◌∷◌, ◌++◌}
+use Rattle.std.specs.Prelude.{Option, Some, None, get_or}
 use Rattle.std.specs.Io.KnownBytes.{Appends}
 use Rattle.mmio_transport.specs.Device.{last_count}
 use Rattle.disk.specs.Disk.{DiskState, HasRisen}
@@ -15,14 +16,20 @@ use Rattle.commands.specs.Transcript.{Told, printed_by, told_by, transcript, tol
 -- what a line prints, by whether a call of the disk had failed before it, and whether one has by its end
 abbrev pub printed_since : Bool → Bool → Told → Said → List ℕ
 printed_since was broke t nothing = []
-printed_since was broke t (chain guest readable writable) = used_line guest (reply_when was broke t.cores (job_of guest (get_or t.sessions guest 0) readable writable))
+printed_since was broke t (chain guest readable writable) =
+    used_line guest (reply_when was broke t.cores
+    (job_of guest (get_or t.sessions guest 0) readable writable))
 printed_since was broke t (store guest at bytes) = []
 printed_since was broke t (reset guest) = []
 
 -- and what it makes of the guests
 abbrev pub told_since : Bool → Bool → Told → Said → Told
 told_since was broke t nothing = t
-told_since was broke t (chain guest readable writable) = record t { cores = cores_when was broke t.cores (job_of guest (get_or t.sessions guest 0) readable writable) }
+told_since was broke t (chain guest readable writable) =
+    record t {
+      cores = cores_when was broke t.cores
+          (job_of guest (get_or t.sessions guest 0) readable writable);
+    }
 told_since was broke t (store guest at bytes) = t
 told_since was broke t (reset guest) = record t { sessions = sessions_after t.sessions guest }
 
@@ -40,7 +47,8 @@ told_broken t (line ∷ lines) = told_broken (told_since true true t line) lines
 -- after it over a broken store.
 unfoldable pub transcript_until : ℕ → Told → List Said → List ℕ
 transcript_until n t [] = []
-transcript_until zero t (line ∷ lines) = printed_since false true t line ++ failures (told_since false true t line) lines
+transcript_until zero t (line ∷ lines) =
+    printed_since false true t line ++ failures (told_since false true t line) lines
 transcript_until (suc n) t (line ∷ lines) = printed_by t line ++ transcript_until n (told_by t line) lines
 
 unfoldable pub told_until : ℕ → Told → List Said → Told
@@ -86,24 +94,28 @@ Breaks false false line = Unit {0}
 -- 3. A line, and all lines
 
 -- a line printed what it prints there, and brought the host on
-pub record HasRunSince (was broke : Bool) (steps : ℕ) (t : Told) (line : Said) (start next : Option (List ℕ)) (h h' : HostView) : Type 0 where
+pub record HasRunSince (was broke : Bool) (steps : ℕ) (t : Told) (line : Said)
+    (start next : Option (List ℕ)) (h h' : HostView) : Type 0 where
   pub printed : Appends start next (printed_since was broke t line)
   pub after : IsAt (steps + 1) (told_since was broke t line) h'
   pub answered : h'.runner.answered ≡ h.runner.answered + answered_by line
 
 -- what a line does to a host that stands there, whether a call failed or not
 abbrev pub RunsSince : Bool → Bool → HostView → Said → Option (List ℕ) → Option (List ℕ) → HostView → Type 0
-RunsSince was broke h line start next h' = (steps : ℕ) → (t : Told) → steps + 2 < last_count → IsAt steps t h → HasRunSince was broke steps t line start next h h'
+RunsSince was broke h line start next h' = (steps : ℕ) → (t : Told) → steps + 2 < last_count
+    → IsAt steps t h → HasRunSince was broke steps t line start next h h'
 
 -- the same of each kind of line; a store promises nothing
 abbrev pub Runs : Bool → Bool → HostView → Said → Option (List ℕ) → Option (List ℕ) → HostView → Type 0
 Runs was broke h nothing start next h' = RunsSince was broke h nothing start next h'
-Runs was broke h (chain guest readable writable) start next h' = RunsSince was broke h (chain guest readable writable) start next h'
+Runs was broke h (chain guest readable writable) start next h' =
+    RunsSince was broke h (chain guest readable writable) start next h'
 Runs was broke h (store guest at bytes) start next h' = Unit {0}
 Runs was broke h (reset guest) start next h' = RunsSince was broke h (reset guest) start next h'
 
 -- all lines are printed, by the line in which a call failed first
-pub record WroteAll (broke : Bool) (t : Told) (lines : List Said) (start now : Option (List ℕ)) (h : HostView) : Type 0 where
+pub record WroteAll (broke : Bool) (t : Told) (lines : List Said) (start now : Option (List ℕ))
+    (h : HostView) : Type 0 where
   pub failed : Option ℕ
   pub known : IsFailedIn broke failed lines
   pub printed : Appends start now (text_when failed t lines)

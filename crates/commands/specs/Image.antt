@@ -20,7 +20,8 @@ use Rattle.host.specs.Runner.{runner_of}
 use Rattle.commands.specs.Listing.{AreHeld}
 use Rattle.commands.specs.Reasons.{IsHostOf}
 use Rattle.commands.specs.Running.{IsAt}
-use Rattle.commands.specs.Transcript.{Told, first_cores, first_told, output_of, partitions_after, told_after, transcript}
+use Rattle.commands.specs.Transcript.{Told, first_cores, first_told, output_of, partitions_after}
+use Rattle.commands.specs.Transcript.{told_after, transcript}
 use Rattle.commands.specs.declared.fault.Fault.{Fault}
 use Rattle.commands.specs.declared.fault.Fault.TheVariants as fault
 
@@ -33,16 +34,19 @@ pub record AreOf (board : List GuestConfig) (s : DiskState) (partitions : List P
 
 -- A run that reached its end has printed the replies to its lines on the partitions of the image; and whatever a stop
 -- leaves of the disk then holds the partitions after them.
-pub record Ran (board : List GuestConfig) (old new : DiskState) (lines : List Said) (start now : Option (List ℕ)) : Type 0 where
+pub record Ran (board : List GuestConfig) (old new : DiskState) (lines : List Said)
+    (start now : Option (List ℕ)) : Type 0 where
   pub partitions : List Partition
   pub of_image : AreOf board old partitions
   pub printed : Appends start now (output_of board partitions lines)
-  pub left : old.faithful ≡ true → (c : Content) → MayLeave new c → AreHeld (capacities_of board) c (partitions_after board partitions lines)
+  pub left : old.faithful ≡ true → (c : Content) → MayLeave new c
+      → AreHeld (capacities_of board) c (partitions_after board partitions lines)
 
 -- 1. Within a run
 
 -- The guests of an image, each in its first session, as a run begins with them.
-pub record IsOpened {D : Type 0} (shows : D → DiskState) (makes : D → DiskCall → D → Type 0) (board : List GuestConfig) (disk : D) (h : HostState D) : Type 0 where
+pub record IsOpened {D : Type 0} (shows : D → DiskState) (makes : D → DiskCall → D → Type 0)
+    (board : List GuestConfig) (disk : D) (h : HostState D) : Type 0 where
   pub partitions : List Partition
   pub of_image : AreOf board (shows disk) partitions
   pub cores : (runner_of h.board).cores ≡ first_cores board partitions
@@ -60,7 +64,8 @@ pub record Tells (t : Told) (lines : List Said) (start now : Option (List ℕ)) 
   pub cores : h.runner.cores ≡ (told_after t lines).cores
 
 -- the last board of a run, whose disk is given back
-pub record IsLastOf {D : Type 0} (shows : D → DiskState) (makes : D → DiskCall → D → Type 0) (old : BoardState D) (back : D) : Type 0 where
+pub record IsLastOf {D : Type 0} (shows : D → DiskState) (makes : D → DiskCall → D → Type 0)
+    (old : BoardState D) (back : D) : Type 0 where
   pub last : BoardState D
   pub moves : Moves shows makes old last
   pub disk : back ≡ last.store.disk
@@ -74,6 +79,8 @@ pub record Fails (broken : Bool) (old new : DiskState) : Type 0 where
   pub cause : (broken ≡ true) ⊎ HasRisen old.failures new.failures
 
 -- how a run ends once all lines are at their end
-abbrev pub Finishes : {D : Type 0} → (D → DiskState) → (D → DiskCall → D → Type 0) → HostState D → Result (Unit {0}) Fault → D → Type 0
+abbrev pub Finishes : {D : Type 0} → (D → DiskState) → (D → DiskCall → D → Type 0) → HostState D
+    → Result (Unit {0}) Fault → D → Type 0
 Finishes shows makes h (Ok done) disk = IsLastOf shows makes h.board disk
-Finishes shows makes h (Err f) disk = (f ≡ fault.DiskFault) × Fails h.board.store.broken (shows h.board.store.disk) (shows disk)
+Finishes shows makes h (Err f) disk =
+    (f ≡ fault.DiskFault) × Fails h.board.store.broken (shows h.board.store.disk) (shows disk)

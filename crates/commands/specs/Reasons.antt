@@ -27,9 +27,9 @@ StoresOutside board (chain guest readable writable) = ⊥
 StoresOutside board (store guest at bytes) = IsOutside (slice_get board guest) at (length bytes)
 StoresOutside board (reset guest) = ⊥
 
--- Which faults a line may come to: a chain, for want of memory or of room in the history, or since standard output took no
--- more; a store, since its bytes don't lie in the guest's memory. A guest never has too little memory for
--- its driver, and no queue too few descriptors.
+-- Which faults a line may come to: a chain, for want of memory or of room in the history, or since
+-- standard output took no more; a store, since its bytes don't lie in the guest's memory. A guest
+-- never has too little memory for its driver, and no queue too few descriptors.
 abbrev pub LineEnds : List GuestConfig → Fault → Said → Type 0
 LineEnds board fault.FileFault line = IsChain line
 LineEnds board fault.NoMemory line = IsChain line

@@ -11,7 +11,8 @@ use Rattle.commands.specs.declared.fault.Fault.TheVariants as fault
 -- a chain has the sizes that a driver may offer
 abbrev pub IsSized : Said → Type 0
 IsSized nothing = Unit {0}
-IsSized (chain guest readable writable) = (length readable ≤ 8704) × (writable ≤ 8192) × (0 < length readable + writable)
+IsSized (chain guest readable writable) =
+    (length readable ≤ 8704) × (writable ≤ 8192) × (0 < length readable + writable)
 IsSized (store guest at bytes) = Unit {0}
 IsSized (reset guest) = Unit {0}
 
@@ -38,9 +39,9 @@ abbrev pub answered_in : List Said → ℕ
 answered_in [] = 0
 answered_in (line ∷ lines) = answered_by line + answered_in lines
 
--- The faults that a line may come to where each guest is ready and so many requests were answered: those of a chain alone,
--- for want of memory, of room for more requests in one life, which has 2^64 - 1, or of descriptors; and that standard output took
--- no more.
+-- The faults that a line may come to where each guest is ready and so many requests were answered:
+-- those of a chain alone, for want of memory, of room for more requests in one life, which has 2^64
+-- - 1, or of descriptors; and that standard output took no more.
 abbrev pub MayFail : ℕ → Fault → Said → Type 0
 MayFail answered fault.FileFault line = Unit {0}
 MayFail answered fault.NoMemory line = IsChain line
@@ -54,7 +55,8 @@ pub record AreGuests (guests : ℕ) (t : Told) : Type 0 where
   pub sessions : length t.sessions ≡ guests
 
 abbrev pub FailsAs : HostView → Said → Fault → Type 0
-FailsAs h line f = (steps guests : ℕ) → (t : Told) → steps + 2 < last_count → IsAt steps t h → AreGuests guests t → IsWithin guests line → MayFail h.runner.answered f line
+FailsAs h line f = (steps guests : ℕ) → (t : Told) → steps + 2 < last_count → IsAt steps t h
+    → AreGuests guests t → IsWithin guests line → MayFail h.runner.answered f line
 
 -- how a line fails on a host that stands there; a store promises nothing
 abbrev pub Fails : HostView → Said → Fault → Type 0

@@ -1,5 +1,6 @@
 -- What a script prints whose guests are served at once, and why that ends with a fault.
-use Rattle.std.specs.Prelude.{◌≡◌, ◌⊎◌, ◌<◌, ◌+◌, ◌==◌, ℕ, if◌then◌else◌, List, [], ◌∷◌, ◌++◌, Option, Some, None, get_or, length, map, true}
+use Rattle.std.specs.Prelude.{◌≡◌, ◌⊎◌, ◌<◌, ◌+◌, ◌==◌, ℕ, if◌then◌else◌, List, [], ◌∷◌, ◌++◌}
+use Rattle.std.specs.Prelude.{Option, Some, None, get_or, length, map, true}
 use Rattle.std.specs.Io.KnownBytes.{Appends, Keeps}
 use Rattle.rpmb_frame.specs.declared.config.GuestConfig.{GuestConfig}
 use Rattle.disk.specs.Disk.{DiskCall, DiskState, Within}
@@ -61,9 +62,11 @@ pub record PrintsEach (guests : ℕ) (lines : List Said) (start now : Option (Li
 
 -- and a script
 abbrev pub ServesAll : List GuestConfig → List ℕ → Option (List ℕ) → Option (List ℕ) → Type 0
-ServesAll board script start now = (lines : List Said) → SaysServed board script lines → PrintsEach (length board) lines start now
+ServesAll board script start now = (lines : List Said) → SaysServed board script lines
+    → PrintsEach (length board) lines start now
 
--- Which faults end it once its lines are read: why the image isn't opened, what its threads come to, or standard output.
+-- Which faults end it once its lines are read: why the image isn't opened, what its threads come
+-- to, or standard output.
 abbrev pub OpenedServeEnds : List ℕ → DiskState → Fault → Type 0
 OpenedServeEnds capacities old (fault.BadScript line) = ⊥
 OpenedServeEnds capacities old fault.BadBoard = ⊥
@@ -77,8 +80,8 @@ ServeEnds board script old (fault.BadScript line) = IsUnservedAt board script li
 ServeEnds board script old fault.NoMemory = Unit {0}
 ServeEnds board script old f = IsServable board script × OpenedServeEnds (capacities_of board) old f
 
--- What lines have printed then: all of it where a call of the disk failed while they ran; nothing, unless memory for it or
--- standard output itself was wanting.
+-- What lines have printed then: all of it where a call of the disk failed while they ran; nothing,
+-- unless memory for it or standard output itself was wanting.
 abbrev pub ServedPrint : ℕ → List Said → Fault → Option (List ℕ) → Option (List ℕ) → Type 0
 ServedPrint guests lines fault.FileFault start now = Unit {0}
 ServedPrint guests lines fault.NoMemory start now = Unit {0}
@@ -87,7 +90,8 @@ ServedPrint guests lines f start now = Keeps start now
 
 -- and what a script has
 abbrev pub ServePrints : List GuestConfig → List ℕ → Fault → Option (List ℕ) → Option (List ℕ) → Type 0
-ServePrints board script f start now = (lines : List Said) → SaysServed board script lines → ServedPrint (length board) lines f start now
+ServePrints board script f start now = (lines : List Said) → SaysServed board script lines
+    → ServedPrint (length board) lines f start now
 
 -- the disk comes back, of which no moment has left another content
 abbrev pub ComesBack : {D : Type 0} → (D → DiskState) → (D → DiskCall → D → Type 0) → D → Option D → Type 0

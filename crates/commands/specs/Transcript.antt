@@ -53,7 +53,11 @@ printed_by t (reset guest) = []
 -- its guest's next session
 abbrev pub told_by : Told → Said → Told
 told_by t nothing = t
-told_by t (chain guest readable writable) = record t { cores = cores_after t.cores (job_of guest (get_or t.sessions guest 0) readable writable) }
+told_by t (chain guest readable writable) =
+    record t {
+      cores = cores_after t.cores
+          (job_of guest (get_or t.sessions guest 0) readable writable);
+    }
 told_by t (store guest at bytes) = t
 told_by t (reset guest) = record t { sessions = sessions_after t.sessions guest }
 
@@ -79,7 +83,8 @@ StoresNothing (reset guest ∷ lines) = StoresNothing lines
 abbrev pub first_cores : List GuestConfig → List Partition → List GuestCore
 first_cores [] partitions = []
 first_cores (g ∷ board) [] = []
-first_cores (g ∷ board) (p ∷ partitions) = record { limits = limits_of g; partition = p; last = None } ∷ first_cores board partitions
+first_cores (g ∷ board) (p ∷ partitions) =
+    record { limits = limits_of g; partition = p; last = None } ∷ first_cores board partitions
 
 -- each in its first session
 abbrev pub first_told : List GuestConfig → List Partition → Told

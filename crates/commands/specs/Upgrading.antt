@@ -3,7 +3,8 @@ use Rattle.std.specs.Prelude.{◌≡◌, ℕ, List, [], ◌∷◌, ◌++◌, cod
 use Rattle.std.specs.Io.KnownBytes.{Appends}
 use Rattle.disk.specs.Disk.{DiskState, HasRisen}
 use Rattle.recovery.specs.Opening.{IsOther}
-use Rattle.recovery.specs.Upgrade.{AnswersUpgrade, HasNoHeader, IsNamed}
+use Rattle.recovery.specs.Front.{HasNoHeader}
+use Rattle.recovery.specs.Upgrade.{AnswersUpgrade, IsNamed}
 use Rattle.recovery.specs.declared.upgrading.Upgraded.{Upgraded}
 use Rattle.recovery.specs.declared.upgrading.Upgraded.TheVariants as upgraded
 use Rattle.commands.specs.declared.fault.Fault.{Fault}
@@ -20,8 +21,8 @@ pub record PrintsUpgrade (capacities : List ℕ) (old : DiskState) (start now : 
   pub answers : old.faithful ≡ true → AnswersUpgrade capacities old.len old.seen (Ok done)
   pub printed : Appends start now (upgraded_line done)
 
--- Which faults end an upgrade: no header of this board, a call of the disk that failed, or the image is of version 2 and
--- standard output took no more.
+-- Which faults end an upgrade: no header of this board, a call of the disk that failed, or the
+-- image is of version 2 and standard output took no more.
 abbrev pub UpgradeEnds : List ℕ → DiskState → DiskState → Fault → Type 0
 UpgradeEnds capacities old new fault.FileFault = old.faithful ≡ true → IsNamed new
 UpgradeEnds capacities old new fault.DiskFault = HasRisen old.failures new.failures

@@ -37,8 +37,10 @@ pub fn make_image<D: Disk, W: Write>(
     out: &mut W,
 ) -> Result<(), Fault>
     requires { (D.state disk.old).len ≡ image_length (capacities_of board.now) }
-    ensures formatted { OnOk result ((D.state disk.old).faithful ≡ true → IsFormatted 1 (capacities_of board.now) (D.state disk.new)) }
-    ensures printed { OnOk result (Appends (W.contents out.old) (W.contents out.new) (formatted_line (image_length (capacities_of board.now)))) }
+    ensures formatted { OnOk result ((D.state disk.old).faithful ≡ true
+        → IsFormatted 1 (capacities_of board.now) (D.state disk.new)) }
+    ensures printed { OnOk result (Appends (W.contents out.old) (W.contents out.new)
+        (formatted_line (image_length (capacities_of board.now)))) }
     ensures ends { IfErr result (FormatEnds (capacities_of board.now) (D.state disk.old) (D.state disk.new)) }
     ensures silent { IfErr result (λ fault. KeepsUnless fault (W.contents out.old) (W.contents out.new)) }
 {

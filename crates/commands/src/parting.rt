@@ -1,5 +1,7 @@
 //! A script that is served, by guest.
-ghost use Rattle.std.specs.Prelude.{◌≡◌, ◌+◌, ◌<◌, ◌==◌, ◌++◌, ◌∷◌, ℕ, All, [], Err, IfErr, IfOk, OnOk, Some, if◌then◌else◌, length, map, slice_index_or, vec_len};
+ghost use Rattle.std.specs.Prelude.{◌≡◌, ◌+◌, ◌<◌, ◌==◌, ◌++◌, ◌∷◌, ℕ, All, [], Err, IfErr, IfOk};
+ghost use Rattle.std.specs.Prelude.{OnOk, Some, if◌then◌else◌, length, map, slice_index_or};
+ghost use Rattle.std.specs.Prelude.{vec_len};
 ghost use Rattle.rpmb_frame.specs.Config.{IsBoard};
 ghost use Rattle.script.specs.Line.{IsServed, IsWithin, said, served_line_of};
 ghost use Rattle.script.specs.Script.{lines_of};
@@ -39,7 +41,9 @@ fn give(scripts: &mut Vec<Script>, guest: u16, order: Order) -> Result<(), Fault
     requires { guest < vec_len scripts.old }
     ensures many { vec_len scripts.new ≡ vec_len scripts.old }
     ensures each { OnOk result ((g : ℕ) → g < vec_len scripts.old
-        → chain_orders (slice_index_or scripts.new.items g []) ≡ chain_orders (slice_index_or scripts.old.items g []) + (if g == guest then chains_in order else 0)) }
+        → chain_orders (slice_index_or scripts.new.items g [])
+        ≡ chain_orders (slice_index_or scripts.old.items g []) + (if g == guest
+        then chains_in order else 0)) }
     ensures memory { IfErr result (λ fault. fault ≡ Fault.NoMemory) }
 {
     match scripts[usize::from(guest)].push(order) {
@@ -54,7 +58,8 @@ fn hand_out(scripts: &mut Vec<Script>, line: Line) -> Result<(), Fault>
     requires served { IsServed (said line) }
     ensures many { vec_len scripts.new ≡ vec_len scripts.old }
     ensures each { OnOk result ((g : ℕ) → g < vec_len scripts.old
-        → chain_orders (slice_index_or scripts.new.items g []) ≡ chain_orders (slice_index_or scripts.old.items g []) + chains_by g (said line)) }
+        → chain_orders (slice_index_or scripts.new.items g [])
+        ≡ chain_orders (slice_index_or scripts.old.items g []) + chains_by g (said line)) }
     ensures memory { IfErr result (λ fault. fault ≡ Fault.NoMemory) }
 {
     match line {
@@ -89,7 +94,8 @@ pub(crate) fn part(alloc: Global, lines: Vec<Line>, guests: usize) -> Result<Vec
     requires within { All (λ line. IsWithin guests (said line)) lines.items }
     requires served { All (λ line. IsServed (said line)) lines.items }
     ensures many { IfOk result (λ scripts. vec_len scripts ≡ guests) }
-    ensures each { IfOk result (λ scripts. (g : ℕ) → g < guests → chain_orders (slice_index_or scripts.items g []) ≡ chains_of g (map said lines.items)) }
+    ensures each { IfOk result (λ scripts. (g : ℕ) → g < guests
+        → chain_orders (slice_index_or scripts.items g []) ≡ chains_of g (map said lines.items)) }
     ensures memory { IfErr result (λ fault. fault ≡ Fault.NoMemory) }
 {
     let mut scripts = no_orders(alloc, guests)?;

@@ -52,15 +52,19 @@ pub fn perform<R: AllocGlobal + Threads + Wait + Sync, D: Disk + Send + Drop, W:
     // A run that reached its end has printed the reply to each chain on the partitions of the image, and
     // nothing else, where no line stored into guest memory; and every stop
     // leaves the partitions after them.
-    ensures ran { IsRun command.entry → result.0 ≡ 0 → (lines : List Said) → Says board.now script.now lines → StoresNothing lines
-        → IfSome result.1 (λ d. Ran board.now (D.state disk) (D.state d) lines (W.contents out.old) (W.contents out.new)) }
+    ensures ran { IsRun command.entry → result.0 ≡ 0 → (lines : List Said)
+        → Says board.now script.now lines → StoresNothing lines
+        → IfSome result.1 (λ d. Ran board.now (D.state disk) (D.state d) lines (W.contents out.old)
+        (W.contents out.new)) }
     // At each moment of a run every stop leaves, for each guest, the partition after a prefix of what its lines
     // so far had accepted, with all that was accepted up to the last line that printed, until a call of the
     // disk fails; from then on with all that no stop could lose before.
     ensures moments { IsRun command.entry → result.0 ≡ 0 → (lines : List Said) → Says board.now script.now lines
-        → IfSome result.1 (λ d. AnyMoment D.state D.makes board.now lines disk (W.contents out.old) (Ok tt) d (W.contents out.new)) }
+        → IfSome result.1 (λ d. AnyMoment D.state D.makes board.now lines disk (W.contents out.old)
+        (Ok tt) d (W.contents out.new)) }
     // Guests that were served to their end have printed a line for each of their chains, guest by guest.
-    ensures served { IsServe command.entry → result.0 ≡ 0 → ServesAll board.now script.now (W.contents out.old) (W.contents out.new) }
+    ensures served { IsServe command.entry → result.0 ≡ 0
+        → ServesAll board.now script.now (W.contents out.old) (W.contents out.new) }
     // Of a script with a bad line nothing is printed, and the disk isn't called.
     ensures bad { IsRun command.entry → (n : ℕ) → IsBadAt board.now script.now n
         → (result.0 ≡ 1) × Keeps (W.contents out.old) (W.contents out.new) × (result.1 ≡ Some disk) }
@@ -79,24 +83,31 @@ pub fn perform<R: AllocGlobal + Threads + Wait + Sync, D: Disk + Send + Drop, W:
     // To be shown an image is only synced and read, and at each moment a stop leaves only what it could
     // leave before.
     ensures read { IsShow command.entry → IfSome result.1 (IsReadAlone D.makes disk) }
-    ensures any_moment { IsShow command.entry → IfSome result.1 (Within D.state D.makes (Untouched (D.state disk)) disk) }
+    ensures any_moment { IsShow command.entry
+        → IfSome result.1 (Within D.state D.makes (Untouched (D.state disk)) disk) }
     // An upgrade leaves an image of version 2 and says whether it made it so; at each moment, however it ends,
     // every stop leaves what stands for the partitions that stood before.
-    ensures upgraded { IsUpgrade command.entry → result.0 ≡ 0 → IfSome result.1 (λ d. ((D.state disk).faithful ≡ true → IsNamed (D.state d))
+    ensures upgraded { IsUpgrade command.entry → result.0 ≡ 0
+        → IfSome result.1 (λ d. ((D.state disk).faithful ≡ true → IsNamed (D.state d))
         × PrintsUpgrade (capacities_of board.now) (D.state disk) (W.contents out.old) (W.contents out.new)) }
-    ensures stands { IsUpgrade command.entry → IfSome result.1 (StandsThroughout D.state D.makes (capacities_of board.now) disk) }
+    ensures stands { IsUpgrade command.entry
+        → IfSome result.1 (StandsThroughout D.state D.makes (capacities_of board.now) disk) }
     // Nothing is written on standard error unless the status says so.
     ensures quiet { result.0 ≡ 0 → Keeps (E.contents err.old) (E.contents err.new) }
     // Then it is the line of a fault that may end the command. Only a run has printed something before it:
     // what a front of its lines prints, unless standard output took no more; where a call of the disk failed,
     // all that they print, with failures from then on. And each moment of it is as above.
     ensures fault { result.0 ≡ 1 → IfSome result.1 (λ d. Fails
-        (λ f. Ends command.entry board.now script.now (D.state disk) (D.state d) f × Prints command.entry board.now script.now (D.state disk) (D.state d) f (W.contents out.old) (W.contents out.new)
-        × FaultMoments D.state D.makes command.entry board.now script.now disk (W.contents out.old) f d (W.contents out.new))
+        (λ f. Ends command.entry board.now script.now (D.state disk) (D.state d) f
+        × Prints command.entry board.now script.now (D.state disk)
+        (D.state d) f (W.contents out.old) (W.contents out.new)
+        × FaultMoments D.state D.makes command.entry board.now script.now disk (W.contents out.old)
+        f d (W.contents out.new))
         (E.contents err.old) (E.contents err.new)) }
     // Also where threads came to it, and the disk is lost.
     ensures threads { IsServe command.entry → result.0 ≡ 1 → Fails
-        (λ f. ServeEnds board.now script.now (D.state disk) f × ServePrints board.now script.now f (W.contents out.old) (W.contents out.new)
+        (λ f. ServeEnds board.now script.now (D.state disk) f
+        × ServePrints board.now script.now f (W.contents out.old) (W.contents out.new)
         × ServeLeaves D.state D.makes disk f result.1)
         (E.contents err.old) (E.contents err.new) }
 {

@@ -11,7 +11,8 @@ ghost use Rattle.script.specs.Script.{lines_of};
 ghost use Rattle.host.specs.Calm.{IsCalm, is_broken};
 ghost use Rattle.host.specs.Host.{seen};
 ghost use Rattle.host.specs.Moving.{Moves};
-ghost use Rattle.commands.specs.Ending.{IsOfOpening, IsOfReading, IsOfRunning, KeepsUnless, OpenedEnds, OpenedPrints, RunEnds, RunPrints, WroteFirst};
+ghost use Rattle.commands.specs.Ending.{IsOfOpening, IsOfReading, IsOfRunning, KeepsUnless};
+ghost use Rattle.commands.specs.Ending.{OpenedEnds, OpenedPrints, RunEnds, RunPrints, WroteFirst};
 ghost use Rattle.commands.specs.Failing.{Breaks, Runs, WroteAll};
 ghost use Rattle.commands.specs.Image.{Finishes, IsOpened, Ran};
 ghost use Rattle.commands.specs.Moments.{AnyMoment, LinesCome, MovesTo, PrintsLine};
@@ -58,15 +59,21 @@ fn run_chain<D: Disk, W: Write>(
     out: &mut W,
 ) -> Result<(), Fault>
     requires { IsSized (chain guest readable.now writable) }
-    ensures runs { OnOk result (Runs (is_broken host.old.board) (is_broken host.new.board) (seen host.old) (chain guest readable.now writable) (W.contents out.old) (W.contents out.new) (seen host.new)) }
+    ensures runs { OnOk result (Runs (is_broken host.old.board) (is_broken host.new.board)
+        (seen host.old) (chain guest readable.now writable) (W.contents out.old)
+        (W.contents out.new) (seen host.new)) }
     ensures keeps { is_broken host.new.board ≡ false → is_broken host.old.board ≡ false }
     ensures moves { Moves D.state D.makes host.old.board host.new.board }
-    ensures ends { IfErr result (λ fault. (board : List GuestSetup) → IsHostOf board (seen host.old) → IsWithin (length board) (chain guest readable.now writable) → LineEnds board fault (chain guest readable.now writable)) }
-    ensures hosts { OnOk result ((board : List GuestSetup) → IsHostOf board (seen host.old) → IsHostOf board (seen host.new)) }
+    ensures ends { IfErr result (λ fault. (board : List GuestSetup) → IsHostOf board (seen host.old)
+        → IsWithin (length board) (chain guest readable.now writable)
+        → LineEnds board fault (chain guest readable.now writable)) }
+    ensures hosts { OnOk result ((board : List GuestSetup) → IsHostOf board (seen host.old)
+        → IsHostOf board (seen host.new)) }
     ensures fails { IfErr result (Fails (seen host.old) (chain guest readable.now writable)) }
     ensures breaks { Breaks (is_broken host.old.board) (is_broken host.new.board) (chain guest readable.now writable) }
     ensures silent { IfErr result (λ fault. KeepsUnless fault (W.contents out.old) (W.contents out.new)) }
-    ensures prints { OnOk result (PrintsLine (chain guest readable.now writable) (W.contents out.old) (W.contents out.new)) }
+    ensures prints { OnOk result (PrintsLine (chain guest readable.now writable)
+        (W.contents out.old) (W.contents out.new)) }
     ensures calm { IsCalm D.state host.new.board }
 {
     match host.chain(guest, readable, writable) {
@@ -84,11 +91,14 @@ fn run_line<D: Disk, W: Write>(
     out: &mut W,
 ) -> Result<(), Fault>
     requires { IsSized (said line) }
-    ensures runs { OnOk result (Runs (is_broken host.old.board) (is_broken host.new.board) (seen host.old) (said line) (W.contents out.old) (W.contents out.new) (seen host.new)) }
+    ensures runs { OnOk result (Runs (is_broken host.old.board) (is_broken host.new.board)
+        (seen host.old) (said line) (W.contents out.old) (W.contents out.new) (seen host.new)) }
     ensures keeps { is_broken host.new.board ≡ false → is_broken host.old.board ≡ false }
     ensures moves { Moves D.state D.makes host.old.board host.new.board }
-    ensures ends { IfErr result (λ fault. (board : List GuestSetup) → IsHostOf board (seen host.old) → IsWithin (length board) (said line) → LineEnds board fault (said line)) }
-    ensures hosts { OnOk result ((board : List GuestSetup) → IsHostOf board (seen host.old) → IsHostOf board (seen host.new)) }
+    ensures ends { IfErr result (λ fault. (board : List GuestSetup) → IsHostOf board (seen host.old)
+        → IsWithin (length board) (said line) → LineEnds board fault (said line)) }
+    ensures hosts { OnOk result ((board : List GuestSetup) → IsHostOf board (seen host.old)
+        → IsHostOf board (seen host.new)) }
     ensures fails { IfErr result (Fails (seen host.old) (said line)) }
     ensures breaks { Breaks (is_broken host.old.board) (is_broken host.new.board) (said line) }
     ensures silent { IfErr result (λ fault. KeepsUnless fault (W.contents out.old) (W.contents out.new)) }
@@ -121,15 +131,23 @@ fn run_lines<D: Disk, W: Write>(
     out: &mut W,
 ) -> Result<(), Fault>
     requires { All (λ line. IsSized (said line)) lines.items }
-    ensures told { OnOk result (is_broken host.old.board ≡ false → (seen host.old).runner.answered ≡ 0 → (t : Told) → IsAt 0 t (seen host.old) → StoresNothing (map said lines.items)
-        → WroteAll (is_broken host.new.board) t (map said lines.items) (W.contents out.old) (W.contents out.new) (seen host.new)) }
+    ensures told { OnOk result (is_broken host.old.board ≡ false
+        → (seen host.old).runner.answered ≡ 0 → (t : Told) → IsAt 0 t (seen host.old)
+        → StoresNothing (map said lines.items)
+        → WroteAll (is_broken host.new.board) t (map said lines.items) (W.contents out.old)
+        (W.contents out.new) (seen host.new)) }
     ensures keeps { is_broken host.new.board ≡ false → is_broken host.old.board ≡ false }
     ensures moves { Moves D.state D.makes host.old.board host.new.board }
-    ensures ends { IfErr result (λ fault. (board : List GuestSetup) → IsHostOf board (seen host.old) → AreWithin (length board) lines.items → IsOfRunning fault) }
-    ensures moments { LinesCome D.state D.makes lines.items host.old.board (seen host.old) (W.contents out.old) result host.new.board (W.contents out.new) }
-    ensures stopped { IfErr result (λ fault. is_broken host.old.board ≡ false → (seen host.old).runner.answered ≡ 0 → (guests : ℕ) → (t : Told) → IsAt 0 t (seen host.old) → AreGuests guests t
+    ensures ends { IfErr result (λ fault. (board : List GuestSetup) → IsHostOf board (seen host.old)
+        → AreWithin (length board) lines.items → IsOfRunning fault) }
+    ensures moments { LinesCome D.state D.makes lines.items host.old.board (seen host.old)
+        (W.contents out.old) result host.new.board (W.contents out.new) }
+    ensures stopped { IfErr result (λ fault. is_broken host.old.board ≡ false
+        → (seen host.old).runner.answered ≡ 0 → (guests : ℕ) → (t : Told) → IsAt 0 t (seen host.old)
+        → AreGuests guests t
         → AreWithin guests lines.items → StoresNothing (map said lines.items)
-        → WroteFirst fault (is_broken host.new.board) t (map said lines.items) (W.contents out.old) (W.contents out.new)) }
+        → WroteFirst fault (is_broken host.new.board) t (map said lines.items) (W.contents out.old)
+        (W.contents out.new)) }
 {
     for line in lines {
         run_line(alloc, host, line, out)?;
@@ -176,10 +194,14 @@ fn run_on<D: Disk, W: Write>(
     requires within { AreWithin (length board.now) lines.items }
     requires in_range { IsBoard board.now }
     ensures ran { OnOk result.0 (StoresNothing (map said lines.items)
-        → Ran board.now (D.state disk) (D.state result.1) (map said lines.items) (W.contents out.old) (W.contents out.new)) }
+        → Ran board.now (D.state disk) (D.state result.1) (map said lines.items)
+        (W.contents out.old) (W.contents out.new)) }
     ensures ends { IfErr result.0 (OpenedEnds (capacities_of board.now) (D.state disk) (D.state result.1)) }
-    ensures moments { AnyMoment D.state D.makes board.now (map said lines.items) disk (W.contents out.old) result.0 result.1 (W.contents out.new) }
-    ensures stopped { IfErr result.0 (λ fault. OpenedPrints board.now lines.items (D.state disk) (D.state result.1) fault (W.contents out.old) (W.contents out.new)) }
+    ensures moments { AnyMoment D.state D.makes board.now (map said lines.items) disk
+        (W.contents out.old) result.0 result.1 (W.contents out.new) }
+    ensures stopped { IfErr result.0 (λ fault.
+        OpenedPrints board.now lines.items (D.state disk)
+        (D.state result.1) fault (W.contents out.old) (W.contents out.new)) }
 {
     let mut host = match open_host(alloc, disk, board) {
         Ok(host) => host,
@@ -211,7 +233,9 @@ pub fn run<D: Disk, W: Write>(
     ensures ends { IfErr result.0 (RunEnds board.now script.now (D.state disk) (D.state result.1)) }
     ensures moments { (lines : List Said) → Says board.now script.now lines
         → AnyMoment D.state D.makes board.now lines disk (W.contents out.old) result.0 result.1 (W.contents out.new) }
-    ensures stopped { IfErr result.0 (λ fault. RunPrints board.now script.now (D.state disk) (D.state result.1) fault (W.contents out.old) (W.contents out.new)) }
+    ensures stopped { IfErr result.0 (λ fault.
+        RunPrints board.now script.now (D.state disk) (D.state result.1) fault (W.contents out.old)
+        (W.contents out.new)) }
 {
     match read_lines(alloc, script, board) {
         Ok(lines) => run_on(alloc, board, lines, disk, out),

@@ -1,12 +1,15 @@
 //! What `serve` does: a script on the partitions of an image, its guests at once.
-ghost use Rattle.std.specs.Prelude.{◌≡◌, ◌≤◌, ℕ, All, Err, IfErr, IsErr, IsSome, OnOk, Some, false, length, map, vec_len};
+ghost use Rattle.std.specs.Prelude.{◌≡◌, ◌≤◌, ℕ, All, Err, IfErr, IsErr, IsSome, OnOk, Some, false};
+ghost use Rattle.std.specs.Prelude.{length, map, vec_len};
 ghost use Rattle.std.specs.Io.KnownBytes.{Appends, Keeps};
 ghost use Rattle.rpmb_frame.specs.Config.{IsBoard};
 ghost use Rattle.script.specs.Line.{IsServed, IsWithin, said};
 ghost use Rattle.disk.specs.Disk.{DiskState};
 ghost use Rattle.intent_slots.specs.Layout.{capacities_of};
 ghost use Rattle.commands.specs.Ending.{IsOfTelling, IsOfWriting};
-ghost use Rattle.commands.specs.Serving.{IsUnservedAt, OpenedServeEnds, PrintsEach, ServeEnds, ServeLeaves, ServePrints, ServedPrint, ServesAll, answer_lines, guests_lines};
+ghost use Rattle.commands.specs.Serving.{IsUnservedAt, OpenedServeEnds, PrintsEach, ServeEnds};
+ghost use Rattle.commands.specs.Serving.{ServeLeaves, ServePrints, ServedPrint, ServesAll};
+ghost use Rattle.commands.specs.Serving.{answer_lines, guests_lines};
 
 use crate::answering::write_answer;
 use crate::fault::Fault;
@@ -44,7 +47,8 @@ fn write_answers<W: Write>(
 /// Writes the lines of all guests, one guest after another, and all that is still held back.
 fn write_drivers<W: Write>(alloc: Global, drivers: &[DriverEnd], out: &mut W) -> Result<(), Fault>
     requires { length drivers.now ≤ 64 }
-    ensures printed { OnOk result (Appends (W.contents out.old) (W.contents out.new) (guests_lines 0 (map (λ e. e.answers.items) drivers.now))) }
+    ensures printed { OnOk result (Appends (W.contents out.old) (W.contents out.new)
+        (guests_lines 0 (map (λ e. e.answers.items) drivers.now))) }
     ensures ends { IfErr result IsOfWriting }
 {
     for guest in 0..drivers.len() {
@@ -63,9 +67,12 @@ fn tell<D: Disk + Drop, W: Write>(
     out: &mut W,
 ) -> (Result<(), Fault>, Option<D>)
     requires { vec_len ended.drivers ≤ 64 }
-    ensures printed { OnOk result.0 (Appends (W.contents out.old) (W.contents out.new) (guests_lines 0 (map (λ e. e.answers.items) ended.drivers.items))) }
+    ensures printed { OnOk result.0 (Appends (W.contents out.old) (W.contents out.new)
+        (guests_lines 0 (map (λ e. e.answers.items) ended.drivers.items))) }
     ensures whole { OnOk result.0 (ended.broken ≡ false) }
-    ensures failed { result.0 ≡ Err Fault.DiskFault → Appends (W.contents out.old) (W.contents out.new) (guests_lines 0 (map (λ e. e.answers.items) ended.drivers.items)) }
+    ensures failed { result.0 ≡ Err Fault.DiskFault
+        → Appends (W.contents out.old) (W.contents out.new)
+        (guests_lines 0 (map (λ e. e.answers.items) ended.drivers.items)) }
     ensures ends { IfErr result.0 IsOfTelling }
     ensures back { IsSome result.1 }
 {
@@ -97,10 +104,13 @@ fn serve_on<D: Disk + Send + Drop, W: Write, R: Threads + Wait + Sync>(
     requires within { All (λ line. IsWithin (length board.now) (said line)) lines.items }
     requires served { All (λ line. IsServed (said line)) lines.items }
     requires in_range { IsBoard board.now }
-    ensures printed { OnOk result.0 (PrintsEach (length board.now) (map said lines.items) (W.contents out.old) (W.contents out.new)) }
+    ensures printed { OnOk result.0 (PrintsEach (length board.now) (map said lines.items)
+        (W.contents out.old) (W.contents out.new)) }
     ensures back { OnOk result.0 (IsSome result.1) }
     ensures ends { IfErr result.0 (OpenedServeEnds (capacities_of board.now) (D.state disk)) }
-    ensures prints { IfErr result.0 (λ fault. ServedPrint (length board.now) (map said lines.items) fault (W.contents out.old) (W.contents out.new)) }
+    ensures prints { IfErr result.0 (λ fault.
+        ServedPrint (length board.now) (map said lines.items) fault (W.contents out.old)
+        (W.contents out.new)) }
     ensures leaves { IfErr result.0 (λ fault. ServeLeaves D.state D.makes disk fault result.1) }
 {
     let scripts = match part(alloc, lines, board.guests().len()) {
@@ -132,7 +142,8 @@ pub fn serve<D: Disk + Send + Drop, W: Write, R: Threads + Wait + Sync>(
     ensures printed { OnOk result.0 (ServesAll board.now script.now (W.contents out.old) (W.contents out.new)) }
     ensures back { OnOk result.0 (IsSome result.1) }
     ensures ends { IfErr result.0 (ServeEnds board.now script.now (D.state disk)) }
-    ensures prints { IfErr result.0 (λ fault. ServePrints board.now script.now fault (W.contents out.old) (W.contents out.new)) }
+    ensures prints { IfErr result.0 (λ fault.
+        ServePrints board.now script.now fault (W.contents out.old) (W.contents out.new)) }
     ensures leaves { IfErr result.0 (λ fault. ServeLeaves D.state D.makes disk fault result.1) }
     ensures bad { (n : ℕ) → IsUnservedAt board.now script.now n
         → IsErr result.0 × Keeps (W.contents out.old) (W.contents out.new) × (result.1 ≡ Some disk) }

@@ -7,7 +7,8 @@ ghost use Rattle.intent_slots.specs.Layout.{capacities_of};
 ghost use Rattle.recovery.specs.Opening.{IsImage, Untouched};
 ghost use Rattle.rpmb_frame.specs.Partition.{IsWhole, block_count, block_of};
 ghost use Rattle.commands.specs.Ending.{IsReadAlone, KeepsUnless, ShowEnds};
-ghost use Rattle.commands.specs.Listing.{Lists, block_line, block_shown, blocks_below, guest_line, guest_listing, listing};
+ghost use Rattle.commands.specs.Listing.{Lists, block_line, block_shown, blocks_below, guest_line};
+ghost use Rattle.commands.specs.Listing.{guest_listing, listing};
 
 use crate::fault::Fault;
 use disk::Disk;
@@ -47,7 +48,8 @@ fn write_block_line<W: Write>(
     block: &[u8; 256],
     out: &mut W,
 ) -> Result<(), Fault>
-    ensures printed { OnOk result (Appends (W.contents out.old) (W.contents out.new) (block_line guest address block.now)) }
+    ensures printed { OnOk result (Appends (W.contents out.old) (W.contents out.new)
+        (block_line guest address block.now)) }
     ensures only { (fault : Fault) → result ≡ Err fault → fault ≡ Fault.FileFault }
 {
     let mut digits = [0; 512];
@@ -74,7 +76,8 @@ fn write_block<W: Write>(
     block: &[u8; 256],
     out: &mut W,
 ) -> Result<(), Fault>
-    ensures printed { OnOk result (Appends (W.contents out.old) (W.contents out.new) (block_shown guest address block.now)) }
+    ensures printed { OnOk result (Appends (W.contents out.old) (W.contents out.new)
+        (block_shown guest address block.now)) }
     ensures only { (fault : Fault) → result ≡ Err fault → fault ≡ Fault.FileFault }
 {
     if *block == [0; 256] {
@@ -86,7 +89,8 @@ fn write_block<W: Write>(
 /// Writes the blocks of a partition that aren't all zeros, by address.
 fn write_blocks<W: Write>(guest: u16, partition: &Partition, out: &mut W) -> Result<(), Fault>
     requires { partition.now.capacity ≤ 128 }
-    ensures printed { OnOk result (Appends (W.contents out.old) (W.contents out.new) (blocks_below (block_count partition.now) guest partition.now)) }
+    ensures printed { OnOk result (Appends (W.contents out.old) (W.contents out.new)
+        (blocks_below (block_count partition.now) guest partition.now)) }
     ensures only { (fault : Fault) → result ≡ Err fault → fault ≡ Fault.FileFault }
 {
     let count = 512 * u32::from(partition.capacity());
@@ -103,7 +107,8 @@ fn write_blocks<W: Write>(guest: u16, partition: &Partition, out: &mut W) -> Res
 /// Writes the line of a guest, and then its blocks.
 fn write_guest<W: Write>(guest: u16, partition: &Partition, out: &mut W) -> Result<(), Fault>
     requires { partition.now.capacity ≤ 128 }
-    ensures printed { OnOk result (Appends (W.contents out.old) (W.contents out.new) (guest_listing guest partition.now)) }
+    ensures printed { OnOk result (Appends (W.contents out.old) (W.contents out.new)
+        (guest_listing guest partition.now)) }
     ensures whole { IsWhole partition.now }
     ensures only { (fault : Fault) → result ≡ Err fault → fault ≡ Fault.FileFault }
 {
@@ -156,8 +161,10 @@ pub fn show_image<D: Disk, W: Write>(
     board: &BoardConfig,
     out: &mut W,
 ) -> (Result<(), Fault>, D)
-    ensures shown { OnOk result.0 (Lists (capacities_of board.now) (D.state disk) (W.contents out.old) (W.contents out.new)) }
-    ensures image { OnOk result.0 ((D.state disk).faithful ≡ true → IsImage (capacities_of board.now) (D.state disk).len (D.state disk).seen) }
+    ensures shown { OnOk result.0 (Lists (capacities_of board.now) (D.state disk)
+        (W.contents out.old) (W.contents out.new)) }
+    ensures image { OnOk result.0 ((D.state disk).faithful ≡ true
+        → IsImage (capacities_of board.now) (D.state disk).len (D.state disk).seen) }
     ensures ends { IfErr result.0 (ShowEnds (capacities_of board.now) (D.state disk) (D.state result.1)) }
     ensures silent { IfErr result.0 (λ fault. KeepsUnless fault (W.contents out.old) (W.contents out.new)) }
     ensures any_moment { Within D.state D.makes (Untouched (D.state disk)) disk result.1 }

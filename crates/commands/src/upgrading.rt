@@ -41,7 +41,8 @@ pub fn upgrade_image<D: Disk, W: Write>(
 ) -> Result<(), Fault>
     ensures stands { StandsThroughout D.state D.makes (capacities_of board.now) disk.old disk.new }
     ensures named { OnOk result ((D.state disk.old).faithful ≡ true → IsNamed (D.state disk.new)) }
-    ensures printed { OnOk result (PrintsUpgrade (capacities_of board.now) (D.state disk.old) (W.contents out.old) (W.contents out.new)) }
+    ensures printed { OnOk result (PrintsUpgrade (capacities_of board.now) (D.state disk.old)
+        (W.contents out.old) (W.contents out.new)) }
     ensures ends { IfErr result (UpgradeEnds (capacities_of board.now) (D.state disk.old) (D.state disk.new)) }
     ensures silent { IfErr result (λ fault. KeepsUnless fault (W.contents out.old) (W.contents out.new)) }
 {

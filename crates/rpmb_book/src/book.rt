@@ -1,8 +1,14 @@
-ghost use Rattle.std.specs.Prelude.{◌≡◌, ◌≤◌, ◌+◌, ◌<◌, ◌-◌, ℕ, List, [], IfOk, IfErr, OnOk, OnErr, None, Some, if◌then◌else◌, true, unwrap_or, option_map, map, length, slice_get};
+ghost use Rattle.std.specs.Prelude.{◌≡◌, ◌≤◌, ◌+◌, ◌<◌, ◌-◌, ℕ, List, [], IfOk, IfErr, OnOk, OnErr};
+ghost use Rattle.std.specs.Prelude.{None, Some, if◌then◌else◌, true, unwrap_or, option_map, map};
+ghost use Rattle.std.specs.Prelude.{length, slice_get};
 ghost use Rattle.rpmb_frame.specs.Partition.{sequence};
 ghost use Rattle.rpmb_book.specs.Opening.{tallies_from};
 ghost use Rattle.rpmb_book.specs.Replay.{opened, IsLegal};
-ghost use Rattle.rpmb_book.specs.Book.{BookView, state, guest_of, counted_in, is_full, with_turn, submit_of, refusal, is_share, is_taken, take_answer, after_take, next_intent, share_moved, are_taken, settle_answer, after_settle, after_break_off, due_of, after_collect, found_by};
+ghost use Rattle.rpmb_book.specs.Book.{BookView, state, guest_of, counted_in, is_full, with_turn};
+ghost use Rattle.rpmb_book.specs.Book.{submit_of, refusal, is_share, is_taken, take_answer};
+ghost use Rattle.rpmb_book.specs.Book.{after_take, next_intent, share_moved, are_taken};
+ghost use Rattle.rpmb_book.specs.Book.{settle_answer, after_settle, after_break_off, due_of};
+ghost use Rattle.rpmb_book.specs.Book.{after_collect, found_by};
 ghost use Rattle.rpmb_book.specs.Left.{first_left};
 ghost use Rattle.rpmb_book.specs.Fold.{after_submit, folded, roomy};
 ghost use Rattle.rpmb_book.specs.GuestPlanned.{IsGuestPlanned, is_failure};
@@ -76,7 +82,13 @@ impl Book {
         partitions: Vec<Partition>,
     ) -> Result<(Book, Vec<Tally>, Shares), NoMemory>
         requires { map (λ p. p.capacity) partitions.items ≡ map (λ g. g.capacity) config.now }
-        ensures book { IfOk result (λ r. r.0 ≡ record { life = life; folded = 0; opening = opened config.now partitions.items; history = [] }) }
+        ensures book { IfOk result (λ r. r.0
+            ≡ record {
+              life = life;
+              folded = 0;
+              opening = opened config.now partitions.items;
+              history = [];
+            }) }
         ensures tallies { IfOk result (λ r. r.1.items ≡ tallies_from 0 (length config.now)) }
         ensures shares { IfOk result (λ r. r.2 ≡ map sequence partitions.items) }
     {
@@ -152,7 +164,12 @@ impl Book {
         ensures made { OnOk result (self.new ≡ after_submit self.old job) }
         ensures counted { OnOk result (tally.new ≡ record tally.old { count = tally.old.count + 1 }) }
         ensures total { OnOk result (counted_in self.new ≡ counted_in self.old + 1) }
-        ensures named { IfOk result (λ r. r ≡ record { life = self.old.life; guest = job.guest; number = self.old.folded + length self.old.history }) }
+        ensures named { IfOk result (λ r. r
+            ≡ record {
+              life = self.old.life;
+              guest = job.guest;
+              number = self.old.folded + length self.old.history;
+            }) }
         ensures allowed { OnOk result (refusal self.old tally.old job ≡ None) }
         ensures refused { IfErr result (λ e. e.1 ≡ unwrap_or (refusal self.old tally.old job) Refused.NoMemory) }
         ensures given_back { IfErr result (λ e. e.0 ≡ job) }
@@ -172,7 +189,8 @@ impl Book {
     fn plan(&mut self, alloc: Global, tally: &Tally, job: &Job) -> Result<GuestPlan, NoMemory>
         requires allowed { refusal self.old tally.now job.now ≡ None }
         ensures same { self.new ≡ self.old }
-        ensures planned { IfOk result (λ p. ForSome (guest_of self.old job.now.guest) (λ g. IsGuestPlanned job.now g p)) }
+        ensures planned { IfOk result (λ p. ForSome (guest_of self.old job.now.guest)
+            (λ g. IsGuestPlanned job.now g p)) }
         ensures failure { IfOk result (λ p. is_failure p ≡ (state self.old).broken) }
     {
         let spare = self.history.spare(alloc);
@@ -199,7 +217,11 @@ impl Book {
         requires failure { is_failure plan ≡ (state self.old).broken }
         ensures made { self.new ≡ with_turn self.old (submit_of self.old job) }
         ensures counted { tally.new ≡ record tally.old { count = tally.old.count + 1 } }
-        ensures named { result ≡ record { life = self.old.life; guest = job.guest; number = self.old.folded + length self.old.history } }
+        ensures named { result ≡ record {
+          life = self.old.life;
+          guest = job.guest;
+          number = self.old.folded + length self.old.history;
+        } }
     {
         self.told = self.told.then(&Did::Submit(&job));
         let receipt = Receipt {
@@ -390,7 +412,8 @@ impl Book {
     pub fn what_always_holds(&self)
         // Each turn of the history is one that the book makes in the state where it stands.
         ensures legal { IsLegal self.now.opening self.now.history }
-        // What waits for the store follows what it took and can be done in its order, and nothing is settled that it didn't take.
+        // What waits for the store follows what it took and can be done in its order, and nothing
+        // is settled that it didn't take.
         ensures sound { IsSound (state self.now) }
         ensures ready { AreReady (state self.now) }
         // Each guest has a partition of a board, which a store can hold.

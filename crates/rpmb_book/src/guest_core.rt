@@ -1,10 +1,12 @@
-ghost use Rattle.std.specs.Prelude.{◌≡◌, ◌≤◌, ◌<◌, ◌^◌, if◌then◌else◌, IfOk, [], None, Some, true, length, vec_capacity};
+ghost use Rattle.std.specs.Prelude.{◌≡◌, ◌≤◌, ◌<◌, ◌^◌, if◌then◌else◌, IfOk, [], None, Some, true};
+ghost use Rattle.std.specs.Prelude.{length, vec_capacity};
 ghost use Rattle.mmio_transport.specs.Job.{room_of};
 ghost use Rattle.rpmb_frame.specs.Partition.{Partition};
 ghost use Rattle.rpmb_core.specs.Verdict.{verdict};
 ghost use Rattle.rpmb_core.specs.Accept.{data_of, is_accepted, partition_after};
 ghost use Rattle.rpmb_core.specs.Reply.{failure_kind};
-ghost use Rattle.rpmb_book.specs.Guest.{stored, core_after, outcome_in, answer, answer_when, need, entry, entry_of, key_of, blocks_in, request_of};
+ghost use Rattle.rpmb_book.specs.Guest.{stored, core_after, outcome_in, answer, answer_when, need};
+ghost use Rattle.rpmb_book.specs.Guest.{entry, entry_of, key_of, blocks_in, request_of};
 ghost use Rattle.rpmb_book.specs.Sound.{IsCoreOfBoard};
 ghost use Rattle.rpmb_book.specs.Planned.{HasRoom, IsPlanned};
 

@@ -1,11 +1,13 @@
-ghost use Rattle.std.specs.Prelude.{◌≡◌, ◌+◌, ◌++◌, ◌-◌, ◌<◌, ◌≤◌, ◌^◌, [], IfOk, if◌then◌else◌, is_some, length, take, drop};
+ghost use Rattle.std.specs.Prelude.{◌≡◌, ◌+◌, ◌++◌, ◌-◌, ◌<◌, ◌≤◌, ◌^◌, [], IfOk, if◌then◌else◌};
+ghost use Rattle.std.specs.Prelude.{is_some, length, take, drop};
 ghost use Rattle.intent_slots.specs.Payload.{EntriesFit};
 ghost use Rattle.rpmb_book.specs.Planned.{IsFailure, IsPlanned};
 ghost use Rattle.rpmb_book.specs.GuestPlanned.{IsGuestPlanned, is_failure};
 ghost use Rattle.rpmb_book.specs.Allowed.{HasPlaces};
 ghost use Rattle.rpmb_book.specs.Left.{left_of};
 ghost use Rattle.std.specs.Prelude.{true, false, map};
-ghost use Rattle.rpmb_book.specs.Guest.{submitted, answer_when, took, settled_at, collected, broken_off, kept_or_failed, first_due, first_intent, fresh};
+ghost use Rattle.rpmb_book.specs.Guest.{submitted, answer_when, took, settled_at, collected};
+ghost use Rattle.rpmb_book.specs.Guest.{broken_off, kept_or_failed, first_due, first_intent, fresh};
 
 use crate::guest_core::{Answer, Failure, GuestCore, Plan};
 use crate::held::Held;
@@ -42,7 +44,14 @@ impl Model for GuestState {
 
     ghost Value = { model.GuestState };
 
-    ghost view = { λ g. record { core = g.core; held = g.held.items; waiting = g.waiting.items; taken = g.taken; settled = g.settled; submits = g.submits } };
+    ghost view = { λ g. record {
+      core = g.core;
+      held = g.held.items;
+      waiting = g.waiting.items;
+      taken = g.taken;
+      settled = g.settled;
+      submits = g.submits;
+    } };
 
     ghost invariant = { λ g. (64 ≤ deque_capacity g.held) × (64 ≤ deque_capacity g.waiting) };
 }
@@ -246,7 +255,9 @@ impl GuestState {
     /// Gives the first held reply, where its need is settled.
     pub fn collect(&mut self) -> Option<Done>
         ensures done { result ≡ first_due self.old.settled self.old.held }
-        ensures state { self.new ≡ (if is_some (first_due self.old.settled self.old.held) then collected self.old else self.old) }
+        ensures state { self.new
+            ≡ (if is_some (first_due self.old.settled self.old.held) then collected self.old
+            else self.old) }
     {
         if self.held.is_empty() || self.settled < self.held[0].need() {
             return None;

@@ -1,6 +1,7 @@
 ghost use Rattle.std.specs.Prelude.{◌≡◌, ◌<◌, ◌≤◌, ◌++◌, ◌∷◌, [], IfOk, Some, option_map, length, slice_get};
 ghost use Rattle.std.specs.Option.{option_copied};
-ghost use Rattle.rpmb_book.specs.History.{below, filed_seen, first_has_left, found_in, has_left, has_left_of, of_guest, still_filed, Rise};
+ghost use Rattle.rpmb_book.specs.History.{below, filed_seen, first_has_left, found_in, has_left};
+ghost use Rattle.rpmb_book.specs.History.{has_left_of, of_guest, still_filed, Rise};
 ghost use Rattle.rpmb_book.specs.Receipt.{turn_seen};
 
 use crate::guest_state::GuestState;
@@ -30,7 +31,14 @@ impl Model for Filed {
 
     ghost Value = { model.Filed };
 
-    ghost view = { λ f. record { number = f.number; place = f.place; guest = f.guest; request = f.request.items; writable = f.writable; reply = f.reply.items } };
+    ghost view = { λ f. record {
+      number = f.number;
+      place = f.place;
+      guest = f.guest;
+      request = f.request.items;
+      writable = f.writable;
+      reply = f.reply.items;
+    } };
 }
 
 /// The memory of a Submit that has gone: two lists without bytes.
@@ -123,7 +131,8 @@ impl Model for History {
 
     ghost view = { λ h. drop h.gone h.filed.items };
 
-    ghost invariant = { λ h. (16384 ≤ deque_capacity h.filed) × (h.gone ≤ length h.filed.items) × (length h.filed.items ≤ 16384) };
+    ghost invariant = { λ h. (16384 ≤ deque_capacity h.filed) × (h.gone ≤ length h.filed.items)
+        × (length h.filed.items ≤ 16384) };
 }
 
 impl History {

@@ -1,5 +1,6 @@
 -- A line of `rpmbd run` that gives a reply, and what can be judged of the reply.
-use Rattle.std.specs.Prelude.{ℕ, ◌==◌, ◌/◌, ◌*◌, ◌&&◌, not, Bool, if◌then◌else◌, List, [], ◌∷◌, length, codes, Option, Some, None, option_and_then}
+use Rattle.std.specs.Prelude.{ℕ, ◌==◌, ◌/◌, ◌*◌, ◌&&◌, not, Bool, if◌then◌else◌, List, [], ◌∷◌}
+use Rattle.std.specs.Prelude.{length, codes, Option, Some, None, option_and_then}
 use Rattle.std.specs.List.{flat_map}
 use Rattle.std.specs.Str.{bytes_eq}
 use Rattle.script.specs.Words.{bytes_of, number_of, words_of}

@@ -1,5 +1,6 @@
 -- Bytes that aren't whole blocks.
-use Rattle.std.specs.Prelude.{ℕ, ◌-◌, ◌%◌, ◌++◌, nat_le, if◌then◌else◌, List, length, replicate, slice_range, Option, Some, None}
+use Rattle.std.specs.Prelude.{ℕ, ◌-◌, ◌%◌, ◌++◌, nat_le, if◌then◌else◌, List, length, replicate}
+use Rattle.std.specs.Prelude.{slice_range, Option, Some, None}
 
 -- the bytes that a last block of 256 lacks
 abbrev pub lacking : ℕ → ℕ

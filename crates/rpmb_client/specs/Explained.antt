@@ -1,12 +1,18 @@
 -- What is said of an answer.
-use Rattle.std.specs.Prelude.{ℕ, zero, suc, ◌+◌, ◌==◌, ◌&&◌, ◌||◌, not, nat_le, nat_lt, Bool, true, false, if◌then◌else◌, Option, Some, None, List, [], ◌∷◌, ◌++◌, codes, get_or, length, replicate, slice_range}
+use Rattle.std.specs.Prelude.{ℕ, zero, suc, ◌+◌, ◌==◌, ◌&&◌, ◌||◌, not, nat_le, nat_lt, Bool, true}
+use Rattle.std.specs.Prelude.{false, if◌then◌else◌, Option, Some, None, List, [], ◌∷◌, ◌++◌, codes}
+use Rattle.std.specs.Prelude.{get_or, length, replicate, slice_range}
 use Rattle.std.specs.Fmt.{decimal}
 use Rattle.std.specs.List.{list_all, list_any, position_or_len}
 use Rattle.std.specs.Str.{bytes_eq}
 use Rattle.hex.specs.Hex.{encode_lower}
-use Rattle.rpmb_frame.specs.Codes.{resp_program_key, resp_get_counter, resp_data_write, resp_data_read, res_ok, res_general_failure, res_auth_failure, res_count_failure, res_addr_failure, res_write_failure, res_no_auth_key, res_write_counter_expired}
+use Rattle.rpmb_frame.specs.Codes.{resp_program_key, resp_get_counter, resp_data_write}
+use Rattle.rpmb_frame.specs.Codes.{resp_data_read, res_ok, res_general_failure, res_auth_failure}
+use Rattle.rpmb_frame.specs.Codes.{res_count_failure, res_addr_failure, res_write_failure}
+use Rattle.rpmb_frame.specs.Codes.{res_no_auth_key, res_write_counter_expired}
 use Rattle.rpmb_frame.specs.Table.{first_row}
-use Rattle.rpmb_frame.specs.Frame.{block_data_of, key_mac_of, nonce_of, write_counter_of, address_of, block_count_of, result_of, req_resp_of}
+use Rattle.rpmb_frame.specs.Frame.{block_data_of, key_mac_of, nonce_of, write_counter_of}
+use Rattle.rpmb_frame.specs.Frame.{address_of, block_count_of, result_of, req_resp_of}
 use Rattle.rpmb_client.specs.Answer.{is_mac_right, is_nonce_right, is_whole}
 use Rattle.rpmb_frame.specs.Request.{frames_of}
 
@@ -73,7 +79,8 @@ is_wrong reply key asked =
 
 -- the last frame has the MAC of all of them; the others have zeros there
 abbrev pub mac_text : Bool → Option (List ℕ) → List (List ℕ) → List ℕ → List ℕ
-mac_text false key frames frame = if is_zeros (key_mac_of frame) 32 then codes "in the last frame" else codes "out of place"
+mac_text false key frames frame =
+    if is_zeros (key_mac_of frame) 32 then codes "in the last frame" else codes "out of place"
 mac_text true None frames frame = codes "not looked at"
 mac_text true (Some key) frames frame = if is_mac_right key frames then codes "right" else codes "wrong"
 
@@ -151,7 +158,8 @@ frame_lines guest (suc i) frames key asked =
     frame_lines guest i frames key asked ++ frame_line guest i frames key asked
 
 unfoldable pub no_frames_line : ℕ → ℕ → List ℕ
-no_frames_line guest n = codes "guest " ++ decimal guest ++ codes ", " ++ decimal n ++ codes " bytes are no frames" ++ 10 ∷ []
+no_frames_line guest n = codes "guest " ++ decimal guest ++ codes ", " ++ decimal n
+    ++ codes " bytes are no frames" ++ 10 ∷ []
 
 -- what is said of a reply to a guest
 unfoldable pub reply_lines : ℕ → List ℕ → Option (List ℕ) → Option (List ℕ) → List ℕ

@@ -1,5 +1,6 @@
 -- What the lines and requests that a client makes are to `rpmbd` and to a partition (VIRTIO 1.2, 5.12.6).
-use Rattle.std.specs.Prelude.{◌≡◌, ◌≢◌, ◌<◌, ◌≤◌, ◌+◌, ◌*◌, ◌^◌, ℕ, Bool, true, if◌then◌else◌, List, [], ◌∷◌, length, Some, None}
+use Rattle.std.specs.Prelude.{◌≡◌, ◌≢◌, ◌<◌, ◌≤◌, ◌+◌, ◌*◌, ◌^◌, ℕ, Bool, true, if◌then◌else◌, List}
+use Rattle.std.specs.Prelude.{[], ◌∷◌, length, Some, None}
 use Rattle.std.specs.List.{AllByRecursion}
 use Rattle.hex.specs.Hex.{IsBytes}
 use Rattle.script.specs.Line.{line_of, chain}
@@ -32,12 +33,14 @@ abbrev pub room_of : Bool → ℕ
 room_of asks = if asks then 512 else 0
 
 -- a made DATA_WRITE is that request, and a partition with that key, that counter and that room accepts it
-pub record WritesBlocks (key : List ℕ) (counter address : ℕ) (blocks : List (List ℕ)) (asks : Bool) (limits : Limits) : Type 0 where
+pub record WritesBlocks (key : List ℕ) (counter address : ℕ) (blocks : List (List ℕ)) (asks : Bool)
+    (limits : Limits) : Type 0 where
   pub classified : command_of (joined (asking asks (write_frames key counter address blocks))) (room_of asks) limits
       ≡ DataWrite (write_frames key counter address blocks) asks
   pub accepted : (p : Partition) → p.key ≡ Some key → p.counter ≡ counter → counter ≢ last_count
       → address + length blocks ≤ block_count p
-      → is_accepted p (request (joined (asking asks (write_frames key counter address blocks))) (room_of asks) limits) ≡ true
+      → is_accepted p (request (joined (asking asks (write_frames key counter address blocks)))
+      (room_of asks) limits) ≡ true
 
 -- blocks of 256 bytes
 abbrev pub AreBlocks : List (List ℕ) → Type 0
@@ -58,7 +61,8 @@ MadeResult = (limits : Limits) → command_of (joined (result_frame ∷ [])) 512
 
 -- a made DATA_READ is that request, and succeeds on a partition with a key and that room
 pub record ReadsBlocks (address count : ℕ) (nonce : List ℕ) (limits : Limits) : Type 0 where
-  pub classified : command_of (joined (read_frame address count nonce ∷ [])) (512 * count) limits ≡ DataRead (read_frame address count nonce)
+  pub classified : command_of (joined (read_frame address count nonce ∷ [])) (512 * count) limits
+      ≡ DataRead (read_frame address count nonce)
   pub succeeds : (p : Partition) (key : List ℕ) → p.key ≡ Some key → address + count ≤ block_count p
       → verdict p (request (joined (read_frame address count nonce ∷ [])) (512 * count) limits) ≡ res_ok
 

@@ -1,5 +1,6 @@
 -- The lines that a client writes, each for one request.
-use Rattle.std.specs.Prelude.{ℕ, zero, suc, ◌+◌, ◌-◌, ◌*◌, ◌/◌, Bool, if◌then◌else◌, List, [], ◌∷◌, ◌++◌, length, min, slice_range}
+use Rattle.std.specs.Prelude.{ℕ, zero, suc, ◌+◌, ◌-◌, ◌*◌, ◌/◌, Bool, if◌then◌else◌, List, [], ◌∷◌}
+use Rattle.std.specs.Prelude.{◌++◌, length, min, slice_range}
 use Rattle.rpmb_core.specs.Reply.{joined}
 use Rattle.rpmb_client.specs.Chain.{chain_text}
 use Rattle.rpmb_client.specs.Made.{asking, counter_frame, key_frames, read_frame, result_frame, write_frames}

@@ -1,7 +1,10 @@
 -- The frames of the requests that a client makes (VIRTIO 1.2, 5.12.6). Fields that aren't named are zeros.
 use Rattle.std.specs.Prelude.{ℕ, Bool, if◌then◌else◌, Some, List, [], ◌∷◌, ◌++◌, length, map}
-use Rattle.rpmb_frame.specs.Codes.{req_program_key, req_get_write_counter, req_data_write, req_data_read, req_result_read}
-use Rattle.rpmb_frame.specs.Frame.{zero_frame, with_key_mac, with_block_data, with_nonce, with_write_counter, with_address, with_block_count, with_req_resp}
+use Rattle.rpmb_frame.specs.Codes.{req_program_key, req_get_write_counter, req_data_write}
+use Rattle.rpmb_frame.specs.Codes.{req_data_read, req_result_read}
+use Rattle.rpmb_frame.specs.Frame.{zero_frame, with_key_mac, with_block_data, with_nonce}
+use Rattle.rpmb_frame.specs.Frame.{with_write_counter, with_address, with_block_count}
+use Rattle.rpmb_frame.specs.Frame.{with_req_resp}
 use Rattle.rpmb_core.specs.Reply.{sealed}
 
 -- the frame that asks for the result of a PROGRAM_KEY or a DATA_WRITE

@@ -2,7 +2,9 @@
 ghost use Rattle.std.specs.Prelude.{◌≡◌, ◌<◌, ◌≤◌, ℕ, IfOk, None, Option, Some, length, map, option_map, take};
 ghost use Rattle.std.specs.List.{flat_map};
 ghost use Rattle.rpmb_frame.specs.Frame.{block_data_of};
-ghost use Rattle.rpmb_client.specs.Answer.{Used as UsedModel, as_long, is_mac_right, is_nonce_right, is_whole, read_of, used_of, used_of_words, used_words};
+ghost use Rattle.rpmb_client.specs.Answer.{Used as UsedModel, as_long, is_mac_right};
+ghost use Rattle.rpmb_client.specs.Answer.{is_nonce_right, is_whole, read_of, used_of};
+ghost use Rattle.rpmb_client.specs.Answer.{used_of_words, used_words};
 ghost use Rattle.rpmb_client.specs.Seen.{read_seen, used_seen};
 
 use hmac256::mac_of;

@@ -1,7 +1,11 @@
 //! What is said of a reply, a line for each of its frames.
 ghost use Rattle.std.specs.Prelude.{◌≡◌, ◌<◌, ◌≤◌, ◌+◌, ◌++◌, ◌∷◌, ◌==◌, IfOk, OnOk, [], get_or, length, string_bytes};
 ghost use Rattle.std.specs.Io.KnownBytes.{Appends};
-ghost use Rattle.rpmb_client.specs.Explained.{checks_text, data_digits, data_name, counter_text, fields_text, front_text, frame_line, frame_lines, kind_text, lacks_nonce, mac_text, no_frames_line, nonce_text, place_text, reply_lines, result_text, stuff_text, two_bytes};
+ghost use Rattle.rpmb_client.specs.Explained.{checks_text, data_digits, data_name, counter_text};
+ghost use Rattle.rpmb_client.specs.Explained.{fields_text, front_text, frame_line, frame_lines};
+ghost use Rattle.rpmb_client.specs.Explained.{kind_text, lacks_nonce, mac_text, no_frames_line};
+ghost use Rattle.rpmb_client.specs.Explained.{nonce_text, place_text, reply_lines, result_text};
+ghost use Rattle.rpmb_client.specs.Explained.{stuff_text, two_bytes};
 
 use crate::answer::{Used, has_nonce, has_right_mac, is_whole};
 use crate::fault::ClientFault;
@@ -234,7 +238,8 @@ fn write_frame<W: Write>(
     out: &mut W,
 ) -> Result<(), ClientFault>
     requires { i < length frames.now }
-    ensures { OnOk result (Appends (W.contents out.old) (W.contents out.new) (frame_line guest i frames.now key nonce)) }
+    ensures { OnOk result (Appends (W.contents out.old) (W.contents out.new)
+        (frame_line guest i frames.now key nonce)) }
 {
     match write_place(guest, i + 1, frames.len(), out) {
         Ok(()) => {}
@@ -268,7 +273,8 @@ fn write_frames<W: Write>(
     nonce: Option<[u8; 16]>,
     out: &mut W,
 ) -> Result<(), ClientFault>
-    ensures { OnOk result (Appends (W.contents out.old) (W.contents out.new) (frame_lines guest (length frames.now) frames.now key nonce)) }
+    ensures { OnOk result (Appends (W.contents out.old) (W.contents out.new)
+        (frame_lines guest (length frames.now) frames.now key nonce)) }
 {
     for i in 0..frames.len() {
         write_frame(alloc, guest, i, frames, key, nonce, out)?;
@@ -296,7 +302,8 @@ pub fn explain<W: Write>(
     nonce: Option<[u8; 16]>,
     out: &mut W,
 ) -> Result<(), ClientFault>
-    ensures { OnOk result (Appends (W.contents out.old) (W.contents out.new) (reply_lines used.now.guest used.now.reply.items key nonce)) }
+    ensures { OnOk result (Appends (W.contents out.old) (W.contents out.new)
+        (reply_lines used.now.guest used.now.reply.items key nonce)) }
 {
     let reply = used.reply.as_slice();
     if !is_whole(reply) {

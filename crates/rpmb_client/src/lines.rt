@@ -1,7 +1,8 @@
 //! The lines of requests.
 ghost use Rattle.std.specs.Prelude.{◌≡◌, ◌<◌, ◌≤◌, ◌+◌, ◌-◌, ◌*◌, ◌/◌, ◌^◌, ◌∷◌, OnOk, [], length};
 ghost use Rattle.std.specs.Io.KnownBytes.{Appends};
-ghost use Rattle.rpmb_client.specs.Lines.{counter_line, key_line, read_line, request_line, result_line, write_line, write_lines, writes_of};
+ghost use Rattle.rpmb_client.specs.Lines.{counter_line, key_line, read_line, request_line};
+ghost use Rattle.rpmb_client.specs.Lines.{result_line, write_line, write_lines, writes_of};
 
 use crate::chain::write_chain;
 use crate::fault::ClientFault;
@@ -65,7 +66,8 @@ pub fn write_read<W: Write>(
     nonce: &[u8; 16],
     out: &mut W,
 ) -> Result<(), ClientFault>
-    ensures { OnOk result (Appends (W.contents out.old) (W.contents out.new) (read_line guest address count nonce.now)) }
+    ensures { OnOk result (Appends (W.contents out.old) (W.contents out.new)
+        (read_line guest address count nonce.now)) }
 {
     write_request(
         alloc,
@@ -108,7 +110,8 @@ fn write_one<W: Write>(
 ) -> Result<(), ClientFault>
     requires some { 1 ≤ length blocks.now }
     requires few { length blocks.now ≤ 16 }
-    ensures { OnOk result (Appends (W.contents out.old) (W.contents out.new) (write_line writer.guest writer.key writer.counter writer.address blocks.now writer.asks)) }
+    ensures { OnOk result (Appends (W.contents out.old) (W.contents out.new)
+        (write_line writer.guest writer.key writer.counter writer.address blocks.now writer.asks)) }
 {
     let frames = write_blocks(
         alloc,
@@ -143,7 +146,9 @@ pub fn write_all<W: Write>(
     requires most { most ≤ 16 }
     requires inside { writer.address + length blocks.now ≤ 65536 }
     requires counted { writer.counter + writes_of most (length blocks.now) ≤ 2 ^ 32 }
-    ensures { OnOk result (Appends (W.contents out.old) (W.contents out.new) (write_lines (writes_of most (length blocks.now)) writer.guest writer.key writer.counter writer.address most blocks.now writer.asks)) }
+    ensures { OnOk result (Appends (W.contents out.old) (W.contents out.new)
+        (write_lines (writes_of most (length blocks.now)) writer.guest writer.key writer.counter
+        writer.address most blocks.now writer.asks)) }
 {
     let most = usize::from(most);
     let count = (blocks.len() + most - 1) / most;

@@ -1,7 +1,8 @@
 //! The frames of requests.
 ghost use Rattle.std.specs.Prelude.{◌≡◌, ◌<◌, ◌≤◌, ◌∷◌, IfOk, [], Some, length, map};
 ghost use Rattle.rpmb_core.specs.Reply.{joined, sealed};
-ghost use Rattle.rpmb_client.specs.Made.{asking, counter_frame, frames_like, key_frame, key_frames, read_frame, result_frame, write_frames, write_header};
+ghost use Rattle.rpmb_client.specs.Made.{asking, counter_frame, frames_like, key_frame, key_frames};
+ghost use Rattle.rpmb_client.specs.Made.{read_frame, result_frame, write_frames, write_header};
 
 use hmac256::mac_of;
 use rpmb_frame::{DATA_READ, DATA_WRITE, Frame, GET_WRITE_COUNTER, PROGRAM_KEY, RESULT_READ};

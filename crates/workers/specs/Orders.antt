@@ -20,8 +20,10 @@ pub record LeavesAll (complete : Bool) (answers chains : ℕ) : Type 0 where
 -- the same of each driver and its script
 abbrev pub Left : List DriverEnd → List (List Order) → Type 0
 Left ends scripts = (i : ℕ) (d : DriverEnd) → i < length scripts
-    → LeavesAll (slice_index_or ends i d).complete (vec_len (slice_index_or ends i d).answers) (chain_orders (slice_index_or scripts i []))
+    → LeavesAll (slice_index_or ends i d).complete (vec_len (slice_index_or ends i d).answers)
+    (chain_orders (slice_index_or scripts i []))
 
 -- each guest has an answer to each chain of its script
 abbrev pub HaveAll : List DriverEnd → List (List Order) → Type 0
-HaveAll ends scripts = (i : ℕ) (d : DriverEnd) → i < length scripts → vec_len (slice_index_or ends i d).answers ≡ chain_orders (slice_index_or scripts i [])
+HaveAll ends scripts = (i : ℕ) (d : DriverEnd) → i < length scripts
+    → vec_len (slice_index_or ends i d).answers ≡ chain_orders (slice_index_or scripts i [])

@@ -26,13 +26,15 @@ HandsIn count job false count' job' = (count' ≡ count) × (job' ≡ job)
 
 -- both, where none lay there at first
 abbrev pub TakesIn : ℕ → Option Job → Bool → ℕ → Option Job → Type 0
-TakesIn count job true count' job' = (count + lies job ≤ count' + lies job') × (count' + lies job' ≤ count + lies job + 1)
+TakesIn count job true count' job' =
+    (count + lies job ≤ count' + lies job') × (count' + lies job' ≤ count + lies job + 1)
 TakesIn count job false count' job' = (count' ≡ count) × (job' ≡ job)
 
 -- A worker that went on: no job that it held is lost, each was answered or lies there still, and at most one more was
 -- popped. One that rests or ends did neither, and one that ends has no job.
 abbrev pub Works : ℕ → Option Job → Next → ℕ → Option Job → Type 0
-Works count job Again count' job' = (count + lies job ≤ count' + lies job') × (count' + lies job' ≤ count + lies job + 1)
+Works count job Again count' job' =
+    (count + lies job ≤ count' + lies job') × (count' + lies job' ≤ count + lies job + 1)
 Works count job Rest count' job' = (count' ≡ count) × (job' ≡ job)
 Works count job End count' job' = (count' ≡ count) × (job ≡ None) × (job' ≡ None)
 
@@ -48,6 +50,7 @@ Offers next false next' = next' ≡ next
 
 -- A driver that went on has one answer more at most, and one order; one that rests or ends has neither.
 abbrev pub Drives : ℕ → ℕ → Next → ℕ → ℕ → Type 0
-Drives answers next Again answers' next' = (answers ≤ answers') × (answers' ≤ answers + 1) × (next ≤ next') × (next' ≤ next + 1)
+Drives answers next Again answers' next' =
+    (answers ≤ answers') × (answers' ≤ answers + 1) × (next ≤ next') × (next' ≤ next + 1)
 Drives answers next Rest answers' next' = (answers' ≡ answers) × (next' ≡ next)
 Drives answers next End answers' next' = (answers' ≡ answers) × (next' ≡ next)

@@ -184,7 +184,8 @@ fn start_drivers<'s, E, L: Ledger + Send + Sync, R: Wait + Sync>(
     scripts: &'s [Script],
 ) -> Result<Vec<PromisedHandle<DriverEnd, OfChains>>, HostFault>
     ensures len { IfOk result (λ v. vec_len v ≡ length scripts.now) }
-    ensures each { IfOk result (λ v. (i : ℕ) (d : _) → i < length scripts.now → chain_orders (slice_index_or scripts.now i []) ≡ (slice_index_or v.items i d).promise.0) }
+    ensures each { IfOk result (λ v. (i : ℕ) (d : _) → i < length scripts.now
+        → chain_orders (slice_index_or scripts.now i []) ≡ (slice_index_or v.items i d).promise.0) }
 {
     let mut started = Vec::new(alloc);
     for i in 0..scripts.len() {
@@ -222,9 +223,12 @@ fn start_all<
 ) -> Result<Started<L, D>, HostFault>
     requires { Follow flusher.shares flusher.store.guests }
     ensures workers { IfOk result (λ s. vec_len s.workers ≡ vec_len workers) }
-    ensures guests { IfOk result (λ s. map (λ h. h.promise.0) s.workers.items ≡ map (λ w. w.tally.guest) workers.items) }
+    ensures guests { IfOk result (λ s. map (λ h. h.promise.0) s.workers.items
+        ≡ map (λ w. w.tally.guest) workers.items) }
     ensures drivers { IfOk result (λ s. vec_len s.drivers ≡ length scripts.now) }
-    ensures each { IfOk result (λ s. (i : ℕ) (d : _) → i < length scripts.now → chain_orders (slice_index_or scripts.now i []) ≡ (slice_index_or s.drivers.items i d).promise.0) }
+    ensures each { IfOk result (λ s. (i : ℕ) (d : _) → i < length scripts.now
+        → chain_orders (slice_index_or scripts.now i [])
+        ≡ (slice_index_or s.drivers.items i d).promise.0) }
 {
     let workers = match start_workers(scope, rt, alloc, hall, gate, workers) {
         Ok(workers) => workers,
@@ -252,9 +256,12 @@ fn join_all<L: Ledger, D: Disk + Drop, R: Threads>(
     scripts: &[Script],
 ) -> Result<Crew<L, D>, HostFault>
     requires len { vec_len started.drivers ≡ length scripts.now }
-    requires each { (i : ℕ) (d : _) → i < length scripts.now → chain_orders (slice_index_or scripts.now i []) ≡ (slice_index_or started.drivers.items i d).promise.0 }
+    requires each { (i : ℕ) (d : _) → i < length scripts.now
+        → chain_orders (slice_index_or scripts.now i [])
+        ≡ (slice_index_or started.drivers.items i d).promise.0 }
     ensures workers { IfOk result (λ c. vec_len c.workers ≡ vec_len started.workers) }
-    ensures guests { IfOk result (λ c. map (λ w. w.tally.guest) c.workers.items ≡ map (λ h. h.promise.0) started.workers.items) }
+    ensures guests { IfOk result (λ c. map (λ w. w.tally.guest) c.workers.items
+        ≡ map (λ h. h.promise.0) started.workers.items) }
     ensures drivers { IfOk result (λ c. vec_len c.drivers ≡ length scripts.now) }
     ensures each { IfOk result (λ c. Left c.drivers.items scripts.now) }
 {
@@ -297,7 +304,8 @@ fn run_in<
 ) -> Result<Crew<L, D>, HostFault>
     requires { Follow flusher.shares flusher.store.guests }
     ensures workers { IfOk result (λ c. vec_len c.workers ≡ vec_len workers) }
-    ensures guests { IfOk result (λ c. map (λ w. w.tally.guest) c.workers.items ≡ map (λ w. w.tally.guest) workers.items) }
+    ensures guests { IfOk result (λ c. map (λ w. w.tally.guest) c.workers.items
+        ≡ map (λ w. w.tally.guest) workers.items) }
     ensures drivers { IfOk result (λ c. vec_len c.drivers ≡ length scripts.now) }
     ensures each { IfOk result (λ c. Left c.drivers.items scripts.now) }
 {
@@ -327,7 +335,8 @@ pub(crate) fn run_all<
 ) -> Result<Crew<L, D>, HostFault>
     requires { Follow flusher.shares flusher.store.guests }
     ensures workers { IfOk result (λ c. vec_len c.workers ≡ vec_len workers) }
-    ensures guests { IfOk result (λ c. map (λ w. w.tally.guest) c.workers.items ≡ map (λ w. w.tally.guest) workers.items) }
+    ensures guests { IfOk result (λ c. map (λ w. w.tally.guest) c.workers.items
+        ≡ map (λ w. w.tally.guest) workers.items) }
     ensures drivers { IfOk result (λ c. vec_len c.drivers ≡ length scripts.now) }
     ensures each { IfOk result (λ c. Left c.drivers.items scripts.now) }
 {
@@ -337,7 +346,8 @@ pub(crate) fn run_all<
         |scope| -> Result<Crew<L, D>, HostFault>
             requires { Follow flusher.shares flusher.store.guests }
             ensures workers { IfOk result (λ c. vec_len c.workers ≡ vec_len workers) }
-            ensures guests { IfOk result (λ c. map (λ w. w.tally.guest) c.workers.items ≡ map (λ w. w.tally.guest) workers.items) }
+            ensures guests { IfOk result (λ c. map (λ w. w.tally.guest) c.workers.items
+                ≡ map (λ w. w.tally.guest) workers.items) }
             ensures drivers { IfOk result (λ c. vec_len c.drivers ≡ length scripts.entry.now) }
             ensures each { IfOk result (λ c. Left c.drivers.items scripts.entry.now) }
         { run_in(scope, rt, alloc, hall, gate, workers, scripts, flusher) },

@@ -1,6 +1,8 @@
 //! What lies under the book's lock.
 ghost use Rattle.std.specs.Prelude.{◌≡◌, ◌+◌, ◌<◌, IfErr, IfOk, OnErr, OnOk, None, length, option_map, unwrap_or};
-ghost use Rattle.rpmb_book.specs.Book.{BookView, after_break_off, after_collect, after_settle, after_take, due_of, found_by, next_intent, refusal, settle_answer, share_moved, state, counted_in, take_answer};
+ghost use Rattle.rpmb_book.specs.Book.{BookView, after_break_off, after_collect, after_settle};
+ghost use Rattle.rpmb_book.specs.Book.{after_take, due_of, found_by, next_intent, refusal};
+ghost use Rattle.rpmb_book.specs.Book.{settle_answer, share_moved, state, counted_in, take_answer};
 ghost use Rattle.rpmb_book.specs.Fold.{after_submit};
 ghost use Rattle.rpmb_book.specs.Receipt.{submission_seen, turn_seen};
 
@@ -13,8 +15,9 @@ use std::marker::Model;
 use std::sync::ledger;
 use std::sync::ledger::{Ledger, Share};
 
-/// The book, and a ledger's book whose total is the number of its Submit turns, those that were folded too. All threads make their
-/// calls here, one at a time: each call is the book's, so the state is the replay of one history.
+/// The book, and a ledger's book whose total is the number of its Submit turns, those that were
+/// folded too. All threads make their calls here, one at a time: each call is the book's, so the
+/// state is the replay of one history.
 ///
 /// A contract sees the book.
 #[derive(Drop)]
@@ -55,11 +58,17 @@ impl<L: Ledger> Desk<L> {
         ensures made { OnOk result (self.new ≡ after_submit self.old job) }
         ensures tally { OnOk result (tally.new ≡ record tally.old { count = tally.old.count + 1 }) }
         ensures counted { OnOk result (share.new.amount ≡ share.old.amount + 1) }
-        ensures named { IfOk result (λ r. r ≡ record { life = self.old.life; guest = job.guest; number = self.old.folded + length self.old.history }) }
+        ensures named { IfOk result (λ r. r
+            ≡ record {
+              life = self.old.life;
+              guest = job.guest;
+              number = self.old.folded + length self.old.history;
+            }) }
         ensures allowed { OnOk result (refusal self.old tally.old job ≡ None) }
         ensures refused { IfErr result (λ e. e.1 ≡ unwrap_or (refusal self.old tally.old job) Refused.NoMemory) }
         ensures given_back { IfErr result (λ e. e.0 ≡ job) }
-        ensures unchanged { OnErr result ((self.new ≡ self.old) × (tally.new ≡ tally.old) × (share.new.amount ≡ share.old.amount)) }
+        ensures unchanged { OnErr result ((self.new ≡ self.old) × (tally.new ≡ tally.old)
+            × (share.new.amount ≡ share.old.amount)) }
         ensures parts { share.new.parts ≡ share.old.parts }
     {
         let receipt = self.book.submit(alloc, tally, job)?;

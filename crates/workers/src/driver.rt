@@ -57,7 +57,8 @@ impl<'a> Driver<'a> {
 
     /// Whether the device came into service: if not, no chain has an answer until a reset.
     fn renew(&mut self, in_service: bool)
-        ensures { (self.new.script ≡ self.old.script) × (self.new.next ≡ self.old.next) × (self.new.answers ≡ self.old.answers) }
+        ensures { (self.new.script ≡ self.old.script) × (self.new.next ≡ self.old.next)
+            × (self.new.answers ≡ self.old.answers) }
     {
         self.stuck = if in_service {
             None
@@ -67,7 +68,8 @@ impl<'a> Driver<'a> {
     }
 
     fn stick(&mut self, stuck: Stuck)
-        ensures { (self.new.script ≡ self.old.script) × (self.new.next ≡ self.old.next) × (self.new.answers ≡ self.old.answers) }
+        ensures { (self.new.script ≡ self.old.script) × (self.new.next ≡ self.old.next)
+            × (self.new.answers ≡ self.old.answers) }
     {
         self.stuck = Some(stuck);
     }
@@ -187,7 +189,9 @@ impl<'a> Driver<'a> {
     /// One look for work: one answer, and one order.
     fn turn(&mut self, rt: &impl Wait, guest: &Mutex<Guest>) -> Result<Next, HostFault>
         ensures script { self.new.script ≡ self.old.script }
-        ensures drives { IfOk result (λ next. Drives (vec_len self.old.answers) self.old.next next (vec_len self.new.answers) self.new.next) }
+        ensures drives { IfOk result (λ next.
+            Drives (vec_len self.old.answers) self.old.next next (vec_len self.new.answers)
+            self.new.next) }
     {
         let reaped = self.reap(rt, guest)?;
         let offered = self.offer(rt, guest)?;

@@ -92,7 +92,8 @@ impl<L: Ledger> Worker<L> {
     ) -> Result<bool, HostFault>
         requires empty { self.old.job ≡ None }
         ensures guest { self.new.tally.guest ≡ self.old.tally.guest }
-        ensures submits { IfOk result (λ answered. Submits job self.old.tally.count answered self.new.tally.count self.new.job) }
+        ensures submits { IfOk result (λ answered.
+            Submits job self.old.tally.count answered self.new.tally.count self.new.job) }
     {
         if self.receipts.reserve(1).is_err() {
             return Err(HostFault::NoMemory);
@@ -151,7 +152,8 @@ impl<L: Ledger> Worker<L> {
         gate: &G,
     ) -> Result<bool, HostFault>
         ensures guest { self.new.tally.guest ≡ self.old.tally.guest }
-        ensures hands_in { IfOk result (λ answered. HandsIn self.old.tally.count self.old.job answered self.new.tally.count self.new.job) }
+        ensures hands_in { IfOk result (λ answered.
+            HandsIn self.old.tally.count self.old.job answered self.new.tally.count self.new.job) }
     {
         let Some(job) = self.job.take() else {
             return Ok(false);
@@ -172,7 +174,8 @@ impl<L: Ledger> Worker<L> {
         gate: &G,
     ) -> Result<bool, HostFault>
         ensures guest { self.new.tally.guest ≡ self.old.tally.guest }
-        ensures takes { IfOk result (λ moved. TakesIn self.old.tally.count self.old.job moved self.new.tally.count self.new.job) }
+        ensures takes { IfOk result (λ moved.
+            TakesIn self.old.tally.count self.old.job moved self.new.tally.count self.new.job) }
     {
         let popped = self.pop(rt, seat.guest)?;
         if popped {
@@ -192,7 +195,8 @@ impl<L: Ledger> Worker<L> {
         gate: &G,
     ) -> Result<Next, HostFault>
         ensures guest { self.new.tally.guest ≡ self.old.tally.guest }
-        ensures works { IfOk result (λ next. Works self.old.tally.count self.old.job next self.new.tally.count self.new.job) }
+        ensures works { IfOk result (λ next.
+            Works self.old.tally.count self.old.job next self.new.tally.count self.new.job) }
     {
         let finished = seat.guest.lock(rt).is_finished();
         let stopped = seat.guest.lock(rt).is_stopped();
