@@ -1,0 +1,6 @@
+use Rattle.std.specs.Prelude.{◌≡◌}
+use Rattle.machine.specs.Serving.{Serves}
+use Rattle.machine.proofs.leaving.let_all_leave.Given as goal
+
+abbrev pub invariant-loop-reply : goal.invariant-loop-reply
+invariant-loop-reply g l = Serves g.D.Disk.state g.D.Disk.makes l.fn.guest l.fn.board l.board × (l.board.jobs ≡ l.fn.board.jobs)

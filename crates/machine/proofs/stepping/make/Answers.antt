@@ -1,0 +1,10 @@
+use Rattle.machine.proofs.Jobs.{jobs_same}
+use Rattle.machine.proofs.Shares.{serves_step}
+use Rattle.machine.proofs.stepping.make.Goals as goal
+
+pub returns-clause-serves : goal.returns-clause-serves
+returns-clause-serves g c guest share =
+    serves_step g.D.Disk.state g.D.Disk.makes guest g.met.D.Disk.effect c.args.step c.step.result c.args.board.now c.step.new.self share c.step.ensures.does c.step.ensures.linked c.step.ensures.moments
+
+pub returns-clause-jobs : goal.returns-clause-jobs
+returns-clause-jobs g c keeps = jobs_same g.D.Disk.state g.D.Disk.makes c.args.board.now c.args.step c.step.result c.step.new.self keeps c.step.ensures.does

@@ -1,0 +1,28 @@
+use Rattle.std.proofs.Common.{Ok, refl, subst, ap, ◌∙◌}
+use Rattle.std.specs.Prelude.{slice_get}
+use Rattle.board.specs.State.{in_place}
+use Rattle.board.specs.Steps.{SubmitsFrom}
+use Rattle.board.specs.declared.step.Step.TheVariants as board_step
+use Rattle.machine.proofs.Jobs.{submit_empties}
+use Rattle.machine.proofs.Shares.{serves_step}
+use Rattle.machine.proofs.stepping.submit.Goals as goal
+
+pub returns-in-Ok-Nothing-clause-serves : goal.returns-in-Ok-Nothing-clause-serves
+returns-in-Ok-Nothing-clause-serves g c =
+    serves_step g.D.Disk.state g.D.Disk.makes c.args.guest g.met.D.Disk.effect (board_step.Submit c.args.guest) c.step.result c.args.board.now c.step.new.self refl c.step.ensures.does c.step.ensures.linked c.step.ensures.moments
+
+pub returns-in-Ok-clause-serves : goal.returns-in-Ok-clause-serves
+returns-in-Ok-clause-serves g c =
+    serves_step g.D.Disk.state g.D.Disk.makes c.args.guest g.met.D.Disk.effect (board_step.Submit c.args.guest) c.step.result c.args.board.now c.step.new.self refl c.step.ensures.does c.step.ensures.linked c.step.ensures.moments
+
+pub returns-clause-serves : goal.returns-clause-serves
+returns-clause-serves g c =
+    serves_step g.D.Disk.state g.D.Disk.makes c.args.guest g.met.D.Disk.effect (board_step.Submit c.args.guest) c.step.result c.args.board.now c.step.new.self refl c.step.ensures.does c.step.ensures.linked c.step.ensures.moments
+
+pub returns-in-Ok-Nothing-clause-left : goal.returns-in-Ok-Nothing-clause-left
+returns-in-Ok-Nothing-clause-left g c sound is =
+    submit_empties g.D.Disk.state g.D.Disk.makes c.args.board.now c.args.guest _ c.step.new.self sound c.in-Ok-Nothing.ensures.does
+
+pub returns-in-Ok-clause-did : goal.returns-in-Ok-clause-did
+returns-in-Ok-clause-did g c sound is =
+    submit_empties g.D.Disk.state g.D.Disk.makes c.args.board.now c.args.guest _ c.step.new.self sound c.in-Ok.ensures.does

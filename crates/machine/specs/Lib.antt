@@ -1,0 +1,4 @@
+pub mod Machine
+pub mod Serving
+pub mod Settings
+pub mod Written

@@ -1,0 +1,75 @@
+-- What contracts see of a machine.
+use Rattle.std.specs.Prelude.{◌≡◌, ℕ, Bool, true, false, ◌&&◌, nat_le, List, length, take, Option}
+use Rattle.std.specs.Prelude.{Some, None, slice_get, slice_set}
+use Rattle.std.specs.Prelude.{IfSome}
+use Rattle.disk.specs.Outbox.{WriteAt, is_none}
+use Rattle.guest_memory.specs.Memory.{with_bytes}
+use Rattle.disk.specs.OutboxDisk.{OutboxMakes, OutboxState, outbox_state}
+use Rattle.flusher.specs.Store.{next_call}
+use Rattle.flusher.specs.declared.progress.Call.{Call}
+use Rattle.flusher.specs.declared.progress.Call.TheVariants as call
+use Rattle.mmio_transport.specs.Device.{DeviceState}
+use Rattle.board.specs.State.{BoardState}
+use Rattle.machine.specs.Serving.{Runs}
+use Rattle.machine.specs.Settings.{value_shown}
+use Rattle.machine.specs.declared.settings.Window.{Window}
+
+pub record MachineState : Type 0 where
+  pub board : BoardState OutboxState
+  -- how each guest's device is set up
+  pub windows : List Window
+
+-- what a guest reads; 0 where there is no such guest
+abbrev pub shown_by : Option Window → Option DeviceState → (offset width : ℕ) → ℕ
+shown_by (Some w) (Some d) offset width = value_shown w d offset width
+shown_by (Some w) None offset width = 0
+shown_by None d offset width = 0
+
+abbrev pub shown_in : MachineState → ℕ → (offset width : ℕ) → ℕ
+shown_in m guest offset width =
+    shown_by (slice_get m.windows guest) (slice_get m.board.devices guest) offset width
+
+-- so it is of a guest that there is
+abbrev pub WhereGuest : MachineState → ℕ → (Window → DeviceState → Type 0) → Type 0
+WhereGuest m guest P =
+    IfSome (slice_get m.windows guest) (λ w. IfSome (slice_get m.board.devices guest) (λ d. P w d))
+
+-- a device into whose memory its guest has stored
+abbrev pub stored : DeviceState → ℕ → List ℕ → DeviceState
+stored d at bytes = record d { memory = with_bytes d.memory at bytes }
+
+-- the writes that nobody took yet
+abbrev pub writes_in : MachineState → List WriteAt
+writes_in m = m.board.store.disk.outbox.writes
+
+-- steps of a guest, and calls of the disk, led from one board to the other
+abbrev pub GoesOn : ℕ → BoardState OutboxState → BoardState OutboxState → Type 0
+GoesOn guest old new = Runs outbox_state OutboxMakes guest old new
+
+abbrev pub is_sync : Call → Bool
+is_sync call.Write = false
+is_sync call.Sync = true
+is_sync call.None = false
+
+-- the next call of the disk is a sync
+abbrev pub waits_for_sync : BoardState OutboxState → Bool
+waits_for_sync b = is_sync (next_call b.store.broken b.store.guests)
+
+-- and every write before it was taken
+unfoldable pub is_awaited : BoardState OutboxState → Bool
+is_awaited b = waits_for_sync b && is_none b.store.disk.outbox.writes
+
+-- the machine with another device of a guest
+abbrev pub with_device : MachineState → ℕ → DeviceState → MachineState
+with_device m guest d =
+    record m { board = record m.board { devices = slice_set m.board.devices guest d } }
+
+-- What taking the oldest write gives, where there is so much room: its offset and how many bytes
+-- it has, and they stand at the front; nothing where no write waits, or it has more bytes.
+abbrev pub CopiesWhere : Bool → WriteAt → Option (ℕ × ℕ) → List ℕ → Type 0
+CopiesWhere true w result out = (result ≡ Some (w.0, length w.1)) × (take (length w.1) out ≡ w.1)
+CopiesWhere false w result out = result ≡ None
+
+abbrev pub Copies : Option WriteAt → ℕ → Option (ℕ × ℕ) → List ℕ → Type 0
+Copies None room result out = result ≡ None
+Copies (Some w) room result out = CopiesWhere (nat_le (length w.1) room) w result out

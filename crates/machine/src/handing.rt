@@ -1,0 +1,89 @@
+//! Handing what was accepted to the store, and its writes to the disk.
+ghost use Rattle.std.specs.Prelude.{◌≡◌, ℕ};
+ghost use Rattle.disk.specs.OutboxDisk.{OutboxMakes, outbox_state};
+ghost use Rattle.machine.specs.Serving.{Serves};
+
+use crate::stepping::{Went, make};
+use board::{Board, Step};
+use disk::{Disk, OutboxDisk};
+use flusher::Call;
+
+/// How many bytes the largest write has.
+const LARGEST_WRITE: usize = 16_648;
+
+/// How many writes one call makes, at most: the outbox has room for no more.
+const MOST_WRITES: u32 = 256;
+
+/// How many records of one guest a store takes before one of them is settled, and one more.
+const MOST_RECORDS: u32 = 3;
+
+/// Hands what was accepted of the guest to the store, up to four requests a record, while it takes
+/// more.
+pub(crate) fn hand_in<D: Disk>(board: &mut Board<D>, guest: u16)
+    ensures serves { Serves D.state D.makes guest board.old board.new }
+    ensures jobs { board.new.jobs ≡ board.old.jobs }
+{
+    for _record in 0..MOST_RECORDS {
+        let _ = make(board, Step::Take(guest));
+        match make(board, Step::Give(guest)) {
+            Went::Did => {}
+            _ => return,
+        }
+    }
+}
+
+/// Makes the next call where it is a write. Whether it was.
+fn write_one<D: Disk>(board: &mut Board<D>) -> bool
+    ensures serves { (guest : ℕ) → Serves D.state D.makes guest board.old board.new }
+    ensures jobs { board.new.jobs ≡ board.old.jobs }
+{
+    match board.next_call() {
+        Call::Write => {}
+        _ => return false,
+    }
+    let _ = make(board, Step::Advance);
+    true
+}
+
+/// Makes the next call where it is a write, and the outbox has room for the largest. Whether it
+/// was made.
+fn write_next(board: &mut Board<OutboxDisk>) -> bool
+    ensures serves { (guest : ℕ) → Serves outbox_state OutboxMakes guest board.old board.new }
+    ensures jobs { board.new.jobs ≡ board.old.jobs }
+{
+    if !board.disk().has_room(LARGEST_WRITE) {
+        return false;
+    }
+    write_one(board)
+}
+
+/// Makes writes while they come next and have room.
+fn write_all(board: &mut Board<OutboxDisk>)
+    ensures serves { (guest : ℕ) → Serves outbox_state OutboxMakes guest board.old board.new }
+    ensures jobs { board.new.jobs ≡ board.old.jobs }
+{
+    for _write in 0..MOST_WRITES {
+        if !write_next(board) {
+            return;
+        }
+    }
+}
+
+/// Makes writes while they come next and have room. A failure is told to the book.
+pub(crate) fn write_out(board: &mut Board<OutboxDisk>)
+    ensures serves { (guest : ℕ) → Serves outbox_state OutboxMakes guest board.old board.new }
+    ensures jobs { board.new.jobs ≡ board.old.jobs }
+{
+    write_all(board);
+    let _ = make(board, Step::Settle);
+}
+
+/// Makes the call that comes next, and tells the book what came of it.
+pub(crate) fn go_on<D: Disk>(board: &mut Board<D>)
+    ensures serves { (guest : ℕ) → Serves D.state D.makes guest board.old board.new }
+    ensures jobs { board.new.jobs ≡ board.old.jobs }
+{
+    let _ = make(board, Step::Settle);
+    let _ = make(board, Step::Advance);
+    let _ = make(board, Step::Settle);
+}

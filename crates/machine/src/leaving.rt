@@ -1,0 +1,92 @@
+//! Letting replies leave whose need is settled.
+ghost use Rattle.std.specs.Prelude.{◌≡◌};
+ghost use Rattle.machine.specs.Serving.{Serves};
+
+use crate::fault::MachineFault;
+use crate::offering::note_queue;
+use crate::ranges::{Range, has_room, note_reply};
+use crate::stepping::{is_did, is_wrote, make};
+use board::{Board, Step};
+use disk::Disk;
+
+/// How many replies one call writes, at most: the book holds 64, and one lies in its place.
+const MOST_LEFT: u32 = 65;
+
+/// Why no more left.
+#[derive(Clone, Copy, Debug, PartialEq, Eq)]
+pub(crate) enum Left {
+    /// None may leave.
+    All,
+    /// There is no room for the ranges of the next, or as many left as one call writes.
+    Limit,
+    /// Memory was refused.
+    Refused(MachineFault),
+}
+
+/// Notes what the publication of the reply in its place writes: `None` where it was noted, and why
+/// not else.
+fn note_next<D: Disk>(
+    board: &Board<D>,
+    guest: u16,
+    written: &mut Vec<Range>,
+    room: usize,
+) -> Option<Left> {
+    let Some(done) = board.done(guest) else {
+        return Some(Left::All);
+    };
+    if !has_room(written, room, done.writable().len().saturating_add(1)) {
+        return Some(Left::Limit);
+    }
+    if note_reply(written, room, done) && note_queue(board, guest, written, room) {
+        None
+    } else {
+        Some(Left::Refused(MachineFault::NoMemory))
+    }
+}
+
+/// Lets the next reply leave, where it may: `None`, or why not.
+fn let_one_leave<D: Disk>(
+    board: &mut Board<D>,
+    guest: u16,
+    held: &mut u16,
+    answered: &mut u32,
+    written: &mut Vec<Range>,
+    room: usize,
+) -> Option<Left>
+    ensures serves { Serves D.state D.makes guest board.old board.new }
+    ensures jobs { board.new.jobs ≡ board.old.jobs }
+{
+    let collected = make(board, Step::Collect(guest));
+    if is_did(collected) {
+        *held = held.saturating_sub(1);
+    }
+    if let Some(left) = note_next(board, guest, written, room) {
+        return Some(left);
+    }
+    let published = make(board, Step::Publish(guest));
+    if is_wrote(published) {
+        *answered = answered.saturating_add(1);
+    }
+    None
+}
+
+/// Lets replies leave until none may, or the ranges have no room. `answered` counts those that
+/// were written, and `held` those that still wait.
+pub(crate) fn let_all_leave<D: Disk>(
+    board: &mut Board<D>,
+    guest: u16,
+    held: &mut u16,
+    answered: &mut u32,
+    written: &mut Vec<Range>,
+    room: usize,
+) -> Left
+    ensures serves { Serves D.state D.makes guest board.old board.new }
+    ensures jobs { board.new.jobs ≡ board.old.jobs }
+{
+    for _reply in 0..MOST_LEFT {
+        if let Some(left) = let_one_leave(board, guest, held, answered, written, room) {
+            return left;
+        }
+    }
+    Left::Limit
+}

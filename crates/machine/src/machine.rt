@@ -1,0 +1,270 @@
+//! A board for a monitor.
+ghost use Rattle.std.specs.Prelude.{◌≡◌, ℕ, true, false, None, Err, IfSome, OnOk, OnErr, length};
+ghost use Rattle.std.specs.Prelude.{slice_get};
+ghost use Rattle.guest_memory.specs.Memory.{bytes_at};
+ghost use Rattle.disk.specs.OutboxDisk.{OutboxMakes, outbox_state};
+ghost use Rattle.mmio_transport.specs.Device.{after_write, kick_of};
+ghost use Rattle.mmio_transport.specs.Registers.{interrupt_number};
+ghost use Rattle.rpmb_book.specs.Book.{state};
+ghost use Rattle.board.specs.Telling.{telling};
+ghost use Rattle.host.specs.Moving.{Moves};
+ghost use Rattle.disk.specs.Outbox.{first_of};
+ghost use Rattle.machine.specs.Machine.{Copies, GoesOn, WhereGuest, is_awaited, shown_in};
+ghost use Rattle.machine.specs.Machine.{stored, waits_for_sync, with_device, writes_in};
+ghost use Rattle.board.specs.State.{HasNoJob};
+ghost use Rattle.machine.specs.Serving.{OthersStay};
+ghost use Rattle.machine.specs.Settings.{device_after, is_plain, value_taken};
+
+use crate::fault::MachineFault;
+use crate::handing::go_on;
+use crate::ranges::Range;
+use crate::serving::{Served, serve};
+use crate::settings::Window;
+use board::Board;
+use disk::{OutboxDisk, Told};
+use flusher::Call;
+use mmio_transport::Kick;
+use std::marker::Model;
+
+/// All guests of a monitor's board, over an image that the monitor keeps.
+///
+/// It makes no call of the system. What is to be written waits in its outbox: the monitor takes
+/// each write, makes it, syncs the file where that is awaited, and says what came of it.
+#[derive(Drop)]
+pub struct Machine {
+    board: Board<OutboxDisk>,
+    windows: Vec<Window>,
+    /// Of each guest how many chains were popped and wait for their answers.
+    held: Vec<u16>,
+    /// What the last serve wrote.
+    written: Vec<Range>,
+}
+
+impl Model for Machine {
+    ghost use Rattle.machine.specs.Machine.{MachineState};
+
+    ghost Value = { MachineState };
+
+    ghost view = { λ m. record { board = m.board; windows = m.windows.items } };
+}
+
+impl Machine {
+    pub(crate) fn over(
+        board: Board<OutboxDisk>,
+        windows: Vec<Window>,
+        held: Vec<u16>,
+        written: Vec<Range>,
+    ) -> Machine
+        ensures { result ≡ record { board = board; windows = windows.items } }
+    {
+        Machine {
+            board,
+            windows,
+            held,
+            written,
+        }
+    }
+
+    /// How many guests there are.
+    pub fn guests(&self) -> u16 {
+        (self.windows.len() % 65_536) as u16
+    }
+
+    /// What a guest reads at an offset of bytes from its device's base, by an access of `width`
+    /// bytes (VIRTIO 1.2, 4.2.2); 0 for a guest that there isn't.
+    pub fn read(&self, guest: u16, offset: u32, width: u8) -> u32
+        ensures { result ≡ shown_in self.now guest offset width }
+    {
+        match self.windows.get(usize::from(guest)) {
+            Some(window) => match self.board.device_of(guest) {
+                Some(device) => window.read(device, offset, width),
+                None => 0,
+            },
+            None => 0,
+        }
+    }
+
+    /// What a guest does by writing there, and what that asks of the monitor: after `Notify` the
+    /// guest is to be served; after `Reset` nothing more is. Nothing of a guest that there isn't.
+    pub fn write(&mut self, guest: u16, offset: u32, width: u8, value: u32) -> Kick
+        ensures kick { WhereGuest self.old guest (λ w d.
+            result ≡ kick_of offset width (value_taken w d offset width value)) }
+        ensures state { WhereGuest self.old guest (λ w d.
+            self.new ≡ with_device self.old guest (device_after w d offset width value)) }
+        ensures plain { WhereGuest self.old guest (λ w d. is_plain w ≡ true
+            → self.new ≡ with_device self.old guest (after_write d offset width value)) }
+    {
+        let at = usize::from(guest);
+        if at >= self.windows.len() || at >= self.board.guests() {
+            return Kick::None;
+        }
+        let window = &self.windows[at];
+        let device = self.board.device(guest);
+        let taken = window.taken(device, offset, width, value);
+        device.write(offset, width, taken)
+    }
+
+    /// The guest's own write of bytes into its window, from the guest address `at` on. `NoGuest`
+    /// or `OutOfRange`, with nothing changed.
+    pub fn store(&mut self, guest: u16, at: u64, bytes: &[u8]) -> Result<(), MachineFault>
+        ensures state { IfSome (slice_get self.old.board.devices guest) (λ d.
+            OnOk result (self.new ≡ with_device self.old guest (stored d at bytes.now))) }
+        ensures unchanged { OnErr result (self.new ≡ self.old) }
+    {
+        if usize::from(guest) >= self.board.guests() {
+            return Err(MachineFault::NoGuest);
+        }
+        match self.board.device(guest).store(at, bytes) {
+            Ok(()) => {}
+            Err(_) => return Err(MachineFault::OutOfRange),
+        }
+        Ok(())
+    }
+
+    /// Copies bytes of the guest's window into all of `out`, from the guest address `at` on.
+    /// `NoGuest` or `OutOfRange`, with nothing changed.
+    pub fn load(&self, guest: u16, at: u64, out: &mut [u8]) -> Result<(), MachineFault>
+        ensures bytes { IfSome (slice_get self.now.board.devices guest) (λ d.
+            OnOk result (out.new ≡ bytes_at d.memory at (length out.old))) }
+        ensures unchanged { OnErr result (out.new ≡ out.old) }
+    {
+        match self.board.device_of(guest) {
+            Some(device) => match device.load(at, out) {
+                Ok(()) => Ok(()),
+                Err(_) => Err(MachineFault::OutOfRange),
+            },
+            None => Err(MachineFault::NoGuest),
+        }
+    }
+
+    /// InterruptStatus of the guest's device (VIRTIO 1.2, 4.2.2): its line is high exactly where
+    /// it isn't 0. 0 for a guest that there isn't.
+    pub fn interrupt(&self, guest: u16) -> u32
+        ensures line { IfSome (slice_get self.now.board.devices guest) (λ d.
+            result ≡ interrupt_number d.registers.interrupts) }
+    {
+        match self.board.device_of(guest) {
+            Some(device) => device.interrupt_status(),
+            None => 0,
+        }
+    }
+
+    /// Serves a guest: takes the chains that it offered, puts what they had accepted into the
+    /// outbox, and lets the replies leave that may. All that it writes into the window lies in the
+    /// ranges that it fills.
+    ///
+    /// The used ring of a split queue is one range, whole; of a packed queue the 8 bytes of each
+    /// descriptor that is used are one; a reply's ranges are just its bytes. Where a reply has
+    /// more ranges than there is room for, the last range grows over the rest. `OutOfRange` where
+    /// there is no room for one.
+    pub fn serve(&mut self, guest: u16, ranges: &mut [Range]) -> Served
+        ensures runs { GoesOn guest self.old.board self.new.board }
+        ensures moves { Moves outbox_state OutboxMakes self.old.board self.new.board }
+        ensures others { OthersStay guest self.old.board self.new.board }
+        ensures windows { self.new.windows ≡ self.old.windows }
+        ensures left { result.fault ≡ None → HasNoJob guest self.new.board }
+        ensures sync { result.fault ≡ None → result.sync ≡ waits_for_sync self.new.board }
+    {
+        self.board.what_always_holds();
+        let at = usize::from(guest);
+        if at >= self.windows.len() || at >= self.held.len() {
+            return Served::refused(MachineFault::NoGuest);
+        }
+        if ranges.len() == 0 {
+            return Served::refused(MachineFault::OutOfRange);
+        }
+        self.written.clear();
+        let most = self.windows[at].most();
+        let served = serve(
+            &mut self.board,
+            guest,
+            most,
+            &mut self.held[at],
+            &mut self.written,
+            ranges.len(),
+        );
+        copy_ranges(&self.written, ranges);
+        served
+    }
+
+    /// Takes the oldest write that waits into the front of `out`: its offset in the image, and how
+    /// many bytes it has. `None` where none waits, or `out` is too short: 16,648 bytes always
+    /// suffice.
+    pub fn outbox(&mut self, out: &mut [u8]) -> Option<(u64, usize)>
+        ensures copies { Copies (first_of (writes_in self.old)) (length out.old) result out.new }
+        ensures taken { IfSome result (λ w. self.new.board ≡ telling Told.Taken self.old.board) }
+        ensures none { result ≡ None → self.new ≡ self.old }
+    {
+        match copy_oldest(self.board.disk(), out) {
+            Some((at, count)) => {
+                self.board.tell(Told::Taken);
+                Some((at, count))
+            }
+            None => None,
+        }
+    }
+
+    /// Tells what came of the writes that were taken. A success: each of them was made, and a sync
+    /// after them succeeded; `NotAwaited`, with nothing changed, where no sync is awaited or
+    /// writes still wait. No success: a write or a sync failed; the next call of the disk fails,
+    /// nothing more is accepted, and replies that wait become failures.
+    pub fn completed(&mut self, succeeded: bool) -> Result<(), MachineFault>
+        ensures early { succeeded ≡ true → is_awaited self.old.board ≡ false
+            → (result ≡ Err MachineFault.NotAwaited) × (self.new ≡ self.old) }
+        ensures failed { succeeded ≡ false → (guest : ℕ)
+            → GoesOn guest (telling Told.Failed self.old.board) self.new.board }
+        ensures synced { succeeded ≡ true → is_awaited self.old.board ≡ true
+            → (guest : ℕ) → GoesOn guest (telling Told.Synced self.old.board) self.new.board }
+    {
+        if !succeeded {
+            self.board.tell(Told::Failed);
+            go_on(&mut self.board);
+            return Ok(());
+        }
+        if !self.is_awaited() {
+            return Err(MachineFault::NotAwaited);
+        }
+        self.board.tell(Told::Synced);
+        go_on(&mut self.board);
+        Ok(())
+    }
+
+    /// Whether a sync is awaited, and every write before it was taken.
+    pub fn is_awaited(&self) -> bool
+        ensures { result ≡ is_awaited self.now.board }
+    {
+        match self.board.next_call() {
+            Call::Sync => self.board.disk().is_taken(),
+            Call::Write => false,
+            Call::None => false,
+        }
+    }
+
+    /// Whether a call of the disk has failed, so that nothing more is accepted.
+    pub fn is_broken(&self) -> bool
+        ensures { result ≡ (state self.now.board.book).broken }
+    {
+        self.board.is_broken()
+    }
+}
+
+/// Copies the ranges to the front of `out`, as many as it has.
+fn copy_ranges(written: &Vec<Range>, out: &mut [Range]) {
+    let count = written.len().min(out.len());
+    out[..count].copy_from_slice(&written[..count]);
+}
+
+/// Copies the oldest write that waits into the front of `out`, where it has room.
+fn copy_oldest(disk: &OutboxDisk, out: &mut [u8]) -> Option<(u64, usize)>
+    ensures { Copies (first_of disk.now.outbox.writes) (length out.old) result out.new }
+{
+    let Some(waiting) = disk.oldest() else {
+        return None;
+    };
+    let count = waiting.bytes.len();
+    if count > out.len() {
+        return None;
+    }
+    out[..count].copy_from_slice(waiting.bytes);
+    Some((waiting.at, count))
+}

@@ -1,0 +1,116 @@
+//! What a monitor asks of a guest's device beside the plain one. The device itself knows nothing
+//! of it.
+ghost use Rattle.std.specs.Prelude.{◌≡◌, ◌≤◌, ◌<◌, ◌^◌, true};
+ghost use Rattle.mmio_transport.specs.Device.{read_value};
+ghost use Rattle.machine.specs.Settings.{is_plain, withheld_of, features_shown, features_taken};
+ghost use Rattle.machine.specs.Settings.{value_shown, value_taken, most_of};
+
+use mmio_transport::{Device, register};
+use rpmb_frame::GuestConfig;
+
+/// `VIRTIO_F_ACCESS_PLATFORM`, 33, among the features 32 to 63 (VIRTIO 1.2, 6).
+const ACCESS_PLATFORM: u32 = 2;
+
+/// How many replies of a guest the book holds.
+const HELD: u16 = 64;
+
+/// One guest of a machine: how its device is set up, and what is asked beside the plain device.
+#[derive(Clone, Copy, Debug, PartialEq, Eq)]
+pub struct Window {
+    /// The device. Its window of guest memory begins at guest address 0.
+    pub config: GuestConfig,
+    /// Feature bits (VIRTIO 1.2, 6) that the device doesn't offer; a driver that takes one all the
+    /// same is refused FEATURES_OK.
+    pub withheld: u64,
+    /// How many chains may be popped and not yet answered; 0, and all above, is 64.
+    pub most: u16,
+    /// Whether QueueNumMax reads the configuration's `queue`, and not 256.
+    pub capped: bool,
+    /// Whether VIRTIO_F_ACCESS_PLATFORM, 33, is offered, and taken.
+    pub platform: bool,
+}
+
+#[tactic(auto, unfolding(crate::specs::Settings::is_plain, crate::specs::Settings::withheld_of, crate::specs::Settings::features_shown, crate::specs::Settings::features_taken, crate::specs::Settings::value_shown, crate::specs::Settings::value_taken, crate::specs::Settings::most_of))]
+impl Window {
+    /// The features withheld of a half.
+    fn withheld_of(&self, half: u32) -> u32
+        ensures { result ≡ withheld_of self.now half }
+    {
+        match half {
+            0 => (self.withheld % 4_294_967_296) as u32,
+            1 => (self.withheld / 4_294_967_296) as u32,
+            _ => 0,
+        }
+    }
+
+    /// The features that are shown of a half, of those that the device offers.
+    fn features_shown(&self, half: u32, offered: u32) -> u32
+        ensures { result ≡ features_shown self.now half offered }
+    {
+        let all = if self.platform && half == 1 {
+            offered | ACCESS_PLATFORM
+        } else {
+            offered
+        };
+        all & (u32::MAX - self.withheld_of(half))
+    }
+
+    /// The driver's features of a half, as the device gets them.
+    fn features_taken(&self, half: u32, value: u32) -> u32
+        ensures { result ≡ features_taken self.now half value }
+    {
+        if value & self.withheld_of(half) != 0 {
+            return u32::MAX;
+        }
+        if self.platform && half == 1 {
+            value & (u32::MAX - ACCESS_PLATFORM)
+        } else {
+            value
+        }
+    }
+
+    /// What a driver reads at an offset from its device's base.
+    pub(crate) fn read(&self, device: &Device, offset: u32, width: u8) -> u32
+        ensures value { result ≡ value_shown self.now device.now offset width }
+        ensures plain { is_plain self.now ≡ true → result ≡ read_value device.now offset width }
+    {
+        let value = device.read(offset, width);
+        if self.is_plain() || width != 4 {
+            return value;
+        }
+        match offset {
+            register::DEVICE_FEATURES => self.features_shown(device.device_features_sel(), value),
+            register::QUEUE_NUM_MAX if self.capped && value != 0 => self.config.queue as u32,
+            _ => value,
+        }
+    }
+
+    /// Whether the device is the plain one.
+    fn is_plain(&self) -> bool
+        ensures { result ≡ is_plain self.now }
+    {
+        self.withheld == 0 && !self.capped && !self.platform
+    }
+
+    /// What the device gets where its driver writes this value.
+    pub(crate) fn taken(&self, device: &Device, offset: u32, width: u8, value: u32) -> u32
+        ensures value { result ≡ value_taken self.now device.now offset width value }
+        ensures plain { is_plain self.now ≡ true → result ≡ value }
+    {
+        if self.is_plain() || width != 4 || offset != register::DRIVER_FEATURES {
+            return value;
+        }
+        self.features_taken(device.driver_features_sel(), value)
+    }
+
+    /// How many chains may be popped and not yet answered.
+    pub(crate) fn most(&self) -> u16
+        ensures { result ≡ most_of self.now }
+    {
+        if self.most == 0 || self.most > HELD {
+            HELD
+        } else {
+            self.most
+        }
+    }
+}
