@@ -1,0 +1,4 @@
+pub mod Calls
+pub mod Guests
+pub mod Held
+pub mod Numbers

@@ -1,0 +1,254 @@
+//! A board for a virtual machine monitor, as a static library: `embedding/rpmb_host.h` has its
+//! calls, and what their callers owe.
+#![tactic(auto)]
+
+ghost use Rattle.std.specs.Prelude.{◌≡◌, ◌⊎◌, ◌<◌, None, true, is_some, length};
+ghost use Rattle.rpmb_host.specs.Calls.{Answered, Awaits, Between, Fails, Gives, Holds, Interrupts};
+ghost use Rattle.rpmb_host.specs.Calls.{Kicks, Loads, Reads, Refuses, Serves, Stores, Syncs};
+ghost use Rattle.rpmb_host.specs.Calls.{Takes, Writes, WritesPlainly};
+
+mod guests;
+mod handle;
+mod numbers;
+mod served;
+
+pub use guests::RpmbGuest;
+use guests::windows_of;
+pub use handle::Handle;
+use handle::{put, take};
+use machine::{Machine, MachineFault, Range, format_image, image_length};
+use numbers::{fault_number, kick_number};
+pub use served::RpmbServed;
+use std::alloc::Global;
+
+/// The length in bytes of the image of these guests, or 0 where they are no board, or memory is
+/// refused.
+#[unsafe(no_mangle)]
+pub extern "C" fn rpmb_image_length(alloc: Global, guests: &[RpmbGuest]) -> u64 {
+    match windows_of(alloc, guests) {
+        Ok(windows) => match image_length(alloc, &windows) {
+            Ok(length) => length,
+            Err(_) => 0,
+        },
+        Err(_) => 0,
+    }
+}
+
+/// Makes a fresh image of all these bytes.
+#[unsafe(no_mangle)]
+pub extern "C" fn rpmb_format(alloc: Global, guests: &[RpmbGuest], image: &mut [u8]) -> u32 {
+    match windows_of(alloc, guests) {
+        Ok(windows) => match format_image(alloc, &windows, image) {
+            Ok(()) => 0,
+            Err(fault) => fault_number(fault),
+        },
+        Err(fault) => fault_number(fault),
+    }
+}
+
+/// Opens an image over these guests, on the heap.
+fn opened(alloc: Global, guests: &[RpmbGuest], image: &[u8]) -> Result<Box<Machine>, MachineFault> {
+    let windows = windows_of(alloc, guests)?;
+    match Box::new(alloc, Machine::open(alloc, &windows, image)?) {
+        Ok(machine) => Ok(machine),
+        Err(_) => Err(MachineFault::NoMemory),
+    }
+}
+
+/// Opens an image that a stop may have left. 0 just where the handle holds the machine then; else
+/// it holds none.
+#[unsafe(no_mangle)]
+pub extern "C" fn rpmb_open(
+    alloc: Global,
+    guests: &[RpmbGuest],
+    image: &[u8],
+    host: &mut Handle,
+) -> u32
+    requires { host.old.value ≡ None }
+    ensures opened { result ≡ 0 → is_some host.new.value ≡ true }
+    ensures refused { 0 < result → host.new.value ≡ None }
+{
+    match opened(alloc, guests, image) {
+        Ok(machine) => {
+            put(host, machine);
+            0
+        }
+        Err(fault) => fault_number(fault),
+    }
+}
+
+/// Lets the machine go; the handle holds none then.
+#[unsafe(no_mangle)]
+pub extern "C" fn rpmb_close(alloc: Global, host: &mut Handle)
+    requires { is_some host.old.value ≡ true }
+    ensures { host.new.value ≡ None }
+{
+    let _machine = take(alloc, host);
+}
+
+/// What a guest reads from its device.
+#[unsafe(no_mangle)]
+pub extern "C" fn rpmb_read(
+    alloc: Global,
+    host: &mut Handle,
+    guest: u16,
+    offset: u32,
+    width: u8,
+) -> u32
+    requires { is_some host.old.value ≡ true }
+    ensures value { Holds host.old.value (Reads guest offset width result) }
+    ensures unchanged { host.new.value ≡ host.old.value }
+{
+    let machine = take(alloc, host);
+    let value = machine.read(guest, offset, width);
+    put(host, machine);
+    value
+}
+
+/// What a guest does by writing to its device, and what that asks for: `enum rpmb_kick`.
+#[unsafe(no_mangle)]
+pub extern "C" fn rpmb_write(
+    alloc: Global,
+    host: &mut Handle,
+    guest: u16,
+    offset: u32,
+    width: u8,
+    value: u32,
+) -> u32
+    requires { is_some host.old.value ≡ true }
+    ensures kick { Holds host.old.value (Kicks guest offset width value result) }
+    ensures state { Between host.old.value host.new.value (Writes guest offset width value) }
+    ensures plain { Between host.old.value host.new.value
+        (WritesPlainly guest offset width value) }
+{
+    let mut machine = take(alloc, host);
+    let kick = machine.write(guest, offset, width, value);
+    put(host, machine);
+    kick_number(kick)
+}
+
+/// Puts bytes into a guest's window.
+#[unsafe(no_mangle)]
+pub extern "C" fn rpmb_store(
+    alloc: Global,
+    host: &mut Handle,
+    guest: u16,
+    at: u64,
+    bytes: &[u8],
+) -> u32
+    requires { is_some host.old.value ≡ true }
+    ensures stored { result ≡ 0
+        → Between host.old.value host.new.value (Stores guest at bytes.now) }
+    ensures unchanged { 0 < result → host.new.value ≡ host.old.value }
+{
+    let mut machine = take(alloc, host);
+    let stored = machine.store(guest, at, bytes);
+    put(host, machine);
+    match stored {
+        Ok(()) => 0,
+        Err(fault) => fault_number(fault),
+    }
+}
+
+/// Copies bytes out of a guest's window.
+#[unsafe(no_mangle)]
+pub extern "C" fn rpmb_load(
+    alloc: Global,
+    host: &mut Handle,
+    guest: u16,
+    at: u64,
+    bytes: &mut [u8],
+) -> u32
+    requires { is_some host.old.value ≡ true }
+    ensures loaded { result ≡ 0 → Holds host.old.value (Loads guest at bytes.new) }
+    ensures refused { 0 < result → bytes.new ≡ bytes.old }
+    ensures unchanged { host.new.value ≡ host.old.value }
+{
+    let machine = take(alloc, host);
+    let loaded = machine.load(guest, at, bytes);
+    put(host, machine);
+    match loaded {
+        Ok(()) => 0,
+        Err(fault) => fault_number(fault),
+    }
+}
+
+/// Serves what a guest offered.
+#[unsafe(no_mangle)]
+pub extern "C" fn rpmb_serve(
+    alloc: Global,
+    host: &mut Handle,
+    guest: u16,
+    ranges: &mut [Range],
+    served: &mut RpmbServed,
+)
+    requires { is_some host.old.value ≡ true }
+    ensures serves { Between host.old.value host.new.value (Serves guest) }
+    ensures answered { served.new.fault ≡ 0
+        → Between host.old.value host.new.value (Answered guest) }
+    ensures sync { served.new.fault ≡ 0
+        → Between host.old.value host.new.value (Awaits served.new.sync) }
+{
+    let mut machine = take(alloc, host);
+    let told = machine.serve(guest, ranges);
+    put(host, machine);
+    *served = RpmbServed::of(told);
+}
+
+/// Takes the oldest write out of the outbox: its length, or 0 where there is none.
+#[unsafe(no_mangle)]
+pub extern "C" fn rpmb_outbox(
+    alloc: Global,
+    host: &mut Handle,
+    at: &mut u64,
+    bytes: &mut [u8],
+) -> usize
+    requires { is_some host.old.value ≡ true }
+    ensures open { is_some host.new.value ≡ true }
+    ensures gives { 0 < result
+        → Holds host.old.value (Gives (length bytes.old) at.new result bytes.new) }
+    ensures taken { 0 < result → Between host.old.value host.new.value Takes }
+    ensures nothing { result ≡ 0 → (host.new.value ≡ host.old.value)
+        ⊎ Holds host.old.value (Gives (length bytes.old) at.new 0 bytes.new) }
+{
+    let mut machine = take(alloc, host);
+    let taken = machine.outbox(bytes);
+    put(host, machine);
+    match taken {
+        Some((offset, count)) => {
+            *at = offset;
+            count
+        }
+        None => 0,
+    }
+}
+
+/// What came of the writes that were taken, and of the sync after them.
+#[unsafe(no_mangle)]
+pub extern "C" fn rpmb_completed(alloc: Global, host: &mut Handle, succeeded: u32) -> u32
+    requires { is_some host.old.value ≡ true }
+    ensures failed { succeeded ≡ 0 → Between host.old.value host.new.value Fails }
+    ensures synced { 0 < succeeded → Between host.old.value host.new.value Syncs }
+    ensures early { 0 < succeeded → Between host.old.value host.new.value (Refuses result) }
+{
+    let mut machine = take(alloc, host);
+    let told = machine.completed(succeeded != 0);
+    put(host, machine);
+    match told {
+        Ok(()) => 0,
+        Err(fault) => fault_number(fault),
+    }
+}
+
+/// The guest's InterruptStatus.
+#[unsafe(no_mangle)]
+pub extern "C" fn rpmb_interrupt(alloc: Global, host: &mut Handle, guest: u16) -> u32
+    requires { is_some host.old.value ≡ true }
+    ensures line { Holds host.old.value (Interrupts guest result) }
+    ensures unchanged { host.new.value ≡ host.old.value }
+{
+    let machine = take(alloc, host);
+    let status = machine.interrupt(guest);
+    put(host, machine);
+    status
+}

@@ -1,0 +1,240 @@
+/* A monitor and its guest in small: how the calls of rpmb_host.h fit together.
+ *
+ *     example           the image is in memory
+ *     example FILE      it is in this file, which is made anew
+ *
+ * The guest's half plays a driver by hand: it brings the device into service by its registers (VIRTIO 1.2, 3.1.1 and
+ * 4.2.3), and offers chains of a request and an answer in a split queue of 2 places (2.7). */
+#include "rpmb_host.h"
+#include <fcntl.h>
+#include <stdio.h>
+#include <stdlib.h>
+#include <string.h>
+#include <unistd.h>
+
+enum { WINDOW = 65536, PLACES = 2 };
+/* where the guest puts its queue and its two frames */
+enum { DESCRIPTORS = 0x1000, DRIVER = 0x2000, DEVICE = 0x3000, REQUEST = 0x4000, ANSWER = 0x5000 };
+
+static const struct rpmb_guest board[] = {
+	{ .memory = WINDOW, .queue = PLACES, .capacity = 1, .max_wr_cnt = 16, .max_rd_cnt = 16 },
+};
+static struct rpmb_host host;
+static unsigned char ram[WINDOW]; /* the guest's memory, all of which is the window */
+static unsigned char *image;      /* the image's bytes */
+static size_t length;
+static int file = -1;             /* its file; -1: it is in memory alone */
+static int writes, syncs, stops;  /* made since the last request; whether the monitor stops before the next sync */
+
+static void check(int holds, const char *what)
+{
+	if (!holds) {
+		printf("failed: %s\n", what);
+		exit(1);
+	}
+}
+
+static void check_fault(uint32_t fault)
+{
+	check(fault == RPMB_OK, rpmb_fault_text(fault));
+}
+
+/* The monitor's half. */
+
+/* A monitor that stops before its next sync may have made none of its writes: here it makes none. */
+static void keep(uint64_t at, const unsigned char *bytes, size_t len)
+{
+	if (file >= 0)
+		check(pwrite(file, bytes, len, (off_t)at) == (ssize_t)len, "pwrite");
+	else
+		memcpy(image + at, bytes, len);
+}
+
+static void open_board(void)
+{
+	if (file >= 0)
+		check(pread(file, image, length, 0) == (ssize_t)length, "pread");
+	check_fault(rpmb_open(board, 1, image, length, &host));
+}
+
+/* Whether a sync is awaited. */
+static int serve(void)
+{
+	static unsigned char bytes[RPMB_LARGEST_WRITE];
+	struct rpmb_range ranges[64];
+	struct rpmb_served served;
+	uint64_t at;
+	size_t len;
+
+	do {
+		rpmb_serve(&host, 0, ranges, 64, &served);
+		check_fault(served.fault);
+		for (uint32_t i = 0; i < served.ranges; i++)
+			check_fault(rpmb_load(&host, 0, ranges[i].at, ram + ranges[i].at, ranges[i].len));
+		for (; (len = rpmb_outbox(&host, &at, bytes, sizeof bytes)) != 0; writes++)
+			if (!stops)
+				keep(at, bytes, len);
+	} while (served.again);
+	return served.sync;
+}
+
+static void on_notify(void)
+{
+	/* all of the window, since this guest stands still meanwhile: a monitor stores the pages that were written */
+	check_fault(rpmb_store(&host, 0, 0, ram, WINDOW));
+	while (serve()) {
+		if (stops)
+			return;
+		check(file < 0 || fsync(file) == 0, "fsync");
+		check_fault(rpmb_completed(&host, 1));
+		syncs++;
+	}
+}
+
+/* An exit of the guest's processor at a register: by 4 bytes. */
+static uint32_t get_register(uint32_t offset)
+{
+	return rpmb_read(&host, 0, offset, 4);
+}
+
+static void set_register(uint32_t offset, uint32_t value)
+{
+	if (rpmb_write(&host, 0, offset, 4, value) == RPMB_NOTIFY)
+		on_notify();
+}
+
+/* The guest's half. */
+
+static void put(uint32_t at, uint64_t number, int bytes)
+{
+	for (; bytes > 0; bytes--, number >>= 8)
+		ram[at++] = (unsigned char)number;
+}
+
+static unsigned get16(uint32_t at)
+{
+	return ram[at] + 256u * ram[at + 1];
+}
+
+/* the same in big endian, as frames have it (5.12.6) */
+static unsigned get_be16(uint32_t at)
+{
+	return 256u * ram[at] + ram[at + 1];
+}
+
+static void negotiate(void)
+{
+	static const uint32_t writes_of[][2] = {
+		{ 0x070, 0 },           /* Status: reset, */
+		{ 0x070, 1 }, { 0x070, 3 }, /* ACKNOWLEDGE, DRIVER */
+		{ 0x024, 1 }, { 0x020, 1 }, /* DriverFeatures: VIRTIO_F_VERSION_1 (32) alone */
+		{ 0x070, 11 },          /* FEATURES_OK */
+		{ 0x030, 0 }, { 0x038, PLACES }, /* QueueSel, QueueNum */
+		{ 0x080, DESCRIPTORS }, { 0x090, DRIVER }, { 0x0a0, DEVICE },
+		{ 0x044, 1 },           /* QueueReady */
+		{ 0x070, 15 },          /* DRIVER_OK */
+	};
+
+	check(get_register(0x000) == 0x74726976, "MagicValue");
+	check(get_register(0x008) == 28, "DeviceID");
+	memset(ram, 0, WINDOW);
+	for (size_t i = 0; i < sizeof writes_of / sizeof writes_of[0]; i++)
+		set_register(writes_of[i][0], writes_of[i][1]);
+	check(get_register(0x070) == 15 && get_register(0x044) == 1, "the device is in service");
+}
+
+/* Offers a chain of these frames and of one for the answer. Whether the answer came. */
+static int offer(uint32_t frames)
+{
+	unsigned next = get16(DRIVER + 2), used = get16(DEVICE + 2);
+
+	put(DESCRIPTORS, REQUEST, 8), put(DESCRIPTORS + 8, 512 * frames, 4);
+	put(DESCRIPTORS + 12, 1, 2), put(DESCRIPTORS + 14, 1, 2);     /* VIRTQ_DESC_F_NEXT: place 1 */
+	put(DESCRIPTORS + 16, ANSWER, 8), put(DESCRIPTORS + 24, 512, 4);
+	put(DESCRIPTORS + 28, 2, 2), put(DESCRIPTORS + 30, 0, 2);     /* VIRTQ_DESC_F_WRITE */
+	put(DRIVER + 4 + 2 * (next % PLACES), 0, 2), put(DRIVER + 2, next + 1, 2);
+	writes = syncs = 0;
+	set_register(0x050, 0);                                       /* QueueNotify */
+	if (get16(DEVICE + 2) == used)
+		return 0;
+	check(rpmb_interrupt(&host, 0) == 1, "the interrupt line is high");
+	set_register(0x064, 1);                                       /* InterruptACK */
+	check(rpmb_interrupt(&host, 0) == 0, "the interrupt line is low");
+	return 1;
+}
+
+static void show(const char *what)
+{
+	printf("%s: response 0x%04x, result %u, after %d writes and %d syncs\n", what, get_be16(ANSWER + 510),
+	       get_be16(ANSWER + 508), writes, syncs);
+}
+
+static void ask_counter(unsigned result)
+{
+	memset(ram + REQUEST, 0, 512);
+	memset(ram + REQUEST + 484, 0xa5, 16);                        /* nonce */
+	ram[REQUEST + 507] = 1;                                       /* block_count */
+	ram[REQUEST + 511] = 2;                                       /* VIRTIO_RPMB_REQ_GET_WRITE_COUNTER */
+	check(offer(1), "the counter's answer comes");
+	show("counter asked for");
+	check(get_be16(ANSWER + 510) == 0x0200 && get_be16(ANSWER + 508) == result, "the counter's answer");
+	check(memcmp(ram + ANSWER + 484, ram + REQUEST + 484, 16) == 0, "the answer has the request's nonce");
+}
+
+static int program_key(void)
+{
+	memset(ram + REQUEST, 0, 1024);
+	memset(ram + REQUEST + 196, 0x11, 32);                        /* key */
+	ram[REQUEST + 507] = 1;
+	ram[REQUEST + 511] = 1;                                       /* VIRTIO_RPMB_REQ_PROGRAM_KEY */
+	ram[REQUEST + 1023] = 5;                                      /* and VIRTIO_RPMB_REQ_RESULT_READ */
+	return offer(2);
+}
+
+int main(int argc, char **argv)
+{
+	length = rpmb_image_length(board, 1);
+	image = malloc(length);
+	check(length != 0 && image != NULL, "memory");
+	check_fault(rpmb_format(board, 1, image, length));
+	if (argc > 1) {
+		file = open(argv[1], O_RDWR | O_CREAT | O_TRUNC, 0600);
+		check(file >= 0, "open");
+		keep(0, image, length);
+		check(fsync(file) == 0, "fsync");
+	}
+	printf("formatted an image of %zu bytes\n", length);
+
+	open_board();
+	negotiate();
+	printf("opened; the device is in service\n");
+	ask_counter(7);                                               /* VIRTIO_RPMB_RES_NO_AUTH_KEY */
+
+	stops = 1;
+	check(!program_key(), "no answer before its key is kept");
+	printf("key programmed: the monitor stops, with %d write taken and not made\n", writes);
+	rpmb_close(&host);
+	stops = 0;
+
+	open_board();
+	negotiate();
+	printf("opened again\n");
+	ask_counter(7);
+	check(program_key(), "the key's answer comes");
+	show("key programmed");
+	check(get_be16(ANSWER + 510) == 0x0100 && get_be16(ANSWER + 508) == 0, "the key's answer");
+	check(rpmb_completed(&host, 1) == RPMB_NOT_AWAITED, "no sync is awaited now");
+	ask_counter(0);
+	rpmb_close(&host);
+
+	open_board();
+	negotiate();
+	printf("opened a third time\n");
+	ask_counter(0);
+	rpmb_close(&host);
+	check(host.at == NULL, "the handle is closed");
+	free(image);
+	if (file >= 0)
+		close(file);
+	return 0;
+}
