@@ -17,6 +17,8 @@
 //! - of `open`: of upgrades of an image, and of openings, with the writes and syncs of an upgrade;
 //! - of `board`: of writes of each of 64 guests, which a board's steps settle, its book and store, and its
 //!   store alone;
+//! - of `machine`: of requests for the counter and writes of one guest, by the calls of a machine that a monitor
+//!   embeds, whose outbox is emptied and told to be synced at once, and by a board's steps;
 //! - of `run`: of writes of one guest by a script, which its store alone settles, too;
 //! - of `serve`: of requests of each of 1, 2 and 4 guests, which threads serve at once, and one thread one
 //!   after another: for the counter, and writes that are settled on a disk in memory and in a file.
@@ -34,6 +36,7 @@ mod counted;
 mod groups;
 mod images;
 mod loads;
+mod machines;
 mod macs;
 mod pages;
 mod requests;
@@ -53,6 +56,7 @@ use books::time_books;
 use clock::{Stop, print_rows};
 use groups::print_counts;
 use images::{board_of, time_openings, time_reads};
+use machines::{few_monitored, time_monitored};
 use macs::{keyed_macs, plain_macs, time_keyed, time_plain};
 use requests::Kind;
 use rings::{FORMS, time_chains, time_copies};
@@ -132,6 +136,11 @@ fn time_board(rt: &HostRuntime, board: &BoardConfig, count: u32) -> Result<(), S
     print_rows(rt, &[rows.steps, rows.store, rows.books])
 }
 
+fn time_machine(rt: &HostRuntime, single: &BoardConfig, count: u32) -> Result<(), Stop> {
+    print_rows(rt, &time_monitored(rt, single, Kind::Counter, count)?)?;
+    print_rows(rt, &time_monitored(rt, single, Kind::Write, count)?)
+}
+
 /// Beside a run the calls of its store, and the two MACs of each write: of its frame, and of its reply.
 fn time_run<R: AllocGlobal + Threads + Wait + Sync>(
     rt: &HostRuntime,
@@ -204,7 +213,8 @@ fn checksums<R: AllocGlobal + Threads + Wait + Sync>(
         (ways.store.sum, "\n"),
         (script.sum, "\n"),
         (run.turns, " "),
-        (u64::from(run.answers), "\n"),
+        (u64::from(run.answers), " "),
+        (few_monitored(rt)?, "\n"),
     ];
     print_numbers(rt, &numbers)?;
     print_counts(rt, board)?;
@@ -229,6 +239,7 @@ fn time<R: AllocGlobal + Threads + Wait + Sync>(
         "store" => time_store(rt, board, count),
         "open" => time_open(rt, board, count),
         "board" => time_board(rt, board, count),
+        "machine" => time_machine(rt, single, count),
         "run" => time_run(rt, threads, single, count),
         "serve" => time_serve(rt, threads, count),
         _ => Err("no such work"),

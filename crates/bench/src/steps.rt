@@ -12,7 +12,7 @@ use std::alloc::Global;
 /// What a driver writes into the registers: VIRTIO_F_VERSION_1 alone, a queue of 16 with its descriptors
 /// at 0x1000, its available ring at 0x2000 and its used ring at 0x3000, and DRIVER_OK (VIRTIO 1.2, 3.1.1
 /// and 4.2.3.2).
-static SETUP: [(u32, u32); 13] = [
+pub static SETUP: [(u32, u32); 13] = [
     (reg::STATUS, 3),
     (reg::DRIVER_FEATURES_SEL, 0),
     (reg::DRIVER_FEATURES, 0),
@@ -29,7 +29,7 @@ static SETUP: [(u32, u32); 13] = [
 ];
 
 /// Two descriptors (VIRTIO 1.2, 2.7.5): a request of 1,024 bytes at 0x4000, and room for 512 at 0x8000.
-static DESCRIPTORS: [u8; 32] = [
+pub static DESCRIPTORS: [u8; 32] = [
     0, 0x40, 0, 0, 0, 0, 0, 0, 0, 4, 0, 0, 1, 0, 1, 0, //
     0, 0x80, 0, 0, 0, 0, 0, 0, 0, 2, 0, 0, 2, 0, 0, 0,
 ];
@@ -140,10 +140,11 @@ impl<B: Stepper> Way for Steps<B> {
     fn turn(&mut self, guest: u16, turn: Turn) -> Result<(), Stop> {
         match turn {
             Turn::Submit => self.step(Step::Submit(guest)),
-            Turn::HandOver => {
-                self.step(Step::Take(guest))?;
-                self.step(Step::Give(guest))
-            }
+            // A request that wasn't accepted has nothing for the store.
+            Turn::HandOver => match self.board.make(Step::Take(guest))? {
+                true => self.step(Step::Give(guest)),
+                false => Ok(()),
+            },
             Turn::Collect => self.step(Step::Collect(guest)),
             Turn::Publish => self.step(Step::Publish(guest)),
         }
