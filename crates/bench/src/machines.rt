@@ -194,24 +194,22 @@ const ONE: Shape = Shape {
     waiting: 1,
 };
 
-fn time_machine(rt: &HostRuntime, kind: Kind, count: u32) -> Result<Row, Stop> {
+/// Times so many requests of one guest by a machine's calls. The sum is of the bytes of the last reply.
+pub fn time_machine(rt: &HostRuntime, kind: Kind, count: u32) -> Result<Row, Stop> {
     let machine = new_machine(rt.alloc(), GuestConfig::of_capacity(1))?;
     let monitored = in_service(rt.alloc(), machine)?;
     time_way(rt, kind.name(), monitored, ONE, kind, count)
 }
 
-/// Times so many requests of one guest by a machine's calls, and by a board's steps. A serve pops and publishes
-/// too, which is outside of the time of the steps.
-pub fn time_monitored(
+/// Times as many by a board's steps. A serve pops and publishes too, which is outside of the time of the steps.
+pub fn time_stepped(
     rt: &HostRuntime,
     single: &BoardConfig,
     kind: Kind,
     count: u32,
-) -> Result<[Row; 2], Stop> {
-    let served = time_machine(rt, kind, count)?;
+) -> Result<Row, Stop> {
     let steps = new_steps(rt.alloc(), single)?;
-    let stepped = time_way(rt, "by a board's steps", steps, ONE, kind, count)?;
-    Ok([served, stepped])
+    time_way(rt, "by a board's steps", steps, ONE, kind, count)
 }
 
 /// The last replies to two requests for the counter and two writes, mixed.

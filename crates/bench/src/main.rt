@@ -56,7 +56,7 @@ use books::time_books;
 use clock::{Stop, print_rows};
 use groups::print_counts;
 use images::{board_of, time_openings, time_reads};
-use machines::{few_monitored, time_monitored};
+use machines::{few_monitored, time_machine, time_stepped};
 use macs::{keyed_macs, plain_macs, time_keyed, time_plain};
 use requests::Kind;
 use rings::{FORMS, time_chains, time_copies};
@@ -136,9 +136,15 @@ fn time_board(rt: &HostRuntime, board: &BoardConfig, count: u32) -> Result<(), S
     print_rows(rt, &[rows.steps, rows.store, rows.books])
 }
 
-fn time_machine(rt: &HostRuntime, single: &BoardConfig, count: u32) -> Result<(), Stop> {
-    print_rows(rt, &time_monitored(rt, single, Kind::Counter, count)?)?;
-    print_rows(rt, &time_monitored(rt, single, Kind::Write, count)?)
+fn time_served(rt: &HostRuntime, single: &BoardConfig, kind: Kind, count: u32) -> Result<(), Stop> {
+    let served = time_machine(rt, kind, count)?;
+    let stepped = time_stepped(rt, single, kind, count)?;
+    print_rows(rt, &[served, stepped])
+}
+
+fn time_monitor(rt: &HostRuntime, single: &BoardConfig, count: u32) -> Result<(), Stop> {
+    time_served(rt, single, Kind::Counter, count)?;
+    time_served(rt, single, Kind::Write, count)
 }
 
 /// Beside a run the calls of its store, and the two MACs of each write: of its frame, and of its reply.
@@ -239,7 +245,7 @@ fn time<R: AllocGlobal + Threads + Wait + Sync>(
         "store" => time_store(rt, board, count),
         "open" => time_open(rt, board, count),
         "board" => time_board(rt, board, count),
-        "machine" => time_machine(rt, single, count),
+        "machine" => time_monitor(rt, single, count),
         "run" => time_run(rt, threads, single, count),
         "serve" => time_serve(rt, threads, count),
         _ => Err("no such work"),
