@@ -1,5 +1,5 @@
 -- A pop and a publication change no byte outside the ranges that they may write.
-use Rattle.std.proofs.Common.{◌≡◌, ℕ, ◌<◌, Bool, true, false, if◌then◌else◌, List, [], ◌∷◌, ◌++◌, length, Option, Some, None, Result, Ok, Err, refl, sym, subst, arith}
+use Rattle.std.proofs.Common.{◌≡◌, ℕ, ◌+◌, ◌<◌, Bool, true, false, if◌then◌else◌, List, [], ◌∷◌, ◌++◌, length, Option, Some, None, refl, sym, subst, arith}
 use Rattle.std.proofs.lemmas.Nat.{mod_below}
 use Rattle.guest_memory.specs.Memory.{with_bytes}
 use Rattle.chains.specs.declared.range.Range.{Range}
@@ -11,15 +11,13 @@ use Rattle.split_ring.specs.Layout as split
 use Rattle.split_ring.specs.Used.{used_element}
 use Rattle.packed_ring.specs.Layout as packed
 use Rattle.packed_ring.specs.Used.{used_descriptor}
-use Rattle.mmio_transport.specs.declared.fault.DeviceFault.{DeviceFault}
-use Rattle.mmio_transport.specs.declared.fault.DeviceFault.TheVariants.{NoMemory, Refused, NeedsReset}
 use Rattle.mmio_transport.specs.declared.done.Published.TheVariants.{Wrote, Dropped}
 use Rattle.mmio_transport.specs.Queue.{QueueState, AreasInside, event, used_written, written_of, written_by}
-use Rattle.mmio_transport.specs.Job.{Job, Done, used_length}
-use Rattle.mmio_transport.specs.Device.{DeviceState, IsDevice}
-use Rattle.mmio_transport.specs.Popping.{is_stopped, live_queue, GivesNext, GivesFrom}
+use Rattle.mmio_transport.specs.Job.{Done, used_length}
+use Rattle.mmio_transport.specs.Device.{DeviceState, IsQueue, IsDevice}
 use Rattle.mmio_transport.specs.Publishing.{WritesIn}
-use Rattle.mmio_transport.specs.Written.{KeepsOutside, IsSound, parts_of, range_in, APopWritesItsPart, APublicationWritesItsParts}
+use Rattle.mmio_transport.specs.Written.{KeepsOutside, parts_of, range_in, APopWritesItsPart, APublicationWritesItsParts}
+use Rattle.mmio_transport.proofs.PopCases.{pop_case}
 use Rattle.mmio_transport.proofs.Written.{keeps-itself, keeps-with_bytes, keeps-twice, keeps-both, keeps-scattered}
 
 -- a write into a range of a memory that has as many bytes as another
@@ -71,44 +69,29 @@ pub keeps-used_written : (kind : RingKind) (memory : List ℕ) (ring : RingState
 keeps-used_written Split memory ring id places len some inside = split_used memory ring (used_element id len) _ refl refl some inside
 keeps-used_written Packed memory ring id places len some inside = packed_used memory ring (used_descriptor (packed.wrap ring.size ring.used) id len) refl some inside
 
-from_queue : (d : DeviceState) (q : QueueState) (answer : Result (Option Job) DeviceFault) (d' : DeviceState) → AreasInside q.kind (length d.memory) q.ring
-    → GivesNext d q answer d' → KeepsOutside (part q.kind q.ring) d.memory d'.memory
-from_queue d q answer d' inside gives = elim answer as (λ (a : Result (Option Job) DeviceFault). GivesNext d q a d' → KeepsOutside (part q.kind q.ring) d.memory d'.memory) [
-  | Ok found ↦ elim found as (λ (f : Option Job). GivesNext d q (Ok f) d' → KeepsOutside (part q.kind q.ring) d.memory d'.memory) [
-    | None ↦ λ g. subst (λ (s : DeviceState). KeepsOutside (part q.kind q.ring) d.memory s.memory) (sym g.after) (keeps-event q.kind d.memory q.ring inside)
-    | Some job ↦ λ g. subst (λ (s : DeviceState). KeepsOutside (part q.kind q.ring) d.memory s.memory) (sym g.after) (keeps-event_later q.kind d.memory q.ring job.number job.id job.places inside)
-  ]
-  | Err fault ↦ elim fault as (λ (f : DeviceFault). GivesNext d q (Err f) d' → KeepsOutside (part q.kind q.ring) d.memory d'.memory) [
-    | NoMemory ↦ λ g. subst (λ (s : DeviceState). KeepsOutside (part q.kind q.ring) d.memory s.memory) (sym g.same) (keeps-itself (part q.kind q.ring) d.memory)
-    | Refused f ↦ λ g. subst (λ (s : DeviceState). KeepsOutside (part q.kind q.ring) d.memory s.memory) (sym g.1) (keeps-itself (part q.kind q.ring) d.memory)
-    | NeedsReset ↦ λ g. absurd g
-  ]
-] gives
+-- what a pop may write where the device has this queue
+abbrev queue_part : Option QueueState → List Range
+queue_part queue = range_in (written_by queue)
 
--- a device whose queue decides
-from_live : (b : Bool) (d : DeviceState) (q : QueueState) (answer : Result (Option Job) DeviceFault) (d' : DeviceState) → AreasInside q.kind (length d.memory) q.ring
-    → GivesFrom false (if b then Some q else None) d answer d' → KeepsOutside (part q.kind q.ring) d.memory d'.memory
-from_live true d q answer d' inside gives = from_queue d q answer d' inside gives
-from_live false d q answer d' inside gives = subst (λ (s : DeviceState). KeepsOutside (part q.kind q.ring) d.memory s.memory) (sym gives.1) (keeps-itself (part q.kind q.ring) d.memory)
+keeps_queue : (d : DeviceState) (queue : Option QueueState) (q : QueueState) (new : List ℕ) → queue ≡ Some q
+    → KeepsOutside (part q.kind q.ring) d.memory new → KeepsOutside (queue_part queue) d.memory new
+keeps_queue d queue q new is keeps = subst (λ (v : Option QueueState). KeepsOutside (queue_part v) d.memory new) (sym is) keeps
 
-from_none : (b : Bool) (d : DeviceState) (answer : Result (Option Job) DeviceFault) (d' : DeviceState)
-    → GivesFrom false (if b then None else None) d answer d' → KeepsOutside [] d.memory d'.memory
-from_none true d answer d' gives = subst (λ (s : DeviceState). KeepsOutside [] d.memory s.memory) (sym gives.1) (keeps-itself [] d.memory)
-from_none false d answer d' gives = subst (λ (s : DeviceState). KeepsOutside [] d.memory s.memory) (sym gives.1) (keeps-itself [] d.memory)
-
-from_any : (live : Bool) (queue : Option QueueState) (d : DeviceState) (answer : Result (Option Job) DeviceFault) (d' : DeviceState)
-    → IsDevice (length d.memory) d.readiness d.pops queue → GivesFrom false (if live then queue else None) d answer d'
-    → KeepsOutside (range_in (written_by queue)) d.memory d'.memory
-from_any live None d answer d' sound gives = from_none live d answer d' gives
-from_any live (Some q) d answer d' sound gives = from_live live d q answer d' sound.areas gives
-
-from : (stopped : Bool) (d : DeviceState) (answer : Result (Option Job) DeviceFault) (d' : DeviceState)
-    → IsSound d → GivesFrom stopped (live_queue d) d answer d' → KeepsOutside (range_in (written_by d.queue)) d.memory d'.memory
-from true d answer d' sound gives = subst (λ (s : DeviceState). KeepsOutside (range_in (written_by d.queue)) d.memory s.memory) (sym gives.1) (keeps-itself (range_in (written_by d.queue)) d.memory)
-from false d answer d' sound gives = from_any d.registers.status.driver_ok d.queue d answer d' sound gives
+areas_of : (d : DeviceState) (queue : Option QueueState) (q : QueueState) → queue ≡ Some q → IsDevice (length d.memory) d.readiness d.pops queue
+    → AreasInside q.kind (length d.memory) q.ring
+areas_of d queue q is sound =
+    let kept : IsQueue (length d.memory) d.readiness d.pops q = subst (IsDevice (length d.memory) d.readiness d.pops) is sound in
+    kept.areas
 
 pub pop_writes : APopWritesItsPart
-pop_writes d answer d' sound gives = from (is_stopped d) d answer d' sound gives
+pop_writes d answer d' sound gives =
+    let itself = keeps-itself (queue_part d.queue) d.memory in
+    pop_case (λ (s : DeviceState). KeepsOutside (queue_part d.queue) d.memory s.memory) d answer d' gives (record {
+      same = itself;
+      fault = itself;
+      none = λ q is. keeps_queue d d.queue q _ is (keeps-event q.kind d.memory q.ring (areas_of d d.queue q is sound));
+      job = λ q is id places. keeps_queue d d.queue q _ is (keeps-event_later q.kind d.memory q.ring (d.pops + 1) id places (areas_of d d.queue q is sound));
+    })
 
 -- what a reply writes
 reply_writes : (d : DeviceState) (queue : Option QueueState) (done : Done) (notify : Bool) (d' : DeviceState)
