@@ -28,3 +28,4 @@ pub mod Allowing
 pub mod Leaving
 pub mod Calm
 pub mod Walks
+pub mod Living
