@@ -1,7 +1,8 @@
 -- A life goes on by the turns of each call, and a fold keeps it.
-use Rattle.std.proofs.Common.{◌≡◌, ℕ, ◌+◌, Bool, true, false, List, [], ◌∷◌, ◌++◌, length, refl, ap, sym, ◌∙◌, subst, append-nil, append_assoc, length-append}
-use Rattle.std.specs.Prelude.{◌==◌, not, if◌then◌else◌}
+use Rattle.std.proofs.Common.{◌≡◌, ℕ, ◌+◌, Bool, true, false, List, [], ◌∷◌, ◌++◌, Some, length, refl, ap, sym, ◌∙◌, subst, append-nil, append_assoc, length-append}
+use Rattle.std.specs.Prelude.{◌==◌, not, if◌then◌else◌, slice_get}
 use Rattle.mmio_transport.specs.Job.{Job}
+use Rattle.rpmb_book.specs.Guest.{GuestState}
 use Rattle.rpmb_book.specs.Turn.{Turn, State, after_turn}
 use Rattle.rpmb_book.specs.Replay.{replay, IsLegal}
 use Rattle.rpmb_book.specs.Book.{BookView, state, submits_in, submit_of, with_turn}
@@ -84,3 +85,7 @@ pub all_legal : (first : State) (turns : List Turn) (b : BookView) → Lives fir
 all_legal first turns b l legal =
     subst (λ (ts : List Turn). IsLegal first ts) (sym l.all)
     (legal-append first l.gone b.history l.legal (subst (λ (s : State). IsLegal s b.history) l.opening legal))
+
+-- a guest of the book is one after its whole life
+pub lived : (g : ℕ) (first : State) (turns : List Turn) (b : BookView) (y : GuestState) → Lives first turns b → slice_get (state b).guests g ≡ Some y → slice_get (replay first turns).guests g ≡ Some y
+lived g first turns b y l last = ap (λ (s : State). slice_get s.guests g) (sym (leads_here first turns b l)) ∙ last
