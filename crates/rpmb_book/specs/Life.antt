@@ -1,12 +1,13 @@
 -- The whole life of a book: the turns that folds let go, and its history after them.
-use Rattle.std.specs.Prelude.{ℕ, ◌≡◌, ◌++◌, ◌&&◌, not, Bool, if◌then◌else◌, is_some, List, [], ◌∷◌, length}
+use Rattle.std.specs.Prelude.{ℕ, ◌≡◌, ◌++◌, ◌&&◌, not, Bool, if◌then◌else◌, is_some}
+use Rattle.std.specs.Prelude.{List, [], ◌∷◌, length}
 use Rattle.rpmb_book.specs.Turn.{Turn, Take, Settle, Collect, Break, State, move_some}
 use Rattle.rpmb_book.specs.Replay.{replay, IsLegal}
 use Rattle.rpmb_book.specs.Marks.{marks_for}
 use Rattle.rpmb_book.specs.Book.{BookView, state, next_intent, may_settle, due_of}
 
--- from the first opening on these turns are all that the book answered in its life: those that went, as many as the book
--- counts as folded, each right where it stood, left its opening; its history is the others
+-- These turns are all of a book's life, from the first opening on. Those that were folded went: each was right
+-- where it stood, and after them comes the book's opening. The others are its history.
 pub record Lives (first : State) (turns : List Turn) (b : BookView) : Type 0 where
   pub gone : List Turn
   pub all : turns ≡ gone ++ b.history
@@ -16,7 +17,8 @@ pub record Lives (first : State) (turns : List Turn) (b : BookView) : Type 0 whe
 
 -- each life of a book goes on in the next book by these turns, which come last
 abbrev pub GoesOn : BookView → List Turn → BookView → Type 0
-GoesOn b new c = (first : State) (turns : List Turn) → Lives first turns b → Lives first (turns ++ new) c
+GoesOn b new c = (first : State) (turns : List Turn) → Lives first turns b
+    → Lives first (turns ++ new) c
 
 -- a book of which nothing was folded has lived its history
 abbrev pub Begins : Type 0
@@ -30,7 +32,8 @@ abbrev pub take_turns : BookView → List ℕ → ℕ → List Turn
 take_turns b shares n = turn_if (is_some (next_intent b shares n)) (Take n)
 
 abbrev pub settle_turns : BookView → List ℕ → List ℕ → List Turn
-settle_turns b shares marks = turn_if (may_settle b shares marks && move_some (state b).guests marks)
+settle_turns b shares marks =
+    turn_if (may_settle b shares marks && move_some (state b).guests marks)
     (Settle (marks_for (length (state b).guests) marks))
 
 abbrev pub break_turns : BookView → List Turn
