@@ -29,3 +29,4 @@ pub mod Leaving
 pub mod Calm
 pub mod Walks
 pub mod Living
+pub mod Calling

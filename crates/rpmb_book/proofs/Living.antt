@@ -28,7 +28,7 @@ pub begins : Begins
 begins b none = record { gone = []; all = refl; legal = tt; opening = refl; folded = none }
 
 -- no turn, and one turn more
-stays : (b : BookView) → GoesOn b [] b
+pub stays : (b : BookView) → GoesOn b [] b
 stays b first turns l = record { gone = l.gone; all = append-nil turns ∙ l.all; legal = l.legal; opening = l.opening; folded = l.folded }
 
 one_more : (b : BookView) (t : Turn) → GoesOn b (t ∷ []) (with_turn b t)
