@@ -1,5 +1,5 @@
 -- Whatever is called on a book that was opened, its life goes on by turns that are right where they stand.
-use Rattle.std.proofs.Common.{◌≡◌, ◌<◌, Bool, true, false, List, [], ◌∷◌, ◌++◌, Option, Some, None, length, refl, ap, sym, ◌∙◌, subst, append-nil, append_assoc, arith}
+use Rattle.std.proofs.Common.{◌≡◌, ◌<◌, zero, suc, Bool, true, false, List, [], ◌∷◌, ◌++◌, Option, Some, None, length, refl, ap, sym, ◌∙◌, subst, append-nil, append_assoc, arith}
 use Rattle.std.specs.Prelude.{ℕ, ◌&&◌, not, if◌then◌else◌, is_none, is_some, slice_get}
 use Rattle.std.proofs.lemmas.Option.{slice_get_within}
 use Rattle.rpmb_frame.specs.Partition.{Partition}
@@ -9,18 +9,22 @@ use Rattle.rpmb_book.specs.Job.{Tally}
 use Rattle.rpmb_book.specs.Guest.{GuestState, first_due, first_intent}
 use Rattle.rpmb_book.specs.Turn.{Turn, Take, Settle, Collect, Break, State, IsRight, are_within, move_some}
 use Rattle.rpmb_book.specs.Marks.{marks_for}
-use Rattle.rpmb_book.specs.Replay.{replay, IsLegal, opened}
+use Rattle.rpmb_book.specs.Replay.{replay, IsLegal, fresh_guests}
 use Rattle.rpmb_book.specs.Bounded.{IsBounded, IsBoundedGuest}
 use Rattle.rpmb_book.specs.Book.{BookView, state, guest_of, is_full, refusal, submit_of, first_of, is_share, next_intent, are_taken, may_settle, due_at, due_of}
 use Rattle.rpmb_book.specs.Fold.{after_submit}
 use Rattle.rpmb_book.specs.Life.{GoesOn, Lives, turn_if}
-use Rattle.rpmb_book.specs.Calls.{Call, ToSubmit, ToTake, ToSettle, ToBreakOff, ToCollect, after_call, after_calls, turns_of, turns_in, opened_book, IsLived, IsToldAsAloneByCalls}
+use Rattle.rpmb_book.specs.Calls.{Call, ToSubmit, ToTake, ToSettle, ToBreakOff, ToCollect, after_call, after_calls, turns_of, turns_in, IsFresh, IsLived, IsToldAsAloneByCalls, IsOutcomeByCalls, IsAfterItsJobsByCalls}
+use Rattle.rpmb_book.specs.Asked.{IsAfter, answered_jobs}
+use Rattle.rpmb_book.specs.Isolation.{jobs_of}
+use Rattle.rpmb_book.proofs.AskedLemmas.{after_its_jobs}
 use Rattle.rpmb_book.proofs.Bounding.{bounded}
 use Rattle.rpmb_book.proofs.IsolationLemmas.{as_alone}
 use Rattle.rpmb_book.proofs.Kept.{not_refused}
-use Rattle.rpmb_book.proofs.Living.{begins, leads_here, one_if_not, one_if_so, stays, submit_goes_on}
+use Rattle.rpmb_book.proofs.Living.{begins, leads_here, lived, one_if_not, one_if_so, stays, submit_goes_on}
 use Rattle.rpmb_book.proofs.Marking.{length-marks_for, moves_for, within_for}
 use Rattle.rpmb_book.proofs.OpeningLemmas.{opens}
+use Rattle.rpmb_book.proofs.OutcomeLemmas.{of_the_list}
 use Rattle.rpmb_book.proofs.Places.{all_at}
 use Rattle.rpmb_book.proofs.Replay.{folds, legal-push}
 use Rattle.rpmb_book.proofs.Taking.{right_collect, right_take}
@@ -129,15 +133,37 @@ all_calls first turns b (c ∷ cs) few h =
     (all_calls first (turns ++ turns_of b c) next cs few (one_call first turns b c few h))
 
 -- a book that was opened, after all its calls
-opened_lives : (life : ℕ) (config : List GuestConfig) (partitions : List Partition) (cs : List Call)
-    → HasLived (opened config partitions) (turns_in (opened_book life config partitions) cs) (after_calls (opened_book life config partitions) cs)
-opened_lives life config partitions cs =
-    let b = opened_book life config partitions in
-    all_calls (opened config partitions) [] b cs (opens config partitions).bounded (record { legal = tt; lives = begins b refl })
+fresh_lives : (config : List GuestConfig) (partitions : List Partition) (b : BookView) (cs : List Call) → IsFresh config partitions b → HasLived b.opening (turns_in b cs) (after_calls b cs)
+fresh_lives config partitions b cs f =
+    let few = subst IsBounded (sym f.opening) (opens config partitions).bounded in
+    let lives = subst (λ (ts : List Turn). Lives b.opening ts b) f.history (begins b f.folded) in
+    all_calls b.opening [] b cs few (record { legal = tt; lives = lives })
 
 pub lived_by_calls : IsLived
-lived_by_calls life config partitions cs = (opened_lives life config partitions cs).lives
+lived_by_calls config partitions b cs f = let h = fresh_lives config partitions b cs f in (h.lives, h.legal)
+
+whole_at_first : (config : List GuestConfig) (partitions : List Partition) (b : BookView) → IsFresh config partitions b → b.opening.broken ≡ false
+whole_at_first config partitions b f = ap (λ (s : State). s.broken) f.opening
 
 pub alone_by_calls : IsToldAsAloneByCalls
-alone_by_calls life config partitions cs g x lasts at =
-    as_alone g (opened config partitions) x (turns_in (opened_book life config partitions) cs) refl lasts at (opened_lives life config partitions cs).legal
+alone_by_calls config partitions b cs g x f lasts at =
+    as_alone g b.opening x (turns_in b cs) (whole_at_first config partitions b f) lasts at (fresh_lives config partitions b cs f).legal
+
+nothing_stored : (gs : List GuestConfig) (ps : List Partition) (g : ℕ) (x : GuestState) → slice_get (fresh_guests gs ps) g ≡ Some x → x.core.last ≡ None
+nothing_stored [] ps g x at = absurd (cc)
+nothing_stored (c ∷ gs) [] g x at = absurd (cc)
+nothing_stored (c ∷ gs) (p ∷ ps) zero x at = ap (λ y. y.core.last) (some_same (sym at))
+nothing_stored (c ∷ gs) (p ∷ ps) (suc g) x at = nothing_stored gs ps g x at
+
+pub outcome_by_calls : IsOutcomeByCalls
+outcome_by_calls config partitions b cs g x y f at last =
+    let h = fresh_lives config partitions b cs f in
+    let none = nothing_stored config partitions g x (ap (λ (s : State). slice_get s.guests g) (sym f.opening) ∙ at) in
+    of_the_list g b.opening x y (turns_in b cs) at none (lived g b.opening (turns_in b cs) (after_calls b cs) y h.lives last)
+
+pub after_jobs_by_calls : IsAfterItsJobsByCalls
+after_jobs_by_calls config partitions b cs g x y f at last =
+    let h = fresh_lives config partitions b cs f in
+    let ts = turns_in b cs in
+    subst (λ (broken : Bool). IsAfter x y (answered_jobs broken g ts) (jobs_of g ts)) (whole_at_first config partitions b f)
+    (after_its_jobs g b.opening x y ts at (lived g b.opening ts (after_calls b cs) y h.lives last))

@@ -1,15 +1,17 @@
 -- Whatever is called on a book, one call after another.
-use Rattle.std.specs.Prelude.{ℕ, ◌≡◌, ◌++◌, if◌then◌else◌, is_none, Some, List, [], ◌∷◌, slice_get}
+use Rattle.std.specs.Prelude.{ℕ, ◌≡◌, ◌++◌, if◌then◌else◌, false, is_none, Some, List, [], ◌∷◌, slice_get}
 use Rattle.rpmb_frame.specs.Partition.{Partition}
 use Rattle.rpmb_frame.specs.declared.config.GuestConfig.{GuestConfig}
 use Rattle.mmio_transport.specs.Job.{Job}
 use Rattle.rpmb_book.specs.Job.{Tally}
 use Rattle.rpmb_book.specs.Guest.{GuestState}
 use Rattle.rpmb_book.specs.Turn.{Turn}
-use Rattle.rpmb_book.specs.Replay.{opened}
-use Rattle.rpmb_book.specs.Book.{BookView, refusal, submit_of, after_take, after_settle}
+use Rattle.rpmb_book.specs.Replay.{IsLegal, opened}
+use Rattle.rpmb_book.specs.Book.{BookView, state, refusal, submit_of, after_take, after_settle}
 use Rattle.rpmb_book.specs.Book.{after_break_off, after_collect}
 use Rattle.rpmb_book.specs.Fold.{after_submit}
+use Rattle.rpmb_book.specs.Asked.{IsAfter, answered_jobs}
+use Rattle.rpmb_book.specs.Outcome.{answers, outcome}
 use Rattle.rpmb_book.specs.Isolation.{HasNoBreak, jobs_of, told, told_alone}
 use Rattle.rpmb_book.specs.Life.{Lives, turn_if, take_turns, settle_turns, break_turns, collect_turns}
 
@@ -47,25 +49,36 @@ turns_in b [] = []
 turns_in b (c ∷ cs) = turns_of b c ++ turns_in (after_call b c) cs
 
 -- a book as `Book::open` gives it
-abbrev pub opened_book : ℕ → List GuestConfig → List Partition → BookView
-opened_book life config partitions = record {
-  life = life;
-  folded = 0;
-  opening = opened config partitions;
-  history = [];
-}
+pub record IsFresh (config : List GuestConfig) (partitions : List Partition) (b : BookView) : Type 0 where
+  pub opening : b.opening ≡ opened config partitions
+  pub folded : b.folded ≡ 0
+  pub history : b.history ≡ []
 
--- after whatever calls, a book has lived the turns of all of them
+-- after whatever calls, a book has lived the turns of all of them, each of which is right where it stands
 abbrev pub IsLived : Type 0
-IsLived = (life : ℕ) (config : List GuestConfig) (partitions : List Partition) (cs : List Call)
-    → Lives (opened config partitions) (turns_in (opened_book life config partitions) cs)
-    (after_calls (opened_book life config partitions) cs)
+IsLived = (config : List GuestConfig) (partitions : List Partition) (b : BookView) (cs : List Call)
+    → IsFresh config partitions b
+    → Lives b.opening (turns_in b cs) (after_calls b cs) × IsLegal b.opening (turns_in b cs)
 
--- and where no store broke in these turns, each guest was told what it would be told alone
+-- where no store broke in these turns, each guest was told what it would be told alone
 abbrev pub IsToldAsAloneByCalls : Type 0
-IsToldAsAloneByCalls = (life : ℕ) (config : List GuestConfig) (partitions : List Partition)
-    (cs : List Call) (g : ℕ) (x : GuestState)
-    → HasNoBreak (turns_in (opened_book life config partitions) cs)
-    → slice_get (opened config partitions).guests g ≡ Some x
-    → told g (opened config partitions) (turns_in (opened_book life config partitions) cs)
-    ≡ told_alone x.core (jobs_of g (turns_in (opened_book life config partitions) cs))
+IsToldAsAloneByCalls = (config : List GuestConfig) (partitions : List Partition) (b : BookView)
+    (cs : List Call) (g : ℕ) (x : GuestState) → IsFresh config partitions b
+    → HasNoBreak (turns_in b cs) → slice_get b.opening.guests g ≡ Some x
+    → told g b.opening (turns_in b cs) ≡ told_alone x.core (jobs_of g (turns_in b cs))
+
+-- the stored outcome is that of the list of all answers
+abbrev pub IsOutcomeByCalls : Type 0
+IsOutcomeByCalls = (config : List GuestConfig) (partitions : List Partition) (b : BookView)
+    (cs : List Call) (g : ℕ) (x y : GuestState) → IsFresh config partitions b
+    → slice_get b.opening.guests g ≡ Some x
+    → slice_get (state (after_calls b cs)).guests g ≡ Some y
+    → y.core.last ≡ outcome (answers g b.opening (turns_in b cs) [])
+
+-- a guest is after all its jobs
+abbrev pub IsAfterItsJobsByCalls : Type 0
+IsAfterItsJobsByCalls = (config : List GuestConfig) (partitions : List Partition) (b : BookView)
+    (cs : List Call) (g : ℕ) (x y : GuestState) → IsFresh config partitions b
+    → slice_get b.opening.guests g ≡ Some x
+    → slice_get (state (after_calls b cs)).guests g ≡ Some y
+    → IsAfter x y (answered_jobs false g (turns_in b cs)) (jobs_of g (turns_in b cs))
