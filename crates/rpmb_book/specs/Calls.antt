@@ -13,7 +13,8 @@ use Rattle.rpmb_book.specs.Fold.{after_submit}
 use Rattle.rpmb_book.specs.Asked.{IsAfter, answered_jobs}
 use Rattle.rpmb_book.specs.Outcome.{answers, outcome}
 use Rattle.rpmb_book.specs.Isolation.{HasNoBreak, jobs_of, told, told_alone}
-use Rattle.rpmb_book.specs.Life.{Lives, turn_if, take_turns, settle_turns, break_turns, collect_turns}
+use Rattle.rpmb_book.specs.Life.{Lives, turn_if, take_turns, settle_turns, break_turns}
+use Rattle.rpmb_book.specs.Life.{collect_turns}
 
 -- a call, with what it is given; one that memory was refused to changes nothing, and isn't counted
 pub data Call : Type 0 where
@@ -49,12 +50,13 @@ turns_in b [] = []
 turns_in b (c ∷ cs) = turns_of b c ++ turns_in (after_call b c) cs
 
 -- a book as `Book::open` gives it
-pub record IsFresh (config : List GuestConfig) (partitions : List Partition) (b : BookView) : Type 0 where
+pub record IsFresh (config : List GuestConfig) (partitions : List Partition) (b : BookView)
+    : Type 0 where
   pub opening : b.opening ≡ opened config partitions
   pub folded : b.folded ≡ 0
   pub history : b.history ≡ []
 
--- after whatever calls, a book has lived the turns of all of them, each of which is right where it stands
+-- after whatever calls, a book has lived the turns of all of them, each right where it stands
 abbrev pub IsLived : Type 0
 IsLived = (config : List GuestConfig) (partitions : List Partition) (b : BookView) (cs : List Call)
     → IsFresh config partitions b

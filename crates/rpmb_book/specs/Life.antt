@@ -6,8 +6,8 @@ use Rattle.rpmb_book.specs.Replay.{replay, IsLegal}
 use Rattle.rpmb_book.specs.Marks.{marks_for}
 use Rattle.rpmb_book.specs.Book.{BookView, state, next_intent, may_settle, due_of}
 
--- These turns are all of a book's life, from the first opening on. Those that were folded went: each was right
--- where it stood, and after them comes the book's opening. The others are its history.
+-- These turns are all of a book's life, from the first opening on. Those that were folded are gone:
+-- each was right where it stood, and they leave the book's opening. The others are its history.
 pub record Lives (first : State) (turns : List Turn) (b : BookView) : Type 0 where
   pub gone : List Turn
   pub all : turns ≡ gone ++ b.history
