@@ -28,3 +28,5 @@ pub mod Allowing
 pub mod Leaving
 pub mod Calm
 pub mod Walks
+pub mod Living
+pub mod Calling

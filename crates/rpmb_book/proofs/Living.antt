@@ -1,0 +1,91 @@
+-- A life goes on by the turns of each call, and a fold keeps it.
+use Rattle.std.proofs.Common.{◌≡◌, ℕ, ◌+◌, Bool, true, false, List, [], ◌∷◌, ◌++◌, Some, length, refl, ap, sym, ◌∙◌, subst, append-nil, append_assoc, length-append}
+use Rattle.std.specs.Prelude.{◌==◌, not, if◌then◌else◌, slice_get}
+use Rattle.mmio_transport.specs.Job.{Job}
+use Rattle.rpmb_book.specs.Guest.{GuestState}
+use Rattle.rpmb_book.specs.Turn.{Turn, State, after_turn}
+use Rattle.rpmb_book.specs.Replay.{replay, IsLegal}
+use Rattle.rpmb_book.specs.Book.{BookView, state, submits_in, submit_of, with_turn}
+use Rattle.rpmb_book.specs.Fold.{after_submit, folded, roomy}
+use Rattle.rpmb_book.specs.Life.{Begins, GoesOn, Lives, turn_if}
+use Rattle.rpmb_book.proofs.Rolling.{chosen, longest, not_chosen}
+use Rattle.rpmb_book.proofs.Room.{by_test}
+
+-- turns after turns
+pub replay-append : (s : State) (ts us : List Turn) → replay s (ts ++ us) ≡ replay (replay s ts) us
+replay-append s [] us = refl
+replay-append s (t ∷ ts) us = replay-append (after_turn s t) ts us
+
+legal-append : (s : State) (ts us : List Turn) → IsLegal s ts → IsLegal (replay s ts) us → IsLegal s (ts ++ us)
+legal-append s [] us legal more = more
+legal-append s (t ∷ ts) us legal more = (legal.0, legal-append (after_turn s t) ts us legal.1 more)
+
+legal-front : (s : State) (ts us : List Turn) → IsLegal s (ts ++ us) → IsLegal s ts
+legal-front s [] us legal = tt
+legal-front s (t ∷ ts) us legal = (legal.0, legal-front (after_turn s t) ts us legal.1)
+
+pub begins : Begins
+begins b none = record { gone = []; all = refl; legal = tt; opening = refl; folded = none }
+
+-- no turn, and one turn more
+pub stays : (b : BookView) → GoesOn b [] b
+stays b first turns l = record { gone = l.gone; all = append-nil turns ∙ l.all; legal = l.legal; opening = l.opening; folded = l.folded }
+
+one_more : (b : BookView) (t : Turn) → GoesOn b (t ∷ []) (with_turn b t)
+one_more b t first turns l = record {
+  gone = l.gone;
+  all = ap (λ (ts : List Turn). ts ++ t ∷ []) l.all ∙ append_assoc l.gone b.history (t ∷ []);
+  legal = l.legal;
+  opening = l.opening;
+  folded = l.folded;
+}
+
+pub one_if_so : (so : Bool) (b : BookView) (t : Turn) → GoesOn b (turn_if so t) (if so then with_turn b t else b)
+one_if_so true b t = one_more b t
+one_if_so false b t = stays b
+
+pub one_if_not : (so : Bool) (b : BookView) (t : Turn) → GoesOn b (turn_if (not so) t) (if so then b else with_turn b t)
+one_if_not true b t = stays b
+one_if_not false b t = one_more b t
+
+-- what a fold lets go is gone then, and no turn is lost
+fold_goes_on : (b : BookView) → IsLegal b.opening b.history → GoesOn b [] (folded b)
+fold_goes_on b legal first turns l =
+    let w = longest b in
+    let ts = w.0 in
+    let c = folded b in
+    let front = legal-front b.opening ts c.history (subst (λ (hs : List Turn). IsLegal b.opening hs) w.1.history legal) in
+    record {
+      gone = l.gone ++ ts;
+      all = append-nil turns ∙ l.all ∙ ap (λ (hs : List Turn). l.gone ++ hs) w.1.history ∙ sym (append_assoc l.gone ts c.history);
+      legal = legal-append first l.gone ts l.legal (subst (λ (s : State). IsLegal s ts) l.opening front);
+      opening = w.1.opening ∙ ap (λ (s : State). replay s ts) l.opening ∙ sym (replay-append first l.gone ts);
+      folded = w.1.folded ∙ ap (λ n. n + length ts) l.folded ∙ sym (length-append l.gone ts);
+    }
+
+pub room_goes_on : (b : BookView) → IsLegal b.opening b.history → GoesOn b [] (roomy b)
+unfolding roomy
+room_goes_on b legal = by_test (submits_in b == 16384)
+    (λ is. subst (λ (c : BookView). GoesOn b [] c) (sym (chosen (submits_in b == 16384) (folded b) b is)) (fold_goes_on b legal))
+    (λ is. subst (λ (c : BookView). GoesOn b [] c) (sym (not_chosen (submits_in b == 16384) (folded b) b is)) (stays b))
+
+pub submit_goes_on : (b : BookView) (job : Job) → IsLegal b.opening b.history → GoesOn b (submit_of b job ∷ []) (after_submit b job)
+submit_goes_on b job legal first turns l =
+    let t = submit_of b job in
+    subst (λ (ts : List Turn). Lives first (ts ++ t ∷ []) (after_submit b job)) (append-nil turns)
+    (one_more (roomy b) t first (turns ++ []) (room_goes_on b legal first turns l))
+
+-- where a life leads
+pub leads_here : (first : State) (turns : List Turn) (b : BookView) → Lives first turns b → state b ≡ replay first turns
+leads_here first turns b l =
+    ap (λ (s : State). replay s b.history) l.opening ∙ sym (replay-append first l.gone b.history)
+    ∙ ap (λ (ts : List Turn). replay first ts) (sym l.all)
+
+pub all_legal : (first : State) (turns : List Turn) (b : BookView) → Lives first turns b → IsLegal b.opening b.history → IsLegal first turns
+all_legal first turns b l legal =
+    subst (λ (ts : List Turn). IsLegal first ts) (sym l.all)
+    (legal-append first l.gone b.history l.legal (subst (λ (s : State). IsLegal s b.history) l.opening legal))
+
+-- a guest of the book is one after its whole life
+pub lived : (g : ℕ) (first : State) (turns : List Turn) (b : BookView) (y : GuestState) → Lives first turns b → slice_get (state b).guests g ≡ Some y → slice_get (replay first turns).guests g ≡ Some y
+lived g first turns b y l last = ap (λ (s : State). slice_get s.guests g) (sym (leads_here first turns b l)) ∙ last

@@ -1,0 +1,28 @@
+use Rattle.std.specs.Prelude.{◌&&◌, is_some, length}
+use Rattle.rpmb_book.specs.Book.{due_of, may_settle, next_intent, state}
+use Rattle.rpmb_book.specs.Marks.{marks_for}
+use Rattle.rpmb_book.specs.Turn.{Break, Collect, Settle, Take, move_some}
+use Rattle.rpmb_book.proofs.Living.{one_if_not, one_if_so, room_goes_on, submit_goes_on}
+use Rattle.rpmb_book.proofs.laws.a_life_goes_on.Goals as goal
+
+pub returns-clause-submit : goal.returns-clause-submit
+returns-clause-submit c = λ job. submit_goes_on c.args.book.now job c.what_always_holds.ensures.legal
+
+pub returns-clause-take : goal.returns-clause-take
+returns-clause-take c =
+    let b = c.args.book.now in
+    λ shares n. one_if_so (is_some (next_intent b shares n)) b (Take n)
+
+pub returns-clause-settle : goal.returns-clause-settle
+returns-clause-settle c =
+    let b = c.args.book.now in
+    λ shares marks. one_if_so (may_settle b shares marks && move_some (state b).guests marks) b (Settle (marks_for (length (state b).guests) marks))
+
+pub returns-clause-break_off : goal.returns-clause-break_off
+returns-clause-break_off c = one_if_not (state c.args.book.now).broken c.args.book.now Break
+
+pub returns-clause-collect : goal.returns-clause-collect
+returns-clause-collect c = λ n. one_if_so (is_some (due_of c.args.book.now n)) c.args.book.now (Collect n)
+
+pub returns-clause-room : goal.returns-clause-room
+returns-clause-room c = room_goes_on c.args.book.now c.what_always_holds.ensures.legal
