@@ -74,12 +74,12 @@ module _ {D : Type 0} (shows : D → DiskState) (makes : D → DiskCall → D �
   shown_call : (a b : D) (call : DiskCall) → makes a call b → Shown (shows a) (shows b)
   shown_call a b call made = (let c = counts_of (shows a) (shows b) call (effect a b call made) in record { len = c.len; faithful = c.faithful; later = c.later })
 
-  shown_round : (o : Option ℕ) (w : Bool) (od : D) (old : List Guest) (result : Result Progress StoreFault) (nd : D) (new : List Guest) (broken : Bool) → Round makes (plan_at o w) od old result nd new broken → Shown (shows od) (shows nd)
+  pub shown_round : (o : Option ℕ) (w : Bool) (od : D) (old : List Guest) (result : Result Progress StoreFault) (nd : D) (new : List Guest) (broken : Bool) → Round makes (plan_at o w) od old result nd new broken → Shown (shows od) (shows nd)
   shown_round (Some g) w od old result nd new broken r = shown_call od nd (Write r.wrote.at r.wrote.bytes r.ok) r.wrote.call
   shown_round None true od old result nd new broken r = shown_call od nd (Sync r.ok) r.synced.call
   shown_round None false od old result nd new broken r = subst (λ d. Shown (shows od) (shows d)) (sym r.1) (shown_still (shows od))
 
-  failed_round : (p : Result Progress StoreFault) (od : D) (old : List Guest) (nd : D) (new : List Guest) (broken : Bool) → Round makes (planned old) od old p nd new broken → broken ≡ true → HasRisen (shows od).failures (shows nd).failures
+  pub failed_round : (p : Result Progress StoreFault) (od : D) (old : List Guest) (nd : D) (new : List Guest) (broken : Bool) → Round makes (planned old) od old p nd new broken → broken ≡ true → HasRisen (shows od).failures (shows nd).failures
   failed_round (Ok p) od old nd new broken r is = absurd (let no = round_well makes od nd old new p broken r in cc)
   failed_round (Err e) od old nd new broken r is =
       let bad = (round_badly makes od nd old new e broken r).1 in
@@ -257,7 +257,7 @@ below_or_not (suc a) (suc c) = elim (below_or_not a c) [
 ]
 
 -- a count at its end stands at it from before, or rose
-ended : (most a b c : ℕ) → a ≤ b → b ≤ c → most ≤ b + 1 → (a < c) ⊎ (most ≤ a + 1)
+pub ended : (most a b c : ℕ) → a ≤ b → b ≤ c → most ≤ b + 1 → (a < c) ⊎ (most ≤ a + 1)
 ended most a b c first second end = elim (below_or_not a c) [
   | inl less ↦ inl less
   | inr not ↦ inr (omega (arith, first, second, end, not))
