@@ -1,7 +1,9 @@
 // Queues that a device takes, and those that it doesn't, in memory that held other bytes.
-use super::{Form, Turn, go_once, guest_of};
+use super::{FORMS, Form, Pair, Turn, go_once, guest_of, negotiates, offers, pair_of};
+use crate::tests::descriptors::check_row;
 use crate::tests::devices::step::Step;
 use crate::tests::devices::stores;
+use guest_driver::DriverFault;
 use mmio_transport::Device;
 use rpmb_frame::{GuestConfig, RingKind};
 use std::alloc::Global;
@@ -63,6 +65,34 @@ static QUEUES: [Queue; 11] = [
 fn queues_that_a_device_takes(rt: HostRuntime) -> Result<(), Fail> {
     for queue in &QUEUES {
         go_with_queue(rt.alloc(), queue)?;
+    }
+    Ok(())
+}
+
+// 256 chains of one descriptor each are in flight, by the ids in their order, and then there is no room.
+fn takes_256(pair: &mut Pair) -> bool {
+    for place in 0..256_u16 {
+        if !offers(pair, &[], 2, Ok(place)) {
+            return false;
+        }
+    }
+    offers(pair, &[], 2, Err(DriverFault::NoRoom))
+}
+
+fn is_filled(alloc: Global, form: Form) -> Result<bool, Fail> {
+    let guest = GuestConfig {
+        queue: 256,
+        memory: 8_388_608,
+        ..guest_of(form)
+    };
+    let mut pair = pair_of(alloc, 0, &guest, &guest)?;
+    Ok(negotiates(&mut pair) && takes_256(&mut pair))
+}
+
+#[test]
+fn a_queue_of_256_is_filled(rt: HostRuntime) -> Result<(), Fail> {
+    for (at, form) in FORMS.iter().enumerate() {
+        check_row(is_filled(rt.alloc(), *form)?, at)?;
     }
     Ok(())
 }
