@@ -124,7 +124,3 @@ none_ends board script old fault.BadBoard bad of = absurd of
 pub known_of : (P : Fault → Type 0) (r : Result (Unit {0}) Fault) → IfErr r P → (f : Fault) → r ≡ Err f → P f
 known_of P (Ok x) of f is = absurd (cc)
 known_of P (Err e) of f is = (let same : e ≡ f = cc in subst P same of)
-
-pub if_any : {X : Type 0} (o : Option X) (P : X → Type 0) → ((x : X) → P x) → IfSome o P
-if_any None P any = tt
-if_any (Some x) P any = any x

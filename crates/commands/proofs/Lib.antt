@@ -10,3 +10,4 @@ pub mod Until
 pub mod Stopped
 pub mod EachTold
 pub mod Handed
+pub mod ServedImage

@@ -34,7 +34,7 @@ use Rattle.host.specs.Runner.{runner_of}
 use Rattle.commands.specs.Ending.{IsOfOpening, IsOfRunning, LinesPrint, OpenedEnds, OpenedPrints, WroteFirst}
 use Rattle.commands.specs.Failing.{WroteAll}
 use Rattle.commands.specs.Fault.{fault_of_image}
-use Rattle.commands.specs.Image.{Fails, Finishes, IsLastOf, IsOpened, Ran, Tells}
+use Rattle.commands.specs.Image.{AreOf, Fails, Finishes, IsLastOf, IsOpened, Ran, Tells}
 use Rattle.commands.specs.Moments.{MovesTo}
 use Rattle.commands.specs.Running.{AreGuests, AreWithin, IsAt}
 use Rattle.commands.specs.Transcript.{StoresNothing, Told, first_cores, first_told, partitions_after, told_after}
@@ -61,6 +61,19 @@ as_many_cores [] ps many = refl
 as_many_cores (c ∷ cs) [] many = absurd (omega (arith, many))
 as_many_cores (c ∷ cs) (p ∷ ps) many = ap suc (as_many_cores cs ps (omega (arith, many)))
 
+pub image_of : {D : Type 0} (shows : D → DiskState) (board : List GuestConfig) (disk : D) (b : BoardState D) (life : ℕ) (begins : Begins shows life board b) → ((shows disk).faithful ≡ true → Stands board (shows disk).seen b)
+    → ((shows disk).faithful ≡ true → IsImage (capacities_of board) (shows disk).len (shows disk).seen) → AreOf board (shows disk) begins.partitions
+unfolding capacities_of
+image_of {D = D} shows board disk b life begins stand whole_image = record {
+  count = many;
+  image = whole_image;
+  held = λ known g p at. (let x = fresh_at board begins.partitions g p many at in
+      subst (λ q. recovered.Stands (region_at (capacities_of board) g) (shows disk).seen (part_of q)) x.2 (stand known g x.0 (ap (λ v. slice_get (guests v) g) begins.is ∙ x.1)));
+}
+  where
+    many : length begins.partitions ≡ length board
+    many = begins.begun.all_partitions ∙ length-map board (λ g. g.capacity)
+
 pub opened_host : {D : Type 0} (shows : D → DiskState) (makes : D → DiskCall → D → Type 0) (board : List GuestConfig) (disk : D) (b : BoardState D) (h : HostState D) (life : ℕ) → Begins shows life board b
     → ((shows disk).faithful ≡ true → Stands board (shows disk).seen b) → ((shows disk).faithful ≡ true → IsImage (capacities_of board) (shows disk).len (shows disk).seen)
     → Within shows makes (Untouched (shows disk)) disk b.store.disk → (shows b.store.disk).failures ≡ (shows disk).failures → IsFirstHost board b h
@@ -69,12 +82,7 @@ pub opened_host : {D : Type 0} (shows : D → DiskState) (makes : D → DiskCall
 unfolding capacities_of
 opened_host {D = D} shows makes board disk b h life begins stand whole_image untouched unfailed first links = record {
   partitions = begins.partitions;
-  of_image = record {
-    count = many;
-    image = whole_image;
-    held = λ known g p at. (let x = fresh_at board begins.partitions g p many at in
-        subst (λ q. recovered.Stands (region_at (capacities_of board) g) (shows disk).seen (part_of q)) x.2 (stand known g x.0 (ap (λ v. slice_get (guests v) g) begins.is ∙ x.1)));
-  };
+  of_image = image_of shows board disk b life begins stand whole_image;
   cores = cores;
   ready = record { cores = cores; ready = first.ready };
   answered = ap (λ r. r.answered) first.runner ∙ ap (λ v. (runner_of v).answered) begins.is ∙ (uncounted board begins.partitions).0;
@@ -85,9 +93,6 @@ opened_host {D = D} shows makes board disk b h life begins stand whole_image unt
   host = λ in_range. record { in_range = in_range; own = first.own; clear = first.clear };
 }
   where
-    many : length begins.partitions ≡ length board
-    many = begins.begun.all_partitions ∙ length-map board (λ g. g.capacity)
-
     cores : (runner_of h.board).cores ≡ first_cores board begins.partitions
     cores = ap (λ r. r.cores) first.runner ∙ ap (λ v. (runner_of v).cores) begins.is ∙ fresh_cores board begins.partitions
 

@@ -5,6 +5,7 @@ pub mod Reasons
 pub mod Running
 pub mod Listing
 pub mod Upgrading
+pub mod ServedImage
 pub mod Ending
 pub mod Moments
 pub mod Failing

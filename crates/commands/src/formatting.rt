@@ -3,7 +3,7 @@ ghost use Rattle.std.specs.Prelude.{◌≡◌, true, Err, IfErr, OnOk};
 ghost use Rattle.std.specs.Io.KnownBytes.{Appends};
 ghost use Rattle.disk.specs.Disk.{DiskState};
 ghost use Rattle.intent_slots.specs.Layout.{capacities_of, image_length};
-ghost use Rattle.recovery.specs.Format.{IsFormatted};
+ghost use Rattle.recovery.specs.Format.{ClearsFirst, IsFormatted};
 ghost use Rattle.commands.specs.Ending.{FormatEnds, KeepsUnless};
 ghost use Rattle.commands.specs.Listing.{formatted_line};
 
@@ -43,6 +43,7 @@ pub fn make_image<D: Disk, W: Write>(
         (formatted_line (image_length (capacities_of board.now)))) }
     ensures ends { IfErr result (FormatEnds (capacities_of board.now) (D.state disk.old) (D.state disk.new)) }
     ensures silent { IfErr result (λ fault. KeepsUnless fault (W.contents out.old) (W.contents out.new)) }
+    ensures order { ClearsFirst D.state D.makes (capacities_of board.now) disk.old disk.new }
 {
     match format(disk, board) {
         Ok(()) => write_length(Layout::of(board).length(), out),

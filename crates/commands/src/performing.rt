@@ -1,5 +1,5 @@
 //! What a command does, once its files are read.
-ghost use Rattle.std.specs.Prelude.{◌≡◌, ◌⊎◌, ℕ, true, List, IfSome, IsSome, Ok, OnOk, Some};
+ghost use Rattle.std.specs.Prelude.{◌≡◌, ◌⊎◌, ℕ, false, true, List, IfSome, IsSome, Ok, OnOk, Some};
 ghost use Rattle.std.specs.Io.KnownBytes.{Appends, Keeps};
 ghost use Rattle.disk.specs.Disk.{DiskState, Within};
 ghost use Rattle.intent_slots.specs.Layout.{capacities_of, image_length};
@@ -12,6 +12,7 @@ ghost use Rattle.commands.specs.Image.{Ran};
 ghost use Rattle.commands.specs.Listing.{Lists, formatted_line};
 ghost use Rattle.commands.specs.Moments.{AnyMoment, FaultMoments};
 ghost use Rattle.commands.specs.Serving.{IsUnservedAt, ServeEnds, ServeLeaves, ServePrints, ServesAll};
+ghost use Rattle.commands.specs.ServedImage.{ServesImage};
 ghost use Rattle.commands.specs.Upgrading.{PrintsUpgrade};
 ghost use Rattle.commands.specs.Transcript.{IsBadAt, Says, StoresNothing};
 
@@ -65,6 +66,10 @@ pub fn perform<R: AllocGlobal + Threads + Wait + Sync, D: Disk + Send + Drop, W:
     // Guests that were served to their end have printed a line for each of their chains, guest by guest.
     ensures served { IsServe command.entry → result.0 ≡ 0
         → ServesAll board.now script.now (W.contents out.old) (W.contents out.new) }
+    // Their threads alone called the disk once the image was opened, and at each moment every stop leaves each
+    // partition as it was, with whole intents after it, one after another; at the end nothing is under way.
+    ensures served_image { IsServe command.entry → result.0 ≡ 0
+        → IfSome result.1 (ServesImage D.state D.makes board.now disk false) }
     // Of a script with a bad line nothing is printed, and the disk isn't called.
     ensures bad { IsRun command.entry → (n : ℕ) → IsBadAt board.now script.now n
         → (result.0 ≡ 1) × Keeps (W.contents out.old) (W.contents out.new) × (result.1 ≡ Some disk) }

@@ -1,5 +1,5 @@
 //! What `serve` does: a script on the partitions of an image, its guests at once.
-ghost use Rattle.std.specs.Prelude.{◌≡◌, ◌≤◌, ℕ, All, Err, IfErr, IsErr, IsSome, OnOk, Some, false};
+ghost use Rattle.std.specs.Prelude.{◌≡◌, ◌≤◌, ℕ, All, Err, IfErr, IsErr, IsSome, OnOk, Some, false, true};
 ghost use Rattle.std.specs.Prelude.{length, map, vec_len};
 ghost use Rattle.std.specs.Io.KnownBytes.{Appends, Keeps};
 ghost use Rattle.rpmb_frame.specs.Config.{IsBoard};
@@ -10,6 +10,7 @@ ghost use Rattle.commands.specs.Ending.{IsOfTelling, IsOfWriting};
 ghost use Rattle.commands.specs.Serving.{IsUnservedAt, OpenedServeEnds, PrintsEach, ServeEnds};
 ghost use Rattle.commands.specs.Serving.{ServeLeaves, ServePrints, ServedPrint, ServesAll};
 ghost use Rattle.commands.specs.Serving.{answer_lines, guests_lines};
+ghost use Rattle.commands.specs.ServedImage.{ServeKeeps};
 
 use crate::answering::write_answer;
 use crate::fault::Fault;
@@ -70,11 +71,12 @@ fn tell<D: Disk + Drop, W: Write>(
     ensures printed { OnOk result.0 (Appends (W.contents out.old) (W.contents out.new)
         (guests_lines 0 (map (λ e. e.answers.items) ended.drivers.items))) }
     ensures whole { OnOk result.0 (ended.broken ≡ false) }
+    ensures cause { result.0 ≡ Err Fault.DiskFault → ended.broken ≡ true }
     ensures failed { result.0 ≡ Err Fault.DiskFault
         → Appends (W.contents out.old) (W.contents out.new)
         (guests_lines 0 (map (λ e. e.answers.items) ended.drivers.items)) }
     ensures ends { IfErr result.0 IsOfTelling }
-    ensures back { IsSome result.1 }
+    ensures back { result.1 ≡ Some ended.store.disk }
 {
     let Ended {
         book: _,
@@ -112,6 +114,7 @@ fn serve_on<D: Disk + Send + Drop, W: Write, R: Threads + Wait + Sync>(
         ServedPrint (length board.now) (map said lines.items) fault (W.contents out.old)
         (W.contents out.new)) }
     ensures leaves { IfErr result.0 (λ fault. ServeLeaves D.state D.makes disk fault result.1) }
+    ensures keeps { ServeKeeps D.state D.makes board.now disk result.0 result.1 }
 {
     let scripts = match part(alloc, lines, board.guests().len()) {
         Ok(scripts) => scripts,
@@ -145,6 +148,7 @@ pub fn serve<D: Disk + Send + Drop, W: Write, R: Threads + Wait + Sync>(
     ensures prints { IfErr result.0 (λ fault.
         ServePrints board.now script.now fault (W.contents out.old) (W.contents out.new)) }
     ensures leaves { IfErr result.0 (λ fault. ServeLeaves D.state D.makes disk fault result.1) }
+    ensures keeps { ServeKeeps D.state D.makes board.now disk result.0 result.1 }
     ensures bad { (n : ℕ) → IsUnservedAt board.now script.now n
         → IsErr result.0 × Keeps (W.contents out.old) (W.contents out.new) × (result.1 ≡ Some disk) }
 {

@@ -1,4 +1,5 @@
 pub mod Following
+pub mod Keeping
 pub mod Looks
 pub mod Orders
 pub mod Turns

@@ -1,6 +1,7 @@
 //! The threads of a scope: started, run to their end, and joined.
 ghost use Rattle.std.specs.Prelude.{◌≡◌, ◌<◌, ℕ, [], IfOk, vec_len, slice_index_or, length, map};
 ghost use Rattle.workers.specs.Following.{Follow};
+ghost use Rattle.workers.specs.Keeping.{IsHeard, KeepsOn};
 ghost use Rattle.workers.specs.Orders.{LeavesAll, Left, chain_orders};
 
 use crate::bell::Bell;
@@ -14,10 +15,11 @@ use crate::worker::Worker;
 use disk::Disk;
 use host::HostFault;
 use std::alloc::Global;
+use std::snapshot::Snapshot;
 use std::sync::ledger::Ledger;
 use std::sync::{Mutex, Wait};
 use std::thread;
-use std::thread::{JoinHandle, Promise, PromisedHandle, Scope, Threads};
+use std::thread::{Promise, PromisedHandle, Scope, Threads};
 
 /// What all threads share: a lock a guest, one for the book, and one for the bell. No thread holds two of
 /// them at once, nor one over a call of the disk.
@@ -56,6 +58,15 @@ impl Promise<DriverEnd> for OfChains {
     ghost kept_by = { λ p e. LeavesAll e.complete (vec_len e.answers) p.0 };
 }
 
+/// The end of this flusher.
+#[derive(Drop)]
+pub(crate) struct OfFlusher<D: Disk>(Snapshot<Flusher<D>>);
+
+impl<D: Disk> Promise<FlusherEnd<D>> for OfFlusher<D> {
+    ghost kept_by = { λ p e. KeepsOn D.state D.makes p.0.value.store e.store
+        × IsHeard p.0.value.store p.0.value.broken e.store e.broken };
+}
+
 /// What the threads have left.
 #[derive(Drop)]
 pub(crate) struct Crew<L: Ledger, D: Disk> {
@@ -69,7 +80,7 @@ pub(crate) struct Crew<L: Ledger, D: Disk> {
 struct Started<L: Ledger, D: Disk> {
     workers: Vec<PromisedHandle<Worker<L>, OfGuest>>,
     drivers: Vec<PromisedHandle<DriverEnd, OfChains>>,
-    flusher: JoinHandle<FlusherEnd<D>>,
+    flusher: PromisedHandle<FlusherEnd<D>, OfFlusher<D>>,
 }
 
 /// Starts a worker.
@@ -132,12 +143,16 @@ fn start_flusher<
     hall: &'s Hall<L>,
     gate: &'s G,
     flusher: Flusher<D>,
-) -> Result<JoinHandle<FlusherEnd<D>>, HostFault>
+) -> Result<PromisedHandle<FlusherEnd<D>, OfFlusher<D>>, HostFault>
     requires { Follow flusher.shares flusher.store.guests }
+    ensures { IfOk result (λ h. h.promise.0.value ≡ flusher) }
 {
-    let started = scope.spawn(
+    let started = scope.spawn_with(
+        OfFlusher(Snapshot::of(&flusher)),
         move || -> FlusherEnd<D>
             requires { Follow flusher.shares flusher.store.guests }
+            ensures keeps { KeepsOn D.state D.makes flusher.store result.store }
+            ensures heard { IsHeard flusher.store flusher.broken result.store result.broken }
         { flusher.run(rt, &hall.desk, &hall.bell, gate) },
     );
     match started {
@@ -229,6 +244,7 @@ fn start_all<
     ensures each { IfOk result (λ s. (i : ℕ) (d : _) → i < length scripts.now
         → chain_orders (slice_index_or scripts.now i [])
         ≡ (slice_index_or s.drivers.items i d).promise.0) }
+    ensures flusher { IfOk result (λ s. s.flusher.promise.0.value ≡ flusher) }
 {
     let workers = match start_workers(scope, rt, alloc, hall, gate, workers) {
         Ok(workers) => workers,
@@ -264,6 +280,8 @@ fn join_all<L: Ledger, D: Disk + Drop, R: Threads>(
         ≡ map (λ h. h.promise.0) started.workers.items) }
     ensures drivers { IfOk result (λ c. vec_len c.drivers ≡ length scripts.now) }
     ensures each { IfOk result (λ c. Left c.drivers.items scripts.now) }
+    ensures flusher { IfOk result (λ c. KeepsOn D.state D.makes started.flusher.promise.0.value.store c.flusher.store
+        × IsHeard started.flusher.promise.0.value.store started.flusher.promise.0.value.broken c.flusher.store c.flusher.broken) }
 {
     let Started {
         workers,
@@ -308,6 +326,8 @@ fn run_in<
         ≡ map (λ w. w.tally.guest) workers.items) }
     ensures drivers { IfOk result (λ c. vec_len c.drivers ≡ length scripts.now) }
     ensures each { IfOk result (λ c. Left c.drivers.items scripts.now) }
+    ensures flusher { IfOk result (λ c. KeepsOn D.state D.makes flusher.store c.flusher.store
+        × IsHeard flusher.store flusher.broken c.flusher.store c.flusher.broken) }
 {
     match start_all(scope, rt, alloc, hall, gate, workers, scripts, flusher) {
         Ok(started) => join_all(rt, started, scripts),
@@ -339,6 +359,8 @@ pub(crate) fn run_all<
         ≡ map (λ w. w.tally.guest) workers.items) }
     ensures drivers { IfOk result (λ c. vec_len c.drivers ≡ length scripts.now) }
     ensures each { IfOk result (λ c. Left c.drivers.items scripts.now) }
+    ensures flusher { IfOk result (λ c. KeepsOn D.state D.makes flusher.store c.flusher.store
+        × IsHeard flusher.store flusher.broken c.flusher.store c.flusher.broken) }
 {
     thread::scope(
         thread::scope_env(),
@@ -350,6 +372,8 @@ pub(crate) fn run_all<
                 ≡ map (λ w. w.tally.guest) workers.items) }
             ensures drivers { IfOk result (λ c. vec_len c.drivers ≡ length scripts.entry.now) }
             ensures each { IfOk result (λ c. Left c.drivers.items scripts.entry.now) }
+            ensures flusher { IfOk result (λ c. KeepsOn D.state D.makes flusher.store c.flusher.store
+        × IsHeard flusher.store flusher.broken c.flusher.store c.flusher.broken) }
         { run_in(scope, rt, alloc, hall, gate, workers, scripts, flusher) },
     )
 }

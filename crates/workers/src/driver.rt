@@ -1,5 +1,6 @@
 //! A guest's driver: it offers the chains of a script, and keeps an answer to each.
 ghost use Rattle.std.specs.Prelude.{◌≡◌, ◌+◌, ◌≤◌, ◌<◌, true, length, take, vec_len, IfOk, IsTrue, Some, slice_get};
+ghost use Rattle.std.specs.Prelude.{◌++◌, ◌∷◌, [], if◌then◌else◌, None, Ok, OnOk};
 ghost use Rattle.std.specs.Option.{option_copied};
 ghost use Rattle.workers.specs.Orders.{LeavesAll, chain_orders, chains_in};
 ghost use Rattle.workers.specs.Turns.{Drives, Offers, Reaps};
@@ -57,8 +58,9 @@ impl<'a> Driver<'a> {
 
     /// Whether the device came into service: if not, no chain has an answer until a reset.
     fn renew(&mut self, in_service: bool)
-        ensures { (self.new.script ≡ self.old.script) × (self.new.next ≡ self.old.next)
+        ensures stays { (self.new.script ≡ self.old.script) × (self.new.next ≡ self.old.next)
             × (self.new.answers ≡ self.old.answers) }
+        ensures stuck { self.new.stuck ≡ (if in_service then None else Some Stuck.NoAnswer) }
     {
         self.stuck = if in_service {
             None
@@ -68,8 +70,9 @@ impl<'a> Driver<'a> {
     }
 
     fn stick(&mut self, stuck: Stuck)
-        ensures { (self.new.script ≡ self.old.script) × (self.new.next ≡ self.old.next)
+        ensures stays { (self.new.script ≡ self.old.script) × (self.new.next ≡ self.old.next)
             × (self.new.answers ≡ self.old.answers) }
+        ensures stuck { self.new.stuck ≡ Some stuck }
     {
         self.stuck = Some(stuck);
     }
@@ -79,6 +82,7 @@ impl<'a> Driver<'a> {
         requires { 0 < self.old.outstanding }
         ensures script { (self.new.script ≡ self.old.script) × (self.new.next ≡ self.old.next) }
         ensures answers { IfOk result (λ moved. Reaps (vec_len self.old.answers) moved (vec_len self.new.answers)) }
+        ensures last { OnOk result (self.new.answers.items ≡ self.old.answers.items ++ answer ∷ []) }
     {
         if self.answers.reserve(1).is_err() {
             return Err(HostFault::NoMemory);
@@ -115,6 +119,8 @@ impl<'a> Driver<'a> {
     fn offer(&mut self, rt: &impl Wait, guest: &Mutex<Guest>) -> Result<bool, HostFault>
         ensures script { (self.new.script ≡ self.old.script) × (self.new.answers ≡ self.old.answers) }
         ensures next { IfOk result (λ moved. Offers self.old.next moved self.new.next) }
+        ensures waits { (order : Order) → slice_get self.old.script.now self.old.next ≡ Some order
+            → chains_in order ≡ 0 → result ≡ Ok true → self.old.outstanding ≡ 0 }
     {
         let Some(order) = self.order() else {
             return Ok(false);

@@ -1,6 +1,7 @@
 //! The flusher: it takes what the book accepted, gives it to the store, and tells the book what is settled.
 ghost use Rattle.std.specs.Prelude.{◌≡◌, None, Ok, OnOk, true};
 ghost use Rattle.workers.specs.Following.{Follow, IsAtRest};
+ghost use Rattle.workers.specs.Keeping.{IsHeard, KeepsOn};
 
 use crate::bell::Bell;
 use crate::desk::Desk;
@@ -20,7 +21,7 @@ pub(crate) struct Flusher<D: Disk> {
     store: Store<D>,
     shares: Shares,
     guests: u16,
-    /// Whether a call of the disk has failed, and the book was told.
+    /// Whether a call of the disk has failed. The book is told before the next look.
     broken: bool,
 }
 
@@ -31,6 +32,8 @@ pub(crate) struct FlusherEnd<D: Disk> {
     pub store: Store<D>,
     /// What was taken of each guest.
     pub shares: Shares,
+    /// Whether a call of the disk has failed.
+    pub broken: bool,
     /// Whether it ended with no call of the disk left.
     pub complete: bool,
     /// Why it ended before.
@@ -41,7 +44,7 @@ pub(crate) struct FlusherEnd<D: Disk> {
 
 impl<D: Disk> Flusher<D> {
     pub fn new(store: Store<D>, shares: Shares, guests: u16, broken: bool) -> Flusher<D>
-        ensures { (result.shares ≡ shares) × (result.store ≡ store) }
+        ensures { (result.shares ≡ shares) × (result.store ≡ store) × (result.broken ≡ broken) }
     {
         Flusher {
             store,
@@ -60,7 +63,9 @@ impl<D: Disk> Flusher<D> {
         guest: u16,
     ) -> Result<bool, HostFault>
         requires { Follow self.old.shares self.old.store.guests }
-        ensures { OnOk result (Follow self.new.shares self.new.store.guests) }
+        ensures follows { OnOk result (Follow self.new.shares self.new.store.guests) }
+        ensures keeps { KeepsOn D.state D.makes self.old.store self.new.store }
+        ensures heard { IsHeard self.old.store self.old.broken self.new.store self.new.broken }
     {
         if !self.store.is_free(guest) {
             return Ok(false);
@@ -85,7 +90,9 @@ impl<D: Disk> Flusher<D> {
         desk: &Mutex<Desk<L>>,
     ) -> Result<bool, HostFault>
         requires { Follow self.old.shares self.old.store.guests }
-        ensures { OnOk result (Follow self.new.shares self.new.store.guests) }
+        ensures follows { OnOk result (Follow self.new.shares self.new.store.guests) }
+        ensures keeps { KeepsOn D.state D.makes self.old.store self.new.store }
+        ensures heard { IsHeard self.old.store self.old.broken self.new.store self.new.broken }
     {
         let mut moved = false;
         for guest in 0..self.guests {
@@ -99,10 +106,14 @@ impl<D: Disk> Flusher<D> {
     /// Makes the next call of the disk, with no lock held.
     fn call<G: Gate>(&mut self, gate: &G) -> Result<Progress, StoreFault>
         requires { Follow self.old.shares self.old.store.guests }
-        ensures { Follow self.new.shares self.new.store.guests }
+        ensures follows { Follow self.new.shares self.new.store.guests }
+        ensures keeps { KeepsOn D.state D.makes self.old.store self.new.store }
+        ensures heard { IsHeard self.old.store self.old.broken self.new.store self.new.broken }
     {
         gate.at(Who::Flusher, Place::BeforeCall);
-        self.store.advance()
+        let made = self.store.advance();
+        self.broken = made.is_err();
+        made
     }
 
     /// Makes the next call of the disk, and tells the book what came of it. It rings where replies may
@@ -115,7 +126,9 @@ impl<D: Disk> Flusher<D> {
         gate: &G,
     ) -> Result<(), HostFault>
         requires { Follow self.old.shares self.old.store.guests }
-        ensures { Follow self.new.shares self.new.store.guests }
+        ensures follows { Follow self.new.shares self.new.store.guests }
+        ensures keeps { KeepsOn D.state D.makes self.old.store self.new.store }
+        ensures heard { IsHeard self.old.store self.old.broken self.new.store self.new.broken }
     {
         match self.call(gate) {
             Ok(Progress::Synced(marks)) => {
@@ -129,7 +142,6 @@ impl<D: Disk> Flusher<D> {
             Ok(Progress::Idle) => {}
             Err(_) => {
                 desk.lock(rt).break_off();
-                self.broken = true;
                 bell.ring(rt);
             }
         }
@@ -148,6 +160,8 @@ impl<D: Disk> Flusher<D> {
         requires { Follow self.old.shares self.old.store.guests }
         ensures follows { OnOk result (Follow self.new.shares self.new.store.guests) }
         ensures rests { result ≡ Ok Next.End → IsAtRest self.new.store.broken self.new.store.guests }
+        ensures keeps { KeepsOn D.state D.makes self.old.store self.new.store }
+        ensures heard { IsHeard self.old.store self.old.broken self.new.store self.new.broken }
     {
         let taken = if self.broken {
             false
@@ -177,6 +191,8 @@ impl<D: Disk> Flusher<D> {
         gate: &G,
     ) -> FlusherEnd<D>
         requires { Follow self.shares self.store.guests }
+        ensures keeps { KeepsOn D.state D.makes self.store result.store }
+        ensures heard { IsHeard self.store self.broken result.store result.broken }
     {
         for _ in rt.forever() {
             let look = bell.look(rt);
@@ -199,16 +215,18 @@ impl<D: Disk> Flusher<D> {
     fn into_end(self, complete: bool, fault: Option<HostFault>) -> FlusherEnd<D>
         requires follows { fault ≡ None → Follow self.shares self.store.guests }
         requires rests { complete ≡ true → IsAtRest self.store.broken self.store.guests }
+        ensures { (result.store ≡ self.store) × (result.broken ≡ self.broken) }
     {
         let Flusher {
             store,
             shares,
             guests: _,
-            broken: _,
+            broken,
         } = self;
         FlusherEnd {
             store,
             shares,
+            broken,
             complete,
             fault,
         }

@@ -1,13 +1,27 @@
-use Rattle.std.proofs.Common.{List, ℕ, Option, Some, ap, subst, sym, ◌∙◌}
+use Rattle.std.proofs.Common.{List, ℕ, Option, Some, false, ap, subst, sym, ◌∙◌}
 use Rattle.std.specs.Prelude.{IfSome}
 use Rattle.command_line.specs.declared.command.Command.{Command}
 use Rattle.intent_slots.specs.Layout.{capacities_of}
 use Rattle.recovery.specs.Upgrade.{StandsThroughout}
-use Rattle.commands.specs.Ending.{Ends, Fails, IsReadAlone, IsShow, IsUpgrade, Prints}
+use Rattle.commands.specs.Ending.{Ends, Fails, IsReadAlone, IsServe, IsShow, IsUpgrade, Prints}
 use Rattle.commands.specs.Moments.{AnyMoment, FaultMoments}
-use Rattle.commands.proofs.Ended.{if_any, known_of}
+use Rattle.commands.specs.ServedImage.{ServesImage}
+use Rattle.commands.proofs.Ended.{known_of}
+use Rattle.commands.proofs.ServedImage.{if_some_weaker, keeps_done, keeps_failed}
 use Rattle.commands.proofs.performing.perform.Goals.{in-Format, in-Run, in-Serve, in-Show, in-Upgrade}
 use Rattle.commands.proofs.performing.perform.Goals as goal
+
+pub returns-in-Ok-clause-served_image : goal.returns-in-Ok-clause-served_image
+returns-in-Ok-clause-served_image g c served zero =
+    elim c.match-command.branch [
+      | in-Format w ↦ absurd (subst IsServe w.in-Format.is served)
+      | in-Show w ↦ absurd (subst IsServe w.in-Show.is served)
+      | in-Upgrade w ↦ absurd (subst IsServe w.in-Upgrade.is served)
+      | in-Run w ↦ absurd (subst IsServe w.in-Run.is served)
+      | in-Serve w ↦
+          subst (λ d. IfSome d.1 (ServesImage g.D.Disk.state g.D.Disk.makes c.args.board.now c.args.disk false)) (sym w.done-is)
+          (keeps_done g.D.Disk.state g.D.Disk.makes c.args.board.now c.args.disk w.serve.result.0 w.serve.result.1 _ w.serve.ensures.keeps (sym (ap (λ d. d.0) w.done-is) ∙ c.in-Ok.is))
+    ]
 
 pub returns-in-Ok-clause-read : goal.returns-in-Ok-clause-read
 returns-in-Ok-clause-read g c shown =
@@ -46,7 +60,7 @@ returns-in-Err-clause-fault g c one =
           subst (λ d. whole c.args.command d.1 (g.W.Write.contents c.match-command.out)) (sym w.done-is)
           (subst (λ o. whole c.args.command (Some w.make_image.new.disk) (g.W.Write.contents o)) (sym w.out-is)
           (subst (λ k. whole k (Some w.make_image.new.disk) (g.W.Write.contents w.make_image.new.out)) (sym w.in-Format.is)
-          (record { fault = f; told = told; caused = (known_of _ w.make_image.result w.make_image.ensures.ends f is, known_of _ w.make_image.result w.make_image.ensures.silent f is, tt) })))
+          (record { fault = f; told = told; caused = (known_of _ w.make_image.result w.make_image.ensures.ends f is, known_of _ w.make_image.result w.make_image.ensures.silent f is, w.make_image.ensures.order) })))
       | in-Show w ↦
           let is = sym (ap (λ d. d.0) w.done-is) ∙ c.in-Err.is in
           subst (λ d. whole c.args.command d.1 (g.W.Write.contents c.match-command.out)) (sym w.done-is)
@@ -77,7 +91,8 @@ returns-in-Err-clause-fault g c one =
           subst (λ d. whole c.args.command d.1 (g.W.Write.contents c.match-command.out)) (sym w.done-is)
           (subst (λ o. whole c.args.command w.serve.result.1 (g.W.Write.contents o)) (sym w.out-is)
           (subst (λ k. whole k w.serve.result.1 (g.W.Write.contents w.serve.new.out)) (sym w.in-Serve.is)
-          (if_any w.serve.result.1 _ (λ d. record { fault = f; told = told; caused = (known_of _ w.serve.result.0 w.serve.ensures.ends f is, known_of _ w.serve.result.0 w.serve.ensures.prints f is, tt) }))))
+          (if_some_weaker w.serve.result.1 (λ d moments. record { fault = f; told = told; caused = (known_of _ w.serve.result.0 w.serve.ensures.ends f is, known_of _ w.serve.result.0 w.serve.ensures.prints f is, moments) })
+          (keeps_failed shows g.D.Disk.makes board c.args.disk w.serve.result.0 w.serve.result.1 f w.serve.ensures.keeps is))))
     ]
 
 pub returns-in-Ok-clause-stands : goal.returns-in-Ok-clause-stands

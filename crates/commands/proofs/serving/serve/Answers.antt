@@ -4,6 +4,7 @@ use Rattle.script.specs.Line.{served_line_of}
 use Rattle.script.specs.Script.{lines_of}
 use Rattle.commands.specs.Serving.{PrintsEach}
 use Rattle.commands.proofs.EachTold.{serve_ends, serve_prints, unread_prints}
+use Rattle.commands.proofs.ServedImage.{uncalled_keeps}
 use Rattle.commands.proofs.Printing.{none_bad, not_bad, says_same}
 use Rattle.commands.proofs.serving.serve.Goals as goal
 
@@ -28,3 +29,6 @@ returns-in-Ok-clause-bad g c n bad =
 
 pub returns-in-Err-clause-prints : goal.returns-in-Err-clause-prints
 returns-in-Err-clause-prints g c = unread_prints c.args.board.now c.args.script.now c.in-Err.fault (g.W.Write.contents c.args.out.now) c.in-Err.ensures.reads
+
+pub returns-in-Err-clause-keeps : goal.returns-in-Err-clause-keeps
+returns-in-Err-clause-keeps g c = uncalled_keeps g.D.Disk.state g.D.Disk.makes c.args.board.now c.args.disk c.in-Err.fault

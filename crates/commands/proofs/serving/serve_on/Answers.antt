@@ -1,11 +1,13 @@
-use Rattle.std.proofs.Common.{◌≡◌, ap, length, map, subst, sym, arith}
+use Rattle.std.proofs.Common.{◌≡◌, ap, length, map, refl, subst, sym, arith}
 use Rattle.std.proofs.lemmas.Result.{on_ok_weaker}
 use Rattle.intent_slots.specs.Layout.{capacities_of}
 use Rattle.script.specs.Line.{said}
+use Rattle.workers.specs.Keeping.{Keeps}
 use Rattle.workers.specs.Orders.{HaveAll}
 use Rattle.commands.specs.Serving.{OpenedServeEnds}
 use Rattle.commands.proofs.EachTold.{of_opening, prints_each, served_print}
-use Rattle.commands.proofs.Opened.{opening_ends}
+use Rattle.commands.proofs.Opened.{image_of, opening_ends}
+use Rattle.commands.proofs.ServedImage.{serves_image, told_keeps, told_of, uncalled_keeps, unserved_keeps}
 use Rattle.commands.proofs.serving.serve_on.Goals as goal
 
 pub returns-in-Err-open-clause-ends : goal.returns-in-Err-open-clause-ends
@@ -37,3 +39,25 @@ returns-in-Ok-serve-clause-prints g c =
     served_print (length c.args.board.now) (map said c.args.lines.items) (g.W.Write.contents c.args.out.now) (g.W.Write.contents c.tell.new.out) c.tell.result.0 c.tell.ensures.ends
     (λ failed. prints_each drivers.items scripts.items (map said c.args.lines.items) (length c.args.board.now) (g.W.Write.contents c.args.out.now) (g.W.Write.contents c.tell.new.out)
     (omega (arith, c.in-Ok-serve.ensures.drivers, drivers.ok, parted, as_many)) as_many (subst (HaveAll drivers.items) c.as_slice.ensures.value c.in-Ok-serve.ensures.answers) (λ k below. c.in-Ok.ensures.each k (omega (arith, guests, below))) (c.tell.ensures.failed failed))
+
+pub returns-in-Err-clause-keeps : goal.returns-in-Err-clause-keeps
+returns-in-Err-clause-keeps g c = uncalled_keeps g.D.Disk.state g.D.Disk.makes c.args.board.now c.args.disk c.in-Err.fault
+
+pub returns-in-Err-open-clause-keeps : goal.returns-in-Err-open-clause-keeps
+returns-in-Err-open-clause-keeps g c =
+    unserved_keeps g.D.Disk.state g.D.Disk.makes c.args.board.now c.args.disk c.of_image.result c.in-Err-open.disk c.in-Err-open.ensures.any_moment
+
+pub returns-in-Ok-serve-clause-keeps : goal.returns-in-Ok-serve-clause-keeps
+returns-in-Ok-serve-clause-keeps g c =
+    let shows = g.D.Disk.state in
+    let makes = g.D.Disk.makes in
+    let e = c.in-Ok-open.ensures in
+    let parts = c.parts_of-parts in
+    let ended = c.in-Ok-serve.ended in
+    let left = c.in-Ok-serve.ensures in
+    let b = c.in-Ok-open.opened in
+    let kept = subst (λ s. Keeps shows makes s ended.store) parts.ensures.store left.keeps in
+    let heard = left.heard (told_of shows c.args.board.now b parts.result.book parts.result.store 1 e.begins parts.ensures.book parts.ensures.store) in
+    told_keeps shows makes c.args.board.now c.args.disk c.tell.result.0 c.tell.result.1 ended.store.disk ended.broken c.tell.ensures.back c.tell.ensures.whole c.tell.ensures.cause
+    (serves_image shows makes c.args.board.now c.args.disk b 1 e.begins e.any_moment (e.unfailed refl) ended.store kept
+    (image_of shows c.args.board.now c.args.disk b 1 e.begins e.stand e.answers) ended.rests ended.broken heard)

@@ -1,0 +1,340 @@
+-- The flusher's calls keep the partitions, and what it gives to the store comes after them.
+use Rattle.std.proofs.Common.{◌≡◌, ◌⊎◌, inl, inr, ◌∙◌, ℕ, zero, suc, ◌+◌, ◌≤◌, ◌<◌, ◌^◌, Bool, true, false, List, [], ◌∷◌, ◌++◌, Option, Some, None, Result, Ok, Err, length, take, drop, refl, ap, sym, subst, arith, append_assoc, append-nil, length-append}
+use Rattle.std.specs.Prelude.{IfOk, if◌then◌else◌, ◌==◌, slice_get}
+use Rattle.std.proofs.lemmas.Bool.{cases_eq}
+use Rattle.std.proofs.lemmas.Bool.Decides.{nat_tests}
+use Rattle.std.proofs.lemmas.List.{drop-append-le, take-append-le}
+use Rattle.std.proofs.lemmas.Option.{slice_get_cases, slice_get_within}
+use Rattle.disk.specs.Content.{Content}
+use Rattle.disk.specs.Disk.{DiskCall, DiskState, Effect, HasRisen, MayLeave, Still, Within}
+use Rattle.disk.proofs.Ways.{within_end, within_more, within_weaker}
+use Rattle.intent_slots.specs.Payload.{Group, Intent, last_of}
+use Rattle.intent_slots.specs.Recovered.{Part, Stands, after}
+use Rattle.flusher.specs.declared.guest.Guest.{Guest}
+use Rattle.flusher.specs.declared.progress.Progress.{Progress}
+use Rattle.flusher.specs.declared.progress.StoreFault.{StoreFault}
+use Rattle.flusher.specs.Laws.{IsUnderWay, Settles}
+use Rattle.flusher.specs.Pair.{entries_in, given_at, guest_after_sync, guest_after_write, has_room, listed, mark_after, mark_of, opening_of, pending_intents, region_of, with_intent}
+use Rattle.flusher.specs.Round.{FrontStays, MovedBy, Moves, Round, parts_after, planned, settles, under_way}
+use Rattle.flusher.specs.SlotInvariant.{BeforeOrAfter, Besides, EachStop, Follows, IsHeld, IsKept, IsMarked, guest_settled, sequence_of_part, settled_by, settled_with}
+use Rattle.flusher.specs.Store.{Gives, MayGive, StoreState, is_free, is_free_of}
+use Rattle.flusher.proofs.Kept.{stops}
+use Rattle.flusher.proofs.Lookups.{given_mark, given_region}
+use Rattle.flusher.proofs.Pending.{pending_grows, pending_settles, pending_stays, write_keeps}
+use Rattle.flusher.proofs.Table.{region_moved, region_synced}
+use Rattle.flusher.proofs.UnderWay.{as_many_under_way, under_way_by_guest}
+use Rattle.host.proofs.Moving.{ended, failed_round, shown_round}
+use Rattle.workers.specs.Keeping.{IsAfterSome, IsAhead, Keeps, LeavesWhole, Reaches, after_all, to_keep}
+
+pub if_ok_weaker : {X E : Type 0} {P Q : X → Type 0} (r : Result X E) → ((x : X) → P x → Q x) → IfOk r P → IfOk r Q
+if_ok_weaker (Ok x) f is = f x is
+if_ok_weaker (Err e) f is = tt
+
+-- 1. Intents one after another
+
+-- the next of them is done
+next_done : (p : Part) (n : ℕ) (xs rest : List Intent) (i : Intent) → drop n xs ≡ i ∷ rest
+    → (suc n ≤ length xs) × (after_all p (take (suc n) xs) ≡ after (after_all p (take n xs)) i.group) × (drop (suc n) xs ≡ rest)
+next_done p zero [] rest i is = absurd (cc)
+next_done p zero (x ∷ xs) rest i is = (let same : x ≡ i = cc in let others : xs ≡ rest = cc in (omega arith, ap (λ (v : Intent). after p v.group) same, others))
+next_done p (suc n) [] rest i is = absurd (cc)
+next_done p (suc n) (x ∷ xs) rest i is = (let one = next_done (after p x.group) n xs rest i is in let within = one.0 in (omega (arith, within), one.1, one.2))
+
+-- 2. One guest
+
+pub ahead_begins : (p : Part) (x : Guest) → IsAhead p x [] p x
+ahead_begins p x = record {
+  count = 0;
+  within = omega arith;
+  is = refl;
+  left = sym (append-nil (pending_intents x));
+  region = refl;
+  marks = omega arith;
+}
+
+ahead_wrote : (p : Part) (x : Guest) (given : List Intent) (s : Part) (y : Guest) → IsAhead p x given s y → IsAhead p x given s (guest_after_write y)
+ahead_wrote p x given s y a =
+    let stays = pending_stays y in
+    let marks = a.marks in
+    let mark = stays.1 in
+    record {
+      count = a.count;
+      within = a.within;
+      is = a.is;
+      left = stays.0 ∙ a.left;
+      region = region_moved y ∙ a.region;
+      marks = omega (arith, marks, mark);
+    }
+
+ahead_moved : (p : Part) (x : Guest) (given : List Intent) (s : Part) (was y : Guest) → (y ≡ was) ⊎ (y ≡ guest_after_write was) → IsAhead p x given s was → IsAhead p x given s y
+ahead_moved p x given s was y (inl same) a = subst (IsAhead p x given s) (sym same) a
+ahead_moved p x given s was y (inr wrote) a = subst (IsAhead p x given s) (sym wrote) (ahead_wrote p x given s was a)
+
+-- the first intent in its slots comes next after the mark
+first_follows : (m : ℕ) (a b : Option Intent) (i : Intent) (rest : List Intent) → Follows m a → Follows (m + length (entries_in a)) b → listed a ++ listed b ≡ i ∷ rest → i.group.first ≡ m
+first_follows m None None i rest f s is = absurd (cc)
+first_follows m None (Some j) i rest f s is = (let same : j ≡ i = cc in let first = ap (λ (v : Intent). v.group.first) same in omega (arith, first, s))
+first_follows m (Some j) b i rest f s is = (let same : j ≡ i = cc in let first = ap (λ (v : Intent). v.group.first) same in omega (arith, first, f))
+
+ahead_synced : (p : Part) (x : Guest) (given : List Intent) (s : Part) (y : Guest) → IsAhead p x given s y → IsMarked s y → IsAhead p x given (guest_settled y s) (guest_after_sync y)
+ahead_synced p x given s y a m = (let settles = pending_settles y m.ordered.besides in by (opening_of y) settles.0 settles.1)
+  where
+    by : (o : Option Group) → Settles o (pending_intents y) (pending_intents (guest_after_sync y)) → mark_of (guest_after_sync y) ≡ mark_after o (mark_of y) → IsAhead p x given (settled_with o s) (guest_after_sync y)
+    by None same mark = (let marks = a.marks in record {
+      count = a.count;
+      within = a.within;
+      is = a.is;
+      left = same ∙ a.left;
+      region = region_synced y ∙ a.region;
+      marks = omega (arith, marks, mark);
+    })
+    by (Some g) settled mark =
+        let one = next_done p a.count (to_keep x given) (pending_intents (guest_after_sync y)) settled.0 (sym a.left ∙ settled.1) in
+        let first = first_follows y.mark _ _ settled.0 (pending_intents (guest_after_sync y)) m.follows m.next_follows settled.1 in
+        let group = ap (λ (v : Group). v.first) settled.2 in
+        let marks = a.marks in
+        record {
+          count = suc a.count;
+          within = one.0;
+          is = ap (λ (v : Part). after v g) a.is ∙ ap (after (after_all p (take a.count (to_keep x given)))) (sym settled.2) ∙ sym one.1;
+          left = sym one.2;
+          region = region_synced y ∙ a.region;
+          marks = omega (arith, marks, mark, first, group);
+        }
+
+ahead_given : (p : Part) (x : Guest) (given : List Intent) (s : Part) (y : Guest) (i : Intent) → has_room y ≡ true → Besides y.slot y.behind → IsAhead p x given s y → IsAhead p x (given ++ i ∷ []) s (with_intent y i)
+ahead_given p x given s y i room besides a =
+    let grows = pending_grows y i room besides in
+    let all = append_assoc (pending_intents x) given (i ∷ []) in
+    let within = a.within in
+    let long = length-append (to_keep x given) (i ∷ []) in
+    let same = ap length all in
+    let marks = a.marks in
+    let mark = grows.1 in
+    record {
+      count = a.count;
+      within = omega (arith, within, long, same);
+      is = a.is ∙ ap (after_all p) (sym (take-append-le a.count (to_keep x given) (i ∷ []) within)) ∙ ap (λ l. after_all p (take a.count l)) all;
+      left = grows.0 ∙ ap (λ l. l ++ i ∷ []) a.left ∙ sym (drop-append-le a.count (to_keep x given) (i ∷ []) within) ∙ ap (drop a.count) all;
+      region = given_region y i y.slot ∙ a.region;
+      marks = omega (arith, marks, mark);
+    }
+
+-- what a stop leaves of it
+after_some : (p : Part) (x : Guest) (given : List Intent) (s : Part) (y : Guest) (q : Part) → IsAhead p x given s y → Besides y.slot y.behind → BeforeOrAfter s (opening_of y) q → mark_of y ≤ sequence_of_part q
+    → IsAfterSome p (to_keep x given) (mark_of x) q
+after_some p x given s y q a besides may marked = by (opening_of y) (pending_settles y besides).0 may
+  where
+    some : (n : ℕ) → n ≤ length (to_keep x given) → q ≡ after_all p (take n (to_keep x given)) → IsAfterSome p (to_keep x given) (mark_of x) q
+    some n within is = (let marks = a.marks in record { count = n; within = within; is = is; enough = omega (arith, marks, marked) })
+
+    by : (o : Option Group) → Settles o (pending_intents y) (pending_intents (guest_after_sync y)) → BeforeOrAfter s o q → IsAfterSome p (to_keep x given) (mark_of x) q
+    by None settled same = some a.count a.within (same ∙ a.is)
+    by (Some g) settled (inl same) = some a.count a.within (same ∙ a.is)
+    by (Some g) settled (inr done) =
+        let one = next_done p a.count (to_keep x given) (pending_intents (guest_after_sync y)) settled.0 (sym a.left ∙ settled.1) in
+        some (suc a.count) one.0 (done ∙ ap (λ (v : Part). after v g) a.is ∙ ap (after (after_all p (take a.count (to_keep x given)))) (sym settled.2) ∙ sym one.1)
+
+-- 3. All guests at a moment
+
+there : {X : Type 0} (xs : List X) (n : ℕ) → n < length xs → (y : X) × (slice_get xs n ≡ Some y)
+there xs n inside = elim (slice_get_cases xs n).1 [
+  | inl found ↦ (found.0, found.2)
+  | inr past ↦ (let beyond = past.0 in absurd (omega (arith, beyond, inside)))
+]
+
+module _ (old : List Guest) (parts settled : ℕ → Part) (given : ℕ → List Intent) (mid : List Guest) (fits : (g : ℕ) (y : Guest) → slice_get mid g ≡ Some y → Besides y.slot y.behind) (many : length mid ≡ length old) (ahead : (g : ℕ) (x y : Guest) → slice_get old g ≡ Some x → slice_get mid g ≡ Some y → IsAhead (parts g) x (given g) (settled g) y) where
+  leaves_whole : (held : List Guest) (moment : DiskState) → ((g : ℕ) (y : Guest) → slice_get held g ≡ Some y → IsUnderWay mid g y) → length held ≡ length mid → EachStop settled held moment → LeavesWhole old parts given moment
+  leaves_whole held moment way as_many each g x at c left =
+      let below = slice_get_within old g x at in
+      let y = there held g (omega (arith, below, as_many, many)) in
+      let w = way g y.0 y.1 in
+      let a = ahead_moved (parts g) x (given g) (settled g) w.was y.0 w.moved (ahead g x w.was at w.at) in
+      let k = each g y.0 y.1 c left in
+      (k.part, subst (λ r. Stands r c k.part) a.region k.stands, after_some (parts g) x (given g) (settled g) y.0 k.part a (besides w.was y.0 (fits g w.was w.at) w.moved) k.may k.marked)
+    where
+      besides : (was y : Guest) → Besides was.slot was.behind → (y ≡ was) ⊎ (y ≡ guest_after_write was) → Besides y.slot y.behind
+      besides was y b (inl same) = subst (λ (v : Guest). Besides v.slot v.behind) (sym same) b
+      besides was y b (inr wrote) = subst (λ (v : Guest). Besides v.slot v.behind) (sym wrote) (write_keeps (λ o. Unit {0}) was (tt, tt, b)).2
+
+  whole_now : (moment : DiskState) → EachStop settled mid moment → LeavesWhole old parts given moment
+  whole_now moment each = leaves_whole mid moment (λ g y at. record { was = y; at = at; moved = inl refl }) refl each
+
+  whole_meanwhile : (moment : DiskState) → EachStop settled (under_way mid) moment → LeavesWhole old parts given moment
+  whole_meanwhile moment each = leaves_whole (under_way mid) moment (λ g y at. under_way_by_guest mid g y at) (as_many_under_way mid) each
+
+-- with more given than it had
+some_longer : (p : Part) (x : Guest) (before rest now : List Intent) (least : ℕ) (q : Part) → now ≡ before ++ rest → IsAfterSome p (to_keep x before) least q → IsAfterSome p (to_keep x now) least q
+some_longer p x before rest now least q is s =
+    let all : to_keep x now ≡ to_keep x before ++ rest = ap (λ l. pending_intents x ++ l) is ∙ sym (append_assoc (pending_intents x) before rest) in
+    let within = s.within in
+    let long = ap length all in
+    let sum = length-append (to_keep x before) rest in
+    record {
+      count = s.count;
+      within = omega (arith, within, long, sum);
+      is = s.is ∙ ap (after_all p) (sym (take-append-le s.count (to_keep x before) rest within)) ∙ ap (λ l. after_all p (take s.count l)) (sym all);
+      enough = s.enough;
+    }
+
+whole_longer : (old : List Guest) (parts : ℕ → Part) (before now : ℕ → List Intent) → ((g : ℕ) → (rest : List Intent) × (now g ≡ before g ++ rest)) → (s : DiskState) → LeavesWhole old parts before s → LeavesWhole old parts now s
+whole_longer old parts before now more s all g x at c left =
+    let w = all g x at c left in
+    let r = more g in
+    (w.0, w.1, some_longer (parts g) x (before g) r.0 (now g) (mark_of x) w.0 r.1 w.2)
+
+-- 4. The store
+
+-- what is given to one guest
+abbrev given_too : Intent → (ℕ → List Intent) → ℕ → List Intent
+given_too i given g = if g == i.guest then given g ++ i ∷ [] else given g
+
+given_more : (i : Intent) (given : ℕ → List Intent) (g : ℕ) → (rest : List Intent) × (given_too i given g ≡ given g ++ rest)
+given_more i given g = by (g == i.guest)
+  where
+    by : (b : Bool) → (rest : List Intent) × ((if b then given g ++ i ∷ [] else given g) ≡ given g ++ rest)
+    by true = (i ∷ [], refl)
+    by false = ([], sym (append-nil (given g)))
+
+front_on : (a b c : DiskState) → FrontStays a b → FrontStays b c → FrontStays a c
+front_on a b c first second k below = (let one = first k below in let two = second k below in (two.0 ∙ one.0, λ old. two.1 (one.1 old)))
+
+room_of : (guests : List Guest) (g : ℕ) (x : Guest) → slice_get guests g ≡ Some x → is_free guests g ≡ true → has_room x ≡ true
+unfolding is_free
+room_of guests g x at free = ap is_free_of (sym at) ∙ free
+
+module _ {D : Type 0} (shows : D → DiskState) (makes : D → DiskCall → D → Type 0) where
+  besides_of : (parts : ℕ → Part) (guests : List Guest) (broken : Bool) (s : DiskState) → IsHeld parts guests broken s → (g : ℕ) (y : Guest) → slice_get guests g ≡ Some y → Besides y.slot y.behind
+  besides_of parts guests broken s held g y at = (held.rows g y at s.seen (λ k known. refl)).1.ordered.besides
+
+  pub keeps_begins : (s : StoreState D) → Keeps shows makes s s
+  keeps_begins s = record {
+    many = refl;
+    len = refl;
+    faithful = refl;
+    later = omega arith;
+    cause = λ broken. inl broken;
+    front = λ known. Still s.disk (λ k below. (refl, λ old. old));
+    reaches = λ parts held. record {
+      given = λ g. [];
+      settled = parts;
+      held = held;
+      ahead = λ g x y at also. (let same : x ≡ y = cc in subst (IsAhead (parts g) x [] (parts g)) same (ahead_begins (parts g) x));
+      moments = Still s.disk (whole_now s.guests parts parts (λ g. []) s.guests (besides_of parts s.guests s.broken (shows s.disk) held) refl
+          (λ g x y at also. (let same : x ≡ y = cc in subst (IsAhead (parts g) x [] (parts g)) same (ahead_begins (parts g) x)))
+          (shows s.disk) (stops parts s.guests (shows s.disk) (shows s.disk) s.broken held));
+    };
+  }
+
+  -- an intent is given
+  pub keeps_given : (old mid new : StoreState D) (i : Intent) → Keeps shows makes old mid → new.disk ≡ mid.disk → new.broken ≡ mid.broken → MayGive mid.guests i → Gives i mid.guests new.guests
+      → ((parts : ℕ → Part) → IsHeld parts mid.guests mid.broken (shows mid.disk) → IsHeld parts new.guests new.broken (shows new.disk)) → Keeps shows makes old new
+  keeps_given old mid new i k disk broken may gives keeps = record {
+    many = gives.count ∙ k.many;
+    len = ap (λ d. (shows d).len) disk ∙ k.len;
+    faithful = ap (λ d. (shows d).faithful) disk ∙ k.faithful;
+    later = (let before = k.later in let same = ap (λ d. (shows d).failures) disk in omega (arith, before, same));
+    cause = λ is. subst (λ d. (old.broken ≡ true) ⊎ HasRisen (shows old.disk).failures (shows d).failures) (sym disk) (k.cause (sym broken ∙ is));
+    front = λ known. subst (λ d. Within shows makes (FrontStays (shows old.disk)) old.disk d) (sym disk) (k.front known);
+    reaches = λ parts held. (let r = k.reaches parts held in record {
+      given = given_too i r.given;
+      settled = r.settled;
+      held = keeps r.settled r.held;
+      ahead = λ g x y at there. each parts r g x y at there (cases_eq g i.guest);
+      moments = subst (λ d. Within shows makes (LeavesWhole old.guests parts (given_too i r.given)) old.disk d) (sym disk)
+          (within_weaker shows makes (LeavesWhole old.guests parts r.given) (LeavesWhole old.guests parts (given_too i r.given)) old.disk mid.disk
+          (whole_longer old.guests parts r.given (given_too i r.given) (given_more i r.given)) r.moments);
+    });
+  }
+    where
+      chosen : (given : ℕ → List Intent) (g : ℕ) → g ≡ i.guest → given g ++ i ∷ [] ≡ given_too i given g
+      chosen given g same = rw (tells g i.guest same) refl
+        where
+          tells : (a b : ℕ) → a ≡ b → (a == b) ≡ true
+          tells a b e = grind (arith, nat_tests)
+
+      unchosen : (given : ℕ → List Intent) (g : ℕ) → (g ≡ i.guest → ⊥) → given g ≡ given_too i given g
+      unchosen given g other = rw (tells g i.guest other) refl
+        where
+          tells : (a b : ℕ) → (a ≡ b → ⊥) → (a == b) ≡ false
+          tells a b e = grind (arith, nat_tests)
+
+      room : (x : Guest) → slice_get mid.guests i.guest ≡ Some x → has_room x ≡ true
+      room x at = room_of mid.guests i.guest x at may.free
+
+      each : (parts : ℕ → Part) (r : Reaches shows makes parts old mid) (g : ℕ) (x y : Guest) → slice_get old.guests g ≡ Some x → slice_get new.guests g ≡ Some y → (g ≡ i.guest) ⊎ (g ≡ i.guest → ⊥)
+          → IsAhead (parts g) x (given_too i r.given g) (r.settled g) y
+      each parts r g x y at now (inl own) =
+          let below = slice_get_within old.guests g x at in
+          let many = k.many in
+          let z = there mid.guests g (omega (arith, below, many)) in
+          let here : slice_get mid.guests i.guest ≡ Some z.0 = ap (slice_get mid.guests) (sym own) ∙ z.1 in
+          let is : with_intent z.0 i ≡ y = (let put = gives.its_own z.0 here in let a = ap (slice_get new.guests) own in cc) in
+          subst (IsAhead (parts g) x (given_too i r.given g) (r.settled g)) is
+          (subst (λ l. IsAhead (parts g) x l (r.settled g) (with_intent z.0 i)) (chosen r.given g own)
+          (ahead_given (parts g) x (r.given g) (r.settled g) z.0 i (room z.0 here) (besides_of r.settled mid.guests mid.broken (shows mid.disk) r.held g z.0 z.1) (r.ahead g x z.0 at z.1)))
+      each parts r g x y at now (inr other) =
+          subst (λ l. IsAhead (parts g) x l (r.settled g) y) (unchosen r.given g other) (r.ahead g x y at (sym (gives.others g other) ∙ now))
+
+  risen : (a b c : DiskState) → a.failures ≤ b.failures → b.failures ≤ c.failures → HasRisen b.failures c.failures → HasRisen a.failures c.failures
+  risen a b c first second (inl more) = inl (omega (arith, more, first))
+  risen a b c first second (inr end) = ended (2 ^ 64) a.failures b.failures c.failures first second end
+
+  risen_before : (a b c : DiskState) → b.failures ≤ c.failures → HasRisen a.failures b.failures → HasRisen a.failures c.failures
+  risen_before a b c second (inl more) = inl (omega (arith, more, second))
+  risen_before a b c second (inr end) = inr end
+
+  -- a call of the disk
+  module _ (effect : (a b : D) (call : DiskCall) → makes a call b → Effect (shows a) call (shows b)) (old mid new : StoreState D) (result : Result Progress StoreFault) (k : Keeps shows makes old mid) (moves : Moves result mid.guests new.guests) (round : Round makes (planned mid.guests) mid.disk mid.guests result new.disk new.guests new.broken) (front : (shows mid.disk).faithful ≡ true → Within shows makes (FrontStays (shows mid.disk)) mid.disk new.disk) (any_moment : (parts : ℕ → Part) → IsHeld parts mid.guests mid.broken (shows mid.disk) → Within shows makes (EachStop parts (under_way mid.guests)) mid.disk new.disk) (keeps : (parts : ℕ → Part) → IsHeld parts mid.guests mid.broken (shows mid.disk) → IsHeld (parts_after result mid.guests parts) new.guests new.broken (shows new.disk)) where
+    each : (parts settled : ℕ → Part) (given : ℕ → List Intent) → IsHeld settled mid.guests mid.broken (shows mid.disk) → ((g : ℕ) (x y : Guest) → slice_get old.guests g ≡ Some x → slice_get mid.guests g ≡ Some y → IsAhead (parts g) x (given g) (settled g) y)
+        → (g : ℕ) (x z : Guest) → slice_get old.guests g ≡ Some x → slice_get new.guests g ≡ Some z → IsAhead (parts g) x (given g) (parts_after result mid.guests settled g) z
+    each parts settled given held ahead g x z at now =
+        let below = slice_get_within old.guests g x at in
+        let many = k.many in
+        let y = there mid.guests g (omega (arith, below, many)) in
+        by (settles result) y.0 y.1 (moves.each g y.0 z y.1 now)
+      where
+        by : (b : Bool) (y : Guest) → slice_get mid.guests g ≡ Some y → MovedBy b y z → IsAhead (parts g) x (given g) (if b then settled_by guest_settled (slice_get mid.guests g) (settled g) else settled g) z
+        by true y is moved =
+            let marked = (held.rows g y is (shows mid.disk).seen (λ at_place known. refl)).1 in
+            subst (λ o. IsAhead (parts g) x (given g) (settled_by guest_settled o (settled g)) z) (sym is)
+            (subst (IsAhead (parts g) x (given g) (guest_settled y (settled g))) (sym moved) (ahead_synced (parts g) x (given g) (settled g) y (ahead g x y at is) marked))
+        by false y is moved = ahead_moved (parts g) x (given g) (settled g) y z moved (ahead g x y at is)
+
+    keeps_called : Keeps shows makes old new
+    keeps_called =
+        let shown = shown_round shows makes effect _ _ mid.disk mid.guests result new.disk new.guests new.broken round in
+        let first = k.later in
+        let second = shown.later in
+        record {
+          many = moves.count ∙ k.many;
+          len = shown.len ∙ k.len;
+          faithful = shown.faithful ∙ k.faithful;
+          later = omega (arith, first, second);
+          cause = λ broken. inr (risen (shows old.disk) (shows mid.disk) (shows new.disk) first second (failed_round shows makes effect result mid.disk mid.guests new.disk new.guests new.broken round broken));
+          front = λ known. (let before = k.front known in within_more shows makes (FrontStays (shows old.disk)) old.disk mid.disk new.disk before
+              (within_weaker shows makes (FrontStays (shows mid.disk)) (FrontStays (shows old.disk)) mid.disk new.disk
+              (λ s. front_on (shows old.disk) (shows mid.disk) s (within_end shows makes (FrontStays (shows old.disk)) old.disk mid.disk before)) (front (k.faithful ∙ known))));
+          reaches = λ parts held. (let r = k.reaches parts held in record {
+            given = r.given;
+            settled = parts_after result mid.guests r.settled;
+            held = keeps r.settled r.held;
+            ahead = each parts r.settled r.given r.held r.ahead;
+            moments = within_more shows makes (LeavesWhole old.guests parts r.given) old.disk mid.disk new.disk r.moments
+                (within_weaker shows makes (EachStop r.settled (under_way mid.guests)) (LeavesWhole old.guests parts r.given) mid.disk new.disk
+                (whole_meanwhile old.guests parts r.settled r.given mid.guests (besides_of r.settled mid.guests mid.broken (shows mid.disk) r.held) k.many r.ahead) (any_moment r.settled r.held));
+          });
+        }
+
+  -- or none, where one has failed before
+  pub keeps_advanced : (effect : (a b : D) (call : DiskCall) → makes a call b → Effect (shows a) call (shows b)) (old mid new : StoreState D) (result : Result Progress StoreFault) → Keeps shows makes old mid → (mid.broken ≡ true → new ≡ mid)
+      → Moves result mid.guests new.guests → (mid.broken ≡ false → Round makes (planned mid.guests) mid.disk mid.guests result new.disk new.guests new.broken)
+      → ((shows mid.disk).faithful ≡ true → Within shows makes (FrontStays (shows mid.disk)) mid.disk new.disk)
+      → ((parts : ℕ → Part) → IsHeld parts mid.guests mid.broken (shows mid.disk) → Within shows makes (EachStop parts (under_way mid.guests)) mid.disk new.disk)
+      → ((parts : ℕ → Part) → IsHeld parts mid.guests mid.broken (shows mid.disk) → IsHeld (parts_after result mid.guests parts) new.guests new.broken (shows new.disk))
+      → Keeps shows makes old new
+  keeps_advanced effect old mid new result k refused moves round front any_moment keeps = by mid.broken refl
+    where
+      by : (b : Bool) → mid.broken ≡ b → Keeps shows makes old new
+      by true is = subst (Keeps shows makes old) (sym (refused is)) k
+      by false is = keeps_called effect old mid new result k moves (round is) front any_moment keeps
