@@ -1,6 +1,12 @@
 pub mod Awaited
+pub mod Devices
+pub mod Ends
 pub mod Jobs
+pub mod Lower
 pub mod Noted
 pub mod Others
+pub mod Replies
 pub mod Shares
 pub mod Taken
+pub mod Told
+pub mod Within

@@ -49,3 +49,10 @@ with_right a b c at end k inside = (let low = inside.0 in let high = inside.1 in
 
 pub grow_same : (rs : List Range) → Grow rs rs
 grow_same rs k inside = inside
+
+-- one more, where there is room for one more
+pub few_push : (room : ℕ) (old new : List Range) (r : Range) → new ≡ old ++ r ∷ [] → length old < room → length new ≤ room
+few_push room old new r is below = subst (λ l. length l ≤ room) (sym is) (count old room below)
+  where
+    count : (rs : List Range) (n : ℕ) → length rs < n → length (rs ++ r ∷ []) ≤ n
+    count rs n below = let e = length-++ rs (r ∷ []) in omega (arith, e, below)

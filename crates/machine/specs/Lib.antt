@@ -1,4 +1,7 @@
+pub mod Ending
 pub mod Machine
+pub mod Opening
 pub mod Serving
 pub mod Settings
+pub mod Stepping
 pub mod Written

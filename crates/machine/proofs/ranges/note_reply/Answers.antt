@@ -1,0 +1,1 @@
+use Rattle.machine.proofs.ranges.note_reply.Goals as goal
