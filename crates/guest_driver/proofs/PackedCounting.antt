@@ -1,0 +1,54 @@
+-- How many places the chains in flight of a packed ring take.
+use Rattle.std.proofs.Common.{◌≡◌, ◌≢◌, ℕ, zero, suc, ◌+◌, ◌<◌, ◌≤◌, List, [], ◌∷◌, length, replicate, get_or, slice_set, Option, Some, None, refl, ap, arith}
+use Rattle.guest_driver.specs.declared.driver.Flight.{Flight}
+use Rattle.guest_driver.specs.Driver.{no_flight, owner}
+use Rattle.guest_driver.specs.PackedRoom.{places_taken}
+
+-- none where none is in flight
+pub taken-replicate : (n m : ℕ) → places_taken (replicate n None) (replicate m no_flight) ≡ 0
+taken-replicate zero m = refl
+taken-replicate (suc n) zero = refl
+taken-replicate (suc n) (suc m) = taken-replicate n m
+
+-- a chain more
+pub taken-more : (owners : List (Option ℕ)) (flights : List Flight) (i head : ℕ) (flight : Flight) → length flights ≡ length owners → i < length owners
+    → owner owners i ≡ None → places_taken (slice_set owners i (Some head)) (slice_set flights i flight) ≡ places_taken owners flights + flight.places
+taken-more [] flights i head flight same low free = absurd (omega (arith, low))
+taken-more (o ∷ os) [] i head flight same low free = absurd (omega (arith, same))
+taken-more (None ∷ os) (f ∷ fs) zero head flight same low free = omega arith
+taken-more (Some h ∷ os) (f ∷ fs) zero head flight same low free = absurd (cc)
+taken-more (None ∷ os) (f ∷ fs) (suc i) head flight same low free = taken-more os fs i head flight (omega (arith, same)) (omega (arith, low)) free
+taken-more (Some h ∷ os) (f ∷ fs) (suc i) head flight same low free =
+    let rest = taken-more os fs i head flight (omega (arith, same)) (omega (arith, low)) free in
+    omega (arith, rest)
+
+-- a chain less
+pub taken-less : (owners : List (Option ℕ)) (flights : List Flight) (i head : ℕ) → length flights ≡ length owners
+    → owner owners i ≡ Some head → places_taken (slice_set owners i None) flights + (get_or flights i no_flight).places ≡ places_taken owners flights
+taken-less [] flights i head same is = absurd (cc)
+taken-less (o ∷ os) [] i head same is = absurd (omega (arith, same))
+taken-less (None ∷ os) (f ∷ fs) zero head same is = absurd (cc)
+taken-less (Some h ∷ os) (f ∷ fs) zero head same is = omega arith
+taken-less (None ∷ os) (f ∷ fs) (suc i) head same is = taken-less os fs i head (omega (arith, same)) is
+taken-less (Some h ∷ os) (f ∷ fs) (suc i) head same is =
+    let rest = taken-less os fs i head (omega (arith, same)) is in
+    omega (arith, rest)
+
+-- where no id is free, each takes a place
+pub taken-all : (owners : List (Option ℕ)) (flights : List Flight) → length flights ≡ length owners
+    → ((i : ℕ) → i < length owners → owner owners i ≢ None) → ((i : ℕ) → i < length owners → 0 < (get_or flights i no_flight).places)
+    → length owners ≤ places_taken owners flights
+taken-all [] flights same all each = omega arith
+taken-all (o ∷ os) [] same all each = absurd (omega (arith, same))
+taken-all (None ∷ os) (f ∷ fs) same all each = absurd (all 0 (omega arith) refl)
+taken-all (Some h ∷ os) (f ∷ fs) same all each =
+    let first : 0 < f.places = each 0 (omega arith) in
+    let rest = taken-all os fs (omega (arith, same)) (λ i low. all (suc i) (omega (arith, low))) (λ i low. each (suc i) (omega (arith, low))) in
+    omega (arith, first, rest)
+
+-- an entry that is written twice
+pub set_twice : (owners : List (Option ℕ)) (i : ℕ) (o : Option ℕ) → slice_set (slice_set owners i o) i o ≡ slice_set owners i o
+set_twice [] zero o = refl
+set_twice [] (suc i) o = refl
+set_twice (x ∷ xs) zero o = refl
+set_twice (x ∷ xs) (suc i) o = ap (λ v. x ∷ v) (set_twice xs i o)
