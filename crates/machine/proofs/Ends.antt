@@ -1,10 +1,11 @@
 -- What a serve tells at its end.
 use Rattle.std.proofs.Common.{◌≡◌, ◌≢◌, refl, ap, sym, ◌∙◌, ℕ, Bool, true, false, Option, Some, None}
-use Rattle.std.specs.Prelude.{slice_get, slice_set}
+use Rattle.std.specs.Prelude.{slice_get, if◌then◌else◌, is_some}
 use Rattle.flusher.proofs.Guests.{get_set_same}
 use Rattle.mmio_transport.specs.Job.{Done}
-use Rattle.rpmb_book.specs.Book.{after_collect, due_of}
-use Rattle.board.specs.State.{BoardState, in_place}
+use Rattle.rpmb_book.specs.Book.{due_of, with_turn}
+use Rattle.rpmb_book.specs.Turn.{Collect}
+use Rattle.board.specs.State.{BoardState, in_place, put}
 use Rattle.board.specs.Steps.{Answer, CollectsInto}
 use Rattle.machine.specs.Ending.{told_fault}
 use Rattle.machine.specs.Stepping.{HasNoReply}
@@ -33,5 +34,10 @@ module _ {D : Type 0} (g : ℕ) (old : BoardState D) where
   none_collected answer new (Some None) was does none = by (due_of old.book g) refl
     where
       by : (o : Option Done) → due_of old.book g ≡ o → HasNoReply g new
-      by None is = ?
-      by (Some r) is = ?
+      by None is = record {
+        place = none;
+        due = λ there. ap (λ b. due_of b.book g) does.1 ∙ ap (λ b. due_of b g) (ap (λ o. if is_some o then with_turn old.book (Collect g) else old.book) is) ∙ is;
+      }
+      by (Some r) is =
+          let full = ap (λ b. slice_get b.dones g) does.1 ∙ ap (λ o. slice_get (put old.dones g o) g) is ∙ get_set_same old.dones g None (Some r) was in
+          absurd (let e = sym none ∙ ap in_place full in cc)

@@ -3,6 +3,7 @@ use Rattle.std.proofs.Common.{◌≡◌, ◌≤◌, ◌<◌, ◌⊎◌, ◌+◌,
 use Rattle.std.specs.Prelude.{◌&&◌, nat_le, slice_set, slice_get, slice_index, Some}
 use Rattle.std.specs.List.{list_any}
 use Rattle.std.proofs.lemmas.Bool.Decides.{nat_tests}
+use Rattle.std.proofs.lemmas.List.{length_push}
 use Rattle.rpmb_book.proofs.IsolationLemmas.{by_test}
 use Rattle.machine.specs.Written.{Grow, IsCovered, IsIn, IsInSome, end_of}
 use Rattle.machine.specs.declared.ranges.Range.{Range}
@@ -55,4 +56,4 @@ pub few_push : (room : ℕ) (old new : List Range) (r : Range) → new ≡ old +
 few_push room old new r is below = subst (λ l. length l ≤ room) (sym is) (count old room below)
   where
     count : (rs : List Range) (n : ℕ) → length rs < n → length (rs ++ r ∷ []) ≤ n
-    count rs n below = let e = length-++ rs (r ∷ []) in omega (arith, e, below)
+    count rs n below = let e = length_push rs r in omega (arith, e, below)

@@ -1,14 +1,13 @@
 -- What was noted, and what stays outside of it, one part of a serve after another.
 use Rattle.std.proofs.Common.{◌≡◌, ◌≤◌, refl, ap, sym, subst, ◌∙◌, inl, inr, ℕ, List, [], ◌∷◌, Option, Some, None, length, arith}
-use Rattle.std.specs.Prelude.{slice_get, slice_set, min, ◌-◌, drop}
+use Rattle.std.specs.Prelude.{slice_get, slice_set}
 use Rattle.disk.specs.Disk.{DiskCall, DiskState}
 use Rattle.flusher.proofs.Guests.{get_set_same}
-use Rattle.chains.specs.declared.range.Range.{Range as Part}
 use Rattle.mmio_transport.specs.Device.{DeviceState}
 use Rattle.mmio_transport.specs.Job.{Done, Job}
 use Rattle.board.specs.State.{BoardState, in_place}
 use Rattle.board.specs.Steps.{Answer, PopsInto, PublishesFrom}
-use Rattle.machine.specs.Written.{AreNoted, Grow, IsCovered, IsDoneNoted, IsInSome, IsQueueNoted, Notes, StaysOutside, Writes, memory_in, memory_of}
+use Rattle.machine.specs.Written.{Grow, IsDeviceNoted, IsDoneNoted, IsQueueNoted, IsReplyNoted, Notes, StaysOutside, Writes, memory_in, memory_of}
 use Rattle.machine.specs.declared.ranges.Range.{Range}
 use Rattle.machine.proofs.Lower.{pop_stays, publish_stays}
 
@@ -28,10 +27,12 @@ notes_same room rs = record { grow = λ k inside. inside; few = λ few. few }
 pub notes_twice : (room : ℕ) (a b c : List Range) → Notes room a b → Notes room b c → Notes room a c
 notes_twice room a b c p q = record { grow = λ k inside. q.grow k (p.grow k inside); few = λ few. q.few (p.few few) }
 
--- what is noted stays noted
-pub noted_more : (ps : List Part) (count : ℕ) (rs rs' : List Range) → Grow rs rs' → AreNoted ps count rs → AreNoted ps count rs'
-noted_more [] count rs rs' grow noted = tt
-noted_more (p ∷ ps) count rs rs' grow noted = ((λ k inside. grow k (noted.0 k inside)), noted_more ps (count - min p.len count) rs rs' grow noted.1)
+-- the guest's device, or its reply, is this one
+pub queue_noted : (o : Option DeviceState) (d : DeviceState) (rs : List Range) → o ≡ Some d → IsDeviceNoted d rs → IsQueueNoted o rs
+queue_noted o d rs is noted = subst (λ p. IsQueueNoted p rs) (sym is) noted
+
+pub done_noted : (o : Option Done) (d : Done) (rs : List Range) → o ≡ Some d → IsReplyNoted d rs → IsDoneNoted o rs
+done_noted o d rs is noted = subst (λ p. IsDoneNoted p rs) (sym is) noted
 
 module _ {D : Type 0} (guest room : ℕ) where
   pub writes_same : (rs : List Range) (old new : BoardState D) → new.devices ≡ old.devices → Writes guest room rs rs old new

@@ -1,11 +1,12 @@
 -- Which addresses of a guest's window a call wrote.
-use Rattle.std.specs.Prelude.{◌≡◌, ◌⊎◌, ◌<◌, ◌≤◌, ℕ, ◌+◌, ◌-◌, Bool, ◌&&◌, nat_le, List, [], ◌∷◌, min}
+use Rattle.std.specs.Prelude.{◌≡◌, ◌⊎◌, ◌<◌, ◌≤◌, ℕ, ◌+◌, Bool, ◌&&◌, nat_le, List, [], ◌∷◌, min}
 use Rattle.std.specs.Prelude.{Option, Some, None, length, map, slice_get}
 use Rattle.std.specs.List.{list_any}
 use Rattle.chains.specs.declared.range.Range.{Range as Part}
 use Rattle.mmio_transport.specs.Device.{DeviceState}
 use Rattle.mmio_transport.specs.Job.{Done}
 use Rattle.mmio_transport.specs.Queue.{written_by}
+use Rattle.mmio_transport.specs.Written.{IsSound, parts_of, range_in}
 use Rattle.board.specs.State.{BoardState, in_place}
 use Rattle.machine.specs.declared.ranges.Range.{Range}
 use Rattle.machine.specs.declared.settings.Window.{Window}
@@ -44,28 +45,28 @@ pub record Notes (room : ℕ) (old new : List Range) : Type 0 where
 abbrev pub range_of : Part → Range
 range_of p = record { at = p.at; len = p.len }
 
--- so many bytes fill these parts in their order, and each byte's address is noted
-abbrev pub AreNoted : List Part → ℕ → List Range → Type 0
-AreNoted [] count rs = Unit {0}
-AreNoted (p ∷ ps) count rs =
-    IsCovered (record { at = p.at; len = min p.len count }) rs × AreNoted ps (count - min p.len count) rs
+-- each address of each of these parts is noted
+abbrev pub AreCovered : List Part → List Range → Type 0
+AreCovered [] rs = Unit {0}
+AreCovered (p ∷ ps) rs = IsCovered (range_of p) rs × AreCovered ps rs
 
 -- where a reply is written
 abbrev pub IsReplyNoted : Done → List Range → Type 0
-IsReplyNoted done rs = AreNoted done.writable (length done.reply) rs
+IsReplyNoted done rs = AreCovered (parts_of done.writable (length done.reply)) rs
 
 abbrev pub IsDoneNoted : Option Done → List Range → Type 0
 IsDoneNoted None rs = Unit {0}
 IsDoneNoted (Some done) rs = IsReplyNoted done rs
 
-abbrev pub IsPartNoted : Option Part → List Range → Type 0
-IsPartNoted None rs = Unit {0}
-IsPartNoted (Some p) rs = IsCovered (range_of p) rs
-
 -- what a pop or a publication may write of a device's queue
+pub record IsDeviceNoted (d : DeviceState) (rs : List Range) : Type 0 where
+  pub noted : AreCovered (range_in (written_by d.queue)) rs
+  pub sound : IsSound d
+  pub small : length d.memory < 18446744073709551616
+
 abbrev pub IsQueueNoted : Option DeviceState → List Range → Type 0
 IsQueueNoted None rs = Unit {0}
-IsQueueNoted (Some d) rs = IsPartNoted (written_by d.queue) rs
+IsQueueNoted (Some d) rs = IsDeviceNoted d rs
 
 -- 2. What stays
 

@@ -92,6 +92,6 @@ pub(crate) fn go_on<D: Disk>(board: &mut Board<D>)
     ensures devices { board.new.devices ≡ board.old.devices }
 {
     let _ = make(board, Step::Settle);
-    let _ = make(board, Step::Advance);
+    let _ = make(board, Step::Advance); // the call that was told of
     let _ = make(board, Step::Settle);
 }

@@ -47,11 +47,13 @@ fn note_next<D: Disk>(
     if !first && !has_room(written, room, done.writable().len().saturating_add(1)) {
         return Some(Left::Limit);
     }
-    if note_reply(written, room, done) && note_queue(board, guest, written, room) {
-        None
-    } else {
-        Some(Left::Refused(MachineFault::NoMemory))
+    if !note_reply(written, room, done) {
+        return Some(Left::Refused(MachineFault::NoMemory));
     }
+    if !note_queue(board, guest, written, room) {
+        return Some(Left::Refused(MachineFault::NoMemory));
+    }
+    None
 }
 
 /// Lets the next reply leave, where it may: `None`, or why not.

@@ -37,10 +37,13 @@ pub(crate) fn note_queue<D: Disk>(
         → IsQueueNoted (slice_get board.now.devices guest) written.new.items }
 {
     match board.device_of(guest) {
-        Some(device) => match device.written() {
-            Some(part) => note(written, room, Range::of(part)),
-            None => true,
-        },
+        Some(device) => {
+            let _size = device.memory_size();
+            match device.written() {
+                Some(part) => note(written, room, Range::of(part)),
+                None => true,
+            }
+        }
         None => true,
     }
 }

@@ -138,7 +138,8 @@ pub(crate) fn has_room(written: &Vec<Range>, room: usize, count: usize) -> bool 
 
 /// Copies the ranges to the front of `out`, as many as it has, in guest addresses.
 pub(crate) fn tell_ranges(written: &Vec<Range>, base: u64, out: &mut [Range])
-    ensures { length written.now.items ≤ length out.old
+    ensures count { length out.new ≡ length out.old }
+    ensures told { length written.now.items ≤ length out.old
         → take (length written.now.items) out.new ≡ map (told_at base) written.now.items }
 {
     let count = written.len().min(out.len());

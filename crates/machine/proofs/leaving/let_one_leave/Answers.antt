@@ -23,12 +23,12 @@ returns-in-Some-clause-writes g c =
 pub returns-then-is_wrote-clause-writes : goal.returns-then-is_wrote-clause-writes
 returns-then-is_wrote-clause-writes g c =
     writes_twice c.args.guest c.args.room c.args.written.now.items c.args.written.now.items c.note_next.new.written.items c.args.board.now c.make-collected.new.board c.make-published.new.board (writes_same c.args.guest c.args.room c.args.written.now.items c.args.board.now c.make-collected.new.board (c.make-collected.ensures.devices refl))
-    (record { notes = c.note_next.ensures.notes; within = publish_within c.args.guest c.note_next.new.written.items c.make-collected.new.board c.make-published.ensures.goes.answer c.make-published.new.board _ _ refl (c.note_next.ensures.noted c.in-None.is).0 (c.note_next.ensures.noted c.in-None.is).1 c.make-published.ensures.goes.does })
+    (record { notes = c.note_next.ensures.notes; within = publish_within c.args.guest c.note_next.new.written.items c.make-collected.new.board c.make-published.ensures.goes.answer c.make-published.new.board _ _ refl (c.note_next.ensures.noted c.in_default.is).0 (c.note_next.ensures.noted c.in_default.is).1 c.make-published.ensures.goes.does })
 
 pub returns-else-is_wrote-clause-writes : goal.returns-else-is_wrote-clause-writes
 returns-else-is_wrote-clause-writes g c =
     writes_twice c.args.guest c.args.room c.args.written.now.items c.args.written.now.items c.note_next.new.written.items c.args.board.now c.make-collected.new.board c.make-published.new.board (writes_same c.args.guest c.args.room c.args.written.now.items c.args.board.now c.make-collected.new.board (c.make-collected.ensures.devices refl))
-    (record { notes = c.note_next.ensures.notes; within = publish_within c.args.guest c.note_next.new.written.items c.make-collected.new.board c.make-published.ensures.goes.answer c.make-published.new.board _ _ refl (c.note_next.ensures.noted c.in-None.is).0 (c.note_next.ensures.noted c.in-None.is).1 c.make-published.ensures.goes.does })
+    (record { notes = c.note_next.ensures.notes; within = publish_within c.args.guest c.note_next.new.written.items c.make-collected.new.board c.make-published.ensures.goes.answer c.make-published.new.board _ _ refl (c.note_next.ensures.noted c.in_default.is).0 (c.note_next.ensures.noted c.in_default.is).1 c.make-published.ensures.goes.does })
 
 pub returns-in-Some-clause-all : goal.returns-in-Some-clause-all
 returns-in-Some-clause-all g c is =

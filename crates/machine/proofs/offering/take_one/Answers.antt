@@ -17,7 +17,7 @@ returns g c =
       left = λ sound. c.submit.ensures.left (sound_served shows makes n c.args.board.now c.make.new.board sound popped);
       writes = writes_twice n c.args.room c.args.written.now.items c.note_queue.new.written.items c.note_queue.new.written.items c.args.board.now c.make.new.board c.submit.new.board (record {
         notes = c.note_queue.ensures.notes;
-        within = pop_within c.args.guest c.note_queue.new.written.items c.args.board.now c.make.ensures.goes.answer c.make.new.board _ _ refl (c.note_queue.ensures.noted c.then-not-note_queue.isnt) c.make.ensures.goes.does;
+        within = pop_within c.args.guest c.note_queue.new.written.items c.args.board.now c.make.ensures.goes.answer c.make.new.board _ _ refl (c.note_queue.ensures.noted c.if-not-note_queue.false) c.make.ensures.goes.does;
       })
           (writes_same n c.args.room c.note_queue.new.written.items c.make.new.board c.submit.new.board c.submit.ensures.devices);
       did = λ sound. c.submit.ensures.did (sound_served shows makes n c.args.board.now c.make.new.board sound popped);
@@ -29,5 +29,5 @@ returns-then-not-note_queue-clause-writes g c = writes_noted c.args.guest c.args
 pub returns-in-Refused-clause-writes : goal.returns-in-Refused-clause-writes
 returns-in-Refused-clause-writes g c = record {
   notes = c.note_queue.ensures.notes;
-  within = pop_within c.args.guest c.note_queue.new.written.items c.args.board.now c.make.ensures.goes.answer c.make.new.board _ _ refl (c.note_queue.ensures.noted c.then-not-note_queue.isnt) c.make.ensures.goes.does;
+  within = pop_within c.args.guest c.note_queue.new.written.items c.args.board.now c.make.ensures.goes.answer c.make.new.board _ _ refl (c.note_queue.ensures.noted c.if-not-note_queue.false) c.make.ensures.goes.does;
 }

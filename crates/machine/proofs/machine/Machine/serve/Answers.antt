@@ -1,9 +1,11 @@
-use Rattle.std.proofs.Common.{◌≡◌, ◌≤◌, ◌∙◌, List, Some, None, ℕ, ap, length, subst, sym}
+use Rattle.std.proofs.Common.{◌≡◌, ◌≤◌, ◌∙◌, List, Some, None, ℕ, ap, length, arith, refl, rules, subst, sym}
 use Rattle.std.specs.Prelude.{slice_get, take}
+use Rattle.std.proofs.lemmas.Option.{slice_get_read}
 use Rattle.disk.specs.OutboxDisk.{OutboxMakes, OutboxState, outbox_state}
 use Rattle.board.specs.State.{BoardState}
 use Rattle.host.specs.Moving.{Moves}
 use Rattle.host.proofs.Moving.{moves_none}
+use Rattle.machine.specs.Machine.{IsServed, MachineState, TellsRanges}
 use Rattle.machine.specs.Serving.{OthersStay, Runs, Still}
 use Rattle.machine.proofs.Others.{others_stay}
 use Rattle.machine.proofs.Told.{served_none, served_by, told_none, told_by}
@@ -40,10 +42,21 @@ pub returns-then-ranges-eq0-clause-rest : goal.returns-then-ranges-eq0-clause-re
 returns-then-ranges-eq0-clause-rest c none = absurd (let some = c.refused-then-ranges-eq0.ensures.fault in cc)
 
 pub returns-clause-served : goal.returns-clause-served
-returns-clause-served c = ?
+returns-clause-served c =
+    let old : MachineState = record { board = c.self.inside.board; windows = c.self.inside.windows.items } in
+    let new : MachineState = record { board = c.serve-served.new.board; windows = c.self.inside.windows.items } in
+    subst (λ (m : MachineState). IsServed c.args.guest m new) c.self.view_is
+    (served_by c.args.guest old new c.what_always_holds.ensures.tied c.serve-served.ensures.serves refl)
 
 pub returns-clause-writes : goal.returns-clause-writes
-returns-clause-writes c = ?
+returns-clause-writes c =
+    let old : MachineState = record { board = c.self.inside.board; windows = c.self.inside.windows.items } in
+    let new : MachineState = record { board = c.serve-served.new.board; windows = c.self.inside.windows.items } in
+    let rs = c.serve-served.new.written.items in
+    let few = c.serve-served.ensures.writes.notes.few in
+    let fits : length rs ≤ length c.args.ranges.now = few (let none = ap length c.clear.ensures.items in omega (arith, none)) in
+    subst (λ (m : MachineState). TellsRanges c.args.guest c.serve-served.result.ranges c.tell_ranges.new.out m new) c.self.view_is
+    (told_by c.args.guest c.serve-served.result.ranges c.tell_ranges.new.out rs c.index-2.result.now old new (slice_get_read c.self.inside.windows.items c.len.result c.args.guest c.index-2.result.now (search rules) (search rules) (search rules)) c.serve-served.ensures.ranges (subst (λ (n : ℕ). length rs ≤ n) (sym c.tell_ranges.ensures.count) fits) (c.tell_ranges.ensures.told fits) c.serve-served.ensures.writes.within)
 
 pub returns-clause-left : goal.returns-clause-left
 returns-clause-left c none = c.serve-served.ensures.left c.what_always_holds.ensures.tied none
