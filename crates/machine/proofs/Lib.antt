@@ -1,4 +1,5 @@
 pub mod Awaited
+pub mod Because
 pub mod Devices
 pub mod Ends
 pub mod Jobs

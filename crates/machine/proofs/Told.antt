@@ -1,10 +1,13 @@
 -- What a serve tells of its ranges, and leaves of a machine.
-use Rattle.std.proofs.Common.{◌≡◌, ◌≤◌, ◌<◌, ◌+◌, ◌∙◌, inl, inr, refl, ap, sym, subst, ℕ, List, [], ◌∷◌, Option, Some, None, length, map, min, arith}
+use Rattle.std.proofs.Common.{◌≡◌, ◌≤◌, ◌<◌, ◌+◌, ◌∙◌, inl, inr, refl, ap, sym, subst, ℕ, zero, suc, List, [], ◌∷◌, Option, Some, None, length, map, min, arith}
 use Rattle.std.specs.Prelude.{slice_get, take}
 use Rattle.disk.specs.OutboxDisk.{OutboxMakes, OutboxState, outbox_state}
 use Rattle.board.specs.Board.{IsSound}
 use Rattle.host.proofs.Moving.{moves_none}
-use Rattle.machine.specs.Machine.{IsServed, MachineState, TellsRanges}
+use Rattle.machine.specs.Machine.{IsServed, MachineState, NoRoom, NoSuchGuest, OfBoard, TellsFault, TellsRanges}
+use Rattle.machine.specs.Reasons.{HasReason}
+use Rattle.machine.specs.declared.fault.MachineFault.{MachineFault}
+use Rattle.machine.specs.declared.fault.MachineFault.TheVariants.{NoGuest, OutOfRange}
 use Rattle.machine.specs.Serving.{Serves, Still}
 use Rattle.machine.specs.Written.{IsIn, IsInSome, KeepsUntold, StaysOutside, StaysUntold, Writes, end_of, memory_in, told_at}
 use Rattle.machine.specs.declared.ranges.Range.{Range}
@@ -64,4 +67,32 @@ told_by guest count ranges rs w old new is many fits told stays = record {
   fit = subst (λ n. n ≤ length ranges) (sym many) fits;
   keeps = subst (λ ts. KeepsUntold (slice_get old.windows guest) ts (memory_in old.board guest) (memory_in new.board guest))
       (sym (ap (λ n. take n ranges) many ∙ told)) (keeps_by (slice_get old.windows guest) w rs (memory_in old.board guest) (memory_in new.board guest) is stays);
+}
+
+-- a place that there is isn't none
+none_there : {X : Type 0} (xs : List X) (i : ℕ) → i < length xs → slice_get xs i ≡ None → ⊥
+none_there [] i below none = absurd (omega (arith, below))
+none_there (x ∷ xs) zero below none = absurd (cc)
+none_there (x ∷ xs) (suc i) below none = none_there xs i (omega (arith, below)) none
+
+pub fault_no_guest : (guest room : ℕ) (told : Option MachineFault) (m : MachineState) → told ≡ Some NoGuest → TellsFault guest room told m m
+fault_no_guest guest room told m is = record {
+  no_guest = λ none. (is, refl);
+  no_room = λ none. refl;
+  reason = λ f tells. NoSuchGuest (let e = tells in cc) refl;
+}
+
+pub fault_no_room : (guest room : ℕ) (told : Option MachineFault) (m : MachineState) → guest < length m.windows → room ≡ 0 → told ≡ Some OutOfRange → TellsFault guest room told m m
+fault_no_room guest room told m there empty is = record {
+  no_guest = λ none. absurd (none_there m.windows guest there none);
+  no_room = λ none. refl;
+  reason = λ f tells. NoRoom (let e = tells in cc) empty refl;
+}
+
+pub fault_of_board : (guest room : ℕ) (told : Option MachineFault) (old new : MachineState) → guest < length old.windows → (room ≡ 0 → ⊥)
+    → ((f : MachineFault) → told ≡ Some f → HasReason outbox_state OutboxMakes guest f old.board new.board) → TellsFault guest room told old new
+fault_of_board guest room told old new there some reason = record {
+  no_guest = λ none. absurd (none_there old.windows guest there none);
+  no_room = λ none. absurd (some none);
+  reason = λ f tells. OfBoard (reason f tells);
 }

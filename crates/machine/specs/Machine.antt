@@ -14,9 +14,12 @@ use Rattle.mmio_transport.specs.Device.{DeviceState}
 use Rattle.board.specs.State.{BoardState}
 use Rattle.board.specs.Telling.{telling}
 use Rattle.host.specs.Moving.{Moves}
+use Rattle.machine.specs.Reasons.{HasReason}
 use Rattle.machine.specs.Serving.{OthersStay, Runs}
 use Rattle.machine.specs.Stepping.{Hears}
 use Rattle.machine.specs.Written.{KeepsUntold, memory_in}
+use Rattle.machine.specs.declared.fault.MachineFault.{MachineFault}
+use Rattle.machine.specs.declared.fault.MachineFault.TheVariants.{NoGuest, OutOfRange}
 use Rattle.machine.specs.declared.ranges.Range.{Range}
 use Rattle.machine.specs.Settings.{value_shown}
 use Rattle.machine.specs.declared.settings.Window.{Window}
@@ -72,6 +75,19 @@ pub record TellsRanges (guest count : ℕ) (ranges : List Range) (old new : Mach
   pub fit : count ≤ length ranges
   pub keeps : KeepsUntold (slice_get old.windows guest) (take count ranges)
       (memory_in old.board guest) (memory_in new.board guest)
+
+-- why a serve tells a fault: there is no such guest, or no room for a range, or a reason of the board
+pub data HasFault (guest room : ℕ) (f : MachineFault) (old new : MachineState) : Type 0 where
+  NoSuchGuest : f ≡ NoGuest → new ≡ old → HasFault guest room f old new
+  NoRoom : f ≡ OutOfRange → room ≡ 0 → new ≡ old → HasFault guest room f old new
+  OfBoard : HasReason outbox_state OutboxMakes guest f old.board new.board → HasFault guest room f old new
+
+-- A guest that there isn't is refused, and there and without room for a range nothing changes. Each
+-- fault has its reason.
+pub record TellsFault (guest room : ℕ) (told : Option MachineFault) (old new : MachineState) : Type 0 where
+  pub no_guest : slice_get old.windows guest ≡ None → (told ≡ Some NoGuest) × (new ≡ old)
+  pub no_room : room ≡ 0 → new ≡ old
+  pub reason : (f : MachineFault) → told ≡ Some f → HasFault guest room f old new
 
 -- The disk was told of its writes and its sync, and just one call of it was made then: the book
 -- heard of the one before it and of this one.

@@ -2,6 +2,7 @@
 ghost use Rattle.std.specs.Prelude.{◌≡◌, None, Some, slice_get};
 ghost use Rattle.machine.specs.Serving.{Serves};
 ghost use Rattle.board.specs.State.{in_place};
+ghost use Rattle.machine.specs.declared.fault.MachineFault.{MachineFault};
 ghost use Rattle.machine.specs.Stepping.{HasNoReply};
 ghost use Rattle.machine.specs.Written.{IsDoneNoted, IsQueueNoted, Notes, Writes};
 
@@ -39,6 +40,8 @@ fn note_next<D: Disk>(
     ensures noted { result ≡ None
         → IsDoneNoted (in_place (slice_get board.now.dones guest)) written.new.items
         × IsQueueNoted (slice_get board.now.devices guest) written.new.items }
+    ensures memory { (f : MachineFault) → result ≡ Some (Left.Refused f)
+        → f ≡ MachineFault.NoMemory }
     ensures all { result ≡ Some Left.All → in_place (slice_get board.now.dones guest) ≡ None }
 {
     let Some(done) = board.done(guest) else {
@@ -68,6 +71,8 @@ fn let_one_leave<D: Disk>(
     ensures serves { Serves D.state D.makes guest board.old board.new }
     ensures jobs { board.new.jobs ≡ board.old.jobs }
     ensures writes { Writes guest room written.old.items written.new.items board.old board.new }
+    ensures memory { (f : MachineFault) → result ≡ Some (Left.Refused f)
+        → f ≡ MachineFault.NoMemory }
     ensures all { result ≡ Some Left.All → HasNoReply guest board.new }
 {
     let collected = make(board, Step::Collect(guest));
@@ -98,6 +103,7 @@ pub(crate) fn let_all_leave<D: Disk>(
     ensures serves { Serves D.state D.makes guest board.old board.new }
     ensures jobs { board.new.jobs ≡ board.old.jobs }
     ensures writes { Writes guest room written.old.items written.new.items board.old board.new }
+    ensures memory { (f : MachineFault) → result ≡ Left.Refused f → f ≡ MachineFault.NoMemory }
     ensures all { result ≡ Left.All → HasNoReply guest board.new }
 {
     for _reply in 0..MOST_LEFT {

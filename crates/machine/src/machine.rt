@@ -7,7 +7,7 @@ ghost use Rattle.mmio_transport.specs.Registers.{interrupt_number};
 ghost use Rattle.rpmb_book.specs.Book.{state};
 ghost use Rattle.board.specs.Telling.{telling};
 ghost use Rattle.disk.specs.Outbox.{first_of};
-ghost use Rattle.machine.specs.Machine.{Completes, Copies, IsInWindow, IsServed, TellsRanges};
+ghost use Rattle.machine.specs.Machine.{Completes, Copies, IsInWindow, IsServed, TellsFault, TellsRanges};
 ghost use Rattle.machine.specs.Machine.{WhereGuest, is_awaited, shown_in, stored, waits_for_sync};
 ghost use Rattle.machine.specs.Machine.{with_device, writes_in};
 ghost use Rattle.board.specs.State.{HasNoJob};
@@ -173,9 +173,7 @@ impl Machine {
         ensures left { result.fault ≡ None → HasNoJob guest self.new.board }
         ensures sync { result.fault ≡ None → result.sync ≡ waits_for_sync self.new.board }
         ensures rest { result.fault ≡ None → result.again ≡ false → HasNoMore guest self.new.board }
-        ensures no_guest { slice_get self.old.windows guest ≡ None
-            → (result.fault ≡ Some MachineFault.NoGuest) × (self.new ≡ self.old) }
-        ensures no_room { length ranges.old ≡ 0 → self.new ≡ self.old }
+        ensures refused { TellsFault guest (length ranges.old) result.fault self.old self.new }
     {
         self.board.what_always_holds();
         let at = usize::from(guest);

@@ -7,6 +7,7 @@ ghost use Rattle.machine.specs.declared.fault.MachineFault.{MachineFault};
 ghost use Rattle.board.specs.State.{HasNoJob};
 ghost use Rattle.machine.specs.Serving.{Serves};
 ghost use Rattle.machine.specs.Ending.{HasNoMore, is_write, told_fault};
+ghost use Rattle.machine.specs.Reasons.{HasReason};
 ghost use Rattle.machine.specs.Written.{Writes};
 
 use crate::fault::MachineFault;
@@ -107,6 +108,8 @@ pub(crate) fn serve(
     ensures sync { result.sync ≡ waits_for_sync board.new }
     ensures writes { Writes guest room written.old.items written.new.items board.old board.new }
     ensures ranges { result.ranges ≡ length written.new.items }
+    ensures reason { (f : MachineFault) → result.fault ≡ Some f
+        → HasReason outbox_state OutboxMakes guest f board.old board.new }
     ensures rest { result.fault ≡ None → result.again ≡ false → HasNoMore guest board.new }
 {
     let offered = take_all(board, guest, most, held, written, room);

@@ -3,6 +3,8 @@ ghost use Rattle.std.specs.Prelude.{◌≡◌, ◌≢◌, ℕ, true, false};
 ghost use Rattle.board.specs.Board.{IsSound};
 ghost use Rattle.board.specs.State.{HasNoJob};
 ghost use Rattle.machine.specs.Serving.{IsShare, Serves, keeps_jobs};
+ghost use Rattle.machine.specs.Reasons.{HasReason};
+ghost use Rattle.machine.specs.declared.fault.MachineFault.{MachineFault};
 ghost use Rattle.machine.specs.Stepping.{Goes, keeps_devices, went_of};
 
 use crate::fault::MachineFault;
@@ -71,6 +73,8 @@ pub(crate) fn submit<D: Disk>(board: &mut Board<D>, guest: u16) -> Went
     ensures serves { Serves D.state D.makes guest board.old board.new }
     ensures left { IsSound D.state board.old → result ≡ Went.Nothing → HasNoJob guest board.new }
     ensures did { IsSound D.state board.old → result ≡ Went.Did → HasNoJob guest board.new }
+    ensures refused { (f : MachineFault) → result ≡ Went.Refused f
+        → HasReason D.state D.makes guest f board.old board.new }
     ensures devices { board.new.devices ≡ board.old.devices }
 {
     match board.step(&Step::Submit(guest)) {

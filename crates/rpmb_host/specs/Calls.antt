@@ -9,13 +9,14 @@ use Rattle.mmio_transport.specs.Device.{DeviceState, after_write, kick_of}
 use Rattle.mmio_transport.specs.Registers.{interrupt_number}
 use Rattle.machine.specs.Ending.{HasNoMore}
 use Rattle.machine.specs.Machine.{Completes, Copies, IsInWindow, IsServed, MachineState}
-use Rattle.machine.specs.Machine.{TellsRanges, is_awaited, shown_by, waits_for_sync, with_device}
+use Rattle.machine.specs.Machine.{TellsFault, TellsRanges, is_awaited, shown_by, waits_for_sync, with_device}
 use Rattle.board.specs.State.{HasNoJob}
 use Rattle.machine.specs.Settings.{is_plain, value_taken}
 use Rattle.machine.specs.Opening.{IsMonitored, length_of}
 use Rattle.machine.specs.declared.ranges.Range.{Range}
 use Rattle.machine.specs.declared.settings.Window.{Window}
-use Rattle.rpmb_host.specs.Numbers.{flag, kick_number}
+use Rattle.machine.specs.declared.fault.MachineFault.{MachineFault}
+use Rattle.rpmb_host.specs.Numbers.{flag, kick_number, told_number}
 
 -- a relation of machines, and a fact of one
 abbrev pub Relation : Type 1
@@ -92,6 +93,12 @@ Serves guest old new = IsServed guest old new
 -- of them.
 abbrev pub Fills : (guest count : ℕ) → List Range → Relation
 Fills guest count ranges old new = TellsRanges guest count ranges old new
+
+-- the number is that of a fault, or of none, and each fault has its reason
+pub record Faults (guest room number : ℕ) (old new : MachineState) : Type 0 where
+  pub fault : Option MachineFault
+  pub numbered : number ≡ told_number fault
+  pub tells : TellsFault guest room fault old new
 
 -- no reply of the guest may leave, and no write comes before the next sync
 abbrev pub Rests : ℕ → Relation

@@ -4,7 +4,8 @@
 
 ghost use Rattle.std.specs.Prelude.{◌≡◌, ◌⊎◌, ◌<◌, IfOk, None, true, is_some, length, map};
 ghost use Rattle.machine.specs.Opening.{IsFresh, IsOpened};
-ghost use Rattle.rpmb_host.specs.Calls.{Answered, Awaits, Between, Fails, Fills, Gives, Holds};
+ghost use Rattle.rpmb_host.specs.Calls.{Answered, Awaits, Between, Fails, Faults, Fills};
+ghost use Rattle.rpmb_host.specs.Calls.{Gives, Holds};
 ghost use Rattle.rpmb_host.specs.Calls.{Interrupts, Kicks, Loads, Reads, Refuses, Rests, Serves};
 ghost use Rattle.rpmb_host.specs.Calls.{Spans, Stores, Syncs, Takes, Writes, WritesPlainly};
 ghost use Rattle.rpmb_host.specs.Guests.{window_of};
@@ -207,6 +208,8 @@ pub extern "C" fn rpmb_serve(
         → Between host.old.value host.new.value (Awaits served.new.sync) }
     ensures rest { served.new.fault ≡ 0 → served.new.again ≡ 0
         → Between host.old.value host.new.value (Rests guest) }
+    ensures faults { Between host.old.value host.new.value
+        (Faults guest (length ranges.old) served.new.fault) }
     ensures fills { length ranges.old < 4294967296 → Between host.old.value host.new.value
         (Fills guest served.new.ranges ranges.new) }
 {

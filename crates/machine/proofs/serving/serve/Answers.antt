@@ -4,6 +4,7 @@ use Rattle.mmio_transport.specs.Job.{Job}
 use Rattle.disk.specs.OutboxDisk.{OutboxMakes, outbox_state}
 use Rattle.board.specs.State.{in_place}
 use Rattle.machine.specs.Ending.{is_write}
+use Rattle.machine.proofs.Because.{reason_before, reason_told}
 use Rattle.machine.proofs.Ends.{all_left}
 use Rattle.machine.proofs.Shares.{serves_twice}
 use Rattle.machine.proofs.Taken.{taken_left}
@@ -44,3 +45,18 @@ returns-clause-rest c none not = record {
   replies = c.let_all_leave-left.ensures.all (all_left c.take_all-offered.result c.let_all_leave-left.result (sym c.fault_of.ensures ∙ none) (c.is_unfinished.ensures.left not));
   writes = ap is_write (sym c.next_call-next.ensures) ∙ c.is_unfinished.ensures.next not;
 }
+
+pub returns-clause-reason : goal.returns-clause-reason
+returns-clause-reason c f is =
+    let n = c.args.guest in
+    let b0 = c.args.board.now in
+    let b1 = c.take_all-offered.new.board in
+    let b2 = c.hand_in.new.board in
+    let b3 = c.write_out.new.board in
+    let b4 = c.let_all_leave-left.new.board in
+    let after = serves_twice outbox_state OutboxMakes n b1 b2 b4 c.hand_in.ensures.serves
+    (serves_twice outbox_state OutboxMakes n b2 b3 b4 (c.write_out.ensures.serves n) c.let_all_leave-left.ensures.serves) in
+    let same = c.let_all_leave-left.ensures.jobs ∙ c.write_out.ensures.jobs ∙ c.hand_in.ensures.jobs in
+    reason_told outbox_state OutboxMakes n f c.take_all-offered.result c.let_all_leave-left.result b0 b4 (sym c.fault_of.ensures ∙ is)
+    (λ refused. reason_before outbox_state OutboxMakes n f b0 b1 b4 (c.take_all-offered.ensures.refused f refused) after.runs same)
+    (c.let_all_leave-left.ensures.memory f)

@@ -3,6 +3,8 @@ use Rattle.std.specs.Prelude.{slice_get}
 use Rattle.board.specs.State.{in_place}
 use Rattle.board.specs.Steps.{SubmitsFrom}
 use Rattle.board.specs.declared.step.Step.TheVariants as board_step
+use Rattle.machine.specs.Reasons.{Refuses}
+use Rattle.machine.specs.Serving.{Still}
 use Rattle.machine.proofs.Devices.{devices_same}
 use Rattle.machine.proofs.Jobs.{submit_empties}
 use Rattle.machine.proofs.Shares.{serves_step}
@@ -36,3 +38,7 @@ returns-in-Ok-clause-devices g c = devices_same g.D.Disk.state g.D.Disk.makes c.
 
 pub returns-clause-devices : goal.returns-clause-devices
 returns-clause-devices g c = devices_same g.D.Disk.state g.D.Disk.makes c.args.board.now (board_step.Submit c.args.guest) c.step.result c.step.new.self refl c.step.ensures.does
+
+pub returns-clause-refused : goal.returns-clause-refused
+returns-clause-refused g c f is =
+    Refuses c.args.board.now c.step.new.self (board_step.Submit c.args.guest) c.in-Err.fault (Still c.args.board.now) refl c.in-Err.ensures.does (let e = is in let r = c.of_step.ensures in cc) (Still c.step.new.self)

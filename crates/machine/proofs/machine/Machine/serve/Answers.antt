@@ -1,14 +1,14 @@
 use Rattle.std.proofs.Common.{◌≡◌, ◌≤◌, ◌∙◌, List, Some, None, ℕ, ap, length, arith, refl, rules, subst, sym}
 use Rattle.std.specs.Prelude.{slice_get, take}
-use Rattle.std.proofs.lemmas.Option.{slice_get_read}
+use Rattle.std.proofs.lemmas.Option.{slice_get_read, slice_get_within}
 use Rattle.disk.specs.OutboxDisk.{OutboxMakes, OutboxState, outbox_state}
 use Rattle.board.specs.State.{BoardState}
 use Rattle.host.specs.Moving.{Moves}
 use Rattle.host.proofs.Moving.{moves_none}
-use Rattle.machine.specs.Machine.{IsServed, MachineState, TellsRanges}
+use Rattle.machine.specs.Machine.{IsServed, MachineState, TellsFault, TellsRanges}
 use Rattle.machine.specs.Serving.{OthersStay, Runs, Still}
 use Rattle.machine.proofs.Others.{others_stay}
-use Rattle.machine.proofs.Told.{served_none, served_by, told_none, told_by}
+use Rattle.machine.proofs.Told.{fault_no_guest, fault_no_room, fault_of_board, served_none, served_by, told_none, told_by}
 use Rattle.machine.proofs.machine.Machine.serve.Goals as goal
 
 pub returns-then-at-len-clause-served : goal.returns-then-at-len-clause-served
@@ -60,3 +60,21 @@ returns-clause-writes c =
 
 pub returns-clause-left : goal.returns-clause-left
 returns-clause-left c none = c.serve-served.ensures.left c.what_always_holds.ensures.tied none
+
+pub returns-then-at-len-clause-refused : goal.returns-then-at-len-clause-refused
+returns-then-at-len-clause-refused c = fault_no_guest c.args.guest (length c.args.ranges.now) c.refused.result.fault c.args.self.now c.refused.ensures.fault
+
+pub returns-then-ranges-eq0-clause-refused : goal.returns-then-ranges-eq0-clause-refused
+returns-then-ranges-eq0-clause-refused c =
+    let old : MachineState = record { board = c.self.inside.board; windows = c.self.inside.windows.items } in
+    subst (λ (m : MachineState). TellsFault c.args.guest (length c.args.ranges.now) c.refused-then-ranges-eq0.result.fault m m) c.self.view_is
+    (fault_no_room c.args.guest (length c.args.ranges.now) c.refused-then-ranges-eq0.result.fault old
+    (let below = c.if-at-len.false in let long = c.len.ensures in let same = c.from-at.ensures in omega (arith, below, long, same))
+    (let empty = c.if-ranges-eq0.true in omega (arith, empty)) c.refused-then-ranges-eq0.ensures.fault)
+
+pub returns-clause-refused : goal.returns-clause-refused
+returns-clause-refused c =
+    let old : MachineState = record { board = c.self.inside.board; windows = c.self.inside.windows.items } in
+    let new : MachineState = record { board = c.serve-served.new.board; windows = c.self.inside.windows.items } in
+    subst (λ (m : MachineState). TellsFault c.args.guest (length c.args.ranges.now) c.serve-served.result.fault m new) c.self.view_is
+    (fault_of_board c.args.guest (length c.args.ranges.now) c.serve-served.result.fault old new (slice_get_within c.self.inside.windows.items c.args.guest c.index-2.result.now (slice_get_read c.self.inside.windows.items c.len.result c.args.guest c.index-2.result.now (search rules) (search rules) (search rules))) (λ none. absurd (let some = c.if-ranges-eq0.false in omega (arith, none, some))) c.serve-served.ensures.reason)
