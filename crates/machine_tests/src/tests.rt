@@ -1,5 +1,0 @@
-mod answers;
-mod offers;
-mod ranges;
-mod rig;
-mod settings;
