@@ -82,6 +82,7 @@ pub struct Monitored<M: Monitor> {
 fn new_machine(alloc: Global, config: GuestConfig) -> Result<Machine, Stop> {
     let windows = [Window {
         config,
+        base: 0,
         withheld: 0,
         most: 0,
         capped: false,

@@ -1,6 +1,13 @@
 pub mod Awaited
+pub mod Because
+pub mod Devices
+pub mod Ends
 pub mod Jobs
+pub mod Lower
 pub mod Noted
 pub mod Others
+pub mod Replies
 pub mod Shares
 pub mod Taken
+pub mod Told
+pub mod Within

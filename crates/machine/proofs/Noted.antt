@@ -3,6 +3,7 @@ use Rattle.std.proofs.Common.{◌≡◌, ◌≤◌, ◌<◌, ◌⊎◌, ◌+◌,
 use Rattle.std.specs.Prelude.{◌&&◌, nat_le, slice_set, slice_get, slice_index, Some}
 use Rattle.std.specs.List.{list_any}
 use Rattle.std.proofs.lemmas.Bool.Decides.{nat_tests}
+use Rattle.std.proofs.lemmas.List.{length_push}
 use Rattle.rpmb_book.proofs.IsolationLemmas.{by_test}
 use Rattle.machine.specs.Written.{Grow, IsCovered, IsIn, IsInSome, end_of}
 use Rattle.machine.specs.declared.ranges.Range.{Range}
@@ -49,3 +50,10 @@ with_right a b c at end k inside = (let low = inside.0 in let high = inside.1 in
 
 pub grow_same : (rs : List Range) → Grow rs rs
 grow_same rs k inside = inside
+
+-- one more, where there is room for one more
+pub few_push : (room : ℕ) (old new : List Range) (r : Range) → new ≡ old ++ r ∷ [] → length old < room → length new ≤ room
+few_push room old new r is below = subst (λ l. length l ≤ room) (sym is) (count old room below)
+  where
+    count : (rs : List Range) (n : ℕ) → length rs < n → length (rs ++ r ∷ []) ≤ n
+    count rs n below = let e = length_push rs r in omega (arith, e, below)

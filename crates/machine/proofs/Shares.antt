@@ -10,7 +10,7 @@ use Rattle.host.proofs.Moving.{KeepsPrefixes, LinksBy, moves_none, moves_twice, 
 use Rattle.machine.specs.Serving.{IsShare, Runs, Serves, Still, Then}
 
 module _ {D : Type 0} (shows : D → DiskState) (makes : D → DiskCall → D → Type 0) (guest : ℕ) where
-  runs_twice : (a b c : BoardState D) → Runs shows makes guest a b → Runs shows makes guest b c → Runs shows makes guest a c
+  pub runs_twice : (a b c : BoardState D) → Runs shows makes guest a b → Runs shows makes guest b c → Runs shows makes guest a c
   runs_twice a b c p (Still d) = p
   runs_twice a b c p (Then x y z s answer q share does) = Then a y z s answer (runs_twice a b y p q) share does
 

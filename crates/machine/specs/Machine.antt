@@ -1,16 +1,26 @@
 -- What contracts see of a machine.
-use Rattle.std.specs.Prelude.{◌≡◌, ℕ, Bool, true, false, ◌&&◌, nat_le, List, length, take, Option}
+use Rattle.std.specs.Prelude.{◌≡◌, ◌≤◌, ◌-◌, ℕ, Bool, true, false, ◌&&◌, nat_le, List, length}
+use Rattle.std.specs.Prelude.{take, Option}
 use Rattle.std.specs.Prelude.{Some, None, slice_get, slice_set}
 use Rattle.std.specs.Prelude.{IfSome}
 use Rattle.disk.specs.Outbox.{WriteAt, is_none}
-use Rattle.guest_memory.specs.Memory.{with_bytes}
+use Rattle.guest_memory.specs.Memory.{IsInside, with_bytes}
+use Rattle.disk.specs.declared.outbox_disk.Told.{Told}
 use Rattle.disk.specs.OutboxDisk.{OutboxMakes, OutboxState, outbox_state}
 use Rattle.flusher.specs.Store.{next_call}
 use Rattle.flusher.specs.declared.progress.Call.{Call}
 use Rattle.flusher.specs.declared.progress.Call.TheVariants as call
 use Rattle.mmio_transport.specs.Device.{DeviceState}
 use Rattle.board.specs.State.{BoardState}
-use Rattle.machine.specs.Serving.{Runs}
+use Rattle.board.specs.Telling.{telling}
+use Rattle.host.specs.Moving.{Moves}
+use Rattle.machine.specs.Reasons.{HasReason}
+use Rattle.machine.specs.Serving.{OthersStay, Runs}
+use Rattle.machine.specs.Stepping.{Hears}
+use Rattle.machine.specs.Written.{KeepsUntold, memory_in}
+use Rattle.machine.specs.declared.fault.MachineFault.{MachineFault}
+use Rattle.machine.specs.declared.fault.MachineFault.TheVariants.{NoGuest, OutOfRange}
+use Rattle.machine.specs.declared.ranges.Range.{Range}
 use Rattle.machine.specs.Settings.{value_shown}
 use Rattle.machine.specs.declared.settings.Window.{Window}
 
@@ -34,6 +44,10 @@ abbrev pub WhereGuest : MachineState → ℕ → (Window → DeviceState → Typ
 WhereGuest m guest P =
     IfSome (slice_get m.windows guest) (λ w. IfSome (slice_get m.board.devices guest) (λ d. P w d))
 
+-- so many bytes from a guest address on lie in the guest's window
+abbrev pub IsInWindow : Window → DeviceState → ℕ → ℕ → Type 0
+IsInWindow w d at count = (w.base ≤ at) × IsInside d.memory (at - w.base) count
+
 -- a device into whose memory its guest has stored
 abbrev pub stored : DeviceState → ℕ → List ℕ → DeviceState
 stored d at bytes = record d { memory = with_bytes d.memory at bytes }
@@ -45,6 +59,42 @@ writes_in m = m.board.store.disk.outbox.writes
 -- steps of a guest, and calls of the disk, led from one board to the other
 abbrev pub GoesOn : ℕ → BoardState OutboxState → BoardState OutboxState → Type 0
 GoesOn guest old new = Runs outbox_state OutboxMakes guest old new
+
+-- A guest was served: by its steps alone; at each moment a stop leaves, of every guest, the
+-- partition after a prefix of its accepted requests, with all that was settled before; and of every
+-- other guest all stays.
+pub record IsServed (guest : ℕ) (old new : MachineState) : Type 0 where
+  pub runs : GoesOn guest old.board new.board
+  pub moves : Moves outbox_state OutboxMakes old.board new.board
+  pub others : OthersStay guest old.board new.board
+  pub windows : new.windows ≡ old.windows
+
+-- So many ranges stand at the front of those, and each byte of the guest's window stays whose
+-- address lies in none of them.
+pub record TellsRanges (guest count : ℕ) (ranges : List Range) (old new : MachineState) : Type 0 where
+  pub fit : count ≤ length ranges
+  pub keeps : KeepsUntold (slice_get old.windows guest) (take count ranges)
+      (memory_in old.board guest) (memory_in new.board guest)
+
+-- why a serve tells a fault: there is no such guest, or no room for a range, or a reason of the board
+pub data HasFault (guest room : ℕ) (f : MachineFault) (old new : MachineState) : Type 0 where
+  NoSuchGuest : f ≡ NoGuest → new ≡ old → HasFault guest room f old new
+  NoRoom : f ≡ OutOfRange → room ≡ 0 → new ≡ old → HasFault guest room f old new
+  OfBoard : HasReason outbox_state OutboxMakes guest f old.board new.board → HasFault guest room f old new
+
+-- A guest that there isn't is refused, and there and without room for a range nothing changes. Each
+-- fault has its reason.
+pub record TellsFault (guest room : ℕ) (told : Option MachineFault) (old new : MachineState) : Type 0 where
+  pub no_guest : slice_get old.windows guest ≡ None → (told ≡ Some NoGuest) × (new ≡ old)
+  pub no_room : room ≡ 0 → new ≡ old
+  pub reason : (f : MachineFault) → told ≡ Some f → HasFault guest room f old new
+
+-- The disk was told of its writes and its sync, and just one call of it was made then: the book
+-- heard of the one before it and of this one.
+pub record Completes (told : Told) (old new : MachineState) : Type 0 where
+  pub runs : (guest : ℕ) → GoesOn guest (telling told old.board) new.board
+  pub hears : Hears outbox_state OutboxMakes (telling told old.board) new.board
+  pub windows : new.windows ≡ old.windows
 
 abbrev pub is_sync : Call → Bool
 is_sync call.Write = false

@@ -62,6 +62,10 @@ abbrev pub device_after : Window → DeviceState → ℕ → ℕ → ℕ → Dev
 device_after w d offset width value =
     after_write d offset width (value_taken w d offset width value)
 
+-- a window begins at a page of the guest's, and ends below 2^64
+unfoldable pub is_placed : Window → Bool
+is_placed w = w.base % 4096 == 0 && nat_le w.base (18446744073709551615 - w.config.memory)
+
 -- how many of a guest's chains may be popped and not yet answered: at most the 64 that the book
 -- holds
 unfoldable pub most_of : Window → ℕ

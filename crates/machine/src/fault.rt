@@ -1,3 +1,6 @@
+ghost use Rattle.std.specs.Prelude.{◌≡◌, ◌≢◌};
+ghost use Rattle.machine.specs.Stepping.{reason_of};
+
 use board::StepFault;
 use mmio_transport::DeviceFault;
 use recovery::OpenFault;
@@ -48,7 +51,9 @@ pub enum MachineFault {
 
 impl MachineFault {
     /// Why a step was refused.
-    pub(crate) fn of_step(fault: StepFault) -> MachineFault {
+    pub(crate) fn of_step(fault: StepFault) -> MachineFault
+        ensures { result ≡ reason_of fault }
+    {
         match fault {
             StepFault::Memory(_) => MachineFault::OutOfRange,
             StepFault::Device(DeviceFault::NoMemory) => MachineFault::NoMemory,
@@ -61,7 +66,10 @@ impl MachineFault {
     }
 
     /// Why an image wasn't opened.
-    pub(crate) fn of_opening(fault: OpenFault) -> MachineFault {
+    pub(crate) fn of_opening(fault: OpenFault) -> MachineFault
+        ensures bad { result ≢ MachineFault.BadBoard }
+        ensures length { result ≢ MachineFault.BadLength }
+    {
         match fault {
             OpenFault::DiskFault => MachineFault::DiskFault,
             OpenFault::NoMemory => MachineFault::NoMemory,

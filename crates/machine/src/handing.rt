@@ -2,6 +2,7 @@
 ghost use Rattle.std.specs.Prelude.{◌≡◌, ℕ};
 ghost use Rattle.disk.specs.OutboxDisk.{OutboxMakes, outbox_state};
 ghost use Rattle.machine.specs.Serving.{Serves};
+ghost use Rattle.machine.specs.Stepping.{Hears};
 
 use crate::stepping::{Went, make};
 use board::{Board, Step};
@@ -22,6 +23,7 @@ const MOST_RECORDS: u32 = 3;
 pub(crate) fn hand_in<D: Disk>(board: &mut Board<D>, guest: u16)
     ensures serves { Serves D.state D.makes guest board.old board.new }
     ensures jobs { board.new.jobs ≡ board.old.jobs }
+    ensures devices { board.new.devices ≡ board.old.devices }
 {
     for _record in 0..MOST_RECORDS {
         let _ = make(board, Step::Take(guest));
@@ -36,6 +38,7 @@ pub(crate) fn hand_in<D: Disk>(board: &mut Board<D>, guest: u16)
 fn write_one<D: Disk>(board: &mut Board<D>) -> bool
     ensures serves { (guest : ℕ) → Serves D.state D.makes guest board.old board.new }
     ensures jobs { board.new.jobs ≡ board.old.jobs }
+    ensures devices { board.new.devices ≡ board.old.devices }
 {
     match board.next_call() {
         Call::Write => {}
@@ -50,6 +53,7 @@ fn write_one<D: Disk>(board: &mut Board<D>) -> bool
 fn write_next(board: &mut Board<OutboxDisk>) -> bool
     ensures serves { (guest : ℕ) → Serves outbox_state OutboxMakes guest board.old board.new }
     ensures jobs { board.new.jobs ≡ board.old.jobs }
+    ensures devices { board.new.devices ≡ board.old.devices }
 {
     if !board.disk().has_room(LARGEST_WRITE) {
         return false;
@@ -61,6 +65,7 @@ fn write_next(board: &mut Board<OutboxDisk>) -> bool
 fn write_all(board: &mut Board<OutboxDisk>)
     ensures serves { (guest : ℕ) → Serves outbox_state OutboxMakes guest board.old board.new }
     ensures jobs { board.new.jobs ≡ board.old.jobs }
+    ensures devices { board.new.devices ≡ board.old.devices }
 {
     for _write in 0..MOST_WRITES {
         if !write_next(board) {
@@ -73,6 +78,7 @@ fn write_all(board: &mut Board<OutboxDisk>)
 pub(crate) fn write_out(board: &mut Board<OutboxDisk>)
     ensures serves { (guest : ℕ) → Serves outbox_state OutboxMakes guest board.old board.new }
     ensures jobs { board.new.jobs ≡ board.old.jobs }
+    ensures devices { board.new.devices ≡ board.old.devices }
 {
     write_all(board);
     let _ = make(board, Step::Settle);
@@ -81,9 +87,11 @@ pub(crate) fn write_out(board: &mut Board<OutboxDisk>)
 /// Makes the call that comes next, and tells the book what came of it.
 pub(crate) fn go_on<D: Disk>(board: &mut Board<D>)
     ensures serves { (guest : ℕ) → Serves D.state D.makes guest board.old board.new }
+    ensures hears { Hears D.state D.makes board.old board.new }
     ensures jobs { board.new.jobs ≡ board.old.jobs }
+    ensures devices { board.new.devices ≡ board.old.devices }
 {
     let _ = make(board, Step::Settle);
-    let _ = make(board, Step::Advance);
+    let _ = make(board, Step::Advance); // the call that was told of
     let _ = make(board, Step::Settle);
 }

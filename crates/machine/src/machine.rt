@@ -1,29 +1,28 @@
 //! A board for a monitor.
-ghost use Rattle.std.specs.Prelude.{◌≡◌, ℕ, true, false, None, Err, IfSome, OnOk, OnErr, length};
-ghost use Rattle.std.specs.Prelude.{slice_get};
-ghost use Rattle.guest_memory.specs.Memory.{bytes_at};
-ghost use Rattle.disk.specs.OutboxDisk.{OutboxMakes, outbox_state};
+ghost use Rattle.std.specs.Prelude.{◌≡◌, ◌↔◌, ◌≤◌, ◌-◌, true, false, Some, None, Err, IsOk, IfSome, OnOk, OnErr};
+ghost use Rattle.std.specs.Prelude.{length, slice_get};
+ghost use Rattle.guest_memory.specs.Memory.{IsInside, bytes_at};
 ghost use Rattle.mmio_transport.specs.Device.{after_write, kick_of};
 ghost use Rattle.mmio_transport.specs.Registers.{interrupt_number};
 ghost use Rattle.rpmb_book.specs.Book.{state};
 ghost use Rattle.board.specs.Telling.{telling};
-ghost use Rattle.host.specs.Moving.{Moves};
 ghost use Rattle.disk.specs.Outbox.{first_of};
-ghost use Rattle.machine.specs.Machine.{Copies, GoesOn, WhereGuest, is_awaited, shown_in};
-ghost use Rattle.machine.specs.Machine.{stored, waits_for_sync, with_device, writes_in};
+ghost use Rattle.machine.specs.Machine.{Completes, Copies, IsInWindow, IsServed, TellsFault, TellsRanges};
+ghost use Rattle.machine.specs.Machine.{WhereGuest, is_awaited, shown_in, stored, waits_for_sync};
+ghost use Rattle.machine.specs.Machine.{with_device, writes_in};
 ghost use Rattle.board.specs.State.{HasNoJob};
-ghost use Rattle.machine.specs.Serving.{OthersStay};
+ghost use Rattle.machine.specs.Ending.{HasNoMore};
 ghost use Rattle.machine.specs.Settings.{device_after, is_plain, value_taken};
 
 use crate::fault::MachineFault;
 use crate::handing::go_on;
-use crate::ranges::Range;
+use crate::ranges::{Range, tell_ranges};
 use crate::serving::{Served, serve};
 use crate::settings::Window;
 use board::Board;
 use disk::{OutboxDisk, Told};
 use flusher::Call;
-use mmio_transport::Kick;
+use mmio_transport::{Device, Kick};
 use std::marker::Model;
 
 /// All guests of a monitor's board, over an image that the monitor keeps.
@@ -104,17 +103,24 @@ impl Machine {
         device.write(offset, width, taken)
     }
 
-    /// The guest's own write of bytes into its window, from the guest address `at` on. `NoGuest`
-    /// or `OutOfRange`, with nothing changed.
+    /// The guest's own write of bytes into its window, from the guest address `at` on. `NoGuest`,
+    /// or `OutOfRange` where they don't all lie in the window, with nothing changed.
     pub fn store(&mut self, guest: u16, at: u64, bytes: &[u8]) -> Result<(), MachineFault>
-        ensures state { IfSome (slice_get self.old.board.devices guest) (λ d.
-            OnOk result (self.new ≡ with_device self.old guest (stored d at bytes.now))) }
+        ensures succeeds { WhereGuest self.old guest (λ w d.
+            IsOk result ↔ IsInWindow w d at (length bytes.now)) }
+        ensures state { WhereGuest self.old guest (λ w d. OnOk result
+            (self.new ≡ with_device self.old guest (stored d (at - w.base) bytes.now))) }
         ensures unchanged { OnErr result (self.new ≡ self.old) }
     {
-        if usize::from(guest) >= self.board.guests() {
+        let number = usize::from(guest);
+        if number >= self.windows.len() || number >= self.board.guests() {
             return Err(MachineFault::NoGuest);
         }
-        match self.board.device(guest).store(at, bytes) {
+        let base = self.windows[number].base;
+        if at < base {
+            return Err(MachineFault::OutOfRange);
+        }
+        match self.board.device(guest).store(at - base, bytes) {
             Ok(()) => {}
             Err(_) => return Err(MachineFault::OutOfRange),
         }
@@ -122,17 +128,21 @@ impl Machine {
     }
 
     /// Copies bytes of the guest's window into all of `out`, from the guest address `at` on.
-    /// `NoGuest` or `OutOfRange`, with nothing changed.
+    /// `NoGuest`, or `OutOfRange` where they don't all lie in the window, with nothing changed.
     pub fn load(&self, guest: u16, at: u64, out: &mut [u8]) -> Result<(), MachineFault>
-        ensures bytes { IfSome (slice_get self.now.board.devices guest) (λ d.
-            OnOk result (out.new ≡ bytes_at d.memory at (length out.old))) }
+        ensures succeeds { WhereGuest self.now guest (λ w d.
+            IsOk result ↔ IsInWindow w d at (length out.old)) }
+        ensures bytes { WhereGuest self.now guest (λ w d. OnOk result
+            (out.new ≡ bytes_at d.memory (at - w.base) (length out.old))) }
         ensures unchanged { OnErr result (out.new ≡ out.old) }
     {
+        let number = usize::from(guest);
+        if number >= self.windows.len() {
+            return Err(MachineFault::NoGuest);
+        }
+        let base = self.windows[number].base;
         match self.board.device_of(guest) {
-            Some(device) => match device.load(at, out) {
-                Ok(()) => Ok(()),
-                Err(_) => Err(MachineFault::OutOfRange),
-            },
+            Some(device) => load_from(device, base, at, out),
             None => Err(MachineFault::NoGuest),
         }
     }
@@ -151,19 +161,19 @@ impl Machine {
 
     /// Serves a guest: takes the chains that it offered, puts what they had accepted into the
     /// outbox, and lets the replies leave that may. All that it writes into the window lies in the
-    /// ranges that it fills.
+    /// ranges that it fills, whose addresses are the guest's.
     ///
     /// The used ring of a split queue is one range, whole; of a packed queue the 8 bytes of each
     /// descriptor that is used are one; a reply's ranges are just its bytes. Where a reply has
-    /// more ranges than there is room for, the last range grows over the rest. `OutOfRange` where
-    /// there is no room for one.
+    /// more ranges than there is room for, the last range grows over the rest. `NoGuest`, or
+    /// `OutOfRange` where there is no room for one range, with nothing changed.
     pub fn serve(&mut self, guest: u16, ranges: &mut [Range]) -> Served
-        ensures runs { GoesOn guest self.old.board self.new.board }
-        ensures moves { Moves outbox_state OutboxMakes self.old.board self.new.board }
-        ensures others { OthersStay guest self.old.board self.new.board }
-        ensures windows { self.new.windows ≡ self.old.windows }
+        ensures served { IsServed guest self.old self.new }
+        ensures writes { TellsRanges guest result.ranges ranges.new self.old self.new }
         ensures left { result.fault ≡ None → HasNoJob guest self.new.board }
         ensures sync { result.fault ≡ None → result.sync ≡ waits_for_sync self.new.board }
+        ensures rest { result.fault ≡ None → result.again ≡ false → HasNoMore guest self.new.board }
+        ensures refused { TellsFault guest (length ranges.old) result.fault self.old self.new }
     {
         self.board.what_always_holds();
         let at = usize::from(guest);
@@ -175,6 +185,7 @@ impl Machine {
         }
         self.written.clear();
         let most = self.windows[at].most();
+        let base = self.windows[at].base;
         let served = serve(
             &mut self.board,
             guest,
@@ -183,7 +194,7 @@ impl Machine {
             &mut self.written,
             ranges.len(),
         );
-        copy_ranges(&self.written, ranges);
+        tell_ranges(&self.written, base, ranges);
         served
     }
 
@@ -211,10 +222,9 @@ impl Machine {
     pub fn completed(&mut self, succeeded: bool) -> Result<(), MachineFault>
         ensures early { succeeded ≡ true → is_awaited self.old.board ≡ false
             → (result ≡ Err MachineFault.NotAwaited) × (self.new ≡ self.old) }
-        ensures failed { succeeded ≡ false → (guest : ℕ)
-            → GoesOn guest (telling Told.Failed self.old.board) self.new.board }
+        ensures failed { succeeded ≡ false → IsOk result × Completes Told.Failed self.old self.new }
         ensures synced { succeeded ≡ true → is_awaited self.old.board ≡ true
-            → (guest : ℕ) → GoesOn guest (telling Told.Synced self.old.board) self.new.board }
+            → IsOk result × Completes Told.Synced self.old self.new }
     {
         if !succeeded {
             self.board.tell(Told::Failed);
@@ -248,10 +258,20 @@ impl Machine {
     }
 }
 
-/// Copies the ranges to the front of `out`, as many as it has.
-fn copy_ranges(written: &Vec<Range>, out: &mut [Range]) {
-    let count = written.len().min(out.len());
-    out[..count].copy_from_slice(&written[..count]);
+/// Copies bytes of a device's window, which begins at the guest address `base`.
+fn load_from(device: &Device, base: u64, at: u64, out: &mut [u8]) -> Result<(), MachineFault>
+    ensures succeeds { IsOk result
+        ↔ ((base ≤ at) × IsInside device.now.memory (at - base) (length out.old)) }
+    ensures bytes { OnOk result (out.new ≡ bytes_at device.now.memory (at - base) (length out.old)) }
+    ensures unchanged { OnErr result (out.new ≡ out.old) }
+{
+    if at < base {
+        return Err(MachineFault::OutOfRange);
+    }
+    match device.load(at - base, out) {
+        Ok(()) => Ok(()),
+        Err(_) => Err(MachineFault::OutOfRange),
+    }
 }
 
 /// Copies the oldest write that waits into the front of `out`, where it has room.

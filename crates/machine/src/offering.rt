@@ -1,8 +1,11 @@
 //! Taking what a guest offered: each chain is popped, and answered by the book.
-ghost use Rattle.std.specs.Prelude.{◌≡◌};
+ghost use Rattle.std.specs.Prelude.{◌≡◌, true, slice_get};
 ghost use Rattle.board.specs.Board.{IsSound};
-ghost use Rattle.board.specs.State.{HasNoJob};
+ghost use Rattle.board.specs.State.{HasJob, HasNoJob};
+ghost use Rattle.machine.specs.Reasons.{HasReason};
+ghost use Rattle.machine.specs.declared.fault.MachineFault.{MachineFault};
 ghost use Rattle.machine.specs.Serving.{IsTaken, Serves};
+ghost use Rattle.machine.specs.Written.{IsQueueNoted, Notes, Writes};
 
 use crate::fault::MachineFault;
 use crate::ranges::{Range, note};
@@ -30,12 +33,19 @@ pub(crate) fn note_queue<D: Disk>(
     guest: u16,
     written: &mut Vec<Range>,
     room: usize,
-) -> bool {
+) -> bool
+    ensures notes { Notes room written.old.items written.new.items }
+    ensures noted { result ≡ true
+        → IsQueueNoted (slice_get board.now.devices guest) written.new.items }
+{
     match board.device_of(guest) {
-        Some(device) => match device.written() {
-            Some(part) => note(written, room, Range::of(part)),
-            None => true,
-        },
+        Some(device) => {
+            let _size = device.memory_size();
+            match device.written() {
+                Some(part) => note(written, room, Range::of(part)),
+                None => true,
+            }
+        }
         None => true,
     }
 }
@@ -50,6 +60,9 @@ fn take_one<D: Disk>(
     ensures serves { Serves D.state D.makes guest board.old board.new }
     ensures left { IsSound D.state board.old → result ≡ Went.Nothing → HasNoJob guest board.new }
     ensures did { IsSound D.state board.old → result ≡ Went.Did → HasNoJob guest board.new }
+    ensures refused { (f : MachineFault) → result ≡ Went.Refused f
+        → HasReason D.state D.makes guest f board.old board.new }
+    ensures writes { Writes guest room written.old.items written.new.items board.old board.new }
 {
     if !note_queue(board, guest, written, room) {
         return Went::Refused(MachineFault::NoMemory);
@@ -64,7 +77,9 @@ fn take_one<D: Disk>(
 /// Nothing more is taken: a chain that was refused before still lies in its place, or as many wait
 /// as may.
 fn stopped<D: Disk>(board: &Board<D>, guest: u16) -> Offered
-    ensures { IsTaken guest result board.now }
+    ensures taken { IsTaken guest result board.now }
+    ensures busy { (f : MachineFault) → result ≡ Offered.Refused f
+        → (f ≡ MachineFault.Busy) × HasJob guest board.now }
 {
     match board.job(guest) {
         Some(_) => Offered::Refused(MachineFault::Busy),
@@ -83,6 +98,9 @@ pub(crate) fn take_all<D: Disk>(
 ) -> Offered
     ensures serves { Serves D.state D.makes guest board.old board.new }
     ensures taken { IsSound D.state board.old → IsTaken guest result board.new }
+    ensures refused { (f : MachineFault) → result ≡ Offered.Refused f
+        → HasReason D.state D.makes guest f board.old board.new }
+    ensures writes { Writes guest room written.old.items written.new.items board.old board.new }
 {
     for _chain in 0..MOST_TAKEN {
         if *held >= most {

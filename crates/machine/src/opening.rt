@@ -1,4 +1,14 @@
 //! Fresh images, and machines over an image that a stop may have left.
+ghost use Rattle.std.specs.Prelude.{◌≡◌, ◌↔◌, Ok, Err, IsTrue, IfOk, OnOk, OnErr, length};
+ghost use Rattle.std.specs.List.{All};
+ghost use Rattle.disk.specs.Content.{content_of};
+ghost use Rattle.disk.specs.OutboxDisk.{OutboxMakes, first_disk, outbox_state};
+ghost use Rattle.board.specs.Opening.{Begins, Calls};
+ghost use Rattle.intent_slots.specs.Layout as layout;
+ghost use Rattle.recovery.specs.Format.{Holds, formatted};
+ghost use Rattle.machine.specs.Opening.{IsFresh, IsMonitored, IsOpened, configs_of, length_of};
+ghost use Rattle.machine.specs.Settings.{is_placed};
+
 use crate::fault::MachineFault;
 use crate::machine::Machine;
 use crate::ranges::Range;
@@ -7,7 +17,7 @@ use board::Board;
 use disk::{MemDisk, OutboxDisk, Told};
 use intent_slots::Layout;
 use recovery::format;
-use rpmb_frame::BoardConfig;
+use rpmb_frame::{BoardConfig, GuestConfig};
 use std::alloc::Global;
 
 /// The number of the life: no reply outlives its board, so one number does.
@@ -16,14 +26,41 @@ const LIFE: u64 = 1;
 /// How many ranges are noted without taking memory.
 const RANGES: usize = 256;
 
-/// The board of these guests.
-fn board_of(alloc: Global, windows: &[Window]) -> Result<BoardConfig, MachineFault> {
+/// Whether each window may begin where it does.
+fn are_placed(windows: &[Window]) -> bool
+    ensures { IsTrue result ↔ All (λ w. IsTrue (is_placed w)) windows.now }
+{
+    windows.iter().all(|window| window.is_placed())
+}
+
+/// The devices of these guests.
+fn configs(alloc: Global, windows: &[Window]) -> Result<Vec<GuestConfig>, MachineFault>
+    ensures value { IfOk result (λ guests. guests.items ≡ configs_of windows.now) }
+    ensures memory { OnErr result (result ≡ Err MachineFault.NoMemory) }
+{
     let mut guests = Vec::new(alloc);
     for window in windows {
         if guests.push(window.config).is_err() {
             return Err(MachineFault::NoMemory);
         }
     }
+    Ok(guests)
+}
+
+/// The board of these guests.
+fn board_of(alloc: Global, windows: &[Window]) -> Result<BoardConfig, MachineFault>
+    ensures value { IfOk result (λ board. board ≡ configs_of windows.now) }
+    ensures monitored { OnOk result (IsMonitored windows.now) }
+    ensures bad { result ≡ Err MachineFault.BadBoard → ¬ IsMonitored windows.now }
+    ensures length { ¬ (result ≡ Err MachineFault.BadLength) }
+{
+    if !are_placed(windows) {
+        return Err(MachineFault::BadBoard);
+    }
+    let guests = match configs(alloc, windows) {
+        Ok(guests) => guests,
+        Err(fault) => return Err(fault),
+    };
     match BoardConfig::new(guests) {
         Ok(board) => Ok(board),
         Err(_) => Err(MachineFault::BadBoard),
@@ -32,27 +69,49 @@ fn board_of(alloc: Global, windows: &[Window]) -> Result<BoardConfig, MachineFau
 
 /// The length in bytes of the image of these guests. `BadBoard` where they are none or more than
 /// 64, or one is out of its range, and `NoMemory`.
-pub fn image_length(alloc: Global, windows: &[Window]) -> Result<u64, MachineFault> {
-    let board = board_of(alloc, windows)?;
-    Ok(Layout::of(&board).length())
+pub fn image_length(alloc: Global, windows: &[Window]) -> Result<u64, MachineFault>
+    ensures value { IfOk result (λ bytes. bytes ≡ length_of windows.now) }
+    ensures monitored { OnOk result (IsMonitored windows.now) }
+    ensures bad { result ≡ Err MachineFault.BadBoard → ¬ IsMonitored windows.now }
+{
+    match board_of(alloc, windows) {
+        Ok(board) => Ok(Layout::of(&board).length()),
+        Err(fault) => Err(fault),
+    }
 }
 
 /// Makes a fresh image of these guests of all of `image`: each partition is empty, without a key.
 /// `BadBoard`, `BadLength` where it hasn't just the image's length, or `NoMemory`; then it stays.
-pub fn format_image(
-    alloc: Global,
-    windows: &[Window],
-    image: &mut [u8],
-) -> Result<(), MachineFault> {
-    let board = board_of(alloc, windows)?;
+pub fn format_image(alloc: Global, windows: &[Window], image: &mut [u8]) -> Result<(), MachineFault>
+    ensures fresh { OnOk result (IsFresh windows.now image.new) }
+    ensures monitored { OnOk result (IsMonitored windows.now) }
+    ensures unchanged { OnErr result (image.new ≡ image.old) }
+    ensures bad { result ≡ Err MachineFault.BadBoard → ¬ IsMonitored windows.now }
+{
+    let board = match board_of(alloc, windows) {
+        Ok(board) => board,
+        Err(fault) => return Err(fault),
+    };
     if image.len() as u64 != Layout::of(&board).length() {
         return Err(MachineFault::BadLength);
     }
+    format_all(alloc, &board, image)
+}
+
+/// Puts a fresh image into bytes of its length.
+fn format_all(alloc: Global, board: &BoardConfig, image: &mut [u8]) -> Result<(), MachineFault>
+    requires { length image.old ≡ layout.image_length (layout.capacities_of board.now) }
+    ensures fresh { OnOk result (Holds (formatted 1 (layout.capacities_of board.now))
+        (layout.image_length (layout.capacities_of board.now)) (content_of image.new)) }
+    ensures count { length image.new ≡ length image.old }
+    ensures unchanged { OnErr result (image.new ≡ image.old) }
+    ensures bad { ¬ (result ≡ Err MachineFault.BadBoard) }
+{
     let Ok(bytes) = vec![in alloc; 0u8; image.len()] else {
         return Err(MachineFault::NoMemory);
     };
     let mut disk = MemDisk::new(bytes);
-    match format(&mut disk, &board) {
+    match format(&mut disk, board) {
         Ok(()) => {}
         Err(fault) => return Err(MachineFault::of_opening(fault)),
     }
@@ -65,7 +124,10 @@ pub fn format_image(
 }
 
 /// The disk over a copy of the image's bytes.
-fn disk_over(alloc: Global, image: &[u8]) -> Result<OutboxDisk, MachineFault> {
+fn disk_over(alloc: Global, image: &[u8]) -> Result<OutboxDisk, MachineFault>
+    ensures value { IfOk result (λ disk. disk ≡ first_disk image.now) }
+    ensures memory { OnErr result (result ≡ Err MachineFault.NoMemory) }
+{
     let Ok(bytes) = image.to_vec(alloc) else {
         return Err(MachineFault::NoMemory);
     };
@@ -80,8 +142,16 @@ fn board_over(
     alloc: Global,
     config: &BoardConfig,
     image: &[u8],
-) -> Result<Board<OutboxDisk>, MachineFault> {
-    let disk = disk_over(alloc, image)?;
+) -> Result<Board<OutboxDisk>, MachineFault>
+    ensures begins { IfOk result (λ b. Begins outbox_state 1 config.now b) }
+    ensures calls { IfOk result (λ b. Calls OutboxMakes (first_disk image.now) (Ok b)) }
+    ensures bad { ¬ (result ≡ Err MachineFault.BadBoard) }
+    ensures length { ¬ (result ≡ Err MachineFault.BadLength) }
+{
+    let disk = match disk_over(alloc, image) {
+        Ok(disk) => disk,
+        Err(fault) => return Err(fault),
+    };
     match Board::open(alloc, disk, LIFE, config) {
         Ok(board) => Ok(board),
         Err((_, fault)) => Err(MachineFault::of_opening(fault)),
@@ -92,7 +162,10 @@ fn board_over(
 fn beside(
     alloc: Global,
     windows: &[Window],
-) -> Result<(Vec<Window>, Vec<u16>, Vec<Range>), MachineFault> {
+) -> Result<(Vec<Window>, Vec<u16>, Vec<Range>), MachineFault>
+    ensures windows { IfOk result (λ kept. kept.0.items ≡ windows.now) }
+    ensures memory { OnErr result (result ≡ Err MachineFault.NoMemory) }
+{
     let Ok(kept) = windows.to_vec(alloc) else {
         return Err(MachineFault::NoMemory);
     };
@@ -109,16 +182,31 @@ impl Machine {
     /// Opens the image of these guests, which the monitor synced and then read whole. The bytes
     /// are copied, and freed once it is open.
     ///
-    /// `BadBoard` where the guests are none or more than 64, or one is out of its range;
+    /// `BadBoard` where the guests are none or more than 64, or one is out of its range, or its
+    /// window's base;
     /// `BadLength` where there are more or fewer bytes than their image has; `NotFormatted`,
     /// `OtherConfig` and `NoMemory`.
-    pub fn open(alloc: Global, windows: &[Window], image: &[u8]) -> Result<Machine, MachineFault> {
-        let config = board_of(alloc, windows)?;
+    pub fn open(alloc: Global, windows: &[Window], image: &[u8]) -> Result<Machine, MachineFault>
+        ensures opened { IfOk result (λ m. IsOpened windows.now image.now m) }
+        ensures bad { result ≡ Err MachineFault.BadBoard → ¬ IsMonitored windows.now }
+        ensures length { result ≡ Err MachineFault.BadLength
+            → ¬ (length image.now ≡ length_of windows.now) }
+    {
+        let config = match board_of(alloc, windows) {
+            Ok(config) => config,
+            Err(fault) => return Err(fault),
+        };
         if image.len() as u64 != Layout::of(&config).length() {
             return Err(MachineFault::BadLength);
         }
-        let (kept, held, written) = beside(alloc, windows)?;
-        let mut board = board_over(alloc, &config, image)?;
+        let (kept, held, written) = match beside(alloc, windows) {
+            Ok(made) => made,
+            Err(fault) => return Err(fault),
+        };
+        let mut board = match board_over(alloc, &config, image) {
+            Ok(board) => board,
+            Err(fault) => return Err(fault),
+        };
         board.tell(Told::Opened);
         Ok(Machine::over(board, kept, held, written))
     }

@@ -1,6 +1,7 @@
 //! Which bytes of a guest's window a call wrote.
-ghost use Rattle.std.specs.Prelude.{◌≡◌, ◌++◌, ◌∷◌, [], true, false, min, max};
-ghost use Rattle.machine.specs.Written.{Grow, IsCovered, end_of, lies_in_one};
+ghost use Rattle.std.specs.Prelude.{◌≡◌, ◌≤◌, ◌<◌, ◌++◌, ◌∷◌, [], true, false, min, max, length, map, take};
+ghost use Rattle.machine.specs.Written.{Grow, IsCovered, IsReplyNoted, Notes, end_of, lies_in_one};
+ghost use Rattle.machine.specs.Written.{range_of, told_at};
 
 use chains::Range as Part;
 use mmio_transport::Done;
@@ -15,10 +16,22 @@ pub struct Range {
 
 impl Range {
     /// The range of a chain or a queue.
-    pub(crate) fn of(part: Part) -> Range {
+    pub(crate) fn of(part: Part) -> Range
+        ensures { result ≡ range_of part }
+    {
         Range {
             at: part.at,
             len: part.len as u64,
+        }
+    }
+
+    /// The same in guest addresses, where the window begins at `base`.
+    fn told_at(self, base: u64) -> Range
+        ensures { result ≡ told_at base self }
+    {
+        Range {
+            at: base.saturating_add(self.at),
+            len: self.len,
         }
     }
 
@@ -56,7 +69,8 @@ fn is_noted(written: &Vec<Range>, range: &Range) -> bool
 /// Puts a range behind those that are noted, of which there are at most `room`. Whether it was put
 /// there.
 fn push(written: &mut Vec<Range>, room: usize, range: Range) -> bool
-    ensures put { result ≡ true → written.new.items ≡ written.old.items ++ range ∷ [] }
+    ensures put { result ≡ true → (written.new.items ≡ written.old.items ++ range ∷ [])
+        × (length written.old.items < room) }
     ensures stays { result ≡ false → written.new.items ≡ written.old.items }
 {
     if written.len() >= room {
@@ -71,6 +85,7 @@ fn push(written: &mut Vec<Range>, room: usize, range: Range) -> bool
 /// Makes the last range that is noted grow over this one. Whether there is one.
 fn grow_last(written: &mut Vec<Range>, range: Range) -> bool
     ensures grow { Grow written.old.items written.new.items }
+    ensures count { length written.new.items ≡ length written.old.items }
     ensures noted { result ≡ true → IsCovered range written.new.items }
 {
     let count = written.len();
@@ -85,7 +100,7 @@ fn grow_last(written: &mut Vec<Range>, range: Range) -> bool
 /// Notes a range, of which there are at most `room`; where there is no room the last one grows
 /// over it. Whether it is noted.
 pub(crate) fn note(written: &mut Vec<Range>, room: usize, range: Range) -> bool
-    ensures grow { Grow written.old.items written.new.items }
+    ensures notes { Notes room written.old.items written.new.items }
     ensures noted { result ≡ true → IsCovered range written.new.items }
 {
     if range.len == 0 {
@@ -101,7 +116,10 @@ pub(crate) fn note(written: &mut Vec<Range>, room: usize, range: Range) -> bool
 }
 
 /// Notes where a reply is written. Whether all of it is noted.
-pub(crate) fn note_reply(written: &mut Vec<Range>, room: usize, done: &Done) -> bool {
+pub(crate) fn note_reply(written: &mut Vec<Range>, room: usize, done: &Done) -> bool
+    ensures notes { Notes room written.old.items written.new.items }
+    ensures noted { result ≡ true → IsReplyNoted done.now written.new.items }
+{
     let mut left = done.reply().len() as u64;
     for part in done.writable() {
         let len = (part.len as u64).min(left);
@@ -113,7 +131,19 @@ pub(crate) fn note_reply(written: &mut Vec<Range>, room: usize, done: &Done) -> 
     true
 }
 
-/// Whether there is room for so many ranges more, or none is noted yet: then the last grows.
+/// Whether there is room for so many ranges more.
 pub(crate) fn has_room(written: &Vec<Range>, room: usize, count: usize) -> bool {
-    written.len() == 0 || count <= room.saturating_sub(written.len())
+    count <= room.saturating_sub(written.len())
+}
+
+/// Copies the ranges to the front of `out`, as many as it has, in guest addresses.
+pub(crate) fn tell_ranges(written: &Vec<Range>, base: u64, out: &mut [Range])
+    ensures count { length out.new ≡ length out.old }
+    ensures told { length written.now.items ≤ length out.old
+        → take (length written.now.items) out.new ≡ map (told_at base) written.now.items }
+{
+    let count = written.len().min(out.len());
+    for i in 0..count {
+        out[i] = written[i].told_at(base);
+    }
 }

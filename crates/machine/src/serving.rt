@@ -1,11 +1,14 @@
 //! Serving a guest: taking what it offered, handing it on, and letting replies leave.
-ghost use Rattle.std.specs.Prelude.{◌≡◌, None, Some};
+ghost use Rattle.std.specs.Prelude.{◌≡◌, ◌≢◌, None, Some, true, false, length};
 ghost use Rattle.disk.specs.OutboxDisk.{OutboxMakes, outbox_state};
 ghost use Rattle.board.specs.Board.{IsSound};
 ghost use Rattle.machine.specs.Machine.{is_sync, waits_for_sync};
 ghost use Rattle.machine.specs.declared.fault.MachineFault.{MachineFault};
 ghost use Rattle.board.specs.State.{HasNoJob};
 ghost use Rattle.machine.specs.Serving.{Serves};
+ghost use Rattle.machine.specs.Ending.{HasNoMore, is_write, told_fault};
+ghost use Rattle.machine.specs.Reasons.{HasReason};
+ghost use Rattle.machine.specs.Written.{Writes};
 
 use crate::fault::MachineFault;
 use crate::handing::{hand_in, write_out};
@@ -35,7 +38,8 @@ pub struct Served {
 impl Served {
     /// Nothing was done, for this reason.
     pub(crate) fn refused(fault: MachineFault) -> Served
-        ensures { result.fault ≡ Some fault }
+        ensures fault { result.fault ≡ Some fault }
+        ensures ranges { result.ranges ≡ 0 }
     {
         Served {
             answered: 0,
@@ -48,7 +52,7 @@ impl Served {
 }
 
 fn fault_of(offered: Offered, left: Left) -> Option<MachineFault>
-    ensures { (fault : MachineFault) → offered ≡ Offered.Refused fault → result ≡ Some fault }
+    ensures { result ≡ told_fault offered left }
 {
     match offered {
         Offered::Refused(fault) => Some(fault),
@@ -60,7 +64,10 @@ fn fault_of(offered: Offered, left: Left) -> Option<MachineFault>
 }
 
 /// Whether a further call does more, before any sync.
-fn is_unfinished(offered: Offered, left: Left, answered: u32, next: Call) -> bool {
+fn is_unfinished(offered: Offered, left: Left, answered: u32, next: Call) -> bool
+    ensures left { result ≡ false → left ≢ Left.Limit }
+    ensures next { result ≡ false → is_write next ≡ false }
+{
     match left {
         Left::Limit => return true,
         _ => {}
@@ -99,6 +106,11 @@ pub(crate) fn serve(
     ensures serves { Serves outbox_state OutboxMakes guest board.old board.new }
     ensures left { IsSound outbox_state board.old → result.fault ≡ None → HasNoJob guest board.new }
     ensures sync { result.sync ≡ waits_for_sync board.new }
+    ensures writes { Writes guest room written.old.items written.new.items board.old board.new }
+    ensures ranges { result.ranges ≡ length written.new.items }
+    ensures reason { (f : MachineFault) → result.fault ≡ Some f
+        → HasReason outbox_state OutboxMakes guest f board.old board.new }
+    ensures rest { result.fault ≡ None → result.again ≡ false → HasNoMore guest board.new }
 {
     let offered = take_all(board, guest, most, held, written, room);
     hand_in(board, guest);

@@ -3,7 +3,7 @@
 ghost use Rattle.std.specs.Prelude.{◌≡◌, ◌≤◌, ◌<◌, ◌^◌, true};
 ghost use Rattle.mmio_transport.specs.Device.{read_value};
 ghost use Rattle.machine.specs.Settings.{is_plain, withheld_of, features_shown, features_taken};
-ghost use Rattle.machine.specs.Settings.{value_shown, value_taken, most_of};
+ghost use Rattle.machine.specs.Settings.{is_placed, value_shown, value_taken, most_of};
 
 use mmio_transport::{Device, register};
 use rpmb_frame::GuestConfig;
@@ -14,11 +14,18 @@ const ACCESS_PLATFORM: u32 = 2;
 /// How many replies of a guest the book holds.
 const HELD: u16 = 64;
 
+/// A window begins at a multiple of so many bytes.
+const PAGE: u64 = 4_096;
+
 /// One guest of a machine: how its device is set up, and what is asked beside the plain device.
 #[derive(Clone, Copy, Debug, PartialEq, Eq)]
 pub struct Window {
-    /// The device. Its window of guest memory begins at guest address 0.
+    /// The device, with the length of its window in bytes.
     pub config: GuestConfig,
+    /// The guest address at which the window begins, in bytes: a multiple of 4,096, such that the
+    /// window ends below 2^64. Stores, loads and ranges count from guest address 0. What a driver
+    /// tells its device counts from here: rings, descriptors and what they name.
+    pub base: u64,
     /// Feature bits (VIRTIO 1.2, 6) that the device doesn't offer; a driver that takes one all the
     /// same is refused FEATURES_OK.
     pub withheld: u64,
@@ -30,7 +37,7 @@ pub struct Window {
     pub platform: bool,
 }
 
-#[tactic(auto, unfolding(crate::specs::Settings::is_plain, crate::specs::Settings::withheld_of, crate::specs::Settings::features_shown, crate::specs::Settings::features_taken, crate::specs::Settings::value_shown, crate::specs::Settings::value_taken, crate::specs::Settings::most_of))]
+#[tactic(auto, unfolding(crate::specs::Settings::is_plain, crate::specs::Settings::withheld_of, crate::specs::Settings::features_shown, crate::specs::Settings::features_taken, crate::specs::Settings::value_shown, crate::specs::Settings::value_taken, crate::specs::Settings::most_of, crate::specs::Settings::is_placed))]
 impl Window {
     /// The features withheld of a half.
     fn withheld_of(&self, half: u32) -> u32
@@ -101,6 +108,13 @@ impl Window {
             return value;
         }
         self.features_taken(device.driver_features_sel(), value)
+    }
+
+    /// Whether the window may begin where it does.
+    pub(crate) fn is_placed(&self) -> bool
+        ensures { result ≡ is_placed self.now }
+    {
+        self.base % PAGE == 0 && self.base <= u64::MAX - self.config.memory
     }
 
     /// How many chains may be popped and not yet answered.

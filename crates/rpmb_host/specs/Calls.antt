@@ -1,21 +1,22 @@
 -- What the calls answer, and what they leave of the machine in a handle (own).
-use Rattle.std.specs.Prelude.{◌≡◌, ℕ, true, false, List, Option, Some, None, IfSome}
+use Rattle.std.specs.Prelude.{◌≡◌, ◌≤◌, ◌-◌, ◌%◌, ℕ, true, false, List, Option, Some, None, IfSome}
 use Rattle.std.specs.Prelude.{length, slice_get}
 use Rattle.guest_memory.specs.Memory.{bytes_at, with_bytes}
 use Rattle.disk.specs.Outbox.{first_of}
-use Rattle.disk.specs.OutboxDisk.{OutboxMakes, outbox_state}
 use Rattle.disk.specs.declared.outbox_disk.Told.TheVariants.{Failed, Synced, Taken}
 use Rattle.board.specs.Telling.{telling}
-use Rattle.host.specs.Moving.{Moves}
 use Rattle.mmio_transport.specs.Device.{DeviceState, after_write, kick_of}
 use Rattle.mmio_transport.specs.Registers.{interrupt_number}
-use Rattle.machine.specs.Machine.{Copies, MachineState, is_awaited, shown_by, waits_for_sync}
-use Rattle.machine.specs.Machine.{with_device}
+use Rattle.machine.specs.Ending.{HasNoMore}
+use Rattle.machine.specs.Machine.{Completes, Copies, IsInWindow, IsServed, MachineState}
+use Rattle.machine.specs.Machine.{TellsFault, TellsRanges, is_awaited, shown_by, waits_for_sync, with_device}
 use Rattle.board.specs.State.{HasNoJob}
-use Rattle.machine.specs.Serving.{OthersStay, Runs}
 use Rattle.machine.specs.Settings.{is_plain, value_taken}
+use Rattle.machine.specs.Opening.{IsMonitored, length_of}
+use Rattle.machine.specs.declared.ranges.Range.{Range}
 use Rattle.machine.specs.declared.settings.Window.{Window}
-use Rattle.rpmb_host.specs.Numbers.{flag, kick_number}
+use Rattle.machine.specs.declared.fault.MachineFault.{MachineFault}
+use Rattle.rpmb_host.specs.Numbers.{flag, kick_number, told_number}
 
 -- a relation of machines, and a fact of one
 abbrev pub Relation : Type 1
@@ -23,6 +24,10 @@ Relation = MachineState → MachineState → Type 0
 
 abbrev pub Fact : Type 1
 Fact = MachineState → Type 0
+
+-- the image of these guests' board has so many bytes
+abbrev pub Spans : List Window → ℕ → Type 0
+Spans windows count = IsMonitored windows × (count ≡ length_of windows)
 
 -- one machine is held before the call and one after it, and they are related so
 abbrev pub Between : Option MachineState → Option MachineState → Relation → Type 0
@@ -63,14 +68,15 @@ abbrev pub WritesPlainly : (guest offset width value : ℕ) → Relation
 WritesPlainly guest offset width value old new = OfGuest old guest (λ w d.
     is_plain w ≡ true → new ≡ with_device old guest (after_write d offset width value))
 
--- bytes were put into the guest's window
+-- bytes lie in the guest's window from this guest address on, and were put there
 abbrev pub Stores : (guest at : ℕ) → List ℕ → Relation
-Stores guest at bytes old new = OfDevice old guest (λ d.
-    new ≡ with_device old guest (record d { memory = with_bytes d.memory at bytes }))
+Stores guest at bytes old new = OfGuest old guest (λ w d. IsInWindow w d at (length bytes)
+    × (new ≡ with_device old guest (record d { memory = with_bytes d.memory (at - w.base) bytes })))
 
--- these are the bytes of the guest's window
+-- these bytes stand in the guest's window from this guest address on
 abbrev pub Loads : (guest at : ℕ) → List ℕ → Fact
-Loads guest at bytes m = OfDevice m guest (λ d. bytes ≡ bytes_at d.memory at (length bytes))
+Loads guest at bytes m = OfGuest m guest (λ w d. IsInWindow w d at (length bytes)
+    × (bytes ≡ bytes_at d.memory (at - w.base) (length bytes)))
 
 -- the guest's InterruptStatus
 abbrev pub Interrupts : (guest status : ℕ) → Fact
@@ -80,11 +86,23 @@ Interrupts guest status m = OfDevice m guest (λ d.
 -- The guest is served: by its steps alone; at each moment a stop leaves, of every guest, the
 -- partition after a prefix of its accepted requests, with all that was settled before; and of
 -- every other guest all stays.
-pub record Serves (guest : ℕ) (old new : MachineState) : Type 0 where
-  pub runs : Runs outbox_state OutboxMakes guest old.board new.board
-  pub moves : Moves outbox_state OutboxMakes old.board new.board
-  pub others : OthersStay guest old.board new.board
-  pub windows : new.windows ≡ old.windows
+abbrev pub Serves : ℕ → Relation
+Serves guest old new = IsServed guest old new
+
+-- So many ranges were filled, and each byte of the guest's window stays whose address lies in none
+-- of them.
+abbrev pub Fills : (guest count : ℕ) → List Range → Relation
+Fills guest count ranges old new = TellsRanges guest count ranges old new
+
+-- the number is that of a fault, or of none, and each fault has its reason
+pub record Faults (guest room number : ℕ) (old new : MachineState) : Type 0 where
+  pub fault : Option MachineFault
+  pub numbered : number ≡ told_number fault
+  pub tells : TellsFault guest room fault old new
+
+-- no reply of the guest may leave, and no write comes before the next sync
+abbrev pub Rests : ℕ → Relation
+Rests guest old new = HasNoMore guest new.board
 
 -- no chain that was popped is without its answer
 abbrev pub Answered : ℕ → Relation
@@ -104,15 +122,13 @@ Gives room at count bytes m =
 abbrev pub Takes : Relation
 Takes old new = new.board ≡ telling Taken old.board
 
--- the disk's next call fails, and the book hears of it
+-- the disk's next call fails, it is made, and the book hears of it
 abbrev pub Fails : Relation
-Fails old new = (guest : ℕ)
-    → Runs outbox_state OutboxMakes guest (telling Failed old.board) new.board
+Fails old new = Completes Failed old new
 
 -- where a sync was awaited and every write taken, it has succeeded, and the book hears of it
-abbrev pub Syncs : Relation
-Syncs old new = is_awaited old.board ≡ true
-    → (guest : ℕ) → Runs outbox_state OutboxMakes guest (telling Synced old.board) new.board
+abbrev pub Syncs : ℕ → Relation
+Syncs result old new = is_awaited old.board ≡ true → (result ≡ 0) × Completes Synced old new
 
 -- else a success is refused by this number
 abbrev pub Refuses : ℕ → Relation

@@ -19,6 +19,7 @@ window_of g = record {
     event_idx = true;
     in_order = false;
   };
+  base = g.base;
   withheld = g.withheld;
   most = g.most;
   capped = not (g.capped == 0);

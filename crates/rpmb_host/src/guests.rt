@@ -12,6 +12,7 @@ use std::alloc::Global;
 pub struct RpmbGuest {
     pub memory: u64,
     pub withheld: u64,
+    pub base: u64,
     pub queue: u16,
     pub most: u16,
     pub capacity: u8,
@@ -51,6 +52,7 @@ impl RpmbGuest {
                 event_idx: true,
                 in_order: false,
             },
+            base: self.base,
             withheld: self.withheld,
             most: self.most,
             capped: self.capped != 0,

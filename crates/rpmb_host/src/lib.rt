@@ -2,10 +2,13 @@
 //! calls, and what their callers owe.
 #![tactic(auto)]
 
-ghost use Rattle.std.specs.Prelude.{◌≡◌, ◌⊎◌, ◌<◌, None, true, is_some, length};
-ghost use Rattle.rpmb_host.specs.Calls.{Answered, Awaits, Between, Fails, Gives, Holds, Interrupts};
-ghost use Rattle.rpmb_host.specs.Calls.{Kicks, Loads, Reads, Refuses, Serves, Stores, Syncs};
-ghost use Rattle.rpmb_host.specs.Calls.{Takes, Writes, WritesPlainly};
+ghost use Rattle.std.specs.Prelude.{◌≡◌, ◌⊎◌, ◌<◌, IfOk, None, true, is_some, length, map};
+ghost use Rattle.machine.specs.Opening.{IsFresh, IsOpened};
+ghost use Rattle.rpmb_host.specs.Calls.{Answered, Awaits, Between, Fails, Faults, Fills};
+ghost use Rattle.rpmb_host.specs.Calls.{Gives, Holds};
+ghost use Rattle.rpmb_host.specs.Calls.{Interrupts, Kicks, Loads, Reads, Refuses, Rests, Serves};
+ghost use Rattle.rpmb_host.specs.Calls.{Spans, Stores, Syncs, Takes, Writes, WritesPlainly};
+ghost use Rattle.rpmb_host.specs.Guests.{window_of};
 
 mod guests;
 mod handle;
@@ -24,7 +27,9 @@ use std::alloc::Global;
 /// The length in bytes of the image of these guests, or 0 where they are no board, or memory is
 /// refused.
 #[unsafe(no_mangle)]
-pub extern "C" fn rpmb_image_length(alloc: Global, guests: &[RpmbGuest]) -> u64 {
+pub extern "C" fn rpmb_image_length(alloc: Global, guests: &[RpmbGuest]) -> u64
+    ensures { 0 < result → Spans (map window_of guests.now) result }
+{
     match windows_of(alloc, guests) {
         Ok(windows) => match image_length(alloc, &windows) {
             Ok(length) => length,
@@ -36,7 +41,10 @@ pub extern "C" fn rpmb_image_length(alloc: Global, guests: &[RpmbGuest]) -> u64 
 
 /// Makes a fresh image of all these bytes.
 #[unsafe(no_mangle)]
-pub extern "C" fn rpmb_format(alloc: Global, guests: &[RpmbGuest], image: &mut [u8]) -> u32 {
+pub extern "C" fn rpmb_format(alloc: Global, guests: &[RpmbGuest], image: &mut [u8]) -> u32
+    ensures fresh { result ≡ 0 → IsFresh (map window_of guests.now) image.new }
+    ensures unchanged { 0 < result → image.new ≡ image.old }
+{
     match windows_of(alloc, guests) {
         Ok(windows) => match format_image(alloc, &windows, image) {
             Ok(()) => 0,
@@ -47,9 +55,18 @@ pub extern "C" fn rpmb_format(alloc: Global, guests: &[RpmbGuest], image: &mut [
 }
 
 /// Opens an image over these guests, on the heap.
-fn opened(alloc: Global, guests: &[RpmbGuest], image: &[u8]) -> Result<Box<Machine>, MachineFault> {
-    let windows = windows_of(alloc, guests)?;
-    match Box::new(alloc, Machine::open(alloc, &windows, image)?) {
+fn opened(alloc: Global, guests: &[RpmbGuest], image: &[u8]) -> Result<Box<Machine>, MachineFault>
+    ensures { IfOk result (λ machine. IsOpened (map window_of guests.now) image.now machine.value) }
+{
+    let windows = match windows_of(alloc, guests) {
+        Ok(windows) => windows,
+        Err(fault) => return Err(fault),
+    };
+    let machine = match Machine::open(alloc, &windows, image) {
+        Ok(machine) => machine,
+        Err(fault) => return Err(fault),
+    };
+    match Box::new(alloc, machine) {
         Ok(machine) => Ok(machine),
         Err(_) => Err(MachineFault::NoMemory),
     }
@@ -65,7 +82,8 @@ pub extern "C" fn rpmb_open(
     host: &mut Handle,
 ) -> u32
     requires { host.old.value ≡ None }
-    ensures opened { result ≡ 0 → is_some host.new.value ≡ true }
+    ensures opened { result ≡ 0
+        → Holds host.new.value (IsOpened (map window_of guests.now) image.now) }
     ensures refused { 0 < result → host.new.value ≡ None }
 {
     match opened(alloc, guests, image) {
@@ -188,6 +206,12 @@ pub extern "C" fn rpmb_serve(
         → Between host.old.value host.new.value (Answered guest) }
     ensures sync { served.new.fault ≡ 0
         → Between host.old.value host.new.value (Awaits served.new.sync) }
+    ensures rest { served.new.fault ≡ 0 → served.new.again ≡ 0
+        → Between host.old.value host.new.value (Rests guest) }
+    ensures faults { Between host.old.value host.new.value
+        (Faults guest (length ranges.old) served.new.fault) }
+    ensures fills { length ranges.old < 4294967296 → Between host.old.value host.new.value
+        (Fills guest served.new.ranges ranges.new) }
 {
     let mut machine = take(alloc, host);
     let told = machine.serve(guest, ranges);
@@ -227,8 +251,9 @@ pub extern "C" fn rpmb_outbox(
 #[unsafe(no_mangle)]
 pub extern "C" fn rpmb_completed(alloc: Global, host: &mut Handle, succeeded: u32) -> u32
     requires { is_some host.old.value ≡ true }
-    ensures failed { succeeded ≡ 0 → Between host.old.value host.new.value Fails }
-    ensures synced { 0 < succeeded → Between host.old.value host.new.value Syncs }
+    ensures failed { succeeded ≡ 0
+        → (result ≡ 0) × Between host.old.value host.new.value Fails }
+    ensures synced { 0 < succeeded → Between host.old.value host.new.value (Syncs result) }
     ensures early { 0 < succeeded → Between host.old.value host.new.value (Refuses result) }
 {
     let mut machine = take(alloc, host);

@@ -1,5 +1,5 @@
 //! What a call of `rpmb_serve` came to, as C reads it.
-ghost use Rattle.std.specs.Prelude.{◌≡◌};
+ghost use Rattle.std.specs.Prelude.{◌≡◌, ◌%◌};
 ghost use Rattle.rpmb_host.specs.Numbers.{flag, told_number};
 
 use crate::numbers::told_number;
@@ -27,6 +27,7 @@ impl RpmbServed {
     pub(crate) fn of(served: Served) -> RpmbServed
         ensures answered { result.answered ≡ served.answered }
         ensures fault { result.fault ≡ told_number served.fault }
+        ensures ranges { result.ranges ≡ served.ranges % 4294967296 }
         ensures sync { result.sync ≡ flag served.sync }
         ensures again { result.again ≡ flag served.again }
     {

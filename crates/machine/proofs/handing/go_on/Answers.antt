@@ -7,3 +7,15 @@ returns-clause-serves g c guest =
     let makes = g.D.Disk.makes in
     serves_twice shows makes guest c.args.board.now c.make.new.board c.make-3.new.board (c.make.ensures.serves guest tt)
     (serves_twice shows makes guest c.make.new.board c.make-2.new.board c.make-3.new.board (c.make-2.ensures.serves guest tt) (c.make-3.ensures.serves guest tt))
+
+pub returns-clause-hears : goal.returns-clause-hears
+returns-clause-hears g c = record {
+  heard = c.make.new.board;
+  made = c.make-2.new.board;
+  before = c.make.ensures.goes.answer;
+  call = c.make-2.ensures.goes.answer;
+  behind = c.make-3.ensures.goes.answer;
+  hears = c.make.ensures.goes.does;
+  makes_it = c.make-2.ensures.goes.does;
+  hears_it = c.make-3.ensures.goes.does;
+}

@@ -1,0 +1,43 @@
+-- What a serve tells at its end.
+use Rattle.std.proofs.Common.{◌≡◌, ◌≢◌, refl, ap, sym, ◌∙◌, ℕ, Bool, true, false, Option, Some, None}
+use Rattle.std.specs.Prelude.{slice_get, if◌then◌else◌, is_some}
+use Rattle.flusher.proofs.Guests.{get_set_same}
+use Rattle.mmio_transport.specs.Job.{Done}
+use Rattle.rpmb_book.specs.Book.{due_of, with_turn}
+use Rattle.rpmb_book.specs.Turn.{Collect}
+use Rattle.board.specs.State.{BoardState, in_place, put}
+use Rattle.board.specs.Steps.{Answer, CollectsInto}
+use Rattle.machine.specs.Ending.{told_fault}
+use Rattle.machine.specs.Stepping.{HasNoReply}
+use Rattle.machine.specs.declared.leaving.Left.{Left}
+use Rattle.machine.specs.declared.leaving.Left.TheVariants as left
+use Rattle.machine.specs.declared.offering.Offered.{Offered}
+use Rattle.machine.specs.declared.offering.Offered.TheVariants as offered
+
+-- where no fault is told, and the limit wasn't met, no reply may leave
+pub all_left : (o : Offered) (l : Left) → told_fault o l ≡ None → l ≢ left.Limit → l ≡ left.All
+all_left o left.All none not = refl
+all_left o left.Limit none not = absurd (not refl)
+all_left offered.All (left.Refused fault) none not = absurd (cc)
+all_left offered.Limit (left.Refused fault) none not = absurd (cc)
+all_left (offered.Refused f) (left.Refused fault) none not = absurd (cc)
+
+-- a collection after which nothing lies in the reply's place
+module _ {D : Type 0} (g : ℕ) (old : BoardState D) where
+  unchanged : (new : BoardState D) → new ≡ old → in_place (slice_get new.dones g) ≡ None → slice_get old.dones g ≢ Some None → HasNoReply g new
+  unchanged new is none other = record { place = none; due = λ there. absurd (other (sym (ap (λ b. slice_get b.dones g) is) ∙ there)) }
+
+  pub none_collected : (answer : Answer) (new : BoardState D) (place : Option (Option Done)) → slice_get old.dones g ≡ place
+      → CollectsInto g place answer old new → in_place (slice_get new.dones g) ≡ None → HasNoReply g new
+  none_collected answer new None was does none = unchanged new does.1 none (λ is. absurd (cc))
+  none_collected answer new (Some (Some r)) was does none = unchanged new does.1 none (λ is. absurd (cc))
+  none_collected answer new (Some None) was does none = by (due_of old.book g) refl
+    where
+      by : (o : Option Done) → due_of old.book g ≡ o → HasNoReply g new
+      by None is = record {
+        place = none;
+        due = λ there. ap (λ b. due_of b.book g) does.1 ∙ ap (λ b. due_of b g) (ap (λ o. if is_some o then with_turn old.book (Collect g) else old.book) is) ∙ is;
+      }
+      by (Some r) is =
+          let full = ap (λ b. slice_get b.dones g) does.1 ∙ ap (λ o. slice_get (put old.dones g o) g) is ∙ get_set_same old.dones g None (Some r) was in
+          absurd (let e = sym none ∙ ap in_place full in cc)
