@@ -1,0 +1,5 @@
+mod answers;
+mod offers;
+mod ranges;
+mod rig;
+mod settings;

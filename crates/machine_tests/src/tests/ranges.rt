@@ -1,0 +1,103 @@
+//! What a serve tells of what it wrote, and where a window stands.
+use crate::tests::offers::{Asked, NO_KEY, ending, offer, reply_at};
+use crate::tests::rig::{Monitor, Rig, check, new_rig, window_at};
+use machine::{Range, image_length};
+use std::test::Fail;
+
+/// A window as that of a guest whose memory begins at 1 GiB.
+const BASE: u64 = 0x4000_0000;
+
+fn serve_once<M: Monitor>(rig: &mut Rig<M>, ranges: &mut [Range]) -> Result<usize, Fail> {
+    offer(rig, 0, 0, Asked::Counter)?;
+    let served = rig.monitor.serve_guest(0, ranges);
+    check(served.fault.is_none() && served.answered == 1, "no reply")?;
+    Ok(served.ranges)
+}
+
+/// The used ring and the reply, each a range of its own.
+fn tell_two<M: Monitor>(rig: &mut Rig<M>, base: u64) -> Result<(), Fail> {
+    let mut ranges = [Range { at: 0, len: 0 }; 8];
+    check(serve_once(rig, &mut ranges)? == 2, "two ranges")?;
+    let used = Range {
+        at: base + 0x3000,
+        len: 6 + 8 * 16,
+    };
+    let reply = Range {
+        at: base + reply_at(0),
+        len: 512,
+    };
+    check(
+        ranges[0] == used && ranges[1] == reply,
+        "the used ring and the reply",
+    )?;
+    check(ending(rig, 0, 0)? == NO_KEY, "a counter of no key")
+}
+
+#[test]
+fn each_part_is_told(rt: HostRuntime) -> Result<(), Fail> {
+    let mut rig = new_rig(rt.alloc(), &[window_at(0)])?;
+    rig.set_up(0)?;
+    tell_two(&mut rig, 0)
+}
+
+/// With room for one range, it spans both.
+fn tell_one<M: Monitor>(rig: &mut Rig<M>) -> Result<(), Fail> {
+    let mut ranges = [Range { at: 0, len: 0 }];
+    check(serve_once(rig, &mut ranges)? == 1, "one range")?;
+    let all = Range {
+        at: 0x3000,
+        len: reply_at(0) + 512 - 0x3000,
+    };
+    check(ranges[0] == all, "from the used ring to the reply")
+}
+
+#[test]
+fn one_range_grows_over_all(rt: HostRuntime) -> Result<(), Fail> {
+    let mut rig = new_rig(rt.alloc(), &[window_at(0)])?;
+    rig.set_up(0)?;
+    tell_one(&mut rig)
+}
+
+fn refuse_outside<M: Monitor>(rig: &mut Rig<M>) -> Result<(), Fail> {
+    let mut byte = [0];
+    check(!rig.monitor.put(0, 0, &byte), "a store below the window")?;
+    check(
+        !rig.monitor.look(0, BASE - 1, &mut byte),
+        "a load below the window",
+    )?;
+    check(
+        !rig.monitor.put(0, BASE + 65_536, &byte),
+        "a store above the window",
+    )?;
+    check(!rig.monitor.put(1, BASE, &byte), "a store of no guest")?;
+    check(
+        rig.monitor.put(0, BASE + 65_535, &byte),
+        "no store at the end",
+    )
+}
+
+#[test]
+fn a_window_begins_at_its_base(rt: HostRuntime) -> Result<(), Fail> {
+    let mut rig = new_rig(rt.alloc(), &[window_at(BASE)])?;
+    rig.set_up(0)?;
+    refuse_outside(&mut rig)?;
+    tell_two(&mut rig, BASE)
+}
+
+#[test]
+fn a_window_lies_among_the_addresses(rt: HostRuntime) -> Result<(), Fail> {
+    let alloc = rt.alloc();
+    let last = u64::MAX - 65_535 - 4_096;
+    check(
+        image_length(alloc, &[window_at(last)]).is_ok(),
+        "the last place",
+    )?;
+    check(
+        image_length(alloc, &[window_at(last + 4_096)]).is_err(),
+        "past the end",
+    )?;
+    check(
+        image_length(alloc, &[window_at(4_095)]).is_err(),
+        "within a page",
+    )
+}
