@@ -19,11 +19,11 @@ fn tell_two<M: Monitor>(rig: &mut Rig<M>, base: u64) -> Result<(), Fail> {
     let mut ranges = [Range { at: 0, len: 0 }; 8];
     check(serve_once(rig, &mut ranges)? == 2, "two ranges")?;
     let used = Range {
-        at: base + 0x3000,
+        at: base.saturating_add(0x3000),
         len: 6 + 8 * 16,
     };
     let reply = Range {
-        at: base + reply_at(0),
+        at: base.saturating_add(reply_at(0)),
         len: 512,
     };
     check(
@@ -46,7 +46,7 @@ fn tell_one<M: Monitor>(rig: &mut Rig<M>) -> Result<(), Fail> {
     check(serve_once(rig, &mut ranges)? == 1, "one range")?;
     let all = Range {
         at: 0x3000,
-        len: reply_at(0) + 512 - 0x3000,
+        len: reply_at(0).saturating_add(512).saturating_sub(0x3000),
     };
     check(ranges[0] == all, "from the used ring to the reply")
 }
