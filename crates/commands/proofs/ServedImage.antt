@@ -97,8 +97,7 @@ module _ {D : Type 0} (shows : D → DiskState) (makes : D → DiskCall → D �
       let x = first g below in
       let w = whole g x.held x.at c left in
       let mark = x.mark in
-      let enough = w.2.enough in
-      (
+      let enough = w.2.enough in (
         w.0,
         subst (λ r. recovered.Stands r c w.0) x.region w.1,
         record {

@@ -373,7 +373,7 @@ pub(crate) fn run_all<
             ensures drivers { IfOk result (λ c. vec_len c.drivers ≡ length scripts.entry.now) }
             ensures each { IfOk result (λ c. Left c.drivers.items scripts.entry.now) }
             ensures flusher { IfOk result (λ c. KeepsOn D.state D.makes flusher.store c.flusher.store
-        × IsHeard flusher.store flusher.broken c.flusher.store c.flusher.broken) }
+                × IsHeard flusher.store flusher.broken c.flusher.store c.flusher.broken) }
         { run_in(scope, rt, alloc, hall, gate, workers, scripts, flusher) },
     )
 }

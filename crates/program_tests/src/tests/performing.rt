@@ -1,4 +1,5 @@
 mod failing;
+mod guests;
 mod images;
 mod lines;
 mod parted;
