@@ -19,8 +19,9 @@ places_taken (own ∷ owners) [] = 0
 places_taken (None ∷ owners) (flight ∷ flights) = places_taken owners flights
 places_taken (Some head ∷ owners) (flight ∷ flights) = flight.places + places_taken owners flights
 
--- What the driver of a packed ring keeps: each id that isn't free is that of one chain, which takes a place at least,
--- and from the place used next to the one offered at next there are as many as the chains in flight take.
+-- What the driver of a packed ring keeps: each id that isn't free is that of one chain, which takes a
+-- place at least, and from the place used next to the one offered at next there are as many as the
+-- chains in flight take.
 pub record IsCounted (driver : DriverState) : Type 0 where
   pub kind : driver.form.kind ≡ Packed
   pub owned : length driver.owners ≡ driver.size
@@ -35,7 +36,8 @@ pub record IsCounted (driver : DriverState) : Type 0 where
 
 -- so a driver begins, and each call keeps it
 abbrev pub ADriverBeginsCounted : Type 0
-ADriverBeginsCounted = (form : Form) (size : ℕ) (event_idx : Bool) → form.kind ≡ Packed → IsCounted (first_driver form size event_idx)
+ADriverBeginsCounted = (form : Form) (size : ℕ) (event_idx : Bool)
+    → form.kind ≡ Packed → IsCounted (first_driver form size event_idx)
 
 abbrev pub AnOfferIsCounted : Type 0
 AnOfferIsCounted = (memory : List ℕ) (driver : DriverState) (readable : List ℕ) (writable : ℕ)
@@ -44,7 +46,8 @@ AnOfferIsCounted = (memory : List ℕ) (driver : DriverState) (readable : List �
     → Offering memory driver readable writable result memory' driver' → IsCounted driver'
 
 abbrev pub AReapIsCounted : Type 0
-AReapIsCounted = (memory : List ℕ) (driver : DriverState) (result : Result (Option Reaped) DriverFault) (driver' : DriverState)
+AReapIsCounted = (memory : List ℕ) (driver : DriverState)
+    (result : Result (Option Reaped) DriverFault) (driver' : DriverState)
     → IsCounted driver → Reaps memory driver result driver' → IsCounted driver'
 
 -- a packed ring is full exactly where too few places are free for the chain

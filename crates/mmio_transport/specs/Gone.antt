@@ -38,7 +38,8 @@ pub data IsGone (d : DeviceState) (done : Done) : Type 0 where
 
 -- what holds of a reply and a device holds of them after each call of the device
 pub record Lasts (P : DeviceState → Done → Type 0) : Type 0 where
-  pub write : (d : DeviceState) (done : Done) (offset width value : ℕ) → P d done → P (after_write d offset width value) done
+  pub write : (d : DeviceState) (done : Done) (offset width value : ℕ)
+      → P d done → P (after_write d offset width value) done
   pub store : (d : DeviceState) (done : Done) (at : ℕ) (bytes : List ℕ) → IsInside d.memory at (length bytes)
       → P d done → P (record d { memory = with_bytes d.memory at bytes }) done
   pub pop : (d : DeviceState) (done : Done) (answer : Result (Option Job) DeviceFault) (d' : DeviceState)
