@@ -1,8 +1,8 @@
 -- The moments of a run, line by line.
-use Rattle.std.proofs.Common.{◌≡◌, ◌≤◌, ◌<◌, ◌+◌, inl, inr, ℕ, Bool, true, false, List, [], ◌∷◌, ◌++◌, Option, Some, None, Result, Ok, Err, length, map, refl, ap, sym, subst, ◌∙◌, arith}
-use Rattle.std.specs.Prelude.{is_ok, not, option_map, slice_get}
-use Rattle.std.proofs.lemmas.List.{append_assoc, append_cancel_right, append-nil, length-append, nil_from_length}
-use Rattle.std.proofs.lemmas.Option.{get_or_from_slice_get, slice_get-get_or, slice_get-map}
+use Rattle.std.proofs.Common.{◌≡◌, ◌≤◌, ◌<◌, ◌+◌, inl, inr, ℕ, Bool, true, false, List, [], ◌∷◌, ◌++◌, Option, Some, Result, Ok, Err, length, map, refl, ap, sym, subst, ◌∙◌, arith}
+use Rattle.std.specs.Prelude.{is_ok, not, slice_get}
+use Rattle.std.proofs.lemmas.List.{append_assoc, append_cancel_right}
+use Rattle.std.proofs.lemmas.Option.{get_or_from_slice_get}
 use Rattle.std.proofs.KnownBytes.{Keeps-refl, Keeps-trans}
 use Rattle.std.specs.Io.KnownBytes.{Appends, Keeps}
 use Rattle.rpmb_frame.specs.Config.{IsBoard}
@@ -24,23 +24,21 @@ use Rattle.board.specs.Opening.{bases_of}
 use Rattle.board.specs.State.{BoardState, guests}
 use Rattle.board.proofs.Stays.{marks_at}
 use Rattle.host.specs.Calm.{IsCalm, is_broken}
-use Rattle.host.specs.Guest.{GuestView}
-use Rattle.host.specs.Host.{HostState, HostView, ResetsAt, StoresAt, seen}
+use Rattle.host.specs.Host.{HostState, seen}
 use Rattle.host.specs.Moving.{GoOn, Moves}
-use Rattle.host.specs.Runner.{runner_of, since}
-use Rattle.host.specs.declared.fault.HostFault.{HostFault}
 use Rattle.host.proofs.Moving.{moves_none}
 use Rattle.host.proofs.Settled.{below}
 use Rattle.commands.specs.Calling.{LineDone}
 use Rattle.commands.specs.Ending.{IsOfBeginning, IsOfOpening, IsOfReading, KeepsUnless}
 use Rattle.commands.specs.Failing.{Breaks, IsFailedIn, Runs, text_when, told_when}
 use Rattle.commands.specs.Image.{Finishes, IsOpened}
-use Rattle.commands.specs.Moments.{AcceptsOwn, AnyMoment, Begun, IsTold, Leads, LinesCome, MayEnd, Moment, MovesTo, Starts, StopsAt, Walked, Went, moment_of}
+use Rattle.commands.specs.Moments.{AnyMoment, Begun, IsTold, Leads, LinesCome, MayEnd, Moment, MovesTo, Starts, Stopped, StopsAt, Walked, Went, moment_of}
 use Rattle.commands.specs.Reasons.{IsHostOf, StoresInside}
 use Rattle.commands.specs.Running.{AreWithin}
 use Rattle.commands.specs.Transcript.{StoresNothing, first_told}
 use Rattle.commands.specs.declared.fault.Fault.{Fault}
 use Rattle.commands.specs.declared.fault.Fault.TheVariants as fault
+use Rattle.commands.proofs.Accepting.{accepts_own, guest_at, next_own, none_more, partition_in}
 use Rattle.commands.proofs.Opened.{found_core}
 use Rattle.commands.proofs.Reasons.{store_inside}
 use Rattle.commands.proofs.Until.{Stood, begin_whole, clean_before, clean_next, step}
@@ -56,68 +54,7 @@ leads_by shows makes board partitions accepted h h' start now linked moves =
       r.linked,
     )
 
--- 1. What was accepted
-
-guest_at : (xs : List GuestState) (g : ℕ) → g < length xs → (x : GuestState) × (slice_get xs g ≡ Some x)
-guest_at [] g inside = absurd (omega (arith, inside))
-guest_at (x ∷ xs) g inside = (_, slice_get-get_or (x ∷ xs) g x inside)
-
--- a guest's partition, by what its answers depend on
-abbrev partition_in : List GuestCore → ℕ → Option Partition
-partition_in cores g = option_map (λ (c : GuestCore). c.partition) (slice_get cores g)
-
-partition_at : (xs : List GuestState) (g : ℕ) (x : GuestState) → slice_get xs g ≡ Some x → partition_in (map (λ (y : GuestState). y.core) xs) g ≡ Some x.core.partition
-partition_at xs g x at = ap (option_map (λ (c : GuestCore). c.partition)) (slice_get-map (λ (y : GuestState). y.core) xs g ∙ ap (option_map (λ (y : GuestState). y.core)) at)
-
--- where a guest's partition stayed, nothing more of it was accepted
-none_more : {D : Type 0} (shows : D → DiskState) (board : List GuestConfig) (bases : ℕ → Partition) (accepted now : ℕ → List Request) (b c : BoardState D) → StaysLinked shows board bases accepted b
-    → StaysLinked shows board bases now c → GoOn accepted now → (g : ℕ) → g < length board → partition_in (runner_of c).cores g ≡ partition_in (runner_of b).cores g → now g ≡ accepted g
-none_more shows board bases accepted now b c old new more g inside same =
-    let many = old.linked.many in
-    let many_then = new.linked.many in
-    let x = guest_at (guests b) g (omega (arith, inside, many)) in
-    let y = guest_at (guests c) g (omega (arith, inside, many_then)) in
-    let t = (old.linked.each g x.0 x.1).link in
-    let u = (new.linked.each g y.0 y.1).link in
-    let stays : y.0.core.partition ≡ x.0.core.partition = some_is (sym (partition_at (guests c) g y.0 y.1) ∙ same ∙ partition_at (guests b) g x.0 x.1) in
-    let before : sequence x.0.core.partition ≡ sequence (bases g) + length (accepted g) = ap sequence t.partition ∙ sequence_of_all (bases g) (accepted g) t.in_turn in
-    let after : sequence x.0.core.partition ≡ sequence (bases g) + length (now g) = ap sequence (sym stays ∙ u.partition) ∙ sequence_of_all (bases g) (now g) u.in_turn in
-    let r = more g in
-    let sum : length (now g) ≡ length (accepted g) + length r.0 = ap length r.1 ∙ length-append (accepted g) r.0 in
-    r.1 ∙ ap (λ rest. accepted g ++ rest) (nil_from_length r.0 (omega (arith, before, after, sum))) ∙ append-nil (accepted g)
-  where
-    some_is : {X : Type 0} {a b : X} → Some a ≡ Some b → a ≡ b
-    some_is e = cc
-
--- a chain of another guest leaves its partition
-spared : (was broke : Bool) (o : Option GuestCore) → option_map (λ (c : GuestCore). c.partition) (option_map (since was broke) o) ≡ option_map (λ (c : GuestCore). c.partition) o
-spared was broke None = refl
-spared true broke (Some c) = refl
-spared false true (Some c) = refl
-spared false false (Some c) = refl
-
-store_rests : (o : Option GuestView) (h h' : HostView) (guest at : ℕ) (bytes : List ℕ) (told : Result (Unit {0}) HostFault) → StoresAt o h guest at bytes told h' → h'.runner ≡ h.runner
-store_rests None h h' guest at bytes told s = ap (λ x. x.runner) s.1
-store_rests (Some g) h h' guest at bytes told s = ap (λ x. x.runner) s.2
-
-reset_rests : (o : Option GuestView) (h h' : HostView) (guest : ℕ) (told : Result (Unit {0}) HostFault) → ResetsAt o h guest told h' → h'.runner ≡ h.runner
-reset_rests None h h' guest told r = ap (λ x. x.runner) r.1
-reset_rests (Some g) h h' guest told r = ap (λ x. x.runner) r.1
-
--- of which guest a line has requests accepted
-accepts_own : {D : Type 0} (shows : D → DiskState) (board : List GuestConfig) (bases : ℕ → Partition) (accepted now : ℕ → List Request) (h h' : HostState D) (start next : Option (List ℕ)) (line : Said)
-    → StaysLinked shows board bases accepted h.board → StaysLinked shows board bases now h'.board → GoOn accepted now → LineDone line h start next h' → AcceptsOwn board line accepted now
-accepts_own shows board bases accepted now h h' start next nothing old new more done =
-    λ g inside. none_more shows board bases accepted now h.board h'.board old new more g inside (ap (λ x. partition_in (seen x).runner.cores g) done.0)
-accepts_own shows board bases accepted now h h' start next (chain guest readable writable) old new more done =
-    λ g inside other. none_more shows board bases accepted now h.board h'.board old new more g inside
-    (ap (option_map (λ (c : GuestCore). c.partition)) (done.call.others.cores g other) ∙ spared (is_broken h.board) (is_broken h'.board) (slice_get (runner_of h.board).cores g))
-accepts_own shows board bases accepted now h h' start next (store guest at bytes) old new more done =
-    λ g inside. none_more shows board bases accepted now h.board h'.board old new more g inside
-    (ap (λ r. partition_in r.cores g) (store_rests (slice_get (seen h).guests guest) (seen h) (seen h') guest at bytes (Ok tt) done.0.own))
-accepts_own shows board bases accepted now h h' start next (reset guest) old new more done =
-    λ g inside. none_more shows board bases accepted now h.board h'.board old new more g inside
-    (ap (λ r. partition_in r.cores g) (reset_rests (slice_get (seen h).guests guest) (seen h) (seen h') guest (Ok tt) done.0.own))
+-- 1. Line by line
 
 -- where a store of a line that is done lies
 inside_of : {D : Type 0} (board : List GuestConfig) (h h' : HostState D) (start next : Option (List ℕ)) (line : Said) → LineDone line h start next h' → IsHostOf board (seen h) → IsWithin (length board) line → StoresInside board line
@@ -125,8 +62,6 @@ inside_of board h h' start next nothing done is within = tt
 inside_of board h h' start next (chain guest readable writable) done is within = tt
 inside_of board h h' start next (store guest at bytes) done is within = store_inside board (seen h) (seen h') guest at bytes done.0.own is within
 inside_of board h h' start next (reset guest) done is within = tt
-
--- 2. Line by line
 
 -- While no call has failed, a calm board's marks count all that was accepted.
 all_kept : {D : Type 0} (shows : D → DiskState) (board : List GuestConfig) (bases : ℕ → Partition) (accepted : ℕ → List Request) (b : BoardState D) → IsCalm shows b → StaysLinked shows board bases accepted b → b.store.broken ≡ false
@@ -221,23 +156,23 @@ walk_on shows makes board partitions all start first line rest h h' now next few
       stood = stood;
     }
 
--- 3. A whole run
+-- 2. A whole run
 
 -- how lines that ended so may end a run
 may_end : {D : Type 0} (board : List GuestConfig) (f : Fault) (rest : List Said) (last after : Moment D) (now next : Option (List ℕ)) → StopsAt board f rest last after → KeepsUnless f last.printed now → Keeps now next → MayEnd board (Err f) rest last after next
-may_end board f [] last after now next stops kept more = absurd stops.0
+may_end board f [] last after now next stops kept more = absurd stops.reason
 may_end board fault.FileFault (line ∷ rest) last after now next stops kept more = inr (fault.FileFault, stops)
 may_end board fault.OutOfRange (line ∷ rest) last after now next stops kept more = (stops, Keeps-trans last.printed now next kept more)
 may_end board fault.NoMemory (line ∷ rest) last after now next stops kept more = (stops, Keeps-trans last.printed now next kept more)
 may_end board fault.HistoryFull (line ∷ rest) last after now next stops kept more = (stops, Keeps-trans last.printed now next kept more)
-may_end board fault.DiskFault (line ∷ rest) last after now next stops kept more = absurd stops.0
-may_end board (fault.BadScript n) (line ∷ rest) last after now next stops kept more = absurd stops.0
-may_end board fault.NotFormatted (line ∷ rest) last after now next stops kept more = absurd stops.0
-may_end board fault.OtherConfig (line ∷ rest) last after now next stops kept more = absurd stops.0
-may_end board fault.Busy (line ∷ rest) last after now next stops kept more = absurd stops.0
-may_end board fault.NoRoom (line ∷ rest) last after now next stops kept more = absurd stops.0
-may_end board fault.Foreign (line ∷ rest) last after now next stops kept more = absurd stops.0
-may_end board fault.BadBoard (line ∷ rest) last after now next stops kept more = absurd stops.0
+may_end board fault.DiskFault (line ∷ rest) last after now next stops kept more = absurd stops.reason
+may_end board (fault.BadScript n) (line ∷ rest) last after now next stops kept more = absurd stops.reason
+may_end board fault.NotFormatted (line ∷ rest) last after now next stops kept more = absurd stops.reason
+may_end board fault.OtherConfig (line ∷ rest) last after now next stops kept more = absurd stops.reason
+may_end board fault.Busy (line ∷ rest) last after now next stops kept more = absurd stops.reason
+may_end board fault.NoRoom (line ∷ rest) last after now next stops kept more = absurd stops.reason
+may_end board fault.Foreign (line ∷ rest) last after now next stops kept more = absurd stops.reason
+may_end board fault.BadBoard (line ∷ rest) last after now next stops kept more = absurd stops.reason
 
 module _ {D : Type 0} (shows : D → DiskState) (makes : D → DiskCall → D → Type 0) (board : List GuestConfig) (disk : D) (h : HostState D) (read : List Line) (start : Option (List ℕ)) (opened : IsOpened shows makes board disk h) (within : AreWithin (length board) read) (in_range : IsBoard board) where
   abbrev every : List Said
@@ -298,22 +233,33 @@ module _ {D : Type 0} (shows : D → DiskState) (makes : D → DiskCall → D �
       ends (Err f) only true same told n linked more = subst (λ e. MayEnd board (Err e) [] (moment_of walked.accepted h' now) (moment_of n after next) next) (sym (only f refl)) (refl, kept, same)
       ends (Err f) only false same told n linked more = absurd (cc)
 
+  -- the line that ended the run, and what it had accepted
+  stops_at : (h' : HostState D) (f : Fault) (now next : Option (List ℕ)) → (s : Stopped shows makes board opened.partitions every start first_of f h' now) → (n : ℕ → List Request)
+      → StaysLinked shows board (bases_of opened.partitions) n h'.board → GoOn s.walked.accepted n → StopsAt board f s.rest (moment_of s.walked.accepted s.before s.printed) (moment_of n h' next)
+  stops_at h' f now next s n linked more = record {
+    reason = s.reason;
+    call = s.fails;
+    accepts = next_own shows board (bases_of opened.partitions) s.walked.accepted n s.before h' f s.rest s.walked.linked linked more s.fails;
+  }
+
   -- a line came to a fault
   pub run_stopped : (h' : HostState D) (f : Fault) (now next : Option (List ℕ)) (new : D) → IsCalm shows h.board → LinesCome shows makes read h start (Err f) h' now
       → Keeps now next → new ≡ h'.board.store.disk → AnyMoment shows makes board every disk start (Err f) new next
   run_stopped h' f now next new calm come kept is =
       let s = come board opened.partitions (starts calm) within in
       whole_run (Err f) s.rest s.before h' s.printed next new s.walked s.moves is
-      (λ n linked more. may_end board f s.rest (moment_of s.walked.accepted s.before s.printed) (moment_of n h' next) now next (s.reason, s.fails) s.silent kept)
+      (λ n linked more. may_end board f s.rest (moment_of s.walked.accepted s.before s.printed) (moment_of n h' next) now next (stops_at h' f now next s n linked more) s.silent kept)
 
   -- standard output took no more
   pub run_unwritten : (h' : HostState D) (r : Result (Unit {0}) Fault) (now next : Option (List ℕ)) (new : D) → IsCalm shows h.board → LinesCome shows makes read h start r h' now
       → new ≡ h'.board.store.disk → AnyMoment shows makes board every disk start (Err fault.FileFault) new next
   run_unwritten h' (Ok x) now next new calm come is =
-      whole_run (Err fault.FileFault) [] h' h' now next new (come board opened.partitions (starts calm) within) (moves_none shows makes h'.board) is (λ n linked more. inl refl)
+      let walked = come board opened.partitions (starts calm) within in
+      whole_run (Err fault.FileFault) [] h' h' now next new walked (moves_none shows makes h'.board) is
+      (λ n linked more. inl (refl, λ g inside. none_more shows board (bases_of opened.partitions) walked.accepted n h'.board h'.board walked.linked linked more g inside refl))
   run_unwritten h' (Err f) now next new calm come is =
       let s = come board opened.partitions (starts calm) within in
-      whole_run (Err fault.FileFault) s.rest s.before h' s.printed next new s.walked s.moves is (λ n linked more. inr (f, (s.reason, s.fails)))
+      whole_run (Err fault.FileFault) s.rest s.before h' s.printed next new s.walked s.moves is (λ n linked more. inr (f, stops_at h' f now next s n linked more))
 
 -- what the calls at the end may come to
 pub finish_only : {D : Type 0} (shows : D → DiskState) (makes : D → DiskCall → D → Type 0) (h : HostState D) (r : Result (Unit {0}) Fault) (d : D) → Finishes shows makes h r d → (f : Fault) → r ≡ Err f → f ≡ fault.DiskFault

@@ -119,13 +119,22 @@ pub data Trail {D : Type 0} (shows : D → DiskState) (makes : D → DiskCall �
       → IsDone shows board partitions start (done ++ line ∷ []) n
       → Trail shows makes board partitions start first (done ++ line ∷ []) n
 
--- the next of the lines left came to this fault, for a reason, by what the host's call did
-abbrev pub StopsAt : {D : Type 0} → List GuestConfig → Fault → List Said → Moment D → Moment D → Type 0
-StopsAt board f rest last after = NextEnds board f rest × NextFails rest last.host f after.host
+-- of which guest the next of the lines left had requests accepted
+abbrev pub NextAccepts : List GuestConfig → List Said → (ℕ → List Request) → (ℕ → List Request) → Type 0
+NextAccepts board [] before now = ⊥
+NextAccepts board (line ∷ rest) before now = AcceptsOwn board line before now
+
+-- The next of the lines left came to this fault, for a reason, by what the host's call did.
+pub record StopsAt {D : Type 0} (board : List GuestConfig) (f : Fault) (rest : List Said)
+    (last after : Moment D) : Type 0 where
+  pub reason : NextEnds board f rest
+  pub call : NextFails rest last.host f after.host
+  pub accepts : NextAccepts board rest last.accepted after.accepted
 
 -- How the lines of a run ended: with the last one, and whether a call of the disk has failed by the
--- end says which status the run has, and none has more accepted where none failed; or with one that
--- came to a fault, for a reason, and printed nothing; or so, and standard output took no more.
+-- end says which status the run has, and nothing more is accepted where none failed; or with one
+-- that came to a fault, for a reason, and printed nothing; or in one of these ways, and standard
+-- output took no more.
 abbrev pub MayEnd : {D : Type 0} → List GuestConfig → Result (Unit {0}) Fault → List Said → Moment D
     → Moment D → Option (List ℕ) → Type 0
 MayEnd board (Ok done) rest last after now =
@@ -134,7 +143,7 @@ MayEnd board (Ok done) rest last after now =
 MayEnd board (Err fault.DiskFault) rest last after now =
     (rest ≡ []) × Keeps last.printed now × (broken_at after ≡ true)
 MayEnd board (Err fault.FileFault) rest last after now =
-    (rest ≡ []) ⊎ ((f : Fault) × StopsAt board f rest last after)
+    ((rest ≡ []) × AcceptNoMore board last.accepted after.accepted) ⊎ ((f : Fault) × StopsAt board f rest last after)
 MayEnd board (Err f) rest last after now = StopsAt board f rest last after × Keeps last.printed now
 
 -- The moments of a run over an image: those of its opening, which leaves all as it was; those of its lines; and those
