@@ -5,6 +5,7 @@ pub mod Telling
 pub mod Listed
 pub mod Ended
 pub mod Opened
+pub mod Accepting
 pub mod Walking
 pub mod Until
 pub mod Stopped

@@ -136,7 +136,7 @@ host_ends_badly shows makes h ended disk f ok =
 -- the last board of a host, and whether its calls went well
 pub moves_to : {D : Type 0} (shows : D → DiskState) (makes : D → DiskCall → D → Type 0) (h : HostState D) (ended : Result (Unit {0}) DiskFault) (r : Result (Unit {0}) Fault) (disk : D) → HostFinishes shows makes h ended disk
     → is_ok r ≡ is_ok ended → MovesTo shows makes h.board r disk
-moves_to shows makes h ended r disk f same = record { last = f.last; moves = f.moves; disk = f.disk; told = same ∙ f.told ∙ ap not (sym f.finished.rests.listened.broken) }
+moves_to shows makes h ended r disk f same = record { last = f.last; moves = f.moves; disk = f.disk; told = same ∙ f.told ∙ ap not (sym f.finished.rests.listened.broken); runner = λ whole. f.finished.rests.runner (sym f.finished.rests.listened.broken ∙ whole) }
 
 later_risen : (a b c : ℕ) → HasRisen a b → b ≤ c → HasRisen a c
 later_risen a b c (inl less) le = inl (omega (arith, less, le))

@@ -27,7 +27,7 @@ use Rattle.host.specs.declared.front.Stuck.{Stuck}
 use Rattle.script.specs.Line.{Said}
 use Rattle.commands.specs.Ending.{IsOfRunning, IsOfWriting}
 use Rattle.commands.specs.Fault.{fault_of}
-use Rattle.commands.specs.Reasons.{IsHostOf, IsOutside, LineEnds}
+use Rattle.commands.specs.Reasons.{IsHostOf, IsInside, IsOutside, LineEnds, StoresInside}
 use Rattle.commands.specs.declared.fault.Fault.{Fault}
 use Rattle.commands.specs.declared.fault.Fault.TheVariants as fault
 use Rattle.commands.proofs.Lines.{there_is}
@@ -131,6 +131,17 @@ store_stops board h h' guest at bytes f stores is within =
     let g = there_is h.guests guest (omega (arith, inside, count)) in
     let s = subst (λ o. StoresAt o h guest at bytes (Err f) h') g.1 stores in
     store_reason board f g.0 s.0 guest at bytes (is.own.each guest g.0 g.1) s.1
+
+-- one that went well lies in that memory
+pub store_inside : (board : List GuestConfig) (h h' : HostView) (guest at : ℕ) (bytes : List ℕ) → HostStores h guest at bytes (Ok tt) h' → IsHostOf board h → IsWithin (length board) (store guest at bytes)
+    → StoresInside board (store guest at bytes)
+store_inside board h h' guest at bytes stores is within =
+    let inside = within.0 in
+    let count = is.own.count in
+    let g = there_is h.guests guest (omega (arith, inside, count)) in
+    let s = subst (λ o. StoresAt o h guest at bytes (Ok tt) h') g.1 stores in
+    let own = is.own.each guest g.0 g.1 in
+    subst (λ o. IsInside o at (length bytes)) (sym own.config) (subst (λ n. at + length bytes ≤ n) own.memory s.1.0)
 
 pub reset_stops : (board : List GuestConfig) (h h' : HostView) (guest : ℕ) (f : HostFault) → HostResetsGuest h guest (Err f) h' → IsHostOf board h → IsWithin (length board) (reset guest) → LineEnds board (fault_of f) (reset guest)
 reset_stops board h h' guest f resets is within =

@@ -23,7 +23,7 @@ use Rattle.commands.specs.Transcript.{StoresNothing, Told, first_told, told_by}
 use Rattle.commands.specs.declared.fault.Fault.{Fault}
 use Rattle.commands.specs.declared.fault.Fault.TheVariants as fault
 use Rattle.commands.proofs.Printing.{guests_after, refused, same_cores, says_same, still, still_guests}
-use Rattle.commands.proofs.Until.{Stood, still_chain}
+use Rattle.commands.proofs.Until.{Stood, clean_next, still_chain}
 
 -- 1. As many guests as there were
 
@@ -94,22 +94,23 @@ stood_stops was broke start now next first h all rest line f later stood kept ma
 
 -- how the next line fails, where the run stands
 line_fails : (was : Bool) (start now : Option (List ℕ)) (first : Told) (h : HostView) (all rest : List Said) (line : Said) (f : Fault) (guests : ℕ) → length all + 2 < last_count
-    → Stood was start now first h all (line ∷ rest) → AreGuests guests first → IsWithin guests line → Fails h line f → MayFail h.runner.answered f line
-line_fails was start now first h all rest nothing f guests few stood are within fails =
+    → StoresNothing (line ∷ []) → Stood was start now first h all (line ∷ rest) → AreGuests guests first → IsWithin guests line → Fails h line f → MayFail h.runner.answered f line
+line_fails was start now first h all rest nothing f guests few clean stood are within fails =
     let counted = stood.counted in
     fails stood.steps guests (told_when stood.failed first stood.done) (omega (arith, counted, few)) stood.at (guests_when stood.failed guests first stood.done are) within
-line_fails was start now first h all rest (chain guest readable writable) f guests few stood are within fails =
+line_fails was start now first h all rest (chain guest readable writable) f guests few clean stood are within fails =
     let counted = stood.counted in
     fails stood.steps guests (told_when stood.failed first stood.done) (omega (arith, counted, few)) stood.at (guests_when stood.failed guests first stood.done are) within
-line_fails was start now first h all rest (store guest at bytes) f guests few stood are within fails = absurd stood.clean
-line_fails was start now first h all rest (reset guest) f guests few stood are within fails =
+line_fails was start now first h all rest (store guest at bytes) f guests few clean stood are within fails = absurd clean
+line_fails was start now first h all rest (reset guest) f guests few clean stood are within fails =
     let counted = stood.counted in
     fails stood.steps guests (told_when stood.failed first stood.done) (omega (arith, counted, few)) stood.at (guests_when stood.failed guests first stood.done are) within
 
 pub stop : (was broke : Bool) (start now next : Option (List ℕ)) (first : Told) (h : HostView) (all rest : List Said) (line : Said) (f : Fault) (guests : ℕ) → length all + 2 < last_count → (broke ≡ false → was ≡ false)
-    → Stood was start now first h all (line ∷ rest) → KeepsUnless f now next → AreGuests guests first → IsWithin guests line → Fails h line f → WroteFirst f broke first all start next
-stop was broke start now next first h all rest line f guests few keeps stood kept are within fails =
-    stood_stops was broke start now next first h all rest line f (later was broke keeps) stood kept (line_fails was start now first h all rest line f guests few stood are within fails)
+    → StoresNothing all → Stood was start now first h all (line ∷ rest) → KeepsUnless f now next → AreGuests guests first → IsWithin guests line → Fails h line f → WroteFirst f broke first all start next
+stop was broke start now next first h all rest line f guests few keeps clean stood kept are within fails =
+    stood_stops was broke start now next first h all rest line f (later was broke keeps) stood kept
+    (line_fails was start now first h all rest line f guests few (clean_next stood.done rest line (subst StoresNothing stood.parts clean)) stood are within fails)
   where
     later : (was broke : Bool) → (broke ≡ false → was ≡ false) → was ≡ true → broke ≡ true
     later was true keeps is = refl

@@ -108,7 +108,6 @@ pub record Stood (broke : Bool) (start here : Option (List ℕ)) (first : Told) 
   pub parts : all ≡ done ++ rest
   pub so_far : Appends start here (text_when failed first done)
   pub at : IsAt steps (told_when failed first done) h
-  pub clean : StoresNothing rest
   pub counted : steps + length rest ≡ length all
   pub answered : h.runner.answered ≡ answered_in done
 
@@ -125,8 +124,8 @@ told_none : (t : Told) → t ≡ told_after t []
 unfolding told_after
 told_none t = refl
 
-pub begin_whole : (start : Option (List ℕ)) (h : HostView) (all : List Said) (t : Told) → IsAt 0 t h → h.runner.answered ≡ 0 → StoresNothing all → Stood false start start t h all all
-begin_whole start h all t at none clean = record {
+pub begin_whole : (start : Option (List ℕ)) (h : HostView) (all : List Said) (t : Told) → IsAt 0 t h → h.runner.answered ≡ 0 → Stood false start start t h all all
+begin_whole start h all t at none = record {
   failed = None;
   done = [];
   steps = 0;
@@ -134,7 +133,6 @@ begin_whole start h all t at none clean = record {
   parts = refl;
   so_far = subst (Appends start start) (text_none t) (Appends-nil start);
   at = subst (λ x. IsAt 0 x h) (told_none t) at;
-  clean = clean;
   counted = omega arith;
   answered = none;
 }
@@ -171,8 +169,8 @@ fails_on true broke None first done line known breaks = absurd known
 
 -- a line was run
 pub stood_on : (was broke : Bool) (start here next : Option (List ℕ)) (first : Told) (h h' : HostView) (all rest : List Said) (line : Said) → length all + 2 < last_count
-    → Breaks was broke line → StoresNothing rest → Stood was start here first h all (line ∷ rest) → RunsSince was broke h line here next h' → Stood broke start next first h' all rest
-stood_on was broke start here next first h h' all rest line few breaks clean stood runs =
+    → Breaks was broke line → Stood was start here first h all (line ∷ rest) → RunsSince was broke h line here next h' → Stood broke start next first h' all rest
+stood_on was broke start here next first h h' all rest line few breaks stood runs =
     let counted = stood.counted in
     let told = told_when stood.failed first stood.done in
     let ran = runs stood.steps told (omega (arith, counted, few)) stood.at in
@@ -185,7 +183,6 @@ stood_on was broke start here next first h h' all rest line few breaks clean sto
       parts = stood.parts ∙ sym (append_assoc stood.done (line ∷ []) rest);
       so_far = subst (Appends start next) (sym on.text) (Appends-trans start here next (text_when stood.failed first stood.done) (printed_since was broke told line) stood.so_far ran.printed);
       at = subst (λ x. IsAt (stood.steps + 1) x h') (sym on.told) ran.after;
-      clean = clean;
       counted = omega (arith, counted);
       answered = (let before = stood.answered in let more = ran.answered in let added = answered_more stood.done line in omega (arith, before, more, added));
     }
@@ -201,14 +198,38 @@ stood_all broke start here first h all stood =
       cores = subst (λ ls. h.runner.cores ≡ (told_when stood.failed first ls).cores) whole stood.at.cores;
     }
 
--- a line was run, whatever it is
+-- none of the first of these lines stores, and the next doesn't
+pub clean_before : (done rest : List Said) → StoresNothing (done ++ rest) → StoresNothing done
+clean_before [] rest clean = tt
+clean_before (nothing ∷ done) rest clean = clean_before done rest clean
+clean_before (chain guest readable writable ∷ done) rest clean = clean_before done rest clean
+clean_before (store guest at bytes ∷ done) rest clean = clean
+clean_before (reset guest ∷ done) rest clean = clean_before done rest clean
+
+pub clean_next : (done rest : List Said) (line : Said) → StoresNothing (done ++ line ∷ rest) → StoresNothing (line ∷ [])
+clean_next [] rest nothing clean = tt
+clean_next [] rest (chain guest readable writable) clean = tt
+clean_next [] rest (store guest at bytes) clean = clean
+clean_next [] rest (reset guest) clean = tt
+clean_next (nothing ∷ done) rest line clean = clean_next done rest line clean
+clean_next (chain guest readable writable ∷ done) rest line clean = clean_next done rest line clean
+clean_next (store guest at bytes ∷ done) rest line clean = absurd clean
+clean_next (reset guest ∷ done) rest line clean = clean_next done rest line clean
+
+-- a line was run that doesn't store
 pub step : (was broke : Bool) (start here next : Option (List ℕ)) (first : Told) (h h' : HostView) (all rest : List Said) (line : Said) → length all + 2 < last_count
-    → Breaks was broke line → Stood was start here first h all (line ∷ rest) → Runs was broke h line here next h' → Stood broke start next first h' all rest
-step was broke start here next first h h' all rest nothing few breaks stood runs = stood_on was broke start here next first h h' all rest nothing few breaks stood.clean stood runs
-step was broke start here next first h h' all rest (chain guest readable writable) few breaks stood runs =
-    stood_on was broke start here next first h h' all rest (chain guest readable writable) few breaks stood.clean stood runs
-step was broke start here next first h h' all rest (store guest at bytes) few breaks stood runs = absurd stood.clean
-step was broke start here next first h h' all rest (reset guest) few breaks stood runs = stood_on was broke start here next first h h' all rest (reset guest) few breaks stood.clean stood runs
+    → Breaks was broke line → StoresNothing (line ∷ []) → Stood was start here first h all (line ∷ rest) → Runs was broke h line here next h' → Stood broke start next first h' all rest
+step was broke start here next first h h' all rest nothing few breaks clean stood runs = stood_on was broke start here next first h h' all rest nothing few breaks stood runs
+step was broke start here next first h h' all rest (chain guest readable writable) few breaks clean stood runs =
+    stood_on was broke start here next first h h' all rest (chain guest readable writable) few breaks stood runs
+step was broke start here next first h h' all rest (store guest at bytes) few breaks clean stood runs = absurd clean
+step was broke start here next first h h' all rest (reset guest) few breaks clean stood runs = stood_on was broke start here next first h h' all rest (reset guest) few breaks stood runs
+
+-- and of lines none of which stores
+pub step_clean : (was broke : Bool) (start here next : Option (List ℕ)) (first : Told) (h h' : HostView) (all rest : List Said) (line : Said) → length all + 2 < last_count
+    → Breaks was broke line → StoresNothing all → Stood was start here first h all (line ∷ rest) → Runs was broke h line here next h' → Stood broke start next first h' all rest
+step_clean was broke start here next first h h' all rest line few breaks clean stood runs =
+    step was broke start here next first h h' all rest line few breaks (clean_next stood.done rest line (subst StoresNothing stood.parts clean)) stood runs
 
 -- where no call has failed, lines have printed the transcript
 pub tells_of : (broke : Bool) (t : Told) (lines : List Said) (start now : Option (List ℕ)) (h : HostView) → broke ≡ false → WroteAll broke t lines start now h → Tells t lines start now h

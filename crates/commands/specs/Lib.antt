@@ -3,6 +3,7 @@ pub mod Image
 pub mod Transcript
 pub mod Reasons
 pub mod Running
+pub mod Calling
 pub mod Listing
 pub mod Upgrading
 pub mod ServedImage

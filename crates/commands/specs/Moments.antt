@@ -1,6 +1,6 @@
 -- What a run leaves at each moment: what its lines had accepted, what of it no stop loses any more,
 -- and what they printed.
-use Rattle.std.specs.Prelude.{◌≡◌, ◌⊎◌, ◌≤◌, ◌<◌, ◌+◌, ℕ, Bool, true, false, not, is_ok, List, []}
+use Rattle.std.specs.Prelude.{◌≡◌, ◌≢◌, ◌⊎◌, ◌≤◌, ◌<◌, ◌+◌, ℕ, Bool, true, false, not, is_ok, List, []}
 use Rattle.std.specs.Prelude.{◌∷◌, ◌++◌, Option, Some, Result, Ok, Err, length, map, slice_get}
 use Rattle.std.specs.Io.KnownBytes.{Appends, Keeps}
 use Rattle.rpmb_frame.specs.Partition.{Partition, sequence}
@@ -19,16 +19,17 @@ use Rattle.board.specs.Board.{LeavesPrefixes, StaysLinked, marks_in}
 use Rattle.board.specs.Opening.{bases_of}
 use Rattle.board.specs.State.{BoardState}
 use Rattle.host.specs.Calm.{IsCalm}
-use Rattle.host.specs.Host.{HostView}
+use Rattle.host.specs.Host.{HostState, seen}
 use Rattle.host.specs.Moving.{GoOn, Moves}
-use Rattle.host.specs.declared.front.Stuck.{Stuck}
+use Rattle.host.specs.Runner.{runner_of}
+use Rattle.commands.specs.Calling.{LineDone, NextFails}
 use Rattle.commands.specs.Ending.{IsOfBeginning, KeepsUnless}
 use Rattle.commands.specs.Failing.{IsFailedIn, text_when, told_when}
 use Rattle.commands.specs.Image.{AreOf}
-use Rattle.commands.specs.Reasons.{IsHostOf, NextEnds}
+use Rattle.commands.specs.Reasons.{IsHostOf, NextEnds, StoresInside}
 use Rattle.commands.specs.Running.{AreWithin, IsAt}
 use Rattle.commands.specs.ServedImage.{ServeMoments}
-use Rattle.commands.specs.Transcript.{Says, StoresNothing, first_told, stuck_line, used_line}
+use Rattle.commands.specs.Transcript.{Says, StoresNothing, first_told}
 use Rattle.commands.specs.declared.fault.Fault.{Fault}
 use Rattle.commands.specs.declared.fault.Fault.TheVariants as fault
 
@@ -36,84 +37,114 @@ use Rattle.commands.specs.declared.fault.Fault.TheVariants as fault
 pub record Moment (D : Type 0) : Type 0 where
   -- each guest's requests that were accepted since the image was opened
   pub accepted : ℕ → List Request
-  -- each guest's sequence that no stop loses any more
-  pub kept : ℕ → ℕ
-  -- a call of the disk has failed
-  pub broken : Bool
-  pub disk : D
+  -- the guests, and the board behind them
+  pub host : HostState D
   -- what standard output has taken
   pub printed : Option (List ℕ)
 
--- the line of a reply to a guest, or of why it is stuck
-abbrev pub IsAnswer : ℕ → List ℕ → Type 0
-IsAnswer guest text = ((reply : List ℕ) × (text ≡ used_line guest reply))
-    ⊎ ((why : Stuck) × (text ≡ stuck_line guest why))
+-- each guest's sequence that no stop loses any more
+abbrev pub kept_at : {D : Type 0} → Moment D → ℕ → ℕ
+kept_at m = marks_in m.host.board
 
-pub record PrintsAnswer (guest : ℕ) (start now : Option (List ℕ)) : Type 0 where
-  pub text : List ℕ
-  pub is : IsAnswer guest text
-  pub printed : Appends start now text
+-- whether a call of the disk has failed
+abbrev pub broken_at : {D : Type 0} → Moment D → Bool
+broken_at m = m.host.board.store.broken
 
--- A chain prints one such line, whatever its guest's rings hold; the other lines print nothing.
-abbrev pub PrintsLine : Said → Option (List ℕ) → Option (List ℕ) → Type 0
-PrintsLine nothing start now = Keeps start now
-PrintsLine (chain guest readable writable) start now = PrintsAnswer guest start now
-PrintsLine (store guest at bytes) start now = Keeps start now
-PrintsLine (reset guest) start now = Keeps start now
+abbrev pub disk_at : {D : Type 0} → Moment D → D
+disk_at m = m.host.board.store.disk
+
+-- nothing more was accepted of any guest
+abbrev pub AcceptNoMore : List GuestConfig → (ℕ → List Request) → (ℕ → List Request) → Type 0
+AcceptNoMore board before now = (g : ℕ) → g < length board → now g ≡ before g
+
+-- a line has requests of its own guest accepted alone, and only where it is a chain
+abbrev pub AcceptsOwn : List GuestConfig → Said → (ℕ → List Request) → (ℕ → List Request) → Type 0
+AcceptsOwn board nothing before now = AcceptNoMore board before now
+AcceptsOwn board (chain guest readable writable) before now =
+    (g : ℕ) → g < length board → g ≢ guest → now g ≡ before g
+AcceptsOwn board (store guest at bytes) before now = AcceptNoMore board before now
+AcceptsOwn board (reset guest) before now = AcceptNoMore board before now
 
 -- From one moment to a later one: what was accepted goes on, and at each moment between the two every stop leaves, for
 -- each guest, the partition after a prefix of it, with all that no stop loses since the first.
 pub record Leads {D : Type 0} (shows : D → DiskState) (makes : D → DiskCall → D → Type 0)
     (board : List GuestConfig) (partitions : List Partition) (m n : Moment D) : Type 0 where
   pub more : GoOn m.accepted n.accepted
-  pub moments : (shows m.disk).faithful ≡ true
-      → Within shows makes (LeavesPrefixes board (bases_of partitions) n.accepted m.kept) m.disk
-      n.disk
-  pub faithful : (shows n.disk).faithful ≡ (shows m.disk).faithful
-  pub kept : (g : ℕ) → m.kept g ≤ n.kept g
-  pub whole : n.broken ≡ false → m.broken ≡ false
-  pub cause : n.broken ≡ true → (m.broken ≡ true) ⊎ HasRisen (shows m.disk).failures (shows n.disk).failures
+  pub moments : (shows (disk_at m)).faithful ≡ true
+      → Within shows makes (LeavesPrefixes board (bases_of partitions) n.accepted (kept_at m))
+      (disk_at m) (disk_at n)
+  pub faithful : (shows (disk_at n)).faithful ≡ (shows (disk_at m)).faithful
+  pub kept : (g : ℕ) → kept_at m g ≤ kept_at n g
+  pub whole : broken_at n ≡ false → broken_at m ≡ false
+  pub cause : broken_at n ≡ true
+      → (broken_at m ≡ true) ⊎ HasRisen (shows (disk_at m)).failures (shows (disk_at n)).failures
 
 -- What the lines done have printed, and what the accepted requests make of each partition, are what the script says, by
 -- the line in which a call of the disk failed first.
 pub record IsTold {D : Type 0} (board : List GuestConfig) (partitions : List Partition)
     (start : Option (List ℕ)) (done : List Said) (m : Moment D) : Type 0 where
   pub failed : Option ℕ
-  pub known : IsFailedIn m.broken failed done
+  pub known : IsFailedIn (broken_at m) failed done
   pub printed : Appends start m.printed (text_when failed (first_told board partitions) done)
   pub after : (g : ℕ) (p : Partition)
       → slice_get (map (λ c. c.partition)
       (told_when failed (first_told board partitions) done).cores) g ≡ Some p
       → p ≡ partition_after_all (bases_of partitions g) (m.accepted g)
 
--- Between two lines: while no call of the disk has failed, no stop loses anything of what was
--- accepted; and where no line of the script stores into guest memory, all is as the script says.
-pub record IsDone {D : Type 0} (board : List GuestConfig) (partitions : List Partition)
-    (all : List Said) (start : Option (List ℕ)) (done : List Said) (m : Moment D) : Type 0 where
-  pub kept : m.broken ≡ false → (g : ℕ) → g < length board
-      → sequence (bases_of partitions g) + length (m.accepted g) ≤ m.kept g
-  pub told : StoresNothing all → IsTold board partitions start done m
+-- Between two lines: what was accepted is what the board's book has accepted of each guest, one
+-- request after another, and no guest waits for a reply; while no call of the disk has failed, no
+-- stop loses anything of it; and where no line so far stored into guest memory, all is as the
+-- script says.
+pub record IsDone {D : Type 0} (shows : D → DiskState) (board : List GuestConfig)
+    (partitions : List Partition) (start : Option (List ℕ)) (done : List Said) (m : Moment D)
+    : Type 0 where
+  pub tied : StaysLinked shows board (bases_of partitions) m.accepted m.host.board
+  pub calm : IsCalm shows m.host.board
+  pub guests : IsHostOf board (seen m.host)
+  pub kept : broken_at m ≡ false → (g : ℕ) → g < length board
+      → sequence (bases_of partitions g) + length (m.accepted g) ≤ kept_at m g
+  pub told : StoresNothing done → IsTold board partitions start done m
 
--- The lines of a script that are done, one after another: each made its calls of the disk, and then it printed.
+-- The lines of a script that are done, one after another: each made its call of the host, with that
+-- call's calls of the disk, and then it printed. No store of theirs lay outside its guest's memory.
 pub data Trail {D : Type 0} (shows : D → DiskState) (makes : D → DiskCall → D → Type 0)
-    (board : List GuestConfig) (partitions : List Partition) (all : List Said)
-    (start : Option (List ℕ)) (first : Moment D)
-    : List Said → Moment D → Type 0 where
-  Begun : IsDone board partitions all start [] first → Trail shows makes board partitions all start first [] first
-  Went : (done : List Said) (line : Said) (m n : Moment D) → Trail shows makes board partitions all start first done m
-      → Leads shows makes board partitions m n → PrintsLine line m.printed n.printed
-      → IsDone board partitions all start (done ++ line ∷ []) n
-      → Trail shows makes board partitions all start first (done ++ line ∷ []) n
+    (board : List GuestConfig) (partitions : List Partition) (start : Option (List ℕ))
+    (first : Moment D) : List Said → Moment D → Type 0 where
+  Begun : IsDone shows board partitions start [] first
+      → Trail shows makes board partitions start first [] first
+  Went : (done : List Said) (line : Said) (m n : Moment D)
+      → Trail shows makes board partitions start first done m
+      → LineDone line m.host m.printed n.printed n.host → StoresInside board line
+      → AcceptsOwn board line m.accepted n.accepted → Leads shows makes board partitions m n
+      → IsDone shows board partitions start (done ++ line ∷ []) n
+      → Trail shows makes board partitions start first (done ++ line ∷ []) n
+
+-- of which guest the next of the lines left had requests accepted
+abbrev pub NextAccepts : List GuestConfig → List Said → (ℕ → List Request) → (ℕ → List Request) → Type 0
+NextAccepts board [] before now = ⊥
+NextAccepts board (line ∷ rest) before now = AcceptsOwn board line before now
+
+-- The next of the lines left came to this fault, for a reason, by what the host's call did.
+pub record StopsAt {D : Type 0} (board : List GuestConfig) (f : Fault) (rest : List Said)
+    (last after : Moment D) : Type 0 where
+  pub reason : NextEnds board f rest
+  pub call : NextFails rest last.host f after.host
+  pub accepts : NextAccepts board rest last.accepted after.accepted
 
 -- How the lines of a run ended: with the last one, and whether a call of the disk has failed by the
--- end says which status the run has; or with one that came to a fault, for a reason, and printed
--- nothing; or since standard output took no more.
-abbrev pub MayEnd : List GuestConfig → Result (Unit {0}) Fault → List Said → Option (List ℕ)
-    → Option (List ℕ) → Bool → Type 0
-MayEnd board (Ok done) rest last now broken = (rest ≡ []) × Keeps last now × (broken ≡ false)
-MayEnd board (Err fault.DiskFault) rest last now broken = (rest ≡ []) × Keeps last now × (broken ≡ true)
-MayEnd board (Err fault.FileFault) rest last now broken = Unit {0}
-MayEnd board (Err f) rest last now broken = NextEnds board f rest × Keeps last now
+-- end says which status the run has, and nothing more is accepted where none failed; or with one
+-- that came to a fault, for a reason, and printed nothing; or in one of these ways, and standard
+-- output took no more.
+abbrev pub MayEnd : {D : Type 0} → List GuestConfig → Result (Unit {0}) Fault → List Said → Moment D
+    → Moment D → Option (List ℕ) → Type 0
+MayEnd board (Ok done) rest last after now =
+    (rest ≡ []) × Keeps last.printed now × (broken_at after ≡ false)
+    × AcceptNoMore board last.accepted after.accepted
+MayEnd board (Err fault.DiskFault) rest last after now =
+    (rest ≡ []) × Keeps last.printed now × (broken_at after ≡ true)
+MayEnd board (Err fault.FileFault) rest last after now =
+    ((rest ≡ []) × AcceptNoMore board last.accepted after.accepted) ⊎ ((f : Fault) × StopsAt board f rest last after)
+MayEnd board (Err f) rest last after now = StopsAt board f rest last after × Keeps last.printed now
 
 -- The moments of a run over an image: those of its opening, which leaves all as it was; those of its lines; and those
 -- after the last line that was done.
@@ -123,19 +154,24 @@ pub record WholeRun {D : Type 0} (shows : D → DiskState) (makes : D → DiskCa
   pub partitions : List Partition
   pub of_image : AreOf board (shows old) partitions
   pub first : Moment D
-  pub opening : Within shows makes (Untouched (shows old)) old first.disk
+  pub opening : Within shows makes (Untouched (shows old)) old (disk_at first)
   pub none : (g : ℕ) → first.accepted g ≡ []
-  pub whole : first.broken ≡ false
+  pub whole : broken_at first ≡ false
   pub silent : first.printed ≡ start
+  -- each guest is ready, on its partition of the image
+  pub ready : IsAt 0 (first_told board partitions) (seen first.host)
+  pub answered : (seen first.host).runner.answered ≡ 0
   pub done : List Said
   pub rest : List Said
   pub parts : all ≡ done ++ rest
   pub last : Moment D
-  pub trail : Trail shows makes board partitions all start first done last
+  pub trail : Trail shows makes board partitions start first done last
   pub after : Moment D
   pub leads : Leads shows makes board partitions last after
-  pub disk : new ≡ after.disk
-  pub ends : MayEnd board ended rest last.printed now after.broken
+  -- what is accepted by then is what the book has, too
+  pub tied : StaysLinked shows board (bases_of partitions) after.accepted after.host.board
+  pub disk : new ≡ disk_at after
+  pub ends : MayEnd board ended rest last after now
 
 -- what an image that isn't opened leaves
 pub record IsRefused {D : Type 0} (shows : D → DiskState) (makes : D → DiskCall → D → Type 0)
@@ -169,72 +205,68 @@ FaultMoments shows makes (command.Serve b s) board script old start f new now =
 
 -- 1. Within a run
 
--- where a run stands whose board is this one
-abbrev pub moment_of : {D : Type 0} → (ℕ → List Request) → BoardState D → Option (List ℕ) → Moment D
-moment_of accepted b printed =
-    record {
-      accepted = accepted;
-      kept = marks_in b;
-      broken = b.store.broken;
-      disk = b.store.disk;
-      printed = printed;
-    }
+-- where a run stands whose host is this one
+abbrev pub moment_of : {D : Type 0} → (ℕ → List Request) → HostState D → Option (List ℕ) → Moment D
+moment_of accepted h printed = record { accepted = accepted; host = h; printed = printed }
 
 -- a host of an image that was just opened, before the first line
 pub record Starts {D : Type 0} (shows : D → DiskState) (board : List GuestConfig)
-    (partitions : List Partition) (b : BoardState D) (h : HostView) : Type 0 where
-  pub calm : IsCalm shows b
-  pub whole : b.store.broken ≡ false
-  pub linked : StaysLinked shows board (bases_of partitions) (λ g. []) b
-  pub ready : IsAt 0 (first_told board partitions) h
-  pub answered : h.runner.answered ≡ 0
-  pub host : IsHostOf board h
+    (partitions : List Partition) (h : HostState D) : Type 0 where
+  pub calm : IsCalm shows h.board
+  pub whole : h.board.store.broken ≡ false
+  pub linked : StaysLinked shows board (bases_of partitions) (λ g. []) h.board
+  pub ready : IsAt 0 (first_told board partitions) (seen h)
+  pub answered : (seen h).runner.answered ≡ 0
+  pub host : IsHostOf board (seen h)
 
 -- the lines before the rest are done
 pub record Walked {D : Type 0} (shows : D → DiskState) (makes : D → DiskCall → D → Type 0)
     (board : List GuestConfig) (partitions : List Partition) (all : List Said)
     (start : Option (List ℕ)) (first : Moment D)
-    (rest : List Said) (b : BoardState D) (now : Option (List ℕ)) : Type 0 where
+    (rest : List Said) (h : HostState D) (now : Option (List ℕ)) : Type 0 where
   pub accepted : ℕ → List Request
-  pub linked : StaysLinked shows board (bases_of partitions) accepted b
+  pub linked : StaysLinked shows board (bases_of partitions) accepted h.board
+  pub host : IsHostOf board (seen h)
   pub done : List Said
   pub parts : all ≡ done ++ rest
-  pub trail : Trail shows makes board partitions all start first done (moment_of accepted b now)
+  pub trail : Trail shows makes board partitions start first done (moment_of accepted h now)
 
--- the lines before the rest are done, and the calls after them came to this board
+-- the lines before the rest are done, and the calls after them came to this host
 pub record Stopped {D : Type 0} (shows : D → DiskState) (makes : D → DiskCall → D → Type 0)
     (board : List GuestConfig) (partitions : List Partition) (all : List Said)
     (start : Option (List ℕ)) (first : Moment D)
-    (f : Fault) (b : BoardState D) (now : Option (List ℕ)) : Type 0 where
+    (f : Fault) (h : HostState D) (now : Option (List ℕ)) : Type 0 where
   pub rest : List Said
-  pub before : BoardState D
+  pub before : HostState D
   pub printed : Option (List ℕ)
   pub walked : Walked shows makes board partitions all start first rest before printed
-  pub moves : Moves shows makes before b
+  pub moves : Moves shows makes before.board h.board
   pub silent : KeepsUnless f printed now
   pub reason : NextEnds board f rest
+  pub fails : NextFails rest before f h
 
 -- what lines come to
 abbrev pub Comes : {D : Type 0} → (D → DiskState) → (D → DiskCall → D → Type 0) → List GuestConfig
     → List Partition → List Said → Option (List ℕ) → Moment D → Result (Unit {0}) Fault
-    → BoardState D → Option (List ℕ) → Type 0
-Comes shows makes board partitions all start first (Ok done) b now =
-    Walked shows makes board partitions all start first [] b now
-Comes shows makes board partitions all start first (Err f) b now =
-    Stopped shows makes board partitions all start first f b now
+    → HostState D → Option (List ℕ) → Type 0
+Comes shows makes board partitions all start first (Ok done) h now =
+    Walked shows makes board partitions all start first [] h now
+Comes shows makes board partitions all start first (Err f) h now =
+    Stopped shows makes board partitions all start first f h now
 
 abbrev pub LinesCome : {D : Type 0} → (D → DiskState) → (D → DiskCall → D → Type 0) → List Line
-    → BoardState D → HostView → Option (List ℕ) → Result (Unit {0}) Fault → BoardState D
-    → Option (List ℕ) → Type 0
-LinesCome shows makes read old h start ended new now =
-    (board : List GuestConfig) (partitions : List Partition) → Starts shows board partitions old h
+    → HostState D → Option (List ℕ) → Result (Unit {0}) Fault → HostState D → Option (List ℕ) → Type 0
+LinesCome shows makes read old start ended new now =
+    (board : List GuestConfig) (partitions : List Partition) → Starts shows board partitions old
     → AreWithin (length board) read
     → Comes shows makes board partitions (map said read) start (moment_of (λ g. []) old start) ended new now
 
--- a host's last board, and its disk; the calls went well exactly where none has failed
+-- A host's last board, and its disk. The calls went well exactly where none has failed; then what
+-- its answers depend on stayed.
 pub record MovesTo {D : Type 0} (shows : D → DiskState) (makes : D → DiskCall → D → Type 0)
     (old : BoardState D) (ended : Result (Unit {0}) Fault) (back : D) : Type 0 where
   pub last : BoardState D
   pub moves : Moves shows makes old last
   pub disk : back ≡ last.store.disk
   pub told : is_ok ended ≡ not last.store.broken
+  pub runner : last.store.broken ≡ false → runner_of last ≡ runner_of old

@@ -1,5 +1,5 @@
 -- Why a line ends a run, whatever the rings of its guests hold.
-use Rattle.std.specs.Prelude.{ℕ, ◌+◌, ◌<◌, List, [], ◌∷◌, length, Option, Some, None, slice_get}
+use Rattle.std.specs.Prelude.{ℕ, ◌+◌, ◌<◌, ◌≤◌, List, [], ◌∷◌, length, Option, Some, None, slice_get}
 use Rattle.rpmb_frame.specs.Config.{IsBoard}
 use Rattle.rpmb_frame.specs.declared.config.GuestConfig.{GuestConfig}
 use Rattle.script.specs.Line.{Said, nothing, chain, store, reset}
@@ -26,6 +26,18 @@ StoresOutside board nothing = ⊥
 StoresOutside board (chain guest readable writable) = ⊥
 StoresOutside board (store guest at bytes) = IsOutside (slice_get board guest) at (length bytes)
 StoresOutside board (reset guest) = ⊥
+
+-- so many bytes from this address on all lie there
+abbrev pub IsInside : Option GuestConfig → ℕ → ℕ → Type 0
+IsInside None at count = ⊥
+IsInside (Some guest) at count = at + count ≤ guest.memory
+
+-- the line stores nothing, or bytes that all lie in its guest's memory
+abbrev pub StoresInside : List GuestConfig → Said → Type 0
+StoresInside board nothing = Unit {0}
+StoresInside board (chain guest readable writable) = Unit {0}
+StoresInside board (store guest at bytes) = IsInside (slice_get board guest) at (length bytes)
+StoresInside board (reset guest) = Unit {0}
 
 -- Which faults a line may come to: a chain, for want of memory or of room in the history, or since
 -- standard output took no more; a store, since its bytes don't lie in the guest's memory. A guest

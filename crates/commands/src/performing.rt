@@ -59,7 +59,8 @@ pub fn perform<R: AllocGlobal + Threads + Wait + Sync, D: Disk + Send + Drop, W:
         (W.contents out.new)) }
     // At each moment of a run every stop leaves, for each guest, the partition after a prefix of what its lines
     // so far had accepted, with all that was accepted up to the last line that printed, until a call of the
-    // disk fails; from then on with all that no stop could lose before.
+    // disk fails; from then on with all that no stop could lose before. Each line, also one that stores into
+    // guest memory, made the call of the host that it says, and a chain printed what the host answered.
     ensures moments { IsRun command.entry → result.0 ≡ 0 → (lines : List Said) → Says board.now script.now lines
         → IfSome result.1 (λ d. AnyMoment D.state D.makes board.now lines disk (W.contents out.old)
         (Ok tt) d (W.contents out.new)) }

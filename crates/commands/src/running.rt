@@ -11,11 +11,12 @@ ghost use Rattle.script.specs.Script.{lines_of};
 ghost use Rattle.host.specs.Calm.{IsCalm, is_broken};
 ghost use Rattle.host.specs.Host.{seen};
 ghost use Rattle.host.specs.Moving.{Moves};
+ghost use Rattle.commands.specs.Calling.{LineDone, LineFails};
 ghost use Rattle.commands.specs.Ending.{IsOfOpening, IsOfReading, IsOfRunning, KeepsUnless};
 ghost use Rattle.commands.specs.Ending.{OpenedEnds, OpenedPrints, RunEnds, RunPrints, WroteFirst};
 ghost use Rattle.commands.specs.Failing.{Breaks, Runs, WroteAll};
 ghost use Rattle.commands.specs.Image.{Finishes, IsOpened, Ran};
-ghost use Rattle.commands.specs.Moments.{AnyMoment, LinesCome, MovesTo, PrintsLine};
+ghost use Rattle.commands.specs.Moments.{AnyMoment, LinesCome, MovesTo};
 ghost use Rattle.commands.specs.Reasons.{IsHostOf, LineEnds};
 ghost use Rattle.commands.specs.Running.{AreGuests, AreWithin, Fails, IsAt, IsSized};
 ghost use Rattle.commands.specs.Transcript.{IsBadAt, Says, StoresNothing, Told};
@@ -72,8 +73,9 @@ fn run_chain<D: Disk, W: Write>(
     ensures fails { IfErr result (Fails (seen host.old) (chain guest readable.now writable)) }
     ensures breaks { Breaks (is_broken host.old.board) (is_broken host.new.board) (chain guest readable.now writable) }
     ensures silent { IfErr result (λ fault. KeepsUnless fault (W.contents out.old) (W.contents out.new)) }
-    ensures prints { OnOk result (PrintsLine (chain guest readable.now writable)
-        (W.contents out.old) (W.contents out.new)) }
+    ensures done { OnOk result (LineDone (chain guest readable.now writable) host.old
+        (W.contents out.old) (W.contents out.new) host.new) }
+    ensures failed { IfErr result (λ fault. LineFails (chain guest readable.now writable) host.old fault host.new) }
     ensures calm { IsCalm D.state host.new.board }
 {
     match host.chain(guest, readable, writable) {
@@ -102,7 +104,8 @@ fn run_line<D: Disk, W: Write>(
     ensures fails { IfErr result (Fails (seen host.old) (said line)) }
     ensures breaks { Breaks (is_broken host.old.board) (is_broken host.new.board) (said line) }
     ensures silent { IfErr result (λ fault. KeepsUnless fault (W.contents out.old) (W.contents out.new)) }
-    ensures prints { OnOk result (PrintsLine (said line) (W.contents out.old) (W.contents out.new)) }
+    ensures done { OnOk result (LineDone (said line) host.old (W.contents out.old) (W.contents out.new) host.new) }
+    ensures failed { IfErr result (λ fault. LineFails (said line) host.old fault host.new) }
     ensures calm { IsCalm D.state host.old.board → IsCalm D.state host.new.board }
 {
     match line {
@@ -140,8 +143,8 @@ fn run_lines<D: Disk, W: Write>(
     ensures moves { Moves D.state D.makes host.old.board host.new.board }
     ensures ends { IfErr result (λ fault. (board : List GuestSetup) → IsHostOf board (seen host.old)
         → AreWithin (length board) lines.items → IsOfRunning fault) }
-    ensures moments { LinesCome D.state D.makes lines.items host.old.board (seen host.old)
-        (W.contents out.old) result host.new.board (W.contents out.new) }
+    ensures moments { LinesCome D.state D.makes lines.items host.old (W.contents out.old) result host.new
+        (W.contents out.new) }
     ensures stopped { IfErr result (λ fault. is_broken host.old.board ≡ false
         → (seen host.old).runner.answered ≡ 0 → (guests : ℕ) → (t : Told) → IsAt 0 t (seen host.old)
         → AreGuests guests t

@@ -1,11 +1,13 @@
 use Rattle.std.proofs.Common.{List, OnOk, length, refl, subst, sym}
 use Rattle.std.specs.Prelude.{IfErr}
+use Rattle.std.proofs.KnownBytes.{Keeps-refl}
 use Rattle.rpmb_frame.specs.declared.config.GuestConfig.{GuestConfig}
-use Rattle.script.specs.Line.{IsWithin, chain, reset, said}
+use Rattle.script.specs.Line.{IsWithin, chain, reset, said, store}
 use Rattle.script.specs.declared.line.Line.{Line}
 use Rattle.host.specs.Calm.{is_broken}
 use Rattle.host.specs.Host.{seen}
 use Rattle.commands.specs.declared.fault.Fault.{Fault}
+use Rattle.commands.specs.Calling.{LineDone, LineFails}
 use Rattle.commands.specs.Failing.{Runs}
 use Rattle.commands.specs.Reasons.{IsHostOf, LineEnds}
 use Rattle.commands.specs.Running.{Fails}
@@ -82,3 +84,47 @@ returns-clause-ends g c board is within =
     let told : Fault → Type 0 = λ f. LineEnds board f (reset c.in-Reset.guest) in
     (subst of (sym c.in-Reset.is) (λ inside. subst told (sym c.of-in-Err-reset.ensures)
     (reset_stops board (seen c.args.host.now) (seen c.reset.new.self) c.in-Reset.guest c.in-Err-reset.fault c.in-Err-reset.ensures.guest is inside))) within
+
+pub returns-in-Nothing-clause-done : goal.returns-in-Nothing-clause-done
+returns-in-Nothing-clause-done g c =
+    let start = g.W.Write.contents c.args.out.now in
+    let of : Line → Type 0 = λ l. LineDone (said l) c.args.host.now start start c.args.host.now in
+    subst of (sym c.in-Nothing.is) (refl, Keeps-refl start)
+
+pub returns-in-Chain-clause-done : goal.returns-in-Chain-clause-done
+returns-in-Chain-clause-done g c =
+    let start = g.W.Write.contents c.args.out.now in
+    let end = g.W.Write.contents c.run_chain.new.out in
+    let of : Line → Type 0 = λ l. OnOk c.run_chain.result (LineDone (said l) c.args.host.now start end c.run_chain.new.host) in
+    let with : List _ → Type 0 = λ r. OnOk c.run_chain.result (LineDone (chain c.in-Chain.guest r c.in-Chain.writable) c.args.host.now start end c.run_chain.new.host) in
+    subst of (sym c.in-Chain.is) (subst with c.as_slice.ensures.value c.run_chain.ensures.done)
+
+pub returns-in-Chain-clause-failed : goal.returns-in-Chain-clause-failed
+returns-in-Chain-clause-failed g c =
+    let of : Line → Type 0 = λ l. IfErr c.run_chain.result (λ f. LineFails (said l) c.args.host.now f c.run_chain.new.host) in
+    let with : List _ → Type 0 = λ r. IfErr c.run_chain.result (λ f. LineFails (chain c.in-Chain.guest r c.in-Chain.writable) c.args.host.now f c.run_chain.new.host) in
+    subst of (sym c.in-Chain.is) (subst with c.as_slice.ensures.value c.run_chain.ensures.failed)
+
+pub returns-in-Ok-clause-done : goal.returns-in-Ok-clause-done
+returns-in-Ok-clause-done g c =
+    let start = g.W.Write.contents c.args.out.now in
+    let of : Line → Type 0 = λ l. LineDone (said l) c.args.host.now start start c.store.new.self in
+    let with : List _ → Type 0 = λ b. LineDone (store c.in-Store.guest c.in-Store.at b) c.args.host.now start start c.store.new.self in
+    subst of (sym c.in-Store.is) (subst with c.as_slice-in-Store.ensures.value (record { own = c.in-Ok.ensures.guest; same = c.store.ensures.same }, Keeps-refl start))
+
+pub returns-in-Store-clause-failed : goal.returns-in-Store-clause-failed
+returns-in-Store-clause-failed g c =
+    let of : Line → Type 0 = λ l. LineFails (said l) c.args.host.now c.of.result c.store.new.self in
+    let with : List _ → Type 0 = λ b. LineFails (store c.in-Store.guest c.in-Store.at b) c.args.host.now c.of.result c.store.new.self in
+    subst of (sym c.in-Store.is) (subst with c.as_slice-in-Store.ensures.value (c.in-Err.fault, record { own = c.in-Err.ensures.guest; same = c.store.ensures.same }, c.of.ensures))
+
+pub returns-in-Ok-reset-clause-done : goal.returns-in-Ok-reset-clause-done
+returns-in-Ok-reset-clause-done g c =
+    let start = g.W.Write.contents c.args.out.now in
+    let of : Line → Type 0 = λ l. LineDone (said l) c.args.host.now start start c.reset.new.self in
+    subst of (sym c.in-Reset.is) (record { own = c.in-Ok-reset.ensures.guest; ready = c.in-Ok-reset.ensures.ready; same = c.reset.ensures.same }, Keeps-refl start)
+
+pub returns-clause-failed : goal.returns-clause-failed
+returns-clause-failed g c =
+    let of : Line → Type 0 = λ l. LineFails (said l) c.args.host.now c.of-in-Err-reset.result c.reset.new.self in
+    subst of (sym c.in-Reset.is) (c.in-Err-reset.fault, record { own = c.in-Err-reset.ensures.guest; ready = c.in-Err-reset.ensures.ready; same = c.reset.ensures.same }, c.of-in-Err-reset.ensures)

@@ -1,4 +1,4 @@
-use Rattle.std.proofs.Common.{◌≡◌, ◌+◌, ◌<◌, ◌∙◌, List, [], ap, length, map, subst, sym, arith}
+use Rattle.std.proofs.Common.{◌≡◌, ◌+◌, ◌<◌, List, [], ap, length, map, subst, sym, arith}
 use Rattle.std.proofs.lemmas.Result.{err_from_is_err_and}
 use Rattle.std.specs.Prelude.{All}
 use Rattle.std.proofs.lemmas.List.{length-map}
@@ -8,15 +8,15 @@ use Rattle.script.specs.declared.line.Line.{Line}
 use Rattle.host.specs.Calm.{is_broken}
 use Rattle.host.specs.Host.{seen}
 use Rattle.host.proofs.Moving.{moves_none, moves_twice}
+use Rattle.commands.specs.Calling.{NextFails}
 use Rattle.commands.specs.Reasons.{NextEnds}
 use Rattle.commands.specs.Running.{AreWithin, IsSized}
 use Rattle.commands.proofs.Printing.{head_within, none_left, rest_sized, rest_within}
 use Rattle.commands.proofs.Reasons.{of_running}
 use Rattle.commands.proofs.Stopped.{stop}
-use Rattle.commands.proofs.Until.{Stood, begin_whole, step, stood_all}
+use Rattle.commands.proofs.Until.{Stood, begin_whole, stood_all, step_clean}
 use Rattle.commands.specs.Moments.{Walked, moment_of}
-use Rattle.commands.specs.Transcript.{first_told}
-use Rattle.commands.proofs.Walking.{walk_begins, walk_on}
+use Rattle.commands.proofs.Walking.{WalkedSo, walk_begins, walk_on}
 use Rattle.commands.proofs.running.run_lines.Goals as goal
 
 pub loop-line-init : goal.loop-line-init
@@ -30,11 +30,10 @@ loop-line-init g c =
       (λ whole. whole),
       moves_none g.D.Disk.state g.D.Disk.makes c.args.host.now.board,
       (λ whole none t at clean. subst (Stood (is_broken c.args.host.now.board) start start t (seen c.args.host.now) all) (ap (map said) same)
-          (subst (λ b. Stood b start start t (seen c.args.host.now) all all) (sym whole) (begin_whole start (seen c.args.host.now) all t at none clean))),
+          (subst (λ b. Stood b start start t (seen c.args.host.now) all all) (sym whole) (begin_whole start (seen c.args.host.now) all t at none))),
       (λ calm. calm),
-      (λ board partitions starts. subst (λ ls. Walked g.D.Disk.state g.D.Disk.makes board partitions all start (moment_of (λ k. []) c.args.host.now.board start) ls c.args.host.now.board start) (ap (map said) same)
-          (walk_begins g.D.Disk.state g.D.Disk.makes board partitions c.args.host.now all start starts (λ clean.
-          subst (λ b. Stood b start start (first_told board partitions) (seen c.args.host.now) all all) (sym (sym starts.calm.broken ∙ starts.whole)) (begin_whole start (seen c.args.host.now) all (first_told board partitions) starts.ready starts.answered clean)))),
+      (λ board partitions starts within. subst (λ ls. WalkedSo g.D.Disk.state g.D.Disk.makes board partitions all start (moment_of (λ k. []) c.args.host.now start) ls c.args.host.now start) (ap (map said) same)
+          (walk_begins g.D.Disk.state g.D.Disk.makes board partitions c.args.host.now all start starts)),
       (λ board is. is),
     )
 
@@ -54,20 +53,16 @@ loop-line-preserved g c =
       moves_twice g.D.Disk.state g.D.Disk.makes c.args.host.now.board now.host.board c.run_line.new.host.board now.invariant.3 c.run_line.ensures.moves,
       (λ whole none t at clean.
           let stood = subst (Stood (is_broken now.host.board) start here t (seen now.host) all) (ap (map said) rest) (now.invariant.4 whole none t at clean) in
-          step (is_broken now.host.board) (is_broken c.run_line.new.host.board) start here (g.W.Write.contents c.run_line.new.out) t (seen now.host) (seen c.run_line.new.host) all (map said c.next.new.self.rest.items) (said c.in-Some.line) few
-          c.run_line.ensures.breaks stood ran.runs),
+          step_clean (is_broken now.host.board) (is_broken c.run_line.new.host.board) start here (g.W.Write.contents c.run_line.new.out) t (seen now.host) (seen c.run_line.new.host) all (map said c.next.new.self.rest.items) (said c.in-Some.line) few
+          c.run_line.ensures.breaks clean stood ran.runs),
       (λ calm. c.run_line.ensures.calm (now.invariant.5 calm)),
-      (λ board partitions starts.
-          let first = moment_of (λ k. []) c.args.host.now.board start in
+      (λ board partitions starts within.
+          let first = moment_of (λ k. []) c.args.host.now start in
           let left = map said c.next.new.self.rest.items in
-          let next = g.W.Write.contents c.run_line.new.out in
-          let walked = subst (λ ls. Walked g.D.Disk.state g.D.Disk.makes board partitions all start first ls now.host.board here) (ap (map said) rest) (now.invariant.6 board partitions starts) in
-          walk_on g.D.Disk.state g.D.Disk.makes board partitions all start first (said c.in-Some.line) left now.host.board c.run_line.new.host here next walked c.run_line.ensures.moves
-          (c.run_line.ensures.calm (now.invariant.5 starts.calm)) ran.prints
-          (λ clean.
-          let t = first_told board partitions in
-          let stood = subst (Stood (is_broken now.host.board) start here t (seen now.host) all) (ap (map said) rest) (now.invariant.4 (sym starts.calm.broken ∙ starts.whole) starts.answered t starts.ready clean) in
-          step (is_broken now.host.board) (is_broken c.run_line.new.host.board) start here next t (seen now.host) (seen c.run_line.new.host) all left (said c.in-Some.line) few c.run_line.ensures.breaks stood ran.runs)),
+          let so = subst (λ ls. WalkedSo g.D.Disk.state g.D.Disk.makes board partitions all start first ls now.host here) (ap (map said) rest) (now.invariant.6 board partitions starts within) in
+          let inside = head_within (length board) c.in-Some.line c.next.new.self.rest.items (subst (AreWithin (length board)) rest (now.invariant.1 (length board) within)) in
+          walk_on g.D.Disk.state g.D.Disk.makes board partitions all start first (said c.in-Some.line) left now.host c.run_line.new.host here (g.W.Write.contents c.run_line.new.out) few so c.run_line.ensures.moves
+          (c.run_line.ensures.calm (now.invariant.5 starts.calm)) inside ran.done (ran.hosts board (now.invariant.7 board starts.host)) c.run_line.ensures.breaks ran.runs),
       (λ board is. ran.hosts board (now.invariant.7 board is)),
     )
 
@@ -104,7 +99,7 @@ returns-in_err-run_line-clause-stopped g c =
     rw (p.1, p.2) (λ whole none guests t at are within clean.
     let stood = subst (Stood (is_broken now.host.board) start here t (seen now.host) all) (ap (map said) rest) (now.invariant.4 whole none t at clean) in
     let one = head_within guests c.in-Some.line left (subst (AreWithin guests) rest (now.invariant.1 guests within)) in
-    stop (is_broken now.host.board) (is_broken c.run_line.new.host.board) start here next t (seen now.host) all (map said left) (said c.in-Some.line) c.in_err-run_line.field-0.0 guests few c.run_line.ensures.keeps stood
+    stop (is_broken now.host.board) (is_broken c.run_line.new.host.board) start here next t (seen now.host) all (map said left) (said c.in-Some.line) c.in_err-run_line.field-0.0 guests few c.run_line.ensures.keeps clean stood
     c.in_err-run_line.ensures.silent are one c.in_err-run_line.ensures.fails)
 
 pub returns-clause-moments : goal.returns-clause-moments
@@ -115,7 +110,7 @@ returns-clause-moments g c board partitions starts within =
     let left = now.line-iterator.rest in
     let long : left.len ≡ length left.items = omega (arith, left.ok) in
     let rest = ap (map said) (none_left left.items left.len c.in-None.ensures.steps.0 long) in
-    subst (λ ls. Walked g.D.Disk.state g.D.Disk.makes board partitions all start (moment_of (λ k. []) c.args.host.now.board start) ls now.host.board (g.W.Write.contents now.out)) rest (now.invariant.6 board partitions starts)
+    subst (λ ls. Walked g.D.Disk.state g.D.Disk.makes board partitions all start (moment_of (λ k. []) c.args.host.now start) ls now.host (g.W.Write.contents now.out)) rest (now.invariant.6 board partitions starts within).walked
 
 pub returns-in_err-run_line-clause-moments : goal.returns-in_err-run_line-clause-moments
 returns-in_err-run_line-clause-moments g c =
@@ -125,13 +120,14 @@ returns-in_err-run_line-clause-moments g c =
     let p = err_from_is_err_and c.from_residual.result c.from_residual.ensures.1 in
     rw (p.1, p.2) (λ board partitions starts within. record {
       rest = map said now.line-iterator.rest.items;
-      before = now.host.board;
+      before = now.host;
       printed = g.W.Write.contents now.out;
-      walked = now.invariant.6 board partitions starts;
+      walked = (now.invariant.6 board partitions starts within).walked;
       moves = c.run_line.ensures.moves;
       silent = c.in_err-run_line.ensures.silent;
       reason = subst (NextEnds board c.in_err-run_line.field-0.0) (sym (ap (map said) rest))
           (c.in_err-run_line.ensures.ends board (now.invariant.7 board starts.host) (head_within (length board) c.in-Some.line left (subst (AreWithin (length board)) rest (now.invariant.1 (length board) within))));
+      fails = subst (λ ls. NextFails ls now.host c.in_err-run_line.field-0.0 c.run_line.new.host) (sym (ap (map said) rest)) c.in_err-run_line.ensures.failed;
     })
 
 pub returns-in_err-run_line-clause-ends : goal.returns-in_err-run_line-clause-ends

@@ -1,4 +1,4 @@
-use Rattle.std.proofs.Common.{◌≡◌, ℕ, false, List, [], map}
+use Rattle.std.proofs.Common.{◌≡◌, ℕ, false, List, [], length, map}
 use Rattle.std.specs.Prelude.{All}
 use Rattle.script.specs.Line.{said}
 use Rattle.rpmb_frame.specs.Partition.{Partition}
@@ -7,10 +7,11 @@ use Rattle.host.specs.Calm.{IsCalm, is_broken}
 use Rattle.host.specs.Host.{seen}
 use Rattle.host.specs.Moving.{Moves}
 use Rattle.commands.specs.Transcript.{StoresNothing, Told}
-use Rattle.commands.specs.Moments.{Starts, Walked, moment_of}
+use Rattle.commands.specs.Moments.{Starts, moment_of}
 use Rattle.commands.specs.Reasons.{IsHostOf}
 use Rattle.commands.specs.Running.{AreWithin, IsAt, IsSized}
 use Rattle.commands.proofs.Until.{Stood}
+use Rattle.commands.proofs.Walking.{WalkedSo}
 use Rattle.commands.proofs.running.run_lines.Given as goal
 
 abbrev pub invariant-loop-line : goal.invariant-loop-line
@@ -22,6 +23,6 @@ invariant-loop-line g l =
     × (is_broken l.fn.host.board ≡ false → (seen l.fn.host).runner.answered ≡ 0 → (t : Told) → IsAt 0 t (seen l.fn.host) → StoresNothing (map said l.fn.lines.items)
     → Stood (is_broken l.host.board) (g.W.Write.contents l.fn.out) (g.W.Write.contents l.out) t (seen l.host) (map said l.fn.lines.items) (map said l.line-iterator.rest.items))
     × (IsCalm g.D.Disk.state l.fn.host.board → IsCalm g.D.Disk.state l.host.board)
-    × ((board : List GuestConfig) (partitions : List Partition) → Starts g.D.Disk.state board partitions l.fn.host.board (seen l.fn.host)
-    → Walked g.D.Disk.state g.D.Disk.makes board partitions (map said l.fn.lines.items) (g.W.Write.contents l.fn.out) (moment_of (λ k. []) l.fn.host.board (g.W.Write.contents l.fn.out)) (map said l.line-iterator.rest.items) l.host.board (g.W.Write.contents l.out))
+    × ((board : List GuestConfig) (partitions : List Partition) → Starts g.D.Disk.state board partitions l.fn.host → AreWithin (length board) l.fn.lines.items
+    → WalkedSo g.D.Disk.state g.D.Disk.makes board partitions (map said l.fn.lines.items) (g.W.Write.contents l.fn.out) (moment_of (λ k. []) l.fn.host (g.W.Write.contents l.fn.out)) (map said l.line-iterator.rest.items) l.host (g.W.Write.contents l.out))
     × ((board : List GuestConfig) → IsHostOf board (seen l.fn.host) → IsHostOf board (seen l.host))

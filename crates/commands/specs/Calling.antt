@@ -1,0 +1,83 @@
+-- The call of the host that a line makes, and what it came to.
+use Rattle.std.specs.Prelude.{◌≡◌, ℕ, List, [], ◌∷◌, Option, Result, Ok, Err, slice_get}
+use Rattle.std.specs.Io.KnownBytes.{Appends, Keeps}
+use Rattle.script.specs.Line.{Said, nothing, chain, store, reset}
+use Rattle.host.specs.Calm.{is_broken}
+use Rattle.host.specs.Host.{HostAnswers, HostChains, HostResets, HostResetsGuest, HostState}
+use Rattle.host.specs.Host.{HostStores, seen}
+use Rattle.host.specs.Reasons.{HostExplains}
+use Rattle.host.specs.Spares.{Spares, most_at}
+use Rattle.host.specs.declared.fault.HostFault.{HostFault}
+use Rattle.host.specs.declared.front.Answer.{Answer}
+use Rattle.commands.specs.Ending.{IsOfWriting}
+use Rattle.commands.specs.Fault.{fault_of}
+use Rattle.commands.specs.Serving.{answer_line}
+use Rattle.commands.specs.declared.fault.Fault.{Fault}
+
+-- 1. The calls
+
+-- what the host's call for a chain does, and what it says
+pub record ChainCall {D : Type 0} (h : HostState D) (guest : ℕ) (readable : List ℕ)
+    (writable : ℕ) (told : Result Answer HostFault) (h' : HostState D) : Type 0 where
+  -- where all guests are ready
+  pub answer : HostAnswers (is_broken h.board) (is_broken h'.board) (seen h) guest readable writable told (seen h')
+  -- where this one is, or is stuck
+  pub own : HostChains (is_broken h.board) (is_broken h'.board) (seen h) guest readable writable told (seen h')
+  -- whatever its rings hold
+  pub reason : HostExplains (seen h) guest readable writable told (seen h')
+  -- and what it leaves of the others
+  pub others : Spares guest (most_at (slice_get h.fronts guest)) h.board h'.board
+
+-- the same of a store
+pub record StoreCall {D : Type 0} (h : HostState D) (guest at : ℕ) (bytes : List ℕ)
+    (told : Result (Unit {0}) HostFault) (h' : HostState D) : Type 0 where
+  pub own : HostStores (seen h) guest at bytes told (seen h')
+  pub same : is_broken h'.board ≡ is_broken h.board
+
+-- and of a reset
+pub record ResetCall {D : Type 0} (h : HostState D) (guest : ℕ)
+    (told : Result (Unit {0}) HostFault) (h' : HostState D) : Type 0 where
+  pub own : HostResetsGuest (seen h) guest told (seen h')
+  pub ready : HostResets (seen h) guest told (seen h')
+  pub same : is_broken h'.board ≡ is_broken h.board
+
+-- 2. A line that is done
+
+-- A chain printed the line of the answer that the host gave.
+pub record ChainDone {D : Type 0} (h : HostState D) (guest : ℕ) (readable : List ℕ)
+    (writable : ℕ) (start now : Option (List ℕ)) (h' : HostState D) : Type 0 where
+  pub answer : Answer
+  pub call : ChainCall h guest readable writable (Ok answer) h'
+  pub printed : Appends start now (answer_line guest answer)
+
+-- The other lines print nothing, and one that says nothing makes no call.
+abbrev pub LineDone : {D : Type 0} → Said → HostState D → Option (List ℕ) → Option (List ℕ) → HostState D → Type 0
+LineDone nothing h start now h' = (h' ≡ h) × Keeps start now
+LineDone (chain guest readable writable) h start now h' = ChainDone h guest readable writable start now h'
+LineDone (store guest at bytes) h start now h' = StoreCall h guest at bytes (Ok tt) h' × Keeps start now
+LineDone (reset guest) h start now h' = ResetCall h guest (Ok tt) h' × Keeps start now
+
+-- 3. A line that ended the run
+
+-- the host's fault ended it, or the answer wasn't written
+abbrev pub ChainFault : Result Answer HostFault → Fault → Type 0
+ChainFault (Ok answer) f = IsOfWriting f
+ChainFault (Err fault) f = f ≡ fault_of fault
+
+pub record ChainFails {D : Type 0} (h : HostState D) (guest : ℕ) (readable : List ℕ)
+    (writable : ℕ) (f : Fault) (h' : HostState D) : Type 0 where
+  pub told : Result Answer HostFault
+  pub call : ChainCall h guest readable writable told h'
+  pub cause : ChainFault told f
+
+abbrev pub LineFails : {D : Type 0} → Said → HostState D → Fault → HostState D → Type 0
+LineFails nothing h f h' = ⊥
+LineFails (chain guest readable writable) h f h' = ChainFails h guest readable writable f h'
+LineFails (store guest at bytes) h f h' =
+    (fault : HostFault) × StoreCall h guest at bytes (Err fault) h' × (f ≡ fault_of fault)
+LineFails (reset guest) h f h' = (fault : HostFault) × ResetCall h guest (Err fault) h' × (f ≡ fault_of fault)
+
+-- the next of the lines left is such a line
+abbrev pub NextFails : {D : Type 0} → List Said → HostState D → Fault → HostState D → Type 0
+NextFails [] h f h' = ⊥
+NextFails (line ∷ rest) h f h' = LineFails line h f h'
