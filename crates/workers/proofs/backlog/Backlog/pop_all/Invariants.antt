@@ -1,4 +1,4 @@
-use Rattle.std.proofs.Common.{◌≡◌, ◌+◌}
+use Rattle.std.proofs.Common.{◌≡◌}
 use Rattle.workers.specs.Turns.{Flows}
 use Rattle.workers.proofs.backlog.Backlog.pop_all.Given as goal
 
