@@ -5,21 +5,20 @@ use Rattle.std.proofs.lemmas.Bool.{cases_eq}
 use Rattle.std.proofs.lemmas.Bool.Decides.{nat_tests}
 use Rattle.std.proofs.lemmas.List.{drop-append-le, take-append-le}
 use Rattle.std.proofs.lemmas.Option.{slice_get_cases, slice_get_within}
-use Rattle.disk.specs.Content.{Content}
-use Rattle.disk.specs.Disk.{DiskCall, DiskState, Effect, HasRisen, MayLeave, Still, Within}
+use Rattle.disk.specs.Disk.{DiskCall, DiskState, Effect, HasRisen, Still, Within}
 use Rattle.disk.proofs.Ways.{within_end, within_more, within_weaker}
-use Rattle.intent_slots.specs.Payload.{Group, Intent, last_of}
+use Rattle.intent_slots.specs.Payload.{Group, Intent}
 use Rattle.intent_slots.specs.Recovered.{Part, Stands, after}
 use Rattle.flusher.specs.declared.guest.Guest.{Guest}
 use Rattle.flusher.specs.declared.progress.Progress.{Progress}
 use Rattle.flusher.specs.declared.progress.StoreFault.{StoreFault}
 use Rattle.flusher.specs.Laws.{IsUnderWay, Settles}
-use Rattle.flusher.specs.Pair.{entries_in, given_at, guest_after_sync, guest_after_write, has_room, listed, mark_after, mark_of, opening_of, pending_intents, region_of, with_intent}
+use Rattle.flusher.specs.Pair.{entries_in, guest_after_sync, guest_after_write, has_room, listed, mark_after, mark_of, opening_of, pending_intents, with_intent}
 use Rattle.flusher.specs.Round.{FrontStays, MovedBy, Moves, Round, parts_after, planned, settles, under_way}
-use Rattle.flusher.specs.SlotInvariant.{BeforeOrAfter, Besides, EachStop, Follows, IsHeld, IsKept, IsMarked, guest_settled, sequence_of_part, settled_by, settled_with}
+use Rattle.flusher.specs.SlotInvariant.{BeforeOrAfter, Besides, EachStop, Follows, IsHeld, IsMarked, guest_settled, sequence_of_part, settled_by, settled_with}
 use Rattle.flusher.specs.Store.{Gives, MayGive, StoreState, is_free, is_free_of}
 use Rattle.flusher.proofs.Kept.{stops}
-use Rattle.flusher.proofs.Lookups.{given_mark, given_region}
+use Rattle.flusher.proofs.Lookups.{given_region}
 use Rattle.flusher.proofs.Pending.{pending_grows, pending_settles, pending_stays, write_keeps}
 use Rattle.flusher.proofs.Table.{region_moved, region_synced}
 use Rattle.flusher.proofs.UnderWay.{as_many_under_way, under_way_by_guest}

@@ -4,6 +4,9 @@ use Rattle.std.specs.Option.{option_or}
 use Rattle.guest_driver.specs.declared.fault.DriverFault.{DriverFault}
 use Rattle.guest_driver.specs.declared.fault.DriverFault.TheVariants as driver
 use Rattle.guest_driver.specs.declared.reaping.Reaped.{Reaped}
+use Rattle.mmio_transport.specs.Job.{Job}
+use Rattle.mmio_transport.specs.declared.fault.DeviceFault.{DeviceFault}
+use Rattle.mmio_transport.specs.declared.fault.DeviceFault.TheVariants as device
 use Rattle.host.specs.declared.fault.HostFault.{HostFault}
 use Rattle.host.specs.declared.fault.HostFault.TheVariants as host
 use Rattle.host.specs.declared.front.Stuck.TheVariants.{NeedsReset, BadUsed}
@@ -27,6 +30,13 @@ told (Err driver.BadUsed) stopped = Ok (news.NoReply BadUsed)
 told (Err driver.NoRoom) stopped = Err host.NoRoom
 told (Err driver.OutOfRange) stopped = Err host.OutOfRange
 told (Err driver.NoMemory) stopped = Err host.NoMemory
+
+-- whether a device has stopped, after this answer to a pop
+abbrev pub stopped_by : Result (Option Job) DeviceFault → Bool → Bool
+stopped_by (Ok popped) stopped = stopped
+stopped_by (Err (device.Refused fault)) stopped = true
+stopped_by (Err device.NeedsReset) stopped = true
+stopped_by (Err device.NoMemory) stopped = stopped
 
 -- the fault of the lowest-numbered guest that has one: its worker's before its driver's
 abbrev pub first_fault : List (Option HostFault) → List (Option HostFault) → Option HostFault

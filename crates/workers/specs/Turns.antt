@@ -1,42 +1,79 @@
 -- What one turn of a guest's threads does to what they keep to themselves.
-use Rattle.std.specs.Prelude.{◌≡◌, ℕ, ◌+◌, ◌≤◌, Bool, true, false, Option, Some, None}
-use Rattle.mmio_transport.specs.Job.{Job}
+use Rattle.std.specs.Prelude.{◌≡◌, ℕ, ◌+◌, ◌≤◌, Bool, true, false, List, [], ◌∷◌, ◌++◌, length}
+use Rattle.std.specs.Prelude.{Option, Some, None, is_some, Result, Ok, Err}
+use Rattle.std.specs.Option.{option_to_list}
+use Rattle.mmio_transport.specs.Job.{Job, Done}
+use Rattle.mmio_transport.specs.declared.fault.DeviceFault.{DeviceFault}
+use Rattle.mmio_transport.specs.declared.fault.DeviceFault.TheVariants.{Refused, NoMemory, NeedsReset}
+use Rattle.mmio_transport.specs.declared.done.Published.{Published}
+use Rattle.mmio_transport.specs.Device.{DeviceState}
+use Rattle.mmio_transport.specs.Publishing.{Publishes}
+use Rattle.guest_driver.specs.Driver.{DriverState, Offering}
+use Rattle.guest_driver.specs.declared.fault.DriverFault.{DriverFault}
+use Rattle.rpmb_book.specs.Book.{BookView, due_of, after_collect}
+use Rattle.workers.specs.declared.backlog.Handed.{Handed}
+use Rattle.workers.specs.declared.backlog.Handed.TheVariants.{Answered, Nothing, Busy, Full}
+use Rattle.workers.specs.declared.order.Chain.{Chain}
 use Rattle.workers.specs.declared.seat.Next.{Next}
 use Rattle.workers.specs.declared.seat.Next.TheVariants.{Again, Rest, End}
 
--- jobs that the book hasn't answered
-abbrev pub lies : Option Job → ℕ
-lies None = 0
-lies (Some job) = 1
+-- A line of jobs, or of replies: what lay there, and so many that came behind it, are so many that went from its
+-- front, and what lies there now.
+pub record Flows {A : Type 0} (old : List A) (came went : ℕ) (new : List A) : Type 0 where
+  pub added : List A
+  pub gone : List A
+  pub all : old ++ added ≡ gone ++ new
+  pub as_many_came : length added ≡ came
+  pub as_many_went : length gone ≡ went
 
--- a pop: a job that lies there stays, and else one may have come
-abbrev pub Pops : Option Job → Bool → Option Job → Type 0
-Pops old false new = new ≡ old
-Pops old true new = (old ≡ None) × (lies new ≡ 1)
+-- What a worker takes of the answer to a pop: the job waits behind the others. That the device stopped is the
+-- driver's to tell, and a want of memory is a fault.
+abbrev pub Takes : List Job → Result (Option Job) DeviceFault → Bool → List Job → Type 0
+Takes old (Ok (Some job)) popped new = (popped ≡ true) × (new ≡ old ++ job ∷ [])
+Takes old (Ok None) popped new = (popped ≡ false) × (new ≡ old)
+Takes old (Err (Refused fault)) popped new = (popped ≡ false) × (new ≡ old)
+Takes old (Err NeedsReset) popped new = (popped ≡ false) × (new ≡ old)
+Takes old (Err NoMemory) popped new = ⊥
 
--- a Submit of a job that the worker held: the book answered it, or it lies there again
-abbrev pub Submits : Job → ℕ → Bool → ℕ → Option Job → Type 0
-Submits job count true count' job' = (count' ≡ count + 1) × (job' ≡ None)
-Submits job count false count' job' = (count' ≡ count) × (job' ≡ Some job)
+-- The first reply of a line is handed to the device, where there is one.
+abbrev pub HandsOver : List Done → DeviceState → Bool → DeviceState → Type 0
+HandsOver [] d handed d' = (handed ≡ false) × (d' ≡ d)
+HandsOver (done ∷ dones) d handed d' = (handed ≡ true) × ((result : Published) × Publishes d done result d')
 
--- a job that lay there was answered, or lies there still
-abbrev pub HandsIn : ℕ → Option Job → Bool → ℕ → Option Job → Type 0
-HandsIn count job true count' job' = (lies job ≡ 1) × (count' ≡ count + 1) × (job' ≡ None)
-HandsIn count job false count' job' = (count' ≡ count) × (job' ≡ job)
+-- how many jobs the book answered then
+abbrev pub answered_of : Handed → ℕ
+answered_of Answered = 1
+answered_of Nothing = 0
+answered_of Busy = 0
+answered_of Full = 0
 
--- both, where none lay there at first
-abbrev pub TakesIn : ℕ → Option Job → Bool → ℕ → Option Job → Type 0
-TakesIn count job true count' job' =
-    (count + lies job ≤ count' + lies job') × (count' + lies job' ≤ count + lies job + 1)
-TakesIn count job false count' job' = (count' ≡ count) × (job' ≡ job)
+-- a look for a reply that may leave: what the book lets go of this guest waits behind the others
+pub record Collects (b : BookView) (guest : ℕ) (old : List Done) (collected : Bool) (b' : BookView)
+    (new : List Done) : Type 0 where
+  pub is : collected ≡ is_some (due_of b guest)
+  pub book : b' ≡ after_collect b guest
+  pub replies : new ≡ old ++ option_to_list (due_of b guest)
 
--- A worker that went on: no job that it held is lost, each was answered or lies there still, and at most one more was
--- popped. One that rests or ends did neither, and one that ends has no job.
-abbrev pub Works : ℕ → Option Job → Next → ℕ → Option Job → Type 0
-Works count job Again count' job' =
-    (count + lies job ≤ count' + lies job') × (count' + lies job' ≤ count + lies job + 1)
-Works count job Rest count' job' = (count' ≡ count) × (job' ≡ job)
-Works count job End count' job' = (count' ≡ count) × (job ≡ None) × (job' ≡ None)
+-- A worker that rests or ends did nothing, and one that ends has neither a job nor a reply.
+abbrev pub IsNext : Next → (popped answered collected published : ℕ) → List Job → List Done → Type 0
+IsNext Again popped answered collected published jobs dones = Unit {0}
+IsNext Rest popped answered collected published jobs dones =
+    (popped ≡ 0) × (answered ≡ 0) × (collected ≡ 0) × (published ≡ 0)
+IsNext End popped answered collected published jobs dones =
+    (popped ≡ 0) × (answered ≡ 0) × (collected ≡ 0) × (published ≡ 0) × (jobs ≡ []) × (dones ≡ [])
+
+-- One turn of a worker. No job is lost: each that it had or popped was answered, the oldest first, or lies there
+-- still. No reply is: each that it had or collected was handed to its device, the oldest first, or lies there still.
+pub record Works (next : Next) (count : ℕ) (jobs : List Job) (dones : List Done)
+    (count' : ℕ) (jobs' : List Job) (dones' : List Done) : Type 0 where
+  pub popped : ℕ
+  pub answered : ℕ
+  pub collected : ℕ
+  pub published : ℕ
+  pub of_jobs : Flows jobs popped answered jobs'
+  pub of_replies : Flows dones collected published dones'
+  pub counted : count' ≡ count + answered
+  pub is : IsNext next popped answered collected published jobs' dones'
 
 -- one look for an answer, of which something came, or nothing
 abbrev pub Reaps : ℕ → Bool → ℕ → Type 0
@@ -48,9 +85,20 @@ abbrev pub Offers : ℕ → Bool → ℕ → Type 0
 Offers next true next' = next' ≡ next + 1
 Offers next false next' = next' ≡ next
 
+-- the chain was offered whole, whatever came of it
+abbrev pub IsOffered : DeviceState → DriverState → Chain → DeviceState → DriverState → Type 0
+IsOffered d driver chain d' driver' = (answer : Result ℕ DriverFault)
+    × Offering d.memory driver chain.readable.items chain.writable answer d'.memory driver'
+
 -- A driver that went on has one answer more at most, and one order; one that rests or ends has neither.
 abbrev pub Drives : ℕ → ℕ → Next → ℕ → ℕ → Type 0
 Drives answers next Again answers' next' =
     (answers ≤ answers') × (answers' ≤ answers + 1) × (next ≤ next') × (next' ≤ next + 1)
 Drives answers next Rest answers' next' = (answers' ≡ answers) × (next' ≡ next)
 Drives answers next End answers' next' = (answers' ≡ answers) × (next' ≡ next)
+
+-- A driver's look: no answer is lost and no order made twice; one that rests did nothing.
+abbrev pub GoesOn : ℕ → ℕ → Next → ℕ → ℕ → Type 0
+GoesOn answers next Again answers' next' = (answers ≤ answers') × (next ≤ next')
+GoesOn answers next Rest answers' next' = (answers' ≡ answers) × (next' ≡ next)
+GoesOn answers next End answers' next' = (answers ≤ answers') × (next ≤ next')

@@ -1,10 +1,79 @@
 //! What threads wait on.
-use std::sync::{Condvar, Mutex, Wait};
+ghost use Rattle.std.specs.Prelude.{◌<◌};
 
-/// What lies under the bell's lock.
+use std::sync::{Condvar, Mutex, Wait};
+use std::{hint, thread};
+
+/// How many guests a board has at most.
+const GUESTS: usize = 64;
+
+/// A line for each of two threads a guest, and one for the flusher.
+const LINES: usize = 129;
+
+/// How often a thread that finds no work looks again at once: a wake costs as much as several looks.
+const LOOKS: u32 = 8;
+
+/// How often it lets others run after that, before it waits. Beside other load each time may cost the
+/// rest of a time slice.
+const YIELDS: u32 = 4;
+
+/// After so many looks that found work a thread looks at the bell, whether all are to end.
+const TURNS: u32 = 64;
+
+/// A thread, as the bell knows it.
+#[derive(Clone, Copy)]
+pub(crate) struct Actor {
+    line: usize,
+    ghost within: { line < 129 },
+}
+
+impl Actor {
+    /// The driver of this guest. None, where no board has the guest.
+    pub fn driver(guest: usize) -> Option<Actor> {
+        if guest < GUESTS {
+            Some(Actor { line: guest })
+        } else {
+            None
+        }
+    }
+
+    /// The worker of this guest. None, where no board has the guest.
+    pub fn worker(guest: usize) -> Option<Actor> {
+        if guest < GUESTS {
+            Some(Actor {
+                line: GUESTS + guest,
+            })
+        } else {
+            None
+        }
+    }
+
+    pub fn flusher() -> Actor {
+        Actor { line: LINES - 1 }
+    }
+}
+
+/// What the bell knows of a thread.
 #[derive(Clone, Copy, Drop)]
-pub(crate) struct Rings {
-    /// How often it rang.
+struct Line {
+    /// How often it rang for it.
+    count: u64,
+    /// Whether the thread waits, or is about to.
+    waits: bool,
+}
+
+impl Line {
+    /// Rings for the thread. Whether it waits.
+    fn tell(&mut self) -> bool {
+        self.count = self.count.wrapping_add(1);
+        self.waits
+    }
+}
+
+/// What a look at the bell tells a thread.
+#[derive(Clone, Copy, Drop)]
+pub(crate) struct Look {
+    /// How often it rang for it.
     pub count: u64,
     /// Whether all threads are to end.
     pub stopped: bool,
@@ -12,8 +81,97 @@ pub(crate) struct Rings {
     pub workers_ended: usize,
 }
 
-/// What threads wait on, and ring where they changed something that another may wait for. A thread reads
-/// the count before it looks for work, and then waits while the count stands, so no ring is lost.
+/// What lies under the bell's lock. Each change says whether somebody waits for it.
+#[derive(Drop)]
+struct Rings {
+    /// Of the drivers, then of the workers, guest by guest, and of the flusher.
+    lines: [Line; LINES],
+    stopped: bool,
+    workers_ended: usize,
+    /// Whether a worker has found no room in the history since the workers were last told that there
+    /// may be some.
+    wants_room: bool,
+}
+
+impl Rings {
+    fn look(&self, who: Actor) -> Look {
+        Look {
+            count: self.lines[who.line].count,
+            stopped: self.stopped,
+            workers_ended: self.workers_ended,
+        }
+    }
+
+    fn tell(&mut self, who: Actor) -> bool {
+        self.lines[who.line].tell()
+    }
+
+    fn set_waits(&mut self, who: Actor, waits: bool) {
+        self.lines[who.line].waits = waits;
+    }
+
+    fn tell_workers(&mut self) -> bool {
+        tell_each(&mut self.lines[GUESTS..2 * GUESTS])
+    }
+
+    /// Replies have left the book: there is something for this driver, and room for each worker that
+    /// asked for it.
+    fn tell_left(&mut self, driver: Actor) -> bool {
+        let waits = self.tell(driver);
+        if !self.wants_room {
+            return waits;
+        }
+        self.wants_room = false;
+        self.tell_workers() || waits
+    }
+
+    /// More is settled of those guests whose mark has moved.
+    fn tell_settled(&mut self, before: &[u64], now: &[u64]) -> bool {
+        tell_moved(&mut self.lines[GUESTS..2 * GUESTS], before, now)
+    }
+
+    fn stop(&mut self) -> bool {
+        self.stopped = true;
+        tell_each(&mut self.lines)
+    }
+
+    fn leave(&mut self) -> bool {
+        self.workers_ended = self.workers_ended.saturating_add(1);
+        self.tell(Actor::flusher())
+    }
+
+    /// Whether nothing rang for a thread since its look.
+    fn stands(&self, who: Actor, seen: u64) -> bool {
+        !self.stopped && self.lines[who.line].count == seen
+    }
+}
+
+/// Rings for each thread. Whether one of them waits.
+fn tell_each(lines: &mut [Line]) -> bool {
+    let mut waits = false;
+    for line in lines.iter_mut() {
+        if line.tell() {
+            waits = true;
+        }
+    }
+    waits
+}
+
+/// Rings for each thread of a guest whose number has changed. Whether one of them waits.
+fn tell_moved(lines: &mut [Line], before: &[u64], now: &[u64]) -> bool {
+    let mut waits = false;
+    for i in 0..lines.len() {
+        let moved = i < before.len() && i < now.len() && before[i] != now[i];
+        if moved && lines[i].tell() {
+            waits = true;
+        }
+    }
+    waits
+}
+
+/// What threads wait on, and ring for each other where they changed something that another may wait for.
+/// A thread reads how often it was rung for before it looks for work, and then waits while that stands,
+/// so no ring is lost. Whom nobody waits for isn't woken, and who wakes holds no lock.
 #[derive(Drop)]
 pub(crate) struct Bell {
     rings: Mutex<Rings>,
@@ -22,58 +180,149 @@ pub(crate) struct Bell {
 
 impl Bell {
     pub fn new() -> Bell {
+        let quiet = Line {
+            count: 0,
+            waits: false,
+        };
         Bell {
             rings: Mutex::new(Rings {
-                count: 0,
+                lines: [quiet; LINES],
                 stopped: false,
                 workers_ended: 0,
+                wants_room: false,
             }),
             rung: Condvar::new(),
         }
     }
 
-    /// How it stands.
-    pub fn look(&self, rt: &impl Wait) -> Rings {
-        *self.rings.lock(rt)
+    /// How it stands for a thread.
+    pub fn look(&self, rt: &impl Wait, who: Actor) -> Look {
+        self.rings.lock(rt).look(who)
     }
 
-    pub fn ring(&self, rt: &impl Wait) {
+    /// Wakes those who wait. Each of them takes the bell's lock, so it isn't held here.
+    fn wake(&self, waits: bool) {
+        if waits {
+            self.rung.notify_all();
+        }
+    }
+
+    /// Tells a thread that there is something for it.
+    pub fn ring(&self, rt: &impl Wait, who: Actor) {
+        let waits = self.rings.lock(rt).tell(who);
+        self.wake(waits);
+    }
+
+    /// Tells this driver that its device has replies for it, or stopped, and each worker that asked for
+    /// it that there may be room in the history.
+    pub fn ring_left(&self, rt: &impl Wait, driver: Actor) {
+        let waits = self.rings.lock(rt).tell_left(driver);
+        self.wake(waits);
+    }
+
+    /// Asks for a ring once there may be room in the history. Who asks looks once more before it waits:
+    /// the reply that made room may have left before.
+    pub fn want_room(&self, rt: &impl Wait) {
         let mut rings = self.rings.lock(rt);
-        rings.count = rings.count.wrapping_add(1);
-        self.rung.notify_all();
+        rings.wants_room = true;
+    }
+
+    /// Tells the workers of those guests whose mark has moved.
+    pub fn ring_settled(&self, rt: &impl Wait, before: &[u64], now: &[u64]) {
+        let waits = self.rings.lock(rt).tell_settled(before, now);
+        self.wake(waits);
+    }
+
+    /// Tells all workers that there may be something for them.
+    pub fn ring_workers(&self, rt: &impl Wait) {
+        let waits = self.rings.lock(rt).tell_workers();
+        self.wake(waits);
     }
 
     /// Tells all threads to end at their next look.
     pub fn stop(&self, rt: &impl Wait) {
-        let mut rings = self.rings.lock(rt);
-        rings.count = rings.count.wrapping_add(1);
-        rings.stopped = true;
-        self.rung.notify_all();
+        let waits = self.rings.lock(rt).stop();
+        self.wake(waits);
     }
 
     /// Tells that a worker has ended.
     pub fn leave(&self, rt: &impl Wait) {
-        let mut rings = self.rings.lock(rt);
-        rings.count = rings.count.wrapping_add(1);
-        rings.workers_ended = rings.workers_ended.saturating_add(1);
-        self.rung.notify_all();
+        let waits = self.rings.lock(rt).leave();
+        self.wake(waits);
     }
 
-    /// What a thread does that found no work: it rings where it changed something since it last did so, and
-    /// else waits until another has rung since that look. So who is waited for rings once for all that it
-    /// did, and not for each of its turns, where each ring wakes all.
-    pub fn rest<R: Wait>(&self, rt: &R, moved: bool, seen: u64) {
-        if moved {
-            self.ring(rt);
-        } else {
-            self.wait(rt, seen);
+    /// Waits until it has rung for the thread since that look.
+    fn wait<R: Wait>(&self, rt: &R, who: Actor, seen: u64) {
+        let mut rings = self.rings.lock(rt);
+        rings.set_waits(who, true);
+        let mut rings = self
+            .rung
+            .wait_while(rt, rings, |rings| rings.stands(who, seen));
+        rings.set_waits(who, false);
+    }
+}
+
+/// Where a thread stands between its looks for work and its waits.
+#[derive(Drop)]
+pub(crate) struct Rest {
+    me: Actor,
+    look: Look,
+    /// How many looks for work in a row came to nothing.
+    tries: u32,
+    /// How many came to something since the last look at the bell.
+    turns: u32,
+}
+
+impl Rest {
+    /// A thread that is about to look for work.
+    pub fn begin(rt: &impl Wait, bell: &Bell, me: Actor) -> Rest {
+        Rest {
+            me,
+            look: bell.look(rt, me),
+            tries: 0,
+            turns: 0,
         }
     }
 
-    /// Waits until it has rung since that look.
-    pub fn wait<R: Wait>(&self, rt: &R, seen: u64) {
-        let _rings = self
-            .rung
-            .wait_while(rt, self.rings.lock(rt), |rings| rings.count == seen);
+    /// Whether all threads are to end.
+    pub fn is_stopped(&self) -> bool {
+        self.look.stopped
+    }
+
+    /// How many workers had ended at the last look.
+    pub fn workers_ended(&self) -> usize {
+        self.look.workers_ended
+    }
+
+    fn look(&mut self, rt: &impl Wait, bell: &Bell) {
+        self.look = bell.look(rt, self.me);
+        self.turns = 0;
+    }
+
+    /// The thread found work.
+    pub fn went_on(&mut self, rt: &impl Wait, bell: &Bell) {
+        self.tries = 0;
+        self.turns = self.turns.saturating_add(1);
+        if self.turns >= TURNS {
+            self.look(rt, bell);
+        }
+    }
+
+    /// The thread found no work. At first it looks at the bell; then it tries again some times, at once
+    /// and after others ran; and then it waits until it was rung for since that look.
+    pub fn rest(&mut self, rt: &impl Wait, bell: &Bell) {
+        let tries = self.tries;
+        self.tries = tries.saturating_add(1);
+        if tries == 0 {
+            self.look(rt, bell);
+        } else if tries < LOOKS {
+            hint::spin_loop();
+        } else if tries < LOOKS + YIELDS {
+            thread::yield_now();
+        } else {
+            bell.wait(rt, self.me, self.look.count);
+            self.look(rt, bell);
+            self.tries = 1;
+        }
     }
 }

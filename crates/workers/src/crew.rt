@@ -4,7 +4,7 @@ ghost use Rattle.workers.specs.Following.{Follow};
 ghost use Rattle.workers.specs.Keeping.{IsHeard, KeepsOn};
 ghost use Rattle.workers.specs.Orders.{LeavesAll, Left, chain_orders};
 
-use crate::bell::Bell;
+use crate::bell::{Actor, Bell};
 use crate::desk::Desk;
 use crate::driver::{DriverEnd, drive};
 use crate::flushing::{Flusher, FlusherEnd};
@@ -32,12 +32,14 @@ pub(crate) struct Hall<L: Ledger> {
 
 impl<L: Ledger> Hall<L> {
     /// What a guest's threads share with others.
-    fn seat(&self, guest: usize) -> Option<Seat<'_, L>> {
-        let guest = self.guests.get(guest)?;
+    fn seat(&self, number: usize) -> Option<Seat<'_, L>> {
+        let guest = self.guests.get(number)?;
         Some(Seat {
             guest,
             desk: &self.desk,
             bell: &self.bell,
+            driver: Actor::driver(number)?,
+            worker: Actor::worker(number)?,
         })
     }
 }
@@ -47,7 +49,7 @@ impl<L: Ledger> Hall<L> {
 pub(crate) struct OfGuest(u16);
 
 impl<L: Ledger> Promise<Worker<L>> for OfGuest {
-    ghost kept_by = { λ p w. w.tally.guest ≡ p.0 };
+    ghost kept_by = { λ p w. w.backlog.tally.guest ≡ p.0 };
 }
 
 /// A driver of a script that offers so many chains.
@@ -92,7 +94,7 @@ fn start_worker<'s, E, L: Ledger + Send + Sync, G: Gate + Sync, R: Wait + Sync>(
     gate: &'s G,
     worker: Worker<L>,
 ) -> Result<PromisedHandle<Worker<L>, OfGuest>, HostFault>
-    ensures { IfOk result (λ h. h.promise.0 ≡ worker.tally.guest) }
+    ensures { IfOk result (λ h. h.promise.0 ≡ worker.backlog.tally.guest) }
 {
     let promise = OfGuest(worker.number());
     let started = scope.spawn_with(promise, move || worker.run(rt, alloc, &seat, gate));
@@ -104,24 +106,30 @@ fn start_worker<'s, E, L: Ledger + Send + Sync, G: Gate + Sync, R: Wait + Sync>(
 
 /// Starts a driver. What the thread borrows is captured as plain references: of a captured struct of
 /// references the checker would lose what the closure ensures.
-fn start_driver<'s, E, R: Wait + Sync>(
+fn start_driver<'s, E, L: Ledger + Send + Sync, R: Wait + Sync>(
     scope: &'s Scope<'s, E>,
     rt: &'s R,
     alloc: Global,
-    guest: &'s Mutex<Guest>,
-    bell: &'s Bell,
+    seat: Seat<'s, L>,
     script: &'s Script,
 ) -> Result<PromisedHandle<DriverEnd, OfChains>, HostFault>
     ensures { IfOk result (λ h. h.promise.0 ≡ chain_orders script.now) }
 {
     let chains = script.chains();
     let orders = script.orders();
+    let Seat {
+        guest,
+        desk: _,
+        bell,
+        driver: me,
+        worker,
+    } = seat;
     let started = scope.spawn_with(
         OfChains(chains),
         move || -> DriverEnd
             requires { chains ≡ chain_orders orders.now }
             ensures { LeavesAll result.complete (vec_len result.answers) chains }
-        { drive(rt, alloc, guest, bell, orders, chains) },
+        { drive(rt, alloc, guest, bell, me, worker, orders, chains) },
     );
     match started {
         Ok(handle) => Ok(handle),
@@ -171,7 +179,7 @@ fn start_workers<'s, E, L: Ledger + Send + Sync, G: Gate + Sync, R: Wait + Sync>
     workers: Vec<Worker<L>>,
 ) -> Result<Vec<PromisedHandle<Worker<L>, OfGuest>>, HostFault>
     ensures len { IfOk result (λ v. vec_len v ≡ vec_len workers) }
-    ensures guests { IfOk result (λ v. map (λ h. h.promise.0) v.items ≡ map (λ w. w.tally.guest) workers.items) }
+    ensures guests { IfOk result (λ v. map (λ h. h.promise.0) v.items ≡ map (λ w. w.backlog.tally.guest) workers.items) }
 {
     let mut started = Vec::new(alloc);
     for worker in workers {
@@ -204,10 +212,10 @@ fn start_drivers<'s, E, L: Ledger + Send + Sync, R: Wait + Sync>(
 {
     let mut started = Vec::new(alloc);
     for i in 0..scripts.len() {
-        let Some(guest) = hall.guests.get(i) else {
+        let Some(seat) = hall.seat(i) else {
             return Err(HostFault::Foreign);
         };
-        let handle = match start_driver(scope, rt, alloc, guest, &hall.bell, &scripts[i]) {
+        let handle = match start_driver(scope, rt, alloc, seat, &scripts[i]) {
             Ok(handle) => handle,
             Err(fault) => return Err(fault),
         };
@@ -239,7 +247,7 @@ fn start_all<
     requires { Follow flusher.shares flusher.store.guests }
     ensures workers { IfOk result (λ s. vec_len s.workers ≡ vec_len workers) }
     ensures guests { IfOk result (λ s. map (λ h. h.promise.0) s.workers.items
-        ≡ map (λ w. w.tally.guest) workers.items) }
+        ≡ map (λ w. w.backlog.tally.guest) workers.items) }
     ensures drivers { IfOk result (λ s. vec_len s.drivers ≡ length scripts.now) }
     ensures each { IfOk result (λ s. (i : ℕ) (d : _) → i < length scripts.now
         → chain_orders (slice_index_or scripts.now i [])
@@ -276,7 +284,7 @@ fn join_all<L: Ledger, D: Disk + Drop, R: Threads>(
         → chain_orders (slice_index_or scripts.now i [])
         ≡ (slice_index_or started.drivers.items i d).promise.0 }
     ensures workers { IfOk result (λ c. vec_len c.workers ≡ vec_len started.workers) }
-    ensures guests { IfOk result (λ c. map (λ w. w.tally.guest) c.workers.items
+    ensures guests { IfOk result (λ c. map (λ w. w.backlog.tally.guest) c.workers.items
         ≡ map (λ h. h.promise.0) started.workers.items) }
     ensures drivers { IfOk result (λ c. vec_len c.drivers ≡ length scripts.now) }
     ensures each { IfOk result (λ c. Left c.drivers.items scripts.now) }
@@ -322,8 +330,8 @@ fn run_in<
 ) -> Result<Crew<L, D>, HostFault>
     requires { Follow flusher.shares flusher.store.guests }
     ensures workers { IfOk result (λ c. vec_len c.workers ≡ vec_len workers) }
-    ensures guests { IfOk result (λ c. map (λ w. w.tally.guest) c.workers.items
-        ≡ map (λ w. w.tally.guest) workers.items) }
+    ensures guests { IfOk result (λ c. map (λ w. w.backlog.tally.guest) c.workers.items
+        ≡ map (λ w. w.backlog.tally.guest) workers.items) }
     ensures drivers { IfOk result (λ c. vec_len c.drivers ≡ length scripts.now) }
     ensures each { IfOk result (λ c. Left c.drivers.items scripts.now) }
     ensures flusher { IfOk result (λ c. KeepsOn D.state D.makes flusher.store c.flusher.store
@@ -355,8 +363,8 @@ pub(crate) fn run_all<
 ) -> Result<Crew<L, D>, HostFault>
     requires { Follow flusher.shares flusher.store.guests }
     ensures workers { IfOk result (λ c. vec_len c.workers ≡ vec_len workers) }
-    ensures guests { IfOk result (λ c. map (λ w. w.tally.guest) c.workers.items
-        ≡ map (λ w. w.tally.guest) workers.items) }
+    ensures guests { IfOk result (λ c. map (λ w. w.backlog.tally.guest) c.workers.items
+        ≡ map (λ w. w.backlog.tally.guest) workers.items) }
     ensures drivers { IfOk result (λ c. vec_len c.drivers ≡ length scripts.now) }
     ensures each { IfOk result (λ c. Left c.drivers.items scripts.now) }
     ensures flusher { IfOk result (λ c. KeepsOn D.state D.makes flusher.store c.flusher.store
@@ -368,8 +376,8 @@ pub(crate) fn run_all<
         |scope| -> Result<Crew<L, D>, HostFault>
             requires { Follow flusher.shares flusher.store.guests }
             ensures workers { IfOk result (λ c. vec_len c.workers ≡ vec_len workers) }
-            ensures guests { IfOk result (λ c. map (λ w. w.tally.guest) c.workers.items
-                ≡ map (λ w. w.tally.guest) workers.items) }
+            ensures guests { IfOk result (λ c. map (λ w. w.backlog.tally.guest) c.workers.items
+                ≡ map (λ w. w.backlog.tally.guest) workers.items) }
             ensures drivers { IfOk result (λ c. vec_len c.drivers ≡ length scripts.entry.now) }
             ensures each { IfOk result (λ c. Left c.drivers.items scripts.entry.now) }
             ensures flusher { IfOk result (λ c. KeepsOn D.state D.makes flusher.store c.flusher.store

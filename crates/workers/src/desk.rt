@@ -115,6 +115,14 @@ impl<L: Ledger> Desk<L> {
         self.book.is_broken()
     }
 
+    /// Whether an accepted request of the guest waits for the store. It says whom to wake, and no more.
+    pub(crate) fn has_waiting(&self, guest: u16) -> bool {
+        match (self.book.partition(guest), self.book.taken(guest)) {
+            (Some(partition), Some(taken)) => partition.sequence() > taken,
+            _ => false,
+        }
+    }
+
     /// `Book::find`.
     pub fn find(&self, receipt: &Receipt) -> Option<TurnView<'_>>
         ensures { option_map turn_seen result ≡ option_map submission_seen (found_by self.now receipt.now) }

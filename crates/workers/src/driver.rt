@@ -3,10 +3,10 @@ ghost use Rattle.std.specs.Prelude.{◌≡◌, ◌+◌, ◌≤◌, ◌<◌, true
 ghost use Rattle.std.specs.Prelude.{◌++◌, ◌∷◌, [], if◌then◌else◌, None, Ok, OnOk};
 ghost use Rattle.std.specs.Option.{option_copied};
 ghost use Rattle.workers.specs.Orders.{LeavesAll, chain_orders, chains_in};
-ghost use Rattle.workers.specs.Turns.{Drives, Offers, Reaps};
+ghost use Rattle.workers.specs.Turns.{Drives, GoesOn, IsOffered, Offers, Reaps};
 
-use crate::bell::Bell;
-use crate::order::Order;
+use crate::bell::{Actor, Bell, Rest};
+use crate::order::{Chain, Order};
 use crate::seat::{Guest, News, Next, fault_of};
 use guest_driver::DriverFault;
 use host::{Answer, HostFault, Stuck};
@@ -93,7 +93,7 @@ impl<'a> Driver<'a> {
     }
 
     /// Looks for the answer to the oldest chain that has none. Whether something came of it.
-    fn reap(&mut self, rt: &impl Wait, guest: &Mutex<Guest>) -> Result<bool, HostFault>
+    fn reap(&mut self, guest: &mut Guest) -> Result<bool, HostFault>
         ensures script { (self.new.script ≡ self.old.script) × (self.new.next ≡ self.old.next) }
         ensures answers { IfOk result (λ moved. Reaps (vec_len self.old.answers) moved (vec_len self.new.answers)) }
     {
@@ -103,8 +103,7 @@ impl<'a> Driver<'a> {
         if let Some(stuck) = self.stuck {
             return self.answer(Answer::Stuck(stuck));
         }
-        let look = guest.lock(rt).look();
-        match look.told() {
+        match guest.look().told() {
             Ok(News::Reply(bytes)) => self.answer(Answer::Used(bytes)),
             Ok(News::NoReply(stuck)) => {
                 self.stick(stuck);
@@ -116,7 +115,7 @@ impl<'a> Driver<'a> {
     }
 
     /// Goes on in the script, where the queue has room; before a reset each chain has to have its answer.
-    fn offer(&mut self, rt: &impl Wait, guest: &Mutex<Guest>) -> Result<bool, HostFault>
+    fn offer(&mut self, guest: &mut Guest) -> Result<bool, HostFault>
         ensures script { (self.new.script ≡ self.old.script) × (self.new.answers ≡ self.old.answers) }
         ensures next { IfOk result (λ moved. Offers self.old.next moved self.new.next) }
         ensures waits { (order : Order) → slice_get self.old.script.now self.old.next ≡ Some order
@@ -126,29 +125,44 @@ impl<'a> Driver<'a> {
             return Ok(false);
         };
         match order {
-            Order::Chain(chain) => {
-                if self.outstanding >= PLACES {
-                    return Ok(false);
-                }
-                if self.stuck.is_none() {
-                    let offered = guest.lock(rt).offer(chain.readable(), chain.writable());
-                    match offered {
-                        Ok(_) => {}
-                        Err(DriverFault::NoRoom) if self.outstanding > 0 => return Ok(false),
-                        Err(fault) => return Err(fault_of(fault)),
-                    }
-                }
-                self.count_chain(order);
-            }
+            Order::Chain(chain) => self.offer_chain(guest, order, chain),
             Order::Reset => {
                 if self.outstanding != 0 {
                     return Ok(false);
                 }
-                let in_service = guest.lock(rt).restart();
+                let in_service = guest.restart();
                 self.count_reset(order);
                 self.renew(in_service);
+                Ok(true)
             }
         }
+    }
+
+    /// Offers a chain whole, where the queue has room. Whether it did: out of service it only counts.
+    fn offer_chain(
+        &mut self,
+        guest: &mut Guest,
+        order: &Order,
+        chain: &Chain,
+    ) -> Result<bool, HostFault>
+        requires here { slice_get self.old.script.now self.old.next ≡ Some order.now }
+        requires chain { chains_in order.now ≡ 1 }
+        ensures script { (self.new.script ≡ self.old.script) × (self.new.answers ≡ self.old.answers) }
+        ensures next { IfOk result (λ moved. Offers self.old.next moved self.new.next) }
+        ensures offered { self.old.stuck ≡ None → self.old.outstanding < 256
+            → IsOffered guest.old.device guest.old.driver chain.now guest.new.device guest.new.driver }
+    {
+        if self.outstanding >= PLACES {
+            return Ok(false);
+        }
+        if self.stuck.is_none() {
+            match guest.offer(chain.readable(), chain.writable()) {
+                Ok(_) => {}
+                Err(DriverFault::NoRoom) if self.outstanding > 0 => return Ok(false),
+                Err(fault) => return Err(fault_of(fault)),
+            }
+        }
+        self.count_chain(order);
         Ok(true)
     }
 
@@ -192,15 +206,16 @@ impl<'a> Driver<'a> {
         self.next == self.script.len() && self.outstanding == 0
     }
 
-    /// One look for work: one answer, and one order.
-    fn turn(&mut self, rt: &impl Wait, guest: &Mutex<Guest>) -> Result<Next, HostFault>
+    /// One answer, and one order.
+    fn step(&mut self, guest: &mut Guest) -> Result<Next, HostFault>
         ensures script { self.new.script ≡ self.old.script }
         ensures drives { IfOk result (λ next.
             Drives (vec_len self.old.answers) self.old.next next (vec_len self.new.answers)
             self.new.next) }
+        ensures complete { result ≡ Ok Next.End → vec_len self.new.answers ≡ chain_orders self.new.script.now }
     {
-        let reaped = self.reap(rt, guest)?;
-        let offered = self.offer(rt, guest)?;
+        let reaped = self.reap(guest)?;
+        let offered = self.offer(guest)?;
         if reaped || offered {
             return Ok(Next::Again);
         }
@@ -209,6 +224,25 @@ impl<'a> Driver<'a> {
         } else {
             Next::Rest
         })
+    }
+
+    /// One look for work, under one lock: answers and orders as long as there are some.
+    fn turn(&mut self, rt: &impl Wait, guest: &Mutex<Guest>) -> Result<Next, HostFault>
+        ensures script { self.new.script ≡ self.old.script }
+        ensures goes_on { IfOk result (λ next.
+            GoesOn (vec_len self.old.answers) self.old.next next (vec_len self.new.answers)
+            self.new.next) }
+        ensures complete { result ≡ Ok Next.End → vec_len self.new.answers ≡ chain_orders self.new.script.now }
+    {
+        let mut held = guest.lock(rt);
+        for i in 0..PLACES {
+            match self.step(&mut held)? {
+                Next::Again => {}
+                Next::Rest => return Ok(if i == 0 { Next::Rest } else { Next::Again }),
+                Next::End => return Ok(Next::End),
+            }
+        }
+        Ok(Next::Again)
     }
 
     fn fail(&mut self, fault: HostFault)
@@ -237,23 +271,29 @@ impl<'a> Driver<'a> {
     }
 
     /// Brings the device into service, and runs the script to its end, or until all are to end.
-    fn run<R: Wait>(mut self, rt: &R, guest: &Mutex<Guest>, bell: &Bell) -> DriverEnd
+    fn run<R: Wait>(
+        mut self,
+        rt: &R,
+        guest: &Mutex<Guest>,
+        bell: &Bell,
+        me: Actor,
+        worker: Actor,
+    ) -> DriverEnd
         ensures { LeavesAll result.complete (vec_len result.answers) (chain_orders self.entry.script.now) }
     {
         let in_service = guest.lock(rt).begin();
         self.renew(in_service);
-        let mut moved = false;
+        let mut rest = Rest::begin(rt, bell, me);
         for _ in rt.forever() {
-            let look = bell.look(rt);
-            if look.stopped {
+            if rest.is_stopped() {
                 break;
             }
             match self.turn(rt, guest) {
-                Ok(Next::Again) => moved = true,
-                Ok(Next::Rest) => {
-                    bell.rest(rt, moved, look.count);
-                    moved = false;
+                Ok(Next::Again) => {
+                    bell.ring(rt, worker);
+                    rest.went_on(rt, bell);
                 }
+                Ok(Next::Rest) => rest.rest(rt, bell),
                 Ok(Next::End) => break,
                 Err(fault) => {
                     self.fail(fault);
@@ -263,7 +303,7 @@ impl<'a> Driver<'a> {
             }
         }
         guest.lock(rt).finish();
-        bell.ring(rt);
+        bell.ring(rt, worker);
         self.into_end()
     }
 }
@@ -274,6 +314,8 @@ pub(crate) fn drive<R: Wait>(
     alloc: Global,
     guest: &Mutex<Guest>,
     bell: &Bell,
+    me: Actor,
+    worker: Actor,
     script: &[Order],
     chains: usize,
 ) -> DriverEnd
@@ -281,5 +323,5 @@ pub(crate) fn drive<R: Wait>(
     ensures { LeavesAll result.complete (vec_len result.answers) chains }
 {
     let _ = chains;
-    Driver::new(alloc, script).run(rt, guest, bell)
+    Driver::new(alloc, script).run(rt, guest, bell, me, worker)
 }

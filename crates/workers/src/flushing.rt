@@ -3,7 +3,7 @@ ghost use Rattle.std.specs.Prelude.{◌≡◌, None, Ok, OnOk, true};
 ghost use Rattle.workers.specs.Following.{Follow, IsAtRest};
 ghost use Rattle.workers.specs.Keeping.{IsHeard, KeepsOn};
 
-use crate::bell::Bell;
+use crate::bell::{Actor, Bell, Rest};
 use crate::desk::Desk;
 use crate::gate::{Gate, Place, Who};
 use crate::seat::Next;
@@ -56,12 +56,7 @@ impl<D: Disk> Flusher<D> {
 
     /// Takes what waits for one guest, and gives it to the store where a slot of it is free. Whether it did.
     #[tactic(auto, using(crate::proofs::Following::follow_given))]
-    fn take<L: Ledger>(
-        &mut self,
-        rt: &impl Wait,
-        desk: &Mutex<Desk<L>>,
-        guest: u16,
-    ) -> Result<bool, HostFault>
+    fn take<L: Ledger>(&mut self, desk: &mut Desk<L>, guest: u16) -> Result<bool, HostFault>
         requires { Follow self.old.shares self.old.store.guests }
         ensures follows { OnOk result (Follow self.new.shares self.new.store.guests) }
         ensures keeps { KeepsOn D.state D.makes self.old.store self.new.store }
@@ -70,8 +65,7 @@ impl<D: Disk> Flusher<D> {
         if !self.store.is_free(guest) {
             return Ok(false);
         }
-        let taken = desk.lock(rt).take(&mut self.shares, guest);
-        match taken {
+        match desk.take(&mut self.shares, guest) {
             Err(_) => Err(HostFault::Foreign),
             Ok(None) => Ok(false),
             Ok(Some(intent)) => {
@@ -84,11 +78,8 @@ impl<D: Disk> Flusher<D> {
         }
     }
 
-    fn take_all<L: Ledger>(
-        &mut self,
-        rt: &impl Wait,
-        desk: &Mutex<Desk<L>>,
-    ) -> Result<bool, HostFault>
+    /// Takes what waits for each guest with a free slot. Whether there was something.
+    fn take_all<L: Ledger>(&mut self, desk: &mut Desk<L>) -> Result<bool, HostFault>
         requires { Follow self.old.shares self.old.store.guests }
         ensures follows { OnOk result (Follow self.new.shares self.new.store.guests) }
         ensures keeps { KeepsOn D.state D.makes self.old.store self.new.store }
@@ -96,7 +87,7 @@ impl<D: Disk> Flusher<D> {
     {
         let mut moved = false;
         for guest in 0..self.guests {
-            if self.take(rt, desk, guest)? {
+            if self.take(desk, guest)? {
                 moved = true;
             }
         }
@@ -116,8 +107,8 @@ impl<D: Disk> Flusher<D> {
         made
     }
 
-    /// Makes the next call of the disk, and tells the book what came of it. It rings where replies may
-    /// leave since.
+    /// Makes the next call of the disk, and tells the book what came of it. It rings for the workers whose
+    /// replies may leave since.
     fn advance<L: Ledger, G: Gate>(
         &mut self,
         rt: &impl Wait,
@@ -130,19 +121,21 @@ impl<D: Disk> Flusher<D> {
         ensures keeps { KeepsOn D.state D.makes self.old.store self.new.store }
         ensures heard { IsHeard self.old.store self.old.broken self.new.store self.new.broken }
     {
+        let before = self.store.marks();
         match self.call(gate) {
             Ok(Progress::Synced(marks)) => {
                 let settled = desk.lock(rt).settle(&self.shares, marks);
                 if settled.is_err() {
                     return Err(HostFault::Foreign);
                 }
-                bell.ring(rt);
+                let now = self.store.marks();
+                bell.ring_settled(rt, before.sequences(), now.sequences());
             }
             Ok(Progress::Wrote) => {}
             Ok(Progress::Idle) => {}
             Err(_) => {
                 desk.lock(rt).break_off();
-                bell.ring(rt);
+                bell.ring_workers(rt);
             }
         }
         Ok(())
@@ -166,7 +159,7 @@ impl<D: Disk> Flusher<D> {
         let taken = if self.broken {
             false
         } else {
-            self.take_all(rt, desk)?
+            self.take_all(&mut desk.lock(rt))?
         };
         if self.store.next_call() != Call::None {
             self.advance(rt, desk, bell, gate)?;
@@ -194,14 +187,14 @@ impl<D: Disk> Flusher<D> {
         ensures keeps { KeepsOn D.state D.makes self.store result.store }
         ensures heard { IsHeard self.store self.broken result.store result.broken }
     {
+        let mut rest = Rest::begin(rt, bell, Actor::flusher());
         for _ in rt.forever() {
-            let look = bell.look(rt);
-            if look.stopped {
+            if rest.is_stopped() {
                 break;
             }
-            match self.turn(rt, desk, bell, gate, look.workers_ended) {
-                Ok(Next::Again) => {}
-                Ok(Next::Rest) => bell.wait(rt, look.count),
+            match self.turn(rt, desk, bell, gate, rest.workers_ended()) {
+                Ok(Next::Again) => rest.went_on(rt, bell),
+                Ok(Next::Rest) => rest.rest(rt, bell),
                 Ok(Next::End) => return self.into_end(true, None),
                 Err(fault) => {
                     bell.stop(rt);

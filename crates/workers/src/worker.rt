@@ -1,44 +1,45 @@
 //! A guest's worker: it pops, submits, and publishes what may leave.
-ghost use Rattle.std.specs.Prelude.{◌≡◌, ◌+◌, ◌<◌, All, IfOk, None, true, vec_len};
-ghost use Rattle.workers.specs.Turns.{HandsIn, Pops, Submits, TakesIn, Works};
+ghost use Rattle.std.specs.Prelude.{◌≡◌, ◌+◌, IfOk};
+ghost use Rattle.workers.specs.Turns.{Flows, IsNext, Works};
 
+use crate::backlog::{Backlog, Served};
+use crate::bell::{Actor, Rest};
 use crate::desk::Desk;
 use crate::gate::{Gate, Place, Who};
 use crate::seat::{Guest, Next, Seat};
 use host::HostFault;
-use mmio_transport::{DeviceFault, Job};
-use rpmb_book::{Receipt, Refused, Tally};
+use rpmb_book::Tally;
 use std::alloc::Global;
 use std::sync::ledger::{Ledger, Share};
 use std::sync::{Mutex, Wait};
 
-/// What a guest's worker keeps to itself: its tally, a share of the ledger that counts the same, and a
-/// receipt for each job that the book answered.
-#[derive(Drop)]
-pub struct Worker<L: Ledger> {
-    tally: Tally,
-    share: Share<L>,
-    receipts: Vec<Receipt>,
-    /// How many replies it collected.
-    collected: u64,
-    /// A job that the book hasn't answered.
-    job: Option<Job>,
-    fault: Option<HostFault>,
-    ghost one_part: { share.parts ≡ 1 },
-    ghost counted: { tally.count ≡ share.amount },
-    ghost received: { vec_len receipts ≡ tally.count },
-    ghost own: { All (λ r. r.guest ≡ tally.guest) receipts.items },
+/// What an exchange with the guest came to.
+#[derive(Clone, Copy)]
+struct Exchange {
+    published: usize,
+    popped: usize,
+    /// Whether the driver's thread has ended.
+    finished: bool,
+    /// Whether the device stopped in it.
+    stopped: bool,
 }
 
-/// What a worker leaves.
+/// What a look at the book came to.
+#[derive(Clone, Copy)]
+struct Consulted {
+    answered: usize,
+    collected: usize,
+    /// Whether a job waits for room in the history.
+    full: bool,
+    /// Whether something waits for the flusher.
+    waits: bool,
+}
+
+/// A guest's worker.
 #[derive(Drop)]
-pub struct Served {
-    /// How many of its guest's jobs were answered.
-    pub tally: Tally,
-    /// A receipt for each of them, in their order.
-    pub receipts: Vec<Receipt>,
-    ghost received: { vec_len receipts ≡ tally.count },
-    ghost own: { All (λ r. r.guest ≡ tally.guest) receipts.items },
+pub struct Worker<L: Ledger> {
+    backlog: Backlog<L>,
+    fault: Option<HostFault>,
 }
 
 impl<L: Ledger> Worker<L> {
@@ -47,146 +48,103 @@ impl<L: Ledger> Worker<L> {
         requires part { share.parts ≡ 1 }
         requires none { share.amount ≡ 0 }
         requires fresh { tally.count ≡ 0 }
-        ensures { result.tally ≡ tally }
+        ensures { result.backlog.tally ≡ tally }
     {
         Worker {
-            tally,
-            share,
-            receipts: Vec::new(alloc),
-            collected: 0,
-            job: None,
+            backlog: Backlog::new(alloc, tally, share),
             fault: None,
         }
     }
 
-    /// Pops a job where it has none. Whether it did.
-    fn pop(&mut self, rt: &impl Wait, guest: &Mutex<Guest>) -> Result<bool, HostFault>
-        ensures tally { self.new.tally ≡ self.old.tally }
-        ensures pops { IfOk result (λ popped. Pops self.old.job popped self.new.job) }
+    /// Hands what left the book to the device, and pops what is offered, under the guest's lock. What was
+    /// done before a refusal of memory stays.
+    fn exchange(&mut self, rt: &impl Wait, guest: &Mutex<Guest>) -> Result<Exchange, HostFault>
+        ensures tally { self.new.backlog.tally ≡ self.old.backlog.tally }
+        ensures jobs { IfOk result (λ e. Flows self.old.backlog.jobs.items e.popped 0 self.new.backlog.jobs.items) }
+        ensures replies { IfOk result (λ e.
+            Flows self.old.backlog.dones.items 0 e.published self.new.backlog.dones.items) }
     {
-        if self.job.is_some() {
-            return Ok(false);
-        }
-        let popped = guest.lock(rt).pop();
-        match popped {
-            Ok(job) => {
-                self.job = job;
-                Ok(self.job.is_some())
-            }
-            Err(DeviceFault::NoMemory) => Err(HostFault::NoMemory),
-            // That the device stopped is the driver's to tell.
-            Err(DeviceFault::Refused(_)) => Ok(false),
-            Err(DeviceFault::NeedsReset) => Ok(false),
-        }
+        let mut held = guest.lock(rt);
+        let stopped = held.is_stopped();
+        let published = self.backlog.publish_all(&mut held);
+        let popped = self.backlog.pop_all(&mut held)?;
+        Ok(Exchange {
+            published,
+            popped,
+            finished: held.is_finished(),
+            stopped: held.is_stopped() && !stopped,
+        })
     }
 
-    /// Submits the job under the desk's lock; room for its receipt is made before. Whether the book
-    /// answered it: where the guest is busy, or the history waits for its first reply to leave, the
-    /// worker keeps the job.
-    fn submit(
+    /// Submits what was popped, and collects what may leave, under the desk's lock.
+    fn consult(
         &mut self,
         rt: &impl Wait,
         desk: &Mutex<Desk<L>>,
         alloc: Global,
-        job: Job,
-    ) -> Result<bool, HostFault>
-        requires empty { self.old.job ≡ None }
-        ensures guest { self.new.tally.guest ≡ self.old.tally.guest }
-        ensures submits { IfOk result (λ answered.
-            Submits job self.old.tally.count answered self.new.tally.count self.new.job) }
+    ) -> Result<Consulted, HostFault>
+        ensures guest { self.new.backlog.tally.guest ≡ self.old.backlog.tally.guest }
+        ensures count { IfOk result (λ c. self.new.backlog.tally.count ≡ self.old.backlog.tally.count + c.answered) }
+        ensures jobs { IfOk result (λ c. Flows self.old.backlog.jobs.items 0 c.answered self.new.backlog.jobs.items) }
+        ensures replies { IfOk result (λ c.
+            Flows self.old.backlog.dones.items c.collected 0 self.new.backlog.dones.items) }
     {
-        if self.receipts.reserve(1).is_err() {
-            return Err(HostFault::NoMemory);
+        if !self.backlog.needs_book() {
+            return Ok(Consulted {
+                answered: 0,
+                collected: 0,
+                full: false,
+                waits: false,
+            });
         }
-        let Worker {
-            tally,
-            share,
-            receipts,
-            collected: _,
-            job: place,
-            fault: _,
-        } = self;
-        let answer = desk.lock(rt).submit(alloc, tally, share, job);
-        match answer {
-            Ok(receipt) => {
-                receipts.push_reserved(receipt);
-                Ok(true)
-            }
-            Err((job, Refused::Busy | Refused::HistoryFull)) => {
-                *place = Some(job);
-                Ok(false)
-            }
-            Err((_, refused)) => Err(HostFault::of(refused)),
+        let mut held = desk.lock(rt);
+        let (answered, full) = self.backlog.submit_all(&mut held, alloc)?;
+        let collected = self.backlog.collect_all(&mut held)?;
+        Ok(Consulted {
+            answered,
+            collected,
+            full,
+            waits: answered > 0 && held.has_waiting(self.backlog.number()),
+        })
+    }
+
+    /// Tells the gate so often that the thread stands there.
+    fn tell<G: Gate>(&self, gate: &G, place: Place, count: usize) {
+        for _ in 0..count {
+            gate.at(Who::Worker(self.number()), place);
         }
     }
 
-    /// Collects a reply that may leave, and publishes it. Whether there was one.
-    fn publish(&mut self, rt: &impl Wait, guest: &Mutex<Guest>, desk: &Mutex<Desk<L>>) -> bool
-        ensures { (self.new.tally ≡ self.old.tally) × (self.new.job ≡ self.old.job) }
-    {
-        let number = self.tally.guest();
-        let due = desk.lock(rt).collect(number);
-        let Some(done) = due else {
-            return false;
-        };
-        self.collected = self.collected.saturating_add(1);
-        // A reply of an earlier session is dropped.
-        let _ = guest.lock(rt).publish(done);
-        true
-    }
-
-    /// Whether it has no job, and all replies to those that were answered have left the book: as long as
-    /// one is held, the history can't roll over it.
-    fn has_nothing_left(&self) -> bool
-        ensures { result ≡ true → self.now.job ≡ None }
-    {
-        self.job.is_none() && self.collected == self.tally.count()
-    }
-
-    /// Submits the job that it has. Whether the book answered it.
-    fn hand_in<G: Gate>(
-        &mut self,
-        rt: &impl Wait,
-        alloc: Global,
-        seat: &Seat<'_, L>,
-        gate: &G,
-    ) -> Result<bool, HostFault>
-        ensures guest { self.new.tally.guest ≡ self.old.tally.guest }
-        ensures hands_in { IfOk result (λ answered.
-            HandsIn self.old.tally.count self.old.job answered self.new.tally.count self.new.job) }
-    {
-        let Some(job) = self.job.take() else {
-            return Ok(false);
-        };
-        let answered = self.submit(rt, seat.desk, alloc, job)?;
-        if answered {
-            gate.at(Who::Worker(self.tally.guest()), Place::Submitted);
+    /// Rings for those who may wait for what the worker did.
+    fn ring(&self, rt: &impl Wait, seat: &Seat<'_, L>, consulted: Consulted) {
+        if consulted.waits {
+            seat.bell.ring(rt, Actor::flusher());
         }
-        Ok(answered)
-    }
-
-    /// Pops a job where it has none, and submits the one that it has. Whether something came of it.
-    fn take_in<G: Gate>(
-        &mut self,
-        rt: &impl Wait,
-        alloc: Global,
-        seat: &Seat<'_, L>,
-        gate: &G,
-    ) -> Result<bool, HostFault>
-        ensures guest { self.new.tally.guest ≡ self.old.tally.guest }
-        ensures takes { IfOk result (λ moved.
-            TakesIn self.old.tally.count self.old.job moved self.new.tally.count self.new.job) }
-    {
-        let popped = self.pop(rt, seat.guest)?;
-        if popped {
-            gate.at(Who::Worker(self.tally.guest()), Place::Popped);
+        if consulted.full {
+            seat.bell.want_room(rt);
         }
-        let answered = self.hand_in(rt, alloc, seat, gate)?;
-        Ok(popped || answered)
     }
 
-    /// One look for work: a pop where it has no job, a submit where it has one, and one reply. No lock is
-    /// held where the gate is told.
+    /// What comes after such a look: another, where something came of it.
+    fn next_after(&self, exchange: Exchange, consulted: Consulted) -> Next
+        ensures { IsNext result exchange.popped consulted.answered consulted.collected exchange.published
+            self.now.backlog.jobs.items self.now.backlog.dones.items }
+    {
+        if exchange.published > 0 || exchange.popped > 0 {
+            return Next::Again;
+        }
+        if consulted.answered > 0 || consulted.collected > 0 {
+            return Next::Again;
+        }
+        if exchange.finished && self.backlog.is_empty() {
+            Next::End
+        } else {
+            Next::Rest
+        }
+    }
+
+    /// One look for work, under one lock after the other: the guest's, and the desk's. No lock is held where
+    /// the gate is told.
     pub(crate) fn turn<G: Gate>(
         &mut self,
         rt: &impl Wait,
@@ -194,29 +152,21 @@ impl<L: Ledger> Worker<L> {
         seat: &Seat<'_, L>,
         gate: &G,
     ) -> Result<Next, HostFault>
-        ensures guest { self.new.tally.guest ≡ self.old.tally.guest }
-        ensures works { IfOk result (λ next.
-            Works self.old.tally.count self.old.job next self.new.tally.count self.new.job) }
+        ensures guest { self.new.backlog.tally.guest ≡ self.old.backlog.tally.guest }
+        ensures works { IfOk result (λ next. Works next
+            self.old.backlog.tally.count self.old.backlog.jobs.items self.old.backlog.dones.items
+            self.new.backlog.tally.count self.new.backlog.jobs.items self.new.backlog.dones.items) }
     {
-        let finished = seat.guest.lock(rt).is_finished();
-        let stopped = seat.guest.lock(rt).is_stopped();
-        let moved = self.take_in(rt, alloc, seat, gate)?;
-        let published = self.publish(rt, seat.guest, seat.desk);
-        if published {
-            gate.at(Who::Worker(self.tally.guest()), Place::Published);
+        let exchange = self.exchange(rt, seat.guest)?;
+        self.tell(gate, Place::Published, exchange.published);
+        self.tell(gate, Place::Popped, exchange.popped);
+        if exchange.published > 0 || exchange.stopped {
+            seat.bell.ring_left(rt, seat.driver);
         }
-        if moved || published {
-            return Ok(Next::Again);
-        }
-        // That the device stopped since is the driver's to tell.
-        if !stopped && seat.guest.lock(rt).is_stopped() {
-            seat.bell.ring(rt);
-        }
-        Ok(if finished && self.has_nothing_left() {
-            Next::End
-        } else {
-            Next::Rest
-        })
+        let consulted = self.consult(rt, seat.desk, alloc)?;
+        self.tell(gate, Place::Submitted, consulted.answered);
+        self.ring(rt, seat, consulted);
+        Ok(self.next_after(exchange, consulted))
     }
 
     /// Looks for work until the guest's driver has ended and nothing is left, or all are to end.
@@ -227,20 +177,16 @@ impl<L: Ledger> Worker<L> {
         seat: &Seat<'_, L>,
         gate: &G,
     ) -> Worker<L>
-        ensures { result.tally.guest ≡ self.tally.guest }
+        ensures { result.backlog.tally.guest ≡ self.backlog.tally.guest }
     {
-        let mut moved = false;
+        let mut rest = Rest::begin(rt, seat.bell, seat.worker);
         for _ in rt.forever() {
-            let look = seat.bell.look(rt);
-            if look.stopped {
+            if rest.is_stopped() {
                 break;
             }
             match self.turn(rt, alloc, seat, gate) {
-                Ok(Next::Again) => moved = true,
-                Ok(Next::Rest) => {
-                    seat.bell.rest(rt, moved, look.count);
-                    moved = false;
-                }
+                Ok(Next::Again) => rest.went_on(rt, seat.bell),
+                Ok(Next::Rest) => rest.rest(rt, seat.bell),
                 Ok(Next::End) => break,
                 Err(fault) => {
                     self.fail(fault);
@@ -254,7 +200,7 @@ impl<L: Ledger> Worker<L> {
     }
 
     fn fail(&mut self, fault: HostFault)
-        ensures { self.new.tally ≡ self.old.tally }
+        ensures { self.new.backlog ≡ self.old.backlog }
     {
         self.fault = Some(fault);
     }
@@ -263,24 +209,17 @@ impl<L: Ledger> Worker<L> {
     pub(crate) fn into_served(self) -> (Share<L>, Served)
         ensures part { result.0.parts ≡ 1 }
         ensures counted { result.0.amount ≡ result.1.tally.count }
-        ensures tally { result.1.tally ≡ self.tally }
+        ensures tally { result.1.tally ≡ self.backlog.tally }
     {
-        let Worker {
-            tally,
-            share,
-            receipts,
-            collected: _,
-            job: _,
-            fault: _,
-        } = self;
-        (share, Served { tally, receipts })
+        let Worker { backlog, fault: _ } = self;
+        backlog.into_served()
     }
 
     /// The number of its guest.
     pub(crate) fn number(&self) -> u16
-        ensures { result ≡ self.now.tally.guest }
+        ensures { result ≡ self.now.backlog.tally.guest }
     {
-        self.tally.guest()
+        self.backlog.number()
     }
 
     /// Why it ended before its guest's driver, where it did.

@@ -1,0 +1,18 @@
+use Rattle.std.proofs.Common.{◌∷◌, ap, sym, ◌∙◌, rules}
+use Rattle.std.specs.Prelude.{slice_get}
+use Rattle.workers.proofs.Flowing.{flows_first, flows_same, last_pushed}
+use Rattle.workers.proofs.backlog.Backlog.submit.Goals as goal
+
+pub returns-in-Ok-clause-jobs : goal.returns-in-Ok-clause-jobs
+returns-in-Ok-clause-jobs g c = flows_first _ c.in-Some.job _ (sym c.try_reserve.ensures.items ∙ c.in-Some.ensures.items)
+
+pub returns-in-Ok-clause-receipt : goal.returns-in-Ok-clause-receipt
+returns-in-Ok-clause-receipt g c r there is =
+    let last = last_pushed c.reserve.new.self.items c.in-Ok.receipt r _ (search rules) (sym (ap (λ xs. slice_get xs c.args.self.now.tally.count) c.push_reserved.ensures.items) ∙ there) ∙ c.in-Ok.ensures.named in
+    (ap (λ x. x.life) last, ap (λ x. x.number) last)
+
+pub returns-in-Busy-clause-jobs : goal.returns-in-Busy-clause-jobs
+returns-in-Busy-clause-jobs g c = flows_same _ _ (c.push_front_reserved.ensures.items ∙ ap (λ j. j ∷ c.pop_front.new.self.items) c.in-Err.ensures.given_back ∙ sym c.in-Some.ensures.items ∙ c.try_reserve.ensures.items)
+
+pub returns-in-HistoryFull-clause-jobs : goal.returns-in-HistoryFull-clause-jobs
+returns-in-HistoryFull-clause-jobs g c = flows_same _ _ (c.push_front_reserved.ensures.items ∙ ap (λ j. j ∷ c.pop_front.new.self.items) c.in-Err.ensures.given_back ∙ sym c.in-Some.ensures.items ∙ c.try_reserve.ensures.items)
