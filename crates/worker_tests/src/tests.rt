@@ -1,5 +1,7 @@
 mod alone;
 mod asking;
+mod behind;
+mod broken;
 mod devices;
 mod failing;
 mod faults;

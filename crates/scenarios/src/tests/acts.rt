@@ -1,7 +1,7 @@
 //! What happens to a world: a driver that sets its device up and offers chains, and the steps that take
 //! requests to their replies.
 
-use crate::tests::lines::{Asked, frames_of};
+use crate::tests::asked::{Asked, frames_of};
 use board::{Act, Event, Step};
 use disk::Filler;
 use mmio_transport::register as reg;
@@ -11,7 +11,7 @@ use std::test::Fail;
 /// What a driver writes into the registers: a reset, VIRTIO_F_VERSION_1 alone, a queue of 16 with its
 /// descriptors at 0x1000, its available ring at 0x2000 and its used ring at 0x3000, and DRIVER_OK
 /// (VIRTIO 1.2, 3.1.1 and 4.2.3.2).
-static SETUP: [(u32, u32); 14] = [
+pub static SETUP: [(u32, u32); 14] = [
     (reg::STATUS, 0),
     (reg::STATUS, 3),
     (reg::DRIVER_FEATURES_SEL, 0),
@@ -87,6 +87,7 @@ fn filler_of(alloc: Global, number: u8) -> Result<Filler, Fail> {
         4 => Ok(Filler::Fill(Vec::from_slice(alloc, &[0xa5])?)),
         5 => Ok(Filler::Fill(Vec::from_slice(alloc, &[0x02])?)),
         6 => Ok(Filler::Fill(Vec::from_slice(alloc, &[0x77])?)),
+        7 => Ok(Filler::Fill(Vec::from_slice(alloc, &[0x5a, 0xa5])?)),
         _ => Ok(Filler::Fill(Vec::from_slice(alloc, &[0xff])?)),
     }
 }
@@ -175,7 +176,12 @@ impl Acts {
         if let Some(offered) = self.offered.get_mut(usize::from(guest)) {
             *offered = 0;
         }
-        for (offset, value) in &SETUP {
+        self.write_all(guest, &SETUP)
+    }
+
+    /// A guest writes these values into these registers.
+    pub fn write_all(&mut self, guest: u16, writes: &[(u32, u32)]) -> Result<(), Fail> {
+        for (offset, value) in writes {
             self.write(guest, *offset, *value)?;
         }
         Ok(())
@@ -190,7 +196,8 @@ impl Acts {
         self.step(Step::Drive(guest, act))
     }
 
-    fn store(&mut self, guest: u16, at: u64, bytes: &[u8]) -> Result<(), Fail> {
+    /// A guest stores bytes into its memory.
+    pub fn store(&mut self, guest: u16, at: u64, bytes: &[u8]) -> Result<(), Fail> {
         let bytes = bytes.to_vec(self.alloc)?;
         self.step(Step::Drive(guest, Act::Store { at, bytes }))
     }

@@ -1,6 +1,7 @@
 //! What the store is given, and when replies leave.
 
-use crate::tests::lines::{Asked, Line, play_all};
+use crate::tests::asked::Asked;
+use crate::tests::lines::{Line, play_all};
 use crate::tests::scene::LIFE;
 use std::test::Fail;
 

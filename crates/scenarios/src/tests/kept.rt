@@ -1,7 +1,8 @@
 //! The book and the store together: what a guest was answered is on the disk when the store is idle.
 
+use crate::tests::asked::Asked;
 use crate::tests::image::{fresh_store, opened};
-use crate::tests::lines::{Asked, Line, play};
+use crate::tests::lines::{Line, play};
 use crate::tests::scene::{KEY, board_of, check, scene_of};
 use disk::{CutDisk, Filler};
 use flusher::Store;

@@ -1,7 +1,8 @@
 //! How many replies a guest may have held, and whom a book knows.
 
+use crate::tests::asked::Asked;
 use crate::tests::image::fresh_store;
-use crate::tests::lines::{Asked, Line, play_all};
+use crate::tests::lines::{Line, play_all};
 use crate::tests::scene::{
     KEY, Scene, accepted, check, get_write_counter, job_of, nonce_of, program_key, scene_of,
 };

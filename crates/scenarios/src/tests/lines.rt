@@ -1,40 +1,17 @@
 //! Scenes as tables: what is asked of a book and its store, line by line, and what is seen then.
 
+use crate::tests::asked::{Asked, frames_of};
 use crate::tests::image::{fresh_store, keep_next, settle};
 use crate::tests::scene::{
-    KEY, Scene, accepted, get_write_counter, has_tail, job_of, nonce_of, program_key, result_read,
-    scene_of, write_at, write_of,
+    KEY, Scene, accepted, get_write_counter, has_tail, job_of, nonce_of, result_read, scene_of,
+    write_of,
 };
 use disk::CutDisk;
 use flusher::Store;
-use hmac256::mac_of;
 use intent_slots::Intent;
 use mmio_transport::{Done, Job};
-use rpmb_frame::Frame;
-use std::alloc::{AllocError, Global};
+use std::alloc::Global;
 use std::test::Fail;
-
-/// A request, in a chain with room for one frame.
-#[derive(Clone, Copy)]
-pub enum Asked {
-    /// A key of 32 such bytes is programmed.
-    Key(u8),
-    /// Block 0 is written, with bytes of this kind, under this write counter.
-    Write(u8, u32),
-    /// The block at this address is written under this write counter.
-    WriteAt(u16, u32),
-    /// So many blocks are written from this address on, the first with bytes 1, the next with bytes 2,
-    /// and so on, under the write counter 0.
-    Blocks(u16, u8),
-    /// The write counter is read, under this nonce.
-    Counter(u8),
-    /// Block 0 is read.
-    Block,
-    /// The result of the request before it is read.
-    LastResult,
-    /// A frame of zeros, which is of no kind.
-    Zeros,
-}
 
 /// How many requests an intent has, the sequence and the counter that it leaves, its address, and the
 /// length and the first and last byte of its blocks.
@@ -90,66 +67,6 @@ pub enum Line {
     EmptyReply(u16),
     /// No reply to the guest leaves.
     NoReply(u16),
-}
-
-/// The frame that reads the block at address 0.
-fn data_read() -> [u8; 512] {
-    Frame::zeros()
-        .with_block_count(1)
-        .with_req_resp(0x0004)
-        .to_bytes()
-}
-
-/// The frame of the block of these bytes, one of so many that are written, without a MAC.
-fn write_frame(byte: u8, address: u16, count: u8) -> [u8; 512] {
-    Frame::zeros()
-        .with_block_data(&[byte; 256])
-        .with_address(address)
-        .with_block_count(u16::from(count))
-        .with_req_resp(0x0003)
-        .to_bytes()
-}
-
-fn push_writes(frames: &mut Vec<[u8; 512]>, address: u16, count: u8) -> Result<(), AllocError> {
-    for i in 0..count {
-        frames.push(write_frame(i + 1, address, count))?;
-    }
-    Ok(())
-}
-
-/// Puts the MAC of all frames into the last one.
-fn seal(frames: &mut [[u8; 512]]) {
-    let mac = mac_of(&KEY, frames);
-    if let Some(last) = frames.last_mut() {
-        *last = Frame::from_bytes(last).with_key_mac(&mac).to_bytes();
-    }
-}
-
-/// The frames that write so many blocks and ask for the result.
-fn writes_of(alloc: Global, address: u16, count: u8) -> Result<Vec<[u8; 512]>, AllocError> {
-    let mut frames = Vec::with_capacity(alloc, 17)?;
-    push_writes(&mut frames, address, count)?;
-    seal(&mut frames);
-    frames.push(result_read())?;
-    Ok(frames)
-}
-
-fn listed(alloc: Global, frames: &[[u8; 512]]) -> Result<Vec<[u8; 512]>, AllocError> {
-    Vec::from_slice(alloc, frames)
-}
-
-/// The frames of a request.
-pub fn frames_of(alloc: Global, asked: Asked) -> Result<Vec<[u8; 512]>, AllocError> {
-    match asked {
-        Asked::Key(byte) => listed(alloc, &program_key(&[byte; 32])),
-        Asked::Write(byte, counter) => listed(alloc, &write_of(byte, counter)),
-        Asked::WriteAt(address, counter) => listed(alloc, &write_at(address, counter)),
-        Asked::Blocks(address, count) => writes_of(alloc, address, count),
-        Asked::Counter(nonce) => listed(alloc, &get_write_counter(u128::from(nonce))),
-        Asked::Block => listed(alloc, &[data_read()]),
-        Asked::LastResult => listed(alloc, &[result_read()]),
-        Asked::Zeros => listed(alloc, &[[0; 512]]),
-    }
 }
 
 fn ask(
@@ -348,7 +265,7 @@ fn replies(scene: &mut Scene, guest: u16, session: u64, need: u64, tail: &[u8; 1
 }
 
 /// The bytes of a failure: zeros but for the last four.
-fn failure_of(end: [u8; 4]) -> [u8; 512] {
+pub fn failure_of(end: [u8; 4]) -> [u8; 512] {
     let mut bytes = [0; 512];
     bytes[508..].copy_from_slice(&end);
     bytes

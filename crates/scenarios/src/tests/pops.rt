@@ -2,8 +2,8 @@
 //! each allocation fail once.
 
 use crate::tests::acts::{Acts, Move};
+use crate::tests::asked::Asked;
 use crate::tests::image::Version;
-use crate::tests::lines::Asked;
 use crate::tests::scene::check;
 use crate::tests::worlds::{KEYED, world_of};
 use board::{Event, Pop, Publication, Refusal, Step, StepFault, World};

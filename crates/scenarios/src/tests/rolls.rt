@@ -1,8 +1,9 @@
 //! A history that rolls: which requests are answered still, which receipts find their turn, and what is
 //! kept.
 
+use crate::tests::asked::Asked;
 use crate::tests::limits::given_back;
-use crate::tests::lines::{Asked, Line, has_no_reply, play_all};
+use crate::tests::lines::{Line, has_no_reply, play_all};
 use crate::tests::receipts::is_of_nonce;
 use crate::tests::scene::{
     LIFE, Scene, accepted, check, get_write_counter, job_of, nonce_of, scene_of,

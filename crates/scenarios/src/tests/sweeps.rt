@@ -2,8 +2,8 @@
 //! with each filler, and once more at the first call after the opening.
 
 use crate::tests::acts::{Acts, Move};
+use crate::tests::asked::Asked;
 use crate::tests::image::Version;
-use crate::tests::lines::Asked;
 use crate::tests::scene::{board_of, check};
 use crate::tests::worlds::world_of;
 use board::{Accepted, Event, Publication, World};
@@ -151,7 +151,7 @@ pub fn check_guest(alloc: Global, world: &World, guest: u16) -> Result<(), Fail>
 }
 
 /// No guest lost anything by the stops.
-fn check_guests(alloc: Global, world: &World) -> Result<(), Fail> {
+pub fn check_guests(alloc: Global, world: &World) -> Result<(), Fail> {
     for guest in 0..3 {
         check_guest(alloc, world, guest)?;
     }

@@ -3,8 +3,8 @@
 //! The guests write on, by both slots, and the host stops again.
 
 use crate::tests::acts::{Acts, Move};
+use crate::tests::asked::Asked;
 use crate::tests::image::formatted;
-use crate::tests::lines::Asked;
 use crate::tests::scene::{board_of, check};
 use crate::tests::sweeps::check_guest;
 use board::{Event, World};

@@ -1,8 +1,8 @@
 //! Worlds: boards through steps, stops and openings.
 
 use crate::tests::acts::{Acts, Move};
+use crate::tests::asked::Asked;
 use crate::tests::image::{Version, formatted_as};
-use crate::tests::lines::Asked;
 use crate::tests::scene::{board_of, check};
 use board::{Event, Publication, Refusal, StepFault, World};
 use flusher::StoreFault;

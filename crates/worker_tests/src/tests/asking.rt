@@ -44,7 +44,7 @@ pub fn write_of(key: &[u8; 32], counter: u32, address: u16, byte: u8) -> [[u8; 5
 }
 
 /// The frame that reads the block there.
-fn read_of(nonce: u128, address: u16) -> [[u8; 512]; 1] {
+pub fn read_of(nonce: u128, address: u16) -> [[u8; 512]; 1] {
     let frame = Frame::zeros()
         .with_nonce(&nonce.to_be_bytes())
         .with_address(address)

@@ -1,0 +1,231 @@
+// The longest walks that the rules allow: each place of a queue of 256, the last of which refers
+// to a table of 1,024 entries, which is 1,280 descriptors.
+use super::descriptors::{
+    Descriptor, INDIRECT, NEXT, WRITE, check_row, describe, holds, memory_of, put, set_word,
+};
+use super::devices::check;
+use super::packed_rings;
+use super::queues::{Answer, BAD_RANGE, ORDER, Queue, Step, TOO_LONG, go_in};
+use super::split_rings::{self, pop_one};
+use super::walks::{chain_of, scatters};
+use chains::{Chain, Places};
+use guest_memory::Memory;
+use split_ring::Ring;
+use std::alloc::Global;
+use std::test::Fail;
+
+// A ring of 256 descriptors at 0: 255 of one byte to be read, the last of a table at 4,096 of
+// 1,024 entries of 9 bytes each, which are more than any reply or request has.
+fn put_ring(memory: &mut Memory) -> bool {
+    for place in 0..255_u16 {
+        let at = 40000 + place as u64;
+        if !describe(memory, 16 * place as u64, (at, 1, NEXT, place + 1))
+            || !put(memory, at, &[(place % 256) as u8])
+        {
+            return false;
+        }
+    }
+    describe(memory, 4080, (4096, 16384, INDIRECT, 0))
+}
+
+// The entries are to be written where `write` is WRITE, and to be read where it is 0.
+fn put_table(memory: &mut Memory, write: u16) -> bool {
+    for entry in 0..1023_u16 {
+        let at = 50000 + 9 * entry as u64;
+        let fields = (at, 9, write | NEXT, entry + 1);
+        if !describe(memory, 4096 + 16 * entry as u64, fields) {
+            return false;
+        }
+    }
+    describe(memory, 20464, (59207, 9, write, 0))
+}
+
+fn put_longest(memory: &mut Memory, write: u16) -> bool {
+    put_ring(memory) && put_table(memory, write)
+}
+
+fn longest(alloc: Global, write: u16) -> Result<Memory, Fail> {
+    let mut memory = memory_of(alloc, 65536)?;
+    check(put_longest(&mut memory, write), "the longest chain")?;
+    Ok(memory)
+}
+
+// Whether what is kept of the chain takes the longest reply, which ends where the chain does.
+fn takes_the_longest(alloc: Global, memory: &mut Memory, chain: &Chain) -> bool {
+    match chain.for_reply(alloc) {
+        Ok(kept) => {
+            scatters(&kept, memory, &[7; 9216], 9216)
+                && holds(memory, 50000, &[7])
+                && holds(memory, 59215, &[7, 0])
+        }
+        Err(_) => false,
+    }
+}
+
+// How many descriptors the walk of the longest chain reads, which takes the longest reply.
+fn count_of_longest(alloc: Global, memory: &mut Memory) -> Option<u64> {
+    match chain_of(alloc, memory, 256) {
+        Some(found) if takes_the_longest(alloc, memory, &found.chain) => Some(found.count),
+        _ => None,
+    }
+}
+
+#[test]
+fn the_longest_chain(rt: HostRuntime) -> Result<(), Fail> {
+    let mut memory = longest(rt.alloc(), WRITE)?;
+    let count = count_of_longest(rt.alloc(), &mut memory);
+    check(count == Some(1280), "another count")
+}
+
+// The available ring and the used ring stand behind the table.
+const BEHIND_THE_TABLE: Places = Places {
+    descriptors: 0,
+    driver: 20480,
+    device: 24576,
+    indirect: true,
+    event_idx: false,
+    in_order: false,
+};
+
+// Whether a request begins with one byte of each descriptor in the ring, and goes on with zeros.
+fn is_request_of_longest(request: &[u8]) -> bool {
+    for (place, byte) in request.iter().enumerate() {
+        let expected = if place < 255 { place as u8 } else { 0 };
+        if *byte != expected {
+            return false;
+        }
+    }
+    true
+}
+
+// The lengths of the request and of the room for a reply of the longest chain, which the ring pops
+// first.
+fn lengths_popped(alloc: Global, memory: &mut Memory, ring: &mut Ring) -> Option<(usize, u64)> {
+    match pop_one(alloc, memory, ring) {
+        Some(popped) if is_request_of_longest(&popped.request) => {
+            Some((popped.request.len(), popped.chain.writable_len()))
+        }
+        _ => None,
+    }
+}
+
+// Whether a ring pops the longest chain first, of these lengths.
+fn pops_the_longest(alloc: Global, write: u16, lengths: (usize, u64)) -> Result<bool, Fail> {
+    let mut memory = longest(alloc, write)?;
+    let mut ring = split_rings::ring_of(alloc, BEHIND_THE_TABLE, 256)?;
+    let offered = set_word(&mut memory, 20482, 1);
+    Ok(offered && lengths_popped(alloc, &mut memory, &mut ring) == Some(lengths))
+}
+
+// The longest chain of 255 ranges to be read and 1,024 to be written, and that of 1,279 ranges to
+// be read, whose request is too long.
+static LONGEST: [(u16, (usize, u64)); 2] = [(WRITE, (255, 9216)), (0, (8705, 0))];
+
+#[test]
+fn a_ring_pops_the_longest_chains(rt: HostRuntime) -> Result<(), Fail> {
+    for (place, (write, lengths)) in LONGEST.iter().enumerate() {
+        check_row(pops_the_longest(rt.alloc(), *write, *lengths)?, place)?;
+    }
+    Ok(())
+}
+
+// The flags of a descriptor of a packed ring that is available in the first round.
+const AVAIL: u16 = 0x0080;
+
+// The same ring and table of a packed queue, by the id 9, but for the last entry. The places of a
+// packed table follow each other, and none has NEXT.
+fn put_packed(memory: &mut Memory, write: u16) -> bool {
+    for place in 0..255_u16 {
+        let fields = (40000 + place as u64, 1, place, AVAIL + NEXT);
+        if !describe(memory, 16 * place as u64, fields) {
+            return false;
+        }
+    }
+    for entry in 0..1023_u16 {
+        let fields = (50000 + 9 * entry as u64, 9, 0, write);
+        if !describe(memory, 4096 + 16 * entry as u64, fields) {
+            return false;
+        }
+    }
+    describe(memory, 4080, (4096, 16384, 9, AVAIL + INDIRECT))
+}
+
+// The flags of the table's entries but the last, and the last one of a split and of a packed ring;
+// what a pop of the one answers, and of the other.
+type Longest = (u16, Descriptor, Descriptor, Answer, Answer);
+
+static ALL_READ: [Longest; 5] = [
+    // To be written, which is more than any reply has; and to be read, which is more than any
+    // request has.
+    (
+        WRITE,
+        (59207, 9, WRITE, 0),
+        (59207, 9, 0, WRITE),
+        Answer::Chain(0, 1, 255, 9216),
+        Answer::Chain(9, 256, 255, 9216),
+    ),
+    (
+        0,
+        (59207, 9, 0, 0),
+        (59207, 9, 0, 0),
+        Answer::Chain(0, 1, 8705, 0),
+        Answer::Chain(9, 256, 8705, 0),
+    ),
+    // Refused at the last entry alone.
+    (
+        WRITE,
+        (65536, 1, WRITE, 0),
+        (65536, 1, 0, WRITE),
+        BAD_RANGE,
+        BAD_RANGE,
+    ),
+    (WRITE, (59207, 9, 0, 0), (59207, 9, 0, 0), ORDER, ORDER),
+    // The last entry goes on at the first one; in a packed table NEXT doesn't count.
+    (
+        WRITE,
+        (59207, 9, WRITE + NEXT, 0),
+        (59207, 9, 0, WRITE + NEXT),
+        TOO_LONG,
+        Answer::Chain(9, 256, 255, 9216),
+    ),
+];
+
+// The first pop gives this, and reads all descriptors: as many as the queue has places, and 1,024.
+fn reads_all<R: Queue>(
+    alloc: Global,
+    mut memory: Memory,
+    ring: R,
+    last: Descriptor,
+    answer: Answer,
+) -> Result<(), Fail> {
+    check(describe(&mut memory, 20464, last), "the last entry")?;
+    go_in(
+        alloc,
+        memory,
+        ring,
+        &[Step::Pops(1, answer), Step::Reads(1280)],
+    )
+}
+
+fn reads_all_of_split(alloc: Global, row: &Longest) -> Result<(), Fail> {
+    let mut memory = longest(alloc, row.0)?;
+    check(set_word(&mut memory, 20482, 1), "the index")?;
+    let ring = split_rings::ring_of(alloc, BEHIND_THE_TABLE, 256)?;
+    reads_all(alloc, memory, ring, row.1, row.3)
+}
+
+fn reads_all_of_packed(alloc: Global, row: &Longest) -> Result<(), Fail> {
+    let mut memory = memory_of(alloc, 65536)?;
+    check(put_packed(&mut memory, row.0), "the longest chain")?;
+    let ring = packed_rings::ring_at(alloc, BEHIND_THE_TABLE, 256)?;
+    reads_all(alloc, memory, ring, row.2, row.4)
+}
+
+#[test]
+fn a_pop_reads_1280_descriptors_at_most(rt: HostRuntime) -> Result<(), Fail> {
+    for row in &ALL_READ {
+        reads_all_of_split(rt.alloc(), row)?;
+        reads_all_of_packed(rt.alloc(), row)?;
+    }
+    Ok(())
+}

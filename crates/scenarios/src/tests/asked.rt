@@ -1,0 +1,107 @@
+//! What a guest asks for, and the frames of it.
+
+use crate::tests::scene::{KEY, get_write_counter, program_key, result_read, write_at, write_of};
+use hmac256::mac_of;
+use rpmb_frame::Frame;
+use std::alloc::{AllocError, Global};
+
+/// A request, in a chain with room for one frame.
+#[derive(Clone, Copy)]
+pub enum Asked {
+    /// A key of 32 such bytes is programmed.
+    Key(u8),
+    /// Block 0 is written, with bytes of this kind, under this write counter.
+    Write(u8, u32),
+    /// The block at this address is written under this write counter.
+    WriteAt(u16, u32),
+    /// So many blocks are written from this address on, the first with bytes 1, the next with
+    /// bytes 2, and so on, under the write counter 0.
+    Blocks(u16, u8),
+    /// The same under this write counter, the first with bytes 1 and 16 for each write before it.
+    BlocksUnder(u16, u8, u32),
+    /// Block 0 is written, with bytes of this kind, under this write counter, and no result is
+    /// asked for.
+    Silent(u8, u32),
+    /// The write counter is read, under this nonce.
+    Counter(u8),
+    /// Block 0 is read.
+    Block,
+    /// The result of the request before it is read.
+    LastResult,
+    /// A frame of zeros, which is of no kind.
+    Zeros,
+}
+
+/// The frame that reads the block at address 0.
+fn data_read() -> [u8; 512] {
+    Frame::zeros()
+        .with_block_count(1)
+        .with_req_resp(0x0004)
+        .to_bytes()
+}
+
+/// The frame of the block of these bytes, one of so many that are written, without a MAC.
+fn write_frame(byte: u8, address: u16, count: u8, counter: u32) -> [u8; 512] {
+    Frame::zeros()
+        .with_block_data(&[byte; 256])
+        .with_write_counter(counter)
+        .with_address(address)
+        .with_block_count(u16::from(count))
+        .with_req_resp(0x0003)
+        .to_bytes()
+}
+
+fn push_writes(
+    frames: &mut Vec<[u8; 512]>,
+    address: u16,
+    count: u8,
+    counter: u32,
+) -> Result<(), AllocError> {
+    let first = 16 * (counter % 8) as u8 + 1;
+    for i in 0..count {
+        frames.push(write_frame(first.wrapping_add(i), address, count, counter))?;
+    }
+    Ok(())
+}
+
+/// Puts the MAC of all frames into the last one.
+fn seal(frames: &mut [[u8; 512]]) {
+    let mac = mac_of(&KEY, frames);
+    if let Some(last) = frames.last_mut() {
+        *last = Frame::from_bytes(last).with_key_mac(&mac).to_bytes();
+    }
+}
+
+/// The frames that write so many blocks under this counter and ask for the result.
+fn writes_of(
+    alloc: Global,
+    address: u16,
+    count: u8,
+    counter: u32,
+) -> Result<Vec<[u8; 512]>, AllocError> {
+    let mut frames = Vec::with_capacity(alloc, 17)?;
+    push_writes(&mut frames, address, count, counter)?;
+    seal(&mut frames);
+    frames.push(result_read())?;
+    Ok(frames)
+}
+
+fn listed(alloc: Global, frames: &[[u8; 512]]) -> Result<Vec<[u8; 512]>, AllocError> {
+    Vec::from_slice(alloc, frames)
+}
+
+/// The frames of a request.
+pub fn frames_of(alloc: Global, asked: Asked) -> Result<Vec<[u8; 512]>, AllocError> {
+    match asked {
+        Asked::Key(byte) => listed(alloc, &program_key(&[byte; 32])),
+        Asked::Write(byte, counter) => listed(alloc, &write_of(byte, counter)),
+        Asked::WriteAt(address, counter) => listed(alloc, &write_at(address, counter)),
+        Asked::Blocks(address, count) => writes_of(alloc, address, count, 0),
+        Asked::BlocksUnder(address, count, counter) => writes_of(alloc, address, count, counter),
+        Asked::Silent(byte, counter) => listed(alloc, &write_of(byte, counter)[..1]),
+        Asked::Counter(nonce) => listed(alloc, &get_write_counter(u128::from(nonce))),
+        Asked::Block => listed(alloc, &[data_read()]),
+        Asked::LastResult => listed(alloc, &[result_read()]),
+        Asked::Zeros => listed(alloc, &[[0; 512]]),
+    }
+}

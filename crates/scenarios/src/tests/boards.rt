@@ -1,0 +1,84 @@
+//! Boards that make lists of steps, and what is seen of their guests.
+
+use crate::tests::metered::MeteredDisk;
+use crate::tests::scene::check;
+use board::{Board, Event, Seen, Step, StepFault};
+use disk::CutDisk;
+use flusher::Call;
+use mmio_transport::{Device, Done, Published};
+use rpmb_frame::BoardConfig;
+use std::alloc::Global;
+use std::test::Fail;
+
+/// A board over a disk that counts its calls. Its methods promise nothing, so that what stands
+/// above them is proved without a board's contracts.
+pub trait Table: Drop {
+    fn make(&mut self, step: &Step) -> Result<Seen, StepFault>;
+
+    /// The guest's reply that was collected and isn't published.
+    fn reply(&self, guest: u16) -> Option<&Done>;
+
+    fn device_seen(&self, guest: u16) -> Option<&Device>;
+
+    /// Whether the store has no call to make.
+    fn is_idle(&self) -> bool;
+
+    /// The disk, with whatever is on it.
+    fn end(self) -> MeteredDisk<CutDisk>;
+}
+
+impl Table for Board<MeteredDisk<CutDisk>> {
+    fn make(&mut self, step: &Step) -> Result<Seen, StepFault> {
+        self.step(step)
+    }
+
+    fn reply(&self, guest: u16) -> Option<&Done> {
+        self.done(guest)
+    }
+
+    fn device_seen(&self, guest: u16) -> Option<&Device> {
+        self.device_of(guest)
+    }
+
+    fn is_idle(&self) -> bool {
+        self.next_call() == Call::None
+    }
+
+    fn end(self) -> MeteredDisk<CutDisk> {
+        self.into_disk()
+    }
+}
+
+/// The board that a disk opens to.
+pub fn opened_board(
+    alloc: Global,
+    inner: CutDisk,
+    config: &BoardConfig,
+) -> Result<Board<MeteredDisk<CutDisk>>, Fail> {
+    match Board::open(alloc, MeteredDisk::of(inner), 1, config) {
+        Ok(board) => Ok(board),
+        Err((_, fault)) => Err(Fail::from(fault)),
+    }
+}
+
+/// Makes the steps of a list, which are all that it may have, also behind one that is refused;
+/// answers the first refusal.
+pub fn play<B: Table>(board: &mut B, events: &[Event]) -> Result<Option<StepFault>, Fail> {
+    let mut first = None;
+    for event in events {
+        let Event::Do(step) = event else {
+            return Err(Fail::from("no step"));
+        };
+        first = first.or(board.make(step).err());
+    }
+    Ok(first)
+}
+
+/// Publishes the reply that was collected.
+pub fn publish<B: Table>(board: &mut B, guest: u16) -> Result<(), Fail> {
+    let made = board.make(&Step::Publish(guest));
+    check(
+        matches!(made, Ok(Seen::Published(Published::Wrote { .. }))),
+        "a reply that isn't written",
+    )
+}

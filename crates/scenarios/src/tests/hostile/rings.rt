@@ -1,0 +1,86 @@
+//! A guest that stores into its used ring.
+use super::{Hostile, check_beside, loaded, sight_alone};
+use crate::tests::acts::{Acts, Move};
+use crate::tests::asked::Asked;
+use crate::tests::boards::{Table, play};
+use crate::tests::image::Version;
+use crate::tests::scene::check;
+use crate::tests::worlds::world_of;
+use board::{Event, Publication, World};
+use std::alloc::Global;
+use std::test::Fail;
+
+/// Where the used ring has its index.
+const USED_INDEX: u64 = 0x3002;
+
+/// A reply to the guest leaves, the guest stores the index 9 into its used ring, and another reply
+/// leaves: the events, and how many of them come before the store. It is one event.
+fn events(alloc: Global, begins: &[Move]) -> Result<(Acts, usize), Fail> {
+    let mut acts = Acts::new(alloc, None, 0);
+    acts.play(1, begins)?;
+    let first = [Move::SetUp, Move::Submit(Asked::Counter(1)), Move::Reply];
+    acts.play(1, &first)?;
+    let before = acts.events.len();
+    acts.store(1, USED_INDEX, &[9, 0])?;
+    acts.play(1, &[Move::Submit(Asked::Counter(2)), Move::Reply])?;
+    Ok((acts, before))
+}
+
+/// The events before the store, the store, and those behind it.
+fn parts(events: &[Event], before: usize) -> (&[Event], &[Event], &[Event]) {
+    let (first, rest) = events.split_at(before.min(events.len()));
+    let (store, second) = rest.split_at(rest.len().min(1));
+    (first, store, second)
+}
+
+#[derive(Clone, Copy)]
+struct Stores {
+    alloc: Global,
+}
+
+/// Plays these events, behind which the used ring has this index.
+fn leaves<B: Table>(board: &mut B, events: &[Event], index: u8) -> Result<(), Fail> {
+    check(play(board, events)?.is_none(), "a refusal")?;
+    let used: [u8; 2] = loaded(board, 1, USED_INDEX)?;
+    check(used == [index, 0], "another index")
+}
+
+impl Hostile for Stores {
+    fn act<B: Table>(&self, board: &mut B) -> Result<(), Fail> {
+        let (acts, before) = events(self.alloc, &[])?;
+        let (first, store, second) = parts(&acts.events, before);
+        leaves(board, first, 1)?;
+        leaves(board, store, 9)?;
+        // The device goes on with its own index.
+        leaves(board, second, 2)
+    }
+}
+
+#[test]
+fn a_device_goes_on_with_its_own_index(rt: HostRuntime) -> Result<(), Fail> {
+    let alloc = rt.alloc();
+    check_beside(alloc, &sight_alone(alloc)?, &Stores { alloc })
+}
+
+/// So many replies were published, of which the first is this one, where one is named.
+fn has_published(world: &World, count: usize, first: Option<Publication>) -> bool {
+    let published = world.published(1);
+    published.len() == count && (first.is_none() || published.first().copied() == first)
+}
+
+fn check_published(world: &mut World, acts: &Acts, before: usize) -> Result<(), Fail> {
+    let (first, store, second) = parts(&acts.events, before);
+    check(world.run(first).is_none(), "a refusal")?;
+    let published = world.published(1).first().copied();
+    check(has_published(world, 1, published), "one reply")?;
+    check(world.run(store).is_none(), "a refusal")?;
+    check(has_published(world, 1, published), "the same reply")?;
+    check(world.run(second).is_none(), "a refusal")?;
+    check(has_published(world, 2, published), "one reply more")
+}
+
+#[test]
+fn what_was_published_stays(rt: HostRuntime) -> Result<(), Fail> {
+    let (acts, before) = events(rt.alloc(), &[Move::Open])?;
+    check_published(&mut world_of(rt.alloc(), 3, Version::One)?, &acts, before)
+}
