@@ -6,7 +6,7 @@ use crate::boards::{GUESTS, board_of, fresh_disk, opened};
 use crate::looks::{Sum, Trouble, check, tell_end, tell_refused};
 use crate::requests::Asked;
 use board::Board;
-use disk::MemDisk;
+use disk::Disk;
 use host::{Answer, HostFault};
 use rpmb_frame::BoardConfig;
 use std::alloc::Global;
@@ -71,7 +71,7 @@ fn sum_of_driver(driver: &DriverEnd, sum: Sum) -> Result<Sum, Trouble> {
 }
 
 /// The replies of all guests.
-fn sum_of_ended(ended: &Ended<MemDisk>) -> Result<Sum, Trouble> {
+fn sum_of_ended<D: Disk>(ended: &Ended<D>) -> Result<Sum, Trouble> {
     check(!ended.broken, "serve: a broken store")?;
     check(
         ended.book.submit_turns() == 15,
@@ -85,14 +85,14 @@ fn sum_of_ended(ended: &Ended<MemDisk>) -> Result<Sum, Trouble> {
 }
 
 /// Serves a board that was just opened. None where memory was refused.
-fn run<R: Threads + Wait + Sync>(
+fn run<D: Disk + Send + Drop, R: Threads + Wait + Sync>(
     threads: &R,
     alloc: Global,
     config: &BoardConfig,
     scripts: &[Script],
-    board: Board<MemDisk>,
+    board: Board<D>,
 ) -> Result<Option<Sum>, Trouble>
-    requires opened { IsJustOpened MemDisk.state config.now board }
+    requires opened { IsJustOpened D.state config.now board }
     requires many { length scripts.now ≡ length config.now }
 {
     let parts = parts_of(board, config);
