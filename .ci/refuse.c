@@ -4,7 +4,7 @@
  * malloc, calloc or realloc, which gives no memory; "io 7" the seventh read, write, sync or new length of a
  * file, which does nothing and answers EIO; "short 7" the seventh read or write of two bytes or more, which
  * moves one; "open 7" the seventh opening, second number, lock or look at the metadata of a file, which answers
- * EIO. No write to standard error is counted: what failed is told there. REFUSE_COUNT names a file into which the
+ * EIO. With a plus, "io 7+", each later one fails too. No write to standard error is counted: what failed is told there. REFUSE_COUNT names a file into which the
  * number of calls of each kind goes at the end. Threads count as one.
  */
 #define _GNU_SOURCE
@@ -26,6 +26,7 @@ enum { ALLOC, IO, SHORT, OPEN, KINDS };
 static const char *const names[KINDS] = {"alloc", "io", "short", "open"};
 static atomic_ulong calls[KINDS];
 static unsigned long chosen[KINDS];
+static int and_later[KINDS];
 static atomic_int counting;
 
 /* The functions of the C library. While dlsym looks them up it may itself ask for memory. */
@@ -72,8 +73,11 @@ __attribute__((constructor)) static void begin(void)
     const char *said = getenv("REFUSE");
     for (int kind = 0; said && kind < KINDS; kind++) {
         size_t length = strlen(names[kind]);
-        if (!strncmp(said, names[kind], length) && said[length] == ' ')
-            chosen[kind] = strtoul(said + length, NULL, 10);
+        char *rest;
+        if (!strncmp(said, names[kind], length) && said[length] == ' ') {
+            chosen[kind] = strtoul(said + length, &rest, 10);
+            and_later[kind] = *rest == '+';
+        }
     }
     counting = 1;
 }
@@ -104,7 +108,10 @@ __attribute__((noreturn)) void _exit(int status)
 /* Whether this call is the one that was chosen. */
 static int is_chosen(int kind)
 {
-    return counting && atomic_fetch_add(&calls[kind], 1) + 1 == chosen[kind];
+    if (!counting)
+        return 0;
+    unsigned long number = atomic_fetch_add(&calls[kind], 1) + 1;
+    return number == chosen[kind] || (and_later[kind] && number > chosen[kind]);
 }
 
 void *malloc(size_t size)
