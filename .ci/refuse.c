@@ -1,0 +1,232 @@
+/* Lets one call of a program fail, for .ci/sweeps, which loads it before the C library by LD_PRELOAD.
+ *
+ * REFUSE names what fails, and the number of the call, counted from 1: "alloc 7" is the seventh call of
+ * malloc, calloc or realloc, which gives no memory; "io 7" the seventh read, write, sync or new length of a
+ * file, which does nothing and answers EIO; "short 7" the seventh read or write of two bytes or more, which
+ * moves one; "open 7" the seventh opening, second number, lock or look at the metadata of a file, which answers
+ * EIO. With a plus, "io 7+", each later one fails too. No write to standard error is counted: what failed is told there. REFUSE_COUNT names a file into which the
+ * number of calls of each kind goes at the end. Threads count as one.
+ */
+#define _GNU_SOURCE
+#include <dlfcn.h>
+#include <errno.h>
+#include <fcntl.h>
+#include <stdarg.h>
+#include <stdatomic.h>
+#include <stdio.h>
+#include <stdlib.h>
+#include <string.h>
+#include <sys/file.h>
+#include <sys/stat.h>
+#include <sys/syscall.h>
+#include <unistd.h>
+
+enum { ALLOC, IO, SHORT, OPEN, KINDS };
+
+static const char *const names[KINDS] = {"alloc", "io", "short", "open"};
+static atomic_ulong calls[KINDS];
+static unsigned long chosen[KINDS];
+static int and_later[KINDS];
+static atomic_int counting;
+
+/* The functions of the C library. While dlsym looks them up it may itself ask for memory. */
+static void *(*real_malloc)(size_t);
+static void *(*real_calloc)(size_t, size_t);
+static void *(*real_realloc)(void *, size_t);
+static ssize_t (*real_read)(int, void *, size_t);
+static ssize_t (*real_write)(int, const void *, size_t);
+static ssize_t (*real_pread)(int, void *, size_t, off_t);
+static ssize_t (*real_pwrite)(int, const void *, size_t, off_t);
+static int (*real_fsync)(int);
+static int (*real_fdatasync)(int);
+static int (*real_ftruncate)(int, off_t);
+static int (*real_open)(const char *, int, ...);
+static int (*real_fcntl)(int, int, ...);
+static int (*real_flock)(int, int);
+static int (*real_statx)(int, const char *, int, unsigned, struct statx *);
+
+static char early[65536];
+static size_t early_used;
+
+static void find(void *function, const char *name)
+{
+    void *found = dlsym(RTLD_NEXT, name);
+    memcpy(function, &found, sizeof found);
+}
+
+__attribute__((constructor)) static void begin(void)
+{
+    find(&real_calloc, "calloc");
+    find(&real_malloc, "malloc");
+    find(&real_realloc, "realloc");
+    find(&real_read, "read");
+    find(&real_write, "write");
+    find(&real_pread, "pread");
+    find(&real_pwrite, "pwrite");
+    find(&real_fsync, "fsync");
+    find(&real_fdatasync, "fdatasync");
+    find(&real_ftruncate, "ftruncate");
+    find(&real_open, "open");
+    find(&real_fcntl, "fcntl");
+    find(&real_flock, "flock");
+    find(&real_statx, "statx");
+    const char *said = getenv("REFUSE");
+    for (int kind = 0; said && kind < KINDS; kind++) {
+        size_t length = strlen(names[kind]);
+        char *rest;
+        if (!strncmp(said, names[kind], length) && said[length] == ' ') {
+            chosen[kind] = strtoul(said + length, &rest, 10);
+            and_later[kind] = *rest == '+';
+        }
+    }
+    counting = 1;
+}
+
+__attribute__((destructor)) static void end(void)
+{
+    counting = 0;
+    const char *path = getenv("REFUSE_COUNT");
+    int file = path ? real_open(path, O_WRONLY | O_CREAT | O_TRUNC, 0600) : -1;
+    if (file < 0)
+        return;
+    char line[128];
+    int length = snprintf(line, sizeof line, "%lu %lu %lu %lu\n", calls[ALLOC], calls[IO], calls[SHORT],
+                          calls[OPEN]);
+    if (real_write(file, line, (size_t)length) != length)
+        abort();
+    close(file);
+}
+
+/* (A program that has threads leaves without its destructors.) */
+__attribute__((noreturn)) void _exit(int status)
+{
+    end();
+    for (;;)
+        syscall(SYS_exit_group, status);
+}
+
+/* Whether this call is the one that was chosen. */
+static int is_chosen(int kind)
+{
+    if (!counting)
+        return 0;
+    unsigned long number = atomic_fetch_add(&calls[kind], 1) + 1;
+    return number == chosen[kind] || (and_later[kind] && number > chosen[kind]);
+}
+
+void *malloc(size_t size)
+{
+    if (!real_malloc) {
+        size_t at = (early_used + 15) / 16 * 16;
+        if (size > sizeof early - at)
+            return NULL;
+        early_used = at + size;
+        return early + at;
+    }
+    if (is_chosen(ALLOC)) {
+        errno = ENOMEM;
+        return NULL;
+    }
+    return real_malloc(size);
+}
+
+void *calloc(size_t count, size_t size)
+{
+    if (!real_calloc)
+        return malloc(count * size);
+    if (is_chosen(ALLOC)) {
+        errno = ENOMEM;
+        return NULL;
+    }
+    return real_calloc(count, size);
+}
+
+void *realloc(void *old, size_t size)
+{
+    if (is_chosen(ALLOC)) {
+        errno = ENOMEM;
+        return NULL;
+    }
+    return real_realloc(old, size);
+}
+
+static int fails_as(int kind)
+{
+    if (!is_chosen(kind))
+        return 0;
+    errno = EIO;
+    return 1;
+}
+
+static int fails(int file)
+{
+    return file != 2 && fails_as(IO);
+}
+
+static size_t moved(int file, size_t size)
+{
+    return file != 2 && size > 1 && is_chosen(SHORT) ? 1 : size;
+}
+
+ssize_t read(int file, void *to, size_t size)
+{
+    return fails(file) ? -1 : real_read(file, to, moved(file, size));
+}
+
+ssize_t write(int file, const void *from, size_t size)
+{
+    return fails(file) ? -1 : real_write(file, from, moved(file, size));
+}
+
+ssize_t pread(int file, void *to, size_t size, off_t at)
+{
+    return fails(file) ? -1 : real_pread(file, to, moved(file, size), at);
+}
+
+ssize_t pwrite(int file, const void *from, size_t size, off_t at)
+{
+    return fails(file) ? -1 : real_pwrite(file, from, moved(file, size), at);
+}
+
+int fsync(int file)
+{
+    return fails(file) ? -1 : real_fsync(file);
+}
+
+int fdatasync(int file)
+{
+    return fails(file) ? -1 : real_fdatasync(file);
+}
+
+int ftruncate(int file, off_t length)
+{
+    return fails(file) ? -1 : real_ftruncate(file, length);
+}
+
+int open(const char *path, int flags, ...)
+{
+    va_list more;
+    va_start(more, flags);
+    unsigned mode = va_arg(more, unsigned);
+    va_end(more);
+    return fails_as(OPEN) ? -1 : real_open(path, flags, mode);
+}
+
+int fcntl(int file, int command, ...)
+{
+    va_list more;
+    va_start(more, command);
+    long value = va_arg(more, long);
+    va_end(more);
+    return fails_as(OPEN) ? -1 : real_fcntl(file, command, value);
+}
+
+int flock(int file, int operation)
+{
+    return fails_as(OPEN) ? -1 : real_flock(file, operation);
+}
+
+int statx(int folder, const char *path, int flags, unsigned mask, struct statx *found)
+{
+    return fails_as(OPEN) ? -1 : real_statx(folder, path, flags, mask, found);
+}
