@@ -38,7 +38,6 @@ static ssize_t (*real_write)(int, const void *, size_t);
 static ssize_t (*real_pread)(int, void *, size_t, off_t);
 static ssize_t (*real_pwrite)(int, const void *, size_t, off_t);
 static int (*real_fsync)(int);
-static int (*real_fdatasync)(int);
 static int (*real_ftruncate)(int, off_t);
 static int (*real_open)(const char *, int, ...);
 static int (*real_fcntl)(int, int, ...);
@@ -64,7 +63,6 @@ __attribute__((constructor)) static void begin(void)
     find(&real_pread, "pread");
     find(&real_pwrite, "pwrite");
     find(&real_fsync, "fsync");
-    find(&real_fdatasync, "fdatasync");
     find(&real_ftruncate, "ftruncate");
     find(&real_open, "open");
     find(&real_fcntl, "fcntl");
@@ -193,9 +191,12 @@ int fsync(int file)
     return fails(file) ? -1 : real_fsync(file);
 }
 
+/* It need not keep a file's length, so it is no fsync: a program that takes it for one fails here. */
 int fdatasync(int file)
 {
-    return fails(file) ? -1 : real_fdatasync(file);
+    (void)file;
+    errno = ENOSYS;
+    return -1;
 }
 
 int ftruncate(int file, off_t length)

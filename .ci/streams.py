@@ -1,0 +1,179 @@
+"""Closed and full streams, which of two faults is told, a limit of a file's length, and a stop by TERM."""
+import collections
+import itertools
+import os
+import signal
+import subprocess
+import time
+
+from programs import BOARD, DISK_FAULT, FILE_FAULT, KEY, SECONDS, VERBS, Wrong, check_held, key_line, script, shown
+
+
+def closing(closed, words):
+    """The words of a shell that starts a program with these of its streams closed."""
+    shut = {0: "0<&-", 1: "1>&-", 2: "2>&-"}
+    return ["sh", "-c", f'exec "$@" {" ".join(shut[it] for it in closed)}', "", *words]
+
+
+def bare(room, folder, words, **how):
+    """Runs a program as it is: its status, and what it printed."""
+    how = {"stdin": subprocess.DEVNULL, "stdout": subprocess.PIPE, "stderr": subprocess.PIPE, **how}
+    env = {"PATH": f"{room.top}:{os.environ['PATH']}"}
+    ran = subprocess.run(words, cwd=folder, env=env, timeout=SECONDS, **how)
+    return ran.returncode, (ran.stdout or b"").decode(), (ran.stderr or b"").decode()
+
+
+def check_image(room, folder, name):
+    """No byte of output stands in the image that this run left, and it opens."""
+    with open(f"{folder}/board.img", "rb") as it:
+        content = it.read()
+    written = [it for it in (b"used 0", b"rpmbd:", b"formatted", b"guest 0", b"upgraded") if it in content]
+    if written or len(content) != 1024 + 2 * (35_328 + 131_072):
+        raise Wrong(f"{name}: output in the image, {written}")
+    shown(room, folder)
+
+
+def words_of(verb):
+    return ["rpmbd", verb, "board.toml", *["script.txt"] * (verb in ("run", "serve"))]
+
+
+def sweep_closed(room, files):
+    """Each command with some of its streams closed. How many runs."""
+    mixes = [mix for count in (1, 2, 3) for mix in itertools.combinations((0, 1, 2), count)]
+    for verb, closed in itertools.product(VERBS, mixes):
+        words = words_of(verb)
+        whole, folder = bare(room, room.folder(files), words), room.folder(files)
+        ran = bare(room, folder, closing(closed, words))
+        wanted = (1, "", "" if 2 in closed else FILE_FAULT) if 1 in closed else whole
+        name = f"rpmbd {verb} without its streams {closed}"
+        if whole[0] or whole[2] or ran != wanted:
+            raise Wrong(f"{name}: {ran[0]}, {ran[2]!r}")
+        check_image(room, folder, name)
+    return len(VERBS) * len(mixes)
+
+
+def sweep_untold(room, files):
+    """Each command whose output can't be written and whose fault can't be told. How many runs."""
+    for verb, closed in itertools.product(VERBS, ((2,), (0, 2))):
+        folder = room.folder(files)
+        with open("/dev/full", "wb") as full:
+            status = bare(room, folder, closing(closed, words_of(verb)), stdout=full)[0]
+        name = f"rpmbd {verb}, output full, without its streams {closed}"
+        if status != 1:
+            raise Wrong(f"{name}: {status}")
+        check_image(room, folder, name)
+    return 2 * len(VERBS)
+
+
+def unwritten(room, folder, words, kind):
+    """Runs a program whose output can't be written."""
+    if kind == "closed":
+        return bare(room, folder, closing((1,), words))
+    if kind == "full":
+        with open("/dev/full", "wb") as full:
+            return bare(room, folder, words, stdout=full)
+    reader, writer = os.pipe()
+    os.close(reader)
+    try:
+        return bare(room, folder, words, stdout=writer)
+    finally:
+        os.close(writer)
+
+
+def sweep_unwritten(room, files):
+    """Each program with output that can't be written. How many runs."""
+    key, kinds = ["--guest", "0", "--key", KEY.hex()], ("full", "a pipe without a reader", "closed")
+    programs = [*map(words_of, VERBS), ["rpmb", "program-key", *key], ["rpmb", "check", "board.toml"]]
+    programs += [["rpmb", "write", *key, "--counter", "0", "--address", "0", "--data", "00" * 256]]
+    for words, kind in itertools.product(programs, kinds):
+        folder, name = room.folder(files), f"{words[0]} {words[1]}, output {kind}"
+        status, _, told = unwritten(room, folder, words, kind)
+        if status != 1 or (told != FILE_FAULT if words[0] == "rpmbd" else not told.startswith("rpmb: FileFault")):
+            raise Wrong(f"{name}: {status}, {told!r}")
+        check_image(room, folder, name)
+    return len(programs) * len(kinds)
+
+
+def sweep_streams(room, image):
+    """Streams that are closed, full, or without a reader."""
+    count = 0
+    # (what the shorter script prints is written at once, at the end)
+    for rounds in (1, 3):
+        files = {"board.toml": BOARD, "script.txt": script(rounds), "board.img": image}
+        count += sweep_closed(room, files) + sweep_untold(room, files) + sweep_unwritten(room, files)
+    print(f"streams: {count} runs with some of them closed, full or without a reader")
+
+
+def sweep_order(room, image):
+    """Of two faults the one that is looked for first is told."""
+    bad_board, bad_script, no_image = "guests = 1\n", "chain 0\n", b"\0" * 400_000
+    cases = [
+        ("a bad board, no script", {"board.toml": bad_board}, "19 BadBoard"),
+        ("a bad board and script", {"board.toml": bad_board, "script.txt": bad_script}, "19 BadBoard"),
+        ("no script, a bad image", {"board.toml": BOARD, "board.img": no_image}, "21 FileFault"),
+        ("a bad script, no image", {"board.toml": BOARD, "script.txt": bad_script}, "21 FileFault"),
+        (
+            "a bad script and image",
+            {"board.toml": BOARD, "script.txt": bad_script, "board.img": no_image},
+            "20 BadScript line 1",
+        ),
+        (
+            "a bad image alone",
+            {"board.toml": BOARD, "script.txt": key_line(0), "board.img": no_image},
+            "12 NotFormatted",
+        ),
+        ("nothing bad", {"board.toml": BOARD, "script.txt": "", "board.img": image}, ""),
+    ]
+    for verb in ("run", "serve"):
+        for name, files, told in cases:
+            ran = bare(room, room.folder(files), ["rpmbd", verb, "board.toml", "script.txt"])
+            if ran != ((1, "", f"rpmbd: {told}\n") if told else (0, "", "")):
+                raise Wrong(f"rpmbd {verb}, {name}: {ran}")
+    print(f"faults: {2 * len(cases)} boards, scripts and images, of which the first fault is told")
+
+
+def sweep_limits(room, image):
+    """A file size limit: what was printed is held by the image."""
+    files, count = {"board.toml": BOARD, "script.txt": script(3), "board.img": image}, collections.Counter()
+    for verb, blocks in itertools.product(("run", "serve"), (0, 1, 2, 8, 64, 200, 400, 1_000)):
+        folder = room.folder(files)
+        shell = f"ulimit -f {blocks}; exec rpmbd {verb} board.toml script.txt"
+        status, printed, told = bare(room, folder, ["bash", "-c", shell])
+        # (a write past the limit ends the program by a signal, or fails)
+        faults = {-signal.SIGXFSZ: {""}, 1: {FILE_FAULT, DISK_FAULT}} if blocks * 1024 < len(image) else {}
+        if told not in {0: {""}, **faults}.get(status, ()):
+            raise Wrong(f"rpmbd {verb}, ulimit -f {blocks}: {status}, {told!r}")
+        check_held(room, folder, printed)
+        count[status] += 1
+    print(f"limits: {sum(count.values())} runs under a limit of a file's length, {count[0]} of them to their end")
+
+
+def stopped(room, folder, after):
+    """Ends a run by TERM so many seconds after its first line; whether that ended it."""
+    with open(f"{folder}/printed", "wb") as out:
+        words = [f"{room.top}/rpmbd", "run", "board.toml", "script.txt"]
+        program = subprocess.Popen(words, cwd=folder, stdin=subprocess.DEVNULL, stdout=out, stderr=subprocess.DEVNULL)
+        end = time.time() + SECONDS
+        while not os.path.getsize(f"{folder}/printed") and program.poll() is None and time.time() < end:
+            time.sleep(0.001)
+        time.sleep(after)
+        program.terminate()
+        return program.wait(SECONDS) == -signal.SIGTERM
+
+
+def sweep_stops(room, image):
+    """A TERM in the middle of a run: what was printed is held by the image."""
+    lines, ended = 0, 0
+    files = {"board.toml": BOARD, "script.txt": script(1_500), "board.img": image}
+    for after in (0, 0.01, 0.03, 0.1, 0.3):
+        folder = room.folder(files)
+        ended += stopped(room, folder, after)
+        with open(f"{folder}/printed", encoding="ascii") as it:
+            printed = it.read()
+        # (the last line may have been cut by the stop)
+        printed = printed[: printed.rfind("\n") + 1]
+        lines += printed.count("\n")
+        check_held(room, folder, printed)
+    if not ended or not lines:
+        raise Wrong("no run was stopped by TERM after a line")
+    print(f"stops: {ended} runs ended by TERM, after {lines} lines")
