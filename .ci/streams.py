@@ -164,7 +164,7 @@ def stopped(room, folder, after):
 def sweep_stops(room, image):
     """A TERM in the middle of a run: what was printed is held by the image."""
     lines, ended = 0, 0
-    files = {"board.toml": BOARD, "script.txt": script(1_500), "board.img": image}
+    files = {"board.toml": BOARD, "script.txt": script(3_000), "board.img": image}
     for after in (0, 0.01, 0.03, 0.1, 0.3):
         folder = room.folder(files)
         ended += stopped(room, folder, after)
