@@ -85,6 +85,7 @@ def sweep_unwritten(room, files):
     key, kinds = ["--guest", "0", "--key", KEY.hex()], ("full", "a pipe without a reader", "closed")
     programs = [*map(words_of, VERBS), ["rpmb", "program-key", *key], ["rpmb", "check", "board.toml"]]
     programs += [["rpmb", "write", *key, "--counter", "0", "--address", "0", "--data", "00" * 256]]
+    programs += [["rpmbd", "--help"], ["rpmb", "--help"]]
     for words, kind in itertools.product(programs, kinds):
         folder, name = room.folder(files), f"{words[0]} {words[1]}, output {kind}"
         status, _, told = unwritten(room, folder, words, kind)
