@@ -30,3 +30,4 @@ pub mod Calm
 pub mod Walks
 pub mod Living
 pub mod Calling
+pub mod Closing

@@ -8,7 +8,7 @@ ghost use Rattle.rpmb_book.specs.Book.{BookView, state, guest_of, counted_in, is
 ghost use Rattle.rpmb_book.specs.Book.{submit_of, refusal, is_share, is_taken, take_answer};
 ghost use Rattle.rpmb_book.specs.Book.{after_take, next_intent, share_moved, are_taken};
 ghost use Rattle.rpmb_book.specs.Book.{settle_answer, after_settle, after_break_off, due_of};
-ghost use Rattle.rpmb_book.specs.Book.{after_collect, found_by};
+ghost use Rattle.rpmb_book.specs.Book.{after_collect, found_by, mac_key_of};
 ghost use Rattle.rpmb_book.specs.Left.{first_left};
 ghost use Rattle.rpmb_book.specs.Fold.{after_submit, folded, roomy};
 ghost use Rattle.rpmb_book.specs.GuestPlanned.{IsGuestPlanned, is_failure};
@@ -20,6 +20,7 @@ ghost use Rattle.rpmb_book.specs.Sound.{AreOfBoard, AreReady, IsSound};
 ghost use Rattle.rpmb_book.specs.Receipt.{turn_seen, submission_seen};
 
 use crate::did::Did;
+use crate::due::Due;
 use crate::guest_state::{GuestPlan, GuestState, Said, break_all};
 use crate::history::{Filed, History, SUBMITS};
 use crate::marks::{are_within, move_some, settle_each};
@@ -29,6 +30,7 @@ use crate::refused::Refused;
 use crate::tally::{Shares, Tally};
 use crate::told::Told;
 use flusher::Marks;
+use hmac256::MacKey;
 use intent_slots::Intent;
 use mmio_transport::{Done, Job};
 use rpmb_core::{NoMemory, Partition};
@@ -231,7 +233,11 @@ impl Book {
         };
         let writable = job.writable();
         let guest = &mut self.guests[usize::from(receipt.guest)];
-        let Said { request, reply } = guest.submit(alloc, job, plan, &mut self.reply);
+        let Said {
+            request,
+            reply,
+            key,
+        } = guest.submit(alloc, job, plan, &mut self.reply);
         self.history.push(Filed {
             number: receipt.number,
             place: tally.count(),
@@ -239,6 +245,7 @@ impl Book {
             request,
             writable,
             reply,
+            key,
         });
         self.turns += 1;
         self.counted += 1;
@@ -337,6 +344,37 @@ impl Book {
     /// Gives the guest's oldest held reply, where its need is settled; None where it isn't, where none
     /// is held, and for a guest that the book lacks. It takes no memory.
     pub fn collect(&mut self, guest: u16) -> Option<Done>
+        ensures done { result ≡ due_of self.old guest }
+        ensures book { self.new ≡ after_collect self.old guest }
+    {
+        match self.collect_due(guest) {
+            None => None,
+            Some(due) => Some(due.done(self.mac_key(guest))),
+        }
+    }
+
+    /// A guest's key, for who makes its MACs beside the book; None where it has none, and for a guest
+    /// that the book lacks. Once there, a key never changes. It takes no memory.
+    pub fn mac_key_of(&self, guest: u16) -> Option<MacKey>
+        ensures { result ≡ mac_key_of self.now guest }
+    {
+        match self.mac_key(guest) {
+            Some(key) => Some(key.copy()),
+            None => None,
+        }
+    }
+
+    fn mac_key(&self, guest: u16) -> Option<&MacKey>
+        ensures { option_copied result ≡ mac_key_of self.now guest }
+    {
+        match self.guests.get(usize::from(guest)) {
+            Some(known) => known.partition().mac_key(),
+            None => None,
+        }
+    }
+
+    /// Does what `collect` does, but for the reply's MAC: that is left to who has the `Due`.
+    pub fn collect_due(&mut self, guest: u16) -> Option<Due>
         ensures done { result ≡ due_of self.old guest }
         ensures book { self.new ≡ after_collect self.old guest }
     {

@@ -1,10 +1,10 @@
-ghost use Rattle.std.specs.Prelude.{◌≡◌, ◌≤◌, ◌<◌, ◌^◌, if◌then◌else◌, IfOk, [], None, Some, true};
-ghost use Rattle.std.specs.Prelude.{length, vec_capacity};
+ghost use Rattle.std.specs.Prelude.{◌≡◌, ◌≤◌, ◌<◌, ◌^◌, ◌*◌, ◌/◌, if◌then◌else◌, IfOk, [], None, Some};
+ghost use Rattle.std.specs.Prelude.{length, true, vec_capacity};
 ghost use Rattle.mmio_transport.specs.Job.{room_of};
 ghost use Rattle.rpmb_frame.specs.Partition.{Partition};
 ghost use Rattle.rpmb_core.specs.Verdict.{verdict};
 ghost use Rattle.rpmb_core.specs.Accept.{data_of, is_accepted, partition_after};
-ghost use Rattle.rpmb_core.specs.Reply.{failure_kind};
+ghost use Rattle.rpmb_core.specs.Reply.{closed, failure_kind};
 ghost use Rattle.rpmb_book.specs.Guest.{stored, core_after, outcome_in, answer, answer_when, need};
 ghost use Rattle.rpmb_book.specs.Guest.{entry, entry_of, key_of, blocks_in, request_of};
 ghost use Rattle.rpmb_book.specs.Sound.{IsCoreOfBoard};
@@ -51,13 +51,14 @@ pub struct Plan {
     pub blocks: Vec<u8>,
 }
 
-/// The answer to a job: its reply twice, what has to be settled before the reply may
-/// leave, the type of the failure reply to its request, and what an accepted one is to make of the
-/// partition.
+/// The answer to a job: its reply twice, without the MAC, and the key that this is made under; what has
+/// to be settled before the reply may leave, the type of the failure reply to its request, and what an
+/// accepted one is to make of the partition.
 #[derive(Drop)]
 pub struct Answer {
     pub reply: Vec<u8>,
     pub copy: Vec<u8>,
+    pub key: Option<[u8; 32]>,
     pub need: u64,
     pub kind: u16,
     pub entry: Option<Entry>,
@@ -133,10 +134,10 @@ impl GuestCore {
         requires plan { IsPlanned self.old job.now plan }
         requires board { IsCoreOfBoard self.old }
         ensures core { self.new ≡ core_after self.old job.now }
-        ensures reply { result.reply.items ≡ answer self.old job.now }
+        ensures reply { closed result.key result.reply.items ≡ answer self.old job.now }
         ensures fits { length result.reply.items ≤ room_of job.now }
-        ensures frames { 0 < length result.reply.items → 512 ≤ length result.reply.items }
-        ensures copy { result.copy.items ≡ answer self.old job.now }
+        ensures whole { length result.reply.items ≡ 512 * (length result.reply.items / 512) }
+        ensures copy { closed result.key result.copy.items ≡ answer self.old job.now }
         ensures need { result.need ≡ need self.old job.now }
         ensures kind { result.kind ≡ failure_kind (request_of self.old job.now).command }
         ensures entry { result.entry ≡ entry self.old job.now }
@@ -155,10 +156,11 @@ impl GuestCore {
         self.last = keep(self.last, job.session(), outcome);
         let len = self
             .partition
-            .reply(&request, code, outcome_in(self.last), out);
+            .open_reply(&request, code, outcome_in(self.last), out);
         Answer {
             reply: filled(reply, &out[..len]),
             copy: filled(copy, &out[..len]),
+            key: self.partition.key(),
             need: self.partition.sequence(),
             kind: failure_kind(&request),
             entry,
@@ -174,7 +176,7 @@ impl GuestCore {
     ) -> Result<Failure, NoMemory>
         ensures reply { IfOk result (λ f. f.reply.items ≡ answer_when true self.now job.now) }
         ensures fits { IfOk result (λ f. length f.reply.items ≤ room_of job.now) }
-        ensures frames { IfOk result (λ f. 0 < length f.reply.items → 512 ≤ length f.reply.items) }
+        ensures whole { IfOk result (λ f. length f.reply.items ≡ 512 * (length f.reply.items / 512)) }
         ensures copy { IfOk result (λ f. f.copy.items ≡ answer_when true self.now job.now) }
         ensures kind { IfOk result (λ f. f.kind ≡ failure_kind (request_of self.now job.now).command) }
     {

@@ -1,6 +1,7 @@
 ghost use Rattle.std.specs.Prelude.{◌≡◌, ◌+◌, ◌++◌, ◌-◌, ◌<◌, ◌≤◌, ◌^◌, [], IfOk, if◌then◌else◌};
 ghost use Rattle.std.specs.Prelude.{is_some, length, take, drop};
 ghost use Rattle.intent_slots.specs.Payload.{EntriesFit};
+ghost use Rattle.rpmb_core.specs.Reply.{closed};
 ghost use Rattle.rpmb_book.specs.Planned.{IsFailure, IsPlanned};
 ghost use Rattle.rpmb_book.specs.GuestPlanned.{IsGuestPlanned, is_failure};
 ghost use Rattle.rpmb_book.specs.Allowed.{HasPlaces};
@@ -10,10 +11,11 @@ ghost use Rattle.rpmb_book.specs.Guest.{submitted, answer_when, took, settled_at
 ghost use Rattle.rpmb_book.specs.Guest.{broken_off, kept_or_failed, first_due, first_intent, fresh};
 
 use crate::guest_core::{Answer, Failure, GuestCore, Plan};
+use crate::due::Due;
 use crate::held::Held;
 use crate::history::Spare;
 use intent_slots::{Entry, Intent};
-use mmio_transport::{Done, Job};
+use mmio_transport::Job;
 use rpmb_core::{NoMemory, Partition};
 use rpmb_frame::Limits;
 use std::alloc::Global;
@@ -69,6 +71,8 @@ pub enum GuestPlan {
 pub struct Said {
     pub request: Vec<u8>,
     pub reply: Vec<u8>,
+    /// The key of the reply's MAC, which isn't made yet.
+    pub key: Option<[u8; 32]>,
 }
 
 impl GuestState {
@@ -160,7 +164,7 @@ impl GuestState {
         requires plan { IsGuestPlanned job self.old plan }
         requires places { HasPlaces (is_failure plan) self.old }
         ensures request { result.request.items ≡ job.request }
-        ensures reply { result.reply.items ≡ answer_when (is_failure plan) self.old.core job }
+        ensures reply { closed result.key result.reply.items ≡ answer_when (is_failure plan) self.old.core job }
         ensures state { self.new ≡ submitted (is_failure plan) job self.old }
     {
         match plan {
@@ -170,20 +174,23 @@ impl GuestState {
     }
 
     /// Answers a job with a failure, since the store broke: nothing is accepted.
+    #[tactic(auto, unfolding(rpmb_core::specs::Reply::closed))]
     fn submit_failure(&mut self, alloc: Global, job: Job, failure: Failure) -> Said
         requires failure { IsFailure self.old.core job failure }
         requires places { HasPlaces true self.old }
         ensures request { result.request.items ≡ job.request }
-        ensures reply { result.reply.items ≡ answer_when true self.old.core job }
+        ensures reply { closed result.key result.reply.items ≡ answer_when true self.old.core job }
         ensures state { self.new ≡ submitted true job self.old }
     {
         let Failure { reply, copy, kind } = failure;
         let (job, request) = job.without_request(alloc);
-        self.held.push_back_reserved(Held::of(job, reply, 0, kind));
+        let due = Due::of(job, reply, 0, None);
+        self.held.push_back_reserved(Held::of(due, kind));
         self.submits += 1;
         Said {
             request,
             reply: copy,
+            key: None,
         }
     }
 
@@ -192,19 +199,20 @@ impl GuestState {
         requires plan { IsPlanned self.old.core job plan }
         requires places { HasPlaces false self.old }
         ensures request { result.request.items ≡ job.request }
-        ensures reply { result.reply.items ≡ answer_when false self.old.core job }
+        ensures reply { closed result.key result.reply.items ≡ answer_when false self.old.core job }
         ensures state { self.new ≡ submitted false job self.old }
     {
         let Answer {
             reply,
             copy,
+            key,
             need,
             kind,
             entry,
         } = self.core.carry_out(&job, plan, out);
         let (job, request) = job.without_request(alloc);
-        self.held
-            .push_back_reserved(Held::of(job, reply, need, kind));
+        let due = Due::of(job, reply, need, key);
+        self.held.push_back_reserved(Held::of(due, kind));
         match entry {
             None => {}
             Some(entry) => self.waiting.push_back_reserved(entry),
@@ -213,6 +221,7 @@ impl GuestState {
         Said {
             request,
             reply: copy,
+            key,
         }
     }
 
@@ -253,7 +262,7 @@ impl GuestState {
     }
 
     /// Gives the first held reply, where its need is settled.
-    pub fn collect(&mut self) -> Option<Done>
+    pub fn collect(&mut self) -> Option<Due>
         ensures done { result ≡ first_due self.old.settled self.old.held }
         ensures state { self.new
             ≡ (if is_some (first_due self.old.settled self.old.held) then collected self.old
@@ -264,7 +273,7 @@ impl GuestState {
         }
         match self.held.pop_front() {
             None => None,
-            Some(held) => Some(held.done()),
+            Some(held) => Some(held.due()),
         }
     }
 }

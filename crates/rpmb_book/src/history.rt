@@ -23,10 +23,13 @@ pub struct Filed {
     pub guest: u16,
     pub request: Vec<u8>,
     pub writable: u64,
+    /// The reply without its MAC, and the key that this is made under.
     pub reply: Vec<u8>,
+    pub key: Option<[u8; 32]>,
 }
 
 impl Model for Filed {
+    ghost use Rattle.rpmb_core.specs.Reply.{closed};
     ghost use Rattle.rpmb_book.specs.History as model;
 
     ghost Value = { model.Filed };
@@ -37,7 +40,7 @@ impl Model for Filed {
       guest = f.guest;
       request = f.request.items;
       writable = f.writable;
-      reply = f.reply.items;
+      reply = closed f.key f.reply.items;
     } };
 }
 
@@ -90,6 +93,7 @@ impl Filed {
             request: &self.request,
             writable: self.writable,
             reply: &self.reply,
+            key: self.key,
         })
     }
 

@@ -4,6 +4,7 @@
 
 mod book;
 mod did;
+mod due;
 mod guest_core;
 mod guest_state;
 mod held;
@@ -17,6 +18,7 @@ mod tally;
 mod told;
 
 pub use book::Book;
+pub use due::Due;
 pub use receipt::{Receipt, TurnView};
 pub use refused::Refused;
 pub use tally::{Shares, Tally};

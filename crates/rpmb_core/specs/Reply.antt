@@ -7,7 +7,7 @@ use Rattle.rpmb_frame.specs.Frame.{zero_frame, with_key_mac, with_block_data, wi
 use Rattle.rpmb_frame.specs.Frame.{with_write_counter, with_address, with_block_count, with_result}
 use Rattle.rpmb_frame.specs.Frame.{with_req_resp}
 use Rattle.rpmb_frame.specs.Request.{Request, ProgramKey, GetWriteCounter, DataWrite, DataRead}
-use Rattle.rpmb_frame.specs.Request.{ResultRead, Malformed, Command}
+use Rattle.rpmb_frame.specs.Request.{ResultRead, Malformed, Command, frames_of}
 use Rattle.rpmb_frame.specs.Partition.{Partition, block_of}
 use Rattle.hmac256.specs.Hmac.{mac}
 use Rattle.rpmb_core.specs.declared.outcome.Outcome.{Outcome}
@@ -129,6 +129,15 @@ joined frames = flat_map (λ frame. frame) frames
 -- the bytes of the reply
 unfoldable pub reply : Partition → Request → ℕ → Option Outcome → List ℕ
 reply p r code last = joined (sealed p.key (frames_on p r.command r.writable code last))
+
+-- The bytes of the reply before the MAC, and what closes them: under a key the MAC of their frames goes into the last
+-- of them, and where there is no key they are the reply already.
+unfoldable pub open_reply : Partition → Request → ℕ → Option Outcome → List ℕ
+open_reply p r code last = joined (frames_on p r.command r.writable code last)
+
+unfoldable pub closed : Option (List ℕ) → List ℕ → List ℕ
+closed None bytes = bytes
+closed (Some key) bytes = joined (sealed (Some key) (frames_of bytes))
 
 -- how many bytes the reply has
 abbrev pub reply_length : Command → ℕ → ℕ → ℕ

@@ -156,7 +156,7 @@ impl Partition {
     }
 
     /// The key with its hashers.
-    pub(crate) fn mac_key(&self) -> Option<&MacKey>
+    pub fn mac_key(&self) -> Option<&MacKey>
         ensures { option_copied result ≡ self.now.key }
     {
         self.key.as_ref()
