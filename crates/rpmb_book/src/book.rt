@@ -1,19 +1,12 @@
-ghost use Rattle.std.specs.Prelude.{◌≡◌, ◌≤◌, ◌+◌, ◌<◌, ◌-◌, ℕ, List, [], IfOk, IfErr, OnOk, OnErr};
-ghost use Rattle.std.specs.Prelude.{None, Some, if◌then◌else◌, true, unwrap_or, option_map, map};
-ghost use Rattle.std.specs.Prelude.{length, slice_get};
+ghost use Rattle.std.specs.Prelude.{◌≡◌, ◌≤◌, ◌+◌, ◌<◌, [], IfOk, Some, option_map, map, length};
 ghost use Rattle.rpmb_frame.specs.Partition.{sequence};
 ghost use Rattle.rpmb_book.specs.Opening.{tallies_from};
 ghost use Rattle.rpmb_book.specs.Replay.{opened, IsLegal};
-ghost use Rattle.rpmb_book.specs.Book.{BookView, state, guest_of, counted_in, is_full, with_turn};
-ghost use Rattle.rpmb_book.specs.Book.{submit_of, refusal, is_share, is_taken, take_answer};
-ghost use Rattle.rpmb_book.specs.Book.{after_take, next_intent, share_moved, are_taken};
-ghost use Rattle.rpmb_book.specs.Book.{settle_answer, after_settle, after_break_off, due_of};
-ghost use Rattle.rpmb_book.specs.Book.{after_collect, found_by, mac_key_of};
-ghost use Rattle.rpmb_book.specs.Left.{first_left};
-ghost use Rattle.rpmb_book.specs.Fold.{after_submit, folded, roomy};
-ghost use Rattle.rpmb_book.specs.GuestPlanned.{IsGuestPlanned, is_failure};
-ghost use Rattle.rpmb_book.specs.Allowed.{IsAllowed};
-ghost use Rattle.std.specs.Option.{ForSome, option_copied};
+ghost use Rattle.rpmb_book.specs.Book.{BookView, state, guest_of, counted_in, is_share, is_taken};
+ghost use Rattle.rpmb_book.specs.Book.{take_answer, after_take, next_intent, share_moved};
+ghost use Rattle.rpmb_book.specs.Book.{are_taken, settle_answer, after_settle, after_break_off};
+ghost use Rattle.rpmb_book.specs.Book.{due_of, after_collect, found_by, mac_key_of};
+ghost use Rattle.std.specs.Option.{option_copied};
 ghost use Rattle.rpmb_book.specs.Asked.{answered_in};
 ghost use Rattle.rpmb_book.specs.Kept.{IsOpening};
 ghost use Rattle.rpmb_book.specs.Sound.{AreOfBoard, AreReady, IsSound};
@@ -21,8 +14,8 @@ ghost use Rattle.rpmb_book.specs.Receipt.{turn_seen, submission_seen};
 
 use crate::did::Did;
 use crate::due::Due;
-use crate::guest_state::{GuestPlan, GuestState, Said, break_all};
-use crate::history::{Filed, History, SUBMITS};
+use crate::guest_state::{GuestState, break_all};
+use crate::history::History;
 use crate::marks::{are_within, move_some, settle_each};
 use crate::opening::{guests, sequences, tallies};
 use crate::receipt::{Receipt, TurnView};
@@ -32,35 +25,29 @@ use crate::told::Told;
 use flusher::Marks;
 use hmac256::MacKey;
 use intent_slots::Intent;
-use mmio_transport::{Done, Job};
+use mmio_transport::Done;
 use rpmb_core::{NoMemory, Partition};
 use rpmb_frame::BoardConfig;
 use std::alloc::Global;
 use std::marker::Model;
-
-/// How many replies of one guest may wait to leave.
-const HELD: usize = 64;
-
-/// How many Submits a book may answer in one life.
-const COUNTED: u64 = u64::MAX;
 
 /// What all guests asked and were answered. Contracts see its life, how many turns were folded, the
 /// opening after those, and the history since; the state is the replay of the history on the opening.
 /// In memory are the state, and of the history its Submits, which `find` tells.
 #[derive(Drop)]
 pub struct Book {
-    told: Told,
-    life: u64,
-    guests: Vec<GuestState>,
-    broken: bool,
+    pub(crate) told: Told,
+    pub(crate) life: u64,
+    pub(crate) guests: Vec<GuestState>,
+    pub(crate) broken: bool,
     /// How many turns there were, folded ones too.
-    turns: u128,
+    pub(crate) turns: u128,
     /// How many Submits were answered, folded ones too.
-    counted: u64,
+    pub(crate) counted: u64,
     /// The Submits that stand.
-    history: History,
+    pub(crate) history: History,
     /// Where a reply is built: no request has to clear or make it.
-    reply: Box<[u8; 8192]>,
+    pub(crate) reply: Box<[u8; 8192]>,
 }
 
 impl Model for Book {
@@ -112,155 +99,6 @@ impl Book {
             reply,
         };
         Ok((book, tallies, Shares::of(sequences)))
-    }
-
-    /// Whether the history has no place for a Submit, even after a fold.
-    #[tactic(auto, unfolding(crate::specs::Book::is_full))]
-    fn is_full(&self) -> bool
-        ensures { result ≡ is_full self.now }
-    {
-        (self.history.len() == SUBMITS && !self.is_first_collected()) || self.counted == COUNTED
-    }
-
-    /// Whether the first Submit of the history was collected.
-    fn is_first_collected(&self) -> bool
-        ensures { result ≡ first_left (state self.now) self.now.opening self.now.history }
-    {
-        self.history.first_has_left(&self.guests)
-    }
-
-    /// Why a job is refused, whatever memory there is; None where it is not.
-    fn refusal(&self, tally: &Tally, job: &Job) -> Option<Refused>
-        ensures { result ≡ refusal self.now tally.now job.now }
-    {
-        let Some(guest) = self.guests.get(usize::from(job.guest())) else {
-            return Some(Refused::Foreign);
-        };
-        if tally.guest() != job.guest() || tally.count() != guest.submits() {
-            return Some(Refused::Foreign);
-        }
-        if guest.held_len() == HELD {
-            return Some(Refused::Busy);
-        }
-        if self.is_full() {
-            return Some(Refused::HistoryFull);
-        }
-        None
-    }
-
-    /// Answers a job: the partition, the stored outcome and what waits for the store change as its
-    /// request says, and its reply is held until its need is settled. A broken book accepts nothing: the
-    /// reply is a failure, which may leave at once, and nothing else changes. Where 16,384 Submits stand,
-    /// the history rolls first: the opening becomes the state after the longest beginning in which every
-    /// Submit was collected, and that beginning goes. A refusal gives the job back and changes nothing. It
-    /// is the first of these that applies: `Foreign` where the book lacks the job's guest, or the tally
-    /// isn't of that guest, or not its count of Submits; `Busy` where the guest has 64 held replies;
-    /// `HistoryFull` where 16,384 Submits stand and the first of them wasn't collected, or where 2^64 - 1
-    /// were counted in this life; `NoMemory`.
-    pub fn submit(
-        &mut self,
-        alloc: Global,
-        tally: &mut Tally,
-        job: Job,
-    ) -> Result<Receipt, (Job, Refused)>
-        ensures made { OnOk result (self.new ≡ after_submit self.old job) }
-        ensures counted { OnOk result (tally.new ≡ record tally.old { count = tally.old.count + 1 }) }
-        ensures total { OnOk result (counted_in self.new ≡ counted_in self.old + 1) }
-        ensures named { IfOk result (λ r. r
-            ≡ record {
-              life = self.old.life;
-              guest = job.guest;
-              number = self.old.folded + length self.old.history;
-            }) }
-        ensures allowed { OnOk result (refusal self.old tally.old job ≡ None) }
-        ensures refused { IfErr result (λ e. e.1 ≡ unwrap_or (refusal self.old tally.old job) Refused.NoMemory) }
-        ensures given_back { IfErr result (λ e. e.0 ≡ job) }
-        ensures unchanged { OnErr result ((self.new ≡ self.old) × (tally.new ≡ tally.old)) }
-    {
-        if let Some(refused) = self.refusal(tally, &job) {
-            return Err((job, refused));
-        }
-        let Ok(plan) = self.plan(alloc, tally, &job) else {
-            return Err((job, Refused::NoMemory));
-        };
-        self.make_room(tally, &job);
-        Ok(self.answer(alloc, tally, job, plan))
-    }
-
-    /// Makes all the memory that the answer to a job takes, but for what a Submit that has gone held.
-    fn plan(&mut self, alloc: Global, tally: &Tally, job: &Job) -> Result<GuestPlan, NoMemory>
-        requires allowed { refusal self.old tally.now job.now ≡ None }
-        ensures same { self.new ≡ self.old }
-        ensures planned { IfOk result (λ p. ForSome (guest_of self.old job.now.guest)
-            (λ g. IsGuestPlanned job.now g p)) }
-        ensures failure { IfOk result (λ p. is_failure p ≡ (state self.old).broken) }
-    {
-        let spare = self.history.spare(alloc);
-        let guest = &self.guests[usize::from(job.guest())];
-        guest.plan(alloc, job, self.broken, spare, &mut self.reply)
-    }
-
-    /// Lets the history roll where it has no place for a Submit.
-    fn make_room(&mut self, tally: &Tally, job: &Job)
-        requires allowed { refusal self.old tally.now job.now ≡ None }
-        ensures made { self.new ≡ roomy self.old }
-        ensures total { counted_in self.new ≡ counted_in self.old }
-        ensures allowed { IsAllowed self.new tally.now job.now }
-    {
-        if self.history.len() == SUBMITS {
-            self.fold();
-        }
-    }
-
-    /// Answers a job as planned. It takes no memory.
-    fn answer(&mut self, alloc: Global, tally: &mut Tally, job: Job, plan: GuestPlan) -> Receipt
-        requires allowed { IsAllowed self.old tally.old job }
-        requires plan { ForSome (guest_of self.old job.guest) (λ g. IsGuestPlanned job g plan) }
-        requires failure { is_failure plan ≡ (state self.old).broken }
-        ensures made { self.new ≡ with_turn self.old (submit_of self.old job) }
-        ensures counted { tally.new ≡ record tally.old { count = tally.old.count + 1 } }
-        ensures named { result ≡ record {
-          life = self.old.life;
-          guest = job.guest;
-          number = self.old.folded + length self.old.history;
-        } }
-    {
-        self.told = self.told.then(&Did::Submit(&job));
-        let receipt = Receipt {
-            life: self.life,
-            guest: job.guest(),
-            number: self.turns,
-        };
-        let writable = job.writable();
-        let guest = &mut self.guests[usize::from(receipt.guest)];
-        let Said {
-            request,
-            reply,
-            key,
-        } = guest.submit(alloc, job, plan, &mut self.reply);
-        self.history.push(Filed {
-            number: receipt.number,
-            place: tally.count(),
-            guest: receipt.guest,
-            request,
-            writable,
-            reply,
-            key,
-        });
-        self.turns += 1;
-        self.counted += 1;
-        tally.raise();
-        receipt
-    }
-
-    /// Makes the opening the state after the longest beginning of the history in which every Submit was
-    /// collected, and lets that beginning go. The state stays. It takes no memory.
-    fn fold(&mut self)
-        ensures folded { self.new ≡ folded self.old }
-        ensures stays { state self.new ≡ state self.old }
-    {
-        self.history.roll(&self.guests);
-        self.told = self.told.rolled();
     }
 
     /// Whether the guest is the book's, and its share is its taken sequence.

@@ -71,33 +71,37 @@ impl Due {
         self.need = 0;
     }
 
-    /// The reply with its MAC. Where the caller has the key with its pads hashed, that saves two
-    /// compressions; any other key isn't looked at. It takes no memory.
+    /// Makes the MAC, where it isn't made yet. Where the caller has the key with its pads hashed, that
+    /// saves two compressions; any other key isn't looked at. It takes no memory.
+    #[tactic(auto, unfolding(rpmb_core::specs::Reply::closed))]
+    pub fn close(&mut self, known: Option<&MacKey>)
+        ensures { self.new ≡ self.old }
+    {
+        match self.key {
+            None => {}
+            Some(key) => {
+                close_under(&key, known, &mut self.reply);
+                self.key = None;
+            }
+        }
+    }
+
+    /// The reply with its MAC, which `close` makes where that wasn't done before. It takes no memory.
     #[tactic(auto, unfolding(rpmb_core::specs::Reply::closed))]
     pub fn done(self, known: Option<&MacKey>) -> Done
         ensures { result ≡ self }
     {
         let Due {
             job,
-            reply,
+            mut reply,
             need,
             key,
         } = self;
-        match key {
-            None => Done::of(job, reply, need),
-            Some(key) => Done::of(job, closed_under(&key, known, reply), need),
+        if let Some(key) = key {
+            close_under(&key, known, &mut reply);
         }
+        Done::of(job, reply, need)
     }
-}
-
-/// Whole frames with the MAC under a key.
-fn closed_under(key: &[u8; 32], known: Option<&MacKey>, mut reply: Vec<u8>) -> Vec<u8>
-    requires whole { length reply.items ≡ 512 * (length reply.items / 512) }
-    ensures value { result.items ≡ closed (Some key.now) reply.items }
-    ensures len { length result.items ≡ length reply.items }
-{
-    close_under(key, known, reply.as_mut_slice());
-    reply
 }
 
 /// Puts the MAC under a key into whole frames.

@@ -2,18 +2,21 @@ ghost use Rattle.std.specs.Prelude.{◌≡◌, ◌≤◌, ◌<◌, ◌^◌, ◌*
 ghost use Rattle.std.specs.Prelude.{length, true, vec_capacity};
 ghost use Rattle.mmio_transport.specs.Job.{room_of};
 ghost use Rattle.rpmb_frame.specs.Partition.{Partition};
+ghost use Rattle.rpmb_frame.specs.Request.{frames_of};
 ghost use Rattle.rpmb_core.specs.Verdict.{verdict};
+ghost use Rattle.rpmb_core.specs.MacCheck.{Says};
 ghost use Rattle.rpmb_core.specs.Accept.{data_of, is_accepted, partition_after};
 ghost use Rattle.rpmb_core.specs.Reply.{closed, failure_kind};
 ghost use Rattle.rpmb_book.specs.Guest.{stored, core_after, outcome_in, answer, answer_when, need};
 ghost use Rattle.rpmb_book.specs.Guest.{entry, entry_of, key_of, blocks_in, request_of};
 ghost use Rattle.rpmb_book.specs.Sound.{IsCoreOfBoard};
-ghost use Rattle.rpmb_book.specs.Planned.{HasRoom, IsPlanned};
+ghost use Rattle.rpmb_book.specs.Planned.{IsPlanned};
 
-use crate::history::Spare;
+use crate::rooms::{Rooms, room_for};
 use intent_slots::Entry;
 use mmio_transport::Job;
-use rpmb_core::{GENERAL_FAILURE, NoMemory, OK, Outcome, Partition, failure_kind, is_change};
+use rpmb_core::{GENERAL_FAILURE, MacCheck, NoMemory, OK, Outcome, Partition};
+use rpmb_core::{failure_kind, is_change};
 use rpmb_frame::{Command, Frame, Limits, Request};
 use std::alloc::{AllocError, Global};
 use std::marker::Model;
@@ -99,25 +102,31 @@ impl GuestCore {
         }
     }
 
-    /// Finds the verdict on a job, and makes all the memory that its answer takes, or takes what is spare.
-    pub fn plan(&self, alloc: Global, job: &Job, spare: Spare) -> Result<Plan, NoMemory>
-        requires request { spare.request.items ≡ [] }
-        requires reply { spare.reply.items ≡ [] }
+    /// Finds the verdict on a job, by what the check of its MAC came to, and makes all the memory that its
+    /// answer takes, of these rooms where they fit.
+    pub fn plan(
+        &self,
+        alloc: Global,
+        job: &Job,
+        check: &MacCheck,
+        rooms: Rooms,
+    ) -> Result<Plan, NoMemory>
+        requires { Says (frames_of job.now.request) check.now }
         ensures { IfOk result (IsPlanned self.now job.now) }
     {
         let request = Request::classify(job.request(), job.writable(), self.limits);
         // No reply has more than 16 frames.
         let _most = self.limits.max_rd_cnt();
-        let code = self.partition.verdict(&request);
+        let code = self.partition.verdict_by(&request, check);
         let is_accepted = is_accepted(&request, code);
         let len = Partition::reply_len(&request, code);
-        let Ok(reply) = room_for(alloc, spare.request, len) else {
+        let Ok(reply) = room_for(alloc, rooms.reply, len) else {
             return Err(AllocError);
         };
-        let Ok(copy) = room_for(alloc, spare.reply, len) else {
+        let Ok(copy) = room_for(alloc, rooms.copy, len) else {
             return Err(AllocError);
         };
-        let Ok(blocks) = blocks_of(alloc, &request, is_accepted) else {
+        let Ok(blocks) = blocks_of(alloc, &request, is_accepted, rooms.blocks) else {
             return Err(AllocError);
         };
         Ok(Plan {
@@ -254,18 +263,6 @@ fn is_accepted(request: &Request<'_>, code: u16) -> bool
     is_change(request) && code == OK
 }
 
-/// Room for so many bytes: the spare one, where it is enough and at most twice as large, so that a small reply
-/// doesn't keep the room of a large one.
-fn room_for(alloc: Global, spare: Vec<u8>, len: usize) -> Result<Vec<u8>, NoMemory>
-    requires { spare.items ≡ [] }
-    ensures { IfOk result (HasRoom len) }
-{
-    if len <= spare.capacity() && spare.capacity() / 2 <= len {
-        return Ok(spare);
-    }
-    Vec::with_capacity(alloc, len)
-}
-
 /// These bytes, in the room that was made for them.
 fn filled(mut room: Vec<u8>, bytes: &[u8]) -> Vec<u8>
     requires empty { room.items ≡ [] }
@@ -278,21 +275,26 @@ fn filled(mut room: Vec<u8>, bytes: &[u8]) -> Vec<u8>
     room
 }
 
-/// The blocks of a write that is accepted, one after another.
-fn blocks_of(alloc: Global, request: &Request<'_>, accepted: bool) -> Result<Vec<u8>, NoMemory>
+/// The blocks of a write that is accepted, one after another, in this room where it fits.
+fn blocks_of(
+    alloc: Global,
+    request: &Request<'_>,
+    accepted: bool,
+    room: Vec<u8>,
+) -> Result<Vec<u8>, NoMemory>
     ensures { IfOk result (λ blocks. accepted ≡ true → blocks.items ≡ blocks_in request.now.command) }
 {
     match request.command {
-        Command::DataWrite { frames, .. } if accepted => data_of(alloc, frames),
+        Command::DataWrite { frames, .. } if accepted => data_of(alloc, frames, room),
         _ => Ok(Vec::new(alloc)),
     }
 }
 
 #[tactic(auto, unfolding(rpmb_core::specs::Accept::data_of))]
-fn data_of(alloc: Global, frames: &[[u8; 512]]) -> Result<Vec<u8>, NoMemory>
+fn data_of(alloc: Global, frames: &[[u8; 512]], room: Vec<u8>) -> Result<Vec<u8>, NoMemory>
     ensures { IfOk result (λ blocks. blocks.items ≡ data_of frames.now) }
 {
-    let mut blocks = Vec::with_capacity(alloc, 256 * frames.len())?;
+    let mut blocks = room_for(alloc, room, 256 * frames.len())?;
     for frame in frames {
         blocks.extend_from_slice(&frame[228..484])?;
     }

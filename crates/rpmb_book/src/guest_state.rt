@@ -1,7 +1,9 @@
 ghost use Rattle.std.specs.Prelude.{◌≡◌, ◌+◌, ◌++◌, ◌-◌, ◌<◌, ◌≤◌, ◌^◌, [], IfOk, if◌then◌else◌};
 ghost use Rattle.std.specs.Prelude.{is_some, length, take, drop};
 ghost use Rattle.intent_slots.specs.Payload.{EntriesFit};
+ghost use Rattle.rpmb_frame.specs.Request.{frames_of};
 ghost use Rattle.rpmb_core.specs.Reply.{closed};
+ghost use Rattle.rpmb_core.specs.MacCheck.{Says};
 ghost use Rattle.rpmb_book.specs.Planned.{IsFailure, IsPlanned};
 ghost use Rattle.rpmb_book.specs.GuestPlanned.{IsGuestPlanned, is_failure};
 ghost use Rattle.rpmb_book.specs.Allowed.{HasPlaces};
@@ -13,10 +15,10 @@ ghost use Rattle.rpmb_book.specs.Guest.{broken_off, kept_or_failed, first_due, f
 use crate::guest_core::{Answer, Failure, GuestCore, Plan};
 use crate::due::Due;
 use crate::held::Held;
-use crate::history::Spare;
+use crate::rooms::Rooms;
 use intent_slots::{Entry, Intent};
 use mmio_transport::Job;
-use rpmb_core::{NoMemory, Partition};
+use rpmb_core::{MacCheck, NoMemory, Partition};
 use rpmb_frame::Limits;
 use std::alloc::Global;
 use std::collections::VecDeque;
@@ -134,18 +136,19 @@ impl GuestState {
         self.submits.saturating_sub(self.held.len() as u64)
     }
 
-    /// Makes all the memory that the answer to a job takes, or takes what is spare, of a book that is broken,
-    /// or isn't. A failure reply is built in `out`.
+    /// Makes all the memory that the answer to a job takes, of a book that is broken, or isn't. Of one that
+    /// isn't, what the check of the job's MAC came to counts, and the rooms serve where they fit. A failure
+    /// reply is built in `out`.
     pub fn plan(
         &self,
         alloc: Global,
         job: &Job,
         broken: bool,
-        spare: Spare,
+        check: &MacCheck,
+        rooms: Rooms,
         out: &mut [u8; 8192],
     ) -> Result<GuestPlan, NoMemory>
-        requires request { spare.request.items ≡ [] }
-        requires reply { spare.reply.items ≡ [] }
+        requires { Says (frames_of job.now.request) check.now }
         ensures planned { IfOk result (IsGuestPlanned job.now self.now) }
         ensures failure { IfOk result (λ p. is_failure p ≡ broken) }
     {
@@ -153,7 +156,7 @@ impl GuestState {
             let failure = self.core.failure(alloc, job, out)?;
             Ok(GuestPlan::Failure(failure))
         } else {
-            let plan = self.core.plan(alloc, job, spare)?;
+            let plan = self.core.plan(alloc, job, check, rooms)?;
             Ok(GuestPlan::Answer(plan))
         }
     }

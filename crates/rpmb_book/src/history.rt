@@ -6,6 +6,7 @@ ghost use Rattle.rpmb_book.specs.Receipt.{turn_seen};
 
 use crate::guest_state::GuestState;
 use crate::receipt::TurnView;
+use crate::rooms::Rooms;
 use std::alloc::{AllocError, Global};
 use std::collections::VecDeque;
 use std::marker::Model;
@@ -42,43 +43,6 @@ impl Model for Filed {
       writable = f.writable;
       reply = closed f.key f.reply.items;
     } };
-}
-
-/// The memory of a Submit that has gone: two lists without bytes.
-#[derive(Drop)]
-pub struct Spare {
-    pub request: Vec<u8>,
-    pub reply: Vec<u8>,
-}
-
-impl Spare {
-    fn none(alloc: Global) -> Spare
-        ensures request { result.request.items ≡ [] }
-        ensures reply { result.reply.items ≡ [] }
-    {
-        Spare {
-            request: Vec::new(alloc),
-            reply: Vec::new(alloc),
-        }
-    }
-
-    fn of(filed: Filed) -> Spare
-        ensures request { result.request.items ≡ [] }
-        ensures reply { result.reply.items ≡ [] }
-    {
-        Spare {
-            request: emptied(filed.request),
-            reply: emptied(filed.reply),
-        }
-    }
-}
-
-/// The list without its bytes, and with its room.
-fn emptied(mut list: Vec<u8>) -> Vec<u8>
-    ensures { result.items ≡ [] }
-{
-    list.clear();
-    list
 }
 
 impl Filed {
@@ -165,20 +129,22 @@ impl History {
         &self.filed[self.gone + place]
     }
 
-    /// What a Submit that has gone held, without its bytes, for one that comes; lists without room where none has
-    /// gone, or places are left. What stands stays.
-    pub fn spare(&mut self, alloc: Global) -> Spare
-        ensures same { self.new ≡ self.old }
-        ensures request { result.request.items ≡ [] }
-        ensures reply { result.reply.items ≡ [] }
+    /// What a Submit that has gone held, for the answer to one that comes; no memory where none has gone, or
+    /// places are left. What stands stays.
+    pub fn spare(&mut self, alloc: Global) -> Rooms
+        ensures { self.new ≡ self.old }
     {
         if self.gone == 0 || self.filed.len() < SUBMITS {
-            return Spare::none(alloc);
+            return Rooms::none(alloc);
         }
         self.gone -= 1;
         match self.filed.pop_front() {
-            None => Spare::none(alloc),
-            Some(filed) => Spare::of(filed),
+            None => Rooms::none(alloc),
+            Some(filed) => Rooms {
+                reply: filed.request,
+                copy: filed.reply,
+                blocks: Vec::new(alloc),
+            },
         }
     }
 
