@@ -8,9 +8,9 @@ use hmac256::MacKey;
 use rpmb_frame::{DATA_WRITE, Frame, RESULT_READ};
 
 /// What the check of a write's MAC came to: whether the MAC in the last of so many frames is that of
-/// them all under this key (VIRTIO 1.2, 5.12.6). It takes the bytes and the key alone, so it can be
-/// made before the partition is locked. A verdict looks at it where it is of as many frames and under
-/// the partition's key.
+/// them all under this key (VIRTIO 1.2, 5.12.6). It is made of bytes and a key alone, so no partition
+/// has to be locked meanwhile. A verdict looks at it where it is of as many frames as the write has,
+/// and under the key that the partition then has.
 #[derive(Clone, Copy)]
 pub struct MacCheck {
     count: usize,
@@ -32,8 +32,9 @@ impl MacCheck {
     }
 
     /// The check of the write that these bytes, the readable ones of a chain, may ask for; that of no
-    /// frames, where the type of their first frame isn't DATA_WRITE. The frame that asks for the result
-    /// isn't one of the write's, and a rest behind the whole frames isn't looked at.
+    /// frames, where there is none or the first one's type isn't DATA_WRITE. A frame behind them that
+    /// asks for the result isn't one of the write's. A frame has 512 bytes, and a rest behind the last
+    /// whole one isn't looked at.
     pub fn of_bytes(bytes: &[u8], key: &MacKey) -> MacCheck
         ensures says { Says (frames_of bytes.now) result }
         ensures covers { Covers bytes.now key.now result }
@@ -51,7 +52,7 @@ impl MacCheck {
         }
     }
 
-    /// The check of all these frames.
+    /// The check of all these frames, of which there is at least one.
     #[tactic(auto, unfolding(crate::specs::MacCheck::Says))]
     pub fn of(frames: &[[u8; 512]], key: &MacKey) -> MacCheck
         requires { 0 < length frames.now }

@@ -2,6 +2,7 @@ mod blocks;
 mod ends;
 mod failures;
 mod fields;
+mod mac_checks;
 mod refusals;
 mod steps;
 mod without_key;
