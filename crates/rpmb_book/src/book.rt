@@ -6,11 +6,11 @@ ghost use Rattle.rpmb_book.specs.Book.{BookView, state, guest_of, counted_in, is
 ghost use Rattle.rpmb_book.specs.Book.{take_answer, after_take, next_intent, share_moved};
 ghost use Rattle.rpmb_book.specs.Book.{are_taken, settle_answer, after_settle, after_break_off};
 ghost use Rattle.rpmb_book.specs.Book.{due_of, after_collect, found_by, mac_key_of};
-ghost use Rattle.std.specs.Option.{option_copied};
+ghost use Rattle.std.specs.Option.{ForSome, option_copied};
 ghost use Rattle.rpmb_book.specs.Asked.{answered_in};
 ghost use Rattle.rpmb_book.specs.Kept.{IsOpening};
 ghost use Rattle.rpmb_book.specs.Sound.{AreOfBoard, AreReady, IsSound};
-ghost use Rattle.rpmb_book.specs.Receipt.{turn_seen, submission_seen};
+ghost use Rattle.rpmb_book.specs.Receipt.{turn_seen, submission_seen, HasFrames};
 
 use crate::did::Did;
 use crate::due::Due;
@@ -230,7 +230,8 @@ impl Book {
     /// The request and the reply of the job that a receipt names, as both were then; None where the
     /// receipt is of another life, names no Submit of that guest, or names one that was folded.
     pub fn find(&self, receipt: &Receipt) -> Option<TurnView<'_>>
-        ensures { option_map turn_seen result ≡ option_map submission_seen (found_by self.now receipt.now) }
+        ensures seen { option_map turn_seen result ≡ option_map submission_seen (found_by self.now receipt.now) }
+        ensures whole { ForSome result HasFrames }
     {
         if receipt.life != self.life {
             return None;
