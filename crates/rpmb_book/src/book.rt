@@ -27,7 +27,7 @@ use hmac256::MacKey;
 use intent_slots::Intent;
 use mmio_transport::Done;
 use rpmb_core::{NoMemory, Partition};
-use rpmb_frame::BoardConfig;
+use rpmb_frame::{BoardConfig, Limits};
 use std::alloc::Global;
 use std::marker::Model;
 
@@ -198,6 +198,16 @@ impl Book {
     {
         match self.mac_key(guest) {
             Some(key) => Some(key.copy()),
+            None => None,
+        }
+    }
+
+    /// A guest's limits, which never change; None for a guest that the book lacks.
+    pub fn limits_of(&self, guest: u16) -> Option<Limits>
+        ensures { result ≡ option_map (λ g. g.core.limits) (guest_of self.now guest) }
+    {
+        match self.guests.get(usize::from(guest)) {
+            Some(known) => Some(known.limits()),
             None => None,
         }
     }

@@ -93,6 +93,12 @@ impl GuestCore {
         &self.partition
     }
 
+    pub fn limits(&self) -> Limits
+        ensures { result ≡ self.now.limits }
+    {
+        self.limits
+    }
+
     /// The partition's key; zeros, where it has none.
     pub fn key(&self) -> [u8; 32]
         ensures { result ≡ key_of self.now.partition }

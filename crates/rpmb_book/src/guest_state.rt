@@ -105,6 +105,12 @@ impl GuestState {
         self.core.partition()
     }
 
+    pub fn limits(&self) -> Limits
+        ensures { result ≡ self.now.core.limits }
+    {
+        self.core.limits()
+    }
+
     pub fn taken(&self) -> u64
         ensures { result ≡ self.now.taken }
     {
