@@ -77,3 +77,8 @@ KeepsOn shows makes old new = (first : StoreState _) → Keeps shows makes first
 -- a flag that said whether the store had broken says so still
 abbrev pub IsHeard : {D : Type 0} → StoreState D → Bool → StoreState D → Bool → Type 0
 IsHeard old told new now_told = old.broken ≡ told → new.broken ≡ now_told
+
+-- what a flusher leaves: the store keeps what it kept, and the flag says whether it broke
+abbrev pub LeftBy : {D : Type 0} → (D → DiskState) → (D → DiskCall → D → Type 0)
+    → StoreState D → Bool → StoreState D → Bool → Type 0
+LeftBy shows makes old told new now_told = KeepsOn shows makes old new × IsHeard old told new now_told

@@ -3,3 +3,4 @@ pub mod Keeping
 pub mod Looks
 pub mod Orders
 pub mod Turns
+pub mod Crew

@@ -7,8 +7,10 @@ ghost use Rattle.workers.specs.Turns.{Collects, Flows, HandsOver, Takes, answere
 use crate::desk::Desk;
 use crate::seat::Guest;
 use host::HostFault;
-use mmio_transport::{DeviceFault, Done, Job};
-use rpmb_book::{Receipt, Refused, Tally};
+use hmac256::MacKey;
+use mmio_transport::{DeviceFault, Job};
+use rpmb_book::{Checked, Due, Receipt, Refused, Rooms, Tally};
+use rpmb_frame::Limits;
 use std::alloc::Global;
 use std::collections::VecDeque;
 use std::sync::ledger::{Ledger, Share};
@@ -39,9 +41,14 @@ pub(crate) struct Backlog<L: Ledger> {
     /// How many replies left the book.
     collected: u64,
     /// Jobs that the book hasn't answered, the oldest first.
-    jobs: VecDeque<Job>,
+    jobs: VecDeque<Checked>,
     /// Replies on their way to the device, the oldest first.
-    dones: VecDeque<Done>,
+    dones: VecDeque<Due>,
+    /// What the book told of the guest, for MACs and memory that are made without it.
+    limits: Option<Limits>,
+    key: Option<MacKey>,
+    /// Memory that the book gave back, for jobs to come.
+    spares: Vec<Rooms>,
     ghost one_part: { share.parts ≡ 1 },
     ghost counted: { tally.count ≡ share.amount },
     ghost received: { vec_len receipts ≡ tally.count },
@@ -74,17 +81,24 @@ impl<L: Ledger> Backlog<L> {
             collected: 0,
             jobs: VecDeque::new(alloc),
             dones: VecDeque::new(alloc),
+            limits: None,
+            key: None,
+            spares: Vec::new(alloc),
         }
     }
 
     /// Takes the answer to a pop. Whether it gave a job.
-    fn take_popped(&mut self, popped: Result<Option<Job>, DeviceFault>) -> Result<bool, HostFault>
+    fn take_popped(
+        &mut self,
+        alloc: Global,
+        popped: Result<Option<Job>, DeviceFault>,
+    ) -> Result<bool, HostFault>
         ensures rest { (self.new.tally ≡ self.old.tally) × (self.new.dones ≡ self.old.dones) }
         ensures takes { IfOk result (λ is. Takes self.old.jobs.items popped is self.new.jobs.items) }
     {
         match popped {
             Ok(Some(job)) => {
-                if self.jobs.push_back(job).is_err() {
+                if self.jobs.push_back(Checked::plain(alloc, job)).is_err() {
                     return Err(HostFault::NoMemory);
                 }
                 Ok(true)
@@ -98,7 +112,7 @@ impl<L: Ledger> Backlog<L> {
     }
 
     /// Pops a job. Whether there was one.
-    fn pop(&mut self, guest: &mut Guest) -> Result<bool, HostFault>
+    fn pop(&mut self, alloc: Global, guest: &mut Guest) -> Result<bool, HostFault>
         ensures rest { (self.new.tally ≡ self.old.tally) × (self.new.dones ≡ self.old.dones) }
         ensures jobs { IfOk result (λ is. Flows self.old.jobs.items (if is then 1 else 0) 0 self.new.jobs.items) }
     {
@@ -107,17 +121,17 @@ impl<L: Ledger> Backlog<L> {
             return Err(HostFault::NoMemory);
         }
         let popped = guest.pop();
-        self.take_popped(popped)
+        self.take_popped(alloc, popped)
     }
 
     /// Pops what is offered, up to a batch. How many jobs that are.
-    pub fn pop_all(&mut self, guest: &mut Guest) -> Result<usize, HostFault>
+    pub fn pop_all(&mut self, alloc: Global, guest: &mut Guest) -> Result<usize, HostFault>
         ensures rest { (self.new.tally ≡ self.old.tally) × (self.new.dones ≡ self.old.dones) }
         ensures jobs { IfOk result (λ n. Flows self.old.jobs.items n 0 self.new.jobs.items) }
     {
         let room = BATCH.saturating_sub(self.jobs.len());
         for i in 0..room {
-            if !self.pop(guest)? {
+            if !self.pop(alloc, guest)? {
                 return Ok(i);
             }
         }
@@ -132,8 +146,8 @@ impl<L: Ledger> Backlog<L> {
     {
         match self.dones.pop_front() {
             // A reply of an earlier session is dropped.
-            Some(done) => {
-                let _ = guest.publish(done);
+            Some(due) => {
+                let _ = guest.publish(due.done(self.key.as_ref()));
                 true
             }
             None => false,
@@ -173,8 +187,9 @@ impl<L: Ledger> Backlog<L> {
             return Ok(Handed::Nothing);
         };
         match desk.submit(alloc, &mut self.tally, &mut self.share, job) {
-            Ok(receipt) => {
+            Ok((receipt, left)) => {
                 self.receipts.push_reserved(receipt);
+                self.keep(left);
                 Ok(Handed::Answered)
             }
             Err((job, refused)) => {
@@ -186,6 +201,50 @@ impl<L: Ledger> Backlog<L> {
                     Refused::Foreign => Err(HostFault::Foreign),
                 }
             }
+        }
+    }
+
+    /// Keeps memory for jobs to come, as much as a batch needs.
+    fn keep(&mut self, left: Rooms)
+        ensures rest { (self.new.tally ≡ self.old.tally) × (self.new.receipts ≡ self.old.receipts) }
+        ensures lines { (self.new.jobs ≡ self.old.jobs) × (self.new.dones ≡ self.old.dones) }
+    {
+        if self.spares.len() < BATCH && self.spares.push(left).is_err() {
+            // Without a place for it the memory goes.
+        }
+    }
+
+    /// Makes the MACs of the requests and the memory of their answers, for which no lock is needed.
+    pub fn prepare(&mut self, alloc: Global)
+        ensures rest { (self.new.tally ≡ self.old.tally) × (self.new.dones ≡ self.old.dones) }
+        ensures jobs { self.new.jobs.items ≡ self.old.jobs.items }
+    {
+        let Some(limits) = self.limits else {
+            return;
+        };
+        let jobs = self.jobs.make_contiguous();
+        prepare_each(alloc, jobs, limits, self.key.as_ref(), &mut self.spares);
+    }
+
+    /// Makes the MACs of the replies, for which no lock is needed.
+    pub fn close(&mut self)
+        ensures rest { (self.new.tally ≡ self.old.tally) × (self.new.jobs ≡ self.old.jobs) }
+        ensures replies { self.new.dones.items ≡ self.old.dones.items }
+    {
+        close_each(self.dones.make_contiguous(), self.key.as_ref());
+    }
+
+    /// Asks the book for what it hasn't told yet: a key isn't there from the first.
+    pub fn learn(&mut self, desk: &Desk<L>)
+        ensures rest { self.new.tally ≡ self.old.tally }
+        ensures lines { (self.new.jobs ≡ self.old.jobs) × (self.new.dones ≡ self.old.dones) }
+    {
+        let number = self.tally.guest();
+        if self.limits.is_none() {
+            self.limits = desk.limits_of(number);
+        }
+        if self.key.is_none() {
+            self.key = desk.mac_key_of(number);
         }
     }
 
@@ -278,7 +337,38 @@ impl<L: Ledger> Backlog<L> {
             collected: _,
             jobs: _,
             dones: _,
+            limits: _,
+            key: _,
+            spares: _,
         } = self;
         (share, Served { tally, receipts })
+    }
+}
+
+/// Prepares each job, with what is spare.
+fn prepare_each(
+    alloc: Global,
+    jobs: &mut [Checked],
+    limits: Limits,
+    key: Option<&MacKey>,
+    spares: &mut Vec<Rooms>,
+)
+    ensures { jobs.new ≡ jobs.old }
+{
+    for job in jobs.iter_mut() {
+        let spare = match spares.pop() {
+            Some(spare) => spare,
+            None => Rooms::none(alloc),
+        };
+        job.prepare(alloc, limits, key, spare);
+    }
+}
+
+/// Makes the MAC of each reply.
+fn close_each(dues: &mut [Due], key: Option<&MacKey>)
+    ensures { dues.new ≡ dues.old }
+{
+    for due in dues.iter_mut() {
+        due.close(key);
     }
 }

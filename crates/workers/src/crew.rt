@@ -1,7 +1,8 @@
 //! The threads of a scope: started, run to their end, and joined.
 ghost use Rattle.std.specs.Prelude.{◌≡◌, ◌<◌, ℕ, [], IfOk, vec_len, slice_index_or, length, map};
+ghost use Rattle.workers.specs.Crew.{guests_of};
 ghost use Rattle.workers.specs.Following.{Follow};
-ghost use Rattle.workers.specs.Keeping.{IsHeard, KeepsOn};
+ghost use Rattle.workers.specs.Keeping.{IsHeard, KeepsOn, LeftBy};
 ghost use Rattle.workers.specs.Orders.{LeavesAll, Left, chain_orders};
 
 use crate::bell::{Actor, Bell};
@@ -65,8 +66,7 @@ impl Promise<DriverEnd> for OfChains {
 pub(crate) struct OfFlusher<D: Disk>(Snapshot<Flusher<D>>);
 
 impl<D: Disk> Promise<FlusherEnd<D>> for OfFlusher<D> {
-    ghost kept_by = { λ p e. KeepsOn D.state D.makes p.0.value.store e.store
-        × IsHeard p.0.value.store p.0.value.broken e.store e.broken };
+    ghost kept_by = { λ p e. LeftBy D.state D.makes p.0.value.store p.0.value.broken e.store e.broken };
 }
 
 /// What the threads have left.
@@ -179,7 +179,7 @@ fn start_workers<'s, E, L: Ledger + Send + Sync, G: Gate + Sync, R: Wait + Sync>
     workers: Vec<Worker<L>>,
 ) -> Result<Vec<PromisedHandle<Worker<L>, OfGuest>>, HostFault>
     ensures len { IfOk result (λ v. vec_len v ≡ vec_len workers) }
-    ensures guests { IfOk result (λ v. map (λ h. h.promise.0) v.items ≡ map (λ w. w.backlog.tally.guest) workers.items) }
+    ensures guests { IfOk result (λ v. map (λ h. h.promise.0) v.items ≡ guests_of workers.items) }
 {
     let mut started = Vec::new(alloc);
     for worker in workers {
@@ -247,7 +247,7 @@ fn start_all<
     requires { Follow flusher.shares flusher.store.guests }
     ensures workers { IfOk result (λ s. vec_len s.workers ≡ vec_len workers) }
     ensures guests { IfOk result (λ s. map (λ h. h.promise.0) s.workers.items
-        ≡ map (λ w. w.backlog.tally.guest) workers.items) }
+        ≡ guests_of workers.items) }
     ensures drivers { IfOk result (λ s. vec_len s.drivers ≡ length scripts.now) }
     ensures each { IfOk result (λ s. (i : ℕ) (d : _) → i < length scripts.now
         → chain_orders (slice_index_or scripts.now i [])
@@ -284,12 +284,13 @@ fn join_all<L: Ledger, D: Disk + Drop, R: Threads>(
         → chain_orders (slice_index_or scripts.now i [])
         ≡ (slice_index_or started.drivers.items i d).promise.0 }
     ensures workers { IfOk result (λ c. vec_len c.workers ≡ vec_len started.workers) }
-    ensures guests { IfOk result (λ c. map (λ w. w.backlog.tally.guest) c.workers.items
+    ensures guests { IfOk result (λ c. guests_of c.workers.items
         ≡ map (λ h. h.promise.0) started.workers.items) }
     ensures drivers { IfOk result (λ c. vec_len c.drivers ≡ length scripts.now) }
     ensures each { IfOk result (λ c. Left c.drivers.items scripts.now) }
-    ensures flusher { IfOk result (λ c. KeepsOn D.state D.makes started.flusher.promise.0.value.store c.flusher.store
-        × IsHeard started.flusher.promise.0.value.store started.flusher.promise.0.value.broken c.flusher.store c.flusher.broken) }
+    ensures flusher { IfOk result (λ c. LeftBy D.state D.makes
+        started.flusher.promise.0.value.store started.flusher.promise.0.value.broken
+        c.flusher.store c.flusher.broken) }
 {
     let Started {
         workers,
@@ -330,12 +331,11 @@ fn run_in<
 ) -> Result<Crew<L, D>, HostFault>
     requires { Follow flusher.shares flusher.store.guests }
     ensures workers { IfOk result (λ c. vec_len c.workers ≡ vec_len workers) }
-    ensures guests { IfOk result (λ c. map (λ w. w.backlog.tally.guest) c.workers.items
-        ≡ map (λ w. w.backlog.tally.guest) workers.items) }
+    ensures guests { IfOk result (λ c. guests_of c.workers.items
+        ≡ guests_of workers.items) }
     ensures drivers { IfOk result (λ c. vec_len c.drivers ≡ length scripts.now) }
     ensures each { IfOk result (λ c. Left c.drivers.items scripts.now) }
-    ensures flusher { IfOk result (λ c. KeepsOn D.state D.makes flusher.store c.flusher.store
-        × IsHeard flusher.store flusher.broken c.flusher.store c.flusher.broken) }
+    ensures flusher { IfOk result (λ c. LeftBy D.state D.makes flusher.store flusher.broken c.flusher.store c.flusher.broken) }
 {
     match start_all(scope, rt, alloc, hall, gate, workers, scripts, flusher) {
         Ok(started) => join_all(rt, started, scripts),
@@ -363,12 +363,11 @@ pub(crate) fn run_all<
 ) -> Result<Crew<L, D>, HostFault>
     requires { Follow flusher.shares flusher.store.guests }
     ensures workers { IfOk result (λ c. vec_len c.workers ≡ vec_len workers) }
-    ensures guests { IfOk result (λ c. map (λ w. w.backlog.tally.guest) c.workers.items
-        ≡ map (λ w. w.backlog.tally.guest) workers.items) }
+    ensures guests { IfOk result (λ c. guests_of c.workers.items
+        ≡ guests_of workers.items) }
     ensures drivers { IfOk result (λ c. vec_len c.drivers ≡ length scripts.now) }
     ensures each { IfOk result (λ c. Left c.drivers.items scripts.now) }
-    ensures flusher { IfOk result (λ c. KeepsOn D.state D.makes flusher.store c.flusher.store
-        × IsHeard flusher.store flusher.broken c.flusher.store c.flusher.broken) }
+    ensures flusher { IfOk result (λ c. LeftBy D.state D.makes flusher.store flusher.broken c.flusher.store c.flusher.broken) }
 {
     thread::scope(
         thread::scope_env(),
@@ -376,12 +375,11 @@ pub(crate) fn run_all<
         |scope| -> Result<Crew<L, D>, HostFault>
             requires { Follow flusher.shares flusher.store.guests }
             ensures workers { IfOk result (λ c. vec_len c.workers ≡ vec_len workers) }
-            ensures guests { IfOk result (λ c. map (λ w. w.backlog.tally.guest) c.workers.items
-                ≡ map (λ w. w.backlog.tally.guest) workers.items) }
+            ensures guests { IfOk result (λ c. guests_of c.workers.items
+                ≡ guests_of workers.items) }
             ensures drivers { IfOk result (λ c. vec_len c.drivers ≡ length scripts.entry.now) }
             ensures each { IfOk result (λ c. Left c.drivers.items scripts.entry.now) }
-            ensures flusher { IfOk result (λ c. KeepsOn D.state D.makes flusher.store c.flusher.store
-                × IsHeard flusher.store flusher.broken c.flusher.store c.flusher.broken) }
+            ensures flusher { IfOk result (λ c. LeftBy D.state D.makes flusher.store flusher.broken c.flusher.store c.flusher.broken) }
         { run_in(scope, rt, alloc, hall, gate, workers, scripts, flusher) },
     )
 }

@@ -1,15 +1,17 @@
 //! What lies under the book's lock.
 ghost use Rattle.std.specs.Prelude.{◌≡◌, ◌+◌, ◌<◌, IfErr, IfOk, OnErr, OnOk, None, length, option_map, unwrap_or};
 ghost use Rattle.rpmb_book.specs.Book.{BookView, after_break_off, after_collect, after_settle};
-ghost use Rattle.rpmb_book.specs.Book.{after_take, due_of, found_by, next_intent, refusal};
+ghost use Rattle.rpmb_book.specs.Book.{after_take, due_of, found_by, next_intent, refusal, guest_of, mac_key_of};
 ghost use Rattle.rpmb_book.specs.Book.{settle_answer, share_moved, state, counted_in, take_answer};
 ghost use Rattle.rpmb_book.specs.Fold.{after_submit};
-ghost use Rattle.rpmb_book.specs.Receipt.{submission_seen, turn_seen};
+ghost use Rattle.rpmb_book.specs.Receipt.{submission_seen, turn_seen, HasFrames};
+ghost use Rattle.std.specs.Option.{ForSome};
 
 use flusher::Marks;
 use intent_slots::Intent;
-use mmio_transport::{Done, Job};
-use rpmb_book::{Book, Receipt, Refused, Shares, Tally, TurnView};
+use hmac256::MacKey;
+use rpmb_book::{Book, Checked, Due, Receipt, Refused, Rooms, Shares, Tally, TurnView};
+use rpmb_frame::Limits;
 use std::alloc::Global;
 use std::marker::Model;
 use std::sync::ledger;
@@ -46,19 +48,19 @@ impl<L: Ledger> Desk<L> {
         Desk { book, submits }
     }
 
-    /// `Book::submit`, counted in the caller's share of the ledger where it succeeds.
+    /// `Book::submit_checked`, counted in the caller's share of the ledger where it succeeds.
     pub fn submit(
         &mut self,
         alloc: Global,
         tally: &mut Tally,
         share: &mut Share<L>,
-        job: Job,
-    ) -> Result<Receipt, (Job, Refused)>
+        job: Checked,
+    ) -> Result<(Receipt, Rooms), (Checked, Refused)>
         requires { 0 < share.old.parts }
         ensures made { OnOk result (self.new ≡ after_submit self.old job) }
         ensures tally { OnOk result (tally.new ≡ record tally.old { count = tally.old.count + 1 }) }
         ensures counted { OnOk result (share.new.amount ≡ share.old.amount + 1) }
-        ensures named { IfOk result (λ r. r
+        ensures named { IfOk result (λ r. r.0
             ≡ record {
               life = self.old.life;
               guest = job.guest;
@@ -71,9 +73,9 @@ impl<L: Ledger> Desk<L> {
             × (share.new.amount ≡ share.old.amount)) }
         ensures parts { share.new.parts ≡ share.old.parts }
     {
-        let receipt = self.book.submit(alloc, tally, job)?;
+        let answered = self.book.submit_checked(alloc, tally, job)?;
         self.submits.add(share, 1);
-        Ok(receipt)
+        Ok(answered)
     }
 
     /// `Book::take`.
@@ -93,12 +95,26 @@ impl<L: Ledger> Desk<L> {
         self.book.settle(shares, marks)
     }
 
-    /// `Book::collect`.
-    pub fn collect(&mut self, guest: u16) -> Option<Done>
+    /// `Book::collect_due`.
+    pub fn collect(&mut self, guest: u16) -> Option<Due>
         ensures done { result ≡ due_of self.old guest }
         ensures book { self.new ≡ after_collect self.old guest }
     {
-        self.book.collect(guest)
+        self.book.collect_due(guest)
+    }
+
+    /// `Book::mac_key_of`.
+    pub fn mac_key_of(&self, guest: u16) -> Option<MacKey>
+        ensures { result ≡ mac_key_of self.now guest }
+    {
+        self.book.mac_key_of(guest)
+    }
+
+    /// `Book::limits_of`.
+    pub fn limits_of(&self, guest: u16) -> Option<Limits>
+        ensures { result ≡ option_map (λ g. g.core.limits) (guest_of self.now guest) }
+    {
+        self.book.limits_of(guest)
     }
 
     /// `Book::break_off`.
@@ -125,7 +141,8 @@ impl<L: Ledger> Desk<L> {
 
     /// `Book::find`.
     pub fn find(&self, receipt: &Receipt) -> Option<TurnView<'_>>
-        ensures { option_map turn_seen result ≡ option_map submission_seen (found_by self.now receipt.now) }
+        ensures seen { option_map turn_seen result ≡ option_map submission_seen (found_by self.now receipt.now) }
+        ensures whole { ForSome result HasFrames }
     {
         self.book.find(receipt)
     }

@@ -58,7 +58,12 @@ impl<L: Ledger> Worker<L> {
 
     /// Hands what left the book to the device, and pops what is offered, under the guest's lock. What was
     /// done before a refusal of memory stays.
-    fn exchange(&mut self, rt: &impl Wait, guest: &Mutex<Guest>) -> Result<Exchange, HostFault>
+    fn exchange(
+        &mut self,
+        rt: &impl Wait,
+        alloc: Global,
+        guest: &Mutex<Guest>,
+    ) -> Result<Exchange, HostFault>
         ensures tally { self.new.backlog.tally ≡ self.old.backlog.tally }
         ensures jobs { IfOk result (λ e. Flows self.old.backlog.jobs.items e.popped 0 self.new.backlog.jobs.items) }
         ensures replies { IfOk result (λ e.
@@ -67,7 +72,7 @@ impl<L: Ledger> Worker<L> {
         let mut held = guest.lock(rt);
         let stopped = held.is_stopped();
         let published = self.backlog.publish_all(&mut held);
-        let popped = self.backlog.pop_all(&mut held)?;
+        let popped = self.backlog.pop_all(alloc, &mut held)?;
         Ok(Exchange {
             published,
             popped,
@@ -100,6 +105,7 @@ impl<L: Ledger> Worker<L> {
         let mut held = desk.lock(rt);
         let (answered, full) = self.backlog.submit_all(&mut held, alloc)?;
         let collected = self.backlog.collect_all(&mut held)?;
+        self.backlog.learn(&held);
         Ok(Consulted {
             answered,
             collected,
@@ -144,7 +150,7 @@ impl<L: Ledger> Worker<L> {
     }
 
     /// One look for work, under one lock after the other: the guest's, and the desk's. No lock is held where
-    /// the gate is told.
+    /// the gate is told, nor where a MAC is made.
     pub(crate) fn turn<G: Gate>(
         &mut self,
         rt: &impl Wait,
@@ -157,13 +163,15 @@ impl<L: Ledger> Worker<L> {
             self.old.backlog.tally.count self.old.backlog.jobs.items self.old.backlog.dones.items
             self.new.backlog.tally.count self.new.backlog.jobs.items self.new.backlog.dones.items) }
     {
-        let exchange = self.exchange(rt, seat.guest)?;
+        let exchange = self.exchange(rt, alloc, seat.guest)?;
         self.tell(gate, Place::Published, exchange.published);
         self.tell(gate, Place::Popped, exchange.popped);
         if exchange.published > 0 || exchange.stopped {
             seat.bell.ring_left(rt, seat.driver);
         }
+        self.backlog.prepare(alloc);
         let consulted = self.consult(rt, seat.desk, alloc)?;
+        self.backlog.close();
         self.tell(gate, Place::Submitted, consulted.answered);
         self.ring(rt, seat, consulted);
         Ok(self.next_after(exchange, consulted))
