@@ -64,6 +64,7 @@ fn check_replies(driver: &DriverEnd) -> Result<(), &'static str> {
 
 /// The guest's receipt of this number finds this request, and the reply that was given.
 fn check_found<D: Disk>(
+    alloc: Global,
     ended: &Ended<D>,
     guest: usize,
     number: usize,
@@ -79,30 +80,34 @@ fn check_found<D: Disk>(
         return Err("a receipt that finds nothing");
     };
     ensure(found.request == request, "another request")?;
+    let Ok(closed) = found.closed_reply(alloc) else {
+        return Err("no memory for the reply");
+    };
     match driver.answers.get(number) {
-        Some(Answer::Used(reply)) => ensure(found.reply == reply.as_slice(), "another reply"),
+        Some(Answer::Used(reply)) => ensure(closed == *reply, "another reply"),
         _ => Err("no reply"),
     }
 }
 
 /// What a worker leaves of its guest: two requests were answered, with a receipt each that finds its request.
 fn check_served<D: Disk>(
+    alloc: Global,
     ended: &Ended<D>,
     guest: usize,
     served: &Served,
 ) -> Result<(), &'static str> {
     ensure(served.tally.count() == 2, "another tally")?;
     ensure(served.receipts.len() == 2, "another number of receipts")?;
-    check_found(ended, guest, 0, program_key(&KEY).as_flattened())?;
-    check_found(ended, guest, 1, get_write_counter(1).as_flattened())
+    check_found(alloc, ended, guest, 0, program_key(&KEY).as_flattened())?;
+    check_found(alloc, ended, guest, 1, get_write_counter(1).as_flattened())
 }
 
 /// Two guests were served to their ends.
-fn check_ended<D: Disk>(ended: &Ended<D>) -> Result<(), &'static str> {
+fn check_ended<D: Disk>(alloc: Global, ended: &Ended<D>) -> Result<(), &'static str> {
     ensure(!ended.broken, "a broken store")?;
     ensure(ended.book.submit_turns() == 4, "another number of turns")?;
     for (guest, served) in ended.served.iter().enumerate() {
-        check_served(ended, guest, served)?;
+        check_served(alloc, ended, guest, served)?;
     }
     check_all_replies(&ended.drivers)
 }
@@ -115,9 +120,12 @@ fn check_all_replies(drivers: &[DriverEnd]) -> Result<(), &'static str> {
 }
 
 /// A run came to its end, with two guests served.
-fn check_outcome<D: Disk>(outcome: &Result<Ended<D>, HostFault>) -> Result<(), &'static str> {
+fn check_outcome<D: Disk>(
+    alloc: Global,
+    outcome: &Result<Ended<D>, HostFault>,
+) -> Result<(), &'static str> {
     match outcome {
-        Ok(ended) => check_ended(ended),
+        Ok(ended) => check_ended(alloc, ended),
         Err(_) => Err("a fault"),
     }
 }
@@ -139,7 +147,7 @@ fn checked<R: Threads + Wait + Sync>(
     steps: &[Step],
 ) -> Result<Result<(), &'static str>, Fail> {
     let outcome = outcome_of(rt, alloc, steps)?;
-    Ok(check_outcome(&outcome))
+    Ok(check_outcome(alloc, &outcome))
 }
 
 #[test]
@@ -153,5 +161,5 @@ fn runs_that_serve_nobody_are_caught(rt: HostRuntime) -> Result<(), Fail> {
     let nothing = checked(&rt, rt.alloc(), &[])?;
     check(nothing.is_err(), "a run of nothing passed")?;
     let refused: Result<Ended<CutDisk>, HostFault> = Err(HostFault::NoMemory);
-    check(check_outcome(&refused).is_err(), "want of memory passed")
+    check(check_outcome(rt.alloc(), &refused).is_err(), "want of memory passed")
 }
