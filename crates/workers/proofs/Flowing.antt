@@ -55,6 +55,10 @@ flows_first a x b is = record { added = []; gone = x ∷ []; all = append-nil a 
 pub flows_same : {A : Type 0} (a b : List A) → b ≡ a → Flows a 0 0 b
 flows_same a b is = rw is (flows_none a)
 
+-- between lines that are the same
+pub flows_between : {A : Type 0} {a b c d : List A} {m n : ℕ} → Flows b m n c → b ≡ a → d ≡ c → Flows a m n d
+flows_between {A} {a} {b} {c} {d} {m} {n} f from to = rw (← from, to) f
+
 -- what a pop gave waits behind the others
 pub flows_popped : (old : List Job) (answer : Result (Option Job) DeviceFault) (popped : Bool) (new : List Job)
     → Takes old answer popped new → Flows old (if popped then 1 else 0) 0 new

@@ -186,10 +186,10 @@ impl<L: Ledger> Backlog<L> {
         let Some(job) = self.jobs.pop_front() else {
             return Ok(Handed::Nothing);
         };
-        match desk.submit(alloc, &mut self.tally, &mut self.share, job) {
-            Ok((receipt, left)) => {
+        let spares = &mut self.spares;
+        match desk.submit(alloc, &mut self.tally, &mut self.share, spares, job) {
+            Ok(receipt) => {
                 self.receipts.push_reserved(receipt);
-                self.keep(left);
                 Ok(Handed::Answered)
             }
             Err((job, refused)) => {
@@ -201,16 +201,6 @@ impl<L: Ledger> Backlog<L> {
                     Refused::Foreign => Err(HostFault::Foreign),
                 }
             }
-        }
-    }
-
-    /// Keeps memory for jobs to come, as much as a batch needs.
-    fn keep(&mut self, left: Rooms)
-        ensures rest { (self.new.tally ≡ self.old.tally) × (self.new.receipts ≡ self.old.receipts) }
-        ensures lines { (self.new.jobs ≡ self.old.jobs) × (self.new.dones ≡ self.old.dones) }
-    {
-        if self.spares.len() < BATCH && self.spares.push(left).is_err() {
-            // Without a place for it the memory goes.
         }
     }
 

@@ -17,6 +17,9 @@ use std::marker::Model;
 use std::sync::ledger;
 use std::sync::ledger::{Ledger, Share};
 
+/// How much memory is kept for jobs to come, in jobs: that of a batch.
+const SPARES: usize = 8;
+
 /// The book, and a ledger's book whose total is the number of its Submit turns, those that were
 /// folded too. All threads make their calls here, one at a time: each call is the book's, so the
 /// state is the replay of one history.
@@ -48,19 +51,21 @@ impl<L: Ledger> Desk<L> {
         Desk { book, submits }
     }
 
-    /// `Book::submit_checked`, counted in the caller's share of the ledger where it succeeds.
+    /// `Book::submit_checked`, counted in the caller's share of the ledger where it succeeds. The memory
+    /// that is left goes to the caller's spare.
     pub fn submit(
         &mut self,
         alloc: Global,
         tally: &mut Tally,
         share: &mut Share<L>,
+        spares: &mut Vec<Rooms>,
         job: Checked,
-    ) -> Result<(Receipt, Rooms), (Checked, Refused)>
+    ) -> Result<Receipt, (Checked, Refused)>
         requires { 0 < share.old.parts }
         ensures made { OnOk result (self.new ≡ after_submit self.old job) }
         ensures tally { OnOk result (tally.new ≡ record tally.old { count = tally.old.count + 1 }) }
         ensures counted { OnOk result (share.new.amount ≡ share.old.amount + 1) }
-        ensures named { IfOk result (λ r. r.0
+        ensures named { IfOk result (λ r. r
             ≡ record {
               life = self.old.life;
               guest = job.guest;
@@ -73,9 +78,10 @@ impl<L: Ledger> Desk<L> {
             × (share.new.amount ≡ share.old.amount)) }
         ensures parts { share.new.parts ≡ share.old.parts }
     {
-        let answered = self.book.submit_checked(alloc, tally, job)?;
+        let (receipt, left) = self.book.submit_checked(alloc, tally, job)?;
         self.submits.add(share, 1);
-        Ok(answered)
+        keep(spares, left);
+        Ok(receipt)
     }
 
     /// `Book::take`.
@@ -162,5 +168,12 @@ impl<L: Ledger> Desk<L> {
     {
         let Desk { book, submits: _ } = self;
         book
+    }
+}
+
+/// Keeps memory for a job to come. Without a place for it, it goes.
+fn keep(spares: &mut Vec<Rooms>, left: Rooms) {
+    if spares.len() < SPARES {
+        let _ = spares.push(left);
     }
 }
