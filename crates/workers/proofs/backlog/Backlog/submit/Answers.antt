@@ -1,6 +1,8 @@
 use Rattle.std.proofs.Common.{◌∷◌, ap, sym, ◌∙◌, rules}
 use Rattle.std.specs.Prelude.{slice_get}
 use Rattle.workers.proofs.Flowing.{flows_first, flows_same, last_pushed}
+use Rattle.rpmb_book.specs.Book.{guest_of, is_full}
+use Rattle.workers.proofs.Receipts.{is_own, own_pushed}
 use Rattle.workers.proofs.backlog.Backlog.submit.Goals as goal
 
 pub returns-in-Ok-clause-jobs : goal.returns-in-Ok-clause-jobs
@@ -16,3 +18,11 @@ returns-in-Busy-clause-jobs g c = flows_same _ _ (c.push_front_reserved.ensures.
 
 pub returns-in-HistoryFull-clause-jobs : goal.returns-in-HistoryFull-clause-jobs
 returns-in-HistoryFull-clause-jobs g c = flows_same _ _ (c.push_front_reserved.ensures.items ∙ ap (λ j. j ∷ c.pop_front.new.self.items) c.in-Err.ensures.given_back ∙ sym c.in-Some.ensures.items ∙ c.try_reserve.ensures.items)
+
+pub invariant_of-self-in-Ok-clause-own : goal.invariant_of-self-in-Ok-clause-own
+invariant_of-self-in-Ok-clause-own g c =
+    let b = c.args.desk.now in
+    let allowed = is_own (is_full b) c.args.self.now.tally c.in-Some.job (guest_of b c.in-Some.job.guest) c.in-Ok.ensures.allowed in
+    let same = ap (λ t. t.guest) c.in-Ok.ensures.tally in
+    own_pushed c.submit.new.tally.guest c.reserve.new.self.items c.in-Ok.receipt c.push_reserved.new.self.items
+    (search rules) (ap (λ r. r.guest) c.in-Ok.ensures.named ∙ allowed ∙ sym same) c.push_reserved.ensures.items
