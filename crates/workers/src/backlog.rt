@@ -6,8 +6,8 @@ ghost use Rattle.workers.specs.Turns.{Collects, Flows, HandsOver, Takes, answere
 
 use crate::desk::Desk;
 use crate::seat::Guest;
-use host::HostFault;
 use hmac256::MacKey;
+use host::HostFault;
 use mmio_transport::{DeviceFault, Job};
 use rpmb_book::{Checked, Due, Receipt, Refused, Rooms, Tally};
 use rpmb_frame::Limits;

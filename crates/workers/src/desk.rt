@@ -8,8 +8,8 @@ ghost use Rattle.rpmb_book.specs.Receipt.{submission_seen, turn_seen, HasFrames}
 ghost use Rattle.std.specs.Option.{ForSome};
 
 use flusher::Marks;
-use intent_slots::Intent;
 use hmac256::MacKey;
+use intent_slots::Intent;
 use rpmb_book::{Book, Checked, Due, Receipt, Refused, Rooms, Shares, Tally, TurnView};
 use rpmb_frame::Limits;
 use std::alloc::Global;

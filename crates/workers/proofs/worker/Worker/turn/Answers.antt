@@ -1,4 +1,4 @@
-use Rattle.std.proofs.Common.{ap, refl, rules}
+use Rattle.std.proofs.Common.{ap, rules}
 use Rattle.workers.proofs.Flowing.{flows_between, flows_past, flows_through}
 use Rattle.workers.proofs.worker.Worker.turn.Goals as goal
 
