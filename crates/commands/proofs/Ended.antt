@@ -1,6 +1,6 @@
 -- Which faults end a command.
-use Rattle.std.proofs.Common.{◌≡◌, ℕ, List, Option, None, Some, Ok, Err, Result, inl, inr, length, map, refl, subst, true}
-use Rattle.std.specs.Prelude.{IfErr, IfSome}
+use Rattle.std.proofs.Common.{◌≡◌, ℕ, List, Option, Some, Ok, Err, Result, inl, inr, length, map, refl, subst, true}
+use Rattle.std.specs.Prelude.{IfErr}
 use Rattle.rpmb_frame.specs.declared.config.GuestConfig.{GuestConfig}
 use Rattle.commands.specs.declared.fault.Fault.{Fault}
 use Rattle.commands.specs.declared.fault.Fault.TheVariants as fault

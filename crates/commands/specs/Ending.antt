@@ -1,8 +1,6 @@
 -- Why a command ends with a fault, and what it has printed then.
 use Rattle.std.specs.Prelude.{◌≡◌, ◌⊎◌, ℕ, ◌++◌, ◌∷◌, [], List, Option, None, length, map, true, Bool, Some}
 use Rattle.std.specs.Io.KnownBytes.{Appends, Keeps}
-use Rattle.command_line.specs.declared.command.Command.{Command}
-use Rattle.command_line.specs.declared.command.Command.TheVariants as command
 use Rattle.rpmb_frame.specs.declared.config.GuestConfig.{GuestConfig}
 use Rattle.disk.specs.Disk.{DiskCall, DiskState, HasRisen}
 use Rattle.script.specs.Script.{first_bad, lines_of}
@@ -11,51 +9,13 @@ use Rattle.recovery.specs.Format.{IsFormatted}
 use Rattle.recovery.specs.Opening.{IsImage, IsOther, IsUnformatted, SyncsFirst}
 use Rattle.commands.specs.declared.fault.Fault.{Fault}
 use Rattle.commands.specs.declared.fault.Fault.TheVariants as fault
-use Rattle.commands.specs.Fault.{fault_line}
 use Rattle.script.specs.Line.{Said, said}
 use Rattle.script.specs.declared.line.Line.{Line}
 use Rattle.rpmb_frame.specs.Partition.{Partition}
 use Rattle.commands.specs.Image.{AreOf}
 use Rattle.commands.specs.Running.{AreWithin, IsChain, answered_in}
 use Rattle.commands.specs.Transcript.{IsBadAt, Says, StoresNothing, Told, first_told}
-use Rattle.commands.specs.Serving.{ServeEnds, ServePrints}
-use Rattle.commands.specs.Upgrading.{UpgradeEnds}
 use Rattle.commands.specs.Failing.{HasFailed, IsChainAt, text_when}
-
-abbrev pub IsRun : Command → Type 0
-IsRun (command.Run board script) = Unit {0}
-IsRun (command.Format board) = ⊥
-IsRun (command.Show board) = ⊥
-IsRun (command.Upgrade board) = ⊥
-IsRun (command.Serve board script) = ⊥
-
-abbrev pub IsFormat : Command → Type 0
-IsFormat (command.Run board script) = ⊥
-IsFormat (command.Format board) = Unit {0}
-IsFormat (command.Show board) = ⊥
-IsFormat (command.Upgrade board) = ⊥
-IsFormat (command.Serve board script) = ⊥
-
-abbrev pub IsShow : Command → Type 0
-IsShow (command.Run board script) = ⊥
-IsShow (command.Format board) = ⊥
-IsShow (command.Show board) = Unit {0}
-IsShow (command.Upgrade board) = ⊥
-IsShow (command.Serve board script) = ⊥
-
-abbrev pub IsUpgrade : Command → Type 0
-IsUpgrade (command.Run board script) = ⊥
-IsUpgrade (command.Format board) = ⊥
-IsUpgrade (command.Show board) = ⊥
-IsUpgrade (command.Upgrade board) = Unit {0}
-IsUpgrade (command.Serve board script) = ⊥
-
-abbrev pub IsServe : Command → Type 0
-IsServe (command.Run board script) = ⊥
-IsServe (command.Format board) = ⊥
-IsServe (command.Show board) = ⊥
-IsServe (command.Upgrade board) = ⊥
-IsServe (command.Serve board script) = Unit {0}
 
 -- each line of the script says what a script may say
 abbrev pub IsReadable : List GuestConfig → List ℕ → Type 0
@@ -154,13 +114,6 @@ ShowEnds capacities old new fault.DiskFault = HasRisen old.failures new.failures
 ShowEnds capacities old new fault.NotFormatted = old.faithful ≡ true → IsUnformatted capacities old.len old.seen
 ShowEnds capacities old new fault.OtherConfig = old.faithful ≡ true → IsOther capacities old.len old.seen
 ShowEnds capacities old new fault.BadBoard = ⊥
-
-abbrev pub Ends : Command → List GuestConfig → List ℕ → DiskState → DiskState → Fault → Type 0
-Ends (command.Run b s) board script old new f = RunEnds board script old new f
-Ends (command.Format b) board script old new f = FormatEnds (capacities_of board) old new f
-Ends (command.Show b) board script old new f = ShowEnds (capacities_of board) old new f
-Ends (command.Upgrade b) board script old new f = UpgradeEnds (capacities_of board) old new f
-Ends (command.Serve b s) board script old new f = ServeEnds board script old f
 
 -- The disk was not called at all, or synced and then only read.
 pub data IsReadAlone {D : Type 0} (makes : D → DiskCall → D → Type 0) (old new : D) : Type 0 where
@@ -284,24 +237,9 @@ RunPrints board script old new fault.NoMemory start now =
     Keeps start now ⊎ PrintsFront board script old new fault.NoMemory start now
 RunPrints board script old new f start now = PrintsFront board script old new f start now
 
--- What a command that ends with a fault has printed.
-abbrev pub Prints : Command → List GuestConfig → List ℕ → DiskState → DiskState → Fault
-    → Option (List ℕ) → Option (List ℕ) → Type 0
-Prints (command.Run b s) board script old new f start now = RunPrints board script old new f start now
-Prints (command.Format b) board script old new f start now = KeepsUnless f start now
-Prints (command.Show b) board script old new f start now = KeepsUnless f start now
-Prints (command.Upgrade b) board script old new f start now = KeepsUnless f start now
-Prints (command.Serve b s) board script old new f start now = ServePrints board script f start now
-
 -- A writer took the text, or a front of it and then no more.
 pub record Takes (start now : Option (List ℕ)) (text : List ℕ) : Type 0 where
   pub front : List ℕ
   pub rest : List ℕ
   pub parts : text ≡ front ++ rest
   pub appended : Appends start now front
-
--- A fault that ends a command has its reason. Its line went to standard error, as far as that took it.
-pub record Fails (cause : Fault → Type 0) (start now : Option (List ℕ)) : Type 0 where
-  pub fault : Fault
-  pub caused : cause fault
-  pub told : Takes start now (fault_line fault)

@@ -4,6 +4,7 @@ pub mod Transcript
 pub mod Reasons
 pub mod Running
 pub mod Calling
+pub mod Commands
 pub mod Listing
 pub mod Upgrading
 pub mod ServedImage

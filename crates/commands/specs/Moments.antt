@@ -8,13 +8,9 @@ use Rattle.rpmb_frame.specs.Request.{Request}
 use Rattle.rpmb_frame.specs.declared.config.GuestConfig.{GuestConfig}
 use Rattle.rpmb_core.specs.Requests.{partition_after_all}
 use Rattle.disk.specs.Disk.{DiskCall, DiskState, HasRisen, Within}
-use Rattle.intent_slots.specs.Layout.{capacities_of}
-use Rattle.recovery.specs.Format.{ClearsFirst}
 use Rattle.recovery.specs.Opening.{Untouched}
 use Rattle.script.specs.Line.{Said, nothing, chain, said, store, reset}
 use Rattle.script.specs.declared.line.Line.{Line}
-use Rattle.command_line.specs.declared.command.Command.{Command}
-use Rattle.command_line.specs.declared.command.Command.TheVariants as command
 use Rattle.board.specs.Board.{LeavesPrefixes, StaysLinked, marks_in}
 use Rattle.board.specs.Opening.{bases_of}
 use Rattle.board.specs.State.{BoardState}
@@ -28,8 +24,7 @@ use Rattle.commands.specs.Failing.{IsFailedIn, text_when, told_when}
 use Rattle.commands.specs.Image.{AreOf}
 use Rattle.commands.specs.Reasons.{IsHostOf, NextEnds, StoresInside}
 use Rattle.commands.specs.Running.{AreWithin, IsAt}
-use Rattle.commands.specs.ServedImage.{ServeMoments}
-use Rattle.commands.specs.Transcript.{Says, StoresNothing, first_told}
+use Rattle.commands.specs.Transcript.{StoresNothing, first_told}
 use Rattle.commands.specs.declared.fault.Fault.{Fault}
 use Rattle.commands.specs.declared.fault.Fault.TheVariants as fault
 
@@ -189,19 +184,6 @@ abbrev pub AnyMoment : {D : Type 0} → (D → DiskState) → (D → DiskCall �
     → Option (List ℕ) → Type 0
 AnyMoment shows makes board all old start ended new now =
     IsRefused shows makes old start ended new now ⊎ WholeRun shows makes board all old start ended new now
-
--- And of a command that a fault ended: a format writes zeros alone until a sync succeeded, and leaves empty partitions
--- from then on; a serve leaves the image as it was, or whole intents of its guests.
-abbrev pub FaultMoments : {D : Type 0} → (D → DiskState) → (D → DiskCall → D → Type 0) → Command
-    → List GuestConfig → List ℕ → D → Option (List ℕ) → Fault → D → Option (List ℕ) → Type 0
-FaultMoments shows makes (command.Run b s) board script old start f new now = (lines : List Said)
-    → Says board script lines → AnyMoment shows makes board lines old start (Err f) new now
-FaultMoments shows makes (command.Format b) board script old start f new now =
-    ClearsFirst shows makes (capacities_of board) old new
-FaultMoments shows makes (command.Show b) board script old start f new now = Unit {0}
-FaultMoments shows makes (command.Upgrade b) board script old start f new now = Unit {0}
-FaultMoments shows makes (command.Serve b s) board script old start f new now =
-    ServeMoments shows makes board old f new
 
 -- 1. Within a run
 

@@ -10,7 +10,6 @@ ghost use Rattle.commands.specs.Listing.{formatted_line};
 use crate::fault::Fault;
 use disk::Disk;
 use intent_slots::Layout;
-use recovery::format;
 use rpmb_frame::BoardConfig;
 use std::io::Write;
 
@@ -29,11 +28,16 @@ fn write_length<W: Write>(length: u64, out: &mut W) -> Result<(), Fault>
     }
 }
 
-/// Makes a fresh image of the board over all that the disk holds, and prints its length. The disk has
-/// that length.
-pub fn make_image<D: Disk, W: Write>(
-    disk: &mut D,
+/// Makes a fresh image of the board over all that the disk holds, which has the image's length in bytes, and prints
+/// that length. After a fault it has written zeros alone, until a sync succeeded; from then on every stop leaves empty
+/// partitions.
+///
+/// # Errors
+///
+/// `DiskFault` where a call of the disk failed; `FileFault` where the image is made and standard output took no more.
+pub fn format<D: Disk, W: Write>(
     board: &BoardConfig,
+    disk: &mut D,
     out: &mut W,
 ) -> Result<(), Fault>
     requires { (D.state disk.old).len ≡ image_length (capacities_of board.now) }
@@ -45,7 +49,7 @@ pub fn make_image<D: Disk, W: Write>(
     ensures silent { IfErr result (λ fault. KeepsUnless fault (W.contents out.old) (W.contents out.new)) }
     ensures order { ClearsFirst D.state D.makes (capacities_of board.now) disk.old disk.new }
 {
-    match format(disk, board) {
+    match recovery::format(disk, board) {
         Ok(()) => write_length(Layout::of(board).length(), out),
         Err(fault) => Err(Fault::of_image(fault)),
     }

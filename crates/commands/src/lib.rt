@@ -21,8 +21,13 @@ mod upgrading;
 
 pub use fault::Fault;
 pub use files::{read_board_file, read_image_board, read_text};
+pub use formatting::format;
 pub use image_files::{create_image, open_image, open_shown};
 pub use performing::perform;
 pub use program::{REFUSED, status_of};
 pub use reporting::report;
+pub use running::run;
+pub use serving::serve;
+pub use showing::show;
 pub use shown_file::ShownFile;
+pub use upgrading::upgrade;

@@ -2,7 +2,7 @@
 ghost use Rattle.std.specs.Prelude.{◌≡◌};
 ghost use Rattle.disk.specs.Disk.{DiskState};
 ghost use Rattle.intent_slots.specs.Layout.{capacities_of, image_length};
-ghost use Rattle.commands.specs.Ending.{IsFormat};
+ghost use Rattle.commands.specs.Commands.{IsFormat};
 
 use crate::fault::Fault;
 use crate::files::{read_board_file, read_image_board, read_text};

@@ -1,5 +1,6 @@
 //! What the program says of the fault that ends it.
 ghost use Rattle.std.specs.Prelude.{◌≡◌};
+ghost use Rattle.commands.specs.Commands.{TellsEnd};
 ghost use Rattle.commands.specs.Ending.{Takes};
 ghost use Rattle.commands.specs.Fault.{fault_line};
 
@@ -47,4 +48,14 @@ pub fn report<E: Write>(fault: Fault, err: &mut E) -> u8
         Err(_) => {}
     }
     1
+}
+
+/// Gives the status that tells how a command ended, and writes the line of the fault that ended it, if there is one.
+pub(crate) fn status_after<E: Write>(ended: Result<(), Fault>, err: &mut E) -> u8
+    ensures { TellsEnd ended result (E.contents err.old) (E.contents err.new) }
+{
+    match ended {
+        Ok(()) => 0,
+        Err(fault) => report(fault, err),
+    }
 }

@@ -221,7 +221,15 @@ fn run_on<D: Disk, W: Write>(
     }
 }
 
-/// Performs a script on the partitions of an image. All its lines are read before the image is opened.
+/// Performs a script on the partitions of an image, its lines one after another, and tells of each once it is settled.
+/// All lines are read before the image is opened.
+///
+/// # Errors
+///
+/// `BadScript` of the first line that says nothing that a script may say, before the disk is called; `NotFormatted` and
+/// `OtherConfig` where the disk holds no image, or another board's; `DiskFault` where a call of the disk failed, once
+/// all lines are at their end; at a line `NoMemory`, `HistoryFull` where 2^64 - 1 chains were answered, or `OutOfRange`
+/// where its bytes don't all lie in the guest's memory; `FileFault` where standard output took no more.
 pub fn run<D: Disk, W: Write>(
     alloc: Global,
     board: &BoardConfig,

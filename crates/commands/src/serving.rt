@@ -133,10 +133,17 @@ fn serve_on<D: Disk + Send + Drop, W: Write, R: Threads + Wait + Sync>(
 
 /// Performs a script on the partitions of an image, all guests at once: each guest's lines in their order,
 /// but beside the lines of the others. At the end it writes guest 0's lines, then guest 1's, and so on. All
-/// lines are read before the image is opened, and none of them may store.
-pub fn serve<D: Disk + Send + Drop, W: Write, R: Threads + Wait + Sync>(
+/// lines are read before the image is opened, and none of them may store. The disk is lost where the threads came to a
+/// fault.
+///
+/// # Errors
+///
+/// `BadScript` of the first line that stores, or says nothing that a script may say, before the disk is called;
+/// `NotFormatted` and `OtherConfig` where the disk holds no image, or another board's; `DiskFault` where a call of the
+/// disk failed, once all lines are printed; `NoMemory`, and what a host may tell of a chain; `FileFault` where standard
+/// output took no more.
+pub fn serve<R: AllocGlobal + Threads + Wait + Sync, D: Disk + Send + Drop, W: Write>(
     rt: &R,
-    alloc: Global,
     board: &BoardConfig,
     script: &str,
     disk: D,
@@ -152,6 +159,7 @@ pub fn serve<D: Disk + Send + Drop, W: Write, R: Threads + Wait + Sync>(
     ensures bad { (n : ℕ) → IsUnservedAt board.now script.now n
         → IsErr result.0 × Keeps (W.contents out.old) (W.contents out.new) × (result.1 ≡ Some disk) }
 {
+    let alloc = rt.alloc();
     match read_served(alloc, script, board) {
         Ok(lines) => serve_on(rt, alloc, board, lines, disk, out),
         Err(fault) => (Err(fault), Some(disk)),

@@ -153,12 +153,17 @@ fn write_listing<W: Write>(partitions: &[Partition], out: &mut W) -> Result<(), 
     }
 }
 
-/// Opens the image of the board, and lists its partitions. It gives the disk back, which it has only
-/// synced and read.
-pub fn show_image<D: Disk, W: Write>(
+/// Opens the image of the board, and lists its partitions. It gives the disk back, which it has only synced and read.
+///
+/// # Errors
+///
+/// `NoMemory` where memory was refused, before any call; `DiskFault` where a call of the disk failed; `NotFormatted`
+/// and `OtherConfig` where the disk holds no image, or another board's; `FileFault` where the image was opened and
+/// standard output took no more.
+pub fn show<D: Disk, W: Write>(
     alloc: Global,
-    disk: D,
     board: &BoardConfig,
+    disk: D,
     out: &mut W,
 ) -> (Result<(), Fault>, D)
     ensures shown { OnOk result.0 (Lists (capacities_of board.now) (D.state disk)

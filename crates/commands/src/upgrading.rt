@@ -9,7 +9,7 @@ ghost use Rattle.commands.specs.Upgrading.{PrintsUpgrade, UpgradeEnds, upgraded_
 
 use crate::fault::Fault;
 use disk::Disk;
-use recovery::{Upgraded, upgrade};
+use recovery::Upgraded;
 use rpmb_frame::BoardConfig;
 use std::io::Write;
 
@@ -34,9 +34,14 @@ fn write_done<W: Write>(done: Upgraded, out: &mut W) -> Result<(), Fault>
 
 /// Makes the image of the board one of version 2, and prints whether it did. At each moment every stop leaves
 /// what stands for the partitions that stood before.
-pub fn upgrade_image<D: Disk, W: Write>(
-    disk: &mut D,
+///
+/// # Errors
+///
+/// `DiskFault` where a call of the disk failed; `NotFormatted` and `OtherConfig` where the disk holds no header of an
+/// image, or another board's; `FileFault` where the image is of version 2 and standard output took no more.
+pub fn upgrade<D: Disk, W: Write>(
     board: &BoardConfig,
+    disk: &mut D,
     out: &mut W,
 ) -> Result<(), Fault>
     ensures stands { StandsThroughout D.state D.makes (capacities_of board.now) disk.old disk.new }
@@ -46,7 +51,7 @@ pub fn upgrade_image<D: Disk, W: Write>(
     ensures ends { IfErr result (UpgradeEnds (capacities_of board.now) (D.state disk.old) (D.state disk.new)) }
     ensures silent { IfErr result (λ fault. KeepsUnless fault (W.contents out.old) (W.contents out.new)) }
 {
-    match upgrade(disk, board) {
+    match recovery::upgrade(disk, board) {
         Ok(done) => write_done(done, out),
         Err(fault) => Err(Fault::of_image(fault)),
     }

@@ -6,7 +6,7 @@ use Rattle.commands.specs.Ending.{IsReadAlone, ShowEnds, Synced}
 use Rattle.rpmb_frame.specs.Partition.{IsWhole, Partition}
 use Rattle.commands.proofs.Ended.{read_alone, show_ends}
 use Rattle.commands.proofs.Listed.{all_small, few, lists}
-use Rattle.commands.proofs.showing.show_image.Goals as goal
+use Rattle.commands.proofs.showing.show.Goals as goal
 
 pub write_listing-written-requires-clause-few : goal.write_listing-written-requires-clause-few
 write_listing-written-requires-clause-few g c =

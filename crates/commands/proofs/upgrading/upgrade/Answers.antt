@@ -2,7 +2,7 @@ use Rattle.std.proofs.Common.{subst, sym}
 use Rattle.intent_slots.specs.Layout.{capacities_of}
 use Rattle.commands.specs.Upgrading.{UpgradeEnds}
 use Rattle.commands.proofs.Ended.{upgrade_ends}
-use Rattle.commands.proofs.upgrading.upgrade_image.Goals as goal
+use Rattle.commands.proofs.upgrading.upgrade.Goals as goal
 
 pub returns-in-Err-clause-ends : goal.returns-in-Err-clause-ends
 returns-in-Err-clause-ends g c =
