@@ -8,6 +8,8 @@ use Rattle.rpmb_frame.specs.Table.{first_row}
 use Rattle.script.specs.Words.{number_of}
 use Rattle.rpmb_client.specs.declared.values.ValueFault.{ValueFault}
 use Rattle.rpmb_client.specs.declared.values.ValueFault.TheVariants as fault
+use Rattle.rpmb_client.specs.declared.values.KeyFault.{KeyFault}
+use Rattle.rpmb_client.specs.declared.values.KeyFault.TheVariants as key_fault
 
 -- a number of at most `most`
 abbrev pub at_most : ℕ → Option ℕ → Option ℕ
@@ -48,3 +50,13 @@ end_length content = first_row (
 -- the digits in a file, without the end of their line
 abbrev pub digits_of : List ℕ → List ℕ
 digits_of content = slice_range content 0 (length content - end_length content)
+
+-- the key in a file: 64 hex digits, behind which a line may end, and no file of 32 bytes
+abbrev pub key_said : List ℕ → Option (List ℕ)
+key_said content = if length content == 32 then None else array_said 32 (digits_of content)
+
+-- why the content of a file says no key
+abbrev pub IsWhyNoKey : List ℕ → KeyFault → Type 0
+IsWhyNoKey content key_fault.RawKey = length content ≡ 32
+IsWhyNoKey content (key_fault.BadDigits why) =
+    (length content ≢ 32) × IsWhyNot 32 (digits_of content) why

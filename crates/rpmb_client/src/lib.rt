@@ -27,4 +27,6 @@ pub use lines::{
     Writer, write_all, write_program_key, write_read, write_read_counter, write_result,
 };
 pub use making::{ask_for_result, join, program_key, read_blocks, read_counter, write_blocks};
-pub use values::{ValueFault, array_of, bytes_of, digits_of, number_of, sized};
+pub use values::{
+    KeyFault, ValueFault, array_of, bytes_of, digits_of, key_in_file, number_of, sized,
+};

@@ -2,8 +2,8 @@
 ghost use Rattle.std.specs.Prelude.{◌≡◌, ◌⊎◌, ◌≤◌, Err, IfErr, IfOk, IfSome, Some, length};
 ghost use Rattle.hex.specs.Hex.{decode_of};
 ghost use Rattle.hex.specs.declared.error.FromHexError.{FromHexError};
-ghost use Rattle.rpmb_client.specs.Values.{IsWhyNot, array_said, bytes_said, digits_of};
-ghost use Rattle.rpmb_client.specs.Values.{end_length, number_said, sized_said};
+ghost use Rattle.rpmb_client.specs.Values.{IsWhyNot, IsWhyNoKey, array_said, bytes_said, digits_of};
+ghost use Rattle.rpmb_client.specs.Values.{end_length, key_said, number_said, sized_said};
 
 use hex::FromHexError;
 use script::read_number;
@@ -22,6 +22,17 @@ pub enum ValueFault {
     /// They say this many bytes, and another number was wanted.
     #[error("BadLength")]
     BadLength(usize),
+}
+
+/// Why the content of a file says no key.
+#[derive(Clone, Copy, Debug, Error)]
+pub enum KeyFault {
+    /// It has 32 bytes, which may be a key itself, and so are never taken for its digits.
+    #[error("RawKey")]
+    RawKey,
+    /// It hasn't just the digits of 32 bytes, behind which a line may end.
+    #[error("BadDigits")]
+    BadDigits(ValueFault),
 }
 
 /// The number of at most `most` that a word of decimal digits writes; leading zeros are allowed.
@@ -102,4 +113,19 @@ pub fn digits_of(content: &[u8]) -> &[u8]
     ensures { result.now ≡ digits_of content.now }
 {
     &content[..content.len() - end_length(content)]
+}
+
+/// The key in a file: its 64 hex digits, behind which a line may end. A file of 32 bytes is
+/// refused.
+pub fn key_in_file(alloc: Global, content: &[u8]) -> Result<[u8; 32], KeyFault>
+    ensures ok { IfOk result (λ key. key_said content.now ≡ Some key) }
+    ensures err { IfErr result (IsWhyNoKey content.now) }
+{
+    if content.len() == 32 {
+        return Err(KeyFault::RawKey);
+    }
+    match array_of(alloc, digits_of(content)) {
+        Ok(key) => Ok(key),
+        Err(fault) => Err(KeyFault::BadDigits(fault)),
+    }
 }

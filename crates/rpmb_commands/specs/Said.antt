@@ -1,12 +1,14 @@
 -- The values that options say, or why a command is refused without them.
-use Rattle.std.specs.Prelude.{ℕ, ◌≡◌, ◌≢◌, ◌⊎◌, ◌==◌, if◌then◌else◌, List, length, Option, Some}
-use Rattle.std.specs.Prelude.{None, option_and_then, Result, Ok, Err}
+use Rattle.std.specs.Prelude.{ℕ, ◌≡◌, ◌⊎◌, List, Option, Some, None, option_and_then}
+use Rattle.std.specs.Prelude.{Result, Ok, Err}
 use Rattle.std.specs.Borrow.{Bor}
 use Rattle.hex.specs.Hex.{decode_of}
 use Rattle.hex.specs.declared.error.FromHexError.{FromHexError}
 use Rattle.rpmb_client.specs.Values as values
 use Rattle.rpmb_client.specs.declared.values.ValueFault.{ValueFault}
 use Rattle.rpmb_client.specs.declared.values.ValueFault.TheVariants as fault
+use Rattle.rpmb_client.specs.declared.values.KeyFault.{KeyFault}
+use Rattle.rpmb_client.specs.declared.values.KeyFault.TheVariants as key_fault
 use Rattle.rpmb_commands.specs.declared.refusal.Refusal.{Refusal}
 use Rattle.rpmb_commands.specs.declared.refusal.Number.{Number}
 use Rattle.rpmb_commands.specs.declared.refusal.Refusal.TheVariants as refusal
@@ -25,20 +27,17 @@ number_said (Some word) most what = or_refused (refusal.Number what word) (value
 abbrev pub nonce_said : Option (List ℕ) → Option (List ℕ)
 nonce_said word = option_and_then (values.array_said 16) word
 
--- 64 hex digits, behind which a line may end, and no file of 32 bytes
-abbrev pub hex_key : List ℕ → Option (List ℕ)
-hex_key content = if length content == 32 then None else values.array_said 32 (values.digits_of content)
-
 -- how digits that say no key are refused
 abbrev pub refusal_of_digits : ValueFault → Refusal
 refusal_of_digits fault.NoMemory = refusal.NoMemory
 refusal_of_digits (fault.BadHex why) = refusal.BadHex why
 refusal_of_digits (fault.BadLength count) = refusal.BadKey count
 
-abbrev pub refusal_of_file : Bor (List ℕ) → ValueFault → Refusal
-refusal_of_file file fault.NoMemory = refusal.NoMemory
-refusal_of_file file (fault.BadHex why) = refusal.BadHexFile file why
-refusal_of_file file (fault.BadLength count) = refusal.BadKeyFile file count
+abbrev pub refusal_of_file : Bor (List ℕ) → KeyFault → Refusal
+refusal_of_file file key_fault.RawKey = refusal.RawKey file
+refusal_of_file file (key_fault.BadDigits fault.NoMemory) = refusal.NoMemory
+refusal_of_file file (key_fault.BadDigits (fault.BadHex why)) = refusal.BadHexFile file why
+refusal_of_file file (key_fault.BadDigits (fault.BadLength count)) = refusal.BadKeyFile file count
 
 abbrev pub refusal_of_nonce : ValueFault → Refusal
 refusal_of_nonce fault.NoMemory = refusal.NoMemory
@@ -55,12 +54,6 @@ IsWhyNoNonce None told = told ≡ refusal.Incomplete
 IsWhyNoNonce (Some word) told =
     (why : ValueFault) × (told ≡ refusal_of_nonce why) × values.IsWhyNot 16 word why
 
-pub record IsBadDigits (file : Bor (List ℕ)) (content : List ℕ) (told : Refusal) : Type 0 where
-  pub long : length content ≢ 32
-  pub why : ValueFault
-  pub is : told ≡ refusal_of_file file why
-  pub because : values.IsWhyNot 32 (values.digits_of content) why
-
 abbrev pub IsWhyNoKey : Bor (List ℕ) → List ℕ → Refusal → Type 0
 IsWhyNoKey file content told =
-    ((told ≡ refusal.RawKey file) × (length content ≡ 32)) ⊎ IsBadDigits file content told
+    (why : KeyFault) × (told ≡ refusal_of_file file why) × values.IsWhyNoKey content why

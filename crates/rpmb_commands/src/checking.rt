@@ -7,6 +7,15 @@ use script::{ScriptVerdict, judge_script};
 use std::alloc::Global;
 use std::io::Write;
 
+/// How many guests the board of a text has, which is that of a file.
+fn guests_of<'a>(alloc: Global, file: &'a str, text: &str) -> Result<u16, Refusal<'a>> {
+    match judge_board(alloc, text) {
+        Ok(BoardVerdict::Good(guests)) => Ok(guests),
+        Ok(BoardVerdict::Bad(flaw)) => Err(Refusal::BadBoard(file, flaw)),
+        Err(_) => Err(Refusal::NoMemory),
+    }
+}
+
 /// How many guests the board of a file has.
 fn check_board<'a, S: Source>(
     alloc: Global,
@@ -14,9 +23,18 @@ fn check_board<'a, S: Source>(
     file: &'a str,
 ) -> Result<u16, Refusal<'a>> {
     let text = text_of(alloc, source, file)?;
-    match judge_board(alloc, text.as_str()) {
-        Ok(BoardVerdict::Good(guests)) => Ok(guests),
-        Ok(BoardVerdict::Bad(flaw)) => Err(Refusal::BadBoard(file, flaw)),
+    guests_of(alloc, file, text.as_str())
+}
+
+fn check_text<'a>(
+    alloc: Global,
+    file: &'a str,
+    text: &str,
+    guests: u16,
+) -> Result<(), Refusal<'a>> {
+    match judge_script(alloc, text, guests) {
+        Ok(ScriptVerdict::Good) => Ok(()),
+        Ok(ScriptVerdict::Bad(flaw)) => Err(Refusal::BadScript(file, flaw)),
         Err(_) => Err(Refusal::NoMemory),
     }
 }
@@ -28,11 +46,7 @@ fn check_script<'a, S: Source>(
     guests: u16,
 ) -> Result<(), Refusal<'a>> {
     let text = text_of(alloc, source, file)?;
-    match judge_script(alloc, text.as_str(), guests) {
-        Ok(ScriptVerdict::Good) => Ok(()),
-        Ok(ScriptVerdict::Bad(flaw)) => Err(Refusal::BadScript(file, flaw)),
-        Err(_) => Err(Refusal::NoMemory),
-    }
+    check_text(alloc, file, text.as_str(), guests)
 }
 
 /// Writes `ok` where `rpmbd run` reads the board file, and the script where one is named.

@@ -10,6 +10,7 @@ mod making;
 mod performing;
 mod reading;
 mod refusal;
+mod refusal_words;
 mod source;
 mod telling;
 mod words;

@@ -23,6 +23,36 @@ fn guest_of<'a>(words: &Words<'a>) -> Result<u16, Refusal<'a>> {
     Ok(number(words.guest, 63, Number::Guest)? as u16)
 }
 
+fn counter_of<'a>(words: &Words<'a>) -> Result<u32, Refusal<'a>> {
+    Ok(number(words.counter, 4294967295, Number::Counter)? as u32)
+}
+
+fn address_of<'a>(words: &Words<'a>) -> Result<u16, Refusal<'a>> {
+    Ok(number(words.address, 65535, Number::Address)? as u16)
+}
+
+/// How many blocks are to be read.
+fn count_of<'a>(words: &Words<'a>) -> Result<u16, Refusal<'a>>
+    ensures { IfOk result (λ count. (1 ≤ count) × (count ≤ 16)) }
+{
+    let count = number(words.count, 16, Number::Count)?;
+    if count == 0 {
+        return Err(Refusal::Number(Number::Count, "0"));
+    }
+    Ok(count as u16)
+}
+
+/// The first block that is to be read, and how many.
+fn range_of<'a>(words: &Words<'a>) -> Result<(u16, u16), Refusal<'a>> {
+    let address = address_of(words)?;
+    let count = count_of(words)?;
+    let end = u64::from(address) + u64::from(count);
+    if end > 65536 {
+        return Err(Refusal::PastEnd(end - 1));
+    }
+    Ok((address, count))
+}
+
 /// Makes the line that programs a key.
 pub fn make_program_key<'a, S: Source, W: Write>(
     alloc: Global,
@@ -53,16 +83,9 @@ pub fn make_read<'a, W: Write>(
     out: &mut W,
 ) -> Result<(), Refusal<'a>> {
     let guest = guest_of(words)?;
-    let address = number(words.address, 65535, Number::Address)?;
-    let count = number(words.count, 16, Number::Count)?;
-    if count == 0 {
-        return Err(Refusal::Number(Number::Count, "0"));
-    }
-    if address + count > 65536 {
-        return Err(Refusal::PastEnd(address + count - 1));
-    }
+    let (address, count) = range_of(words)?;
     let nonce = nonce(alloc, words.nonce)?;
-    told(write_read(alloc, guest, address as u16, count as u16, &nonce, out))
+    told(write_read(alloc, guest, address, count, &nonce, out))
 }
 
 /// Makes the line that asks for a result.
@@ -127,23 +150,24 @@ fn writer_of<'a, S: Source>(
     Ok(Writer {
         guest: guest_of(words)?,
         key: key(alloc, source, words.key())?,
-        counter: number(words.counter, 4294967295, Number::Counter)? as u32,
-        address: number(words.address, 65535, Number::Address)? as u16,
+        counter: counter_of(words)?,
+        address: address_of(words)?,
         asks: !words.no_result,
     })
 }
 
-/// Makes the lines that write blocks.
-pub fn make_write<'a, S: Source, W: Write>(
+/// Writes the lines that write these bytes, at most so many blocks a line.
+fn write_content<'a, W: Write>(
     alloc: Global,
-    source: &S,
-    words: &Words<'a>,
+    writer: Writer,
+    most: u16,
+    content: &[u8],
     out: &mut W,
-) -> Result<(), Refusal<'a>> {
-    let writer = writer_of(alloc, source, words)?;
-    let most = most_of(words)?;
-    let content = blocks_of(alloc, source, words)?;
-    let (blocks, rest) = content.as_slice().as_chunks::<256>();
+) -> Result<(), Refusal<'a>>
+    requires least { 1 ≤ most }
+    requires most { most ≤ 16 }
+{
+    let (blocks, rest) = content.as_chunks::<256>();
     if blocks.is_empty() || !rest.is_empty() {
         return Err(Refusal::BadData(content.len()));
     }
@@ -157,4 +181,17 @@ pub fn make_write<'a, S: Source, W: Write>(
         return Err(Refusal::CounterEnd(end - 1));
     }
     told(write_all(alloc, writer, most, blocks, out))
+}
+
+/// Makes the lines that write blocks.
+pub fn make_write<'a, S: Source, W: Write>(
+    alloc: Global,
+    source: &S,
+    words: &Words<'a>,
+    out: &mut W,
+) -> Result<(), Refusal<'a>> {
+    let writer = writer_of(alloc, source, words)?;
+    let most = most_of(words)?;
+    let content = blocks_of(alloc, source, words)?;
+    write_content(alloc, writer, most, content.as_slice(), out)
 }

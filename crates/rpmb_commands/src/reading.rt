@@ -1,13 +1,13 @@
 //! The values of options, or why a command is refused without them.
 ghost use Rattle.std.specs.Prelude.{◌≡◌, ◌≤◌, IfErr, IfOk, Some};
 ghost use Rattle.std.specs.Option.{option_copied};
-ghost use Rattle.rpmb_client.specs.Values.{bytes_said, digits_of};
-ghost use Rattle.rpmb_commands.specs.Said.{IsWhyNoBytes, IsWhyNoKey, IsWhyNoNonce, hex_key, nonce_said};
+ghost use Rattle.rpmb_client.specs.Values.{bytes_said, key_said};
+ghost use Rattle.rpmb_commands.specs.Said.{IsWhyNoBytes, IsWhyNoKey, IsWhyNoNonce, nonce_said};
 ghost use Rattle.rpmb_commands.specs.Said.{number_said, refusal_of_digits, refusal_of_file, refusal_of_nonce};
 
 use crate::refusal::{Number, Refusal};
 use crate::source::{Source, content_of};
-use rpmb_client::{ValueFault, array_of, bytes_of, digits_of, number_of, sized};
+use rpmb_client::{KeyFault, ValueFault, array_of, bytes_of, key_in_file, number_of, sized};
 use std::alloc::Global;
 
 /// A number of at most `most`, or the refusal.
@@ -72,33 +72,39 @@ fn refused<'a>(fault: ValueFault) -> Refusal<'a>
     }
 }
 
-/// The refusal of a file's digits, which names it.
-fn refused_file<'a>(file: &'a str, fault: ValueFault) -> Refusal<'a>
+/// The refusal of a file's content, which names the file.
+fn refused_file<'a>(file: &'a str, fault: KeyFault) -> Refusal<'a>
     ensures { result ≡ refusal_of_file file.entry fault }
 {
     match fault {
-        ValueFault::NoMemory => Refusal::NoMemory,
-        ValueFault::BadHex(why) => Refusal::BadHexFile(file, why),
-        ValueFault::BadLength(count) => Refusal::BadKeyFile(file, count),
+        KeyFault::RawKey => Refusal::RawKey(file),
+        KeyFault::BadDigits(ValueFault::NoMemory) => Refusal::NoMemory,
+        KeyFault::BadDigits(ValueFault::BadHex(why)) => Refusal::BadHexFile(file, why),
+        KeyFault::BadDigits(ValueFault::BadLength(count)) => Refusal::BadKeyFile(file, count),
     }
 }
 
 /// The key in a file: its 64 hex digits, behind which a line may end. A file of 32 bytes is
 /// refused.
-pub fn key_in_file<'a>(
+pub fn key_of_file<'a>(
     alloc: Global,
     file: &'a str,
     content: &[u8],
 ) -> Result<[u8; 32], Refusal<'a>>
-    ensures ok { IfOk result (λ key. hex_key content.now ≡ Some key) }
+    ensures ok { IfOk result (λ key. key_said content.now ≡ Some key) }
     ensures err { IfErr result (IsWhyNoKey file.entry content.now) }
 {
-    if content.len() == 32 {
-        return Err(Refusal::RawKey(file));
-    }
-    match array_of(alloc, digits_of(content)) {
+    match key_in_file(alloc, content) {
         Ok(key) => Ok(key),
         Err(fault) => Err(refused_file(file, fault)),
+    }
+}
+
+/// The key that is a file's content itself.
+fn raw_key<'a>(file: &'a str, content: &[u8]) -> Result<[u8; 32], Refusal<'a>> {
+    match sized(content) {
+        Some(key) => Ok(key),
+        None => Err(Refusal::BadRawKey(file, content.len())),
     }
 }
 
@@ -107,15 +113,10 @@ fn key_named<'a, S: Source>(
     source: &S,
     name: &'a str,
 ) -> Result<[u8; 32], Refusal<'a>> {
-    if let Some(file) = name.strip_prefix("raw:") {
-        let content = content_of(alloc, source, file)?;
-        return match sized(content.as_slice()) {
-            Some(key) => Ok(key),
-            None => Err(Refusal::BadRawKey(file, content.len())),
-        };
+    match name.strip_prefix("raw:") {
+        Some(file) => raw_key(file, content_of(alloc, source, file)?.as_slice()),
+        None => key_of_file(alloc, name, content_of(alloc, source, name)?.as_slice()),
     }
-    let content = content_of(alloc, source, name)?;
-    key_in_file(alloc, name, content.as_slice())
 }
 
 /// The key that a word writes in hex digits, or names as `@FILE` or `@raw:FILE`.

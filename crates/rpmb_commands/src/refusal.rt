@@ -1,91 +1,87 @@
 //! Why a command of `rpmb` is refused.
 use hex::FromHexError;
 use rpmb_client::ClientFault;
-use thiserror::Error;
 
 /// What an option's number is of, told as its range.
-#[derive(Clone, Copy, Debug, Error)]
+#[derive(Clone, Copy, Debug)]
 pub enum Number {
-    #[error("BadGuest: expected a number from 0 to 63")]
+    /// Of a guest.
     Guest,
-    #[error("BadCounter: expected a number from 0 to 4294967295")]
+    /// A write counter.
     Counter,
-    #[error("BadAddress: expected a block from 0 to 65535, the last that any capacity has")]
+    /// Of a block.
     Address,
-    #[error("BadCount: expected 1 to 16 blocks")]
+    /// How many blocks are read.
     Count,
-    #[error("BadMaxBlocks: expected 1 to 16 blocks for one write")]
+    /// How many blocks one write has at most.
     MaxBlocks,
-    #[error("BadLength: expected 0 to 4096 bytes, which 16 blocks have")]
+    /// How many bytes are written out.
     Length,
 }
 
-/// Why nothing more is printed. Each is told by its name, what was expected, and what stands there;
-/// of a key only how long it is.
-#[derive(Debug, Drop, Error)]
+/// Why nothing more is printed. Each is told by its name, what was expected, and what stands there
+/// (`saying.rt`); of a key only how long it is.
+#[derive(Drop)]
 pub enum Refusal<'a> {
     /// The words name a command, but not what it needs.
-    #[error("Incomplete: expected another option")]
     Incomplete,
-    #[error("{0}, got {1:?}")]
+    /// A word is no number of the range.
     Number(Number, &'a str),
-    #[error("BadKey: expected 32 bytes in hex digits, @FILE of 64 hex digits, or @raw:FILE of 32 bytes, got {0} bytes in hex digits")]
+    /// A key's hex digits say so many bytes.
     BadKey(usize),
-    #[error("BadKey: expected 32 bytes in hex digits in the file {0:?}, got {1}")]
+    /// Those in this file do.
     BadKeyFile(&'a str, usize),
     /// A file of 32 bytes is no key by accident.
-    #[error("BadKey: expected 64 hex digits in the file {0:?}, got 32 bytes; if these are the key itself, say @raw:FILE")]
     RawKey(&'a str),
-    #[error("BadKey: expected 32 bytes in the file {0:?}, got {1}")]
+    /// This file, named as the key's own bytes, has so many.
     BadRawKey(&'a str, usize),
-    #[error("BadKey: expected one key for each guest, got a second one for guest {0}")]
+    /// A guest has two keys.
     SecondKey(u64),
-    #[error("BadKey: expected one key for all other guests, got a second one")]
+    /// All other guests have two.
     SecondOfOthers,
-    #[error("BadNonce: expected 16 bytes in hex digits, got {0}")]
+    /// A nonce's hex digits say so many bytes.
     BadNonce(usize),
-    #[error("BadHex: expected two hex digits for each byte, got: {0}")]
+    /// They aren't two hex digits for each byte.
     BadHex(FromHexError),
-    #[error("BadHex: expected two hex digits for each byte in the file {0:?}, got: {1}")]
+    /// Those in this file aren't.
     BadHexFile(&'a str, FromHexError),
-    #[error("NoData: expected either --data or --file, got {0}")]
+    /// Bytes to write come from neither option, or from both.
     NoData(&'static str),
-    #[error("BadData: expected whole blocks of 256 bytes, at least one, got {0} bytes; --pad fills a last block with zeros")]
+    /// So many bytes aren't whole blocks.
     BadData(usize),
-    #[error("PastEnd: expected no block after 65535, the last that any capacity has, got {0}")]
+    /// The last block would be this one.
     PastEnd(u64),
-    #[error("CounterEnd: expected write counters of at most 4294967295 for all writes, got {0}")]
+    /// The last write counter would be this one.
     CounterEnd(u64),
-    #[error("FileFault: expected a file that can be read, got {0:?}")]
+    /// A file can't be read.
     NoFile(&'a str),
-    #[error("FileFault: expected text in UTF-8 in the file {0:?}")]
+    /// It isn't text.
     NoText(&'a str),
-    #[error("FileFault: expected lines in UTF-8 on standard input")]
+    /// Standard input can't be read, or isn't text.
     NoInput,
-    #[error("FileFault: expected room on standard output")]
+    /// Standard output takes no more.
     NoRoom,
-    #[error("NoMemory")]
+    /// Memory was refused.
     NoMemory,
-    #[error("NoAnswer: expected one line `used G LEN HEX`, or just one with the nonce, got {0} lines, {1} with it")]
+    /// Of so many lines with a reply so many have the nonce, and none is the answer.
     NoAnswer(usize, usize),
-    #[error("NoFrames: expected a reply of whole frames of 512 bytes, got {0} bytes")]
+    /// A reply of so many bytes isn't whole frames.
     NoFrames(usize),
-    #[error("WrongMac: expected the MAC of all frames under the key, got another")]
+    /// The MAC of a read is another.
     WrongMac,
-    #[error("WrongNonce: expected the nonce that was asked with, got another")]
+    /// Its nonce is another.
     WrongNonce,
-    #[error("OtherResponse: expected the response DATA_READ, got the {0}")]
+    /// It is this response, and none to a read.
     OtherResponse(&'static str),
     /// The read has another result than OK.
-    #[error("Refused: expected the result OK, got {0}")]
     Refused(&'static str),
-    #[error("TooShort: expected blocks of at least {0} bytes, got {1}")]
+    /// So many bytes are wanted, and there are so many.
     TooShort(u64, usize),
-    #[error("WrongAnswer: expected a right MAC and nonce in each of {0} replies, got {1} with a wrong one")]
+    /// Of so many replies so many have a wrong MAC or nonce.
     WrongAnswer(u64, u64),
-    #[error("BadBoard: the board file {0:?}: {1}")]
+    /// Why a board file isn't read.
     BadBoard(&'a str, String),
-    #[error("BadScript: the script {0:?}: {1}")]
+    /// Why a script isn't read.
     BadScript(&'a str, String),
 }
 

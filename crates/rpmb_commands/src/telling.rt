@@ -26,16 +26,27 @@ struct Judge {
     nonce: Option<[u8; 16]>,
 }
 
-/// Says what the reply of a `used` line is, and whether it is wrong.
+impl Counts {
+    fn add(&mut self, is_wrong: bool) {
+        self.replies = self.replies.saturating_add(1);
+        self.wrong = self.wrong.saturating_add(u64::from(is_wrong));
+    }
+}
+
+/// Says what the reply of a `used` line is, and counts it.
 fn explain_used<'a, W: Write>(
     alloc: Global,
     used: &Used,
     judge: &Judge,
+    counts: &mut Counts,
     out: &mut W,
-) -> Result<bool, Refusal<'a>> {
+) -> Result<(), Refusal<'a>> {
     let key = judge.keys.key_of(used.guest);
     match explain(alloc, used, key, judge.nonce, out) {
-        Ok(()) => Ok(is_wrong(used, key, judge.nonce)),
+        Ok(()) => {
+            counts.add(is_wrong(used, key, judge.nonce));
+            Ok(())
+        }
         Err(fault) => Err(Refusal::of(fault)),
     }
 }
@@ -52,21 +63,14 @@ fn explain_line<'a, W: Write>(
     alloc: Global,
     line: &str,
     judge: &Judge,
-    counts: Counts,
+    counts: &mut Counts,
     out: &mut W,
-) -> Result<Counts, Refusal<'a>> {
-    let Ok(read) = read_used(alloc, line) else {
-        return Err(Refusal::NoMemory);
-    };
-    let Some(used) = read else {
-        copy_line(line, out)?;
-        return Ok(counts);
-    };
-    let is_wrong = explain_used(alloc, &used, judge, out)?;
-    Ok(Counts {
-        replies: counts.replies.saturating_add(1),
-        wrong: counts.wrong.saturating_add(u64::from(is_wrong)),
-    })
+) -> Result<(), Refusal<'a>> {
+    match read_used(alloc, line) {
+        Ok(Some(used)) => explain_used(alloc, &used, judge, counts, out),
+        Ok(None) => copy_line(line, out),
+        Err(_) => Err(Refusal::NoMemory),
+    }
 }
 
 fn input_fault<'a>(error: &io::Error) -> Refusal<'a> {
@@ -92,10 +96,18 @@ fn without_end(line: &str) -> &str {
     }
 }
 
-/// Explains line after line, each as it comes.
-fn tell_lines<'a, B: BufRead, W: Write>(
+fn flush<'a, W: Write>(out: &mut W) -> Result<(), Refusal<'a>> {
+    match out.flush() {
+        Ok(()) => Ok(()),
+        Err(_) => Err(Refusal::NoRoom),
+    }
+}
+
+/// Explains line after line, each as it comes and in the same `line`.
+fn tell_each<'a, B: BufRead, W: Write>(
     alloc: Global,
     judge: &Judge,
+    line: &mut String,
     input: &mut B,
     out: &mut W,
 ) -> Result<Counts, Refusal<'a>> {
@@ -103,17 +115,50 @@ fn tell_lines<'a, B: BufRead, W: Write>(
         replies: 0,
         wrong: 0,
     };
-    let mut line = String::new(alloc);
     for _ in 0..u64::MAX {
-        if !next_line(input, &mut line)? {
+        if !next_line(input, line)? {
             return Ok(counts);
         }
-        counts = explain_line(alloc, without_end(line.as_str()), judge, counts, out)?;
-        if out.flush().is_err() {
-            return Err(Refusal::NoRoom);
-        }
+        explain_line(alloc, without_end(line.as_str()), judge, &mut counts, out)?;
+        flush(out)?;
     }
     Ok(counts)
+}
+
+fn tell_lines<'a, B: BufRead, W: Write>(
+    alloc: Global,
+    judge: &Judge,
+    input: &mut B,
+    out: &mut W,
+) -> Result<Counts, Refusal<'a>> {
+    let mut line = String::new(alloc);
+    tell_each(alloc, judge, &mut line, input, out)
+}
+
+fn asked_nonce<'a>(alloc: Global, words: &Words<'a>) -> Result<Option<[u8; 16]>, Refusal<'a>> {
+    match words.nonce {
+        Some(_) => Ok(Some(nonce(alloc, words.nonce)?)),
+        None => Ok(None),
+    }
+}
+
+fn judge_of<'a, S: Source>(
+    alloc: Global,
+    source: &S,
+    words: &Words<'a>,
+) -> Result<Judge, Refusal<'a>> {
+    let keys = keys_of(alloc, source, words)?;
+    let nonce = asked_nonce(alloc, words)?;
+    Ok(Judge { keys, nonce })
+}
+
+/// Refused where one of the replies is wrong.
+fn told<'a>(counts: Result<Counts, Refusal<'a>>) -> Result<(), Refusal<'a>> {
+    match counts {
+        Ok(counts) if counts.wrong > 0 => Err(Refusal::WrongAnswer(counts.replies, counts.wrong)),
+        Ok(_) => Ok(()),
+        Err(refusal) => Err(refusal),
+    }
 }
 
 /// Says of each `used` line what its reply is, and writes each other line as it is. Refused at the
@@ -125,17 +170,8 @@ pub fn tell<'a, S: Source, B: BufRead, W: Write>(
     input: &mut B,
     out: &mut W,
 ) -> Result<(), Refusal<'a>> {
-    let keys = keys_of(alloc, source, words)?;
-    let nonce = match words.nonce {
-        Some(_) => Some(nonce(alloc, words.nonce)?),
-        None => None,
-    };
-    let judge = Judge { keys, nonce };
-    let counts = tell_lines(alloc, &judge, input, out)?;
-    if counts.wrong > 0 {
-        return Err(Refusal::WrongAnswer(counts.replies, counts.wrong));
-    }
-    Ok(())
+    let judge = judge_of(alloc, source, words)?;
+    told(tell_lines(alloc, &judge, input, out))
 }
 
 /// The answer among the lines: the only reply, or else the only one with the nonce.
@@ -175,6 +211,51 @@ fn give<'a, W: Write>(bytes: &[u8], out: &mut W) -> Result<(), Refusal<'a>> {
     }
 }
 
+/// Writes as many of these bytes as are wanted.
+fn give_first<'a, W: Write>(
+    words: &Words<'a>,
+    blocks: &[u8],
+    out: &mut W,
+) -> Result<(), Refusal<'a>> {
+    give(first_bytes(words, blocks)?, out)
+}
+
+/// The blocks that a read gives, or why none, of a reply of so many bytes.
+fn blocks_of<'a>(read: ReadAnswer, count: usize) -> Result<Vec<u8>, Refusal<'a>> {
+    match read {
+        ReadAnswer::Blocks(blocks) => Ok(blocks),
+        ReadAnswer::NoFrames => Err(Refusal::NoFrames(count)),
+        ReadAnswer::WrongMac => Err(Refusal::WrongMac),
+        ReadAnswer::WrongNonce => Err(Refusal::WrongNonce),
+        ReadAnswer::OtherResponse(kind) => Err(Refusal::OtherResponse(kind_text(kind))),
+        ReadAnswer::Refused(code) => Err(Refusal::Refused(result_text(code))),
+    }
+}
+
+/// The blocks of a reply, where its MAC and its nonce are right.
+fn blocks_read<'a>(
+    alloc: Global,
+    key: &[u8; 32],
+    nonce: &[u8; 16],
+    reply: &[u8],
+) -> Result<Vec<u8>, Refusal<'a>> {
+    match read_data(alloc, key, nonce, reply) {
+        Ok(read) => blocks_of(read, reply.len()),
+        Err(_) => Err(Refusal::NoMemory),
+    }
+}
+
+/// The blocks of the answer among the lines.
+fn blocks_answered<'a, B: BufRead>(
+    alloc: Global,
+    key: &[u8; 32],
+    nonce: &[u8; 16],
+    input: &mut B,
+) -> Result<Vec<u8>, Refusal<'a>> {
+    let used = answer_of(alloc, nonce, input)?;
+    blocks_read(alloc, key, nonce, used.reply.as_slice())
+}
+
 /// Writes the blocks of a read, where its MAC and its nonce are right.
 pub fn give_data<'a, S: Source, B: BufRead, W: Write>(
     alloc: Global,
@@ -185,16 +266,6 @@ pub fn give_data<'a, S: Source, B: BufRead, W: Write>(
 ) -> Result<(), Refusal<'a>> {
     let key = key(alloc, source, words.key())?;
     let nonce = nonce(alloc, words.nonce)?;
-    let used = answer_of(alloc, &nonce, input)?;
-    let Ok(read) = read_data(alloc, &key, &nonce, used.reply.as_slice()) else {
-        return Err(Refusal::NoMemory);
-    };
-    match read {
-        ReadAnswer::Blocks(blocks) => give(first_bytes(words, blocks.as_slice())?, out),
-        ReadAnswer::NoFrames => Err(Refusal::NoFrames(used.reply.len())),
-        ReadAnswer::WrongMac => Err(Refusal::WrongMac),
-        ReadAnswer::WrongNonce => Err(Refusal::WrongNonce),
-        ReadAnswer::OtherResponse(kind) => Err(Refusal::OtherResponse(kind_text(kind))),
-        ReadAnswer::Refused(code) => Err(Refusal::Refused(result_text(code))),
-    }
+    let blocks = blocks_answered(alloc, &key, &nonce, input)?;
+    give_first(words, blocks.as_slice(), out)
 }

@@ -6,7 +6,7 @@ use std::alloc::{AllocError, Global};
 use std::convert::AsStr;
 
 /// A command's name, and the values of its options as they were written.
-#[derive(Debug, Drop)]
+#[derive(Drop)]
 pub struct Words<'a> {
     pub command: &'a str,
     pub guest: Option<&'a str>,
