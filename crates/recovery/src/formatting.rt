@@ -1,6 +1,5 @@
 //! Making a fresh image.
-ghost use Rattle.std.specs.Prelude.{◌≡◌, ◌≤◌, ◌<◌, ◌+◌, ◌*◌, ◌^◌, ℕ, true, false, length, is_ok};
-ghost use Rattle.std.specs.Prelude.{OnOk, OnErr, Err, if◌then◌else◌};
+ghost use Rattle.std.specs.Prelude.{◌≡◌, ◌≤◌, ◌<◌, ◌+◌, ◌*◌, ◌^◌, ℕ, true, false, length, is_ok, OnOk, OnErr, Err};
 ghost use Rattle.disk.specs.Content.{zeros};
 ghost use Rattle.disk.specs.Disk.{HasRisen, Sync};
 ghost use Rattle.intent_slots.specs.Layout.{capacities_of, image_length};
@@ -115,13 +114,6 @@ fn sync<D: Disk>(disk: &mut D) -> Result<(), DiskFault>
     disk.sync()
 }
 
-/// The version byte of an image: in one of version 2 both slots of each partition are in use.
-fn version_of(paired: bool) -> u8
-    ensures { result ≡ (if paired then 2 else 1) }
-{
-    if paired { 2 } else { 1 }
-}
-
 /// Makes a fresh image: the header, the version byte 1 at offset 512, and zeros, so that each partition
 /// is empty. It writes zeros over the whole disk, and for each guest a home record without a key and
 /// both gates shut, makes a sync, writes the header and the version byte, and makes a sync. So no stop
@@ -141,7 +133,7 @@ pub fn format<D: Disk>(disk: &mut D, board: &BoardConfig) -> Result<(), OpenFaul
     // empty partitions.
     ensures order { ClearsFirst D.state D.makes (capacities_of board.now) disk.old disk.new }
 {
-    match write_image(disk, &Layout::of(board), version_of(false)) {
+    match write_image(disk, &Layout::of(board), 1) {
         Ok(()) => Ok(()),
         Err(_) => Err(OpenFault::DiskFault),
     }
@@ -163,7 +155,7 @@ pub fn format2<D: Disk>(disk: &mut D, board: &BoardConfig) -> Result<(), OpenFau
     // empty partitions.
     ensures order { ClearsFirst D.state D.makes (capacities_of board.now) disk.old disk.new }
 {
-    match write_image(disk, &Layout::of(board), version_of(true)) {
+    match write_image(disk, &Layout::of(board), 2) {
         Ok(()) => Ok(()),
         Err(_) => Err(OpenFault::DiskFault),
     }
