@@ -4,21 +4,28 @@ use Rattle.std.proofs.KnownBytes.{Appends-nil, Appends-trans, Keeps-refl}
 use Rattle.std.proofs.lemmas.List.{append_assoc, append-nil, get_or-map, length-map}
 use Rattle.std.proofs.lemmas.Option.{slice_get_read}
 use Rattle.std.specs.Io.KnownBytes.{Appends}
-use Rattle.std.specs.Prelude.{IfErr, slice_get, slice_index_or, vec_len}
+use Rattle.std.specs.Prelude.{IfErr, slice_get, slice_index_or, true, vec_len}
 use Rattle.rpmb_frame.specs.declared.config.GuestConfig.{GuestConfig}
 use Rattle.disk.specs.Disk.{DiskState}
 use Rattle.intent_slots.specs.Layout.{capacities_of}
 use Rattle.script.specs.Line.{Said, said, served_line_of}
 use Rattle.script.specs.Script.{lines_of}
 use Rattle.script.specs.declared.line.Line.{Line}
+use Rattle.recovery.specs.Opening.{AnswersFault}
+use Rattle.recovery.specs.declared.fault.OpenFault.{OpenFault}
+use Rattle.recovery.specs.declared.fault.OpenFault.TheVariants as image
+use Rattle.host.specs.declared.fault.HostFault.{HostFault}
+use Rattle.host.specs.declared.fault.HostFault.TheVariants as host
 use Rattle.host.specs.declared.front.Answer.{Answer}
 use Rattle.workers.specs.Orders.{HaveAll, chain_orders}
 use Rattle.workers.specs.declared.driver.DriverEnd.{DriverEnd}
 use Rattle.workers.specs.declared.order.Order.{Order}
-use Rattle.commands.specs.Ending.{IsOfOpening, IsOfReading, IsOfTelling}
-use Rattle.commands.specs.Serving.{IsServable, OpenedServeEnds, PrintsEach, ServeEnds, ServePrints, ServedPrint, answer_line, answer_lines, chains_of, guests_lines}
+use Rattle.commands.specs.Ending.{Ends, IsOfReading, IsOfTelling, IsServable, serving}
+use Rattle.commands.specs.Fault.{fault_of, fault_of_image}
+use Rattle.commands.specs.Serving.{IsUnservedAt, PrintsEach, ServePrints, ServedPrint, answer_line, answer_lines, chains_of, guests_lines}
 use Rattle.commands.specs.declared.fault.Fault.{Fault}
 use Rattle.commands.specs.declared.fault.Fault.TheVariants as fault
+use Rattle.commands.proofs.Cases.{reading_cases, telling_cases}
 use Rattle.commands.proofs.Printing.{says_same}
 
 answers_take : (guest : ℕ) (xs : List Answer) (i : ℕ) (x : Answer) → slice_get xs i ≡ Some x
@@ -101,49 +108,28 @@ prints_each drivers scripts lines n start now many as_many all each printed = re
 pub served_print : (n : ℕ) (lines : List Said) (start now : Option (List ℕ)) (r : Result (Unit {0}) Fault) → IfErr r IsOfTelling → (r ≡ Err fault.DiskFault → PrintsEach n lines start now)
     → IfErr r (λ f. ServedPrint n lines f start now)
 served_print n lines start now (Ok done) of told = tt
-served_print n lines start now (Err fault.DiskFault) of told = inr (told refl)
-served_print n lines start now (Err fault.NoMemory) of told = tt
-served_print n lines start now (Err fault.FileFault) of told = tt
-served_print n lines start now (Err fault.OutOfRange) of told = absurd of
-served_print n lines start now (Err fault.NotFormatted) of told = absurd of
-served_print n lines start now (Err fault.OtherConfig) of told = absurd of
-served_print n lines start now (Err fault.Busy) of told = absurd of
-served_print n lines start now (Err fault.HistoryFull) of told = absurd of
-served_print n lines start now (Err fault.NoRoom) of told = absurd of
-served_print n lines start now (Err fault.Foreign) of told = absurd of
-served_print n lines start now (Err fault.BadBoard) of told = absurd of
-served_print n lines start now (Err (fault.BadScript line)) of told = absurd of
+served_print n lines start now (Err f) of told = telling_cases (λ e. (e ≡ fault.DiskFault → PrintsEach n lines start now) → ServedPrint n lines e start now) (λ t. inr (t refl)) (λ t. tt) (λ t. tt) f of (λ is. told (ap Err is))
 
--- why an image isn't opened
-pub of_opening : (capacities : List ℕ) (old new : DiskState) (f : Fault) → IsOfOpening capacities old new f → OpenedServeEnds capacities old f
-of_opening capacities old new fault.NoMemory of = tt
-of_opening capacities old new fault.DiskFault of = tt
-of_opening capacities old new fault.NotFormatted of = of
-of_opening capacities old new fault.OtherConfig of = of
-of_opening capacities old new fault.OutOfRange of = absurd of
-of_opening capacities old new fault.Busy of = absurd of
-of_opening capacities old new fault.HistoryFull of = absurd of
-of_opening capacities old new fault.NoRoom of = absurd of
-of_opening capacities old new fault.Foreign of = absurd of
-of_opening capacities old new fault.BadBoard of = absurd of
-of_opening capacities old new fault.FileFault of = absurd of
-of_opening capacities old new (fault.BadScript line) of = absurd of
+-- Which faults end it once its lines are read: why the image isn't opened, what its threads come to, or their telling.
+abbrev pub EndsServe : List GuestConfig → DiskState → Fault → Type 0
+EndsServe board old f = (script : List ℕ) (new : DiskState) → IsServable board script → Ends (serving script) board old new f
 
--- of a script whose lines are read
-pub serve_ends : (board : List GuestConfig) (script : List ℕ) (old : DiskState) (r : Result (Unit {0}) Fault) → IsServable board script → IfErr r (OpenedServeEnds (capacities_of board) old) → IfErr r (ServeEnds board script old)
-serve_ends board script old (Ok done) servable of = tt
-serve_ends board script old (Err fault.NoMemory) servable of = tt
-serve_ends board script old (Err fault.DiskFault) servable of = (servable, of)
-serve_ends board script old (Err fault.NotFormatted) servable of = (servable, of)
-serve_ends board script old (Err fault.OtherConfig) servable of = (servable, of)
-serve_ends board script old (Err fault.OutOfRange) servable of = (servable, of)
-serve_ends board script old (Err fault.Busy) servable of = (servable, of)
-serve_ends board script old (Err fault.HistoryFull) servable of = (servable, of)
-serve_ends board script old (Err fault.NoRoom) servable of = (servable, of)
-serve_ends board script old (Err fault.Foreign) servable of = (servable, of)
-serve_ends board script old (Err fault.BadBoard) servable of = absurd of
-serve_ends board script old (Err fault.FileFault) servable of = (servable, of)
-serve_ends board script old (Err (fault.BadScript line)) servable of = absurd of
+pub opening_serve : (board : List GuestConfig) (old : DiskState) (f : OpenFault) → (old.faithful ≡ true → AnswersFault (capacities_of board) old.len old.seen f) → EndsServe board old (fault_of_image f)
+opening_serve board old image.NoMemory answers script new servable = tt
+opening_serve board old image.DiskFault answers script new servable = servable
+opening_serve board old image.NotFormatted answers script new servable = (servable, answers)
+opening_serve board old image.OtherConfig answers script new servable = (servable, answers)
+
+pub threads_serve : (board : List GuestConfig) (old : DiskState) (f : HostFault) → EndsServe board old (fault_of f)
+threads_serve board old host.NoMemory script new servable = tt
+threads_serve board old host.OutOfRange script new servable = servable
+threads_serve board old host.Busy script new servable = servable
+threads_serve board old host.HistoryFull script new servable = servable
+threads_serve board old host.NoRoom script new servable = servable
+threads_serve board old host.Foreign script new servable = servable
+
+pub telling_serve : (board : List GuestConfig) (old : DiskState) (f : Fault) → IsOfTelling f → EndsServe board old f
+telling_serve board old f of = telling_cases (EndsServe board old) (λ script new servable. servable) (λ script new servable. tt) (λ script new servable. servable) f of
 
 pub serve_prints : (board : List GuestConfig) (script : List ℕ) (read : List Line) (start now : Option (List ℕ)) (r : Result (Unit {0}) Fault)
     → map (λ line. Some (said line)) read ≡ map (served_line_of (length board)) (lines_of script)
@@ -153,15 +139,7 @@ serve_prints board script read start now (Err f) was prints = λ lines is. subst
 
 -- of a script that isn't read, nothing
 pub unread_prints : (board : List GuestConfig) (script : List ℕ) (f : Fault) (start : Option (List ℕ)) → IsOfReading f → ServePrints board script f start start
-unread_prints board script fault.NoMemory start of lines is = tt
-unread_prints board script (fault.BadScript line) start of lines is = Keeps-refl start
-unread_prints board script fault.OutOfRange start of lines is = absurd of
-unread_prints board script fault.DiskFault start of lines is = absurd of
-unread_prints board script fault.NotFormatted start of lines is = absurd of
-unread_prints board script fault.OtherConfig start of lines is = absurd of
-unread_prints board script fault.Busy start of lines is = absurd of
-unread_prints board script fault.HistoryFull start of lines is = absurd of
-unread_prints board script fault.NoRoom start of lines is = absurd of
-unread_prints board script fault.Foreign start of lines is = absurd of
-unread_prints board script fault.BadBoard start of lines is = absurd of
-unread_prints board script fault.FileFault start of lines is = absurd of
+unread_prints board script f start of = reading_cases (λ e. ServePrints board script e start start) (λ lines is. tt) (λ n lines is. Keeps-refl start) f of
+
+pub unread_ends : (board : List GuestConfig) (script : List ℕ) (old new : DiskState) (f : Fault) → IsOfReading f → ((n : ℕ) → f ≡ fault.BadScript n → IsUnservedAt board script n) → Ends (serving script) board old new f
+unread_ends board script old new f of bad = reading_cases (λ e. ((n : ℕ) → e ≡ fault.BadScript n → IsUnservedAt board script n) → Ends (serving script) board old new e) (λ bad. tt) (λ n bad. bad n refl) f of bad

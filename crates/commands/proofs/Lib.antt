@@ -8,7 +8,8 @@ pub mod Opened
 pub mod Accepting
 pub mod Walking
 pub mod Until
-pub mod Stopped
+pub mod Cases
+pub mod Laws
 pub mod EachTold
 pub mod Handed
 pub mod ServedImage

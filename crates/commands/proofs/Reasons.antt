@@ -1,5 +1,5 @@
 -- Which faults a line may come to.
-use Rattle.std.proofs.Common.{◌≡◌, ◌==◌, ◌+◌, ◌-◌, ◌*◌, ◌%◌, ◌<◌, ◌≤◌, ℕ, inl, inr, Bool, true, false, List, Option, Some, None, Ok, Err, ap, ◌∙◌, arith, length, refl, subst, sym}
+use Rattle.std.proofs.Common.{◌≡◌, ◌==◌, ◌+◌, ◌-◌, ◌*◌, ◌%◌, ◌<◌, ◌≤◌, ℕ, inl, inr, Bool, true, false, List, Option, Some, None, Result, Ok, Err, ap, ◌∙◌, arith, length, refl, subst, sym}
 use Rattle.std.proofs.Math.Nat.{add-mul-mod_self_right, mod-eq_of_lt}
 use Rattle.std.specs.Prelude.{All, nat_lt, slice_get}
 use Rattle.std.proofs.lemmas.Bool.Decides.{nat_tests}
@@ -15,9 +15,10 @@ use Rattle.guest_driver.specs.Offered.{Offer}
 use Rattle.guest_driver.specs.PackedHeld.{free_places}
 use Rattle.guest_driver.specs.PackedOffered.{none_or_one, places_of}
 use Rattle.guest_driver.specs.Negotiation.{form_of}
-use Rattle.script.specs.Line.{IsWithin, chain, store, reset}
+use Rattle.script.specs.Line.{IsWithin, chain, nothing, store, reset}
 use Rattle.host.specs.Guest.{GuestView, StoresInto}
-use Rattle.host.specs.Host.{ChainsAt, HostChains, HostResetsGuest, HostStores, HostView, ResetsAt, StoresAt, StuckBy}
+use Rattle.host.specs.Calm.{is_broken}
+use Rattle.host.specs.Host.{ChainsAt, HostChains, HostResetsGuest, HostState, HostStores, HostView, ResetsAt, StoresAt, StuckBy, seen}
 use Rattle.host.specs.Reasons.{ChainReason, IsAtRest, IsLevel, HostExplains, HostKeeps, IsGuestOf, ReasonAt}
 use Rattle.host.specs.Runner.{RunnerView}
 use Rattle.host.specs.declared.fault.HostFault.{HostFault}
@@ -25,9 +26,10 @@ use Rattle.host.specs.declared.fault.HostFault.TheVariants as host
 use Rattle.host.specs.declared.front.Answer.{Answer}
 use Rattle.host.specs.declared.front.Stuck.{Stuck}
 use Rattle.script.specs.Line.{Said}
-use Rattle.commands.specs.Ending.{IsOfRunning, IsOfWriting}
+use Rattle.commands.specs.Calling.{ChainFault, LineDone, LineFails}
+use Rattle.commands.specs.Ending.{IsOfWriting, LineEnds}
 use Rattle.commands.specs.Fault.{fault_of}
-use Rattle.commands.specs.Reasons.{IsHostOf, IsInside, IsOutside, LineEnds, StoresInside}
+use Rattle.commands.specs.Reasons.{IsHostOf, IsInside, IsOutside, StoresInside}
 use Rattle.commands.specs.declared.fault.Fault.{Fault}
 use Rattle.commands.specs.declared.fault.Fault.TheVariants as fault
 use Rattle.commands.proofs.Lines.{there_is}
@@ -75,12 +77,12 @@ roomy g form size bytes guest is sized whole small =
 
 -- a chain of one of the board's guests, which wasn't stuck
 chain_reason : (board : List GuestConfig) (f : HostFault) (g g' : GuestView) (r r' : RunnerView) (guest : ℕ) (readable : List ℕ) (writable : ℕ) → IsGuest g.device.config
-    → IsGuestOf board guest g → IsAtRest g.driver → ChainReason g r readable writable (Err f) g' r' → LineEnds board (fault_of f) (chain guest readable writable)
+    → IsGuestOf board guest g → IsAtRest g.driver → ChainReason g r readable writable (Err f) g' r' → LineEnds board r'.answered (fault_of f) (chain guest readable writable)
 chain_reason board host.OutOfRange g g' r r' guest readable writable ok own rest reason =
     absurd (roomy g.device.config g.driver.form g.driver.size (length g.device.memory) ok own.form own.size own.memory reason.0)
 chain_reason board host.NoMemory g g' r r' guest readable writable ok own rest reason = tt
 chain_reason board host.Busy g g' r r' guest readable writable ok own rest reason = absurd reason
-chain_reason board host.HistoryFull g g' r r' guest readable writable ok own rest reason = tt
+chain_reason board host.HistoryFull g g' r r' guest readable writable ok own rest reason = (tt, reason)
 chain_reason board host.NoRoom g g' r r' guest readable writable ok own rest reason =
     let many = ok.queue.0 in
     let size = own.size in
@@ -92,7 +94,7 @@ guest_of : (board : List GuestConfig) (number : ℕ) (c : GuestConfig) (P : Gues
 guest_of board number c P each at = subst P (get_or_from_slice_get board number c c at) (each number c (slice_get_within board number c at))
 
 pub chain_stops : (was now : Bool) (board : List GuestConfig) (h h' : HostView) (guest : ℕ) (readable : List ℕ) (writable : ℕ) (f : HostFault) → HostExplains h guest readable writable (Err f) h'
-    → HostChains was now h guest readable writable (Err f) h' → IsHostOf board h → IsWithin (length board) (chain guest readable writable) → LineEnds board (fault_of f) (chain guest readable writable)
+    → HostChains was now h guest readable writable (Err f) h' → IsHostOf board h → IsWithin (length board) (chain guest readable writable) → LineEnds board h'.runner.answered (fault_of f) (chain guest readable writable)
 chain_stops was now board h h' guest readable writable f explains chains is within =
     let inside = within.0 in
     let count = is.own.count in
@@ -105,16 +107,16 @@ chain_stops was now board h h' guest readable writable f explains chains is with
     c.after c.stuck
   where
     by : (g : GuestView) (after : Option GuestView) (why : Option Stuck) → g.stuck ≡ why → IsGuestOf board guest g → (g.stuck ≡ None → IsAtRest g.driver)
-        → ReasonAt (Some g) after h.runner readable writable (Err f) h'.runner → (x : GuestView) → StuckBy was now g.stuck g (Err f) x h h' → LineEnds board (fault_of f) (chain guest readable writable)
+        → ReasonAt (Some g) after h.runner readable writable (Err f) h'.runner → (x : GuestView) → StuckBy was now g.stuck g (Err f) x h h' → LineEnds board h'.runner.answered (fault_of f) (chain guest readable writable)
     by g after (Some why) same own clear reason x stuck = (let told = (subst (λ s. StuckBy was now s g (Err f) x h h') same stuck).0 in absurd (cc))
     by g None None same own clear reason x stuck = absurd reason
     by g (Some g') None same own clear reason x stuck =
         chain_reason board f g g' h.runner h'.runner guest readable writable (guest_of board guest g.device.config IsGuest is.in_range.each own.config) own (clear same) (reason.0 same)
 
 -- a store of one of the board's guests
-store_reason : (board : List GuestConfig) (f : HostFault) (g g' : GuestView) (guest at : ℕ) (bytes : List ℕ) → IsGuestOf board guest g → StoresInto g at bytes (Err f) g' → LineEnds board (fault_of f) (store guest at bytes)
-store_reason board f g g' guest at bytes own stores =
-    subst (λ e. LineEnds board (fault_of e) (store guest at bytes)) (sym stores.0) (subst (λ o. IsOutside o at (length bytes)) (sym own.config) (subst (λ n. n < at + length bytes) own.memory (past (length g.device.memory) (at + length bytes) stores.1)))
+store_reason : (board : List GuestConfig) (n : ℕ) (f : HostFault) (g g' : GuestView) (guest at : ℕ) (bytes : List ℕ) → IsGuestOf board guest g → StoresInto g at bytes (Err f) g' → LineEnds board n (fault_of f) (store guest at bytes)
+store_reason board n f g g' guest at bytes own stores =
+    subst (λ e. LineEnds board n (fault_of e) (store guest at bytes)) (sym stores.0) (subst (λ o. IsOutside o at (length bytes)) (sym own.config) (subst (λ n. n < at + length bytes) own.memory (past (length g.device.memory) (at + length bytes) stores.1)))
   where
     past : (whole end : ℕ) → ¬ (end ≤ whole) → whole < end
     past whole end within = by (nat_lt whole end) refl
@@ -124,13 +126,13 @@ store_reason board f g g' guest at bytes own stores =
         by false is = absurd (within (grind (arith, nat_tests, is)))
 
 pub store_stops : (board : List GuestConfig) (h h' : HostView) (guest at : ℕ) (bytes : List ℕ) (f : HostFault) → HostStores h guest at bytes (Err f) h' → IsHostOf board h → IsWithin (length board) (store guest at bytes)
-    → LineEnds board (fault_of f) (store guest at bytes)
+    → LineEnds board h'.runner.answered (fault_of f) (store guest at bytes)
 store_stops board h h' guest at bytes f stores is within =
     let inside = within.0 in
     let count = is.own.count in
     let g = there_is h.guests guest (omega (arith, inside, count)) in
     let s = subst (λ o. StoresAt o h guest at bytes (Err f) h') g.1 stores in
-    store_reason board f g.0 s.0 guest at bytes (is.own.each guest g.0 g.1) s.1
+    store_reason board h'.runner.answered f g.0 s.0 guest at bytes (is.own.each guest g.0 g.1) s.1
 
 -- one that went well lies in that memory
 pub store_inside : (board : List GuestConfig) (h h' : HostView) (guest at : ℕ) (bytes : List ℕ) → HostStores h guest at bytes (Ok tt) h' → IsHostOf board h → IsWithin (length board) (store guest at bytes)
@@ -143,7 +145,7 @@ store_inside board h h' guest at bytes stores is within =
     let own = is.own.each guest g.0 g.1 in
     subst (λ o. IsInside o at (length bytes)) (sym own.config) (subst (λ n. at + length bytes ≤ n) own.memory s.1.0)
 
-pub reset_stops : (board : List GuestConfig) (h h' : HostView) (guest : ℕ) (f : HostFault) → HostResetsGuest h guest (Err f) h' → IsHostOf board h → IsWithin (length board) (reset guest) → LineEnds board (fault_of f) (reset guest)
+pub reset_stops : (board : List GuestConfig) (h h' : HostView) (guest : ℕ) (f : HostFault) → HostResetsGuest h guest (Err f) h' → IsHostOf board h → IsWithin (length board) (reset guest) → LineEnds board h'.runner.answered (fault_of f) (reset guest)
 reset_stops board h h' guest f resets is within =
     let count = is.own.count in
     let g = there_is h.guests guest (omega (arith, within, count)) in
@@ -159,32 +161,51 @@ chain_hosts board h h' guest readable writable answer explains is =
 pub kept_hosts : (board : List GuestConfig) (h h' : HostView) → HostKeeps h h' → IsHostOf board h → IsHostOf board h'
 kept_hosts board h h' keeps is = (let k = keeps board is.own in record { in_range = is.in_range; own = k.0; clear = k.1 is.clear })
 
--- what one line comes to, a run may
-pub of_running : (board : List GuestConfig) (f : Fault) (line : Said) → LineEnds board f line → IsOfRunning f
-of_running board fault.FileFault line ends = tt
-of_running board fault.NoMemory line ends = tt
-of_running board fault.HistoryFull line ends = tt
-of_running board fault.OutOfRange line ends = tt
-of_running board fault.DiskFault line ends = absurd ends
-of_running board (fault.BadScript n) line ends = absurd ends
-of_running board fault.NotFormatted line ends = absurd ends
-of_running board fault.OtherConfig line ends = absurd ends
-of_running board fault.Busy line ends = absurd ends
-of_running board fault.NoRoom line ends = absurd ends
-of_running board fault.Foreign line ends = absurd ends
-of_running board fault.BadBoard line ends = absurd ends
-
 -- the writing of a chain's line
-pub writing_ends : (board : List GuestConfig) (f : Fault) (guest : ℕ) (readable : List ℕ) (writable : ℕ) → IsOfWriting f → LineEnds board f (chain guest readable writable)
-writing_ends board fault.FileFault guest readable writable of = tt
-writing_ends board fault.NoMemory guest readable writable of = tt
-writing_ends board fault.HistoryFull guest readable writable of = absurd of
-writing_ends board fault.OutOfRange guest readable writable of = absurd of
-writing_ends board fault.DiskFault guest readable writable of = absurd of
-writing_ends board (fault.BadScript n) guest readable writable of = absurd of
-writing_ends board fault.NotFormatted guest readable writable of = absurd of
-writing_ends board fault.OtherConfig guest readable writable of = absurd of
-writing_ends board fault.Busy guest readable writable of = absurd of
-writing_ends board fault.NoRoom guest readable writable of = absurd of
-writing_ends board fault.Foreign guest readable writable of = absurd of
-writing_ends board fault.BadBoard guest readable writable of = absurd of
+writing_ends : (board : List GuestConfig) (n : ℕ) (f : Fault) (guest : ℕ) (readable : List ℕ) (writable : ℕ) → IsOfWriting f → LineEnds board n f (chain guest readable writable)
+writing_ends board n fault.FileFault guest readable writable of = tt
+writing_ends board n fault.NoMemory guest readable writable of = tt
+writing_ends board n fault.HistoryFull guest readable writable of = absurd of
+writing_ends board n fault.OutOfRange guest readable writable of = absurd of
+writing_ends board n fault.DiskFault guest readable writable of = absurd of
+writing_ends board n (fault.BadScript k) guest readable writable of = absurd of
+writing_ends board n fault.NotFormatted guest readable writable of = absurd of
+writing_ends board n fault.OtherConfig guest readable writable of = absurd of
+writing_ends board n fault.Busy guest readable writable of = absurd of
+writing_ends board n fault.NoRoom guest readable writable of = absurd of
+writing_ends board n fault.Foreign guest readable writable of = absurd of
+writing_ends board n fault.BadBoard guest readable writable of = absurd of
+
+-- 2. Of a line's call
+
+-- the guests stay the board's
+pub line_hosts : {D : Type 0} (board : List GuestConfig) (line : Said) (h h' : HostState D) (start now : Option (List ℕ)) → LineDone line h start now h' → IsHostOf board (seen h) → IsHostOf board (seen h')
+line_hosts board nothing h h' start now did is = subst (λ x. IsHostOf board (seen x)) (sym did.0) is
+line_hosts board (chain guest readable writable) h h' start now did is = chain_hosts board (seen h) (seen h') guest readable writable did.answer did.call.reason is
+line_hosts board (store guest at bytes) h h' start now did is = kept_hosts board (seen h) (seen h') did.0.guests is
+line_hosts board (reset guest) h h' start now did is = kept_hosts board (seen h) (seen h') did.0.guests is
+
+-- a store of a line that is done lies in its guest's memory
+pub line_inside : {D : Type 0} (board : List GuestConfig) (line : Said) (h h' : HostState D) (start now : Option (List ℕ)) → LineDone line h start now h' → IsHostOf board (seen h) → IsWithin (length board) line → StoresInside board line
+line_inside board nothing h h' start now did is within = tt
+line_inside board (chain guest readable writable) h h' start now did is within = tt
+line_inside board (store guest at bytes) h h' start now did is within = store_inside board (seen h) (seen h') guest at bytes did.0.own is within
+line_inside board (reset guest) h h' start now did is within = tt
+
+-- the fault of a line that ended the run
+chain_ended : {D : Type 0} (board : List GuestConfig) (h h' : HostState D) (guest : ℕ) (readable : List ℕ) (writable : ℕ) (told : Result Answer HostFault) (f : Fault) → ChainFault told f
+    → HostExplains (seen h) guest readable writable told (seen h') → HostChains (is_broken h.board) (is_broken h'.board) (seen h) guest readable writable told (seen h')
+    → IsHostOf board (seen h) → IsWithin (length board) (chain guest readable writable) → LineEnds board (seen h').runner.answered f (chain guest readable writable)
+chain_ended board h h' guest readable writable (Ok answer) f cause explains chains is within = writing_ends board (seen h').runner.answered f guest readable writable cause
+chain_ended board h h' guest readable writable (Err e) f cause explains chains is within =
+    subst (λ x. LineEnds board (seen h').runner.answered x (chain guest readable writable)) (sym cause)
+    (chain_stops (is_broken h.board) (is_broken h'.board) board (seen h) (seen h') guest readable writable e explains chains is within)
+
+pub line_ends : {D : Type 0} (board : List GuestConfig) (line : Said) (h h' : HostState D) (f : Fault) → LineFails line h f h' → IsHostOf board (seen h) → IsWithin (length board) line
+    → LineEnds board (seen h').runner.answered f line
+line_ends board nothing h h' f fails is within = absurd fails
+line_ends board (chain guest readable writable) h h' f fails is within = chain_ended board h h' guest readable writable fails.told f fails.cause fails.call.reason fails.call.own is within
+line_ends board (store guest at bytes) h h' f fails is within =
+    subst (λ x. LineEnds board (seen h').runner.answered x (store guest at bytes)) (sym fails.2) (store_stops board (seen h) (seen h') guest at bytes fails.0 fails.1.own is within)
+line_ends board (reset guest) h h' f fails is within =
+    subst (λ x. LineEnds board (seen h').runner.answered x (reset guest)) (sym fails.2) (reset_stops board (seen h) (seen h') guest fails.0 fails.1.own is within)

@@ -30,7 +30,7 @@ use Rattle.board.specs.State.{BoardState}
 use Rattle.workers.specs.Following.{IsAtRest}
 use Rattle.workers.specs.Keeping.{Keeps, LeavesWhole, Reaches, after_all, to_keep}
 use Rattle.commands.specs.Image.{AreOf}
-use Rattle.commands.specs.ServedImage.{LeavesOne, ServeKeeps, LeavesOnFrom, ServeMoments, ServesImage, TellsFailed}
+use Rattle.commands.specs.ServedImage.{LeavesOne, ServeKeeps, LeavesOnFrom, ServeMoments, ServesImage}
 use Rattle.commands.specs.declared.fault.Fault.{Fault}
 use Rattle.commands.specs.declared.fault.Fault.TheVariants as fault
 
@@ -163,26 +163,12 @@ told_of shows board b book store life begins is at =
 
 -- 3. By how it ended
 
-tells_failed : (f : Fault) (failed : Bool) → (f ≡ fault.DiskFault → failed ≡ true) → TellsFailed f failed
-tells_failed fault.DiskFault failed is = is refl
-tells_failed (fault.BadScript line) failed is = tt
-tells_failed fault.NoMemory failed is = tt
-tells_failed fault.NotFormatted failed is = tt
-tells_failed fault.OtherConfig failed is = tt
-tells_failed fault.OutOfRange failed is = tt
-tells_failed fault.Busy failed is = tt
-tells_failed fault.HistoryFull failed is = tt
-tells_failed fault.NoRoom failed is = tt
-tells_failed fault.Foreign failed is = tt
-tells_failed fault.BadBoard failed is = tt
-tells_failed fault.FileFault failed is = tt
-
 module _ {D : Type 0} (shows : D → DiskState) (makes : D → DiskCall → D → Type 0) (board : List GuestConfig) (disk : D) where
   pub told_keeps : (r : Result (Unit {0}) Fault) (back : Option D) (d : D) (failed : Bool) → back ≡ Some d → OnOk r (failed ≡ false) → (r ≡ Err fault.DiskFault → failed ≡ true) → ServesImage shows makes board disk failed d → ServeKeeps shows makes board disk r back
   told_keeps (Ok done) back d failed is whole cause served =
       subst (λ o. IfSome o (ServesImage shows makes board disk false)) (sym is) (subst (λ v. ServesImage shows makes board disk v d) whole served)
   told_keeps (Err f) back d failed is whole cause served =
-      subst (λ o. IfSome o (ServeMoments shows makes board disk f)) (sym is) (inr (failed, tells_failed f failed (λ e. cause (ap Err e)), served))
+      subst (λ o. IfSome o (ServeMoments shows makes board disk f)) (sym is) (inr (failed, (λ e. cause (ap Err e)), served))
 
   -- the image wasn't opened
   pub unserved_keeps : (f : Fault) (back : D) → Within shows makes (Untouched (shows disk)) disk back → ServeKeeps shows makes board disk (Err f) (Some back)
@@ -190,14 +176,3 @@ module _ {D : Type 0} (shows : D → DiskState) (makes : D → DiskCall → D �
 
   pub uncalled_keeps : (f : Fault) → ServeKeeps shows makes board disk (Err f) (Some disk)
   uncalled_keeps f = inl (Still disk (record { len = refl; faithful = refl; later = omega arith; seen = λ known k. refl; unsynced = λ known k old. old }))
-
-  -- what it says of a good end, and of a fault
-  pub keeps_done : (r : Result (Unit {0}) Fault) (back : Option D) (done : Unit {0}) → ServeKeeps shows makes board disk r back → r ≡ Ok done → IfSome back (ServesImage shows makes board disk false)
-  keeps_done r back done keeps is = subst (λ v. ServeKeeps shows makes board disk v back) is keeps
-
-  pub keeps_failed : (r : Result (Unit {0}) Fault) (back : Option D) (f : Fault) → ServeKeeps shows makes board disk r back → r ≡ Err f → IfSome back (ServeMoments shows makes board disk f)
-  keeps_failed r back f keeps is = subst (λ v. ServeKeeps shows makes board disk v back) is keeps
-
-pub if_some_weaker : {X : Type 0} {P Q : X → Type 0} (o : Option X) → ((x : X) → P x → Q x) → IfSome o P → IfSome o Q
-if_some_weaker None f is = tt
-if_some_weaker (Some x) f is = f x is

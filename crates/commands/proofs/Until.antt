@@ -1,6 +1,5 @@
 -- What lines print where a call of the disk fails in one of them.
-use Rattle.std.proofs.Common.{◌≡◌, ℕ, zero, suc, ◌+◌, ◌<◌, Bool, true, false, List, [], ◌∷◌, ◌++◌, Option, Some, None, get_or, length, refl, ap, subst, sym, ◌∙◌, arith}
-use Rattle.std.proofs.KnownBytes.{Appends-nil, Appends-trans}
+use Rattle.std.proofs.Common.{◌≡◌, ℕ, zero, suc, ◌+◌, ◌<◌, Bool, true, false, List, [], ◌∷◌, ◌++◌, Option, Some, None, get_or, length, refl, ap, sym, ◌∙◌, arith}
 use Rattle.std.proofs.lemmas.List.{append_assoc, append-nil}
 use Rattle.std.specs.Prelude.{slice_get}
 use Rattle.std.specs.Io.KnownBytes.{Appends}
@@ -11,8 +10,7 @@ use Rattle.script.specs.Line.{Said, nothing, chain, store, reset}
 use Rattle.host.specs.Host.{HostView}
 use Rattle.host.specs.Ready.{job_of}
 use Rattle.host.specs.Runner.{answer_at, answer_since_at, cores_when, reply_of, reply_when}
-use Rattle.commands.specs.Failing.{Breaks, IsChainAt, IsFailedIn, Runs, RunsSince, WroteAll, failures, printed_since, text_when, told_broken, told_since, told_until, told_when, transcript_until}
-use Rattle.commands.specs.Image.{Tells}
+use Rattle.commands.specs.Failing.{IsChainAt, IsFailedIn, failures, printed_since, text_when, told_broken, told_since, told_until, told_when, transcript_until}
 use Rattle.commands.specs.Running.{IsAt, IsChain, answered_by, answered_in}
 use Rattle.commands.specs.Transcript.{StoresNothing, Told, printed_by, told_after, told_by, transcript, used_line}
 use Rattle.commands.proofs.Printing.{told_after-append, transcript-append}
@@ -97,45 +95,35 @@ chain_here : (lines : List Said) (line : Said) → IsChain line → IsChainAt (l
 chain_here [] line is = is
 chain_here (first ∷ lines) line is = chain_here lines line is
 
--- 4. Where a run stands
+-- 4. One line more
 
--- what was printed so far is what those lines print that are done, by the line in which a call failed first
-pub record Stood (broke : Bool) (start here : Option (List ℕ)) (first : Told) (h : HostView) (all rest : List Said) : Type 0 where
-  pub failed : Option ℕ
-  pub done : List Said
-  pub steps : ℕ
-  pub known : IsFailedIn broke failed done
-  pub parts : all ≡ done ++ rest
-  pub so_far : Appends start here (text_when failed first done)
-  pub at : IsAt steps (told_when failed first done) h
-  pub counted : steps + length rest ≡ length all
-  pub answered : h.runner.answered ≡ answered_in done
+-- a broken store stays so, and only a chain breaks one
+abbrev pub Breaks : Bool → Bool → Said → Type 0
+Breaks true broke line = broke ≡ true
+Breaks false true line = IsChain line
+Breaks false false line = Unit {0}
 
--- a line more
-answered_more : (lines : List Said) (line : Said) → answered_in (lines ++ line ∷ []) ≡ answered_in lines + answered_by line
+-- a line printed what it prints there, and brought the host on
+pub record HasRunSince (was broke : Bool) (steps : ℕ) (t : Told) (line : Said) (start next : Option (List ℕ)) (h h' : HostView) : Type 0 where
+  pub printed : Appends start next (printed_since was broke t line)
+  pub after : IsAt (steps + 1) (told_since was broke t line) h'
+  pub answered : h'.runner.answered ≡ h.runner.answered + answered_by line
+
+-- what a line does to a host whose guests are ready, whether a call failed or not
+abbrev pub RunsSince : Bool → Bool → HostView → Said → Option (List ℕ) → Option (List ℕ) → HostView → Type 0
+RunsSince was broke h line start next h' = (steps : ℕ) → (t : Told) → steps + 2 < last_count → IsAt steps t h → HasRunSince was broke steps t line start next h h'
+
+pub answered_more : (lines : List Said) (line : Said) → answered_in (lines ++ line ∷ []) ≡ answered_in lines + answered_by line
 answered_more [] line = omega arith
 answered_more (first ∷ lines) line = (let more = answered_more lines line in omega (arith, more))
 
-text_none : (t : Told) → [] ≡ transcript t []
+pub text_none : (t : Told) → [] ≡ transcript t []
 unfolding transcript
 text_none t = refl
 
-told_none : (t : Told) → t ≡ told_after t []
+pub told_none : (t : Told) → t ≡ told_after t []
 unfolding told_after
 told_none t = refl
-
-pub begin_whole : (start : Option (List ℕ)) (h : HostView) (all : List Said) (t : Told) → IsAt 0 t h → h.runner.answered ≡ 0 → Stood false start start t h all all
-begin_whole start h all t at none = record {
-  failed = None;
-  done = [];
-  steps = 0;
-  known = tt;
-  parts = refl;
-  so_far = subst (Appends start start) (text_none t) (Appends-nil start);
-  at = subst (λ x. IsAt 0 x h) (told_none t) at;
-  counted = omega arith;
-  answered = none;
-}
 
 -- the line that failed first once one more line was run, what is printed with it, and what it makes of the guests
 pub record Failing (was broke : Bool) (failed : Option ℕ) (first : Told) (done : List Said) (line : Said) : Type 0 where
@@ -144,7 +132,7 @@ pub record Failing (was broke : Bool) (failed : Option ℕ) (first : Told) (done
   pub text : text_when next first (done ++ line ∷ []) ≡ text_when failed first done ++ printed_since was broke (told_when failed first done) line
   pub told : told_when next first (done ++ line ∷ []) ≡ told_since was broke (told_when failed first done) line
 
-fails_on : (was broke : Bool) (failed : Option ℕ) (first : Told) (done : List Said) (line : Said) → IsFailedIn was failed done → Breaks was broke line → Failing was broke failed first done line
+pub fails_on : (was broke : Bool) (failed : Option ℕ) (first : Told) (done : List Said) (line : Said) → IsFailedIn was failed done → Breaks was broke line → Failing was broke failed first done line
 fails_on false false None first done line known breaks = record {
   next = None;
   known = tt;
@@ -167,37 +155,6 @@ fails_on true false (Some n) first done line known breaks = absurd (cc)
 fails_on false broke (Some n) first done line known breaks = absurd known
 fails_on true broke None first done line known breaks = absurd known
 
--- a line was run
-pub stood_on : (was broke : Bool) (start here next : Option (List ℕ)) (first : Told) (h h' : HostView) (all rest : List Said) (line : Said) → length all + 2 < last_count
-    → Breaks was broke line → Stood was start here first h all (line ∷ rest) → RunsSince was broke h line here next h' → Stood broke start next first h' all rest
-stood_on was broke start here next first h h' all rest line few breaks stood runs =
-    let counted = stood.counted in
-    let told = told_when stood.failed first stood.done in
-    let ran = runs stood.steps told (omega (arith, counted, few)) stood.at in
-    let on = fails_on was broke stood.failed first stood.done line stood.known breaks in
-    record {
-      failed = on.next;
-      done = stood.done ++ line ∷ [];
-      steps = stood.steps + 1;
-      known = on.known;
-      parts = stood.parts ∙ sym (append_assoc stood.done (line ∷ []) rest);
-      so_far = subst (Appends start next) (sym on.text) (Appends-trans start here next (text_when stood.failed first stood.done) (printed_since was broke told line) stood.so_far ran.printed);
-      at = subst (λ x. IsAt (stood.steps + 1) x h') (sym on.told) ran.after;
-      counted = omega (arith, counted);
-      answered = (let before = stood.answered in let more = ran.answered in let added = answered_more stood.done line in omega (arith, before, more, added));
-    }
-
--- all lines were run
-pub stood_all : (broke : Bool) (start here : Option (List ℕ)) (first : Told) (h : HostView) (all : List Said) → Stood broke start here first h all [] → WroteAll broke first all start here h
-stood_all broke start here first h all stood =
-    let whole : stood.done ≡ all = sym (append-nil stood.done) ∙ sym stood.parts in
-    record {
-      failed = stood.failed;
-      known = subst (IsFailedIn broke stood.failed) whole stood.known;
-      printed = subst (λ ls. Appends start here (text_when stood.failed first ls)) whole stood.so_far;
-      cores = subst (λ ls. h.runner.cores ≡ (told_when stood.failed first ls).cores) whole stood.at.cores;
-    }
-
 -- none of the first of these lines stores, and the next doesn't
 pub clean_before : (done rest : List Said) → StoresNothing (done ++ rest) → StoresNothing done
 clean_before [] rest clean = tt
@@ -215,29 +172,6 @@ clean_next (nothing ∷ done) rest line clean = clean_next done rest line clean
 clean_next (chain guest readable writable ∷ done) rest line clean = clean_next done rest line clean
 clean_next (store guest at bytes ∷ done) rest line clean = absurd clean
 clean_next (reset guest ∷ done) rest line clean = clean_next done rest line clean
-
--- a line was run that doesn't store
-pub step : (was broke : Bool) (start here next : Option (List ℕ)) (first : Told) (h h' : HostView) (all rest : List Said) (line : Said) → length all + 2 < last_count
-    → Breaks was broke line → StoresNothing (line ∷ []) → Stood was start here first h all (line ∷ rest) → Runs was broke h line here next h' → Stood broke start next first h' all rest
-step was broke start here next first h h' all rest nothing few breaks clean stood runs = stood_on was broke start here next first h h' all rest nothing few breaks stood runs
-step was broke start here next first h h' all rest (chain guest readable writable) few breaks clean stood runs =
-    stood_on was broke start here next first h h' all rest (chain guest readable writable) few breaks stood runs
-step was broke start here next first h h' all rest (store guest at bytes) few breaks clean stood runs = absurd clean
-step was broke start here next first h h' all rest (reset guest) few breaks clean stood runs = stood_on was broke start here next first h h' all rest (reset guest) few breaks stood runs
-
--- and of lines none of which stores
-pub step_clean : (was broke : Bool) (start here next : Option (List ℕ)) (first : Told) (h h' : HostView) (all rest : List Said) (line : Said) → length all + 2 < last_count
-    → Breaks was broke line → StoresNothing all → Stood was start here first h all (line ∷ rest) → Runs was broke h line here next h' → Stood broke start next first h' all rest
-step_clean was broke start here next first h h' all rest line few breaks clean stood runs =
-    step was broke start here next first h h' all rest line few breaks (clean_next stood.done rest line (subst StoresNothing stood.parts clean)) stood runs
-
--- where no call has failed, lines have printed the transcript
-pub tells_of : (broke : Bool) (t : Told) (lines : List Said) (start now : Option (List ℕ)) (h : HostView) → broke ≡ false → WroteAll broke t lines start now h → Tells t lines start now h
-tells_of broke t lines start now h whole wrote = by wrote.failed (subst (λ b. IsFailedIn b wrote.failed lines) whole wrote.known) wrote.printed wrote.cores
-  where
-    by : (failed : Option ℕ) → IsFailedIn false failed lines → Appends start now (text_when failed t lines) → h.runner.cores ≡ (told_when failed t lines).cores → Tells t lines start now h
-    by None known printed cores = record { printed = printed; cores = cores }
-    by (Some n) known printed cores = absurd known
 
 -- which lines break a store
 pub breaks_chain : (was broke : Bool) (guest : ℕ) (readable : List ℕ) (writable : ℕ) → (broke ≡ false → was ≡ false) → Breaks was broke (chain guest readable writable)

@@ -1,15 +1,17 @@
 -- The call of the host that a line makes, and what it came to.
-use Rattle.std.specs.Prelude.{◌≡◌, ℕ, List, [], ◌∷◌, Option, Result, Ok, Err, slice_get}
+use Rattle.std.specs.Prelude.{◌≡◌, ℕ, false, List, [], ◌∷◌, Option, Result, Ok, Err, slice_get}
 use Rattle.std.specs.Io.KnownBytes.{Appends, Keeps}
 use Rattle.script.specs.Line.{Said, nothing, chain, store, reset}
-use Rattle.host.specs.Calm.{is_broken}
+use Rattle.disk.specs.Disk.{DiskCall, DiskState}
+use Rattle.host.specs.Calm.{IsCalm, is_broken}
 use Rattle.host.specs.Host.{HostAnswers, HostChains, HostResets, HostResetsGuest, HostState}
 use Rattle.host.specs.Host.{HostStores, seen}
-use Rattle.host.specs.Reasons.{HostExplains}
+use Rattle.host.specs.Moving.{Moves}
+use Rattle.host.specs.Reasons.{HostExplains, HostKeeps}
 use Rattle.host.specs.Spares.{Spares, most_at}
 use Rattle.host.specs.declared.fault.HostFault.{HostFault}
 use Rattle.host.specs.declared.front.Answer.{Answer}
-use Rattle.commands.specs.Ending.{IsOfWriting}
+use Rattle.commands.specs.Ending.{IsOfWriting, KeepsUnless}
 use Rattle.commands.specs.Fault.{fault_of}
 use Rattle.commands.specs.Serving.{answer_line}
 use Rattle.commands.specs.declared.fault.Fault.{Fault}
@@ -32,6 +34,7 @@ pub record ChainCall {D : Type 0} (h : HostState D) (guest : ℕ) (readable : Li
 pub record StoreCall {D : Type 0} (h : HostState D) (guest at : ℕ) (bytes : List ℕ)
     (told : Result (Unit {0}) HostFault) (h' : HostState D) : Type 0 where
   pub own : HostStores (seen h) guest at bytes told (seen h')
+  pub guests : HostKeeps (seen h) (seen h')
   pub same : is_broken h'.board ≡ is_broken h.board
 
 -- and of a reset
@@ -39,6 +42,7 @@ pub record ResetCall {D : Type 0} (h : HostState D) (guest : ℕ)
     (told : Result (Unit {0}) HostFault) (h' : HostState D) : Type 0 where
   pub own : HostResetsGuest (seen h) guest told (seen h')
   pub ready : HostResets (seen h) guest told (seen h')
+  pub guests : HostKeeps (seen h) (seen h')
   pub same : is_broken h'.board ≡ is_broken h.board
 
 -- 2. A line that is done
@@ -81,3 +85,20 @@ LineFails (reset guest) h f h' = (fault : HostFault) × ResetCall h guest (Err f
 abbrev pub NextFails : {D : Type 0} → List Said → HostState D → Fault → HostState D → Type 0
 NextFails [] h f h' = ⊥
 NextFails (line ∷ rest) h f h' = LineFails line h f h'
+
+-- 4. What a line does
+
+-- it is done; or it ended the run, and printed nothing unless standard output took no more
+abbrev pub LineEnded : {D : Type 0} → Said → HostState D → Option (List ℕ) → Result (Unit {0}) Fault → Option (List ℕ)
+    → HostState D → Type 0
+LineEnded line h start (Ok done) now h' = LineDone line h start now h'
+LineEnded line h start (Err f) now h' = LineFails line h f h' × KeepsUnless f start now
+
+-- with what its call leads to at each moment, and a book that is calm between two lines
+pub record LineRuns {D : Type 0} (shows : D → DiskState) (makes : D → DiskCall → D → Type 0)
+    (line : Said) (h : HostState D) (start : Option (List ℕ)) (ended : Result (Unit {0}) Fault)
+    (now : Option (List ℕ)) (h' : HostState D) : Type 0 where
+  pub did : LineEnded line h start ended now h'
+  pub moves : Moves shows makes h.board h'.board
+  pub whole : is_broken h'.board ≡ false → is_broken h.board ≡ false
+  pub calm : IsCalm shows h.board → IsCalm shows h'.board

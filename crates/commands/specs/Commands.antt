@@ -11,15 +11,16 @@ use Rattle.recovery.specs.Format.{ClearsFirst, IsFormatted}
 use Rattle.recovery.specs.Opening.{IsImage, Untouched}
 use Rattle.recovery.specs.Upgrade.{IsNamed, StandsThroughout}
 use Rattle.script.specs.Line.{Said}
-use Rattle.commands.specs.Ending.{FormatEnds, IsReadAlone, KeepsUnless, RunEnds, RunPrints, ShowEnds, Takes}
+use Rattle.commands.specs.Ending.{Ends, IsReadAlone, KeepsUnless, RunPrints, Takes, formatting, running, serving}
+use Rattle.commands.specs.Ending.{showing, upgrading}
 use Rattle.commands.specs.Fault.{fault_line}
 use Rattle.commands.specs.Image.{Ran}
 use Rattle.commands.specs.Listing.{Lists, formatted_line}
 use Rattle.commands.specs.Moments.{AnyMoment}
 use Rattle.commands.specs.ServedImage.{ServeKeeps}
-use Rattle.commands.specs.Serving.{IsUnservedAt, ServeEnds, ServeLeaves, ServePrints, ServesAll}
+use Rattle.commands.specs.Serving.{IsUnservedAt, ServeLeaves, ServePrints, ServesAll}
 use Rattle.commands.specs.Transcript.{IsBadAt, Says, StoresNothing}
-use Rattle.commands.specs.Upgrading.{PrintsUpgrade, UpgradeEnds}
+use Rattle.commands.specs.Upgrading.{PrintsUpgrade}
 use Rattle.commands.specs.declared.fault.Fault.{Fault}
 
 pub record FormatDoes {D : Type 0} (shows : D → DiskState) (makes : D → DiskCall → D → Type 0)
@@ -27,7 +28,7 @@ pub record FormatDoes {D : Type 0} (shows : D → DiskState) (makes : D → Disk
     (new : D) (now : Option (List ℕ)) : Type 0 where
   pub formatted : OnOk ended ((shows old).faithful ≡ true → IsFormatted 1 (capacities_of board) (shows new))
   pub printed : OnOk ended (Appends start now (formatted_line (image_length (capacities_of board))))
-  pub ends : IfErr ended (FormatEnds (capacities_of board) (shows old) (shows new))
+  pub ends : IfErr ended (Ends formatting board (shows old) (shows new))
   pub silent : IfErr ended (λ f. KeepsUnless f start now)
   pub order : ClearsFirst shows makes (capacities_of board) old new
 
@@ -37,7 +38,7 @@ pub record ShowDoes {D : Type 0} (shows : D → DiskState) (makes : D → DiskCa
   pub shown : OnOk ended (Lists (capacities_of board) (shows old) start now)
   pub image : OnOk ended ((shows old).faithful ≡ true
       → IsImage (capacities_of board) (shows old).len (shows old).seen)
-  pub ends : IfErr ended (ShowEnds (capacities_of board) (shows old) (shows new))
+  pub ends : IfErr ended (Ends showing board (shows old) (shows new))
   pub silent : IfErr ended (λ f. KeepsUnless f start now)
   pub any_moment : Within shows makes (Untouched (shows old)) old new
   pub calls : IsReadAlone makes old new
@@ -48,7 +49,7 @@ pub record UpgradeDoes {D : Type 0} (shows : D → DiskState) (makes : D → Dis
   pub stands : StandsThroughout shows makes (capacities_of board) old new
   pub named : OnOk ended ((shows old).faithful ≡ true → IsNamed (shows new))
   pub printed : OnOk ended (PrintsUpgrade (capacities_of board) (shows old) start now)
-  pub ends : IfErr ended (UpgradeEnds (capacities_of board) (shows old) (shows new))
+  pub ends : IfErr ended (Ends upgrading board (shows old) (shows new))
   pub silent : IfErr ended (λ f. KeepsUnless f start now)
 
 pub record RunDoes {D : Type 0} (shows : D → DiskState) (makes : D → DiskCall → D → Type 0)
@@ -57,7 +58,7 @@ pub record RunDoes {D : Type 0} (shows : D → DiskState) (makes : D → DiskCal
   pub ran : OnOk ended ((lines : List Said) → Says board script lines → StoresNothing lines
       → Ran board (shows old) (shows new) lines start now)
   pub bad : (n : ℕ) → IsBadAt board script n → IsErr ended × Keeps start now × (new ≡ old)
-  pub ends : IfErr ended (RunEnds board script (shows old) (shows new))
+  pub ends : IfErr ended (Ends (running script) board (shows old) (shows new))
   pub moments : (lines : List Said) → Says board script lines
       → AnyMoment shows makes board lines old start ended new now
   pub stopped : IfErr ended (λ f. RunPrints board script (shows old) (shows new) f start now)
@@ -68,7 +69,7 @@ pub record ServeDoes {D : Type 0} (shows : D → DiskState) (makes : D → DiskC
     (ended : Result (Unit {0}) Fault) (given : Option D) (now : Option (List ℕ)) : Type 0 where
   pub printed : OnOk ended (ServesAll board script start now)
   pub back : OnOk ended (IsSome given)
-  pub ends : IfErr ended (ServeEnds board script (shows old))
+  pub ends : IfErr ended (λ f. (new : DiskState) → Ends (serving script) board (shows old) new f)
   pub prints : IfErr ended (λ f. ServePrints board script f start now)
   pub leaves : IfErr ended (λ f. ServeLeaves shows makes old f given)
   pub keeps : ServeKeeps shows makes board old ended given

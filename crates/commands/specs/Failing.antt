@@ -1,13 +1,11 @@
 -- What a script prints where a call of the disk fails while it runs.
-use Rattle.std.specs.Prelude.{◌≡◌, ℕ, zero, suc, ◌+◌, ◌<◌, Bool, true, false, List, [], ◌∷◌, ◌++◌}
+use Rattle.std.specs.Prelude.{ℕ, zero, suc, Bool, true, false, List, [], ◌∷◌, ◌++◌}
 use Rattle.std.specs.Prelude.{Option, Some, None, get_or}
-use Rattle.std.specs.Io.KnownBytes.{Appends}
-use Rattle.mmio_transport.specs.Device.{last_count}
 use Rattle.disk.specs.Disk.{DiskState, HasRisen}
 use Rattle.script.specs.Line.{Said, nothing, chain, store, reset}
-use Rattle.host.specs.Host.{HostView, sessions_after}
+use Rattle.host.specs.Host.{sessions_after}
 use Rattle.host.specs.Ready.{job_of}
-use Rattle.commands.specs.Running.{IsAt, IsChain, answered_by}
+use Rattle.commands.specs.Running.{IsChain}
 use Rattle.host.specs.Runner.{cores_when, reply_when}
 use Rattle.commands.specs.Transcript.{Told, printed_by, told_by, transcript, told_after, used_line}
 
@@ -84,39 +82,3 @@ IsFailedIn true (Some n) lines = IsChainAt n lines
 abbrev pub HasFailed : Option ℕ → List Said → DiskState → DiskState → Type 0
 HasFailed None lines old new = Unit {0}
 HasFailed (Some n) lines old new = IsChainAt n lines × HasRisen old.failures new.failures
-
--- a broken store stays so, and only a chain breaks one
-abbrev pub Breaks : Bool → Bool → Said → Type 0
-Breaks true broke line = broke ≡ true
-Breaks false true line = IsChain line
-Breaks false false line = Unit {0}
-
--- 3. A line, and all lines
-
--- a line printed what it prints there, and brought the host on
-pub record HasRunSince (was broke : Bool) (steps : ℕ) (t : Told) (line : Said)
-    (start next : Option (List ℕ)) (h h' : HostView) : Type 0 where
-  pub printed : Appends start next (printed_since was broke t line)
-  pub after : IsAt (steps + 1) (told_since was broke t line) h'
-  pub answered : h'.runner.answered ≡ h.runner.answered + answered_by line
-
--- what a line does to a host that stands there, whether a call failed or not
-abbrev pub RunsSince : Bool → Bool → HostView → Said → Option (List ℕ) → Option (List ℕ) → HostView → Type 0
-RunsSince was broke h line start next h' = (steps : ℕ) → (t : Told) → steps + 2 < last_count
-    → IsAt steps t h → HasRunSince was broke steps t line start next h h'
-
--- the same of each kind of line; a store promises nothing
-abbrev pub Runs : Bool → Bool → HostView → Said → Option (List ℕ) → Option (List ℕ) → HostView → Type 0
-Runs was broke h nothing start next h' = RunsSince was broke h nothing start next h'
-Runs was broke h (chain guest readable writable) start next h' =
-    RunsSince was broke h (chain guest readable writable) start next h'
-Runs was broke h (store guest at bytes) start next h' = Unit {0}
-Runs was broke h (reset guest) start next h' = RunsSince was broke h (reset guest) start next h'
-
--- all lines are printed, by the line in which a call failed first
-pub record WroteAll (broke : Bool) (t : Told) (lines : List Said) (start now : Option (List ℕ))
-    (h : HostView) : Type 0 where
-  pub failed : Option ℕ
-  pub known : IsFailedIn broke failed lines
-  pub printed : Appends start now (text_when failed t lines)
-  pub cores : h.runner.cores ≡ (told_when failed t lines).cores

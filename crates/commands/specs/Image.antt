@@ -1,29 +1,22 @@
 -- The image that a run works on: what it stood for, and what it stands for afterwards.
-use Rattle.std.specs.Prelude.{◌≡◌, ◌⊎◌, ◌≤◌, ℕ, Bool, List, [], Option, Result, Ok, Err, length, true, false}
+use Rattle.std.specs.Prelude.{◌≡◌, ℕ, List, [], Option, length, true, false}
 use Rattle.std.specs.Io.KnownBytes.{Appends}
 use Rattle.rpmb_frame.specs.Config.{IsBoard}
 use Rattle.rpmb_frame.specs.Partition.{Partition}
 use Rattle.rpmb_frame.specs.declared.config.GuestConfig.{GuestConfig}
 use Rattle.disk.specs.Content.{Content}
-use Rattle.disk.specs.Disk.{DiskCall, DiskState, HasRisen, MayLeave, Within}
+use Rattle.disk.specs.Disk.{DiskCall, DiskState, MayLeave, Within}
 use Rattle.intent_slots.specs.Layout.{capacities_of}
 use Rattle.recovery.specs.Opening.{IsImage, Untouched}
 use Rattle.script.specs.Line.{Said}
 use Rattle.board.specs.Board.{StaysLinked}
 use Rattle.board.specs.Opening.{bases_of}
-use Rattle.board.specs.State.{BoardState}
-use Rattle.host.specs.Calm.{is_broken}
-use Rattle.host.specs.Finishing.{LeavesAll}
-use Rattle.host.specs.Host.{HostState, HostView, seen}
-use Rattle.host.specs.Moving.{Moves}
+use Rattle.host.specs.Host.{HostState, seen}
 use Rattle.host.specs.Runner.{runner_of}
 use Rattle.commands.specs.Listing.{AreHeld}
 use Rattle.commands.specs.Reasons.{IsHostOf}
 use Rattle.commands.specs.Running.{IsAt}
-use Rattle.commands.specs.Transcript.{Told, first_cores, first_told, output_of, partitions_after}
-use Rattle.commands.specs.Transcript.{told_after, transcript}
-use Rattle.commands.specs.declared.fault.Fault.{Fault}
-use Rattle.commands.specs.declared.fault.Fault.TheVariants as fault
+use Rattle.commands.specs.Transcript.{first_cores, first_told, output_of, partitions_after}
 
 -- The partitions of a board's image, as a disk shows it.
 pub record AreOf (board : List GuestConfig) (s : DiskState) (partitions : List Partition) : Type 0 where
@@ -57,30 +50,3 @@ pub record IsOpened {D : Type 0} (shows : D → DiskState) (makes : D → DiskCa
   pub untouched : Within shows makes (Untouched (shows disk)) disk h.board.store.disk
   pub unfailed : (shows h.board.store.disk).failures ≡ (shows disk).failures
   pub host : IsBoard board → IsHostOf board (seen h)
-
--- lines printed what the transcript says, and brought the host to the guests after them
-pub record Tells (t : Told) (lines : List Said) (start now : Option (List ℕ)) (h : HostView) : Type 0 where
-  pub printed : Appends start now (transcript t lines)
-  pub cores : h.runner.cores ≡ (told_after t lines).cores
-
--- the last board of a run, whose disk is given back
-pub record IsLastOf {D : Type 0} (shows : D → DiskState) (makes : D → DiskCall → D → Type 0)
-    (old : BoardState D) (back : D) : Type 0 where
-  pub last : BoardState D
-  pub moves : Moves shows makes old last
-  pub disk : back ≡ last.store.disk
-  pub whole : is_broken old ≡ false
-  pub runner : runner_of last ≡ runner_of old
-  pub leaves : LeavesAll shows last
-
--- a call of the disk has failed, before or between the two
-pub record Fails (broken : Bool) (old new : DiskState) : Type 0 where
-  pub later : old.failures ≤ new.failures
-  pub cause : (broken ≡ true) ⊎ HasRisen old.failures new.failures
-
--- how a run ends once all lines are at their end
-abbrev pub Finishes : {D : Type 0} → (D → DiskState) → (D → DiskCall → D → Type 0) → HostState D
-    → Result (Unit {0}) Fault → D → Type 0
-Finishes shows makes h (Ok done) disk = IsLastOf shows makes h.board disk
-Finishes shows makes h (Err f) disk =
-    (f ≡ fault.DiskFault) × Fails h.board.store.broken (shows h.board.store.disk) (shows disk)

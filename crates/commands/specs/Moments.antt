@@ -8,6 +8,8 @@ use Rattle.rpmb_frame.specs.Request.{Request}
 use Rattle.rpmb_frame.specs.declared.config.GuestConfig.{GuestConfig}
 use Rattle.rpmb_core.specs.Requests.{partition_after_all}
 use Rattle.disk.specs.Disk.{DiskCall, DiskState, HasRisen, Within}
+use Rattle.intent_slots.specs.Layout.{capacities_of}
+use Rattle.mmio_transport.specs.Device.{last_count}
 use Rattle.recovery.specs.Opening.{Untouched}
 use Rattle.script.specs.Line.{Said, nothing, chain, said, store, reset}
 use Rattle.script.specs.declared.line.Line.{Line}
@@ -19,11 +21,11 @@ use Rattle.host.specs.Host.{HostState, seen}
 use Rattle.host.specs.Moving.{GoOn, Moves}
 use Rattle.host.specs.Runner.{runner_of}
 use Rattle.commands.specs.Calling.{LineDone, NextFails}
-use Rattle.commands.specs.Ending.{IsOfBeginning, KeepsUnless}
+use Rattle.commands.specs.Ending.{KeepsUnless, NextEnds, OpeningEnds}
 use Rattle.commands.specs.Failing.{IsFailedIn, text_when, told_when}
 use Rattle.commands.specs.Image.{AreOf}
-use Rattle.commands.specs.Reasons.{IsHostOf, NextEnds, StoresInside}
-use Rattle.commands.specs.Running.{AreWithin, IsAt}
+use Rattle.commands.specs.Reasons.{IsHostOf, StoresInside}
+use Rattle.commands.specs.Running.{AreWithin, IsAt, answered_in}
 use Rattle.commands.specs.Transcript.{StoresNothing, first_told}
 use Rattle.commands.specs.declared.fault.Fault.{Fault}
 use Rattle.commands.specs.declared.fault.Fault.TheVariants as fault
@@ -75,12 +77,15 @@ pub record Leads {D : Type 0} (shows : D → DiskState) (makes : D → DiskCall 
       → (broken_at m ≡ true) ⊎ HasRisen (shows (disk_at m)).failures (shows (disk_at n)).failures
 
 -- What the lines done have printed, and what the accepted requests make of each partition, are what the script says, by
--- the line in which a call of the disk failed first.
+-- the line in which a call of the disk failed first. Each guest is ready then.
 pub record IsTold {D : Type 0} (board : List GuestConfig) (partitions : List Partition)
     (start : Option (List ℕ)) (done : List Said) (m : Moment D) : Type 0 where
   pub failed : Option ℕ
   pub known : IsFailedIn (broken_at m) failed done
   pub printed : Appends start m.printed (text_when failed (first_told board partitions) done)
+  pub at : IsAt (length done) (told_when failed (first_told board partitions) done) (seen m.host)
+  pub few : length done + 2 < last_count
+  pub answered : (seen m.host).runner.answered ≡ answered_in done
   pub after : (g : ℕ) (p : Partition)
       → slice_get (map (λ c. c.partition)
       (told_when failed (first_told board partitions) done).cores) g ≡ Some p
@@ -122,7 +127,7 @@ NextAccepts board (line ∷ rest) before now = AcceptsOwn board line before now
 -- The next of the lines left came to this fault, for a reason, by what the host's call did.
 pub record StopsAt {D : Type 0} (board : List GuestConfig) (f : Fault) (rest : List Said)
     (last after : Moment D) : Type 0 where
-  pub reason : NextEnds board f rest
+  pub reason : NextEnds board (seen after.host).runner.answered f rest
   pub call : NextFails rest last.host f after.host
   pub accepts : NextAccepts board rest last.accepted after.accepted
 
@@ -166,15 +171,16 @@ pub record WholeRun {D : Type 0} (shows : D → DiskState) (makes : D → DiskCa
   -- what is accepted by then is what the book has, too
   pub tied : StaysLinked shows board (bases_of partitions) after.accepted after.host.board
   pub disk : new ≡ disk_at after
+  pub cause : broken_at after ≡ true → HasRisen (shows old).failures (shows new).failures
   pub ends : MayEnd board ended rest last after now
 
 -- what an image that isn't opened leaves
 pub record IsRefused {D : Type 0} (shows : D → DiskState) (makes : D → DiskCall → D → Type 0)
-    (old : D) (start : Option (List ℕ)) (ended : Result (Unit {0}) Fault) (new : D)
+    (board : List GuestConfig) (old : D) (start : Option (List ℕ)) (ended : Result (Unit {0}) Fault) (new : D)
     (now : Option (List ℕ)) : Type 0 where
   pub fault : Fault
   pub is : ended ≡ Err fault
-  pub reason : IsOfBeginning fault
+  pub reason : OpeningEnds (capacities_of board) (shows old) (shows new) fault
   pub moments : Within shows makes (Untouched (shows old)) old new
   pub silent : Keeps start now
 
@@ -183,7 +189,7 @@ abbrev pub AnyMoment : {D : Type 0} → (D → DiskState) → (D → DiskCall �
     → List GuestConfig → List Said → D → Option (List ℕ) → Result (Unit {0}) Fault → D
     → Option (List ℕ) → Type 0
 AnyMoment shows makes board all old start ended new now =
-    IsRefused shows makes old start ended new now ⊎ WholeRun shows makes board all old start ended new now
+    IsRefused shows makes board old start ended new now ⊎ WholeRun shows makes board all old start ended new now
 
 -- 1. Within a run
 
@@ -207,8 +213,6 @@ pub record Walked {D : Type 0} (shows : D → DiskState) (makes : D → DiskCall
     (start : Option (List ℕ)) (first : Moment D)
     (rest : List Said) (h : HostState D) (now : Option (List ℕ)) : Type 0 where
   pub accepted : ℕ → List Request
-  pub linked : StaysLinked shows board (bases_of partitions) accepted h.board
-  pub host : IsHostOf board (seen h)
   pub done : List Said
   pub parts : all ≡ done ++ rest
   pub trail : Trail shows makes board partitions start first done (moment_of accepted h now)
@@ -224,7 +228,7 @@ pub record Stopped {D : Type 0} (shows : D → DiskState) (makes : D → DiskCal
   pub walked : Walked shows makes board partitions all start first rest before printed
   pub moves : Moves shows makes before.board h.board
   pub silent : KeepsUnless f printed now
-  pub reason : NextEnds board f rest
+  pub reason : NextEnds board (seen h).runner.answered f rest
   pub fails : NextFails rest before f h
 
 -- what lines come to
@@ -243,7 +247,7 @@ LinesCome shows makes read old start ended new now =
     → AreWithin (length board) read
     → Comes shows makes board partitions (map said read) start (moment_of (λ g. []) old start) ended new now
 
--- A host's last board, and its disk. The calls went well exactly where none has failed; then what
+-- A host's last board, and its disk. The calls went well exactly where none has failed, and are told so; then what
 -- its answers depend on stayed.
 pub record MovesTo {D : Type 0} (shows : D → DiskState) (makes : D → DiskCall → D → Type 0)
     (old : BoardState D) (ended : Result (Unit {0}) Fault) (back : D) : Type 0 where
@@ -251,4 +255,5 @@ pub record MovesTo {D : Type 0} (shows : D → DiskState) (makes : D → DiskCal
   pub moves : Moves shows makes old last
   pub disk : back ≡ last.store.disk
   pub told : is_ok ended ≡ not last.store.broken
+  pub only : (f : Fault) → ended ≡ Err f → f ≡ fault.DiskFault
   pub runner : last.store.broken ≡ false → runner_of last ≡ runner_of old

@@ -61,8 +61,7 @@ MayServe shows makes board disk Is back = Within shows makes (Untouched (shows d
 
 -- whether a call of the disk has failed where that is the fault
 abbrev pub TellsFailed : Fault → Bool → Type 0
-TellsFailed fault.DiskFault failed = failed ≡ true
-TellsFailed f failed = Unit {0}
+TellsFailed f failed = f ≡ fault.DiskFault → failed ≡ true
 
 -- what a serve that ended so leaves of the image, where its disk comes back
 abbrev pub ServeMoments : {D : Type 0} → (D → DiskState) → (D → DiskCall → D → Type 0)

@@ -1,12 +1,11 @@
 -- What a script prints whose guests are served at once, and why that ends with a fault.
 use Rattle.std.specs.Prelude.{◌≡◌, ◌⊎◌, ◌<◌, ◌+◌, ◌==◌, ℕ, if◌then◌else◌, List, [], ◌∷◌, ◌++◌}
-use Rattle.std.specs.Prelude.{Option, Some, None, get_or, length, map, true}
+use Rattle.std.specs.Prelude.{Option, Some, None, get_or, length, map}
 use Rattle.std.specs.Io.KnownBytes.{Appends, Keeps}
 use Rattle.rpmb_frame.specs.declared.config.GuestConfig.{GuestConfig}
 use Rattle.disk.specs.Disk.{DiskCall, DiskState, Within}
-use Rattle.intent_slots.specs.Layout.{capacities_of}
-use Rattle.recovery.specs.Opening.{IsOther, IsUnformatted, Untouched}
-use Rattle.script.specs.Line.{Said, nothing, chain, store, reset, served_line_of}
+use Rattle.recovery.specs.Opening.{Untouched}
+use Rattle.script.specs.Line.{Said, chain, served_line_of}
 use Rattle.script.specs.Script.{first_unserved, lines_of}
 use Rattle.host.specs.declared.front.Answer.{Answer}
 use Rattle.host.specs.declared.front.Answer.TheVariants as answer
@@ -22,16 +21,10 @@ SaysServed board script lines = map Some lines ≡ map (served_line_of (length b
 abbrev pub IsUnservedAt : List GuestConfig → List ℕ → ℕ → Type 0
 IsUnservedAt board script n = first_unserved (length board) (lines_of script) ≡ Some n
 
--- no line of it is such a line
-abbrev pub IsServable : List GuestConfig → List ℕ → Type 0
-IsServable board script = first_unserved (length board) (lines_of script) ≡ None
-
 -- how many chains of a guest a line offers
 abbrev pub chains_by : ℕ → Said → ℕ
-chains_by g nothing = 0
 chains_by g (chain guest readable writable) = if g == guest then 1 else 0
-chains_by g (store guest at bytes) = 0
-chains_by g (reset guest) = 0
+chains_by g line = 0
 
 -- and all lines
 abbrev pub chains_of : ℕ → List Said → ℕ
@@ -64,21 +57,6 @@ pub record PrintsEach (guests : ℕ) (lines : List Said) (start now : Option (Li
 abbrev pub ServesAll : List GuestConfig → List ℕ → Option (List ℕ) → Option (List ℕ) → Type 0
 ServesAll board script start now = (lines : List Said) → SaysServed board script lines
     → PrintsEach (length board) lines start now
-
--- Which faults end it once its lines are read: why the image isn't opened, what its threads come
--- to, or standard output.
-abbrev pub OpenedServeEnds : List ℕ → DiskState → Fault → Type 0
-OpenedServeEnds capacities old (fault.BadScript line) = ⊥
-OpenedServeEnds capacities old fault.BadBoard = ⊥
-OpenedServeEnds capacities old fault.NotFormatted = old.faithful ≡ true → IsUnformatted capacities old.len old.seen
-OpenedServeEnds capacities old fault.OtherConfig = old.faithful ≡ true → IsOther capacities old.len old.seen
-OpenedServeEnds capacities old f = Unit {0}
-
--- and before: the first line that it may not say, and want of memory
-abbrev pub ServeEnds : List GuestConfig → List ℕ → DiskState → Fault → Type 0
-ServeEnds board script old (fault.BadScript line) = IsUnservedAt board script line
-ServeEnds board script old fault.NoMemory = Unit {0}
-ServeEnds board script old f = IsServable board script × OpenedServeEnds (capacities_of board) old f
 
 -- What lines have printed then: all of it where a call of the disk failed while they ran; nothing,
 -- unless memory for it or standard output itself was wanting.

@@ -4,7 +4,7 @@ ghost use Rattle.std.specs.Io.KnownBytes.{Appends};
 ghost use Rattle.disk.specs.Disk.{DiskState};
 ghost use Rattle.intent_slots.specs.Layout.{capacities_of, image_length};
 ghost use Rattle.recovery.specs.Format.{ClearsFirst, IsFormatted};
-ghost use Rattle.commands.specs.Ending.{FormatEnds, KeepsUnless};
+ghost use Rattle.commands.specs.Ending.{Ends, KeepsUnless, formatting};
 ghost use Rattle.commands.specs.Listing.{formatted_line};
 
 use crate::fault::Fault;
@@ -45,7 +45,7 @@ pub fn format<D: Disk, W: Write>(
         → IsFormatted 1 (capacities_of board.now) (D.state disk.new)) }
     ensures printed { OnOk result (Appends (W.contents out.old) (W.contents out.new)
         (formatted_line (image_length (capacities_of board.now)))) }
-    ensures ends { IfErr result (FormatEnds (capacities_of board.now) (D.state disk.old) (D.state disk.new)) }
+    ensures ends { IfErr result (Ends formatting board.now (D.state disk.old) (D.state disk.new)) }
     ensures silent { IfErr result (λ fault. KeepsUnless fault (W.contents out.old) (W.contents out.new)) }
     ensures order { ClearsFirst D.state D.makes (capacities_of board.now) disk.old disk.new }
 {

@@ -1,14 +1,14 @@
 //! What `serve` does: a script on the partitions of an image, its guests at once.
-ghost use Rattle.std.specs.Prelude.{◌≡◌, ◌≤◌, ℕ, All, Err, IfErr, IsErr, IsSome, OnOk, Some, false, true};
+ghost use Rattle.std.specs.Prelude.{◌≡◌, ◌≤◌, ℕ, List, All, Err, IfErr, IsErr, IsSome, OnOk, Some, false, true};
 ghost use Rattle.std.specs.Prelude.{length, map, vec_len};
 ghost use Rattle.std.specs.Io.KnownBytes.{Appends, Keeps};
 ghost use Rattle.rpmb_frame.specs.Config.{IsBoard};
 ghost use Rattle.script.specs.Line.{IsServed, IsWithin, said};
 ghost use Rattle.disk.specs.Disk.{DiskState};
 ghost use Rattle.intent_slots.specs.Layout.{capacities_of};
-ghost use Rattle.commands.specs.Ending.{IsOfTelling, IsOfWriting};
-ghost use Rattle.commands.specs.Serving.{IsUnservedAt, OpenedServeEnds, PrintsEach, ServeEnds};
-ghost use Rattle.commands.specs.Serving.{ServeLeaves, ServePrints, ServedPrint, ServesAll};
+ghost use Rattle.commands.specs.Ending.{Ends, IsOfTelling, IsOfWriting, IsServable, serving};
+ghost use Rattle.commands.specs.Serving.{IsUnservedAt, PrintsEach, ServeLeaves, ServePrints};
+ghost use Rattle.commands.specs.Serving.{ServedPrint, ServesAll};
 ghost use Rattle.commands.specs.Serving.{answer_lines, guests_lines};
 ghost use Rattle.commands.specs.ServedImage.{ServeKeeps};
 
@@ -109,7 +109,8 @@ fn serve_on<D: Disk + Send + Drop, W: Write, R: Threads + Wait + Sync>(
     ensures printed { OnOk result.0 (PrintsEach (length board.now) (map said lines.items)
         (W.contents out.old) (W.contents out.new)) }
     ensures back { OnOk result.0 (IsSome result.1) }
-    ensures ends { IfErr result.0 (OpenedServeEnds (capacities_of board.now) (D.state disk)) }
+    ensures ends { IfErr result.0 (λ fault. (script : List ℕ) (new : DiskState) → IsServable board.now script
+        → Ends (serving script) board.now (D.state disk) new fault) }
     ensures prints { IfErr result.0 (λ fault.
         ServedPrint (length board.now) (map said lines.items) fault (W.contents out.old)
         (W.contents out.new)) }
@@ -140,8 +141,8 @@ fn serve_on<D: Disk + Send + Drop, W: Write, R: Threads + Wait + Sync>(
 ///
 /// `BadScript` of the first line that stores, or says nothing that a script may say, before the disk is called;
 /// `NotFormatted` and `OtherConfig` where the disk holds no image, or another board's; `DiskFault` where a call of the
-/// disk failed, once all lines are printed; `NoMemory`, and what a host may tell of a chain; `FileFault` where standard
-/// output took no more.
+/// disk failed, at the opening or, once all lines are printed, since then; `NoMemory`, and what a host may tell of a
+/// chain; `FileFault` where standard output took no more.
 pub fn serve<R: AllocGlobal + Threads + Wait + Sync, D: Disk + Send + Drop, W: Write>(
     rt: &R,
     board: &BoardConfig,
@@ -149,13 +150,19 @@ pub fn serve<R: AllocGlobal + Threads + Wait + Sync, D: Disk + Send + Drop, W: W
     disk: D,
     out: &mut W,
 ) -> (Result<(), Fault>, Option<D>)
+    // A line for each chain, guest by guest.
     ensures printed { OnOk result.0 (ServesAll board.now script.now (W.contents out.old) (W.contents out.new)) }
     ensures back { OnOk result.0 (IsSome result.1) }
-    ensures ends { IfErr result.0 (ServeEnds board.now script.now (D.state disk)) }
+    // The disk may be lost.
+    ensures ends { IfErr result.0 (λ fault. (new : DiskState)
+        → Ends (serving script.now) board.now (D.state disk) new fault) }
     ensures prints { IfErr result.0 (λ fault.
         ServePrints board.now script.now fault (W.contents out.old) (W.contents out.new)) }
     ensures leaves { IfErr result.0 (λ fault. ServeLeaves D.state D.makes disk fault result.1) }
+    // The threads alone called the disk once the image was opened, and at each moment every stop leaves each partition
+    // as it was, with whole intents after it, one after another; with no fault nothing is under way at the end.
     ensures keeps { ServeKeeps D.state D.makes board.now disk result.0 result.1 }
+    // Of a script with such a line nothing is printed, and the disk isn't called.
     ensures bad { (n : ℕ) → IsUnservedAt board.now script.now n
         → IsErr result.0 × Keeps (W.contents out.old) (W.contents out.new) × (result.1 ≡ Some disk) }
 {

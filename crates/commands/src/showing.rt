@@ -6,7 +6,7 @@ ghost use Rattle.disk.specs.Disk.{DiskState, Within};
 ghost use Rattle.intent_slots.specs.Layout.{capacities_of};
 ghost use Rattle.recovery.specs.Opening.{IsImage, Untouched};
 ghost use Rattle.rpmb_frame.specs.Partition.{IsWhole, block_count, block_of};
-ghost use Rattle.commands.specs.Ending.{IsReadAlone, KeepsUnless, ShowEnds};
+ghost use Rattle.commands.specs.Ending.{Ends, IsReadAlone, KeepsUnless, showing};
 ghost use Rattle.commands.specs.Listing.{Lists, block_line, block_shown, blocks_below, guest_line};
 ghost use Rattle.commands.specs.Listing.{guest_listing, listing};
 
@@ -170,7 +170,7 @@ pub fn show<D: Disk, W: Write>(
         (W.contents out.old) (W.contents out.new)) }
     ensures image { OnOk result.0 ((D.state disk).faithful ≡ true
         → IsImage (capacities_of board.now) (D.state disk).len (D.state disk).seen) }
-    ensures ends { IfErr result.0 (ShowEnds (capacities_of board.now) (D.state disk) (D.state result.1)) }
+    ensures ends { IfErr result.0 (Ends showing board.now (D.state disk) (D.state result.1)) }
     ensures silent { IfErr result.0 (λ fault. KeepsUnless fault (W.contents out.old) (W.contents out.new)) }
     ensures any_moment { Within D.state D.makes (Untouched (D.state disk)) disk result.1 }
     ensures calls { IsReadAlone D.makes disk result.1 }

@@ -4,8 +4,8 @@ ghost use Rattle.std.specs.Io.KnownBytes.{Appends};
 ghost use Rattle.disk.specs.Disk.{DiskState};
 ghost use Rattle.intent_slots.specs.Layout.{capacities_of};
 ghost use Rattle.recovery.specs.Upgrade.{IsNamed, StandsThroughout};
-ghost use Rattle.commands.specs.Ending.{KeepsUnless};
-ghost use Rattle.commands.specs.Upgrading.{PrintsUpgrade, UpgradeEnds, upgraded_line};
+ghost use Rattle.commands.specs.Ending.{Ends, KeepsUnless, upgrading};
+ghost use Rattle.commands.specs.Upgrading.{PrintsUpgrade, upgraded_line};
 
 use crate::fault::Fault;
 use disk::Disk;
@@ -48,7 +48,7 @@ pub fn upgrade<D: Disk, W: Write>(
     ensures named { OnOk result ((D.state disk.old).faithful ≡ true → IsNamed (D.state disk.new)) }
     ensures printed { OnOk result (PrintsUpgrade (capacities_of board.now) (D.state disk.old)
         (W.contents out.old) (W.contents out.new)) }
-    ensures ends { IfErr result (UpgradeEnds (capacities_of board.now) (D.state disk.old) (D.state disk.new)) }
+    ensures ends { IfErr result (Ends upgrading board.now (D.state disk.old) (D.state disk.new)) }
     ensures silent { IfErr result (λ fault. KeepsUnless fault (W.contents out.old) (W.contents out.new)) }
 {
     match recovery::upgrade(disk, board) {

@@ -1,5 +1,5 @@
 use Rattle.std.proofs.Common.{refl, subst, sym}
-use Rattle.commands.specs.Ending.{IsOfOpening}
+use Rattle.commands.specs.Ending.{OpeningEnds}
 use Rattle.commands.proofs.Opened.{opened_host, opening_ends}
 use Rattle.commands.proofs.running.open_host.Goals as goal
 
@@ -12,5 +12,5 @@ returns-in-Ok-new-clause-opened g c =
 pub returns-in-Err-clause-ends : goal.returns-in-Err-clause-ends
 returns-in-Err-clause-ends g c =
     let s = g.D.Disk.state in
-    subst (IsOfOpening _ (s c.args.disk) (s c.in-Err.disk)) (sym c.of_image.ensures)
+    subst (OpeningEnds _ (s c.args.disk) (s c.in-Err.disk)) (sym c.of_image.ensures)
     (opening_ends _ (s c.args.disk) (s c.in-Err.disk) c.in-Err.fault c.in-Err.ensures.cause c.in-Err.ensures.answers)

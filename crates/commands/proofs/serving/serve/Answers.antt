@@ -1,9 +1,12 @@
-use Rattle.std.proofs.Common.{length, subst, sym}
+use Rattle.std.proofs.Common.{Err, ap, length, subst, sym}
 use Rattle.std.proofs.lemmas.Result.{on_ok_weaker}
 use Rattle.script.specs.Line.{served_line_of}
 use Rattle.script.specs.Script.{lines_of}
 use Rattle.commands.specs.Serving.{PrintsEach}
-use Rattle.commands.proofs.EachTold.{serve_ends, serve_prints, unread_prints}
+use Rattle.std.proofs.lemmas.Result.{IfErr-weaker}
+use Rattle.disk.specs.Disk.{DiskState}
+use Rattle.commands.specs.Ending.{Ends, serving}
+use Rattle.commands.proofs.EachTold.{EndsServe, serve_prints, unread_ends, unread_prints}
 use Rattle.commands.proofs.ServedImage.{uncalled_keeps}
 use Rattle.commands.proofs.Printing.{none_bad, not_bad, says_same}
 use Rattle.commands.proofs.serving.serve.Goals as goal
@@ -16,8 +19,13 @@ returns-in-Ok-clause-printed g c =
 
 pub returns-in-Ok-clause-ends : goal.returns-in-Ok-clause-ends
 returns-in-Ok-clause-ends g c =
-    serve_ends c.args.board.now c.args.script.now (g.D.Disk.state c.args.disk) c.serve_on.result.0
-    (none_bad (served_line_of (length c.args.board.now)) c.in-Ok.lines.items (lines_of c.args.script.now) c.in-Ok.ensures.ok) c.serve_on.ensures.ends
+    let s = g.D.Disk.state c.args.disk in
+    IfErr-weaker c.serve_on.result.0 (EndsServe c.args.board.now s) (λ f. (new : DiskState) → Ends (serving c.args.script.now) c.args.board.now s new f)
+    (λ f ends new. ends c.args.script.now new (none_bad (served_line_of (length c.args.board.now)) c.in-Ok.lines.items (lines_of c.args.script.now) c.in-Ok.ensures.ok)) c.serve_on.ensures.ends
+
+pub returns-in-Err-clause-ends : goal.returns-in-Err-clause-ends
+returns-in-Err-clause-ends g c new =
+    unread_ends c.args.board.now c.args.script.now (g.D.Disk.state c.args.disk) new c.in-Err.fault c.in-Err.ensures.reads (λ n is. c.in-Err.ensures.bad n (ap Err is))
 
 pub returns-in-Ok-clause-prints : goal.returns-in-Ok-clause-prints
 returns-in-Ok-clause-prints g c =

@@ -1,22 +1,28 @@
 use Rattle.std.proofs.Common.{◌≡◌, ap, length, map, refl, subst, sym, arith}
-use Rattle.std.proofs.lemmas.Result.{on_ok_weaker}
-use Rattle.intent_slots.specs.Layout.{capacities_of}
+use Rattle.std.proofs.lemmas.Result.{IfErr-weaker, on_ok_weaker}
 use Rattle.script.specs.Line.{said}
 use Rattle.workers.specs.Keeping.{Keeps}
 use Rattle.workers.specs.Orders.{HaveAll}
-use Rattle.commands.specs.Serving.{OpenedServeEnds}
-use Rattle.commands.proofs.EachTold.{of_opening, prints_each, served_print}
-use Rattle.commands.proofs.Opened.{image_of, opening_ends}
+use Rattle.commands.specs.Ending.{IsOfTelling}
+use Rattle.commands.proofs.EachTold.{EndsServe, opening_serve, prints_each, served_print, telling_serve, threads_serve}
+use Rattle.commands.proofs.Opened.{image_of}
 use Rattle.commands.proofs.ServedImage.{serves_image, told_keeps, told_of, uncalled_keeps, unserved_keeps}
 use Rattle.commands.proofs.serving.serve_on.Goals as goal
 
 pub returns-in-Err-open-clause-ends : goal.returns-in-Err-open-clause-ends
 returns-in-Err-open-clause-ends g c =
-    let old = g.D.Disk.state c.args.disk in
-    let new = g.D.Disk.state c.in-Err-open.disk in
-    let capacities = capacities_of c.args.board.now in
-    subst (OpenedServeEnds capacities old) (sym c.of_image.ensures)
-    (of_opening capacities old new _ (opening_ends capacities old new c.in-Err-open.fault c.in-Err-open.ensures.cause c.in-Err-open.ensures.answers))
+    let s = g.D.Disk.state c.args.disk in
+    subst (EndsServe c.args.board.now s) (sym c.of_image.ensures) (opening_serve c.args.board.now s c.in-Err-open.fault c.in-Err-open.ensures.answers)
+
+pub returns-in-Ok-serve-clause-ends : goal.returns-in-Ok-serve-clause-ends
+returns-in-Ok-serve-clause-ends g c =
+    let s = g.D.Disk.state c.args.disk in
+    IfErr-weaker c.tell.result.0 IsOfTelling (EndsServe c.args.board.now s) (λ f of. telling_serve c.args.board.now s f of) c.tell.ensures.ends
+
+pub returns-clause-ends : goal.returns-clause-ends
+returns-clause-ends g c =
+    let s = g.D.Disk.state c.args.disk in
+    subst (EndsServe c.args.board.now s) (sym c.of.ensures) (threads_serve c.args.board.now s c.in-Err-serve.fault)
 
 pub returns-in-Ok-serve-clause-printed : goal.returns-in-Ok-serve-clause-printed
 returns-in-Ok-serve-clause-printed g c =

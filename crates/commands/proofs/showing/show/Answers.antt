@@ -2,7 +2,7 @@ use Rattle.std.proofs.Common.{ap, subst, sym, List, OnOk, length, ◌≤◌}
 use Rattle.std.specs.Io.KnownBytes.{Appends}
 use Rattle.commands.specs.Listing.{listing}
 use Rattle.std.specs.Prelude.{All}
-use Rattle.commands.specs.Ending.{IsReadAlone, ShowEnds, Synced}
+use Rattle.commands.specs.Ending.{Ends, IsReadAlone, Synced, showing}
 use Rattle.rpmb_frame.specs.Partition.{IsWhole, Partition}
 use Rattle.commands.proofs.Ended.{read_alone, show_ends}
 use Rattle.commands.proofs.Listed.{all_small, few, lists}
@@ -32,8 +32,8 @@ returns-in-Ok-clause-calls g c = subst (IsReadAlone g.D.Disk.makes c.args.disk) 
 pub returns-in-Err-clause-ends : goal.returns-in-Err-clause-ends
 returns-in-Err-clause-ends g c =
     let s = g.D.Disk.state in
-    subst (ShowEnds _ (s c.args.disk) (s c.in-Err.disk)) (sym c.of_image.ensures)
-    (show_ends _ (s c.args.disk) (s c.in-Err.disk) c.in-Err.fault (λ e. ap s (c.in-Err.ensures.no_memory e)) c.in-Err.ensures.cause c.in-Err.ensures.answers)
+    subst (Ends showing c.args.board.now (s c.args.disk) (s c.in-Err.disk)) (sym c.of_image.ensures)
+    (show_ends c.args.board.now (s c.args.disk) (s c.in-Err.disk) c.in-Err.fault (λ e. ap s (c.in-Err.ensures.no_memory e)) c.in-Err.ensures.cause c.in-Err.ensures.answers)
 
 pub returns-in-Err-clause-calls : goal.returns-in-Err-clause-calls
 returns-in-Err-clause-calls g c = read_alone g.D.Disk.makes c.args.disk c.in-Err.disk c.in-Err.fault c.in-Err.ensures.calls

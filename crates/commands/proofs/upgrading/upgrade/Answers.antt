@@ -1,6 +1,5 @@
 use Rattle.std.proofs.Common.{subst, sym}
-use Rattle.intent_slots.specs.Layout.{capacities_of}
-use Rattle.commands.specs.Upgrading.{UpgradeEnds}
+use Rattle.commands.specs.Ending.{Ends, upgrading}
 use Rattle.commands.proofs.Ended.{upgrade_ends}
 use Rattle.commands.proofs.upgrading.upgrade.Goals as goal
 
@@ -9,5 +8,5 @@ returns-in-Err-clause-ends g c =
     let s = g.D.Disk.state in
     let old = c.args.disk.now in
     let new = c.upgrade.new.disk in
-    subst (UpgradeEnds (capacities_of c.args.board.now) (s old) (s new)) (sym c.of_image.ensures)
-    (upgrade_ends g.D.Disk.makes (capacities_of c.args.board.now) old new (s old) (s new) c.in-Err.fault c.in-Err.ensures.calls c.in-Err.ensures.cause c.in-Err.ensures.answers)
+    subst (Ends upgrading c.args.board.now (s old) (s new)) (sym c.of_image.ensures)
+    (upgrade_ends g.D.Disk.makes c.args.board.now old new (s old) (s new) c.in-Err.fault c.in-Err.ensures.calls c.in-Err.ensures.cause c.in-Err.ensures.answers)
