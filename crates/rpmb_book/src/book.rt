@@ -6,11 +6,11 @@ ghost use Rattle.rpmb_book.specs.Book.{BookView, state, guest_of, counted_in, is
 ghost use Rattle.rpmb_book.specs.Book.{take_answer, after_take, next_intent, share_moved};
 ghost use Rattle.rpmb_book.specs.Book.{are_taken, settle_answer, after_settle, after_break_off};
 ghost use Rattle.rpmb_book.specs.Book.{due_of, after_collect, found_by, mac_key_of};
-ghost use Rattle.std.specs.Option.{option_copied};
+ghost use Rattle.std.specs.Option.{ForSome, option_copied};
 ghost use Rattle.rpmb_book.specs.Asked.{answered_in};
 ghost use Rattle.rpmb_book.specs.Kept.{IsOpening};
 ghost use Rattle.rpmb_book.specs.Sound.{AreOfBoard, AreReady, IsSound};
-ghost use Rattle.rpmb_book.specs.Receipt.{turn_seen, submission_seen};
+ghost use Rattle.rpmb_book.specs.Receipt.{turn_seen, submission_seen, HasFrames};
 
 use crate::did::Did;
 use crate::due::Due;
@@ -27,7 +27,7 @@ use hmac256::MacKey;
 use intent_slots::Intent;
 use mmio_transport::Done;
 use rpmb_core::{NoMemory, Partition};
-use rpmb_frame::BoardConfig;
+use rpmb_frame::{BoardConfig, Limits};
 use std::alloc::Global;
 use std::marker::Model;
 
@@ -202,6 +202,16 @@ impl Book {
         }
     }
 
+    /// A guest's limits, which never change; None for a guest that the book lacks.
+    pub fn limits_of(&self, guest: u16) -> Option<Limits>
+        ensures { result ≡ option_map (λ g. g.core.limits) (guest_of self.now guest) }
+    {
+        match self.guests.get(usize::from(guest)) {
+            Some(known) => Some(known.limits()),
+            None => None,
+        }
+    }
+
     fn mac_key(&self, guest: u16) -> Option<&MacKey>
         ensures { option_copied result ≡ mac_key_of self.now guest }
     {
@@ -230,7 +240,8 @@ impl Book {
     /// The request and the reply of the job that a receipt names, as both were then; None where the
     /// receipt is of another life, names no Submit of that guest, or names one that was folded.
     pub fn find(&self, receipt: &Receipt) -> Option<TurnView<'_>>
-        ensures { option_map turn_seen result ≡ option_map submission_seen (found_by self.now receipt.now) }
+        ensures seen { option_map turn_seen result ≡ option_map submission_seen (found_by self.now receipt.now) }
+        ensures whole { ForSome result HasFrames }
     {
         if receipt.life != self.life {
             return None;

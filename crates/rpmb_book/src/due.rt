@@ -77,12 +77,8 @@ impl Due {
     pub fn close(&mut self, known: Option<&MacKey>)
         ensures { self.new ≡ self.old }
     {
-        match self.key {
-            None => {}
-            Some(key) => {
-                close_under(&key, known, &mut self.reply);
-                self.key = None;
-            }
+        if let Some(key) = self.key.take() {
+            close_under(&key, known, &mut self.reply);
         }
     }
 

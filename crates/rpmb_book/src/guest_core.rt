@@ -15,8 +15,9 @@ ghost use Rattle.rpmb_book.specs.Planned.{IsPlanned};
 use crate::rooms::{Rooms, room_for};
 use intent_slots::Entry;
 use mmio_transport::Job;
-use rpmb_core::{GENERAL_FAILURE, MacCheck, NoMemory, OK, Outcome, Partition};
-use rpmb_core::{failure_kind, is_change};
+use rpmb_core::{
+    GENERAL_FAILURE, MacCheck, NoMemory, OK, Outcome, Partition, failure_kind, is_change,
+};
 use rpmb_frame::{Command, Frame, Limits, Request};
 use std::alloc::{AllocError, Global};
 use std::marker::Model;
@@ -92,6 +93,12 @@ impl GuestCore {
         &self.partition
     }
 
+    pub fn limits(&self) -> Limits
+        ensures { result ≡ self.now.limits }
+    {
+        self.limits
+    }
+
     /// The partition's key; zeros, where it has none.
     pub fn key(&self) -> [u8; 32]
         ensures { result ≡ key_of self.now.partition }
@@ -146,7 +153,7 @@ impl GuestCore {
         ensures reply { closed result.key result.reply.items ≡ answer self.old job.now }
         ensures fits { length result.reply.items ≤ room_of job.now }
         ensures whole { length result.reply.items ≡ 512 * (length result.reply.items / 512) }
-        ensures copy { closed result.key result.copy.items ≡ answer self.old job.now }
+        ensures copy { result.copy.items ≡ result.reply.items }
         ensures need { result.need ≡ need self.old job.now }
         ensures kind { result.kind ≡ failure_kind (request_of self.old job.now).command }
         ensures entry { result.entry ≡ entry self.old job.now }

@@ -1,5 +1,5 @@
-ghost use Rattle.std.specs.Prelude.{◌≡◌, ◌+◌, ◌++◌, ◌-◌, ◌<◌, ◌≤◌, ◌^◌, [], IfOk, if◌then◌else◌};
-ghost use Rattle.std.specs.Prelude.{is_some, length, take, drop};
+ghost use Rattle.std.specs.Prelude.{◌≡◌, ◌+◌, ◌++◌, ◌-◌, ◌*◌, ◌/◌, ◌<◌, ◌≤◌, ◌^◌, [], IfOk};
+ghost use Rattle.std.specs.Prelude.{if◌then◌else◌, is_some, length, take, drop};
 ghost use Rattle.intent_slots.specs.Payload.{EntriesFit};
 ghost use Rattle.rpmb_frame.specs.Request.{frames_of};
 ghost use Rattle.rpmb_core.specs.Reply.{closed};
@@ -12,8 +12,8 @@ ghost use Rattle.std.specs.Prelude.{true, false, map};
 ghost use Rattle.rpmb_book.specs.Guest.{submitted, answer_when, took, settled_at, collected};
 ghost use Rattle.rpmb_book.specs.Guest.{broken_off, kept_or_failed, first_due, first_intent, fresh};
 
-use crate::guest_core::{Answer, Failure, GuestCore, Plan};
 use crate::due::Due;
+use crate::guest_core::{Answer, Failure, GuestCore, Plan};
 use crate::held::Held;
 use crate::rooms::Rooms;
 use intent_slots::{Entry, Intent};
@@ -105,6 +105,12 @@ impl GuestState {
         self.core.partition()
     }
 
+    pub fn limits(&self) -> Limits
+        ensures { result ≡ self.now.core.limits }
+    {
+        self.core.limits()
+    }
+
     pub fn taken(&self) -> u64
         ensures { result ≡ self.now.taken }
     {
@@ -168,6 +174,7 @@ impl GuestState {
         requires places { HasPlaces (is_failure plan) self.old }
         ensures request { result.request.items ≡ job.request }
         ensures reply { closed result.key result.reply.items ≡ answer_when (is_failure plan) self.old.core job }
+        ensures whole { length result.reply.items ≡ 512 * (length result.reply.items / 512) }
         ensures state { self.new ≡ submitted (is_failure plan) job self.old }
     {
         match plan {
@@ -183,6 +190,7 @@ impl GuestState {
         requires places { HasPlaces true self.old }
         ensures request { result.request.items ≡ job.request }
         ensures reply { closed result.key result.reply.items ≡ answer_when true self.old.core job }
+        ensures whole { length result.reply.items ≡ 512 * (length result.reply.items / 512) }
         ensures state { self.new ≡ submitted true job self.old }
     {
         let Failure { reply, copy, kind } = failure;
@@ -203,6 +211,7 @@ impl GuestState {
         requires places { HasPlaces false self.old }
         ensures request { result.request.items ≡ job.request }
         ensures reply { closed result.key result.reply.items ≡ answer_when false self.old.core job }
+        ensures whole { length result.reply.items ≡ 512 * (length result.reply.items / 512) }
         ensures state { self.new ≡ submitted false job self.old }
     {
         let Answer {

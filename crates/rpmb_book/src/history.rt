@@ -1,8 +1,8 @@
 ghost use Rattle.std.specs.Prelude.{◌≡◌, ◌<◌, ◌≤◌, ◌++◌, ◌∷◌, [], IfOk, Some, option_map, length, slice_get};
-ghost use Rattle.std.specs.Option.{option_copied};
+ghost use Rattle.std.specs.Option.{ForSome, option_copied};
 ghost use Rattle.rpmb_book.specs.History.{below, filed_seen, first_has_left, found_in, has_left};
 ghost use Rattle.rpmb_book.specs.History.{has_left_of, of_guest, still_filed, Rise};
-ghost use Rattle.rpmb_book.specs.Receipt.{turn_seen};
+ghost use Rattle.rpmb_book.specs.Receipt.{turn_seen, HasFrames};
 
 use crate::guest_state::GuestState;
 use crate::receipt::TurnView;
@@ -30,6 +30,7 @@ pub struct Filed {
 }
 
 impl Model for Filed {
+    ghost use Rattle.std.specs.Prelude.{◌≡◌, ◌*◌, ◌/◌, length};
     ghost use Rattle.rpmb_core.specs.Reply.{closed};
     ghost use Rattle.rpmb_book.specs.History as model;
 
@@ -43,12 +44,15 @@ impl Model for Filed {
       writable = f.writable;
       reply = closed f.key f.reply.items;
     } };
+
+    ghost invariant = { λ f. length f.reply.items ≡ 512 * (length f.reply.items / 512) };
 }
 
 impl Filed {
     /// What was asked and answered, where it is the guest's.
     pub fn seen_by(&self, guest: u16) -> Option<TurnView<'_>>
-        ensures { option_map turn_seen result ≡ option_map filed_seen (of_guest guest (Some self.now)) }
+        ensures seen { option_map turn_seen result ≡ option_map filed_seen (of_guest guest (Some self.now)) }
+        ensures whole { ForSome result HasFrames }
     {
         if self.guest != guest {
             return None;

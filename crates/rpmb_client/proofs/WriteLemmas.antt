@@ -14,7 +14,7 @@ use Rattle.rpmb_core.proofs.Frames.{joined-more}
 use Rattle.rpmb_core.proofs.Rightness.{accepts_right_writes}
 use Rattle.rpmb_client.specs.Made.{asking, frames_like, result_frame, write_frames, write_header}
 use Rattle.rpmb_client.specs.Laws.{AreBlocks, MadeWrites, room_of}
-use Rattle.rpmb_client.proofs.SealLemmas.{sealed_verifies}
+use Rattle.rpmb_core.proofs.Sent.{sealed_verifies}
 use Rattle.rpmb_client.proofs.MadeLemmas.{AreMade, AreWrites, alike, are_512, are_typed, at_all, header_is, like_are, like_long, made_are, result_is}
 
 by_test : {P : Type 0} (b : Bool) → (b ≡ true → P) → (b ≡ false → P) → P

@@ -1,4 +1,4 @@
-use Rattle.std.proofs.Common.{◌≡◌, ◌+◌, ◌-◌, ◌*◌, ◌/◌, ◌∙◌, ap, arith, length}
+use Rattle.std.proofs.Common.{◌≡◌, ◌+◌, ◌-◌, ◌*◌, ◌/◌, ◌∙◌, arith, length}
 use Rattle.rpmb_core.proofs.Closing.{close_is, closed_nothing}
 use Rattle.rpmb_core.proofs.reply.close.Goals as goal
 
