@@ -73,7 +73,7 @@ use clock::{Stop, print_rows};
 use groups::print_counts;
 use images::{board_of, time_openings, time_reads};
 use locks::{few_locked, time_locks};
-use machines::{few_monitored, time_machine, time_stepped};
+use machines::{few_monitored, time_four, time_machine, time_stepped};
 use macs::{keyed_macs, plain_macs, time_keyed, time_plain};
 use requests::Kind;
 use rings::{FORMS, time_chains, time_copies};
@@ -161,7 +161,15 @@ fn time_served(rt: &HostRuntime, single: &BoardConfig, kind: Kind, count: u32) -
 
 fn time_monitor(rt: &HostRuntime, single: &BoardConfig, count: u32) -> Result<(), Stop> {
     time_served(rt, single, Kind::Counter, count)?;
-    time_served(rt, single, Kind::Write, count)
+    time_served(rt, single, Kind::Write, count)?;
+    time_fours(rt, count)
+}
+
+/// Four writes a kick, beside one a kick.
+fn time_fours(rt: &HostRuntime, count: u32) -> Result<(), Stop> {
+    let four = time_four(rt, count / 4)?;
+    let one = time_machine(rt, Kind::Write, count)?;
+    print_rows(rt, &[four, one])
 }
 
 /// Beside a run the calls of its store, and the two MACs of each write: of its frame, and of its reply.
