@@ -46,10 +46,14 @@ pub fn new_books_on(alloc: Global, config: &BoardConfig, version: Version) -> Re
     })
 }
 
-/// The job of a guest's request, with room for one frame, which no device gave.
-fn job_of(alloc: Global, guest: u16, kind: Kind, counter: u32) -> Result<Job, Stop> {
+/// The job of a guest's request, with room for its reply, which no device gave.
+pub fn job_of(alloc: Global, guest: u16, kind: Kind, counter: u32) -> Result<Job, Stop> {
     let request = kind.request(alloc, counter)?;
-    match Vec::from_slice(alloc, &[Range { at: 0, len: 512 }]) {
+    let room = Range {
+        at: 0,
+        len: kind.writable(),
+    };
+    match Vec::from_slice(alloc, &[room]) {
         Ok(writable) => Ok(Job::of(alloc, guest, 1, 0, 1, writable, request)),
         Err(_) => Err(NO_MEMORY),
     }
@@ -79,7 +83,7 @@ fn push_reply(replies: &mut VecDeque<Done>, done: Option<Done>) -> Result<(), St
 }
 
 /// What was mixed before, and the bytes of a reply together.
-fn mixed_reply(before: u32, done: &Done) -> u32 {
+pub fn mixed_reply(before: u32, done: &Done) -> u32 {
     let mut all = 0;
     for byte in done.reply() {
         all ^= *byte;
@@ -98,7 +102,7 @@ fn submit(parts: &mut Parts<CountedDisk<MemDisk>>, alloc: Global, job: Job) -> R
 }
 
 /// Gives the store a guest's next intent, where one waits and a slot is free.
-fn hand_over(parts: &mut Parts<CountedDisk<MemDisk>>, guest: u16) -> Result<(), Stop> {
+pub fn hand_over(parts: &mut Parts<CountedDisk<MemDisk>>, guest: u16) -> Result<(), Stop> {
     if !parts.store.is_free(guest) {
         return Ok(());
     }
@@ -114,6 +118,21 @@ fn settle(parts: &mut Parts<CountedDisk<MemDisk>>, marks: Marks) -> Result<Call,
         Ok(()) => Ok(Call::Sync),
         Err(_) => Err("marks that aren't settled"),
     }
+}
+
+/// Makes the store's next call, and tells the book what it settled.
+pub fn advance(parts: &mut Parts<CountedDisk<MemDisk>>) -> Result<Call, Stop> {
+    match parts.store.advance() {
+        Ok(Progress::Idle) => Ok(Call::Nothing),
+        Ok(Progress::Wrote) => Ok(Call::Write),
+        Ok(Progress::Synced(marks)) => settle(parts, marks),
+        Err(_) => Err("a call that failed"),
+    }
+}
+
+/// How many of a guest's writes are settled: all that is but its key.
+pub fn settled(parts: &Parts<CountedDisk<MemDisk>>, guest: u16) -> u64 {
+    parts.book.settled(guest).unwrap_or(0).saturating_sub(1)
 }
 
 impl Books {
@@ -192,17 +211,11 @@ impl Way for Books {
     }
 
     fn advance(&mut self) -> Result<Call, Stop> {
-        match self.parts.store.advance() {
-            Ok(Progress::Idle) => Ok(Call::Nothing),
-            Ok(Progress::Wrote) => Ok(Call::Write),
-            Ok(Progress::Synced(marks)) => settle(&mut self.parts, marks),
-            Err(_) => Err("a call that failed"),
-        }
+        advance(&mut self.parts)
     }
 
     fn settled(&self, guest: u16) -> u64 {
-        let settled = self.parts.book.settled(guest).unwrap_or(0);
-        settled.saturating_sub(1)
+        settled(&self.parts, guest)
     }
 
     fn replies(&mut self) -> u32 {

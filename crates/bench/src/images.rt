@@ -15,12 +15,26 @@ use std::time::Duration;
 /// Which life a board is opened for. Only receipts tell one from another.
 const LIFE: u64 = 1;
 
-/// A board of so many guests, all alike.
-pub fn board_of(alloc: Global, guests: u16) -> Result<BoardConfig, Stop> {
-    let guest = GuestConfig::of_capacity(1);
+/// A board of so many guests that are all set up like this.
+fn board_alike(alloc: Global, guest: GuestConfig, guests: u16) -> Result<BoardConfig, Stop> {
     let guests = vec![in alloc; guest; usize::from(guests)];
     let guests = guests.ok().ok_or(NO_MEMORY)?;
     BoardConfig::new(guests).ok().ok_or("no board")
+}
+
+/// A board of so many guests.
+pub fn board_of(alloc: Global, guests: u16) -> Result<BoardConfig, Stop> {
+    board_alike(alloc, GuestConfig::of_capacity(1), guests)
+}
+
+/// The same with queues of so many places, at most 64, and memory for those.
+pub fn board_of_places(alloc: Global, guests: u16, places: u16) -> Result<BoardConfig, Stop> {
+    let guest = GuestConfig {
+        queue: places,
+        memory: 2_097_152,
+        ..GuestConfig::of_capacity(1)
+    };
+    board_alike(alloc, guest, guests)
 }
 
 /// A board of one guest with a queue of this form.
@@ -31,8 +45,7 @@ pub fn board_of_form(alloc: Global, form: &Form) -> Result<BoardConfig, Stop> {
         in_order: form.in_order,
         ..GuestConfig::of_capacity(1)
     };
-    let guests = Vec::from_slice(alloc, &[guest]).ok().ok_or(NO_MEMORY)?;
-    BoardConfig::new(guests).ok().ok_or("no board")
+    board_alike(alloc, guest, 1)
 }
 
 /// How many guests a board has: at most 64.

@@ -1,6 +1,5 @@
 //! The same requests of each guest of a board, and what the guests are told.
 use crate::clock::{NO_MEMORY, Stop};
-use crate::images::board_of;
 use crate::requests::{Kind, mixed};
 use host::Answer;
 use rpmb_frame::BoardConfig;
@@ -10,12 +9,25 @@ use workers::{Chain, Order, Script};
 /// The bytes of the longest request.
 pub const LONGEST: usize = 8704;
 
-/// What each guest of a board asks for: that its key be programmed, and so many requests of one kind after
-/// that.
+/// What a guest asks for behind its key: requests of one kind, of which the first aren't timed.
+#[derive(Clone, Copy)]
+pub struct Asked {
+    pub kind: Kind,
+    pub warm: u32,
+    pub timed: u32,
+}
+
+impl Asked {
+    /// How many requests it makes behind that for its key.
+    fn count(&self) -> u32 {
+        self.warm.saturating_add(self.timed)
+    }
+}
+
+/// What each guest of a board asks for.
 #[derive(Drop)]
 pub struct Load {
-    pub kind: Kind,
-    pub count: u32,
+    pub asked: Asked,
     pub config: BoardConfig,
     /// That for the key with them.
     pub requests: Vec<Vec<u8>>,
@@ -41,14 +53,12 @@ fn requests_of(alloc: Global, kind: Kind, count: u32) -> Result<Vec<Vec<u8>>, St
     Ok(requests)
 }
 
-/// So many requests of a kind from each guest of a board.
-pub fn new_load(alloc: Global, kind: Kind, guests: u16, count: u32) -> Result<Load, Stop> {
-    let requests = requests_of(alloc, kind, count)?;
+/// The requests of each guest of a board.
+pub fn new_load(alloc: Global, config: BoardConfig, asked: Asked) -> Result<Load, Stop> {
     Ok(Load {
-        kind,
-        count,
-        config: board_of(alloc, guests)?,
-        requests,
+        asked,
+        config,
+        requests: requests_of(alloc, asked.kind, asked.count())?,
     })
 }
 
@@ -85,9 +95,27 @@ impl Load {
         (self.config.guests().len() % 65_536) as u16
     }
 
-    /// How many requests all guests make, those for their keys with them.
+    /// How many requests a guest makes, that for its key with them.
+    pub fn each(&self) -> u64 {
+        u64::from(self.asked.count()) + 1
+    }
+
+    /// How many requests all guests make.
     pub fn all(&self) -> u64 {
-        (u64::from(self.count) + 1) * u64::from(self.guests())
+        self.each().saturating_mul(u64::from(self.guests()))
+    }
+
+    /// How many requests of all guests aren't timed.
+    pub fn warm(&self) -> u64 {
+        (u64::from(self.asked.warm) + 1) * u64::from(self.guests())
+    }
+
+    /// The requests for the key, those that aren't timed, and those that are.
+    pub fn parts(&self) -> [&[Vec<u8>]; 3] {
+        let all = self.requests.as_slice();
+        let (key, rest) = all.split_at(all.len().min(1));
+        let (warm, timed) = rest.split_at(rest.len().min(self.asked.warm as usize));
+        [key, warm, timed]
     }
 
     /// The order to offer a request, with room for its reply: that to a key is as long as that to a write.
@@ -107,7 +135,7 @@ impl Load {
         for request in &self.requests {
             let order = self.order_of(alloc, request, kind)?;
             orders.push(order).ok().ok_or(NO_MEMORY)?;
-            kind = self.kind;
+            kind = self.asked.kind;
         }
         Ok(Script::new(orders))
     }
@@ -125,16 +153,13 @@ impl Load {
     /// The last bytes of the last reply to each guest: its write counter, address 0, one block, the result
     /// 0x0000 and its type.
     fn tail(&self) -> [u8; 12] {
-        let counter = match self.kind {
-            Kind::Write => self.count,
-            _ => 0,
-        };
-        let blocks = match self.kind {
-            Kind::Read => 16,
-            _ => 1,
+        let (counter, blocks) = match self.asked.kind {
+            Kind::Write => (self.asked.count(), 1),
+            Kind::Read => (0, 16),
+            _ => (0, 1),
         };
         let [a, b, c, d] = counter.to_be_bytes();
-        let [e, f, g, h] = self.kind.end();
+        let [e, f, g, h] = self.asked.kind.end();
         [a, b, c, d, 0, 0, 0, blocks, e, f, g, h]
     }
 

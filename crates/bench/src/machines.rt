@@ -74,6 +74,8 @@ pub struct Monitored<M: Monitor> {
     monitor: M,
     /// Where a write of the outbox goes.
     buffer: Vec<u8>,
+    /// How many requests the guest offers with one kick.
+    waiting: u16,
     awaited: bool,
     answered: u64,
 }
@@ -100,22 +102,45 @@ fn new_machine(alloc: Global, config: GuestConfig) -> Result<Machine, Stop> {
 }
 
 /// The monitor, once the guest's driver has brought its device into service.
-fn in_service<M: Monitor>(alloc: Global, monitor: M) -> Result<Monitored<M>, Stop> {
+fn in_service<M: Monitor>(alloc: Global, monitor: M, waiting: u16) -> Result<Monitored<M>, Stop> {
     let buffer = vec![in alloc; 0u8; LARGEST_WRITE];
     let mut monitored = Monitored {
         monitor,
         buffer: buffer.ok().ok_or(NO_MEMORY)?,
+        waiting,
         awaited: false,
         answered: 0,
     };
     for (offset, value) in &SETUP {
         monitored.monitor.act(*offset, *value);
     }
-    monitored.monitor.put(0x1000, &DESCRIPTORS)?;
+    for chain in 0..waiting % 8 {
+        let at = 0x1000 + 32 * u64::from(chain);
+        monitored.monitor.put(at, &descriptors_of(chain))?;
+    }
     Ok(monitored)
 }
 
+/// The descriptors of one of up to eight chains: a request of 1,024 bytes, and room for a reply of 512.
+fn descriptors_of(chain: u16) -> [u8; 32] {
+    let chain = (chain % 8) as u8;
+    let mut bytes = DESCRIPTORS;
+    bytes[1] = 0x40 + 4 * chain;
+    bytes[14] = 2 * chain + 1;
+    bytes[17] = 0x80 + 2 * chain;
+    bytes
+}
+
 impl<M: Monitor> Monitored<M> {
+    /// Puts a request, and names its chain in the place of this number.
+    fn put_chain(&mut self, chain: u16, place: u16, request: &[u8]) -> Result<(), Stop> {
+        let place = u64::from(place % 16);
+        let head = (2 * (chain % 8)).to_le_bytes();
+        self.monitor
+            .put(0x4000 + 0x400 * u64::from(chain), request)?;
+        self.monitor.put(0x2004 + 2 * place, &head)
+    }
+
     fn serve(&mut self) -> Result<(), Stop> {
         let (awaited, answered) = self.monitor.serve_guest()?;
         self.awaited = awaited;
@@ -133,7 +158,7 @@ impl<M: Monitor> Monitored<M> {
 }
 
 impl<M: Monitor> Way for Monitored<M> {
-    /// The guest offers a request.
+    /// The guest offers its requests, under one counter after another.
     fn offer(
         &mut self,
         alloc: Global,
@@ -142,11 +167,12 @@ impl<M: Monitor> Way for Monitored<M> {
         counter: u32,
         number: u16,
     ) -> Result<(), Stop> {
-        let request = kind.request(alloc, counter)?;
-        let place = u64::from(number % 16);
-        self.monitor.put(0x4000, &request)?;
-        self.monitor.put(0x2004 + 2 * place, &[0, 0])?;
-        let index = number.wrapping_add(1).to_le_bytes();
+        let first = number.wrapping_mul(self.waiting);
+        for chain in 0..self.waiting {
+            let request = kind.request(alloc, counter.wrapping_add(u32::from(chain)))?;
+            self.put_chain(chain, first.wrapping_add(chain), &request)?;
+        }
+        let index = first.wrapping_add(self.waiting).to_le_bytes();
         self.monitor.put(0x2002, &index)
     }
 
@@ -195,11 +221,32 @@ const ONE: Shape = Shape {
     waiting: 1,
 };
 
-/// Times so many requests of one guest by a machine's calls. The sum is of the bytes of the last reply.
-pub fn time_machine(rt: &HostRuntime, kind: Kind, count: u32) -> Result<Row, Stop> {
+/// Times so many kicks of one guest by a machine's calls, each of so many requests, at most eight. The sum is of
+/// the bytes of the last reply to the first of them.
+fn time_kicks(
+    rt: &HostRuntime,
+    name: &'static str,
+    kind: Kind,
+    count: u32,
+    waiting: u16,
+) -> Result<Row, Stop> {
     let machine = new_machine(rt.alloc(), GuestConfig::of_capacity(1))?;
-    let monitored = in_service(rt.alloc(), machine)?;
-    time_way(rt, kind.name(), monitored, ONE, kind, count)
+    let monitored = in_service(rt.alloc(), machine, waiting)?;
+    let shape = Shape {
+        guests: 1,
+        waiting: u32::from(waiting),
+    };
+    time_way(rt, name, monitored, shape, kind, count)
+}
+
+/// Times so many requests of one guest by a machine's calls, one a kick.
+pub fn time_machine(rt: &HostRuntime, kind: Kind, count: u32) -> Result<Row, Stop> {
+    time_kicks(rt, kind.name(), kind, count, 1)
+}
+
+/// Times so many kicks of four writes.
+pub fn time_four(rt: &HostRuntime, count: u32) -> Result<Row, Stop> {
+    time_kicks(rt, "4 writes of 1 block, by one kick", Kind::Write, count, 4)
 }
 
 /// Times as many by a board's steps. A serve pops and publishes too, which is outside of the time of the steps.

@@ -20,25 +20,40 @@
 //! - of `machine`: of requests for the counter and writes of one guest, by the calls of a machine that a monitor
 //!   embeds, whose outbox is emptied and told to be synced at once, and by a board's steps;
 //! - of `run`: of writes of one guest by a script, which its store alone settles, too;
-//! - of `serve`: of requests of each of 1, 2 and 4 guests, which threads serve at once, and one thread one
-//!   after another: for the counter, and writes that are settled on a disk in memory and in a file.
+//! - of `lock`: of requests of one guest for a book that has rolled: the time of a Submit and a Collect, with the
+//!   MACs and the memory of the answer made outside of these calls, and within them;
+//! - of `serve`: of requests of each of 1, 2 and 4 guests with queues of 16 and of 64 places, which threads serve
+//!   at once, and one thread one after another: for the counter, and writes and reads that are settled on a disk
+//!   in memory, and writes in a file; of reads and in a file an eighth of COUNT. A row has how many requests there
+//!   were a second, and for each its processor time, that in user mode and that in the system, in microseconds,
+//!   page faults, and context switches. After that come the lines of `lock`.
 //!
-//! Each line is of one way to do the work: nanoseconds for each, how many a second, what percentage that is of
-//! the time of the last line's way, and a number that shows that it was done.
+//! Where `serve` counts, a guest has asked for its key and all guests together 20,000 requests of the kind, so that
+//! the history has rolled once. At once it counts till the first guest has asked all, when all threads still run:
+//! the system keeps no sum of the context switches of threads that have ended. Times in user mode and in the system
+//! come in hundredths of a second: a row is to last about a second, as most do from a COUNT of 100,000 on, which
+//! takes 1 GB of memory and ten minutes. What drivers are answered is kept, and so are the receipts: its pages are
+//! among the page faults.
 //!
-//! Where a book answers (`requests`, `device`), the reply to a write leaves once its store has settled it on
+//! Each line of other works is of one way to do it: nanoseconds for each, how many a second, what percentage that is
+//! of the time of the last line's way, and a number that shows that it was done.
+//!
+//! Where a book answers (`requests`, `device`, `serve`), the reply to a write leaves once its store has settled it on
 //! a disk in memory: the times have the calls of that store in them, and no sync of a real disk.
 #![tactic(auto)]
 
 mod books;
 mod clock;
+mod costs;
 mod counted;
 mod groups;
 mod images;
 mod loads;
+mod locks;
 mod machines;
 mod macs;
 mod pages;
+mod parted;
 mod requests;
 mod rings;
 mod rolls;
@@ -49,6 +64,7 @@ mod steps;
 mod stores;
 mod streams;
 mod upgrades;
+mod watching;
 mod ways;
 mod whole;
 
@@ -56,7 +72,8 @@ use books::time_books;
 use clock::{Stop, print_rows};
 use groups::print_counts;
 use images::{board_of, time_openings, time_reads};
-use machines::{few_monitored, time_machine, time_stepped};
+use locks::{few_locked, time_locks};
+use machines::{few_monitored, time_four, time_machine, time_stepped};
 use macs::{keyed_macs, plain_macs, time_keyed, time_plain};
 use requests::Kind;
 use rings::{FORMS, time_chains, time_copies};
@@ -144,7 +161,15 @@ fn time_served(rt: &HostRuntime, single: &BoardConfig, kind: Kind, count: u32) -
 
 fn time_monitor(rt: &HostRuntime, single: &BoardConfig, count: u32) -> Result<(), Stop> {
     time_served(rt, single, Kind::Counter, count)?;
-    time_served(rt, single, Kind::Write, count)
+    time_served(rt, single, Kind::Write, count)?;
+    time_fours(rt, count)
+}
+
+/// Four writes a kick, beside one a kick.
+fn time_fours(rt: &HostRuntime, count: u32) -> Result<(), Stop> {
+    let four = time_four(rt, count / 4)?;
+    let one = time_machine(rt, Kind::Write, count)?;
+    print_rows(rt, &[four, one])
 }
 
 /// Beside a run the calls of its store, and the two MACs of each write: of its frame, and of its reply.
@@ -220,7 +245,8 @@ fn checksums<R: AllocGlobal + Threads + Wait + Sync>(
         (script.sum, "\n"),
         (run.turns, " "),
         (u64::from(run.answers), " "),
-        (few_monitored(rt)?, "\n"),
+        (few_monitored(rt)?, " "),
+        (few_locked(rt)?, "\n"),
     ];
     print_numbers(rt, &numbers)?;
     print_counts(rt, board)?;
@@ -247,6 +273,7 @@ fn time<R: AllocGlobal + Threads + Wait + Sync>(
         "board" => time_board(rt, board, count),
         "machine" => time_monitor(rt, single, count),
         "run" => time_run(rt, threads, single, count),
+        "lock" => time_locks(rt, count),
         "serve" => time_serve(rt, threads, count),
         _ => Err("no such work"),
     }

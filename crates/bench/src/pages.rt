@@ -12,18 +12,22 @@ pub struct Pages {
 }
 
 /// The number at a place of a text whose words are parted by spaces.
-fn number_at(text: &str, place: usize) -> Result<u64, Stop> {
+pub fn number_at(text: &str, place: usize) -> Result<u64, Stop> {
     match text.split(' ').nth(place) {
         Some(word) => word.parse::<u64>().ok().ok_or("no number"),
         None => Err("too few numbers"),
     }
 }
 
-/// What the system tells of this process (proc_pid_stat(5): minflt, rss).
+/// What the system tells of this process (proc_pid_stat(5)).
+pub fn stat_now(rt: &HostRuntime) -> Result<String, Stop> {
+    let text = fs::read_to_string(rt, "/proc/self/stat");
+    text.ok().ok_or("no /proc/self/stat")
+}
+
+/// What of it is of memory: minflt and rss.
 pub fn pages_now(rt: &HostRuntime) -> Result<Pages, Stop> {
-    let Ok(text) = fs::read_to_string(rt, "/proc/self/stat") else {
-        return Err("no /proc/self/stat");
-    };
+    let text = stat_now(rt)?;
     Ok(Pages {
         resident: number_at(&text, 23)?,
         faults: number_at(&text, 9)?,

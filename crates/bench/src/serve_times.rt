@@ -1,12 +1,13 @@
-//! Guests that are served at once, against one chain after another: how many requests a second, and what share
-//! of its time a run holds the lock of its book.
-use crate::books::time_books;
-use crate::clock::{Row, Stop, print_rows};
-use crate::images::blank_disk;
-use crate::loads::{Load, new_load};
+//! Guests that are served at once, against one chain after another: what a request costs of time, of the
+//! processors, and of the system, once the book is warm.
+use crate::clock::Stop;
+use crate::costs::{Cost, print_cost, print_heads};
+use crate::images::{blank_disk, board_of, board_of_places};
+use crate::loads::{Asked, Load, new_load};
+use crate::locks::time_locks;
 use crate::requests::Kind;
 use crate::serving::{Run, alone, served, told_alone};
-use crate::stores::time_stored;
+use crate::whole::WARM;
 use disk::{Disk, FileDisk};
 use intent_slots::Layout;
 use std::fs;
@@ -14,10 +15,75 @@ use std::fs::File;
 use std::os::unix::fs::OpenOptionsExt;
 use std::sync::Wait;
 use std::thread::Threads;
-use std::time::Duration;
 
 /// The boards by their numbers of guests.
 static GUESTS: [u16; 3] = [1, 2, 4];
+
+/// The places of their queues.
+static PLACES: [u16; 2] = [16, 64];
+
+/// How often each is served both ways, of which the best run of each counts.
+const ROUNDS: u32 = 5;
+
+/// Where a load is settled.
+#[derive(Clone, Copy)]
+enum Medium {
+    Memory,
+    /// The syncs of a file are real, those of memory nothing.
+    File,
+}
+
+/// What is asked, where it is settled, and by what the number of requests is divided, so that the dearer ones take
+/// no longer than others.
+#[derive(Clone, Copy)]
+struct Case {
+    kind: Kind,
+    medium: Medium,
+    share: u32,
+}
+
+static CASES: [Case; 4] = [
+    Case {
+        kind: Kind::Counter,
+        medium: Medium::Memory,
+        share: 1,
+    },
+    Case {
+        kind: Kind::Write,
+        medium: Medium::Memory,
+        share: 1,
+    },
+    Case {
+        kind: Kind::Read,
+        medium: Medium::Memory,
+        share: 8,
+    },
+    Case {
+        kind: Kind::Write,
+        medium: Medium::File,
+        share: 8,
+    },
+];
+
+impl Medium {
+    fn name(self) -> &'static str {
+        match self {
+            Medium::Memory => "memory",
+            Medium::File => "a file",
+        }
+    }
+}
+
+impl Case {
+    /// What each of so many guests is to ask, where so many requests are timed.
+    fn asked(self, guests: u16, count: u32) -> Asked {
+        Asked {
+            kind: self.kind,
+            warm: WARM / u32::from(guests.max(1)),
+            timed: count / self.share.max(1),
+        }
+    }
+}
 
 /// A file of the folder where the program runs, for as long as it is written.
 const FILE: &str = "bench-serve.img";
@@ -25,18 +91,18 @@ const FILE: &str = "bench-serve.img";
 const NO_FILE: Stop = "no file bench-serve.img, or one that was there before";
 
 /// Serves a load at once over one disk and one chain after another over the other; each guest has to be told
-/// the same. Answers the run, and the time on one thread.
+/// the same. Answers the run, and what the requests cost on one thread.
 fn both<D: Disk + Send + Drop, R: Threads + Wait + Sync>(
     rt: &HostRuntime,
     threads: &R,
     load: &Load,
     first: D,
     second: D,
-) -> Result<(Run, Duration), Stop> {
+) -> Result<(Run, Cost), Stop> {
     let run = served(rt, threads, load, first)?;
     let one = alone(rt, load, second)?;
     if run.answers == told_alone(load, &one)? {
-        Ok((run, one.took))
+        Ok((run, one.cost))
     } else {
         Err("guests that are told something else at once")
     }
@@ -46,7 +112,7 @@ fn both_in_memory<R: Threads + Wait + Sync>(
     rt: &HostRuntime,
     threads: &R,
     load: &Load,
-) -> Result<(Run, Duration), Stop> {
+) -> Result<(Run, Cost), Stop> {
     let first = blank_disk(rt.alloc(), &load.config)?;
     let second = blank_disk(rt.alloc(), &load.config)?;
     both(rt, threads, load, first, second)
@@ -58,7 +124,7 @@ fn both_in<R: Threads + Wait + Sync>(
     threads: &R,
     load: &Load,
     file: File,
-) -> Result<(Run, Duration), Stop> {
+) -> Result<(Run, Cost), Stop> {
     let length = Layout::of(&load.config).length();
     if file.set_len(length).is_err() {
         return Err(NO_FILE);
@@ -77,7 +143,7 @@ fn both_in_file<R: Threads + Wait + Sync>(
     rt: &HostRuntime,
     threads: &R,
     load: &Load,
-) -> Result<(Run, Duration), Stop> {
+) -> Result<(Run, Cost), Stop> {
     let mut options = File::options();
     options.read(true).write(true).create_new(true).mode(0o600);
     let told = match options.open(rt, FILE) {
@@ -90,87 +156,105 @@ fn both_in_file<R: Threads + Wait + Sync>(
     }
 }
 
-/// The time of the book's calls for a load, made by one thread: that of the book's and the store's calls, less
-/// that of the store's. No clock stands in what serves the guests, so this is measured apart; neither a wait for
-/// the lock is in it, nor calls that find nothing, of which a run makes as many as its schedule brings.
-fn held(rt: &HostRuntime, load: &Load) -> Result<Row, Stop> {
-    let mut row = time_books(rt, &load.config, load.kind, load.count)?;
-    if let Kind::Write = load.kind {
-        let stored = time_stored(rt, &load.config, load.count)?;
-        row.took = row.took.saturating_sub(stored.took);
-    }
-    row.name = "the lock of the book";
-    Ok(row)
-}
-
-/// Prints a run of threads, one thread, and the time of the calls under the lock.
-fn print_both(
-    rt: &HostRuntime,
-    load: &Load,
-    place: &str,
-    both: (Run, Duration),
-) -> Result<(), Stop> {
-    let (run, one) = both;
-    let printed = println!(rt;
-        "guests {}, {} in {place}:",
-        load.guests(),
-        load.kind.name()
-    );
-    printed.ok().ok_or("no output")?;
-    let at_once = Row {
-        name: "at once",
-        count: load.all(),
-        took: run.took,
-        sum: u64::from(run.answers),
-    };
-    let after_another = Row {
-        name: "one after another",
-        took: one,
-        ..at_once
-    };
-    print_rows(rt, &[after_another, held(rt, load)?, at_once])
-}
-
-fn time_load<R: Threads + Wait + Sync>(
+/// What requests cost at once, and one after another.
+fn costs<R: Threads + Wait + Sync>(
     rt: &HostRuntime,
     threads: &R,
     load: &Load,
-) -> Result<(), Stop> {
-    print_both(rt, load, "memory", both_in_memory(rt, threads, load)?)?;
-    // The syncs of a file are real, those of memory nothing. What isn't stored makes none.
-    match load.kind {
-        Kind::Write => print_both(rt, load, "a file", both_in_file(rt, threads, load)?),
-        _ => Ok(()),
-    }
+    medium: Medium,
+) -> Result<[Cost; 2], Stop> {
+    let (run, one) = match medium {
+        Medium::Memory => both_in_memory(rt, threads, load)?,
+        Medium::File => both_in_file(rt, threads, load)?,
+    };
+    Ok([run.cost?, one])
 }
 
-fn time_kind<R: Threads + Wait + Sync>(
+/// The same of the best of some runs each.
+fn best_costs<R: Threads + Wait + Sync>(
     rt: &HostRuntime,
     threads: &R,
-    kind: Kind,
+    load: &Load,
+    medium: Medium,
+) -> Result<[Cost; 2], Stop> {
+    let [mut at_once, mut one] = costs(rt, threads, load, medium)?;
+    for _ in 1..ROUNDS {
+        let [other_at_once, other_one] = costs(rt, threads, load, medium)?;
+        at_once = at_once.better(other_at_once);
+        one = one.better(other_one);
+    }
+    Ok([at_once, one])
+}
+
+/// Prints both ways to serve so many guests.
+fn time_guests<R: Threads + Wait + Sync>(
+    rt: &HostRuntime,
+    threads: &R,
+    medium: Medium,
+    load: &Load,
+) -> Result<(), Stop> {
+    let [at_once, one] = best_costs(rt, threads, load, medium)?;
+    print_cost(rt, load.guests(), "at once", &at_once)?;
+    print_cost(rt, load.guests(), "one after another", &one)
+}
+
+/// Prints what a case costs each board, with queues of so many places.
+fn time_case<R: Threads + Wait + Sync>(
+    rt: &HostRuntime,
+    threads: &R,
+    case: Case,
+    places: u16,
     count: u32,
 ) -> Result<(), Stop> {
+    let printed = println!(rt;
+        "{} in {}, queues of {places} places, best of {ROUNDS} runs of {} requests a guest:",
+        case.kind.name(),
+        case.medium.name(),
+        case.asked(1, count).timed
+    );
+    printed.ok().ok_or("no output")?;
+    print_heads(rt)?;
     for guests in &GUESTS {
-        let load = new_load(rt.alloc(), kind, *guests, count)?;
-        time_load(rt, threads, &load)?;
+        let config = board_of_places(rt.alloc(), *guests, places)?;
+        let load = new_load(rt.alloc(), config, case.asked(*guests, count))?;
+        time_guests(rt, threads, case.medium, &load)?;
     }
     Ok(())
 }
 
-/// Times so many requests of each guest: for the counter, and writes with their results, which are settled
-/// over a disk in memory and over a file.
+fn time_cases<R: Threads + Wait + Sync>(
+    rt: &HostRuntime,
+    threads: &R,
+    places: u16,
+    count: u32,
+) -> Result<(), Stop> {
+    for case in &CASES {
+        time_case(rt, threads, *case, places, count)?;
+    }
+    Ok(())
+}
+
+/// Times so many requests of each guest, of each kind, with short queues and long ones; and the calls under the
+/// book's lock.
 pub fn time_serve<R: Threads + Wait + Sync>(
     rt: &HostRuntime,
     threads: &R,
     count: u32,
 ) -> Result<(), Stop> {
-    time_kind(rt, threads, Kind::Counter, count)?;
-    time_kind(rt, threads, Kind::Write, count)
+    for places in &PLACES {
+        time_cases(rt, threads, *places, count)?;
+    }
+    time_locks(rt, count)
 }
 
 /// A few writes of two guests, at once and one after another.
 pub fn few_served<R: Threads + Wait + Sync>(rt: &HostRuntime, threads: &R) -> Result<Run, Stop> {
-    let load = new_load(rt.alloc(), Kind::Write, 2, 3)?;
+    let asked = Asked {
+        kind: Kind::Write,
+        warm: 0,
+        timed: 3,
+    };
+    let load = new_load(rt.alloc(), board_of(rt.alloc(), 2)?, asked)?;
     let (run, _) = both_in_memory(rt, threads, &load)?;
     Ok(run)
 }

@@ -2,23 +2,25 @@
 ghost use Rattle.std.specs.Prelude.{◌≡◌, length};
 ghost use Rattle.host.specs.Opening.{IsJustOpened};
 
-use crate::clock::{NO_MEMORY, Stop, now, since};
+use crate::clock::{NO_MEMORY, Stop};
+use crate::costs::{Cost, used_now};
 use crate::images::{make_image, opened_board};
 use crate::loads::{LONGEST, Load};
 use crate::requests::Kind;
+use crate::watching::Watch;
 use board::Board;
 use disk::Disk;
 use host::{Answer, Host};
 use std::alloc::Global;
 use std::sync::Wait;
 use std::thread::Threads;
-use std::time::Duration;
-use workers::{DriverEnd, Ended, Open, Script, Served, parts_of, serve};
+use workers::{DriverEnd, Ended, Script, Served, parts_of, serve};
 
 /// What a run of threads came to.
 #[derive(Clone, Copy)]
 pub struct Run {
-    pub took: Duration,
+    /// Of those requests that are timed.
+    pub cost: Result<Cost, Stop>,
     /// The Submit turns of the book's history, which are the sum of the guests' tallies.
     pub turns: u64,
     /// The bytes of each guest's answers in their order, one guest after another, mixed.
@@ -45,39 +47,33 @@ fn told_drivers(load: &Load, drivers: &[DriverEnd]) -> Result<u32, Stop> {
 
 /// What a run left, where it is whole: each request is counted, by the book and by a tally, and no call of
 /// the disk has failed.
-fn run_of<D: Disk>(
-    load: &Load,
-    ended: &Ended<D>,
-    took: Result<Duration, Stop>,
-) -> Result<Run, Stop> {
-    let took = took?;
+fn run_of<D: Disk>(load: &Load, ended: &Ended<D>, cost: Result<Cost, Stop>) -> Result<Run, Stop> {
     let turns = ended.book.submit_turns();
     if ended.broken || turns != load.all() || tallies_of(&ended.served) != turns {
         return Err("a run that isn't whole");
     }
     Ok(Run {
-        took,
+        cost,
         turns,
         answers: told_drivers(load, &ended.drivers)?,
     })
 }
 
-/// Serves the guests of a board that was just opened at once; the time is that from before the threads are
-/// started until all have ended and no call of the disk is left.
+/// Serves the guests of a board that was just opened at once, under a watch.
 fn run_scripts<D: Disk + Send + Drop, R: Threads + Wait + Sync>(
     rt: &HostRuntime,
     threads: &R,
     load: &Load,
     scripts: &[Script],
     board: Board<D>,
+    watch: &Watch<'_>,
 ) -> Result<Run, Stop>
     requires opened { IsJustOpened D.state load.now.config board }
     requires many { length scripts.now ≡ length load.now.config }
 {
     let parts = parts_of(board, &load.config);
-    let start = now(rt);
-    match serve(threads, rt.alloc(), parts, &load.config, scripts, &Open) {
-        Ok(ended) => run_of(load, &ended, since(rt, start)),
+    match serve(threads, rt.alloc(), parts, &load.config, scripts, watch) {
+        Ok(ended) => run_of(load, &ended, watch.cost()),
         Err(_) => Err("a run that came to a fault"),
     }
 }
@@ -96,14 +92,15 @@ pub fn served<D: Disk + Send + Drop, R: Threads + Wait + Sync>(
     if scripts.len() != load.config.guests().len() {
         return Err("another number of guests");
     }
-    run_scripts(rt, threads, load, &scripts, board)
+    let watch = Watch::new(rt, load)?;
+    run_scripts(rt, threads, load, &scripts, board, &watch)
 }
 
-/// What one thread came to: the answers of one guest after another.
+/// What one thread came to: what the requests that are timed cost, and the answers to each guest.
 #[derive(Drop)]
 pub struct OneThread {
-    pub took: Duration,
-    pub answers: Vec<Answer>,
+    pub cost: Cost,
+    pub answers: Vec<Vec<Answer>>,
 }
 
 /// What takes chains to their end. Its method promises nothing, so that what stands above it is proved without a
@@ -128,43 +125,72 @@ impl<D: Disk> Chains for Host<D> {
 fn take_chains<C: Chains>(
     host: &mut C,
     guest: u16,
-    load: &Load,
+    kind: Kind,
+    requests: &[Vec<u8>],
     answers: &mut Vec<Answer>,
 ) -> Result<(), Stop> {
-    let mut kind = Kind::Key;
-    for request in &load.requests {
+    for request in requests {
         let answer = host.end_of(guest, request, kind)?;
         answers.push(answer).ok().ok_or(NO_MEMORY)?;
-        kind = load.kind;
     }
     Ok(())
 }
 
-fn take_each<C: Chains>(host: &mut C, load: &Load, answers: &mut Vec<Answer>) -> Result<(), Stop> {
-    for guest in 0..load.guests() {
-        take_chains(host, guest, load, answers)?;
+/// Each guest does, one after another.
+fn take_each<C: Chains>(
+    host: &mut C,
+    kind: Kind,
+    requests: &[Vec<u8>],
+    answers: &mut [Vec<Answer>],
+) -> Result<(), Stop> {
+    for (guest, answers) in answers.iter_mut().enumerate() {
+        take_chains(host, (guest % 65_536) as u16, kind, requests, answers)?;
     }
     Ok(())
+}
+
+/// Takes the chains of a load to their end, with what those cost that are timed.
+fn take_load<C: Chains>(
+    rt: &HostRuntime,
+    host: &mut C,
+    load: &Load,
+    answers: &mut [Vec<Answer>],
+) -> Result<Cost, Stop> {
+    let [key, warm, timed] = load.parts();
+    take_each(host, Kind::Key, key, answers)?;
+    take_each(host, load.asked.kind, warm, answers)?;
+    let first = used_now(rt)?;
+    take_each(host, load.asked.kind, timed, answers)?;
+    first.until(&used_now(rt)?, load.all().saturating_sub(load.warm()))
 }
 
 /// Brings the devices into service, takes one chain after another to its end, and makes the calls of the disk
 /// that are left.
 fn take_all<D: Disk>(
-    alloc: Global,
+    rt: &HostRuntime,
     board: Board<D>,
     load: &Load,
-    answers: &mut Vec<Answer>,
-) -> Result<(), Stop>
+    answers: &mut [Vec<Answer>],
+) -> Result<Cost, Stop>
     requires { IsJustOpened D.state load.now.config board }
 {
-    let Ok(mut host) = Host::new(alloc, board, &load.config) else {
+    let Ok(mut host) = Host::new(rt.alloc(), board, &load.config) else {
         return Err(NO_MEMORY);
     };
-    let all = take_each(&mut host, load, answers);
+    let cost = take_load(rt, &mut host, load, answers);
     match host.finish() {
-        (_, Ok(())) => all,
+        (_, Ok(())) => cost,
         _ => Err("a call that failed"),
     }
+}
+
+/// No answers of so many guests.
+fn no_answers(alloc: Global, guests: u16) -> Result<Vec<Vec<Answer>>, Stop> {
+    let mut answers = Vec::new(alloc);
+    for _ in 0..guests {
+        answers.push(Vec::new(alloc)).ok().ok_or(NO_MEMORY)?;
+    }
+    Ok(answers)
 }
 
 /// Takes the same chains to their end on one thread, one guest's after another's, on a fresh image.
@@ -172,11 +198,9 @@ pub fn alone<D: Disk>(rt: &HostRuntime, load: &Load, disk: D) -> Result<OneThrea
     let mut disk = disk;
     make_image(&mut disk, &load.config)?;
     let board = opened_board(rt.alloc(), disk, &load.config)?;
-    let mut answers = Vec::new(rt.alloc());
-    let start = now(rt);
-    take_all(rt.alloc(), board, load, &mut answers)?;
+    let mut answers = no_answers(rt.alloc(), load.guests())?;
     Ok(OneThread {
-        took: since(rt, start)?,
+        cost: take_all(rt, board, load, &mut answers)?,
         answers,
     })
 }
@@ -184,7 +208,7 @@ pub fn alone<D: Disk>(rt: &HostRuntime, load: &Load, disk: D) -> Result<OneThrea
 /// What all guests were told on one thread, mixed as what drivers were told.
 pub fn told_alone(load: &Load, one: &OneThread) -> Result<u32, Stop> {
     let mut all = 0u32;
-    for answers in one.answers.chunks(load.requests.len().max(1)) {
+    for answers in &one.answers {
         all = load.told(answers, all)?;
     }
     Ok(all)

@@ -4,7 +4,7 @@ ghost use Rattle.host.specs.Opening.{IsJustOpened};
 
 use crate::clock::{NO_MEMORY, Row, Stop, now, print_rows, since};
 use crate::images::{board_of_form, new_disk, opened_board};
-use crate::loads::mixed_mac;
+use crate::loads::{Asked, mixed_mac};
 use crate::macs::time_keyed;
 use crate::pages::pages_now;
 use crate::requests::Kind;
@@ -21,17 +21,9 @@ use std::time::Duration;
 const BATCH: u32 = 256;
 
 /// After so many requests the history, which holds 16,384, has rolled once.
-const WARM: u32 = 20_000;
+pub const WARM: u32 = 20_000;
 
 static KINDS: [Kind; 3] = [Kind::Counter, Kind::Write, Kind::Read];
-
-/// What a guest asks for behind its key: requests of one kind, of which the first aren't timed.
-#[derive(Clone, Copy)]
-struct Asked {
-    kind: Kind,
-    warm: u32,
-    timed: u32,
-}
 
 /// What requests came to, and as many MACs as they need.
 #[derive(Clone, Copy)]
