@@ -198,8 +198,8 @@ pub fn run<D: Disk, W: Write>(
     // the host that it says, and a chain printed what the host answered.
     ensures moments { (lines : List Said) → Says board.now script.now lines
         → AnyMoment D.state D.makes board.now lines disk (W.contents out.old) result.0 result.1 (W.contents out.new) }
-    // With a fault it has printed what a front of its lines prints, unless standard output took no more; where a call of
-    // the disk failed, all that they print, with failures from then on.
+    // With a fault it has printed what a front of its lines prints, unless standard output took no more; where a call
+    // of the disk failed, all that they print, with failures from then on.
     ensures stopped { IfErr result.0 (λ fault.
         RunPrints board.now script.now (D.state disk) (D.state result.1) fault (W.contents out.old)
         (W.contents out.new)) }

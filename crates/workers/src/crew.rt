@@ -335,7 +335,8 @@ fn run_in<
         ≡ guests_of workers.items) }
     ensures drivers { IfOk result (λ c. vec_len c.drivers ≡ length scripts.now) }
     ensures each { IfOk result (λ c. Left c.drivers.items scripts.now) }
-    ensures flusher { IfOk result (λ c. LeftBy D.state D.makes flusher.store flusher.broken c.flusher.store c.flusher.broken) }
+    ensures flusher { IfOk result (λ c. LeftBy D.state D.makes
+        flusher.store flusher.broken c.flusher.store c.flusher.broken) }
 {
     match start_all(scope, rt, alloc, hall, gate, workers, scripts, flusher) {
         Ok(started) => join_all(rt, started, scripts),
@@ -367,7 +368,8 @@ pub(crate) fn run_all<
         ≡ guests_of workers.items) }
     ensures drivers { IfOk result (λ c. vec_len c.drivers ≡ length scripts.now) }
     ensures each { IfOk result (λ c. Left c.drivers.items scripts.now) }
-    ensures flusher { IfOk result (λ c. LeftBy D.state D.makes flusher.store flusher.broken c.flusher.store c.flusher.broken) }
+    ensures flusher { IfOk result (λ c. LeftBy D.state D.makes
+        flusher.store flusher.broken c.flusher.store c.flusher.broken) }
 {
     thread::scope(
         thread::scope_env(),
@@ -379,7 +381,8 @@ pub(crate) fn run_all<
                 ≡ guests_of workers.items) }
             ensures drivers { IfOk result (λ c. vec_len c.drivers ≡ length scripts.entry.now) }
             ensures each { IfOk result (λ c. Left c.drivers.items scripts.entry.now) }
-            ensures flusher { IfOk result (λ c. LeftBy D.state D.makes flusher.store flusher.broken c.flusher.store c.flusher.broken) }
+            ensures flusher { IfOk result (λ c. LeftBy D.state D.makes
+                flusher.store flusher.broken c.flusher.store c.flusher.broken) }
         { run_in(scope, rt, alloc, hall, gate, workers, scripts, flusher) },
     )
 }
