@@ -246,7 +246,13 @@ pub fn time_machine(rt: &HostRuntime, kind: Kind, count: u32) -> Result<Row, Sto
 
 /// Times so many kicks of four writes.
 pub fn time_four(rt: &HostRuntime, count: u32) -> Result<Row, Stop> {
-    time_kicks(rt, "4 writes of 1 block, by one kick", Kind::Write, count, 4)
+    time_kicks(
+        rt,
+        "4 writes of 1 block, by one kick",
+        Kind::Write,
+        count,
+        4,
+    )
 }
 
 /// Times as many by a board's steps. A serve pops and publishes too, which is outside of the time of the steps.

@@ -161,5 +161,8 @@ fn runs_that_serve_nobody_are_caught(rt: HostRuntime) -> Result<(), Fail> {
     let nothing = checked(&rt, rt.alloc(), &[])?;
     check(nothing.is_err(), "a run of nothing passed")?;
     let refused: Result<Ended<CutDisk>, HostFault> = Err(HostFault::NoMemory);
-    check(check_outcome(rt.alloc(), &refused).is_err(), "want of memory passed")
+    check(
+        check_outcome(rt.alloc(), &refused).is_err(),
+        "want of memory passed",
+    )
 }
