@@ -11,7 +11,7 @@ const TICK: u64 = 10_000;
 /// What a process has used until now, by all its threads.
 #[derive(Clone, Copy)]
 pub struct Used {
-    at: Option<Instant>,
+    at: Instant,
     /// The processor time of all threads.
     cpu: Duration,
     /// How many ticks of it were in user mode, and how many in the system.
@@ -86,7 +86,7 @@ pub fn used_now(rt: &HostRuntime) -> Result<Used, Stop> {
     let stat = stat_now(rt)?;
     let cpu = rt.process_cpu_time();
     Ok(Used {
-        at: now(rt),
+        at: now(rt).ok_or("no clock")?,
         cpu: cpu.ok().ok_or("no clock")?,
         user: number_at(stat.as_str(), 13)?,
         system: number_at(stat.as_str(), 14)?,
@@ -95,26 +95,18 @@ pub fn used_now(rt: &HostRuntime) -> Result<Used, Stop> {
     })
 }
 
-/// The time between two looks at the clock.
-fn between(first: Option<Instant>, last: Option<Instant>) -> Result<Duration, Stop> {
-    match (first, last) {
-        (Some(first), Some(last)) => Ok(last.saturating_duration_since(first)),
-        _ => Err("no clock"),
-    }
-}
-
 impl Used {
     /// What was used from here on to a later look, for so many requests.
-    pub fn until(&self, last: &Used, count: u64) -> Result<Cost, Stop> {
-        Ok(Cost {
+    pub fn until(&self, last: &Used, count: u64) -> Cost {
+        Cost {
             count,
-            took: between(self.at, last.at)?,
+            took: last.at.saturating_duration_since(self.at),
             cpu: last.cpu.saturating_sub(self.cpu),
             user: last.user.saturating_sub(self.user).saturating_mul(TICK),
             system: last.system.saturating_sub(self.system).saturating_mul(TICK),
             faults: last.faults.saturating_sub(self.faults),
             switches: last.switches.saturating_sub(self.switches),
-        })
+        }
     }
 }
 

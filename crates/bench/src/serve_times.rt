@@ -198,14 +198,22 @@ fn time_guests<R: Threads + Wait + Sync>(
     print_cost(rt, load.guests(), "one after another", &one)
 }
 
-/// Prints what a case costs each board, with queues of so many places.
-fn time_case<R: Threads + Wait + Sync>(
+/// Prints what a case costs a board of so many guests, with queues of so many places.
+fn time_board<R: Threads + Wait + Sync>(
     rt: &HostRuntime,
     threads: &R,
     case: Case,
+    guests: u16,
     places: u16,
     count: u32,
 ) -> Result<(), Stop> {
+    let config = board_of_places(rt.alloc(), guests, places)?;
+    let load = new_load(rt.alloc(), config, case.asked(guests, count))?;
+    time_guests(rt, threads, case.medium, &load)
+}
+
+/// Prints what stands above a case.
+fn print_case(rt: &HostRuntime, case: Case, places: u16, count: u32) -> Result<(), Stop> {
     let printed = println!(rt;
         "{} in {}, queues of {places} places, best of {ROUNDS} runs of {} requests a guest:",
         case.kind.name(),
@@ -213,11 +221,20 @@ fn time_case<R: Threads + Wait + Sync>(
         case.asked(1, count).timed
     );
     printed.ok().ok_or("no output")?;
-    print_heads(rt)?;
+    print_heads(rt)
+}
+
+/// Prints what a case costs each board.
+fn time_case<R: Threads + Wait + Sync>(
+    rt: &HostRuntime,
+    threads: &R,
+    case: Case,
+    places: u16,
+    count: u32,
+) -> Result<(), Stop> {
+    print_case(rt, case, places, count)?;
     for guests in &GUESTS {
-        let config = board_of_places(rt.alloc(), *guests, places)?;
-        let load = new_load(rt.alloc(), config, case.asked(*guests, count))?;
-        time_guests(rt, threads, case.medium, &load)?;
+        time_board(rt, threads, case, *guests, places, count)?;
     }
     Ok(())
 }

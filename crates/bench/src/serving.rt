@@ -161,7 +161,8 @@ fn take_load<C: Chains>(
     take_each(host, load.asked.kind, warm, answers)?;
     let first = used_now(rt)?;
     take_each(host, load.asked.kind, timed, answers)?;
-    first.until(&used_now(rt)?, load.all().saturating_sub(load.warm()))
+    let last = used_now(rt)?;
+    Ok(first.until(&last, load.all().saturating_sub(load.warm())))
 }
 
 /// Brings the devices into service, takes one chain after another to its end, and makes the calls of the disk

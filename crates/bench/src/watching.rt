@@ -79,7 +79,8 @@ fn cost_between(first: &Look, last: &Look) -> Result<Cost, Stop> {
         return Err("a guest that asked all before others were warm");
     }
     let used = last.used?;
-    first.used?.until(&used, last.answered - first.answered)
+    let count = last.answered - first.answered;
+    Ok(first.used?.until(&used, count))
 }
 
 impl<'a> Gate for Watch<'a> {
