@@ -10,7 +10,6 @@ mod making;
 mod performing;
 mod reading;
 mod refusal;
-mod refusal_words;
 mod source;
 mod telling;
 mod words;
