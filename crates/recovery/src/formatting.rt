@@ -1,5 +1,5 @@
 //! Making a fresh image.
-ghost use Rattle.std.specs.Prelude.{◌≡◌, ◌≤◌, ◌<◌, ◌+◌, ◌*◌, ◌^◌, ℕ, true, false, length, is_ok, OnOk, OnErr, Err};
+ghost use Rattle.std.specs.Prelude.{◌≡◌, if◌then◌else◌, ◌≤◌, ◌<◌, ◌+◌, ◌*◌, ◌^◌, ℕ, true, false, length, is_ok, OnOk, OnErr, Err};
 ghost use Rattle.disk.specs.Content.{zeros};
 ghost use Rattle.disk.specs.Disk.{HasRisen, Sync};
 ghost use Rattle.intent_slots.specs.Layout.{capacities_of, image_length};
@@ -133,7 +133,7 @@ pub fn format<D: Disk>(disk: &mut D, board: &BoardConfig) -> Result<(), OpenFaul
     // empty partitions.
     ensures order { ClearsFirst D.state D.makes (capacities_of board.now) disk.old disk.new }
 {
-    match write_image(disk, &Layout::of(board), 1) {
+    match write_image(disk, &Layout::of(board), version_of(false)) {
         Ok(()) => Ok(()),
         Err(_) => Err(OpenFault::DiskFault),
     }
@@ -155,10 +155,17 @@ pub fn format2<D: Disk>(disk: &mut D, board: &BoardConfig) -> Result<(), OpenFau
     // empty partitions.
     ensures order { ClearsFirst D.state D.makes (capacities_of board.now) disk.old disk.new }
 {
-    match write_image(disk, &Layout::of(board), 2) {
+    match write_image(disk, &Layout::of(board), version_of(true)) {
         Ok(()) => Ok(()),
         Err(_) => Err(OpenFault::DiskFault),
     }
+}
+
+/// The version byte of an image, in which both slots of each partition are in use, or one alone.
+fn version_of(paired: bool) -> u8
+    ensures { result ≡ (if paired then 2 else 1) }
+{
+    if paired { 2 } else { 1 }
 }
 
 /// Writes a fresh image.
