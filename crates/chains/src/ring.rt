@@ -1,7 +1,7 @@
 ghost use Rattle.std.specs.Prelude.{◌≡◌, ◌≤◌, ◌<◌, ◌+◌, ◌↔◌, IsTrue, false, IsOk, IfOk, IfSome, OnErr, length, Err};
 ghost use Rattle.chains.specs.Range.{AreInside};
 ghost use Rattle.chains.specs.Walk.{reads_of};
-ghost use Rattle.chains.specs.Ring.{first_state, MayBeUsed, IsFree, Ascend, Finds, Pops, CountsReads, Publishes};
+ghost use Rattle.chains.specs.Ring.{first_state, MayBeUsed, IsFree, Stays, Finds, Pops, CountsReads, Publishes};
 
 use crate::counts::Counts;
 use crate::fault::{ChainFault, RingFault};
@@ -132,10 +132,8 @@ impl<R: Rules> Ring<R> {
     ) -> Result<Option<Popped>, RingFault>
         requires areas { R.areas (length memory.old) self.old }
         ensures pops { Pops R.next R.members R.event memory.old self.old number result memory.new self.new }
-        ensures numbered { Ascend 0 self.new.outstanding self.new.last }
+        ensures stays { Stays R.areas memory.old memory.new self.new }
         ensures old_number { number ≤ self.old.last → result ≡ Err RingFault.OldNumber }
-        ensures areas { R.areas (length memory.new) self.new }
-        ensures size { length memory.new ≡ length memory.old }
         ensures inside { IfOk result (λ popped.
             IfSome popped (λ popped. AreInside (length memory.old) popped.chain.writable)) }
         ensures reads { CountsReads result reads.old reads.new
@@ -174,9 +172,7 @@ impl<R: Rules> Ring<R> {
         ensures publishes { Publishes R.used_written R.tells memory.old self.old number id places
             len result memory.new self.new }
         ensures once { IsFree number self.new.outstanding }
-        ensures numbered { Ascend 0 self.new.outstanding self.new.last }
-        ensures areas { R.areas (length memory.new) self.new }
-        ensures size { length memory.new ≡ length memory.old }
+        ensures stays { Stays R.areas memory.old memory.new self.new }
     {
         let _used = self.counts.used();
         R::write_used(&self.counts, memory, Used { id, places, len });
