@@ -9,7 +9,7 @@ use crate::ways::{Call, Shape, Turn, Way, time_way};
 use board::Parts;
 use chains::Range;
 use disk::MemDisk;
-use flusher::{Marks, Progress};
+use flusher::Made;
 use mmio_transport::{Done, Job};
 use rpmb_frame::BoardConfig;
 use std::alloc::Global;
@@ -113,8 +113,8 @@ pub fn hand_over(parts: &mut Parts<CountedDisk<MemDisk>>, guest: u16) -> Result<
     }
 }
 
-fn settle(parts: &mut Parts<CountedDisk<MemDisk>>, marks: Marks) -> Result<Call, Stop> {
-    match parts.book.settle(&parts.shares, marks) {
+fn settle(parts: &mut Parts<CountedDisk<MemDisk>>) -> Result<Call, Stop> {
+    match parts.book.settle(&parts.shares, parts.store.marks()) {
         Ok(()) => Ok(Call::Sync),
         Err(_) => Err("marks that aren't settled"),
     }
@@ -123,9 +123,9 @@ fn settle(parts: &mut Parts<CountedDisk<MemDisk>>, marks: Marks) -> Result<Call,
 /// Makes the store's next call, and tells the book what it settled.
 pub fn advance(parts: &mut Parts<CountedDisk<MemDisk>>) -> Result<Call, Stop> {
     match parts.store.advance() {
-        Ok(Progress::Idle) => Ok(Call::Nothing),
-        Ok(Progress::Wrote) => Ok(Call::Write),
-        Ok(Progress::Synced(marks)) => settle(parts, marks),
+        Ok(Made::Idle) => Ok(Call::Nothing),
+        Ok(Made::Wrote) => Ok(Call::Write),
+        Ok(Made::Synced) => settle(parts),
         Err(_) => Err("a call that failed"),
     }
 }

@@ -6,7 +6,7 @@ use crate::images::{guests_of, new_disk};
 use crate::requests::{KEY, Kind};
 use crate::ways::{Call, Shape, Turn, Way, time_way};
 use disk::{Disk, MemDisk};
-use flusher::{Progress, Store};
+use flusher::{Made, Store};
 use intent_slots::{Entry, Intent, Layout, Side};
 use recovery::open;
 use rpmb_frame::BoardConfig;
@@ -91,9 +91,9 @@ impl Way for Stored {
 
     fn advance(&mut self) -> Result<Call, Stop> {
         match self.store.advance() {
-            Ok(Progress::Idle) => Ok(Call::Nothing),
-            Ok(Progress::Wrote) => Ok(Call::Write),
-            Ok(Progress::Synced(_)) => Ok(Call::Sync),
+            Ok(Made::Idle) => Ok(Call::Nothing),
+            Ok(Made::Wrote) => Ok(Call::Write),
+            Ok(Made::Synced) => Ok(Call::Sync),
             Err(_) => Err("a call that failed"),
         }
     }

@@ -12,8 +12,7 @@ use Rattle.flusher.specs.declared.guest.Guest.{Guest}
 use Rattle.flusher.specs.declared.slot.Slot.{Slot}
 use Rattle.flusher.specs.declared.plan.Plan.{Plan}
 use Rattle.flusher.specs.declared.plan.Plan.TheVariants.{WriteOf, SyncAll, Nothing}
-use Rattle.flusher.specs.declared.progress.Progress.{Progress}
-use Rattle.flusher.specs.declared.progress.Progress.TheVariants.{Synced}
+use Rattle.flusher.specs.Progress.{Progress, Synced}
 use Rattle.flusher.specs.declared.progress.StoreFault.{StoreFault}
 use Rattle.flusher.specs.Phase.{has_write, open_after, written, synced}
 use Rattle.flusher.specs.Slot.{is_empty, slot_writes, slot_awaits, after_write, after_sync, in_phase}

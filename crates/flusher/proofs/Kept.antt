@@ -3,8 +3,7 @@ use Rattle.std.proofs.Common.{◌≡◌, Bool, true, false, not, Option, Some, N
 use Rattle.std.specs.Prelude.{slice_get, slice_set, if◌then◌else◌}
 use Rattle.disk.specs.Disk.{DiskState, DiskCall, Write, Sync, Effect, during, Within, Still, Then, Writes, Syncs}
 use Rattle.flusher.specs.declared.guest.Guest.{Guest}
-use Rattle.flusher.specs.declared.progress.Progress.{Progress}
-use Rattle.flusher.specs.declared.progress.Progress.TheVariants.{Wrote, Synced}
+use Rattle.flusher.specs.Progress.{Progress, Wrote, Synced}
 use Rattle.flusher.specs.declared.progress.StoreFault.{StoreFault}
 use Rattle.flusher.specs.Marks.{marks_of}
 use Rattle.intent_slots.specs.Recovered.{Part}

@@ -18,14 +18,13 @@ use Rattle.flusher.specs.declared.plan.Plan.{Plan}
 use Rattle.flusher.specs.declared.plan.Plan.TheVariants.{WriteOf, SyncAll, Nothing}
 use Rattle.flusher.specs.declared.progress.Made.{Made}
 use Rattle.flusher.specs.declared.progress.Made.TheVariants as made
-use Rattle.flusher.specs.declared.progress.Progress.{Progress}
-use Rattle.flusher.specs.declared.progress.Progress.TheVariants.{Wrote, Synced, Idle}
+use Rattle.flusher.specs.Progress.{Progress, Wrote, Synced, Idle, with_marks}
 use Rattle.flusher.specs.declared.progress.StoreFault.{StoreFault}
 use Rattle.flusher.specs.Phase.{has_write}
 use Rattle.flusher.specs.Slot.{is_empty, slot_write, slot_writes, slot_awaits}
 use Rattle.flusher.specs.Pair.{behind_writes, turn_by, turn_of, has_turn, write_in, region_of, side_of, side_behind, guest_write, guest_has_write, guest_awaits, guest_after_write, guest_after_sync}
 use Rattle.flusher.specs.Marks.{marks_of}
-use Rattle.flusher.specs.Round.{plan_at, planned, with_marks, AllEmpty, Ends, Round, settles, MovedBy, Moves, FrontStays}
+use Rattle.flusher.specs.Round.{plan_at, planned, AllEmpty, Ends, Round, settles, MovedBy, Moves, FrontStays}
 use Rattle.flusher.specs.Store.{AllFit}
 use Rattle.flusher.proofs.Guests.{set_cases, map_cases}
 use Rattle.flusher.proofs.Held.{not_in}

@@ -6,7 +6,7 @@ use Rattle.intent_slots.specs.Payload.{Group, Intent}
 use Rattle.intent_slots.specs.Recovered.{Part}
 use Rattle.flusher.specs.declared.guest.Guest.{Guest}
 use Rattle.flusher.specs.declared.plan.Plan.TheVariants.{Nothing}
-use Rattle.flusher.specs.declared.progress.Progress.{Progress}
+use Rattle.flusher.specs.Progress.{Progress}
 use Rattle.flusher.specs.declared.progress.StoreFault.{StoreFault}
 use Rattle.flusher.specs.Round.{planned, AllEmpty, Round, under_way}
 use Rattle.flusher.specs.Pair.{guest_after_write, guest_after_sync, with_intent, has_room}

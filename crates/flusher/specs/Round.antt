@@ -9,10 +9,6 @@ use Rattle.flusher.specs.declared.plan.Plan.{Plan}
 use Rattle.flusher.specs.declared.plan.Plan.TheVariants.{WriteOf, SyncAll, Nothing}
 use Rattle.flusher.specs.declared.progress.Call.{Call}
 use Rattle.flusher.specs.declared.progress.Call.TheVariants as call
-use Rattle.flusher.specs.declared.progress.Made.{Made}
-use Rattle.flusher.specs.declared.progress.Made.TheVariants as made
-use Rattle.flusher.specs.declared.progress.Progress.{Progress}
-use Rattle.flusher.specs.declared.progress.Progress.TheVariants.{Wrote, Synced, Idle}
 use Rattle.flusher.specs.declared.progress.StoreFault.{StoreFault}
 use Rattle.flusher.specs.declared.progress.StoreFault.TheVariants.{DiskFault}
 use Rattle.intent_slots.specs.Recovered.{Part}
@@ -20,6 +16,7 @@ use Rattle.flusher.specs.Slot.{is_empty}
 use Rattle.flusher.specs.Pair.{guest_write, guest_has_write, guest_awaits, guest_after_write, guest_after_sync}
 use Rattle.flusher.specs.SlotInvariant.{guest_settled, settled_by}
 use Rattle.flusher.specs.Marks.{marks_of}
+use Rattle.flusher.specs.Progress.{Progress, Wrote, Synced, Idle}
 
 -- 1. Which call
 
@@ -48,16 +45,6 @@ call_of Nothing = call.None
 abbrev pub Ends : Bool → Progress → Result Progress StoreFault → Bool → Type 0
 Ends true progress result broken = (result ≡ Ok progress) × (broken ≡ false)
 Ends false progress result broken = (result ≡ Err DiskFault) × (broken ≡ true)
-
--- what an advance tells that made this call, with the marks of the guests after it
-abbrev pub told_of : List Guest → Made → Progress
-told_of guests made.Wrote = Wrote
-told_of guests made.Synced = Synced (marks_of guests)
-told_of guests made.Idle = Idle
-
-abbrev pub with_marks : List Guest → Result Made StoreFault → Result Progress StoreFault
-with_marks guests (Ok made) = Ok (told_of guests made)
-with_marks guests (Err fault) = Err fault
 
 -- the slot's next write was made, and moved the slot however it ended
 pub record WroteSlot {D : Type 0} (makes : D → DiskCall → D → Type 0) (g : ℕ) (old_disk : D)

@@ -1,13 +1,17 @@
 -- The store of all guests (own).
 use Rattle.std.specs.Prelude.{◌≡◌, ◌≢◌, ℕ, ◌+◌, ◌^◌, ◌≤◌, Bool, true, false, List, length}
-use Rattle.std.specs.Prelude.{slice_get, slice_set, Option, Some, None}
-use Rattle.disk.specs.Disk.{DiskState, DiskCall, Read, Sync}
+use Rattle.std.specs.Prelude.{slice_get, slice_set, Option, Some, None, Result, Ok, Err, is_err, ◌↔◌}
+use Rattle.disk.specs.Disk.{DiskState, DiskCall, Read, Sync, HasRisen}
 use Rattle.intent_slots.specs.Layout.{end_of}
 use Rattle.intent_slots.specs.Payload.{Intent, GroupFits}
 use Rattle.intent_slots.specs.Recovered.{Part}
 use Rattle.flusher.specs.declared.progress.Call.{Call}
 use Rattle.flusher.specs.declared.progress.Call.TheVariants as call
-use Rattle.flusher.specs.Round.{planned, call_of}
+use Rattle.flusher.specs.declared.progress.Made.{Made}
+use Rattle.flusher.specs.declared.progress.Made.TheVariants as made
+use Rattle.flusher.specs.declared.progress.StoreFault.{StoreFault}
+use Rattle.flusher.specs.declared.progress.StoreFault.TheVariants.{DiskFault, Broken}
+use Rattle.flusher.specs.Round.{planned, call_of, AllEmpty}
 use Rattle.flusher.specs.declared.guest.Guest.{Guest}
 use Rattle.flusher.specs.Slot.{intent_of, pending_of}
 use Rattle.flusher.specs.Pair.{has_room, entries_in, region_of, with_intent}
@@ -139,3 +143,10 @@ pub record Gives (i : Intent) (old new : List Guest) : Type 0 where
 abbrev pub next_call : Bool → List Guest → Call
 next_call true guests = call.None
 next_call false guests = call_of (planned guests)
+
+-- When an advance of the store comes to each answer, and which of them leaves it broken.
+pub record Answers {D : Type 0} (state : D → DiskState) (result : Result Made StoreFault) (old new : StoreState D) : Type 0 where
+  pub refused : old.broken ≡ true → (result ≡ Err Broken) × (new ≡ old)
+  pub idle : result ≡ Ok made.Idle ↔ (old.broken ≡ false) × AllEmpty old.guests
+  pub cause : result ≡ Err DiskFault → HasRisen (state old.disk).failures (state new.disk).failures
+  pub breaks : new.broken ≡ is_err result

@@ -11,7 +11,7 @@ use Rattle.disk.proofs.Ways.{within_both, within_weaker}
 use Rattle.intent_slots.specs.Payload.{Intent}
 use Rattle.intent_slots.specs.Recovered.{Part}
 use Rattle.flusher.specs.declared.guest.Guest.{Guest}
-use Rattle.flusher.specs.declared.progress.Progress.{Progress}
+use Rattle.flusher.specs.Progress.{Progress}
 use Rattle.flusher.specs.declared.progress.StoreFault.{StoreFault}
 use Rattle.flusher.proofs.Pending.{pending_stays}
 use Rattle.flusher.specs.Round.{MovedBy, Round, plan_at, planned, settles}

@@ -7,8 +7,7 @@ use Rattle.rpmb_frame.specs.Partition.{sequence}
 use Rattle.rpmb_core.proofs.Following.{sequence_of_all}
 use Rattle.disk.specs.Disk.{DiskState}
 use Rattle.flusher.specs.declared.guest.Guest.{Guest}
-use Rattle.flusher.specs.declared.progress.Progress.{Progress}
-use Rattle.flusher.specs.declared.progress.Progress.TheVariants.{Synced}
+use Rattle.flusher.specs.Progress.{Progress, Synced}
 use Rattle.flusher.specs.declared.progress.StoreFault.{StoreFault}
 use Rattle.flusher.specs.Marks.{marks_of}
 use Rattle.flusher.specs.Round.{Moves, MovedBy, settles}

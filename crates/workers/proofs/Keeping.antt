@@ -10,7 +10,7 @@ use Rattle.disk.proofs.Ways.{within_end, within_more, within_weaker}
 use Rattle.intent_slots.specs.Payload.{Group, Intent}
 use Rattle.intent_slots.specs.Recovered.{Part, Stands, after}
 use Rattle.flusher.specs.declared.guest.Guest.{Guest}
-use Rattle.flusher.specs.declared.progress.Progress.{Progress}
+use Rattle.flusher.specs.Progress.{Progress}
 use Rattle.flusher.specs.declared.progress.StoreFault.{StoreFault}
 use Rattle.flusher.specs.Laws.{IsUnderWay, Settles}
 use Rattle.flusher.specs.Pair.{entries_in, guest_after_sync, guest_after_write, has_room, listed, mark_after, mark_of, opening_of, pending_intents, with_intent}

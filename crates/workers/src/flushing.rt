@@ -8,7 +8,7 @@ use crate::desk::Desk;
 use crate::gate::{Gate, Place, Who};
 use crate::seat::Next;
 use disk::Disk;
-use flusher::{Call, Progress, Store, StoreFault};
+use flusher::{Call, Made, Store, StoreFault};
 use host::HostFault;
 use rpmb_book::Shares;
 use std::sync::ledger::Ledger;
@@ -95,7 +95,7 @@ impl<D: Disk> Flusher<D> {
     }
 
     /// Makes the next call of the disk, with no lock held.
-    fn call<G: Gate>(&mut self, gate: &G) -> Result<Progress, StoreFault>
+    fn call<G: Gate>(&mut self, gate: &G) -> Result<Made, StoreFault>
         requires { Follow self.old.shares self.old.store.guests }
         ensures follows { Follow self.new.shares self.new.store.guests }
         ensures keeps { KeepsOn D.state D.makes self.old.store self.new.store }
@@ -123,7 +123,8 @@ impl<D: Disk> Flusher<D> {
     {
         let before = self.store.marks();
         match self.call(gate) {
-            Ok(Progress::Synced(marks)) => {
+            Ok(Made::Synced) => {
+                let marks = self.store.marks();
                 let settled = desk.lock(rt).settle(&self.shares, marks);
                 if settled.is_err() {
                     return Err(HostFault::Foreign);
@@ -131,8 +132,8 @@ impl<D: Disk> Flusher<D> {
                 let now = self.store.marks();
                 bell.ring_settled(rt, before.sequences(), now.sequences());
             }
-            Ok(Progress::Wrote) => {}
-            Ok(Progress::Idle) => {}
+            Ok(Made::Wrote) => {}
+            Ok(Made::Idle) => {}
             Err(_) => {
                 desk.lock(rt).break_off();
                 bell.ring_workers(rt);

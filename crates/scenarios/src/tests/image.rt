@@ -2,7 +2,7 @@
 
 use crate::tests::scene::{Scene, board_of};
 use disk::{CutDisk, Disk};
-use flusher::{Progress, Store};
+use flusher::{Made, Store};
 use intent_slots::{Intent, Layout};
 use recovery::{format, format2, open};
 use rpmb_core::Partition;
@@ -83,7 +83,7 @@ pub fn give(store: &mut Store<CutDisk>, intent: Intent) -> Result<(), Fail> {
 /// Has the store make its calls, until it is idle.
 pub fn settle(store: &mut Store<CutDisk>) -> Result<(), Fail> {
     for _ in 0..100_u8 {
-        if matches!(store.advance()?, Progress::Idle) {
+        if matches!(store.advance()?, Made::Idle) {
             return Ok(());
         }
     }

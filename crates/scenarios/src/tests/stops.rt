@@ -8,7 +8,7 @@ use crate::tests::intents::{Histories, group_of};
 use crate::tests::scene::{board_of, check};
 use crate::tests::stops::tally::{Tally, check_tally, no_tally};
 use disk::{CutDisk, Filler};
-use flusher::{Call, Progress, Store, StoreFault};
+use flusher::{Call, Made, Store, StoreFault};
 use rpmb_core::Partition;
 use rpmb_frame::BoardConfig;
 use std::alloc::Global;
@@ -181,7 +181,7 @@ impl Run {
     fn go(&mut self, alloc: Global, calls: u32) -> Result<(), Fail> {
         for call in 0..calls {
             self.give_all(alloc, call)?;
-            if matches!(self.store.advance()?, Progress::Idle) {
+            if matches!(self.store.advance()?, Made::Idle) {
                 return Err(Fail::from("idle"));
             }
         }

@@ -6,7 +6,7 @@ use super::{
 };
 use crate::tests::scene::check;
 use disk::Filler;
-use flusher::Progress;
+use flusher::Made;
 use std::alloc::Global;
 use std::test::Fail;
 
@@ -14,7 +14,7 @@ use std::test::Fail;
 fn calls_of(alloc: Global, run: &mut Run) -> Result<u32, Fail> {
     for calls in 0..MANY {
         run.give_all(alloc, calls)?;
-        if matches!(run.store.advance()?, Progress::Idle) {
+        if matches!(run.store.advance()?, Made::Idle) {
             return Ok(calls);
         }
     }

@@ -3,7 +3,7 @@ use super::calls::{LogDisk, Logged};
 use super::{KEY, give, one_guest, opened, other_bytes};
 use arrayvec::ArrayVec;
 use disk::{Disk, MemDisk};
-use flusher::{Progress, Store};
+use flusher::{Made, Store};
 use intent_slots::{Intent, Layout};
 use recovery::format2;
 use rpmb_frame::BoardConfig;
@@ -73,7 +73,7 @@ fn leaves_marks(store: &mut Logging) -> Result<bool, Fail> {
         make(store, 1)?;
         right = right && store.marks().get(0) == *mark;
     }
-    Ok(right && matches!(store.advance(), Ok(Progress::Idle)))
+    Ok(right && matches!(store.advance(), Ok(Made::Idle)))
 }
 
 /// Gives the second write beside the first: then no slot is free.
