@@ -14,8 +14,9 @@ use Rattle.flusher.specs.declared.guest.Guest.{Guest}
 use Rattle.flusher.specs.Phase.{skipped}
 use Rattle.flusher.specs.Slot.{intent_of}
 use Rattle.flusher.specs.Pair.{region_of, mark_of}
-use Rattle.flusher.specs.SlotInvariant.{IsOrdered}
-use Rattle.flusher.specs.Store.{IntentFits, IsOf, OnlyReads, StoreState}
+use Rattle.flusher.specs.SlotInvariant.{IsHeld, IsOrdered}
+use Rattle.flusher.specs.Marks.{marks_of}
+use Rattle.flusher.specs.Store.{AllFit, IntentFits, IsOf, OnlyReads, StoreState}
 use Rattle.recovery.specs.declared.fault.OpenFault.{OpenFault}
 use Rattle.recovery.specs.declared.fault.OpenFault.TheVariants as fault
 
@@ -143,6 +144,19 @@ part_or (Some p) = part_of p
 -- the partitions by guest
 abbrev pub parts_of : List Partition → ℕ → Part
 parts_of partitions g = part_or (slice_get partitions g)
+
+-- What an opening that succeeded gives, where the disk was old before it. Where that is known to be faithful,
+-- each partition is what reads gave, nothing is unsynced, and every stop leaves an image of the board, which
+-- stands for these partitions.
+pub record Opened {D : Type 0} (state : D → DiskState) (capacities : List ℕ) (old : DiskState)
+    (store : StoreState D) (partitions : List Partition) : Type 0 where
+  pub begun : AllBegun capacities store.guests partitions
+  pub unbroken : store.broken ≡ false
+  pub marks : marks_of store.guests ≡ sequences_of partitions
+  pub fits : AllFit (state store.disk).len store.guests
+  pub stand : old.faithful ≡ true → AllStand old.seen store.guests partitions
+  pub rest : old.faithful ≡ true → IsAtRest capacities (state store.disk)
+  pub held : old.faithful ≡ true → IsHeld (parts_of partitions) store.guests store.broken (state store.disk)
 
 -- 3. The exits of an opening
 

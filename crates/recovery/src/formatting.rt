@@ -1,5 +1,6 @@
 //! Making a fresh image.
-ghost use Rattle.std.specs.Prelude.{◌≡◌, if◌then◌else◌, ◌≤◌, ◌<◌, ◌+◌, ◌*◌, ◌^◌, ℕ, true, false, length, is_ok, OnOk, OnErr, Err};
+ghost use Rattle.std.specs.Prelude.{◌≡◌, if◌then◌else◌, ◌≤◌, ◌<◌, ◌+◌, ◌*◌, ◌^◌, ℕ, true, false};
+ghost use Rattle.std.specs.Prelude.{length, is_ok, OnOk, OnErr, Err};
 ghost use Rattle.disk.specs.Content.{zeros};
 ghost use Rattle.disk.specs.Disk.{HasRisen, Sync};
 ghost use Rattle.intent_slots.specs.Layout.{capacities_of, image_length};

@@ -1,15 +1,12 @@
 //! Opening an image that a stop may have left.
-ghost use Rattle.std.specs.Prelude.{◌≡◌, ◌≤◌, [], ℕ, true, false, length, IfOk, IfErr, OnOk, Err};
+ghost use Rattle.std.specs.Prelude.{◌≡◌, ◌≤◌, true, false, length, IfOk, IfErr, OnOk, Err};
 ghost use Rattle.std.specs.Prelude.{vec_capacity};
 ghost use Rattle.disk.specs.Disk.{Within, HasRisen};
 ghost use Rattle.intent_slots.specs.Layout.{capacities_of, image_length};
-ghost use Rattle.flusher.specs.SlotInvariant.{IsHeld};
-ghost use Rattle.flusher.specs.Marks.{marks_of};
-ghost use Rattle.flusher.specs.Store.{AllFit, IsSynced};
-ghost use Rattle.recovery.specs.Opening.{Untouched, Calls, AllBegun, AllStand, Answers, IsAtRest};
-ghost use Rattle.recovery.specs.Opening.{parts_of, sequences_of, disk_after, outcome_of};
-ghost use Rattle.recovery.specs.Reading.{Tells, Passes, Opens, AllFound, FindsAllIn, is_disk_fault};
-ghost use Rattle.recovery.specs.Space.{AreSpaces};
+ghost use Rattle.recovery.specs.Opening.{Untouched, Calls, AllBegun, Answers, Opened};
+ghost use Rattle.recovery.specs.Opening.{disk_after, outcome_of};
+ghost use Rattle.recovery.specs.Reading.{Tells, Passes, Opens, IsRead, FindsAllIn, is_disk_fault};
+ghost use Rattle.recovery.specs.Space.{AreSupplied};
 
 use crate::fault::OpenFault;
 use crate::front::check;
@@ -33,12 +30,8 @@ fn read_guests<D: Disk>(
     partitions: &mut Vec<Partition>,
 ) -> Result<(), OpenFault>
     requires room { image_length layout.now ≤ (D.state disk.old).len }
-    requires spaces { AreSpaces layout.now spaces.items }
-    requires payload { length buffer.old ≡ 16648 }
-    requires no_guests { guests.old.items ≡ [] }
-    requires no_partitions { partitions.old.items ≡ [] }
-    requires guest_room { length layout.now ≤ vec_capacity guests.old }
-    requires partition_room { length layout.now ≤ vec_capacity partitions.old }
+    requires supplied { AreSupplied layout.now spaces.items (length buffer.old)
+        guests.old.items (vec_capacity guests.old) partitions.old.items (vec_capacity partitions.old) }
     ensures passes { Passes D.state D.makes disk.old disk.new (is_disk_fault result) }
     ensures memory { ¬ result ≡ Err OpenFault.NoMemory }
     ensures begun { OnOk result (AllBegun layout.now guests.new.items partitions.new.items) }
@@ -68,21 +61,11 @@ fn read_image<D: Disk>(
     guests: &mut Vec<Guest>,
     partitions: &mut Vec<Partition>,
 ) -> Result<(), OpenFault>
-    requires spaces { AreSpaces layout.now spaces.items }
-    requires payload { length buffer.old ≡ 16648 }
-    requires no_guests { guests.old.items ≡ [] }
-    requires no_partitions { partitions.old.items ≡ [] }
-    requires guest_room { length layout.now ≤ vec_capacity guests.old }
-    requires partition_room { length layout.now ≤ vec_capacity partitions.old }
+    requires supplied { AreSupplied layout.now spaces.items (length buffer.old)
+        guests.old.items (vec_capacity guests.old) partitions.old.items (vec_capacity partitions.old) }
     ensures opens { Opens D.state D.makes disk.old disk.new (is_disk_fault result) }
     ensures memory { ¬ result ≡ Err OpenFault.NoMemory }
-    ensures begun { OnOk result (AllBegun layout.now guests.new.items partitions.new.items) }
-    ensures long { OnOk result ((D.state disk.old).len ≡ image_length layout.now) }
-    ensures went { OnOk result (IsSynced D.makes disk.new) }
-    ensures synced { OnOk result ((D.state disk.old).faithful ≡ true → (k : ℕ)
-        → (D.state disk.new).unsynced k ≡ false) }
-    ensures found { OnOk result (Tells (D.state disk.old)
-        (λ c. AllFound c guests.new.items partitions.new.items)) }
+    ensures read { OnOk result (IsRead D.state D.makes layout.now disk.old disk.new guests.new.items partitions.new.items) }
     ensures answers { Tells (D.state disk.old)
         (λ c. Answers layout.now (D.state disk.old).len c result) }
 {
@@ -113,12 +96,7 @@ pub fn open<D: Disk>(
     disk: D,
     board: &BoardConfig,
 ) -> Result<(Store<D>, Vec<Partition>), (D, OpenFault)>
-    ensures begun { IfOk result (λ r. AllBegun (capacities_of board.now) r.0.guests r.1.items) }
-    ensures unbroken { IfOk result (λ r. r.0.broken ≡ false) }
-    ensures marks { IfOk result (λ r. marks_of r.0.guests ≡ sequences_of r.1.items) }
-    ensures fits { IfOk result (λ r. AllFit (D.state r.0.disk).len r.0.guests) }
-    ensures stand { IfOk result (λ r. (D.state disk).faithful ≡ true
-        → AllStand (D.state disk).seen r.0.guests r.1.items) }
+    ensures opened { IfOk result (λ r. Opened D.state (capacities_of board.now) (D.state disk) r.0 r.1.items) }
     ensures answers { (D.state disk).faithful ≡ true
         → Answers (capacities_of board.now)
         (D.state disk).len (D.state disk).seen (outcome_of result) }
@@ -133,13 +111,6 @@ pub fn open<D: Disk>(
 
     // At each moment a stop leaves only what it could leave before the call.
     ensures any_moment { Within D.state D.makes (Untouched (D.state disk)) disk (disk_after result) }
-
-    // Nothing is unsynced then, and every stop leaves an image of the board, which stands for these
-    // partitions.
-    ensures rest { IfOk result (λ r. (D.state disk).faithful ≡ true
-        → IsAtRest (capacities_of board.now) (D.state r.0.disk)) }
-    ensures held { IfOk result (λ r. (D.state disk).faithful ≡ true
-        → IsHeld (parts_of r.1.items) r.0.guests r.0.broken (D.state r.0.disk)) }
 {
     let mut disk = disk;
     let layout = Layout::of(board);

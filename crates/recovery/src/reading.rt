@@ -4,12 +4,12 @@ ghost use Rattle.std.specs.Prelude.{IfOk, OnOk, Err};
 ghost use Rattle.disk.specs.Content.{bytes_at, content_of};
 ghost use Rattle.intent_slots.specs.Layout.{region_at, image_length};
 ghost use Rattle.intent_slots.specs.declared.layout.Side.TheVariants.{A};
-ghost use Rattle.intent_slots.specs.Payload.{GroupFits, last_of};
+ghost use Rattle.intent_slots.specs.Payload.{GroupFits};
 ghost use Rattle.intent_slots.specs.Recovered.{redo};
 ghost use Rattle.recovery.specs.Opening.{IsBegun};
 ghost use Rattle.recovery.specs.Reading.{Passes, Tells, GateIs, GatesAre, GatesFit, FindsBehind};
 ghost use Rattle.recovery.specs.Reading.{FindsIn, FindsOne, FindsPayload, FindsTwo, gates_of};
-ghost use Rattle.recovery.specs.Reading.{is_disk_fault, slot_at};
+ghost use Rattle.recovery.specs.Reading.{is_disk_fault, slot_at, IsReadable, IsIntentOf, AreTwo};
 
 use crate::fault::OpenFault;
 use crate::space::Space;
@@ -131,8 +131,7 @@ fn read_payload<D: Disk>(
     requires buffer { length buffer.old ≡ 16648 }
     ensures passes { Passes D.state D.makes disk.old disk.new (is_disk_fault result) }
     ensures memory { ¬ result ≡ Err OpenFault.NoMemory }
-    ensures guest { IfOk result (λ intent. intent.guest ≡ number) }
-    ensures fits { IfOk result (λ intent. GroupFits (region_at layout.now number).size intent.group) }
+    ensures intent { IfOk result (IsIntentOf layout.now number) }
     ensures finds { Tells (D.state disk.old)
         (λ c. FindsPayload (region_at layout.now number) side c result) }
 {
@@ -155,9 +154,7 @@ fn read_shut<D: Disk>(
     paired: bool,
     blocks: Vec<u8>,
 ) -> Result<(Guest, Partition), OpenFault>
-    requires guest { number < length layout.now }
-    requires room { image_length layout.now ≤ (D.state disk.old).len }
-    requires size { length blocks.items ≡ (region_at layout.now number).size }
+    requires place { IsReadable layout.now (D.state disk.old).len number (length blocks.items) }
     ensures passes { Passes D.state D.makes disk.old disk.new (is_disk_fault result) }
     ensures begun { IfOk result (λ r. IsBegun layout.now number r.0 r.1) }
     ensures memory { ¬ result ≡ Err OpenFault.NoMemory }
@@ -193,9 +190,7 @@ fn read_one<D: Disk>(
     intent: Intent,
     blocks: Vec<u8>,
 ) -> Result<(Guest, Partition), OpenFault>
-    requires guest { intent.guest < length layout.now }
-    requires room { image_length layout.now ≤ (D.state disk.old).len }
-    requires size { length blocks.items ≡ (region_at layout.now intent.guest).size }
+    requires place { IsReadable layout.now (D.state disk.old).len intent.guest (length blocks.items) }
     requires fits { GroupFits (region_at layout.now intent.guest).size intent.group }
     requires side { paired ≡ false → side ≡ A }
     ensures passes { Passes D.state D.makes disk.old disk.new (is_disk_fault result) }
@@ -225,13 +220,8 @@ fn read_two<D: Disk>(
     second: Intent,
     blocks: Vec<u8>,
 ) -> Result<(Guest, Partition), OpenFault>
-    requires guest { first.guest < length layout.now }
-    requires same { second.guest ≡ first.guest }
-    requires room { image_length layout.now ≤ (D.state disk.old).len }
-    requires size { length blocks.items ≡ (region_at layout.now first.guest).size }
-    requires fits { GroupFits (region_at layout.now first.guest).size first.group }
-    requires then { GroupFits (region_at layout.now first.guest).size second.group }
-    requires follows { (second.group.first ≡ last_of first.group + 1) × (second.group.key ≡ first.group.key) }
+    requires place { IsReadable layout.now (D.state disk.old).len first.guest (length blocks.items) }
+    requires two { AreTwo layout.now first second }
     ensures passes { Passes D.state D.makes disk.old disk.new (is_disk_fault result) }
     ensures begun { IfOk result (λ r. IsBegun layout.now first.guest r.0 r.1) }
     ensures memory { ¬ result ≡ Err OpenFault.NoMemory }
@@ -260,9 +250,7 @@ fn read_open<D: Disk>(
     space: Space,
     buffer: &mut [u8],
 ) -> Result<(Guest, Partition), OpenFault>
-    requires guest { number < length layout.now }
-    requires room { image_length layout.now ≤ (D.state disk.old).len }
-    requires size { length space.blocks.items ≡ (region_at layout.now number).size }
+    requires place { IsReadable layout.now (D.state disk.old).len number (length space.blocks.items) }
     requires buffer { length buffer.old ≡ 16648 }
     requires side { paired ≡ false → side ≡ A }
     ensures passes { Passes D.state D.makes disk.old disk.new (is_disk_fault result) }
@@ -285,9 +273,7 @@ fn read_both<D: Disk>(
     space: Space,
     buffer: &mut [u8],
 ) -> Result<(Guest, Partition), OpenFault>
-    requires guest { number < length layout.now }
-    requires room { image_length layout.now ≤ (D.state disk.old).len }
-    requires size { length space.blocks.items ≡ (region_at layout.now number).size }
+    requires place { IsReadable layout.now (D.state disk.old).len number (length space.blocks.items) }
     requires buffer { length buffer.old ≡ 16648 }
     ensures passes { Passes D.state D.makes disk.old disk.new (is_disk_fault result) }
     ensures begun { IfOk result (λ r. IsBegun layout.now number r.0 r.1) }
@@ -321,9 +307,7 @@ pub(crate) fn read_guest<D: Disk>(
     space: Space,
     buffer: &mut [u8],
 ) -> Result<(Guest, Partition), OpenFault>
-    requires guest { number < length layout.now }
-    requires room { image_length layout.now ≤ (D.state disk.old).len }
-    requires size { length space.blocks.items ≡ (region_at layout.now number).size }
+    requires place { IsReadable layout.now (D.state disk.old).len number (length space.blocks.items) }
     requires buffer { length buffer.old ≡ 16648 }
     ensures passes { Passes D.state D.makes disk.old disk.new (is_disk_fault result) }
     ensures begun { IfOk result (λ r. IsBegun layout.now number r.0 r.1) }

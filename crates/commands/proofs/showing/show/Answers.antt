@@ -11,18 +11,18 @@ use Rattle.commands.proofs.showing.show.Goals as goal
 pub write_listing-written-requires-clause-few : goal.write_listing-written-requires-clause-few
 write_listing-written-requires-clause-few g c =
     subst (λ (l : List Partition). length l ≤ 64) (sym c.as_slice.ensures.value)
-    (few c.args.board.now c.in-Ok.store.guests c.in-Ok.partitions.items c.guests-guests.ensures.in_range c.in-Ok.ensures.begun)
+    (few c.args.board.now c.in-Ok.store.guests c.in-Ok.partitions.items c.guests-guests.ensures.in_range c.in-Ok.ensures.opened.begun)
 
 pub write_listing-written-requires-clause-small : goal.write_listing-written-requires-clause-small
 write_listing-written-requires-clause-small g c =
     subst (λ (l : List Partition). All (λ p. p.capacity ≤ 128) l) (sym c.as_slice.ensures.value)
-    (all_small c.args.board.now c.in-Ok.store.guests c.in-Ok.partitions.items c.guests-guests.ensures.in_range c.in-Ok.ensures.begun)
+    (all_small c.args.board.now c.in-Ok.store.guests c.in-Ok.partitions.items c.guests-guests.ensures.in_range c.in-Ok.ensures.opened.begun)
 
 pub returns-in-Ok-clause-shown : goal.returns-in-Ok-clause-shown
 returns-in-Ok-clause-shown g c =
     let listed = λ (l : List Partition). OnOk c.write_listing-written.result (Appends (g.W.Write.contents c.args.out.now) (g.W.Write.contents c.write_listing-written.new.out) (listing l)) in
     let are_whole = λ (l : List Partition). OnOk c.write_listing-written.result (All IsWhole l) in
-    lists _ (g.D.Disk.state c.args.disk) c.in-Ok.store.guests c.in-Ok.partitions.items _ _ c.write_listing-written.result c.in-Ok.ensures.begun c.in-Ok.ensures.stand
+    lists _ (g.D.Disk.state c.args.disk) c.in-Ok.store.guests c.in-Ok.partitions.items _ _ c.write_listing-written.result c.in-Ok.ensures.opened.begun c.in-Ok.ensures.opened.stand
     (subst listed c.as_slice.ensures.value c.write_listing-written.ensures.printed)
     (subst are_whole c.as_slice.ensures.value c.write_listing-written.ensures.whole)
 

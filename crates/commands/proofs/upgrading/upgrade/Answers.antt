@@ -9,4 +9,4 @@ returns-in-Err-clause-ends g c =
     let old = c.args.disk.now in
     let new = c.upgrade.new.disk in
     subst (Ends upgrading c.args.board.now (s old) (s new)) (sym c.of_image.ensures)
-    (upgrade_ends g.D.Disk.makes c.args.board.now old new (s old) (s new) c.in-Err.fault c.in-Err.ensures.calls c.in-Err.ensures.cause c.in-Err.ensures.answers)
+    (upgrade_ends g.D.Disk.makes c.args.board.now old new (s old) (s new) c.in-Err.fault c.in-Err.ensures.calls c.in-Err.ensures.failures.cause c.in-Err.ensures.answers)

@@ -1,7 +1,7 @@
 use Rattle.std.proofs.Common.{◌∙◌, refl, sym}
 use Rattle.recovery.proofs.Ways.{untouched_here, opens_on, opens_end, pass_end, gives_on, reads_on}
 use Rattle.recovery.proofs.Guests.{front_answers, on_found, all_answers}
-use Rattle.recovery.proofs.Zeros.{on_ok}
+use Rattle.recovery.proofs.Zeros.{of_ok, on_ok}
 use Rattle.recovery.proofs.opening.read_image.Goals as goal
 
 pub returns-clause-opens : goal.returns-clause-opens
@@ -10,13 +10,6 @@ returns-clause-opens g c = opens_on g.D.Disk.state g.D.Disk.makes _ _ _ _ c.in-O
 pub returns-in-Err-clause-answers : goal.returns-in-Err-clause-answers
 returns-in-Err-clause-answers g c content gives = front_answers c.args.layout.now _ content c.in-Err.fault (c.in-Err.ensures.tells content gives)
 
-pub returns-clause-found : goal.returns-clause-found
-returns-clause-found g c =
-    let u = opens_end g.D.Disk.state g.D.Disk.makes _ _ _ c.in-Ok.ensures.opens in
-    on_found c.args.layout.now c.read_guests.new.guests.items c.read_guests.new.partitions.items _ _ c.read_guests.result (untouched_here (g.D.Disk.state c.args.disk.now)) (λ content gives. (
-    let told = c.in-Ok.ensures.tells content gives in
-    c.read_guests.ensures.finds content (gives_on _ _ content u gives) (sym told.1)))
-
 pub returns-clause-answers : goal.returns-clause-answers
 returns-clause-answers g c content gives =
     let u = opens_end g.D.Disk.state g.D.Disk.makes _ _ _ c.in-Ok.ensures.opens in
@@ -24,23 +17,17 @@ returns-clause-answers g c content gives =
     all_answers c.args.layout.now _ _ content c.read_guests.new.guests.items c.read_guests.new.partitions.items c.read_guests.result refl told.0.front told.0.header told.0.long
     c.read_guests.ensures.begun (c.read_guests.ensures.finds content (gives_on _ _ content u gives) (sym told.1))
 
-pub returns-clause-synced : goal.returns-clause-synced
-returns-clause-synced g c = on_ok c.read_guests.result _ (λ ok known k.
+pub returns-clause-read : goal.returns-clause-read
+returns-clause-read g c = on_ok c.read_guests.result _ (λ ok.
     let u = opens_end g.D.Disk.state g.D.Disk.makes _ _ _ c.in-Ok.ensures.opens in
     let w = pass_end g.D.Disk.state g.D.Disk.makes _ _ _ c.read_guests.ensures.passes in
-    w.unsynced (u.faithful ∙ known) k (c.in-Ok.ensures.synced known k))
-
-pub returns-clause-went : goal.returns-clause-went
-returns-clause-went g c = on_ok c.read_guests.result _ (λ ok.
     let went = c.in-Ok.ensures.went refl in
     record {
-      before = c.args.disk.now;
-      after = went.synced;
-      sync = went.sync;
-      reads = reads_on g.D.Disk.state g.D.Disk.makes _ _ _ went.reads c.read_guests.ensures.passes.reads;
+      begun = of_ok c.read_guests.result _ ok c.read_guests.ensures.begun;
+      long = sym u.len ∙ c.in-Ok.ensures.long;
+      went = record { before = c.args.disk.now; after = went.synced; sync = went.sync; reads = reads_on g.D.Disk.state g.D.Disk.makes _ _ _ went.reads c.read_guests.ensures.passes.reads };
+      synced = λ known k. w.unsynced (u.faithful ∙ known) k (c.in-Ok.ensures.synced known k);
+      found = of_ok c.read_guests.result _ ok (on_found c.args.layout.now c.read_guests.new.guests.items c.read_guests.new.partitions.items _ _ c.read_guests.result (untouched_here (g.D.Disk.state c.args.disk.now)) (λ content gives. (
+          let told = c.in-Ok.ensures.tells content gives in
+          c.read_guests.ensures.finds content (gives_on _ _ content u gives) (sym told.1))));
     })
-
-pub returns-clause-long : goal.returns-clause-long
-returns-clause-long g c = on_ok c.read_guests.result _ (λ ok.
-    let u = opens_end g.D.Disk.state g.D.Disk.makes _ _ _ c.in-Ok.ensures.opens in
-    sym u.len ∙ c.in-Ok.ensures.long)

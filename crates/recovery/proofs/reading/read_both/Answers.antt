@@ -1,4 +1,4 @@
-use Rattle.std.proofs.Common.{subst, true, arith}
+use Rattle.std.proofs.Common.{◌∙◌, length, subst, true, arith}
 use Rattle.std.specs.Prelude.{ℕ}
 use Rattle.intent_slots.specs.Layout.{region_at, slot_region, other_side}
 use Rattle.intent_slots.specs.declared.layout.Side.TheVariants.{A, B}
@@ -6,6 +6,7 @@ use Rattle.intent_slots.specs.Recovered.{HasPayload}
 use Rattle.recovery.specs.Reading.{GatesAre, Finds}
 use Rattle.recovery.specs.declared.reading.Gates.TheVariants as gates
 use Rattle.recovery.proofs.Found.{ends_first, ends_second, ends_apart}
+use Rattle.recovery.proofs.Lists.{of_guest}
 use Rattle.recovery.proofs.Ways.{pass_on, pass_end, gives_on}
 use Rattle.recovery.proofs.reading.read_both.Goals as goal
 
@@ -13,7 +14,7 @@ pub returns-in-Err-clause-finds : goal.returns-in-Err-clause-finds
 returns-in-Err-clause-finds g c content gives version wide = ends_first c.args.layout.now c.args.number content version wide c.in-Err.fault (c.in-Err.ensures.finds content gives)
 
 pub read_payload-requires-2-clause-room : goal.read_payload-requires-2-clause-room
-read_payload-requires-2-clause-room g c = (let one = (pass_end g.D.Disk.state g.D.Disk.makes _ _ _ c.in-Ok.ensures.passes).len in omega (arith, one, c.requires.room))
+read_payload-requires-2-clause-room g c = (let one = (pass_end g.D.Disk.state g.D.Disk.makes _ _ _ c.in-Ok.ensures.passes).len in omega (arith, one, c.requires.place.room))
 
 pub returns-in-Err-read_payload-clause-passes : goal.returns-in-Err-read_payload-clause-passes
 returns-in-Err-read_payload-clause-passes g c = pass_on g.D.Disk.state g.D.Disk.makes _ _ _ _ c.in-Ok.ensures.passes c.in-Err-read_payload.ensures.passes
@@ -23,17 +24,17 @@ returns-in-Err-read_payload-clause-finds g c content gives version wide =
     let on = gives_on _ _ content (pass_end g.D.Disk.state g.D.Disk.makes _ _ _ c.in-Ok.ensures.passes) gives in
     ends_second c.args.layout.now c.args.number content version wide c.in-Err-read_payload.fault (c.in-Err-read_payload.ensures.finds content on)
 
-pub read_two-requires-clause-room : goal.read_two-requires-clause-room
-read_two-requires-clause-room g c =
+pub read_two-requires-clause-place : goal.read_two-requires-clause-place
+read_two-requires-clause-place g c =
     let one = (pass_end g.D.Disk.state g.D.Disk.makes _ _ _ c.in-Ok.ensures.passes).len in
     let two = (pass_end g.D.Disk.state g.D.Disk.makes _ _ _ c.in-Ok-read_payload.ensures.passes).len in
-    omega (arith, one, two, c.requires.room)
+    of_guest c.args.layout.now _ _ _ _ (length c.args.space.blocks.items) c.in-Ok.ensures.intent.guest (two ∙ one) c.requires.place
 
-pub read_two-requires-then-comes_after-2-clause-room : goal.read_two-requires-then-comes_after-2-clause-room
-read_two-requires-then-comes_after-2-clause-room g c =
+pub read_two-requires-then-comes_after-2-clause-place : goal.read_two-requires-then-comes_after-2-clause-place
+read_two-requires-then-comes_after-2-clause-place g c =
     let one = (pass_end g.D.Disk.state g.D.Disk.makes _ _ _ c.in-Ok.ensures.passes).len in
     let two = (pass_end g.D.Disk.state g.D.Disk.makes _ _ _ c.in-Ok-read_payload.ensures.passes).len in
-    omega (arith, one, two, c.requires.room)
+    of_guest c.args.layout.now _ _ _ _ (length c.args.space.blocks.items) c.in-Ok-read_payload.ensures.intent.guest (two ∙ one) c.requires.place
 
 pub returns-then-comes_after-clause-passes : goal.returns-then-comes_after-clause-passes
 returns-then-comes_after-clause-passes g c = pass_on g.D.Disk.state g.D.Disk.makes _ _ _ _ (pass_on g.D.Disk.state g.D.Disk.makes _ _ _ _ c.in-Ok.ensures.passes c.in-Ok-read_payload.ensures.passes) c.read_two.ensures.passes
@@ -44,7 +45,7 @@ returns-then-comes_after-clause-finds g c content gives version wide =
     let then = gives_on _ _ content (pass_end g.D.Disk.state g.D.Disk.makes _ _ _ c.in-Ok-read_payload.ensures.passes) on in
     subst (λ (n : ℕ). GatesAre true (region_at c.args.layout.now n) gates.Both content → HasPayload (region_at c.args.layout.now n) (slot_region (region_at c.args.layout.now n) A) c.in-Ok.intent.group content
     → HasPayload (region_at c.args.layout.now n) (slot_region (region_at c.args.layout.now n) (other_side A)) c.in-Ok-read_payload.intent.group content → Finds c.args.layout.now n content c.read_two.result)
-    c.in-Ok.ensures.guest (c.read_two.ensures.finds content then version) wide (c.in-Ok.ensures.finds content gives) (c.in-Ok-read_payload.ensures.finds content on)
+    c.in-Ok.ensures.intent.guest (c.read_two.ensures.finds content then version) wide (c.in-Ok.ensures.finds content gives) (c.in-Ok-read_payload.ensures.finds content on)
 
 pub returns-then-comes_after-2-clause-passes : goal.returns-then-comes_after-2-clause-passes
 returns-then-comes_after-2-clause-passes g c = pass_on g.D.Disk.state g.D.Disk.makes _ _ _ _ (pass_on g.D.Disk.state g.D.Disk.makes _ _ _ _ c.in-Ok.ensures.passes c.in-Ok-read_payload.ensures.passes) c.read_two-then-comes_after-2.ensures.passes
@@ -55,7 +56,7 @@ returns-then-comes_after-2-clause-finds g c content gives version wide =
     let then = gives_on _ _ content (pass_end g.D.Disk.state g.D.Disk.makes _ _ _ c.in-Ok-read_payload.ensures.passes) on in
     subst (λ (n : ℕ). GatesAre true (region_at c.args.layout.now n) gates.Both content → HasPayload (region_at c.args.layout.now n) (slot_region (region_at c.args.layout.now n) B) c.in-Ok-read_payload.intent.group content
     → HasPayload (region_at c.args.layout.now n) (slot_region (region_at c.args.layout.now n) (other_side B)) c.in-Ok.intent.group content → Finds c.args.layout.now n content c.read_two-then-comes_after-2.result)
-    c.in-Ok-read_payload.ensures.guest (c.read_two-then-comes_after-2.ensures.finds content then version) wide (c.in-Ok-read_payload.ensures.finds content on) (c.in-Ok.ensures.finds content gives)
+    c.in-Ok-read_payload.ensures.intent.guest (c.read_two-then-comes_after-2.ensures.finds content then version) wide (c.in-Ok-read_payload.ensures.finds content on) (c.in-Ok.ensures.finds content gives)
 
 pub returns-else-comes_after-2-clause-passes : goal.returns-else-comes_after-2-clause-passes
 returns-else-comes_after-2-clause-passes g c = pass_on g.D.Disk.state g.D.Disk.makes _ _ _ _ c.in-Ok.ensures.passes c.in-Ok-read_payload.ensures.passes
