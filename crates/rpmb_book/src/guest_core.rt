@@ -10,7 +10,7 @@ ghost use Rattle.rpmb_core.specs.Reply.{closed, failure_kind};
 ghost use Rattle.rpmb_book.specs.Guest.{stored, core_after, outcome_in, answer, answer_when, need};
 ghost use Rattle.rpmb_book.specs.Guest.{entry, entry_of, key_of, blocks_in, request_of};
 ghost use Rattle.rpmb_book.specs.Sound.{IsCoreOfBoard};
-ghost use Rattle.rpmb_book.specs.Planned.{IsPlanned};
+ghost use Rattle.rpmb_book.specs.Planned.{IsAnswer, IsPlanned};
 
 use crate::rooms::{Rooms, room_for};
 use intent_slots::Entry;
@@ -150,13 +150,7 @@ impl GuestCore {
         requires plan { IsPlanned self.old job.now plan }
         requires board { IsCoreOfBoard self.old }
         ensures core { self.new ≡ core_after self.old job.now }
-        ensures reply { closed result.key result.reply.items ≡ answer self.old job.now }
-        ensures fits { length result.reply.items ≤ room_of job.now }
-        ensures whole { length result.reply.items ≡ 512 * (length result.reply.items / 512) }
-        ensures copy { result.copy.items ≡ result.reply.items }
-        ensures need { result.need ≡ need self.old job.now }
-        ensures kind { result.kind ≡ failure_kind (request_of self.old job.now).command }
-        ensures entry { result.entry ≡ entry self.old job.now }
+        ensures answer { IsAnswer self.old job.now result }
     {
         let request = Request::classify(job.request(), job.writable(), self.limits);
         let Plan {
