@@ -5,7 +5,7 @@ use Rattle.std.proofs.lemmas.Bool.{cases_eq, cases_lt}
 use Rattle.std.proofs.Math.Nat.{mod-eq_of_lt}
 use Rattle.rpmb_frame.specs.declared.config.RingKind.{RingKind}
 use Rattle.rpmb_frame.specs.declared.config.RingKind.TheVariants.{Packed}
-use Rattle.guest_driver.specs.declared.driver.Flight.{Flight}
+use Rattle.guest_driver.specs.declared.flight.Flight.{Flight}
 use Rattle.guest_driver.specs.declared.fault.DriverFault.TheVariants.{NoRoom, OutOfRange, NoMemory, BadUsed}
 use Rattle.guest_driver.specs.Offered.{Offer}
 use Rattle.guest_driver.specs.Kinds.{places_by, places_of, mark_after}

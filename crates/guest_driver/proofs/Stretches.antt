@@ -5,7 +5,7 @@ use Rattle.std.proofs.lemmas.Nat.{mod_below}
 use Rattle.std.proofs.lemmas.Bool.{cases_eq, cases_lt}
 use Rattle.std.proofs.Math.ListN.{get_or-eq_default}
 use Rattle.std.proofs.lemmas.List.{get_or-set_same, get_or-set_other, length-set}
-use Rattle.guest_driver.specs.declared.driver.Flight.{Flight}
+use Rattle.guest_driver.specs.declared.flight.Flight.{Flight}
 use Rattle.guest_driver.specs.Driver.{no_flight, owner, following, ordered_by, HasNextFree, AreTaken, HasTooFew, last_after, ChoosesNext, ChoosesBy, TakesBy, next_by}
 use Rattle.guest_driver.specs.TableOrder.{turn, turn_of, IsWithin, IsBehind, HaveOne, IsHead, behind, IsInTurn, IsStretch}
 use Rattle.guest_driver.specs.Kinds.{mark_after}

@@ -3,7 +3,7 @@
 -- those of VIRTIO 1.2.
 use Rattle.std.specs.Prelude.{◌≡◌, ◌≢◌, ◌⊎◌, ℕ, ◌+◌, ◌-◌, ◌%◌, ◌<◌, ◌≤◌, Bool, true, List, length}
 use Rattle.std.specs.Prelude.{get_or, Option, Some, None}
-use Rattle.guest_driver.specs.declared.driver.Flight.{Flight}
+use Rattle.guest_driver.specs.declared.flight.Flight.{Flight}
 use Rattle.guest_driver.specs.Driver.{no_flight, owner, following}
 
 -- The turn of a chain that was offered at a place of this mark: how many chains in flight were offered before it.

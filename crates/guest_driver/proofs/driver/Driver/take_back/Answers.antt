@@ -1,6 +1,6 @@
 use Rattle.std.proofs.Common.{◌≡◌, ℕ, ◌+◌, ◌%◌, ◌<◌, true, None, Some, get_or, slice_set, subst, sym, ap, ◌∙◌, arith}
 use Rattle.std.proofs.lemmas.List.{get_or_default, length-set}
-use Rattle.guest_driver.specs.declared.driver.Flight.{Flight}
+use Rattle.guest_driver.specs.declared.flight.Flight.{Flight}
 use Rattle.guest_driver.specs.Driver.{DriverState, no_flight, owner}
 use Rattle.guest_driver.specs.Kinds.{mark_after}
 use Rattle.guest_driver.specs.TableOrder.{IsStretch}
