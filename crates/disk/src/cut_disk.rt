@@ -45,7 +45,11 @@ impl Model for CutDisk {
 }
 
 // Counts one call, and answers whether it goes on.
-#[tactic(auto, unfolding(crate::specs::CutDisk::goes_on, crate::specs::CutDisk::next_chosen, crate::specs::CutDisk::next_failures))]
+#[tactic(auto, unfolding(
+// whether a call goes on, and the choice after it
+crate::specs::CutDisk::goes_on, crate::specs::CutDisk::next_chosen,
+// how many have failed after it
+crate::specs::CutDisk::next_failures))]
 fn counts(chosen: &mut u64, failures: &mut u64) -> bool
     ensures answer { result ≡ goes_on chosen.old failures.old }
     ensures chosen { chosen.new ≡ next_chosen chosen.old failures.old }

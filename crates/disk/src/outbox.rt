@@ -51,7 +51,13 @@ impl Model for Outbox {
         (vec_capacity o.bytes) };
 }
 
-#[tactic(auto, using(crate::proofs::OutboxLemmas::length_writes), unfolding(crate::specs::Outbox::has_room, crate::specs::Outbox::put_in, crate::specs::Outbox::taken_from, crate::specs::Outbox::writes_of, crate::specs::Outbox::bytes_in))]
+#[tactic(auto, using(crate::proofs::OutboxLemmas::length_writes), unfolding(
+// room for a write, and a write that is put in
+crate::specs::Outbox::has_room, crate::specs::Outbox::put_in,
+// a write that is taken, and the writes that wait
+crate::specs::Outbox::taken_from, crate::specs::Outbox::writes_of,
+// how many bytes they have
+crate::specs::Outbox::bytes_in))]
 impl Outbox {
     /// No write waits, and there is room for 65,536 bytes and 256 writes.
     pub fn new(alloc: Global) -> Result<Outbox, NoMemory>

@@ -131,7 +131,15 @@ impl OutboxDisk {
     }
 }
 
-#[tactic(auto, unfolding(crate::specs::OutboxDisk::ends, crate::specs::OutboxDisk::failures_after, crate::specs::OutboxDisk::counted, crate::specs::OutboxDisk::read_succeeds, crate::specs::OutboxDisk::write_succeeds, crate::specs::OutboxDisk::sync_succeeds, crate::specs::OutboxDisk::after_write, crate::specs::OutboxDisk::after_sync))]
+#[tactic(auto, unfolding(
+// how a call ends, and how many have failed
+crate::specs::OutboxDisk::ends, crate::specs::OutboxDisk::failures_after,
+// the count of failures, and whether a read succeeds
+crate::specs::OutboxDisk::counted, crate::specs::OutboxDisk::read_succeeds,
+// whether a write and a sync succeed
+crate::specs::OutboxDisk::write_succeeds, crate::specs::OutboxDisk::sync_succeeds,
+// what they leave
+crate::specs::OutboxDisk::after_write, crate::specs::OutboxDisk::after_sync))]
 impl Disk for OutboxDisk {
     ghost state = { outbox_state };
 

@@ -85,9 +85,9 @@ impl Model for Layout {
     ghost invariant = { λ l. AreCapacities l.capacities.items };
 }
 
-#[tactic(auto, unfolding(crate::specs::Layout::region_at, crate::specs::Layout::image_length, crate::specs::Layout::capacities_of))]
 impl Layout {
     /// The layout of a board's image. It takes no memory.
+    #[tactic(auto, unfolding(crate::specs::Layout::capacities_of))]
     pub fn of(board: &BoardConfig) -> Layout
         ensures { result ≡ capacities_of board.now }
     {
@@ -115,6 +115,7 @@ impl Layout {
     }
 
     /// The length of the image in bytes.
+    #[tactic(auto, unfolding(crate::specs::Layout::image_length))]
     pub fn length(&self) -> u64
         ensures value { result ≡ image_length self.now }
         ensures small { result < 2 ^ 31 }
@@ -132,6 +133,7 @@ impl Layout {
     }
 
     /// Where a guest's partition stands.
+    #[tactic(auto, unfolding(crate::specs::Layout::region_at))]
     pub fn extent(&self, guest: u16) -> Extent
         requires { guest < length self.now }
         ensures { result ≡ region_at self.now guest }
