@@ -28,9 +28,9 @@ use Rattle.board.specs.Board.{IsLinkedBoard, IsSound, LeavesPrefixes, StaysLinke
 use Rattle.board.specs.State.{BoardState}
 use Rattle.board.specs.Steps.{Advances, Answer, Does}
 use Rattle.board.specs.declared.step.Step.{Step}
-use Rattle.board.proofs.Linked.{drives_linked}
+use Rattle.board.proofs.Linked.{drives_linked, in_book}
 use Rattle.board.proofs.Prefixes.{does_moments, leaves_now}
-use Rattle.board.proofs.Stays.{does_stay, in_book}
+use Rattle.board.proofs.Stays.{does_stay}
 use Rattle.board.proofs.Stores.{of_store}
 use Rattle.board.specs.Moving.{Moves, Steps}
 use Rattle.board.proofs.Rising.{accepted_goes, given_rise, goes_none, goes_twice, leaves_longer, marks_rise, sync_rises}
@@ -280,7 +280,7 @@ step_on shows makes effect s answer a b c sound moves does linked moments =
     moves_twice shows makes a b c moves (step_moves shows makes effect s answer b c (sound_moved shows makes a b sound moves) does linked moments)
 
 -- all that a step of a sound board gives
-pub steps : {D : Type 0} (shows : D → DiskState) (makes : D → DiskCall → D → Type 0) (effect : (a b : D) (call : DiskCall) → makes a call b → Effect (shows a) call (shows b)) (s : Step) (answer : Answer) (old new : BoardState D)
+steps : {D : Type 0} (shows : D → DiskState) (makes : D → DiskCall → D → Type 0) (effect : (a b : D) (call : DiskCall) → makes a call b → Effect (shows a) call (shows b)) (s : Step) (answer : Answer) (old new : BoardState D)
     → IsSound shows old → IsSoundBook (state old.book) → AreOfBoard (state old.book) → HasHistory old.book → Does shows makes s answer old new → Steps shows makes s answer old new
 steps {D = D} shows makes effect s answer old new sound book boards history does = record {
   does = does;
@@ -298,6 +298,11 @@ steps {D = D} shows makes effect s answer old new sound book boards history does
 
     moments : KeepsPrefixes shows makes old new
     moments config bases accepted parts ok known = does_moments shows makes config bases accepted parts old ok known s answer new does
+
+-- as its contract sees the board that it began with
+pub made : {D : Type 0} (shows : D → DiskState) (makes : D → DiskCall → D → Type 0) (effect : (a b : D) (call : DiskCall) → makes a call b → Effect (shows a) call (shows b)) (s : Step) (answer : Answer) (old seen new : BoardState D) → old ≡ seen
+    → IsSound shows old → IsSoundBook (state old.book) → AreOfBoard (state old.book) → HasHistory old.book → Does shows makes s answer old new → Steps shows makes s answer seen new
+made shows makes effect s answer old seen new same sound book boards history does = subst (λ v. Steps shows makes s answer v new) same (steps shows makes effect s answer old new sound book boards history does)
 
 -- after which it is sound
 pub steps_sound : {D : Type 0} (shows : D → DiskState) (makes : D → DiskCall → D → Type 0) (effect : (a b : D) (call : DiskCall) → makes a call b → Effect (shows a) call (shows b)) (s : Step) (answer : Answer) (old new : BoardState D)

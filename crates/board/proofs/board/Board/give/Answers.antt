@@ -1,11 +1,10 @@
-use Rattle.std.proofs.Common.{subst, sym}
+use Rattle.std.proofs.Common.{sym}
 use Rattle.std.specs.Prelude.{slice_get}
 use Rattle.board.proofs.Doing.{full_at}
 use Rattle.board.proofs.Stays.{may_give_it}
-use Rattle.board.specs.Moving.{Steps}
 use Rattle.board.specs.Steps.{did_answer}
 use Rattle.board.specs.declared.step.Step.TheVariants as step
-use Rattle.board.proofs.Moving.{steps, steps_sound}
+use Rattle.board.proofs.Moving.{made, steps_sound}
 use Rattle.board.proofs.board.Board.give.Goals as goal
 
 pub give-requires : goal.give-requires
@@ -17,7 +16,4 @@ pub invariant_of-self : goal.invariant_of-self
 invariant_of-self g c = (let w = c.what_always_holds.ensures in steps_sound g.D.Disk.state g.D.Disk.makes g.met.D.Disk.effect (step.Give c.args.guest) (did_answer c.give.result) c.self.inside.assembly c.give.new.self c.self.invariant w.sound w.of_board w.history c.give.ensures)
 
 pub returns : goal.returns
-returns g c =
-    let w = c.what_always_holds.ensures in
-    subst (λ v. Steps g.D.Disk.state g.D.Disk.makes (step.Give c.args.guest) (did_answer c.give.result) v c.give.new.self) c.self.view_is
-    (steps g.D.Disk.state g.D.Disk.makes g.met.D.Disk.effect (step.Give c.args.guest) (did_answer c.give.result) c.self.inside.assembly c.give.new.self c.self.invariant w.sound w.of_board w.history c.give.ensures)
+returns g c = (let w = c.what_always_holds.ensures in made g.D.Disk.state g.D.Disk.makes g.met.D.Disk.effect _ _ c.self.inside.assembly _ _ c.self.view_is c.self.invariant w.sound w.of_board w.history c.give.ensures)

@@ -1,9 +1,8 @@
-use Rattle.std.proofs.Common.{None, subst}
+use Rattle.std.proofs.Common.{None}
 use Rattle.board.proofs.Stays.{is_share_of}
-use Rattle.board.specs.Moving.{Steps}
 use Rattle.board.specs.Steps.{did_answer}
 use Rattle.board.specs.declared.step.Step.TheVariants as step
-use Rattle.board.proofs.Moving.{steps, steps_sound}
+use Rattle.board.proofs.Moving.{made, steps_sound}
 use Rattle.board.proofs.board.Board.take.Goals as goal
 
 pub take-requires : goal.take-requires
@@ -13,7 +12,4 @@ pub invariant_of-self : goal.invariant_of-self
 invariant_of-self g c = (let w = c.what_always_holds.ensures in steps_sound g.D.Disk.state g.D.Disk.makes g.met.D.Disk.effect (step.Take c.args.guest) (did_answer c.take.result) c.self.inside.assembly c.take.new.self c.self.invariant w.sound w.of_board w.history c.take.ensures)
 
 pub returns : goal.returns
-returns g c =
-    let w = c.what_always_holds.ensures in
-    subst (λ v. Steps g.D.Disk.state g.D.Disk.makes (step.Take c.args.guest) (did_answer c.take.result) v c.take.new.self) c.self.view_is
-    (steps g.D.Disk.state g.D.Disk.makes g.met.D.Disk.effect (step.Take c.args.guest) (did_answer c.take.result) c.self.inside.assembly c.take.new.self c.self.invariant w.sound w.of_board w.history c.take.ensures)
+returns g c = (let w = c.what_always_holds.ensures in made g.D.Disk.state g.D.Disk.makes g.met.D.Disk.effect _ _ c.self.inside.assembly _ _ c.self.view_is c.self.invariant w.sound w.of_board w.history c.take.ensures)
