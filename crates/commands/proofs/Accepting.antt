@@ -15,7 +15,7 @@ use Rattle.board.specs.State.{BoardState, guests}
 use Rattle.host.specs.Calm.{is_broken}
 use Rattle.host.specs.Guest.{GuestView}
 use Rattle.host.specs.Host.{HostState, HostView, ResetsAt, StoresAt, seen}
-use Rattle.host.specs.Moving.{GoOn}
+use Rattle.board.specs.Moving.{GoOn}
 use Rattle.host.specs.Runner.{runner_of, since}
 use Rattle.host.specs.declared.fault.HostFault.{HostFault}
 use Rattle.commands.specs.Calling.{LineDone, LineFails, NextFails}

@@ -21,7 +21,7 @@ use Rattle.board.specs.Opening.{Begins, Stands, bases_of}
 use Rattle.board.specs.State.{BoardState, guests}
 use Rattle.host.specs.Finishing.{Finishes as HostFinishes}
 use Rattle.host.specs.Host.{HostState}
-use Rattle.host.specs.Moving.{Moves}
+use Rattle.board.specs.Moving.{Moves}
 use Rattle.host.specs.Opening.{IsFirstHost}
 use Rattle.host.specs.Runner.{runner_of}
 use Rattle.commands.specs.Ending.{OpeningEnds}

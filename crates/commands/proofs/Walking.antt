@@ -27,8 +27,8 @@ use Rattle.board.specs.State.{BoardState, guests}
 use Rattle.board.proofs.Stays.{marks_at}
 use Rattle.host.specs.Calm.{IsCalm, is_broken}
 use Rattle.host.specs.Host.{HostState, seen}
-use Rattle.host.specs.Moving.{GoOn, Moves}
-use Rattle.host.proofs.Moving.{moves_none, moves_twice}
+use Rattle.board.specs.Moving.{GoOn, Moves}
+use Rattle.board.proofs.Moving.{moves_none, moves_twice}
 use Rattle.host.proofs.Settled.{below}
 use Rattle.commands.specs.Calling.{LineDone, LineRuns}
 use Rattle.commands.specs.Ending.{KeepsUnless, OpeningEnds}

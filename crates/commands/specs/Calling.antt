@@ -6,7 +6,7 @@ use Rattle.disk.specs.Disk.{DiskCall, DiskState}
 use Rattle.host.specs.Calm.{IsCalm, is_broken}
 use Rattle.host.specs.Host.{HostAnswers, HostChains, HostResets, HostResetsGuest, HostState}
 use Rattle.host.specs.Host.{HostStores, seen}
-use Rattle.host.specs.Moving.{Moves}
+use Rattle.board.specs.Moving.{Moves}
 use Rattle.host.specs.Reasons.{HostExplains, HostKeeps}
 use Rattle.host.specs.Spares.{Spares, most_at}
 use Rattle.host.specs.declared.fault.HostFault.{HostFault}

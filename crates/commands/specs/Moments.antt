@@ -18,7 +18,7 @@ use Rattle.board.specs.Opening.{bases_of}
 use Rattle.board.specs.State.{BoardState}
 use Rattle.host.specs.Calm.{IsCalm}
 use Rattle.host.specs.Host.{HostState, seen}
-use Rattle.host.specs.Moving.{GoOn, Moves}
+use Rattle.board.specs.Moving.{GoOn, Moves}
 use Rattle.host.specs.Runner.{runner_of}
 use Rattle.commands.specs.Calling.{LineDone, NextFails}
 use Rattle.commands.specs.Ending.{KeepsUnless, NextEnds, OpeningEnds}

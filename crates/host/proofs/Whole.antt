@@ -18,7 +18,7 @@ use Rattle.board.proofs.Prefixes.{leaves_now}
 use Rattle.board.proofs.Stays.{marks_at}
 use Rattle.host.specs.Calm.{IsCalm, is_broken}
 use Rattle.host.specs.Finishing.{LeavesAll}
-use Rattle.host.specs.Moving.{Moves}
+use Rattle.board.specs.Moving.{Moves}
 use Rattle.host.specs.Runner.{runner_of}
 use Rattle.host.proofs.Same.{also_there, cores_in}
 use Rattle.host.proofs.Settled.{below}

@@ -5,8 +5,8 @@ use Rattle.board.specs.Board.{IsSound}
 use Rattle.board.specs.State.{BoardState}
 use Rattle.board.specs.Steps.{Answer, Does}
 use Rattle.board.specs.declared.step.Step.{Step}
-use Rattle.host.specs.Moving.{Moves}
-use Rattle.host.proofs.Moving.{KeepsPrefixes, LinksBy, moves_none, moves_twice, sound_moved, step_moves}
+use Rattle.board.specs.Moving.{Moves}
+use Rattle.board.proofs.Moving.{KeepsPrefixes, LinksBy, moves_none, moves_twice, sound_moved, step_moves}
 use Rattle.machine.specs.Serving.{IsShare, Runs, Serves, Still, Then}
 
 module _ {D : Type 0} (shows : D → DiskState) (makes : D → DiskCall → D → Type 0) (guest : ℕ) where

@@ -3,7 +3,7 @@ use Rattle.std.proofs.Common.{◌≡◌, ◌≤◌, ◌<◌, ◌+◌, ◌∙◌,
 use Rattle.std.specs.Prelude.{slice_get, take}
 use Rattle.disk.specs.OutboxDisk.{OutboxMakes, OutboxState, outbox_state}
 use Rattle.board.specs.Board.{IsSound}
-use Rattle.host.proofs.Moving.{moves_none}
+use Rattle.board.proofs.Moving.{moves_none}
 use Rattle.machine.specs.Machine.{IsServed, MachineState, NoRoom, NoSuchGuest, OfBoard, TellsFault, TellsRanges}
 use Rattle.machine.specs.Reasons.{HasReason}
 use Rattle.machine.specs.declared.fault.MachineFault.{MachineFault}

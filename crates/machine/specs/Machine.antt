@@ -13,7 +13,7 @@ use Rattle.flusher.specs.declared.progress.Call.TheVariants as call
 use Rattle.mmio_transport.specs.Device.{DeviceState}
 use Rattle.board.specs.State.{BoardState}
 use Rattle.board.specs.Telling.{telling}
-use Rattle.host.specs.Moving.{Moves}
+use Rattle.board.specs.Moving.{Moves}
 use Rattle.machine.specs.Reasons.{HasReason}
 use Rattle.machine.specs.Serving.{OthersStay, Runs}
 use Rattle.machine.specs.Stepping.{Hears}

@@ -7,7 +7,7 @@ use Rattle.board.specs.Steps.{Answer, Does}
 use Rattle.board.specs.declared.step.Act.{Act}
 use Rattle.board.specs.declared.step.Step.{Step}
 use Rattle.board.specs.declared.step.Step.TheVariants as step
-use Rattle.host.specs.Moving.{Moves}
+use Rattle.board.specs.Moving.{Moves}
 use Rattle.machine.specs.declared.offering.Offered.{Offered}
 use Rattle.machine.specs.declared.offering.Offered.TheVariants.{All, Limit, Refused}
 

@@ -22,7 +22,7 @@ use Rattle.flusher.proofs.Lookups.{given_region}
 use Rattle.flusher.proofs.Pending.{pending_grows, pending_settles, pending_stays, write_keeps}
 use Rattle.flusher.proofs.Table.{region_moved, region_synced}
 use Rattle.flusher.proofs.UnderWay.{as_many_under_way, under_way_by_guest}
-use Rattle.host.proofs.Moving.{ended, failed_round, shown_round}
+use Rattle.board.proofs.Moving.{ended, failed_round, shown_round}
 use Rattle.workers.specs.Keeping.{IsAfterSome, IsAhead, Keeps, LeavesWhole, Reaches, after_all, to_keep}
 
 pub if_ok_weaker : {X E : Type 0} {P Q : X → Type 0} (r : Result X E) → ((x : X) → P x → Q x) → IfOk r P → IfOk r Q

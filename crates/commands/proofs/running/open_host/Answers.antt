@@ -7,7 +7,7 @@ pub returns-in-Ok-new-clause-opened : goal.returns-in-Ok-new-clause-opened
 returns-in-Ok-new-clause-opened g c =
     let e = c.in-Ok.ensures in
     let n = c.in-Ok-new.ensures in
-    opened_host g.D.Disk.state g.D.Disk.makes c.args.board.now c.args.disk c.in-Ok.opened c.in-Ok-new.host 1 e.begins e.stand e.answers e.any_moment (e.unfailed refl) n.first n.linked
+    opened_host g.D.Disk.state g.D.Disk.makes c.args.board.now c.args.disk c.in-Ok.opened c.in-Ok-new.host 1 e.begins (λ known. (e.found known).stands) e.answers e.any_moment (e.unfailed refl) n.first n.linked
 
 pub returns-in-Err-clause-ends : goal.returns-in-Err-clause-ends
 returns-in-Err-clause-ends g c =

@@ -2,7 +2,7 @@ use Rattle.std.proofs.Common.{Ok, Err, refl, subst, sym}
 use Rattle.std.proofs.KnownBytes.{Keeps-refl}
 use Rattle.script.specs.Line.{chain, said, store}
 use Rattle.script.specs.declared.line.Line.{Line}
-use Rattle.host.proofs.Moving.{moves_none}
+use Rattle.board.proofs.Moving.{moves_none}
 use Rattle.commands.specs.Calling.{LineRuns}
 use Rattle.commands.proofs.running.run_line.Goals as goal
 

@@ -6,7 +6,7 @@ use Rattle.mmio_transport.specs.Device.{last_count}
 use Rattle.script.specs.Line.{said}
 use Rattle.script.specs.declared.line.Line.{Line}
 use Rattle.host.specs.Host.{seen}
-use Rattle.host.proofs.Moving.{moves_none, moves_twice}
+use Rattle.board.proofs.Moving.{moves_none, moves_twice}
 use Rattle.commands.specs.Calling.{LineRuns, NextFails}
 use Rattle.commands.specs.Ending.{NextEnds}
 use Rattle.commands.specs.Moments.{Walked, moment_of}

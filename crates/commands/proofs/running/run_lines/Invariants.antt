@@ -3,7 +3,7 @@ use Rattle.std.specs.Prelude.{All}
 use Rattle.script.specs.Line.{said}
 use Rattle.rpmb_frame.specs.Partition.{Partition}
 use Rattle.rpmb_frame.specs.declared.config.GuestConfig.{GuestConfig}
-use Rattle.host.specs.Moving.{Moves}
+use Rattle.board.specs.Moving.{Moves}
 use Rattle.commands.specs.Moments.{Starts, Walked, moment_of}
 use Rattle.commands.specs.Running.{AreWithin, IsSized}
 use Rattle.commands.proofs.running.run_lines.Given as goal

@@ -66,4 +66,4 @@ returns-in-Ok-serve-clause-keeps g c =
     let heard = left.heard (told_of shows c.args.board.now b parts.result.book parts.result.store 1 e.begins parts.ensures.book parts.ensures.store) in
     told_keeps shows makes c.args.board.now c.args.disk c.tell.result.0 c.tell.result.1 ended.store.disk ended.broken c.tell.ensures.back c.tell.ensures.whole c.tell.ensures.cause
     (serves_image shows makes c.args.board.now c.args.disk b 1 e.begins e.any_moment (e.unfailed refl) ended.store kept
-    (image_of shows c.args.board.now c.args.disk b 1 e.begins e.stand e.answers) ended.rests ended.broken heard)
+    (image_of shows c.args.board.now c.args.disk b 1 e.begins (λ known. (e.found known).stands) e.answers) ended.rests ended.broken heard)

@@ -3,8 +3,8 @@ use Rattle.std.specs.Prelude.{slice_get, take}
 use Rattle.std.proofs.lemmas.Option.{slice_get_read, slice_get_within}
 use Rattle.disk.specs.OutboxDisk.{OutboxMakes, OutboxState, outbox_state}
 use Rattle.board.specs.State.{BoardState}
-use Rattle.host.specs.Moving.{Moves}
-use Rattle.host.proofs.Moving.{moves_none}
+use Rattle.board.specs.Moving.{Moves}
+use Rattle.board.proofs.Moving.{moves_none}
 use Rattle.machine.specs.Machine.{IsServed, MachineState, TellsFault, TellsRanges}
 use Rattle.machine.specs.Serving.{OthersStay, Runs, Still}
 use Rattle.machine.proofs.Others.{others_stay}

@@ -16,25 +16,24 @@ use Rattle.flusher.specs.declared.progress.StoreFault.{StoreFault}
 use Rattle.flusher.proofs.Pending.{pending_stays}
 use Rattle.flusher.specs.Round.{MovedBy, Round, plan_at, planned, settles}
 use Rattle.flusher.specs.Pair.{guest_after_sync, guest_awaits, guest_has_write, mark_of}
-use Rattle.flusher.specs.Store.{is_free}
+use Rattle.flusher.specs.Store.{given}
 use Rattle.flusher.proofs.Endings.{round_badly, round_well}
 use Rattle.mmio_transport.specs.Device.{DeviceState}
-use Rattle.mmio_transport.specs.Job.{Job, Done}
+use Rattle.mmio_transport.specs.Job.{Job}
 use Rattle.rpmb_book.specs.Book.{state}
-use Rattle.rpmb_book.specs.Job.{Tally}
+use Rattle.rpmb_book.specs.Audit.{HasHistory}
+use Rattle.rpmb_book.specs.Sound.{AreOfBoard, IsSound as IsSoundBook}
 use Rattle.rpmb_book.proofs.IsolationLemmas.{by_test}
 use Rattle.board.specs.Board.{IsLinkedBoard, IsSound, LeavesPrefixes, StaysLinked, accepted_after, answered, marks_in}
-use Rattle.board.specs.State.{BoardState, Fault, Marks, Report, in_place}
-use Rattle.board.specs.Steps.{AdvancesUnder, Answer, CollectsInto, Does, Drives, GivesWhere, PopsInto, PublishesFrom, SettlesBy, SubmitsFrom, TakesInto}
-use Rattle.board.specs.declared.step.Act.{Act}
+use Rattle.board.specs.State.{BoardState}
+use Rattle.board.specs.Steps.{Advances, Answer, Does}
 use Rattle.board.specs.declared.step.Step.{Step}
-use Rattle.board.specs.declared.step.Step.TheVariants as step
-use Rattle.board.proofs.Linked.{drives_linked}
-use Rattle.board.proofs.Prefixes.{leaves_now}
-use Rattle.board.proofs.Stays.{in_book}
-use Rattle.host.specs.Guest.{with_device}
-use Rattle.host.specs.Moving.{Moves}
-use Rattle.host.proofs.Prefixes.{accepted_goes, given_rise, goes_none, goes_twice, leaves_longer, marks_rise, sync_rises}
+use Rattle.board.proofs.Linked.{drives_linked, in_book}
+use Rattle.board.proofs.Prefixes.{does_moments, leaves_now}
+use Rattle.board.proofs.Stays.{does_stay}
+use Rattle.board.proofs.Stores.{of_store}
+use Rattle.board.specs.Moving.{Moves, Steps}
+use Rattle.board.proofs.Rising.{accepted_goes, given_rise, goes_none, goes_twice, leaves_longer, marks_rise, sync_rises}
 
 -- two clauses of a step
 abbrev pub LinksBy : {D : Type 0} → (D → DiskState) → Step → Answer → BoardState D → BoardState D → Type 0
@@ -88,18 +87,26 @@ module _ {D : Type 0} (shows : D → DiskState) (makes : D → DiskCall → D �
   -- 2. Each step
 
   module _ (old : BoardState D) (sound : IsSound shows old) where
-    still : (new to : BoardState D) → new ≡ to → to.store ≡ old.store → Goes shows old new
-    still new to is same = back (ap (λ v. v.store) is ∙ same)
-      where
-        back : new.store ≡ old.store → Goes shows old new
-        back stays = record {
-          len = ap (λ s. (shows s.disk).len) stays;
-          faithful = ap (λ s. (shows s.disk).faithful) stays;
-          later = (let count = ap (λ s. (shows s.disk).failures) stays in omega (arith, count));
-          whole = λ whole. sym (ap (λ s. s.broken) stays) ∙ whole;
-          cause = λ broken. inl (sym (ap (λ s. s.broken) stays) ∙ broken);
-          marks = λ g. (let b : marks_in new g ≡ marks_in old g = ap (λ s. marks_in (record old { store = s }) g) stays in omega (arith, b));
-        }
+    -- it moves by its store alone
+    of_store_alone : (new to : BoardState D) → new.store ≡ to.store → Goes shows old to → Goes shows old new
+    of_store_alone new to is go = record {
+      len = ap (λ s. (shows s.disk).len) is ∙ go.len;
+      faithful = ap (λ s. (shows s.disk).faithful) is ∙ go.faithful;
+      later = (let count = ap (λ s. (shows s.disk).failures) is in let later = go.later in omega (arith, count, later));
+      whole = λ whole. go.whole (sym (ap (λ s. s.broken) is) ∙ whole);
+      cause = λ broken. subst (λ k. (old.store.broken ≡ true) ⊎ HasRisen (shows old.store.disk).failures k) (sym (ap (λ s. (shows s.disk).failures) is)) (go.cause (sym (ap (λ s. s.broken) is) ∙ broken));
+      marks = λ g. (let b : marks_in new g ≡ marks_in to g = ap (λ s. marks_in (record old { store = s }) g) is in let up = go.marks g in omega (arith, b, up));
+    }
+
+    still : (new : BoardState D) → new.store ≡ old.store → Goes shows old new
+    still new same = of_store_alone new old same (record {
+      len = refl;
+      faithful = refl;
+      later = omega arith;
+      whole = λ whole. whole;
+      cause = λ broken. inl broken;
+      marks = λ g. omega arith;
+    })
 
     moved_up : (s : Bool) (g : ℕ) (y z : Guest) → slice_get old.store.guests g ≡ Some y → MovedBy s y z → mark_of y ≤ mark_of z
     moved_up true g y z at is =
@@ -117,43 +124,8 @@ module _ {D : Type 0} (shows : D → DiskState) (makes : D → DiskCall → D �
     moved_up false g y z at (inl is) = (let same = ap mark_of is in omega (arith, same))
     moved_up false g y z at (inr is) = (let same : mark_of z ≡ mark_of y = ap mark_of is ∙ (pending_stays y).1 in omega (arith, same))
 
-    drive_goes : (g : ℕ) (act : Act) (answer : Answer) (new : BoardState D) (o : Option DeviceState) → Drives g act o answer old new → Goes shows old new
-    drive_goes g act answer new None does = still new old does.1 refl
-    drive_goes g act answer new (Some d) does = still new _ does.after refl
-
-    pop_goes : (g : ℕ) (answer : Answer) (new : BoardState D) (place : Option (Option Job)) (o : Option DeviceState) → PopsInto g place o answer old new → Goes shows old new
-    pop_goes g answer new None o does = still new old does.1 refl
-    pop_goes g answer new (Some (Some job)) o does = still new old does.1 refl
-    pop_goes g answer new (Some None) None does = still new old does.1 refl
-    pop_goes g answer new (Some None) (Some d) does = still new _ does.after refl
-
-    publish_goes : (g : ℕ) (answer : Answer) (new : BoardState D) (done : Option Done) (o : Option DeviceState) → PublishesFrom g done o answer old new → Goes shows old new
-    publish_goes g answer new reply None does = still new old does.1 refl
-    publish_goes g answer new None (Some d) does = still new old does.1 refl
-    publish_goes g answer new (Some r) (Some d) does = still new _ does.after refl
-
-    submit_goes : (g : ℕ) (answer : Answer) (new : BoardState D) (job : Option Job) (tally : Option Tally) → SubmitsFrom g job tally answer old new → Goes shows old new
-    submit_goes g answer new job None does = still new old does.1 refl
-    submit_goes g answer new None (Some tally) does = still new old does.1 refl
-    submit_goes g answer new (Some job) (Some tally) does = elim does [
-      | inl went ↦ still new _ went.2 refl
-      | inr refused ↦ still new old refused.1 refl
-    ]
-
-    collect_goes : (g : ℕ) (answer : Answer) (new : BoardState D) (place : Option (Option Done)) → CollectsInto g place answer old new → Goes shows old new
-    collect_goes g answer new None does = still new old does.1 refl
-    collect_goes g answer new (Some (Some r)) does = still new old does.1 refl
-    collect_goes g answer new (Some None) does = still new _ does.1 refl
-
-    take_goes : (g : ℕ) (answer : Answer) (new : BoardState D) (place : Option (Option Intent)) → TakesInto g place answer old new → Goes shows old new
-    take_goes g answer new None does = still new old does.1 refl
-    take_goes g answer new (Some (Some i)) does = still new old does.1 refl
-    take_goes g answer new (Some None) does = still new _ does.1 refl
-
-    give_goes : (g : ℕ) (answer : Answer) (new : BoardState D) (free : Bool) (intent : Option Intent) → GivesWhere g free intent answer old new → Goes shows old new
-    give_goes g answer new false intent does = still new old does.1 refl
-    give_goes g answer new true None does = still new old does.1 refl
-    give_goes g answer new true (Some i) does = subst (Goes shows old) (sym does.1) (record {
+    given_goes : (i : Intent) (new : BoardState D) → new.store ≡ record old.store { guests = given old.store.guests i } → Goes shows old new
+    given_goes i new is = of_store_alone new (record old { store = record old.store { guests = given old.store.guests i } }) is (record {
       len = refl;
       faithful = refl;
       later = omega arith;
@@ -162,40 +134,32 @@ module _ {D : Type 0} (shows : D → DiskState) (makes : D → DiskCall → D �
       marks = λ k. given_rise old.store.guests i k;
     })
 
-    advance_goes : (answer : Answer) (new : BoardState D) (report : Option Report) → AdvancesUnder shows makes report answer old new → Goes shows old new
-    advance_goes answer new (Some r) does = still new old does.1 refl
-    advance_goes answer new None does = by_test old.store.broken
-        (λ broken. still new _ does.after (does.refused broken).1)
+    called_goes : (answer : Answer) (new : BoardState D) → Advances shows makes answer old new → Goes shows old new
+    called_goes answer new a = by_test old.store.broken
+        (λ broken. still new (ap (λ v. v.store) a.after ∙ (a.refused broken).1))
         (λ whole. called whole)
       where
         called : old.store.broken ≡ false → Goes shows old new
         called whole =
-            let round = does.round whole in
-            let d = shown_round (position guest_has_write old.store.guests) (list_any guest_awaits old.store.guests) old.store.disk old.store.guests does.progress does.store.disk does.store.guests does.store.broken round in
-            subst (Goes shows old) (sym does.after) (record {
+            let round = a.round whole in
+            let d = shown_round (position guest_has_write old.store.guests) (list_any guest_awaits old.store.guests) old.store.disk old.store.guests a.progress a.store.disk a.store.guests a.store.broken round in
+            subst (Goes shows old) (sym a.after) (record {
               len = d.len;
               faithful = d.faithful;
               later = d.later;
               whole = λ now. whole;
-              cause = λ broken. inr (failed_round does.progress old.store.disk old.store.guests does.store.disk does.store.guests does.store.broken round broken);
-              marks = λ g. marks_rise old.store.guests does.store.guests does.moves.count (λ k y z at there. moved_up (settles does.progress) k y z at (does.moves.each k y z at there)) g;
+              cause = λ broken. inr (failed_round a.progress old.store.disk old.store.guests a.store.disk a.store.guests a.store.broken round broken);
+              marks = λ g. marks_rise old.store.guests a.store.guests a.moves.count (λ k y z at there. moved_up (settles a.progress) k y z at (a.moves.each k y z at there)) g;
             })
 
-    settle_goes : (answer : Answer) (new : BoardState D) (report : Option Report) → SettlesBy report answer old new → Goes shows old new
-    settle_goes answer new None does = still new old does.1 refl
-    settle_goes answer new (Some (Marks marks)) does = still new _ does.1 refl
-    settle_goes answer new (Some Fault) does = still new _ does.1 refl
-
     does_goes : (s : Step) (answer : Answer) (new : BoardState D) → Does shows makes s answer old new → Goes shows old new
-    does_goes (step.Drive g act) answer new does = drive_goes g act answer new (slice_get old.devices g) does
-    does_goes (step.Pop g) answer new does = pop_goes g answer new (slice_get old.jobs g) (slice_get old.devices g) does
-    does_goes (step.Submit g) answer new does = submit_goes g answer new (in_place (slice_get old.jobs g)) (slice_get old.tallies g) does
-    does_goes (step.Collect g) answer new does = collect_goes g answer new (slice_get old.dones g) does
-    does_goes (step.Publish g) answer new does = publish_goes g answer new (in_place (slice_get old.dones g)) (slice_get old.devices g) does
-    does_goes (step.Take g) answer new does = take_goes g answer new (slice_get old.intents g) does
-    does_goes (step.Give g) answer new does = give_goes g answer new (is_free old.store.guests g) (in_place (slice_get old.intents g)) does
-    does_goes step.Advance answer new does = advance_goes answer new old.report does
-    does_goes step.Settle answer new does = settle_goes answer new old.report does
+    does_goes s answer new does = elim (of_store shows makes answer old new s does) [
+      | inl same ↦ still new same
+      | inr changed ↦ (elim changed [
+        | inl given ↦ given_goes given.0 new given.1
+        | inr called ↦ called_goes answer new called
+      ])
+    ]
 
   -- 3. What a board moves by
 
@@ -242,7 +206,7 @@ still_moves shows makes old devices' jobs' many wide = record {
 }
 
 -- a device that was lent
-pub lent_moves : {D : Type 0} (shows : D → DiskState) (makes : D → DiskCall → D → Type 0) (g : ℕ) (b : BoardState D) (d : DeviceState) → Moves shows makes b (with_device b g d)
+pub lent_moves : {D : Type 0} (shows : D → DiskState) (makes : D → DiskCall → D → Type 0) (g : ℕ) (b : BoardState D) (d : DeviceState) → Moves shows makes b (record b { devices = slice_set b.devices g d })
 lent_moves shows makes g b d = still_moves shows makes b (slice_set b.devices g d) b.jobs (length-set b.devices g d) refl
 
 pub moves_none : {D : Type 0} (shows : D → DiskState) (makes : D → DiskCall → D → Type 0) (b : BoardState D) → Moves shows makes b b
@@ -314,3 +278,33 @@ pub step_on : {D : Type 0} (shows : D → DiskState) (makes : D → DiskCall →
     → IsSound shows a → Moves shows makes a b → Does shows makes s answer b c → LinksBy shows s answer b c → KeepsPrefixes shows makes b c → Moves shows makes a c
 step_on shows makes effect s answer a b c sound moves does linked moments =
     moves_twice shows makes a b c moves (step_moves shows makes effect s answer b c (sound_moved shows makes a b sound moves) does linked moments)
+
+-- all that a step of a sound board gives
+steps : {D : Type 0} (shows : D → DiskState) (makes : D → DiskCall → D → Type 0) (effect : (a b : D) (call : DiskCall) → makes a call b → Effect (shows a) call (shows b)) (s : Step) (answer : Answer) (old new : BoardState D)
+    → IsSound shows old → IsSoundBook (state old.book) → AreOfBoard (state old.book) → HasHistory old.book → Does shows makes s answer old new → Steps shows makes s answer old new
+steps {D = D} shows makes effect s answer old new sound book boards history does = record {
+  does = does;
+  history = history;
+  moves = step_moves shows makes effect s answer old new sound does linked moments;
+  linked = linked;
+  moments = moments;
+  after = λ config bases accepted parts ok known. (
+      let k = linked config bases accepted parts ok in
+      leaves_now shows config bases (accepted_after s answer old accepted) k.parts new k.linked known);
+}
+  where
+    linked : LinksBy shows s answer old new
+    linked config bases accepted parts ok = does_stay shows makes effect config bases accepted parts old ok book boards s answer new does
+
+    moments : KeepsPrefixes shows makes old new
+    moments config bases accepted parts ok known = does_moments shows makes config bases accepted parts old ok known s answer new does
+
+-- as its contract sees the board that it began with
+pub made : {D : Type 0} (shows : D → DiskState) (makes : D → DiskCall → D → Type 0) (effect : (a b : D) (call : DiskCall) → makes a call b → Effect (shows a) call (shows b)) (s : Step) (answer : Answer) (old seen new : BoardState D) → old ≡ seen
+    → IsSound shows old → IsSoundBook (state old.book) → AreOfBoard (state old.book) → HasHistory old.book → Does shows makes s answer old new → Steps shows makes s answer seen new
+made shows makes effect s answer old seen new same sound book boards history does = subst (λ v. Steps shows makes s answer v new) same (steps shows makes effect s answer old new sound book boards history does)
+
+-- after which it is sound
+pub steps_sound : {D : Type 0} (shows : D → DiskState) (makes : D → DiskCall → D → Type 0) (effect : (a b : D) (call : DiskCall) → makes a call b → Effect (shows a) call (shows b)) (s : Step) (answer : Answer) (old new : BoardState D)
+    → IsSound shows old → IsSoundBook (state old.book) → AreOfBoard (state old.book) → HasHistory old.book → Does shows makes s answer old new → IsSound shows new
+steps_sound shows makes effect s answer old new sound book boards history does = sound_moved shows makes old new sound (steps shows makes effect s answer old new sound book boards history does).moves

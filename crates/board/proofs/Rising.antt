@@ -1,5 +1,5 @@
 -- Prefixes of requests that go on, and marks that rise.
-use Rattle.std.proofs.Common.{◌≡◌, ◌≤◌, ◌+◌, ℕ, zero, suc, Bool, true, false, List, [], ◌∷◌, ◌++◌, Option, Some, None, length, take, refl, ap, sym, ◌∙◌, arith, append_assoc, append-nil, length-append, length-set}
+use Rattle.std.proofs.Common.{◌≡◌, ◌≤◌, ◌+◌, ℕ, zero, suc, Bool, true, false, List, [], ◌∷◌, ◌++◌, Option, Some, None, length, take, refl, ap, sym, ◌∙◌, arith, append_assoc, append-nil, length-append}
 use Rattle.std.specs.Prelude.{if◌then◌else◌, ◌==◌, drop, slice_get}
 use Rattle.std.proofs.lemmas.List.{length-drop, take-append-le}
 use Rattle.rpmb_frame.specs.Request.{Request}
@@ -13,7 +13,7 @@ use Rattle.flusher.specs.declared.guest.Guest.{Guest}
 use Rattle.flusher.specs.Marks.{mark, marks_of}
 use Rattle.flusher.specs.Laws.{Settles}
 use Rattle.flusher.proofs.Pending.{pending_settles}
-use Rattle.flusher.specs.Pair.{entries_in, guest_after_sync, mark_of, opening_of, pending_intents, with_intent}
+use Rattle.flusher.specs.Pair.{entries_in, guest_after_sync, mark_of, opening_of, pending_intents}
 use Rattle.flusher.specs.SlotInvariant.{Besides, guest_settled}
 use Rattle.flusher.specs.Store.{given, given_of}
 use Rattle.mmio_transport.specs.Job.{Job}
@@ -23,8 +23,8 @@ use Rattle.rpmb_book.specs.Turn.{State}
 use Rattle.board.specs.Board.{LeavesPrefixes, accepted_by, joined_when}
 use Rattle.board.specs.Link.{IsLinked, IsPrefix, due, entries_all}
 use Rattle.board.proofs.Links.{sync_links, length-entries}
-use Rattle.host.specs.Moving.{GoOn}
-use Rattle.host.proofs.Same.{given_marks}
+use Rattle.board.specs.Moving.{GoOn}
+use Rattle.board.proofs.Linked.{same_marks}
 
 -- 1. Requests that go on
 
@@ -88,22 +88,14 @@ marks_rise (y ∷ ys) [] many each g = absurd (omega (arith, many))
 marks_rise (y ∷ ys) (z ∷ zs) many each zero = each 0 y z refl refl
 marks_rise (y ∷ ys) (z ∷ zs) many each (suc g) = marks_rise ys zs (omega (arith, many)) (λ k a b at there. each (suc k) a b at there) g
 
-length-given : (held : List Guest) (i : Intent) → length (given held i) ≡ length held
-unfolding given
-length-given held i = by (slice_get held i.guest)
-  where
-    by : (o : Option Guest) → length (given_of held i o) ≡ length held
-    by None = refl
-    by (Some x) = length-set held i.guest (with_intent x i)
-
 -- an intent that is given moves no mark
 pub given_rise : (held : List Guest) (i : Intent) (g : ℕ) → mark (marks_of held) g ≤ mark (marks_of (given held i)) g
-given_rise held i g = marks_rise held (given held i) (length-given held i) (λ k y z at there.
-    let w = given_marks held i k z there in
-    let was = w.1 in
-    let same : w.0 ≡ y = cc in
-    let marks : mark_of z ≡ mark_of y = w.2 ∙ ap mark_of same in
-    omega (arith, marks)) g
+unfolding given
+given_rise held i g = (let same = ap (λ l. mark l g) (by (slice_get held i.guest) refl) in omega (arith, same))
+  where
+    by : (o : Option Guest) → slice_get held i.guest ≡ o → marks_of (given_of held i o) ≡ marks_of held
+    by None at = refl
+    by (Some z) at = same_marks held i.guest z i at
 
 -- a sync leaves no more that isn't settled
 fewer_by : (o : Option Group) (before after : List Intent) → Settles o before after → length (entries_all after) ≤ length (entries_all before)
