@@ -145,7 +145,8 @@ next_call true guests = call.None
 next_call false guests = call_of (planned guests)
 
 -- When an advance of the store comes to each answer, and which of them leaves it broken.
-pub record Answers {D : Type 0} (state : D → DiskState) (result : Result Made StoreFault) (old new : StoreState D) : Type 0 where
+pub record Answers {D : Type 0} (state : D → DiskState) (result : Result Made StoreFault)
+    (old new : StoreState D) : Type 0 where
   pub refused : old.broken ≡ true → (result ≡ Err Broken) × (new ≡ old)
   pub idle : result ≡ Ok made.Idle ↔ (old.broken ≡ false) × AllEmpty old.guests
   pub cause : result ≡ Err DiskFault → HasRisen (state old.disk).failures (state new.disk).failures

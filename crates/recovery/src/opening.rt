@@ -65,7 +65,8 @@ fn read_image<D: Disk>(
         guests.old.items (vec_capacity guests.old) partitions.old.items (vec_capacity partitions.old) }
     ensures opens { Opens D.state D.makes disk.old disk.new (is_disk_fault result) }
     ensures memory { ¬ result ≡ Err OpenFault.NoMemory }
-    ensures read { OnOk result (IsRead D.state D.makes layout.now disk.old disk.new guests.new.items partitions.new.items) }
+    ensures read { OnOk result (IsRead D.state D.makes layout.now disk.old disk.new guests.new.items
+        partitions.new.items) }
     ensures answers { Tells (D.state disk.old)
         (λ c. Answers layout.now (D.state disk.old).len c result) }
 {
