@@ -74,7 +74,8 @@ fn folds_of(times: &[u32]) -> Folds {
 fn print_times(rt: &HostRuntime, times: &[u32], folds: Folds) -> Result<(), Stop> {
     let last = times.len().saturating_sub(1);
     let printed = println!(rt;
-        "{} requests: median {} ns, 99.99th percentile {} ns, slowest {} ns; at {} the history rolled: mean {} ns, slowest {} ns",
+        "{} requests: median {} ns, 99.99th percentile {} ns, slowest {} ns; \
+         at {} the history rolled: mean {} ns, slowest {} ns",
         times.len(),
         time_at(times, times.len() / 2),
         time_at(times, last.saturating_sub(times.len() / 10_000)),

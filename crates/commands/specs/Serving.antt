@@ -1,11 +1,13 @@
 -- What a script prints whose guests are served at once, and why that ends with a fault.
 use Rattle.std.specs.Prelude.{◌≡◌, ◌⊎◌, ◌<◌, ◌+◌, ◌==◌, ℕ, if◌then◌else◌, List, [], ◌∷◌, ◌++◌}
-use Rattle.std.specs.Prelude.{Option, Some, None, get_or, length, map}
+use Rattle.std.specs.Prelude.{All, Option, Some, None, get_or, length, map}
 use Rattle.std.specs.Io.KnownBytes.{Appends, Keeps}
+use Rattle.rpmb_frame.specs.Config.{IsBoard}
 use Rattle.rpmb_frame.specs.declared.config.GuestConfig.{GuestConfig}
 use Rattle.disk.specs.Disk.{DiskCall, DiskState, Within}
 use Rattle.recovery.specs.Opening.{Untouched}
-use Rattle.script.specs.Line.{Said, chain, served_line_of}
+use Rattle.script.specs.declared.line.Line.{Line}
+use Rattle.script.specs.Line.{IsServed, IsWithin, Said, chain, said, served_line_of}
 use Rattle.script.specs.Script.{first_unserved, lines_of}
 use Rattle.host.specs.declared.front.Answer.{Answer}
 use Rattle.host.specs.declared.front.Answer.TheVariants as answer
@@ -16,6 +18,12 @@ use Rattle.commands.specs.declared.fault.Fault.TheVariants as fault
 -- the script says these lines to the board, none of which stores
 abbrev pub SaysServed : List GuestConfig → List ℕ → List Said → Type 0
 SaysServed board script lines = map Some lines ≡ map (served_line_of (length board)) (lines_of script)
+
+-- lines that were read for a board: each names a guest of it, and none stores
+pub record AreServable (board : List GuestConfig) (lines : List Line) : Type 0 where
+  pub in_range : IsBoard board
+  pub within : All (λ line. IsWithin (length board) (said line)) lines
+  pub served : All (λ line. IsServed (said line)) lines
 
 -- its line n, counted from 1, is the first that stores, or says nothing a script may say
 abbrev pub IsUnservedAt : List GuestConfig → List ℕ → ℕ → Type 0

@@ -1,10 +1,10 @@
 -- What a script prints.
 use Rattle.std.specs.Prelude.{ℕ, ◌≡◌, List, [], ◌∷◌, ◌++◌, Some, None, codes, get_or, length, map, replicate}
 use Rattle.std.specs.Fmt.{decimal}
-use Rattle.hex.specs.Hex.{encode_lower}
 use Rattle.rpmb_frame.specs.declared.config.GuestConfig.{GuestConfig}
 use Rattle.script.specs.Line.{Said, nothing, chain, store, reset, line_of}
 use Rattle.script.specs.Script.{first_bad, lines_of}
+use Rattle.script.specs.Words.{shown}
 use Rattle.rpmb_book.specs.Guest.{GuestCore}
 use Rattle.rpmb_frame.specs.Limits.{limits_of}
 use Rattle.rpmb_frame.specs.Partition.{Partition}
@@ -13,11 +13,6 @@ use Rattle.host.specs.Ready.{job_of}
 use Rattle.host.specs.Host.{sessions_after}
 use Rattle.host.specs.declared.front.Stuck.{Stuck}
 use Rattle.host.specs.declared.front.Stuck.TheVariants as stuck
-
--- two digits a byte, in lower case; no bytes are shown by a dash
-abbrev pub shown : List ℕ → List ℕ
-shown [] = codes "-"
-shown (b ∷ bs) = encode_lower (b ∷ bs)
 
 -- the line of a guest's reply
 unfoldable pub used_line : ℕ → List ℕ → List ℕ

@@ -3,29 +3,29 @@
 //! status stand here too.
 #![tactic(auto)]
 
-mod answering;
+mod command;
 mod fault;
+mod fault_lines;
 mod files;
 mod formatting;
 mod fresh;
 mod image_files;
-mod parting;
-mod performing;
 mod program;
-mod reporting;
 mod running;
+mod script_by_guest;
 mod serving;
 mod showing;
 mod shown_file;
 mod upgrading;
+mod used_lines;
 
+pub use command::perform;
 pub use fault::Fault;
+pub use fault_lines::report;
 pub use files::{read_board_file, read_image_board, read_text};
 pub use formatting::format;
 pub use image_files::{create_image, open_image, open_shown};
-pub use performing::perform;
 pub use program::{REFUSED, status_of};
-pub use reporting::report;
 pub use running::run;
 pub use serving::serve;
 pub use showing::show;

@@ -4,12 +4,12 @@ ghost use Rattle.disk.specs.Disk.{DiskState};
 ghost use Rattle.intent_slots.specs.Layout.{capacities_of, image_length};
 ghost use Rattle.commands.specs.Commands.{IsFormat};
 
+use crate::command::perform;
 use crate::fault::Fault;
+use crate::fault_lines::report;
 use crate::files::{read_board_file, read_image_board, read_text};
 use crate::fresh::fresh_disk;
 use crate::image_files::{create_image, open_image, open_shown};
-use crate::performing::perform;
-use crate::reporting::report;
 use command_line::{Command, WordsError, read_words};
 use disk::Disk;
 use intent_slots::Layout;

@@ -16,8 +16,8 @@ ghost use Rattle.commands.specs.Moments.{AnyMoment, LinesCome, MovesTo};
 ghost use Rattle.commands.specs.Running.{AreWithin, IsSized};
 ghost use Rattle.commands.specs.Transcript.{IsBadAt, Says, StoresNothing};
 
-use crate::answering::{write_reply, write_stuck};
 use crate::fault::Fault;
+use crate::used_lines::{write_reply, write_stuck};
 use board::Board;
 use disk::Disk;
 use host::{Answer, Host};

@@ -1,20 +1,19 @@
 //! What `serve` does: a script on the partitions of an image, its guests at once.
-ghost use Rattle.std.specs.Prelude.{◌≡◌, ◌≤◌, ℕ, List, All, Err, IfErr, IsErr, IsSome, OnOk, Some, false, true};
+ghost use Rattle.std.specs.Prelude.{◌≡◌, ◌≤◌, ℕ, List, Err, IfErr, IsErr, IsSome, OnOk, Some, false, true};
 ghost use Rattle.std.specs.Prelude.{length, map, vec_len};
 ghost use Rattle.std.specs.Io.KnownBytes.{Appends, Keeps};
-ghost use Rattle.rpmb_frame.specs.Config.{IsBoard};
-ghost use Rattle.script.specs.Line.{IsServed, IsWithin, said};
+ghost use Rattle.script.specs.Line.{said};
 ghost use Rattle.disk.specs.Disk.{DiskState};
 ghost use Rattle.intent_slots.specs.Layout.{capacities_of};
 ghost use Rattle.commands.specs.Ending.{Ends, IsOfTelling, IsOfWriting, IsServable, serving};
-ghost use Rattle.commands.specs.Serving.{IsUnservedAt, PrintsEach, ServeLeaves, ServePrints};
+ghost use Rattle.commands.specs.Serving.{AreServable, IsUnservedAt, PrintsEach, ServeLeaves, ServePrints};
 ghost use Rattle.commands.specs.Serving.{ServedPrint, ServesAll};
 ghost use Rattle.commands.specs.Serving.{answer_lines, guests_lines};
 ghost use Rattle.commands.specs.ServedImage.{ServeKeeps};
 
-use crate::answering::write_answer;
 use crate::fault::Fault;
-use crate::parting::{part, read_served};
+use crate::script_by_guest::{part, read_served};
+use crate::used_lines::write_answer;
 use board::Board;
 use disk::Disk;
 use host::Answer;
@@ -103,9 +102,7 @@ fn serve_on<D: Disk + Send + Drop, W: Write, R: Threads + Wait + Sync>(
     disk: D,
     out: &mut W,
 ) -> (Result<(), Fault>, Option<D>)
-    requires within { All (λ line. IsWithin (length board.now) (said line)) lines.items }
-    requires served { All (λ line. IsServed (said line)) lines.items }
-    requires in_range { IsBoard board.now }
+    requires servable { AreServable board.now lines.items }
     ensures printed { OnOk result.0 (PrintsEach (length board.now) (map said lines.items)
         (W.contents out.old) (W.contents out.new)) }
     ensures back { OnOk result.0 (IsSome result.1) }

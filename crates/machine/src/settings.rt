@@ -37,9 +37,9 @@ pub struct Window {
     pub platform: bool,
 }
 
-#[tactic(auto, unfolding(crate::specs::Settings::is_plain, crate::specs::Settings::withheld_of, crate::specs::Settings::features_shown, crate::specs::Settings::features_taken, crate::specs::Settings::value_shown, crate::specs::Settings::value_taken, crate::specs::Settings::most_of, crate::specs::Settings::is_placed))]
 impl Window {
     /// The features withheld of a half.
+    #[tactic(auto, unfolding(crate::specs::Settings::withheld_of))]
     fn withheld_of(&self, half: u32) -> u32
         ensures { result ≡ withheld_of self.now half }
     {
@@ -51,6 +51,7 @@ impl Window {
     }
 
     /// The features that are shown of a half, of those that the device offers.
+    #[tactic(auto, unfolding(crate::specs::Settings::features_shown))]
     fn features_shown(&self, half: u32, offered: u32) -> u32
         ensures { result ≡ features_shown self.now half offered }
     {
@@ -63,6 +64,7 @@ impl Window {
     }
 
     /// The driver's features of a half, as the device gets them.
+    #[tactic(auto, unfolding(crate::specs::Settings::features_taken))]
     fn features_taken(&self, half: u32, value: u32) -> u32
         ensures { result ≡ features_taken self.now half value }
     {
@@ -77,6 +79,7 @@ impl Window {
     }
 
     /// What a driver reads at an offset from its device's base.
+    #[tactic(auto, unfolding(crate::specs::Settings::value_shown, crate::specs::Settings::is_plain))]
     pub(crate) fn read(&self, device: &Device, offset: u32, width: u8) -> u32
         ensures value { result ≡ value_shown self.now device.now offset width }
         ensures plain { is_plain self.now ≡ true → result ≡ read_value device.now offset width }
@@ -93,6 +96,7 @@ impl Window {
     }
 
     /// Whether the device is the plain one.
+    #[tactic(auto, unfolding(crate::specs::Settings::is_plain))]
     fn is_plain(&self) -> bool
         ensures { result ≡ is_plain self.now }
     {
@@ -100,6 +104,7 @@ impl Window {
     }
 
     /// What the device gets where its driver writes this value.
+    #[tactic(auto, unfolding(crate::specs::Settings::value_taken, crate::specs::Settings::is_plain))]
     pub(crate) fn taken(&self, device: &Device, offset: u32, width: u8, value: u32) -> u32
         ensures value { result ≡ value_taken self.now device.now offset width value }
         ensures plain { is_plain self.now ≡ true → result ≡ value }
@@ -111,6 +116,7 @@ impl Window {
     }
 
     /// Whether the window may begin where it does.
+    #[tactic(auto, unfolding(crate::specs::Settings::is_placed))]
     pub(crate) fn is_placed(&self) -> bool
         ensures { result ≡ is_placed self.now }
     {
@@ -118,6 +124,7 @@ impl Window {
     }
 
     /// How many chains may be popped and not yet answered.
+    #[tactic(auto, unfolding(crate::specs::Settings::most_of))]
     pub(crate) fn most(&self) -> u16
         ensures { result ≡ most_of self.now }
     {

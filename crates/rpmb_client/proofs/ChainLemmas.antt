@@ -13,8 +13,8 @@ use Rattle.std.proofs.lemmas.Str.Parse.{IsNumeralModel, numerals_by_value, tells
 use Rattle.hex.specs.Hex.{IsBytes, decode_of, encode_lower, is_hex_digit}
 use Rattle.hex.proofs.HexLemmas.{decode_of-encode_lower, decode_of-ok}
 use Rattle.script.specs.Line.{chain, chain_line, is_skipped, line_of}
-use Rattle.script.specs.Words.{bytes_of, number_of, words_of}
-use Rattle.rpmb_client.specs.Chain.{chain_text, shown}
+use Rattle.script.specs.Words.{bytes_of, number_of, shown, words_of}
+use Rattle.rpmb_client.specs.Chain.{chain_text}
 use Rattle.rpmb_client.specs.Laws.{LinesAreRead}
 
 own : IsNumeralModel (λ ds. all_ascii_digits ds ≡ true) (digits_value 10)

@@ -1,26 +1,12 @@
 //! The lines of a script that offer chains.
-ghost use Rattle.std.specs.Prelude.{◌≡◌, ◌∷◌, ◌++◌, IfOk, OnOk, [], string_bytes};
+ghost use Rattle.std.specs.Prelude.{◌∷◌, ◌++◌, OnOk, []};
 ghost use Rattle.std.specs.Io.KnownBytes.{Appends};
-ghost use Rattle.rpmb_client.specs.Chain.{chain_text, shown};
+ghost use Rattle.rpmb_client.specs.Chain.{chain_text};
 
 use crate::fault::ClientFault;
+use script::shown_bytes;
 use std::alloc::Global;
 use std::io::Write;
-
-/// The bytes in hex digits of lower case, or a dash where there are none.
-pub(crate) fn shown_bytes(alloc: Global, bytes: &[u8]) -> Result<String, ClientFault>
-    ensures { IfOk result (λ text. string_bytes text ≡ shown bytes.now) }
-{
-    let text = if bytes.is_empty() {
-        String::from_str(alloc, "-")
-    } else {
-        hex::encode(alloc, bytes)
-    };
-    match text {
-        Ok(text) => Ok(text),
-        Err(_) => Err(ClientFault::NoMemory),
-    }
-}
 
 /// Writes the line in which a guest offers a chain of these readable bytes and of so many writable ones:
 /// `chain G HEX W`.
@@ -39,7 +25,10 @@ pub fn write_chain<W: Write>(
     ensures { OnOk result (Appends (W.contents out.old) (W.contents out.new)
         (chain_text guest readable.now writable ++ 10 ∷ [])) }
 {
-    let text = shown_bytes(alloc, readable)?;
+    let text = match shown_bytes(alloc, readable) {
+        Ok(text) => text,
+        Err(_) => return Err(ClientFault::NoMemory),
+    };
     match writeln!(out, "chain {guest} {text} {writable}") {
         Ok(()) => Ok(()),
         Err(_) => Err(ClientFault::FileFault),

@@ -29,12 +29,14 @@ pub enum Refusal<'a> {
     Incomplete,
     #[error("{0}, got {1:?}")]
     Number(Number, &'a str),
-    #[error("BadKey: expected 32 bytes in hex digits, @FILE of 64 hex digits, or @raw:FILE of 32 bytes, got {0} bytes in hex digits")]
+    #[error("BadKey: expected 32 bytes in hex digits, @FILE of 64 hex digits, or @raw:FILE of 32 bytes, \
+         got {0} bytes in hex digits")]
     BadKey(usize),
     #[error("BadKey: expected 32 bytes in hex digits in the file {0:?}, got {1}")]
     BadKeyFile(&'a str, usize),
     /// A file of 32 bytes is no key by accident.
-    #[error("BadKey: expected 64 hex digits in the file {0:?}, got 32 bytes; if these are the key itself, say @raw:FILE")]
+    #[error("BadKey: expected 64 hex digits in the file {0:?}, got 32 bytes; \
+         if these are the key itself, say @raw:FILE")]
     RawKey(&'a str),
     #[error("BadKey: expected 32 bytes in the file {0:?}, got {1}")]
     BadRawKey(&'a str, usize),
@@ -50,7 +52,8 @@ pub enum Refusal<'a> {
     BadHexFile(&'a str, FromHexError),
     #[error("NoData: expected either --data or --file, got {0}")]
     NoData(&'static str),
-    #[error("BadData: expected whole blocks of 256 bytes, at least one, got {0} bytes; --pad fills a last block with zeros")]
+    #[error("BadData: expected whole blocks of 256 bytes, at least one, got {0} bytes; \
+         --pad fills a last block with zeros")]
     BadData(usize),
     #[error("PastEnd: expected no block after 65535, the last that any capacity has, got {0}")]
     PastEnd(u64),

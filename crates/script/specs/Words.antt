@@ -1,10 +1,10 @@
 -- The words of a script's line.
-use Rattle.std.specs.Prelude.{ℕ, ◌==◌, ◌&&◌, ◌^◌, nat_lt, if◌then◌else◌, List, [], length, codes, Option, Some, None}
+use Rattle.std.specs.Prelude.{ℕ, ◌==◌, ◌&&◌, ◌^◌, nat_lt, if◌then◌else◌, List, [], ◌∷◌, length, codes, Option, Some, None}
 use Rattle.std.specs.List.{slice_split}
 use Rattle.std.specs.Result.{result_ok}
 use Rattle.std.specs.Str.{all_ascii_digits, bytes_eq}
 use Rattle.std.specs.Str.Parse.{digits_value}
-use Rattle.hex.specs.Hex.{decode_of}
+use Rattle.hex.specs.Hex.{decode_of, encode_lower}
 
 -- one space parts a word from the next
 abbrev pub words_of : List ℕ → List (List ℕ)
@@ -21,3 +21,8 @@ abbrev pub bytes_of : List ℕ → Option (List ℕ)
 bytes_of word = if bytes_eq word (codes "-") then Some []
     else if length word == 0 then None
     else result_ok (decode_of word)
+
+-- the word of these bytes: two digits a byte, in lower case; no bytes are shown by a dash
+abbrev pub shown : List ℕ → List ℕ
+shown [] = codes "-"
+shown (byte ∷ bytes) = encode_lower (byte ∷ bytes)

@@ -1,6 +1,6 @@
 //! The words of a line.
-ghost use Rattle.std.specs.Prelude.{◌≡◌, IfOk, map, option_map, take};
-ghost use Rattle.script.specs.Words.{bytes_of, number_of, words_of};
+ghost use Rattle.std.specs.Prelude.{◌≡◌, IfOk, map, option_map, string_bytes, take};
+ghost use Rattle.script.specs.Words.{bytes_of, number_of, shown, words_of};
 
 use hex::FromHexError;
 use std::alloc::{AllocError, Global};
@@ -38,5 +38,16 @@ pub fn read_bytes(alloc: Global, word: &str) -> Result<Option<Vec<u8>>, AllocErr
         Ok(bytes) => Ok(Some(bytes)),
         Err(FromHexError::OutOfMemory) => Err(AllocError),
         Err(_) => Ok(None),
+    }
+}
+
+/// The word of these bytes: hex digits of lower case, or `-` where there are none.
+pub fn shown_bytes(alloc: Global, bytes: &[u8]) -> Result<String, AllocError>
+    ensures { IfOk result (λ text. string_bytes text ≡ shown bytes.now) }
+{
+    if bytes.is_empty() {
+        String::from_str(alloc, "-")
+    } else {
+        hex::encode(alloc, bytes)
     }
 }

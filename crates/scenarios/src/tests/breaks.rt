@@ -3,7 +3,7 @@
 use crate::tests::asked::Asked;
 use crate::tests::image::fresh_store;
 use crate::tests::limits::{hold_64, is_busy};
-use crate::tests::lines::{Line, fails, play, play_all};
+use crate::tests::lines::{Line, Told, fails, play, play_all};
 use crate::tests::scene::{Scene, check, scene_of};
 use disk::CutDisk;
 use flusher::{Marks, Store};
@@ -27,8 +27,18 @@ static BROKEN: [Line; 22] = [
     Line::BreakOff,
     Line::IsBroken(true),
     // What is settled leaves as it was made; of the others each is a failure with the type of its request.
-    Line::Reply(0, 1, 0, [0, 0, 0, 0, 0, 0, 0, 1, 0, 7, 2, 0]),
-    Line::Reply(0, 1, 1, [0, 0, 0, 0, 0, 0, 0, 1, 0, 0, 1, 0]),
+    Line::Reply {
+        guest: 0,
+        session: 1,
+        need: 0,
+        tail: [0, 0, 0, 0, 0, 0, 0, 1, 0, 7, 2, 0],
+    },
+    Line::Reply {
+        guest: 0,
+        session: 1,
+        need: 1,
+        tail: [0, 0, 0, 0, 0, 0, 0, 1, 0, 0, 1, 0],
+    },
     Line::Failure(0, [0, 5, 3, 0]),
     Line::Failure(0, [0, 1, 2, 0]),
     Line::Failure(0, [0, 1, 0, 0]),
@@ -37,7 +47,18 @@ static BROKEN: [Line; 22] = [
     Line::Ask(0, Asked::Write(0x66, 1)),
     Line::Failure(0, [0, 1, 3, 0]),
     Line::Counter(0, 1),
-    Line::GiveThis(0, (1, 2, 1, 0, 256, Some(0xa5), Some(0xa5))),
+    Line::GiveThis {
+        guest: 0,
+        intent: Told {
+            requests: 1,
+            sequence: 2,
+            counter: 1,
+            address: 0,
+            length: 256,
+            first: Some(0xa5),
+            last: Some(0xa5),
+        },
+    },
 ];
 
 #[test]

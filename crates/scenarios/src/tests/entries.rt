@@ -1,7 +1,7 @@
 //! What the store is given, and when replies leave.
 
 use crate::tests::asked::Asked;
-use crate::tests::lines::{Line, play_all};
+use crate::tests::lines::{Line, Told, play_all};
 use crate::tests::scene::LIFE;
 use std::test::Fail;
 
@@ -11,29 +11,71 @@ static REPLIES: [Line; 22] = [
     Line::Life(LIFE),
     Line::Ask(1, Asked::Counter(1)),
     Line::Ask(1, Asked::Key(0x11)),
-    Line::GiveThis(1, (1, 1, 0, 0, 0, None, None)),
+    Line::GiveThis {
+        guest: 1,
+        intent: Told {
+            requests: 1,
+            sequence: 1,
+            counter: 0,
+            address: 0,
+            length: 0,
+            first: None,
+            last: None,
+        },
+    },
     // The write comes while the key is on its way.
     Line::Ask(1, Asked::Write(0xa5, 0)),
     Line::Ask(1, Asked::Counter(2)),
     // What was asked before the key needs nothing; the reply to the key waits.
-    Line::Reply(1, 1, 0, [0, 0, 0, 0, 0, 0, 0, 1, 0, 7, 2, 0]),
+    Line::Reply {
+        guest: 1,
+        session: 1,
+        need: 0,
+        tail: [0, 0, 0, 0, 0, 0, 0, 1, 0, 7, 2, 0],
+    },
     Line::NoReply(1),
     Line::Run,
     Line::NoReply(1),
     // It leaves once the key is settled.
     Line::Settle,
-    Line::Reply(1, 1, 1, [0, 0, 0, 0, 0, 0, 0, 1, 0, 0, 1, 0]),
+    Line::Reply {
+        guest: 1,
+        session: 1,
+        need: 1,
+        tail: [0, 0, 0, 0, 0, 0, 0, 1, 0, 0, 1, 0],
+    },
     // While the write isn't settled, neither its reply leaves nor that to what was asked after it.
     Line::NoReply(1),
     Line::NoIntent(0),
-    Line::GiveThis(1, (1, 2, 1, 0, 256, Some(0xa5), Some(0xa5))),
+    Line::GiveThis {
+        guest: 1,
+        intent: Told {
+            requests: 1,
+            sequence: 2,
+            counter: 1,
+            address: 0,
+            length: 256,
+            first: Some(0xa5),
+            last: Some(0xa5),
+        },
+    },
     Line::NoIntent(1),
     Line::NoReply(1),
     Line::Run,
     // Both leave then.
     Line::Settle,
-    Line::Reply(1, 1, 2, [0, 0, 0, 1, 0, 0, 0, 1, 0, 0, 3, 0]),
-    Line::Reply(1, 1, 2, [0, 0, 0, 1, 0, 0, 0, 1, 0, 0, 2, 0]),
+    Line::Reply {
+        guest: 1,
+        session: 1,
+        need: 2,
+        tail: [0, 0, 0, 1, 0, 0, 0, 1, 0, 0, 3, 0],
+    },
+    Line::Reply {
+        guest: 1,
+        session: 1,
+        need: 2,
+        tail: [0, 0, 0, 1, 0, 0, 0, 1, 0, 0, 2, 0],
+    },
     Line::NoReply(1),
 ];
 
@@ -47,24 +89,79 @@ fn replies_wait_for_what_they_show(rt: HostRuntime) -> Result<(), Fail> {
 static WHOLE: [&[Line]; 3] = [
     &[
         Line::Ask(0, Asked::Key(0x11)),
-        Line::GiveThis(0, (1, 1, 0, 0, 0, None, None)),
+        Line::GiveThis {
+            guest: 0,
+            intent: Told {
+                requests: 1,
+                sequence: 1,
+                counter: 0,
+                address: 0,
+                length: 0,
+                first: None,
+                last: None,
+            },
+        },
         Line::Run,
         Line::Ask(0, Asked::Blocks(496, 16)),
-        Line::GiveThis(0, (1, 2, 1, 496, 4_096, Some(1), Some(16))),
+        Line::GiveThis {
+            guest: 0,
+            intent: Told {
+                requests: 1,
+                sequence: 2,
+                counter: 1,
+                address: 496,
+                length: 4_096,
+                first: Some(1),
+                last: Some(16),
+            },
+        },
         Line::NoIntent(0),
     ],
     &[
         Line::Ask(0, Asked::Key(0x11)),
-        Line::GiveThis(0, (1, 1, 0, 0, 0, None, None)),
+        Line::GiveThis {
+            guest: 0,
+            intent: Told {
+                requests: 1,
+                sequence: 1,
+                counter: 0,
+                address: 0,
+                length: 0,
+                first: None,
+                last: None,
+            },
+        },
         Line::Run,
         Line::Ask(0, Asked::Blocks(511, 1)),
-        Line::GiveThis(0, (1, 2, 1, 511, 256, Some(1), Some(1))),
+        Line::GiveThis {
+            guest: 0,
+            intent: Told {
+                requests: 1,
+                sequence: 2,
+                counter: 1,
+                address: 511,
+                length: 256,
+                first: Some(1),
+                last: Some(1),
+            },
+        },
         Line::NoIntent(0),
     ],
     &[
         Line::Ask(0, Asked::Key(0x11)),
         Line::Ask(0, Asked::Blocks(511, 2)),
-        Line::GiveThis(0, (1, 1, 0, 0, 0, None, None)),
+        Line::GiveThis {
+            guest: 0,
+            intent: Told {
+                requests: 1,
+                sequence: 1,
+                counter: 0,
+                address: 0,
+                length: 0,
+                first: None,
+                last: None,
+            },
+        },
         Line::NoIntent(0),
     ],
 ];
@@ -85,10 +182,32 @@ static GROUPED: [Line; 13] = [
     Line::Ask(0, Asked::Write(0xa2, 2)),
     Line::Ask(0, Asked::Write(0xa3, 3)),
     Line::Ask(0, Asked::Write(0xa4, 4)),
-    Line::GiveThis(0, (4, 4, 0, 0, 0, None, None)),
+    Line::GiveThis {
+        guest: 0,
+        intent: Told {
+            requests: 4,
+            sequence: 4,
+            counter: 0,
+            address: 0,
+            length: 0,
+            first: None,
+            last: None,
+        },
+    },
     Line::Run,
     Line::Mark(0, 4),
-    Line::GiveThis(0, (2, 6, 4, 0, 256, Some(0xa3), Some(0xa3))),
+    Line::GiveThis {
+        guest: 0,
+        intent: Told {
+            requests: 2,
+            sequence: 6,
+            counter: 4,
+            address: 0,
+            length: 256,
+            first: Some(0xa3),
+            last: Some(0xa3),
+        },
+    },
     Line::NoIntent(0),
     Line::Run,
     Line::Mark(0, 6),

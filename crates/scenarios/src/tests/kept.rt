@@ -2,7 +2,7 @@
 
 use crate::tests::asked::Asked;
 use crate::tests::image::{fresh_store, opened};
-use crate::tests::lines::{Line, play};
+use crate::tests::lines::{Line, Told, play};
 use crate::tests::scene::{KEY, board_of, check, scene_of};
 use disk::{CutDisk, Filler};
 use flusher::Store;
@@ -19,7 +19,18 @@ static KEPT: [Line; 9] = [
     Line::Ask(1, Asked::Write(0x5a, 1)),
     Line::Ask(1, Asked::Write(0x66, 1)),
     Line::NoIntent(0),
-    Line::GiveThis(1, (3, 3, 0, 0, 0, None, None)),
+    Line::GiveThis {
+        guest: 1,
+        intent: Told {
+            requests: 3,
+            sequence: 3,
+            counter: 0,
+            address: 0,
+            length: 0,
+            first: None,
+            last: None,
+        },
+    },
     Line::Run,
     Line::NoIntent(1),
     Line::Mark(1, 3),

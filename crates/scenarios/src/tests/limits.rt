@@ -180,10 +180,30 @@ static RESULTS: [Line; 11] = [
     Line::Give(0),
     Line::Run,
     Line::Settle,
-    Line::Reply(0, 1, 1, [0, 0, 0, 0, 0, 0, 0, 1, 0, 0, 1, 0]),
-    Line::Reply(0, 1, 1, [0, 0, 0, 0, 0, 0, 0, 1, 0, 0, 1, 0]),
-    Line::Reply(0, 2, 1, [0, 0, 0, 0, 0, 0, 0, 0, 0, 1, 0, 0]),
-    Line::Reply(1, 1, 0, [0, 0, 0, 0, 0, 0, 0, 0, 0, 1, 0, 0]),
+    Line::Reply {
+        guest: 0,
+        session: 1,
+        need: 1,
+        tail: [0, 0, 0, 0, 0, 0, 0, 1, 0, 0, 1, 0],
+    },
+    Line::Reply {
+        guest: 0,
+        session: 1,
+        need: 1,
+        tail: [0, 0, 0, 0, 0, 0, 0, 1, 0, 0, 1, 0],
+    },
+    Line::Reply {
+        guest: 0,
+        session: 2,
+        need: 1,
+        tail: [0, 0, 0, 0, 0, 0, 0, 0, 0, 1, 0, 0],
+    },
+    Line::Reply {
+        guest: 1,
+        session: 1,
+        need: 0,
+        tail: [0, 0, 0, 0, 0, 0, 0, 0, 0, 1, 0, 0],
+    },
 ];
 
 #[test]

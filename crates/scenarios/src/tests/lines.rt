@@ -13,9 +13,20 @@ use mmio_transport::{Done, Job};
 use std::alloc::Global;
 use std::test::Fail;
 
-/// How many requests an intent has, the sequence and the counter that it leaves, its address, and the
-/// length and the first and last byte of its blocks.
-pub type Told = (usize, u64, u32, u16, usize, Option<u8>, Option<u8>);
+/// What an intent has.
+#[derive(Clone, Copy, PartialEq)]
+pub struct Told {
+    pub requests: usize,
+    /// The sequence of the last of them.
+    pub sequence: u64,
+    /// The write counter before the first.
+    pub counter: u32,
+    /// The address of the first one's blocks, their length in bytes, and the first and last byte.
+    pub address: u16,
+    pub length: usize,
+    pub first: Option<u8>,
+    pub last: Option<u8>,
+}
 
 /// A line of a scene.
 #[derive(Clone, Copy)]
@@ -36,7 +47,10 @@ pub enum Line {
     /// The guest's next intent goes to the store.
     Give(u16),
     /// It is this one.
-    GiveThis(u16, Told),
+    GiveThis {
+        guest: u16,
+        intent: Told,
+    },
     /// No intent of the guest waits.
     NoIntent(u16),
     /// The store makes its calls, until it is idle.
@@ -60,7 +74,12 @@ pub enum Line {
     /// The life that the book was opened with.
     Life(u64),
     /// The guest's next reply, of this session, has this need and these last twelve bytes.
-    Reply(u16, u64, u64, [u8; 12]),
+    Reply {
+        guest: u16,
+        session: u64,
+        need: u64,
+        tail: [u8; 12],
+    },
     /// It is a failure in the first session, with need 0: zeros but for these last four bytes.
     Failure(u16, [u8; 4]),
     /// It has no bytes.
@@ -168,18 +187,18 @@ fn write_all(
 }
 
 fn told(intent: &Intent) -> Told {
-    let count = intent.entries();
+    let requests = intent.entries();
     let entry = intent.entry(0);
     let blocks = entry.blocks();
-    (
-        count,
-        intent.last_sequence(),
-        intent.first_counter(),
-        entry.address(),
-        blocks.len(),
-        blocks.first().copied(),
-        blocks.last().copied(),
-    )
+    Told {
+        requests,
+        sequence: intent.last_sequence(),
+        counter: intent.first_counter(),
+        address: entry.address(),
+        length: blocks.len(),
+        first: blocks.first().copied(),
+        last: blocks.last().copied(),
+    }
 }
 
 /// Whether it is the guest's intent, under the key, and this one where one is told.
@@ -310,7 +329,7 @@ fn happens(
         Line::Writes(guest, first, count) => write_all(alloc, scene, store, guest, first, count),
         Line::Run => runs(store),
         Line::Give(guest) => Ok(hand_over(scene, store, guest, None)),
-        Line::GiveThis(guest, intent) => Ok(hand_over(scene, store, guest, Some(intent))),
+        Line::GiveThis { guest, intent } => Ok(hand_over(scene, store, guest, Some(intent))),
         Line::NoIntent(guest) => Ok(has_no_intent(scene, guest)),
         Line::Mark(guest, sequence) => Ok(store.marks().get(guest) == sequence),
         Line::Settle => Ok(scene.settles(store.marks())),
@@ -321,7 +340,12 @@ fn happens(
         Line::BreakOff => Ok(break_off(scene)),
         Line::IsBroken(broken) => Ok(scene.book.is_broken() == broken),
         Line::Life(life) => Ok(scene.book.life() == life),
-        Line::Reply(guest, session, need, tail) => Ok(replies(scene, guest, session, need, &tail)),
+        Line::Reply {
+            guest,
+            session,
+            need,
+            tail,
+        } => Ok(replies(scene, guest, session, need, &tail)),
         Line::Failure(guest, end) => Ok(fails(scene, guest, end)),
         Line::EmptyReply(guest) => Ok(replies_nothing(scene, guest)),
         Line::NoReply(guest) => Ok(has_no_reply(scene, guest)),

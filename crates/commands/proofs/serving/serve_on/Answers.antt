@@ -32,7 +32,7 @@ returns-in-Ok-serve-clause-printed g c =
     let parted : length c.as_slice.result.now ≡ length scripts.items = ap length c.as_slice.ensures.value in
     let as_many : length scripts.items ≡ length c.args.board.now = omega (arith, scripts.ok, c.in-Ok.ensures.many, guests) in
     on_ok_weaker c.tell.result.0 (λ printed. prints_each drivers.items scripts.items (map said c.args.lines.items) (length c.args.board.now) (g.W.Write.contents c.args.out.now) (g.W.Write.contents c.tell.new.out)
-    (omega (arith, c.in-Ok-serve.ensures.drivers, drivers.ok, parted, as_many)) as_many (subst (HaveAll drivers.items) c.as_slice.ensures.value c.in-Ok-serve.ensures.answers) (λ k below. c.in-Ok.ensures.each k (omega (arith, guests, below))) printed)
+    (omega (arith, c.in-Ok-serve.ensures.leaves.drivers, drivers.ok, parted, as_many)) as_many (subst (HaveAll drivers.items) c.as_slice.ensures.value c.in-Ok-serve.ensures.leaves.answers) (λ k below. c.in-Ok.ensures.each k (omega (arith, guests, below))) printed)
     c.tell.ensures.printed
 
 pub returns-in-Ok-serve-clause-prints : goal.returns-in-Ok-serve-clause-prints
@@ -44,7 +44,7 @@ returns-in-Ok-serve-clause-prints g c =
     let as_many : length scripts.items ≡ length c.args.board.now = omega (arith, scripts.ok, c.in-Ok.ensures.many, guests) in
     served_print (length c.args.board.now) (map said c.args.lines.items) (g.W.Write.contents c.args.out.now) (g.W.Write.contents c.tell.new.out) c.tell.result.0 c.tell.ensures.ends
     (λ failed. prints_each drivers.items scripts.items (map said c.args.lines.items) (length c.args.board.now) (g.W.Write.contents c.args.out.now) (g.W.Write.contents c.tell.new.out)
-    (omega (arith, c.in-Ok-serve.ensures.drivers, drivers.ok, parted, as_many)) as_many (subst (HaveAll drivers.items) c.as_slice.ensures.value c.in-Ok-serve.ensures.answers) (λ k below. c.in-Ok.ensures.each k (omega (arith, guests, below))) (c.tell.ensures.failed failed))
+    (omega (arith, c.in-Ok-serve.ensures.leaves.drivers, drivers.ok, parted, as_many)) as_many (subst (HaveAll drivers.items) c.as_slice.ensures.value c.in-Ok-serve.ensures.leaves.answers) (λ k below. c.in-Ok.ensures.each k (omega (arith, guests, below))) (c.tell.ensures.failed failed))
 
 pub returns-in-Err-clause-keeps : goal.returns-in-Err-clause-keeps
 returns-in-Err-clause-keeps g c = uncalled_keeps g.D.Disk.state g.D.Disk.makes c.args.board.now c.args.disk c.in-Err.fault

@@ -3,7 +3,7 @@ use Rattle.std.proofs.lemmas.Fmt.{contents_after_writes}
 use Rattle.arrayvec.specs.declared.array_string.ArrayString.{ArrayString}
 use Rattle.commands.specs.Ending.{Takes}
 use Rattle.commands.specs.Fault.{fault_line}
-use Rattle.commands.proofs.reporting.report.Goals as goal
+use Rattle.commands.proofs.fault_lines.report.Goals as goal
 
 pub returns-in-Ok-clause-told : goal.returns-in-Ok-clause-told
 returns-in-Ok-clause-told g c =

@@ -2,12 +2,11 @@
 ghost use Rattle.std.specs.Prelude.{◌≡◌, ◌+◌, ◌<◌, ◌==◌, ◌++◌, ◌∷◌, ℕ, All, [], Err, IfErr, IfOk};
 ghost use Rattle.std.specs.Prelude.{OnOk, Some, if◌then◌else◌, length, map, slice_index_or};
 ghost use Rattle.std.specs.Prelude.{vec_len};
-ghost use Rattle.rpmb_frame.specs.Config.{IsBoard};
 ghost use Rattle.script.specs.Line.{IsServed, IsWithin, said, served_line_of};
 ghost use Rattle.script.specs.Script.{lines_of};
 ghost use Rattle.workers.specs.Orders.{chain_orders, chains_in};
 ghost use Rattle.commands.specs.Ending.{IsOfReading};
-ghost use Rattle.commands.specs.Serving.{IsUnservedAt, chains_by, chains_of};
+ghost use Rattle.commands.specs.Serving.{AreServable, IsUnservedAt, chains_by, chains_of};
 
 use crate::fault::Fault;
 use rpmb_frame::BoardConfig;
@@ -23,9 +22,7 @@ pub(crate) fn read_served(
 ) -> Result<Vec<Line>, Fault>
     ensures ok { IfOk result (λ lines. map (λ line. Some (said line)) lines.items
         ≡ map (served_line_of (length board.now)) (lines_of script.now)) }
-    ensures within { IfOk result (λ lines. All (λ line. IsWithin (length board.now) (said line)) lines.items) }
-    ensures served { IfOk result (λ lines. All (λ line. IsServed (said line)) lines.items) }
-    ensures in_range { IsBoard board.now }
+    ensures servable { IfOk result (λ lines. AreServable board.now lines.items) }
     ensures bad { (n : ℕ) → result ≡ Err (Fault.BadScript n) → IsUnservedAt board.now script.now n }
     ensures reads { IfErr result IsOfReading }
 {

@@ -4,7 +4,7 @@ use Rattle.std.specs.Vec.Iter.{into_iter_items}
 use Rattle.script.specs.Line.{IsServed, IsWithin, said}
 use Rattle.workers.specs.Orders.{chain_orders}
 use Rattle.commands.specs.Serving.{chains_of}
-use Rattle.commands.proofs.parting.part.Given as goal
+use Rattle.commands.proofs.script_by_guest.part.Given as goal
 
 abbrev pub invariant-loop-line : goal.invariant-loop-line
 invariant-loop-line l =

@@ -1,8 +1,8 @@
 use Rattle.std.proofs.Common.{◌+◌, subst, sym}
 use Rattle.std.proofs.lemmas.List.{take_rest}
 use Rattle.commands.proofs.Telling.{Took, takes, takes_kept, took_more, took_kept}
-use Rattle.commands.proofs.reporting.write_front.Goals.{in-Ok, in-Err+else-ne}
-use Rattle.commands.proofs.reporting.write_front.Goals as goal
+use Rattle.commands.proofs.fault_lines.write_front.Goals.{in-Ok, in-Err+else-ne}
+use Rattle.commands.proofs.fault_lines.write_front.Goals as goal
 
 pub loop-preserved : goal.loop-preserved
 loop-preserved g c =

@@ -1,30 +1,15 @@
 //! The lines of what chains come to.
-ghost use Rattle.std.specs.Prelude.{◌≡◌, IfErr, IfOk, OnOk, string_bytes};
+ghost use Rattle.std.specs.Prelude.{IfErr, OnOk};
 ghost use Rattle.std.specs.Io.KnownBytes.{Appends};
 ghost use Rattle.commands.specs.Ending.{IsOfWriting, KeepsUnless};
 ghost use Rattle.commands.specs.Serving.{answer_line};
-ghost use Rattle.commands.specs.Transcript.{shown, stuck_line, used_line};
+ghost use Rattle.commands.specs.Transcript.{stuck_line, used_line};
 
 use crate::fault::Fault;
 use host::{Answer, Stuck};
+use script::shown_bytes;
 use std::alloc::Global;
 use std::io::Write;
-
-/// The bytes in hex digits of lower case, or a dash where there are none.
-fn shown(alloc: Global, bytes: &[u8]) -> Result<String, Fault>
-    ensures memory { IfErr result (λ fault. fault ≡ Fault.NoMemory) }
-    ensures text { IfOk result (λ text. string_bytes text ≡ shown bytes.now) }
-{
-    let text = if bytes.is_empty() {
-        String::from_str(alloc, "-")
-    } else {
-        hex::encode(alloc, bytes)
-    };
-    match text {
-        Ok(text) => Ok(text),
-        Err(_) => Err(Fault::NoMemory),
-    }
-}
 
 /// Writes the line of a reply: `used G LEN HEX`.
 #[tactic(auto, unfolding(crate::specs::Transcript::used_line))]
@@ -38,9 +23,9 @@ pub(crate) fn write_reply<W: Write>(
     ensures ends { IfErr result IsOfWriting }
     ensures silent { IfErr result (λ fault. KeepsUnless fault (W.contents out.old) (W.contents out.new)) }
 {
-    let text = match shown(alloc, reply) {
+    let text = match shown_bytes(alloc, reply) {
         Ok(text) => text,
-        Err(fault) => return Err(fault),
+        Err(_) => return Err(Fault::NoMemory),
     };
     match writeln!(out, "used {guest} {} {text}", reply.len()) {
         Ok(()) => Ok(()),

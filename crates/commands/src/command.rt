@@ -5,8 +5,8 @@ ghost use Rattle.intent_slots.specs.Layout.{capacities_of, image_length};
 ghost use Rattle.commands.specs.Commands.{Does, IsFormat, Performs};
 
 use crate::fault::Fault;
+use crate::fault_lines::status_after;
 use crate::formatting::format;
-use crate::reporting::status_after;
 use crate::running::run;
 use crate::serving::serve;
 use crate::showing::show;

@@ -3,8 +3,8 @@ use Rattle.std.proofs.lemmas.List.{get_or_read}
 use Rattle.std.specs.Prelude.{slice_index_or, slice_set}
 use Rattle.workers.specs.Orders.{chain_orders, chains_in}
 use Rattle.commands.proofs.Handed.{one_given}
-use Rattle.commands.proofs.parting.give.Goals.{in-Ok, in-Err}
-use Rattle.commands.proofs.parting.give.Goals as goal
+use Rattle.commands.proofs.script_by_guest.give.Goals.{in-Ok, in-Err}
+use Rattle.commands.proofs.script_by_guest.give.Goals as goal
 
 pub returns-clause-each : goal.returns-clause-each
 returns-clause-each c = elim c.match-push.branch [

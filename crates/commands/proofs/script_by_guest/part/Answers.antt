@@ -5,7 +5,7 @@ use Rattle.script.specs.declared.line.Line.{Line}
 use Rattle.workers.specs.Orders.{chain_orders}
 use Rattle.commands.specs.Serving.{chains_of}
 use Rattle.commands.proofs.Handed.{rest_all}
-use Rattle.commands.proofs.parting.part.Goals as goal
+use Rattle.commands.proofs.script_by_guest.part.Goals as goal
 
 pub loop-line-preserved : goal.loop-line-preserved
 loop-line-preserved c =

@@ -1,7 +1,7 @@
 use Rattle.std.proofs.Common.{Some, subst, sym}
 use Rattle.command_line.specs.declared.command.Command.{Command}
 use Rattle.commands.specs.Commands.{Does}
-use Rattle.commands.proofs.performing.obey.Goals as goal
+use Rattle.commands.proofs.command.obey.Goals as goal
 
 pub returns-in-Format : goal.returns-in-Format
 returns-in-Format g c =
