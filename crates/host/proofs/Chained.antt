@@ -5,10 +5,11 @@ use Rattle.std.proofs.lemmas.Option.{slice_get_within}
 use Rattle.disk.specs.Disk.{DiskCall, DiskState}
 use Rattle.flusher.proofs.Guests.{get_set_same}
 use Rattle.board.specs.State.{BoardState}
+use Rattle.host.specs.Call.{ChainCall}
 use Rattle.host.specs.Calm.{IsCalm, is_broken}
 use Rattle.host.specs.Chain.{Chains, ChainsFrom}
 use Rattle.host.specs.Guest.{GuestView, view_of}
-use Rattle.host.specs.Host.{ChainsAt, HostAnswers, HostChains, HostState, HostView, StuckBy, seen}
+use Rattle.host.specs.Host.{ChainsAt, HostAnswers, HostState, HostView, StuckBy, seen}
 use Rattle.host.specs.Looks.{OnShare, Share, share_of}
 use Rattle.host.specs.Moving.{Moves}
 use Rattle.host.specs.Ready.{Answers}
@@ -24,7 +25,6 @@ use Rattle.host.proofs.Chains.{chain_answers}
 use Rattle.host.proofs.Explains.{chain_front, chain_keeps, chain_reason}
 use Rattle.host.proofs.Hosts.{chain_of, view_at}
 use Rattle.host.proofs.Keeping.{clear_stay, clear_told, guests_stay, many_places, none_explains, stays_guest, stuck_told}
-use Rattle.host.proofs.Moving.{moves_none}
 use Rattle.host.proofs.Reasons.{KeepsGuest}
 use Rattle.host.proofs.Seen.{front_there, no_chain, seen_after}
 use Rattle.host.proofs.Shares.{share_is}
@@ -34,12 +34,9 @@ use Rattle.host.proofs.Spares.{SparesShare, chain_spares, spares_more, spares_sa
 
 -- all that is said of a chain
 pub record Chained {D : Type 0} (shows : D → DiskState) (makes : D → DiskCall → D → Type 0) (h : HostState D) (n : ℕ) (readable : List ℕ) (writable : ℕ) (told : Result Answer HostFault) (h' : HostState D) : Type 0 where
-  pub answer : HostAnswers (is_broken h.board) (is_broken h'.board) (seen h) n readable writable told (seen h')
-  pub own : HostChains (is_broken h.board) (is_broken h'.board) (seen h) n readable writable told (seen h')
+  pub call : ChainCall h n readable writable told h'
   pub calm : IsCalm shows h'.board
   pub moves : Moves shows makes h.board h'.board
-  pub reasons : HostExplains (seen h) n readable writable told (seen h')
-  pub others : Spares n (most_at (slice_get h.fronts n)) h.board h'.board
 
 -- 1. What a front's chain does to its guest
 
@@ -139,36 +136,31 @@ module _ {D : Type 0} (shows : D → DiskState) (makes : D → DiskCall → D �
   chained =
       let spare = spares n front s readable writable told front' s' short small some front.stuck does in
       record {
-        answer = subst (λ gs. HostAnswers (is_broken h.board) (is_broken b') (seen h) n readable writable told (record { runner = runner_of b'; guests = gs })) (sym others)
-            (chain_of (is_broken h.board) (is_broken b') (seen h) n before after (runner_of b') readable writable told (slice_get_within (seen h).guests n before there) there answers_so);
-        own = subst (λ o. ChainsAt (is_broken h.board) (is_broken b') o (seen h) n readable writable told (seen now)) (sym there)
-            (record { after = after; stuck = stuck_so front.stuck does; answer = answers_so; others = others });
+        call = record {
+          answer = subst (λ gs. HostAnswers (is_broken h.board) (is_broken b') (seen h) n readable writable told (record { runner = runner_of b'; guests = gs })) (sym others)
+              (chain_of (is_broken h.board) (is_broken b') (seen h) n before after (runner_of b') readable writable told (slice_get_within (seen h).guests n before there) there answers_so);
+          own = subst (λ o. ChainsAt (is_broken h.board) (is_broken b') o (seen h) n readable writable told (seen now)) (sym there)
+              (record { after = after; stuck = stuck_so front.stuck does; answer = answers_so; others = others });
+          reason = explains;
+          others = subst (λ o. Spares n (most_at o) h.board b') (sym at) (record { cores = spare.cores; kept = spare.kept; few = spare.few; whole = spare.whole });
+        };
         calm = x.touches.calm;
         moves = x.moves;
-        reasons = explains;
-        others = subst (λ o. Spares n (most_at o) h.board b') (sym at) (record { cores = spare.cores; kept = spare.kept; few = spare.few; whole = spare.whole });
       }
 
 -- a guest that the board lacks
-pub none_chained : {D : Type 0} (shows : D → DiskState) (makes : D → DiskCall → D → Type 0) (h : HostState D) (n : ℕ) (readable : List ℕ) (writable : ℕ) → IsCalm shows h.board → length h.fronts ≤ n
-    → Chained shows makes h n readable writable (Err Foreign) h
-none_chained shows makes h n readable writable calm out =
-    record {
-      answer = tt;
-      own = no_chain h n (is_broken h.board) readable writable out;
-      calm = calm;
-      moves = moves_none shows makes h.board;
-      reasons = none_explains h n readable writable out;
-      others = record { cores = λ k other. sym (still_core (is_broken h.board) (slice_get (runner_of h.board).cores k)); kept = omega arith; few = omega arith; whole = λ whole. whole };
-    }
+pub none_called : {D : Type 0} (h : HostState D) (n : ℕ) (readable : List ℕ) (writable : ℕ) → length h.fronts ≤ n → ChainCall h n readable writable (Err Foreign) h
+none_called h n readable writable out = record {
+  answer = tt;
+  own = no_chain h n (is_broken h.board) readable writable out;
+  reason = none_explains h n readable writable out;
+  others = record { cores = λ k other. sym (still_core (is_broken h.board) (slice_get (runner_of h.board).cores k)); kept = omega arith; few = omega arith; whole = λ whole. whole };
+}
 
 -- 3. As the call of a host has it
 
 -- the host's fronts stand in a vector
 module _ {D : Type 0} (shows : D → DiskState) (makes : D → DiskCall → D → Type 0) (board : BoardState D) (fronts : List Front) (h : HostState D) (is : record { board = board; fronts = fronts } ≡ h) (n at : ℕ) (at_is : at ≡ n) (readable : List ℕ) (writable : ℕ) where
-  pub none_chained_of : IsCalm shows board → length fronts ≤ n → Chained shows makes h n readable writable (Err Foreign) h
-  none_chained_of calm out = subst (λ v. Chained shows makes v n readable writable (Err Foreign) v) is (none_chained shows makes (record { board = board; fronts = fronts }) n readable writable calm out)
-
   pub chained_of : (front : Front) (b' : BoardState D) (front' : Front) (told : Result Answer HostFault) → length readable ≤ 8704 → writable ≤ 8192 → 0 < length readable + writable → at < length fronts → front ≡ get_or fronts at front
       → OnShare shows makes n (λ s s'. Chains n front s readable writable told front' s') board b' → Chained shows makes h n readable writable told (record { board = b'; fronts = set fronts at front' })
   chained_of front b' front' told short small some inside value x =
