@@ -25,12 +25,11 @@ use Rattle.host.proofs.Chains.{chain_answers}
 use Rattle.host.proofs.Explains.{chain_front, chain_keeps, chain_reason}
 use Rattle.host.proofs.Hosts.{chain_of, view_at}
 use Rattle.host.proofs.Keeping.{clear_stay, clear_told, guests_stay, many_places, none_explains, stays_guest, stuck_told}
-use Rattle.host.proofs.Reasons.{KeepsGuest}
+use Rattle.host.proofs.Reasons.{KeepsShare, keeps_more, keeps_still}
 use Rattle.host.proofs.Seen.{front_there, no_chain, seen_after}
 use Rattle.host.proofs.Shares.{share_is}
 use Rattle.host.proofs.Since.{still_core}
 use Rattle.host.proofs.Updates.{set-nothing}
-use Rattle.host.proofs.Spares.{SparesShare, chain_spares, spares_more, spares_same}
 
 -- all that is said of a chain
 pub record Chained {D : Type 0} (shows : D → DiskState) (makes : D → DiskCall → D → Type 0) (h : HostState D) (n : ℕ) (readable : List ℕ) (writable : ℕ) (told : Result Answer HostFault) (h' : HostState D) : Type 0 where
@@ -46,35 +45,30 @@ module _ (n : ℕ) (f : Front) (s : Share) (readable : List ℕ) (writable : ℕ
   answers None is x = subst (λ y. Answers s.broken s'.broken n (view_of s.device s.job f) s.runner readable writable told (view_of s'.device s'.job y) s'.runner) (sym x.front)
       (chain_answers n f s readable writable short small some told x.driver s' x.does)
 
-  spares : (o : Option Stuck) → ChainsFrom o n f s readable writable told f' s' → SparesShare n (most_at (Some f)) s s'
-  spares (Some why) x = spares_more n 0 (most_at (Some f)) s s' (omega arith) (spares_same n s s' (ap (λ (y : Share). y.runner) x.share) (ap (λ (y : Share). y.broken) x.share))
-  spares None x = chain_spares n f s readable writable told x.driver s' x.does
+  keeps : (o : Option Stuck) → ChainsFrom o n f s readable writable told f' s' → KeepsShare n (most_at (Some f)) s s'
+  keeps (Some why) x = keeps_more n 0 (most_at (Some f)) s s' (omega arith) (keeps_still n s s' x.share)
+  keeps None x = chain_keeps n f s readable writable told x.driver s' x.does short small some
 
   same_front : (o : Option Stuck) → ChainsFrom o n f s readable writable told f' s' → IsSameFront f f'
   same_front (Some why) x = subst (IsSameFront f) (sym x.front) (record { places = refl; form = refl; size = refl; owners = refl; flights = refl })
   same_front None x = chain_front n f s readable writable told x.driver s' x.does f' x.front
 
-  module _ (named : s.device.guest ≡ n) (own : IsJobOfGuest n s.job) where
-    keeps : (o : Option Stuck) → ChainsFrom o n f s readable writable told f' s' → KeepsGuest n s s'
-    keeps (Some why) x = subst (KeepsGuest n s) (sym x.share) (record { own = own; same = record { guest = refl; config = refl; memory = λ areas. refl; areas = λ areas. areas }; popped = refl })
-    keeps None x = chain_keeps n f s readable writable told x.driver s' x.does named own short small some
+  module _ (named : s.device.guest ≡ n) (own : IsJobOfGuest n s.job) (many : 1 < f.places) (areas : HasAreas s.device) where
+    reason : (o : Option Stuck) → f.stuck ≡ o → ChainsFrom o n f s readable writable told f' s' → f.stuck ≡ None → ChainReason (view_of s.device s.job f) s.runner readable writable told (view_of s'.device s'.job f') s'.runner
+    reason (Some why) is x free = absurd (cc)
+    reason None is x free = subst (λ y. ChainReason (view_of s.device s.job f) s.runner readable writable told (view_of s'.device s'.job y) s'.runner) (sym x.front)
+        (chain_reason n f s readable writable told x.driver s' x.does short small some named own many areas free)
 
-    module _ (many : 1 < f.places) (areas : HasAreas s.device) where
-      reason : (o : Option Stuck) → f.stuck ≡ o → ChainsFrom o n f s readable writable told f' s' → f.stuck ≡ None → ChainReason (view_of s.device s.job f) s.runner readable writable told (view_of s'.device s'.job f') s'.runner
-      reason (Some why) is x free = absurd (cc)
-      reason None is x free = subst (λ y. ChainReason (view_of s.device s.job f) s.runner readable writable told (view_of s'.device s'.job y) s'.runner) (sym x.front)
-          (chain_reason n f s readable writable told x.driver s' x.does named own short small some many areas free)
+    stuck_after : (o : Option Stuck) → f.stuck ≡ o → ChainsFrom o n f s readable writable told f' s' → IsStuckFor f.stuck s.device → IsStuckFor f'.stuck s'.device
+    stuck_after None is x so =
+        subst (λ y. IsStuckFor y s'.device) (sym (ap (λ (y : Front). y.stuck) x.front)) (stuck_told told (view_of s.device s.job f) (view_of s'.device s'.job f') s.runner s'.runner readable writable (reason None is x is))
+    stuck_after (Some why) is x so = subst (λ y. IsStuckFor y.stuck s'.device) (sym x.front) (subst (λ y. IsStuckFor f.stuck y.device) (sym x.share) so)
 
-      stuck_after : (o : Option Stuck) → f.stuck ≡ o → ChainsFrom o n f s readable writable told f' s' → IsStuckFor f.stuck s.device → IsStuckFor f'.stuck s'.device
-      stuck_after None is x so =
-          subst (λ y. IsStuckFor y s'.device) (sym (ap (λ (y : Front). y.stuck) x.front)) (stuck_told told (view_of s.device s.job f) (view_of s'.device s'.job f') s.runner s'.runner readable writable (reason None is x is))
-      stuck_after (Some why) is x so = subst (λ y. IsStuckFor y.stuck s'.device) (sym x.front) (subst (λ y. IsStuckFor f.stuck y.device) (sym x.share) so)
-
-      clear_after : (o : Option Stuck) (given : Answer) → told ≡ Ok given → f.stuck ≡ o → ChainsFrom o n f s readable writable told f' s' → length f.driver.flights ≡ length f.driver.owners
-          → IsClear (view_of s.device s.job f) → IsClear (view_of s'.device s'.job f')
-      clear_after None given ok is x long free = λ now.
-          clear_told told given (view_of s.device s.job f) (view_of s'.device s'.job f') s.runner s'.runner readable writable ok (sym (ap (λ (y : Front). y.stuck) x.front) ∙ now) long (free is) (reason None is x is)
-      clear_after (Some why) given ok is x long free = λ now. absurd (let still : f'.stuck ≡ f.stuck = ap (λ (y : Front). y.stuck) x.front in cc)
+    clear_after : (o : Option Stuck) (given : Answer) → told ≡ Ok given → f.stuck ≡ o → ChainsFrom o n f s readable writable told f' s' → length f.driver.flights ≡ length f.driver.owners
+        → IsClear (view_of s.device s.job f) → IsClear (view_of s'.device s'.job f')
+    clear_after None given ok is x long free = λ now.
+        clear_told told given (view_of s.device s.job f) (view_of s'.device s'.job f') s.runner s'.runner readable writable ok (sym (ap (λ (y : Front). y.stuck) x.front) ∙ now) long (free is) (reason None is x is)
+    clear_after (Some why) given ok is x long free = λ now. absurd (let still : f'.stuck ≡ f.stuck = ap (λ (y : Front). y.stuck) x.front in cc)
 
 -- 2. What it does to the host
 
@@ -117,11 +111,11 @@ module _ {D : Type 0} (shows : D → DiskState) (makes : D → DiskCall → D �
 
   explains : HostExplains (seen h) n readable writable told (seen now)
   explains = λ board in_range are.
+      let keep = keeps n front s readable writable told front' s' short small some front.stuck does in
       let is = are.each n before there in
       let many = many_places board n before in_range is in
-      let keep = keeps n front s readable writable told front' s' short small some is.named is.job front.stuck does in
       let front_so = same_front n front s readable writable told front' s' short small some front.stuck does in
-      let own = stays_guest board n x.old.device x.new.device x.old.job x.new.job front front' is keep.same keep.own front_so
+      let own = stays_guest board n x.old.device x.new.device x.old.job x.new.job front front' is keep.same (keep.own is.named is.job) front_so
       (stuck_after n front s readable writable told front' s' short small some is.named is.job many is.areas front.stuck refl does is.reason) in
       subst (λ gs. Explains board (seen h) n readable writable told (record { runner = runner_of b'; guests = gs })) (sym others) (record {
         own = guests_stay board (seen h).guests n after are own;
@@ -134,7 +128,7 @@ module _ {D : Type 0} (shows : D → DiskState) (makes : D → DiskCall → D �
 
   pub chained : Chained shows makes h n readable writable told (record { board = b'; fronts = set h.fronts n front' })
   chained =
-      let spare = spares n front s readable writable told front' s' short small some front.stuck does in
+      let spare = keeps n front s readable writable told front' s' short small some front.stuck does in
       record {
         call = record {
           answer = subst (λ gs. HostAnswers (is_broken h.board) (is_broken b') (seen h) n readable writable told (record { runner = runner_of b'; guests = gs })) (sym others)

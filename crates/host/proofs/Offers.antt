@@ -33,9 +33,6 @@ module _ {D : Type 0} (shows : D → DiskState) (makes : D → DiskCall → D �
   lent : OnShare shows makes n (Lent d d1) b (with_device b n d1)
   lent = share_lent shows makes n b d d1 calm at
 
-  pub calm_lent : IsCalm shows (with_device b n d1)
-  calm_lent = lent.touches.calm
-
   does : (offered : Result ℕ DriverFault) → Offering d.memory front.driver readable writable offered d1.memory driver1 → (told : Result Answer HostFault) (driver2 : DriverState) (s s1 s' : Share)
       → Lent d d1 s s1 → Serves n (max 1 front.places) offered driver1 s1 told driver2 s' → ChainDoes n front s readable writable told driver2 s'
   does offered offering told driver2 s s1 s' p serves = record {

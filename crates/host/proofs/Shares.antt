@@ -1,5 +1,5 @@
 -- One guest's share in a board, through one call after another.
-use Rattle.std.proofs.Common.{◌≡◌, ◌<◌, ℕ, Option, Some, length, refl, ap, sym, subst, ◌∙◌, arith, length-set}
+use Rattle.std.proofs.Common.{◌≡◌, ◌<◌, ℕ, Option, Some, length, refl, ap, sym, subst, ◌∙◌, length-set}
 use Rattle.std.specs.Prelude.{slice_get, slice_set}
 use Rattle.disk.specs.Disk.{DiskCall, DiskState}
 use Rattle.flusher.proofs.Guests.{get_set_same, get_set_other}
@@ -100,9 +100,6 @@ module _ {D : Type 0} (shows : D → DiskState) (makes : D → DiskCall → D �
 
   pub share_so : (P R : Share → Share → Type 0) (a b : BoardState D) → OnShare shows makes g P a b → ((s s' : Share) → P s s' → R s s') → OnShare shows makes g R a b
   share_so P R a b p so = record { old = p.old; new = p.new; before = p.before; after = p.after; does = so p.old p.new p.does; touches = p.touches; moves = p.moves }
-
-  pub still_there : (P : Share → Share → Type 0) (a b : BoardState D) → OnShare shows makes g P a b → g < length a.devices → g < length b.devices
-  still_there P a b p there = (let many = p.touches.many in omega (arith, many, there))
 
   -- its device was lent to its driver
   pub share_lent : (b : BoardState D) (d d' : DeviceState) → IsCalm shows b → slice_get b.devices g ≡ Some d
