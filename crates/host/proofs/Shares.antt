@@ -9,7 +9,7 @@ use Rattle.board.specs.State.{BoardState}
 use Rattle.board.proofs.Linked.{drives_linked}
 use Rattle.host.specs.Calm.{IsCalm}
 use Rattle.host.specs.Guest.{with_device}
-use Rattle.host.specs.Looks.{Holds, OnShare, Share, Touches, share_of}
+use Rattle.host.specs.Looks.{ShowsShare, OnShare, Share, Touches, share_of}
 use Rattle.host.proofs.Moving.{lent_moves, moves_none, moves_twice}
 use Rattle.host.proofs.Same.{also_there, below_there}
 
@@ -56,7 +56,7 @@ module _ {D : Type 0} (shows : D → DiskState) (makes : D → DiskCall → D �
   -- 2. The share
 
   -- there is one
-  pub one_share : (b : BoardState D) (s s' : Share) → Holds g b s → Holds g b s' → s ≡ s'
+  pub one_share : (b : BoardState D) (s s' : Share) → ShowsShare g b s → ShowsShare g b s' → s ≡ s'
   one_share b s s' x y =
       let device = same_there (slice_get b.devices g) s.device s'.device x.at y.at in
       let job = same_there (slice_get b.jobs g) s.job s'.job x.place y.place in
@@ -67,11 +67,11 @@ module _ {D : Type 0} (shows : D → DiskState) (makes : D → DiskCall → D �
       ∙ ap (λ v. (let r : Share = record { device = s'.device; job = s'.job; runner = v; broken = s.broken } in r)) runner
       ∙ ap (λ v. (let r : Share = record { device = s'.device; job = s'.job; runner = s'.runner; broken = v } in r)) broken
 
-  pub share_is : (b : BoardState D) (s : Share) → Holds g b s → s ≡ share_of b s.device s.job
+  pub share_is : (b : BoardState D) (s : Share) → ShowsShare g b s → s ≡ share_of b s.device s.job
   share_is b s x = one_share b s (share_of b s.device s.job) x (record { at = x.at; place = x.place; runner = refl; broken = refl })
 
   -- of each guest of a calm board
-  pub share_there : (b : BoardState D) → IsCalm shows b → g < length b.devices → (s : Share) × Holds g b s
+  pub share_there : (b : BoardState D) → IsCalm shows b → g < length b.devices → (s : Share) × ShowsShare g b s
   share_there b calm there =
       let p = calm.sound.linked.places in
       let d = below_there b.devices g there in

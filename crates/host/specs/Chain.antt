@@ -2,7 +2,7 @@
 use Rattle.std.specs.Prelude.{◌≡◌, ℕ, max, List, Option, Some, None, Result, Ok, Err}
 use Rattle.mmio_transport.specs.Device.{DeviceState}
 use Rattle.guest_driver.specs.Access.{ButForMemory}
-use Rattle.guest_driver.specs.Driver.{DriverState, HasSameQueue, Offering}
+use Rattle.guest_driver.specs.Driver.{DriverState, Offering}
 use Rattle.guest_driver.specs.Reap.{Reaps}
 use Rattle.guest_driver.specs.declared.fault.DriverFault.{DriverFault}
 use Rattle.guest_driver.specs.declared.fault.DriverFault.TheVariants as driver
@@ -31,37 +31,36 @@ told_by (Err driver.OutOfRange) = Err host.OutOfRange
 told_by (Err driver.NoRoom) = Err host.NoRoom
 
 -- it reaped once from this memory
-pub record Fetched (memory : List ℕ) (d : DriverState) (told : Result Answer HostFault) (d' : DriverState)
+pub record ReapsOnce (memory : List ℕ) (d : DriverState) (told : Result Answer HostFault) (d' : DriverState)
     : Type 0 where
   pub reaped : Result (Option Reaped) DriverFault
   pub reaps : Reaps memory d reaped d'
-  pub queue : HasSameQueue d d'
   pub tells : told ≡ told_by reaped
 
 -- by what the looks came to; it reaps where a job was answered
-abbrev pub Fetches : Result Look HostFault → List ℕ → DriverState → Result Answer HostFault → DriverState → Type 0
-Fetches (Ok Nothing) memory d told d' = (told ≡ Ok (answer.Stuck stuck.NoAnswer)) × (d' ≡ d)
-Fetches (Ok Stopped) memory d told d' = (told ≡ Ok (answer.Stuck stuck.NeedsReset)) × (d' ≡ d)
-Fetches (Ok Answered) memory d told d' = Fetched memory d told d'
-Fetches (Err fault) memory d told d' = (told ≡ Err fault) × (d' ≡ d)
+abbrev pub EndsChain : Result Look HostFault → List ℕ → DriverState → Result Answer HostFault → DriverState → Type 0
+EndsChain (Ok Nothing) memory d told d' = (told ≡ Ok (answer.Stuck stuck.NoAnswer)) × (d' ≡ d)
+EndsChain (Ok Stopped) memory d told d' = (told ≡ Ok (answer.Stuck stuck.NeedsReset)) × (d' ≡ d)
+EndsChain (Ok Answered) memory d told d' = ReapsOnce memory d told d'
+EndsChain (Err fault) memory d told d' = (told ≡ Err fault) × (d' ≡ d)
 
 -- 2. The chain
 
 -- looks, and a reap after them
-pub record Served (guest times : ℕ) (d : DriverState) (s : Share) (told : Result Answer HostFault)
+pub record LooksAndReaps (guest times : ℕ) (d : DriverState) (s : Share) (told : Result Answer HostFault)
     (d' : DriverState) (s' : Share) : Type 0 where
   pub answer : Result Look HostFault
   pub looks : LooksOn guest times s answer s'
-  pub ends : Fetches answer s'.device.memory d told d'
+  pub ends : EndsChain answer s'.device.memory d told d'
 
 -- by what the offer came to; the guest is served where its chain was taken
-abbrev pub Serves : ℕ → ℕ → Result ℕ DriverFault → DriverState → Share → Result Answer HostFault
+abbrev pub FollowsOffer : ℕ → ℕ → Result ℕ DriverFault → DriverState → Share → Result Answer HostFault
     → DriverState → Share → Type 0
-Serves guest times (Ok head) d s told d' s' = Served guest times d s told d' s'
-Serves guest times (Err driver.NoRoom) d s told d' s' = (told ≡ Err host.NoRoom) × (d' ≡ d) × (s' ≡ s)
-Serves guest times (Err driver.OutOfRange) d s told d' s' = (told ≡ Err host.OutOfRange) × (d' ≡ d) × (s' ≡ s)
-Serves guest times (Err driver.NoMemory) d s told d' s' = ⊥
-Serves guest times (Err driver.BadUsed) d s told d' s' = ⊥
+FollowsOffer guest times (Ok head) d s told d' s' = LooksAndReaps guest times d s told d' s'
+FollowsOffer guest times (Err driver.NoRoom) d s told d' s' = (told ≡ Err host.NoRoom) × (d' ≡ d) × (s' ≡ s)
+FollowsOffer guest times (Err driver.OutOfRange) d s told d' s' = (told ≡ Err host.OutOfRange) × (d' ≡ d) × (s' ≡ s)
+FollowsOffer guest times (Err driver.NoMemory) d s told d' s' = ⊥
+FollowsOffer guest times (Err driver.BadUsed) d s told d' s' = ⊥
 
 pub record ChainDoes (guest : ℕ) (front : Front) (s : Share) (readable : List ℕ) (writable : ℕ)
     (told : Result Answer HostFault) (d' : DriverState) (s' : Share) : Type 0 where
@@ -70,9 +69,8 @@ pub record ChainDoes (guest : ℕ) (front : Front) (s : Share) (readable : List 
   -- the device as the offer left it
   pub lent : DeviceState
   pub offering : Offering s.device.memory front.driver readable writable offered lent.memory driver
-  pub queue : HasSameQueue front.driver driver
   pub rest : ButForMemory s.device lent
-  pub serves : Serves guest (max 1 front.places) offered driver (record s { device = lent }) told d' s'
+  pub serves : FollowsOffer guest (max 1 front.places) offered driver (record s { device = lent }) told d' s'
 
 -- 3. The front
 

@@ -34,7 +34,7 @@ pub record Share : Type 0 where
 abbrev pub share_of : {D : Type 0} → BoardState D → DeviceState → Option Job → Share
 share_of b device job = record { device = device; job = job; runner = runner_of b; broken = is_broken b }
 
-pub record Holds {D : Type 0} (guest : ℕ) (b : BoardState D) (s : Share) : Type 0 where
+pub record ShowsShare {D : Type 0} (guest : ℕ) (b : BoardState D) (s : Share) : Type 0 where
   pub at : slice_get b.devices guest ≡ Some s.device
   pub place : slice_get b.jobs guest ≡ Some s.job
   pub runner : s.runner ≡ runner_of b
@@ -55,8 +55,8 @@ pub record OnShare {D : Type 0} (shows : D → DiskState) (makes : D → DiskCal
     (P : Share → Share → Type 0) (b b' : BoardState D) : Type 0 where
   pub old : Share
   pub new : Share
-  pub before : Holds guest b old
-  pub after : Holds guest b' new
+  pub before : ShowsShare guest b old
+  pub after : ShowsShare guest b' new
   pub does : P old new
   pub touches : Touches shows guest b b'
   pub moves : Moves shows makes b b'
@@ -64,15 +64,15 @@ pub record OnShare {D : Type 0} (shows : D → DiskState) (makes : D → DiskCal
 -- 2. One look
 
 -- the job that a look takes: the one that lay there, else what the device gives
-abbrev pub Takes : Option Job → DeviceState → Option Job → DeviceState → Type 0
-Takes (Some job) d taken d' = (taken ≡ Some job) × (d' ≡ d)
-Takes None d taken d' = GivesJob d (Ok taken) d'
+abbrev pub FindsJob : Option Job → DeviceState → Option Job → DeviceState → Type 0
+FindsJob (Some job) d taken d' = (taken ≡ Some job) × (d' ≡ d)
+FindsJob None d taken d' = GivesJob d (Ok taken) d'
 
 -- a job of this guest was answered, what it needed was settled, and its reply was published
 pub record IsAnswered (guest : ℕ) (s s' : Share) : Type 0 where
   pub job : Job
   pub taken : DeviceState
-  pub takes : Takes s.job s.device (Some job) taken
+  pub takes : FindsJob s.job s.device (Some job) taken
   pub own : job.guest ≡ guest
   pub done : Done
   pub reply : done ≡ done_of job (reply_when s.broken s'.broken s.runner.cores job) done.need
@@ -86,7 +86,7 @@ pub record IsAnswered (guest : ℕ) (s s' : Share) : Type 0 where
 -- the book, which has this guest, refused a job, and the job lies in its place
 pub record IsRefused (guest : ℕ) (fault : HostFault) (s s' : Share) : Type 0 where
   pub job : Job
-  pub takes : Takes s.job s.device (Some job) s'.device
+  pub takes : FindsJob s.job s.device (Some job) s'.device
   pub known : guest < length s.runner.cores
   pub cause : job.guest ≡ guest → fault ≡ told_of (refusal_of s.runner job)
   pub rest : s' ≡ record s { device = s'.device; job = Some job }
