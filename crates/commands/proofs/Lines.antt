@@ -7,6 +7,7 @@ use Rattle.std.specs.Io.KnownBytes.{Appends, Keeps}
 use Rattle.rpmb_frame.specs.declared.config.GuestConfig.{GuestConfig}
 use Rattle.script.specs.Line.{Said, nothing, chain, reset, store}
 use Rattle.mmio_transport.specs.Device.{last_count}
+use Rattle.host.specs.Call.{ChainCall}
 use Rattle.host.specs.Calm.{is_broken}
 use Rattle.host.specs.Guest.{GuestView}
 use Rattle.host.specs.Runner.{RunnerView, cores_when, reply_when}
@@ -17,7 +18,7 @@ use Rattle.host.specs.declared.fault.HostFault.TheVariants as host
 use Rattle.host.specs.declared.front.Answer.{Answer}
 use Rattle.host.specs.declared.front.Answer.TheVariants.{Used, Stuck}
 use Rattle.host.proofs.Hosts.{all_later}
-use Rattle.commands.specs.Calling.{ChainCall, ChainFault, LineDone, LineFails, NextFails}
+use Rattle.commands.specs.Calling.{ChainFault, LineDone, LineFails, NextFails}
 use Rattle.commands.specs.Ending.{IsOfWriting, LineEnds, NextEnds}
 use Rattle.commands.specs.Fault.{fault_of}
 use Rattle.commands.specs.Running.{IsAt}

@@ -1,14 +1,12 @@
 -- The call of the host that a line makes, and what it came to.
-use Rattle.std.specs.Prelude.{◌≡◌, ℕ, false, List, [], ◌∷◌, Option, Result, Ok, Err, slice_get}
+use Rattle.std.specs.Prelude.{◌≡◌, ℕ, false, List, [], ◌∷◌, Option, Result, Ok, Err}
 use Rattle.std.specs.Io.KnownBytes.{Appends, Keeps}
 use Rattle.script.specs.Line.{Said, nothing, chain, store, reset}
 use Rattle.disk.specs.Disk.{DiskCall, DiskState}
+use Rattle.host.specs.Call.{ChainCall, ResetCall, StoreCall}
 use Rattle.host.specs.Calm.{IsCalm, is_broken}
-use Rattle.host.specs.Host.{HostAnswers, HostChains, HostResets, HostResetsGuest, HostState}
-use Rattle.host.specs.Host.{HostStores, seen}
+use Rattle.host.specs.Host.{HostState}
 use Rattle.board.specs.Moving.{Moves}
-use Rattle.host.specs.Reasons.{HostExplains, HostKeeps}
-use Rattle.host.specs.Spares.{Spares, most_at}
 use Rattle.host.specs.declared.fault.HostFault.{HostFault}
 use Rattle.host.specs.declared.front.Answer.{Answer}
 use Rattle.commands.specs.Ending.{IsOfWriting, KeepsUnless}
@@ -16,36 +14,7 @@ use Rattle.commands.specs.Fault.{fault_of}
 use Rattle.commands.specs.Serving.{answer_line}
 use Rattle.commands.specs.declared.fault.Fault.{Fault}
 
--- 1. The calls
-
--- what the host's call for a chain does, and what it says
-pub record ChainCall {D : Type 0} (h : HostState D) (guest : ℕ) (readable : List ℕ)
-    (writable : ℕ) (told : Result Answer HostFault) (h' : HostState D) : Type 0 where
-  -- where all guests are ready
-  pub answer : HostAnswers (is_broken h.board) (is_broken h'.board) (seen h) guest readable writable told (seen h')
-  -- where this one is, or is stuck
-  pub own : HostChains (is_broken h.board) (is_broken h'.board) (seen h) guest readable writable told (seen h')
-  -- whatever its rings hold
-  pub reason : HostExplains (seen h) guest readable writable told (seen h')
-  -- and what it leaves of the others
-  pub others : Spares guest (most_at (slice_get h.fronts guest)) h.board h'.board
-
--- the same of a store
-pub record StoreCall {D : Type 0} (h : HostState D) (guest at : ℕ) (bytes : List ℕ)
-    (told : Result (Unit {0}) HostFault) (h' : HostState D) : Type 0 where
-  pub own : HostStores (seen h) guest at bytes told (seen h')
-  pub guests : HostKeeps (seen h) (seen h')
-  pub same : is_broken h'.board ≡ is_broken h.board
-
--- and of a reset
-pub record ResetCall {D : Type 0} (h : HostState D) (guest : ℕ)
-    (told : Result (Unit {0}) HostFault) (h' : HostState D) : Type 0 where
-  pub own : HostResetsGuest (seen h) guest told (seen h')
-  pub ready : HostResets (seen h) guest told (seen h')
-  pub guests : HostKeeps (seen h) (seen h')
-  pub same : is_broken h'.board ≡ is_broken h.board
-
--- 2. A line that is done
+-- 1. A line that is done
 
 -- A chain printed the line of the answer that the host gave.
 pub record ChainDone {D : Type 0} (h : HostState D) (guest : ℕ) (readable : List ℕ)
@@ -61,7 +30,7 @@ LineDone (chain guest readable writable) h start now h' = ChainDone h guest read
 LineDone (store guest at bytes) h start now h' = StoreCall h guest at bytes (Ok tt) h' × Keeps start now
 LineDone (reset guest) h start now h' = ResetCall h guest (Ok tt) h' × Keeps start now
 
--- 3. A line that ended the run
+-- 2. A line that ended the run
 
 -- the host's fault ended it, or the answer wasn't written
 abbrev pub ChainFault : Result Answer HostFault → Fault → Type 0
@@ -86,7 +55,7 @@ abbrev pub NextFails : {D : Type 0} → List Said → HostState D → Fault → 
 NextFails [] h f h' = ⊥
 NextFails (line ∷ rest) h f h' = LineFails line h f h'
 
--- 4. What a line does
+-- 3. What a line does
 
 -- it is done; or it ended the run, and printed nothing unless standard output took no more
 abbrev pub LineEnded : {D : Type 0} → Said → HostState D → Option (List ℕ) → Result (Unit {0}) Fault → Option (List ℕ)

@@ -1,5 +1,5 @@
 -- Steps that leave what a waiting guest shows.
-use Rattle.std.proofs.Common.{◌≡◌, inl, inr, ℕ, zero, suc, ◌+◌, Bool, true, false, List, [], ◌∷◌, Option, Some, None, length, map, refl, ap, ap₂, sym, subst, ◌∙◌, arith}
+use Rattle.std.proofs.Common.{◌≡◌, ◌<◌, inl, inr, ℕ, zero, suc, ◌+◌, Bool, true, false, List, [], ◌∷◌, Option, Some, None, length, map, refl, ap, ap₂, sym, subst, ◌∙◌, arith}
 use Rattle.std.specs.Prelude.{if◌then◌else◌, ◌==◌, slice_get, slice_set}
 use Rattle.std.proofs.lemmas.Option.{slice_get_cases, slice_get_within}
 use Rattle.disk.specs.Disk.{DiskState}
@@ -66,6 +66,12 @@ pub also_there : {X Y : Type 0} (xs : List X) (ys : List Y) (k : ℕ) (x : X) �
 also_there xs ys k x at many = elim (slice_get_cases ys k).1 [
   | inl there ↦ (there.0, there.2)
   | inr past ↦ (let beyond = past.0 in let below = slice_get_within xs k x at in absurd (omega (arith, beyond, below, many)))
+]
+
+pub below_there : {X : Type 0} (xs : List X) (k : ℕ) → k < length xs → (x : X) × (slice_get xs k ≡ Some x)
+below_there xs k inside = elim (slice_get_cases xs k).1 [
+  | inl there ↦ (there.0, there.2)
+  | inr past ↦ (let beyond = past.0 in absurd (omega (arith, beyond, inside)))
 ]
 
 pub same_stays : {D : Type 0} (start b b' : BoardState D) → Same b b' → Stays start b → Stays start b'

@@ -3,10 +3,11 @@ use Rattle.std.specs.Prelude.{IfErr}
 use Rattle.std.proofs.KnownBytes.{Keeps-refl}
 use Rattle.std.specs.Io.KnownBytes.{Appends}
 use Rattle.script.specs.Line.{chain}
+use Rattle.host.specs.Call.{ChainCall}
 use Rattle.host.specs.Host.{HostState}
 use Rattle.host.specs.declared.front.Answer.{Answer}
 use Rattle.host.specs.declared.front.Answer.TheVariants.{Stuck, Used}
-use Rattle.commands.specs.Calling.{ChainCall, LineEnded}
+use Rattle.commands.specs.Calling.{LineEnded}
 use Rattle.commands.specs.Ending.{IsOfWriting, KeepsUnless}
 use Rattle.commands.specs.Serving.{answer_line}
 use Rattle.commands.specs.Transcript.{used_line}
@@ -26,11 +27,10 @@ returns-in-Ok-Used g c =
     let r = c.write_reply in
     record {
       did = written c.args.host.now c.chain.new.self c.args.guest c.args.readable.now c.args.writable (Used c.in-Ok-Used.reply) start now r.result
-          (subst (λ x. ChainCall c.args.host.now c.args.guest c.args.readable.now c.args.writable (Ok x) c.chain.new.self) c.in-Ok-Used.field-0-is
-          (record { answer = c.in-Ok-Used.ensures.answer; own = c.in-Ok-Used.ensures.guest; reason = c.in-Ok-Used.ensures.reasons; others = c.chain.ensures.others }))
+          (subst (λ x. ChainCall c.args.host.now c.args.guest c.args.readable.now c.args.writable (Ok x) c.chain.new.self) c.in-Ok-Used.field-0-is c.in-Ok-Used.ensures.call)
           (subst (λ x. OnOk r.result (Appends start now (used_line c.args.guest x))) c.as_slice.ensures.value r.ensures.printed) r.ensures.ends r.ensures.silent;
       moves = c.chain.ensures.moves;
-      whole = c.chain.ensures.keeps;
+      whole = c.chain.ensures.call.others.whole;
       calm = λ before. c.chain.ensures.calm;
     }
 
@@ -39,11 +39,10 @@ returns-in-Ok-Stuck g c =
     let r = c.write_stuck in
     record {
       did = written c.args.host.now c.chain.new.self c.args.guest c.args.readable.now c.args.writable (Stuck c.in-Ok-Stuck.stuck) (g.W.Write.contents c.args.out.now) (g.W.Write.contents r.new.out) r.result
-          (subst (λ x. ChainCall c.args.host.now c.args.guest c.args.readable.now c.args.writable (Ok x) c.chain.new.self) c.in-Ok-Stuck.field-0-is
-          (record { answer = c.in-Ok-Stuck.ensures.answer; own = c.in-Ok-Stuck.ensures.guest; reason = c.in-Ok-Stuck.ensures.reasons; others = c.chain.ensures.others }))
+          (subst (λ x. ChainCall c.args.host.now c.args.guest c.args.readable.now c.args.writable (Ok x) c.chain.new.self) c.in-Ok-Stuck.field-0-is c.in-Ok-Stuck.ensures.call)
           r.ensures.printed r.ensures.ends r.ensures.silent;
       moves = c.chain.ensures.moves;
-      whole = c.chain.ensures.keeps;
+      whole = c.chain.ensures.call.others.whole;
       calm = λ before. c.chain.ensures.calm;
     }
 
@@ -52,10 +51,10 @@ returns-in-Err g c =
     let e = c.in-Err.ensures in
     record {
       did = (
-        record { told = Err c.in-Err.fault; call = record { answer = e.answer; own = e.guest; reason = e.reasons; others = c.chain.ensures.others }; cause = c.of.ensures },
+        record { told = Err c.in-Err.fault; call = e.call; cause = c.of.ensures },
         λ not. Keeps-refl (g.W.Write.contents c.args.out.now),
       );
       moves = c.chain.ensures.moves;
-      whole = c.chain.ensures.keeps;
+      whole = c.chain.ensures.call.others.whole;
       calm = λ before. c.chain.ensures.calm;
     }

@@ -1,4 +1,4 @@
-use Rattle.std.proofs.Common.{Ok, Err, refl, subst, sym}
+use Rattle.std.proofs.Common.{Ok, Err, refl, subst, sym, ◌∙◌}
 use Rattle.std.proofs.KnownBytes.{Keeps-refl}
 use Rattle.script.specs.Line.{chain, said, store}
 use Rattle.script.specs.declared.line.Line.{Line}
@@ -27,7 +27,7 @@ returns-in-Ok g c =
     let s = c.store.ensures in
     subst (λ (l : Line). LineRuns g.D.Disk.state g.D.Disk.makes (said l) h start (Ok tt) start c.store.new.self) (sym c.in-Store.is)
     (subst (λ b. LineRuns g.D.Disk.state g.D.Disk.makes (store c.in-Store.guest c.in-Store.at b) h start (Ok tt) start c.store.new.self) c.as_slice-in-Store.ensures.value
-    (record { did = (record { own = c.in-Ok.ensures.guest; guests = s.own; same = s.same }, Keeps-refl start); moves = s.moves; whole = s.keeps; calm = λ before. s.calm }))
+    (record { did = (c.in-Ok.ensures.call, Keeps-refl start); moves = s.moves; whole = λ whole. sym s.call.same ∙ whole; calm = λ before. s.calm }))
 
 pub returns-in-Store : goal.returns-in-Store
 returns-in-Store g c =
@@ -36,7 +36,7 @@ returns-in-Store g c =
     let s = c.store.ensures in
     subst (λ (l : Line). LineRuns g.D.Disk.state g.D.Disk.makes (said l) h start (Err c.of.result) start c.store.new.self) (sym c.in-Store.is)
     (subst (λ b. LineRuns g.D.Disk.state g.D.Disk.makes (store c.in-Store.guest c.in-Store.at b) h start (Err c.of.result) start c.store.new.self) c.as_slice-in-Store.ensures.value
-    (record { did = ((c.in-Err.fault, record { own = c.in-Err.ensures.guest; guests = s.own; same = s.same }, c.of.ensures), λ not. Keeps-refl start); moves = s.moves; whole = s.keeps; calm = λ before. s.calm }))
+    (record { did = ((c.in-Err.fault, c.in-Err.ensures.call, c.of.ensures), λ not. Keeps-refl start); moves = s.moves; whole = λ whole. sym s.call.same ∙ whole; calm = λ before. s.calm }))
 
 pub returns-in-Ok-reset : goal.returns-in-Ok-reset
 returns-in-Ok-reset g c =
@@ -45,7 +45,7 @@ returns-in-Ok-reset g c =
     let s = c.reset.ensures in
     let e = c.in-Ok-reset.ensures in
     subst (λ (l : Line). LineRuns g.D.Disk.state g.D.Disk.makes (said l) h start (Ok tt) start c.reset.new.self) (sym c.in-Reset.is)
-    (record { did = (record { own = e.guest; ready = e.ready; guests = s.own; same = s.same }, Keeps-refl start); moves = s.moves; whole = s.keeps; calm = λ before. s.calm })
+    (record { did = (e.call, Keeps-refl start); moves = s.moves; whole = λ whole. sym s.call.same ∙ whole; calm = λ before. s.calm })
 
 pub returns : goal.returns
 returns g c =
@@ -54,4 +54,4 @@ returns g c =
     let s = c.reset.ensures in
     let e = c.in-Err-reset.ensures in
     subst (λ (l : Line). LineRuns g.D.Disk.state g.D.Disk.makes (said l) h start (Err c.of-in-Err-reset.result) start c.reset.new.self) (sym c.in-Reset.is)
-    (record { did = ((c.in-Err-reset.fault, record { own = e.guest; ready = e.ready; guests = s.own; same = s.same }, c.of-in-Err-reset.ensures), λ not. Keeps-refl start); moves = s.moves; whole = s.keeps; calm = λ before. s.calm })
+    (record { did = ((c.in-Err-reset.fault, e.call, c.of-in-Err-reset.ensures), λ not. Keeps-refl start); moves = s.moves; whole = λ whole. sym s.call.same ∙ whole; calm = λ before. s.calm })
