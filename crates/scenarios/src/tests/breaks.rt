@@ -3,7 +3,7 @@
 use crate::tests::asked::Asked;
 use crate::tests::image::fresh_store;
 use crate::tests::limits::{hold_64, is_busy};
-use crate::tests::lines::{Line, Told, fails, play, play_all};
+use crate::tests::lines::{Group, Line, fails, play, play_all};
 use crate::tests::scene::{Scene, check, scene_of};
 use disk::CutDisk;
 use flusher::{Marks, Store};
@@ -49,7 +49,7 @@ static BROKEN: [Line; 22] = [
     Line::Counter(0, 1),
     Line::GiveThis {
         guest: 0,
-        intent: Told {
+        intent: Group {
             requests: 1,
             sequence: 2,
             counter: 1,

@@ -1,7 +1,7 @@
 //! What the store is given, and when replies leave.
 
 use crate::tests::asked::Asked;
-use crate::tests::lines::{Line, Told, play_all};
+use crate::tests::lines::{Group, Line, play_all};
 use crate::tests::scene::LIFE;
 use std::test::Fail;
 
@@ -13,7 +13,7 @@ static REPLIES: [Line; 22] = [
     Line::Ask(1, Asked::Key(0x11)),
     Line::GiveThis {
         guest: 1,
-        intent: Told {
+        intent: Group {
             requests: 1,
             sequence: 1,
             counter: 0,
@@ -49,7 +49,7 @@ static REPLIES: [Line; 22] = [
     Line::NoIntent(0),
     Line::GiveThis {
         guest: 1,
-        intent: Told {
+        intent: Group {
             requests: 1,
             sequence: 2,
             counter: 1,
@@ -91,7 +91,7 @@ static WHOLE: [&[Line]; 3] = [
         Line::Ask(0, Asked::Key(0x11)),
         Line::GiveThis {
             guest: 0,
-            intent: Told {
+            intent: Group {
                 requests: 1,
                 sequence: 1,
                 counter: 0,
@@ -105,7 +105,7 @@ static WHOLE: [&[Line]; 3] = [
         Line::Ask(0, Asked::Blocks(496, 16)),
         Line::GiveThis {
             guest: 0,
-            intent: Told {
+            intent: Group {
                 requests: 1,
                 sequence: 2,
                 counter: 1,
@@ -121,7 +121,7 @@ static WHOLE: [&[Line]; 3] = [
         Line::Ask(0, Asked::Key(0x11)),
         Line::GiveThis {
             guest: 0,
-            intent: Told {
+            intent: Group {
                 requests: 1,
                 sequence: 1,
                 counter: 0,
@@ -135,7 +135,7 @@ static WHOLE: [&[Line]; 3] = [
         Line::Ask(0, Asked::Blocks(511, 1)),
         Line::GiveThis {
             guest: 0,
-            intent: Told {
+            intent: Group {
                 requests: 1,
                 sequence: 2,
                 counter: 1,
@@ -152,7 +152,7 @@ static WHOLE: [&[Line]; 3] = [
         Line::Ask(0, Asked::Blocks(511, 2)),
         Line::GiveThis {
             guest: 0,
-            intent: Told {
+            intent: Group {
                 requests: 1,
                 sequence: 1,
                 counter: 0,
@@ -184,7 +184,7 @@ static GROUPED: [Line; 13] = [
     Line::Ask(0, Asked::Write(0xa4, 4)),
     Line::GiveThis {
         guest: 0,
-        intent: Told {
+        intent: Group {
             requests: 4,
             sequence: 4,
             counter: 0,
@@ -198,7 +198,7 @@ static GROUPED: [Line; 13] = [
     Line::Mark(0, 4),
     Line::GiveThis {
         guest: 0,
-        intent: Told {
+        intent: Group {
             requests: 2,
             sequence: 6,
             counter: 4,

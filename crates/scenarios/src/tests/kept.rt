@@ -2,7 +2,7 @@
 
 use crate::tests::asked::Asked;
 use crate::tests::image::{fresh_store, opened};
-use crate::tests::lines::{Line, Told, play};
+use crate::tests::lines::{Group, Line, play};
 use crate::tests::scene::{KEY, board_of, check, scene_of};
 use disk::{CutDisk, Filler};
 use flusher::Store;
@@ -21,7 +21,7 @@ static KEPT: [Line; 9] = [
     Line::NoIntent(0),
     Line::GiveThis {
         guest: 1,
-        intent: Told {
+        intent: Group {
             requests: 3,
             sequence: 3,
             counter: 0,

@@ -15,7 +15,7 @@ use std::test::Fail;
 
 /// What an intent has.
 #[derive(Clone, Copy, PartialEq)]
-pub struct Told {
+pub struct Group {
     pub requests: usize,
     /// The sequence of the last of them.
     pub sequence: u64,
@@ -49,7 +49,7 @@ pub enum Line {
     /// It is this one.
     GiveThis {
         guest: u16,
-        intent: Told,
+        intent: Group,
     },
     /// No intent of the guest waits.
     NoIntent(u16),
@@ -186,11 +186,11 @@ fn write_all(
     Ok(true)
 }
 
-fn told(intent: &Intent) -> Told {
+fn group_of(intent: &Intent) -> Group {
     let requests = intent.entries();
     let entry = intent.entry(0);
     let blocks = entry.blocks();
-    Told {
+    Group {
         requests,
         sequence: intent.last_sequence(),
         counter: intent.first_counter(),
@@ -202,17 +202,17 @@ fn told(intent: &Intent) -> Told {
 }
 
 /// Whether it is the guest's intent, under the key, and this one where one is told.
-fn is_intent(intent: &Intent, guest: u16, wanted: Option<Told>) -> bool {
+fn is_intent(intent: &Intent, guest: u16, wanted: Option<Group>) -> bool {
     match wanted {
         Some(wanted) => {
-            intent.guest() == guest && intent.key() == &KEY && told(intent) == wanted
+            intent.guest() == guest && intent.key() == &KEY && group_of(intent) == wanted
         }
         None => true,
     }
 }
 
 /// The guest's next intent, where it is the one that is told.
-fn taken(scene: &mut Scene, guest: u16, wanted: Option<Told>) -> Option<Intent> {
+fn taken(scene: &mut Scene, guest: u16, wanted: Option<Group>) -> Option<Intent> {
     match scene.book.take(&mut scene.shares, guest) {
         Ok(Some(intent)) if is_intent(&intent, guest, wanted) => Some(intent),
         _ => None,
@@ -232,7 +232,7 @@ fn hand_over(
     scene: &mut Scene,
     store: &mut Store<CutDisk>,
     guest: u16,
-    wanted: Option<Told>,
+    wanted: Option<Group>,
 ) -> bool {
     match taken(scene, guest, wanted) {
         Some(intent) => gives(store, intent),

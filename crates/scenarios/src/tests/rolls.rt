@@ -3,7 +3,7 @@
 
 use crate::tests::asked::Asked;
 use crate::tests::limits::given_back;
-use crate::tests::lines::{Line, Told, has_no_reply, play_all};
+use crate::tests::lines::{Group, Line, has_no_reply, play_all};
 use crate::tests::receipts::is_of_nonce;
 use crate::tests::scene::{
     LIFE, Scene, accepted, check, get_write_counter, job_of, nonce_of, scene_of,
@@ -173,7 +173,7 @@ static KEPT: [Line; 43] = [
     Line::Ask(0, Asked::Write(0xa1, 7)),
     Line::GiveThis {
         guest: 0,
-        intent: Told {
+        intent: Group {
             requests: 2,
             sequence: 9,
             counter: 7,
@@ -233,7 +233,7 @@ static KEPT: [Line; 43] = [
     Line::NoReply(1),
     Line::GiveThis {
         guest: 1,
-        intent: Told {
+        intent: Group {
             requests: 1,
             sequence: 1,
             counter: 0,
@@ -327,7 +327,7 @@ static BROKEN: [&[Line]; 2] = [
         Line::Holds(1, 0xa5),
         Line::GiveThis {
             guest: 1,
-            intent: Told {
+            intent: Group {
                 requests: 1,
                 sequence: 2,
                 counter: 1,
