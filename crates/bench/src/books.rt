@@ -92,7 +92,7 @@ pub fn mixed_reply(before: u32, done: &Done) -> u32 {
 }
 
 fn submit(parts: &mut Parts<CountedDisk<MemDisk>>, alloc: Global, job: Job) -> Result<(), Stop> {
-    match parts.tallies.get_mut(usize::from(job.guest())) {
+    match parts.tallies.get_mut(usize::from(job.ticket().guest)) {
         Some(tally) => match parts.book.submit(alloc, tally, job) {
             Ok(_) => Ok(()),
             Err(_) => Err("a job that is refused"),

@@ -49,10 +49,10 @@ impl Book {
     fn refusal(&self, tally: &Tally, job: &Job) -> Option<Refused>
         ensures { result ≡ refusal self.now tally.now job.now }
     {
-        let Some(guest) = self.guests.get(usize::from(job.guest())) else {
+        let Some(guest) = self.guests.get(usize::from(job.ticket().guest)) else {
             return Some(Refused::Foreign);
         };
-        if tally.guest() != job.guest() || tally.count() != guest.submits() {
+        if tally.guest() != job.ticket().guest || tally.count() != guest.submits() {
             return Some(Refused::Foreign);
         }
         if guest.held_len() == HELD {
@@ -151,7 +151,7 @@ impl Book {
         ensures failure { IfOk result (λ p. is_failure p.0 ≡ (state self.old).broken) }
     {
         let (rooms, left) = rooms.or(self.history.spare(alloc));
-        let guest = &self.guests[usize::from(job.guest())];
+        let guest = &self.guests[usize::from(job.ticket().guest)];
         let plan = guest.plan(alloc, job, self.broken, check, rooms, &mut self.reply)?;
         Ok((plan, left))
     }
@@ -184,7 +184,7 @@ impl Book {
         self.told = self.told.then(&Did::Submit(&job));
         let receipt = Receipt {
             life: self.life,
-            guest: job.guest(),
+            guest: job.ticket().guest,
             number: self.turns,
         };
         let writable = job.writable();

@@ -163,7 +163,7 @@ impl GuestCore {
         apply(&mut self.partition, &request, is_accepted);
         let entry = entry_if(&request, is_accepted, blocks);
         let outcome = Outcome::of(&request, code, self.partition.counter());
-        self.last = keep(self.last, job.session(), outcome);
+        self.last = keep(self.last, job.ticket().session, outcome);
         let len = self
             .partition
             .open_reply(&request, code, outcome_in(self.last), out);

@@ -119,12 +119,13 @@ fn job_of(alloc: Global, asked: Asked) -> Result<Job, Trouble> {
 /// Whether a job that comes back is the one that was handed in.
 fn is_of(job: &Job, asked: Asked) -> bool {
     let frames = asked.frames();
+    let ticket = job.ticket();
     job.request() == asked.request(&frames)
         && job.writable() == 512
-        && job.guest() == GUEST
-        && job.session() == 1
-        && job.id() == 5
-        && job.places() == 3
+        && ticket.guest == GUEST
+        && ticket.session == 1
+        && ticket.id == 5
+        && ticket.places == 3
 }
 
 /// The receipt of a job; where memory was refused, the job comes back and the book is as it was, and the same job

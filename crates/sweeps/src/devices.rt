@@ -104,12 +104,13 @@ fn popped_again<P: Popping>(device: &mut P) -> Result<Option<Job>, Trouble> {
 /// Whether the job is the n-th, counted from 0, and asks for that.
 fn is_of(job: &Job, n: u64, asked: Asked) -> bool {
     let frames = asked.frames();
+    let ticket = job.ticket();
     job.request() == asked.request(&frames)
         && job.writable() == 512
-        && job.number() == n.saturating_add(1)
-        && job.session() == 1
-        && job.guest() == 0
-        && job.readiness() == 1
+        && ticket.number == n.saturating_add(1)
+        && ticket.session == 1
+        && ticket.guest == 0
+        && ticket.readiness == 1
 }
 
 fn pop_one<P: Popping>(

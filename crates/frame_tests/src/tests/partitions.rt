@@ -21,9 +21,15 @@ use std::test::Fail;
 use steps::{Row, Scenario, Step, first_bytes, frames_of, is_reply, take_steps};
 use without_key::WITHOUT_KEY;
 
-/// The state that steps left: the key, the write counter, the sequence, and the first byte of the
-/// blocks at 0, 7, 22, 511 and past the last one.
-type Left = (Option<[u8; 32]>, u32, u64, [u8; 5]);
+/// The state that steps left.
+#[derive(Clone, Copy, PartialEq)]
+struct Left {
+    key: Option<[u8; 32]>,
+    counter: u32,
+    sequence: u64,
+    /// The first byte of the blocks at 0, 7, 22, 511 and past the last one.
+    firsts: [u8; 5],
+}
 
 const KEYED: Option<[u8; 32]> = Some([0x11; 32]);
 
@@ -33,12 +39,12 @@ fn left(partition: &Partition) -> Left {
         let block = partition.block(*address);
         firsts[i] = block[0];
     }
-    (
-        partition.key(),
-        partition.counter(),
-        partition.sequence(),
+    Left {
+        key: partition.key(),
+        counter: partition.counter(),
+        sequence: partition.sequence(),
         firsts,
-    )
+    }
 }
 
 /// Whether a partition of so many units, and its copy, have this state.
@@ -47,29 +53,105 @@ fn is_left(alloc: Global, partition: &Partition, capacity: u8, state: &Left) -> 
     Ok(left(partition) == *state && left(&copy) == *state && copy.capacity() == capacity)
 }
 
-/// The units of a partition, the limits of its guest, and the state that a scenario leaves.
-type Leaving = (u8, (u8, u8), Left);
+/// What a scenario leaves.
+struct Leaving {
+    /// In units of 128 KiB.
+    capacity: u8,
+    /// How many blocks the guest may write at once, and how many it may read.
+    counts: (u8, u8),
+    left: Left,
+}
 
 /// Whether a partition and its copy have this state after the steps.
 fn leaves(alloc: Global, scenario: &Scenario, told: &Leaving) -> Result<bool, Fail> {
-    let (capacity, counts, state) = told;
-    let limits = limits_of(alloc, *counts)?;
-    let mut partition = Partition::new(alloc, *capacity)?;
+    let limits = limits_of(alloc, told.counts)?;
+    let mut partition = Partition::new(alloc, told.capacity)?;
     take_steps(&mut partition, limits, scenario)?;
-    is_left(alloc, &partition, *capacity, state)
+    is_left(alloc, &partition, told.capacity, &told.left)
 }
 
-/// The units of a partition, the limits of its guest, and the state that the scenario of the same place
-/// leaves.
+/// What the scenario of the same place leaves.
 static STATES: [Leaving; 8] = [
-    (1, (16, 16), (None, 0, 0, [0; 5])),
-    (1, (16, 16), (KEYED, 0, 1, [0; 5])),
-    (1, (16, 16), (KEYED, 2, 3, [0, 0x30, 0x3f, 0xa5, 0])),
-    (1, (16, 16), (KEYED, 1, 2, [0xa5, 0, 0, 0, 0])),
-    (1, (2, 1), (KEYED, 1, 2, [0, 0, 0, 0xa6, 0])),
-    (1, (16, 16), (KEYED, 2, 3, [0; 5])),
-    (2, (16, 16), (KEYED, 1, 2, [0; 5])),
-    (128, (16, 16), (KEYED, 1, 2, [0; 5])),
+    Leaving {
+        capacity: 1,
+        counts: (16, 16),
+        left: Left {
+            key: None,
+            counter: 0,
+            sequence: 0,
+            firsts: [0; 5],
+        },
+    },
+    Leaving {
+        capacity: 1,
+        counts: (16, 16),
+        left: Left {
+            key: KEYED,
+            counter: 0,
+            sequence: 1,
+            firsts: [0; 5],
+        },
+    },
+    Leaving {
+        capacity: 1,
+        counts: (16, 16),
+        left: Left {
+            key: KEYED,
+            counter: 2,
+            sequence: 3,
+            firsts: [0, 0x30, 0x3f, 0xa5, 0],
+        },
+    },
+    Leaving {
+        capacity: 1,
+        counts: (16, 16),
+        left: Left {
+            key: KEYED,
+            counter: 1,
+            sequence: 2,
+            firsts: [0xa5, 0, 0, 0, 0],
+        },
+    },
+    Leaving {
+        capacity: 1,
+        counts: (2, 1),
+        left: Left {
+            key: KEYED,
+            counter: 1,
+            sequence: 2,
+            firsts: [0, 0, 0, 0xa6, 0],
+        },
+    },
+    Leaving {
+        capacity: 1,
+        counts: (16, 16),
+        left: Left {
+            key: KEYED,
+            counter: 2,
+            sequence: 3,
+            firsts: [0; 5],
+        },
+    },
+    Leaving {
+        capacity: 2,
+        counts: (16, 16),
+        left: Left {
+            key: KEYED,
+            counter: 1,
+            sequence: 2,
+            firsts: [0; 5],
+        },
+    },
+    Leaving {
+        capacity: 128,
+        counts: (16, 16),
+        left: Left {
+            key: KEYED,
+            counter: 1,
+            sequence: 2,
+            firsts: [0; 5],
+        },
+    },
 ];
 
 /// A static can't refer to the scenarios, which are statics.
@@ -102,8 +184,24 @@ fn copy_at_the_last_counter(rt: HostRuntime) -> Result<(), Fail> {
     let mut partition = near.copy(alloc)?;
     take_steps(&mut partition, limits_of(alloc, (16, 16))?, &LAST_COUNTER)?;
     let end = partition.copy(alloc)?;
-    assert!(rt; left(&near) == (KEYED, 0xFFFF_FFFE, 0xFFFF_FFFF, [0; 5]));
-    assert!(rt; left(&end) == (KEYED, 0xFFFF_FFFF, 0x1_0000_0000, [0; 5]));
+    assert!(rt;
+        left(&near)
+            == Left {
+                key: KEYED,
+                counter: 0xFFFF_FFFE,
+                sequence: 0xFFFF_FFFF,
+                firsts: [0; 5]
+            }
+    );
+    assert!(rt;
+        left(&end)
+            == Left {
+                key: KEYED,
+                counter: 0xFFFF_FFFF,
+                sequence: 0x1_0000_0000,
+                firsts: [0; 5]
+            }
+    );
     assert!(rt; end.block(0x31) == [0x74; 256] && end.block(65_535) == [0; 256]);
     Ok(())
 }

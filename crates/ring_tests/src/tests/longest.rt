@@ -150,44 +150,58 @@ fn put_packed(memory: &mut Memory, write: u16) -> bool {
     describe(memory, 4080, (4096, 16384, 9, AVAIL + INDIRECT))
 }
 
-// The flags of the table's entries but the last, and the last one of a split and of a packed ring;
-// what a pop of the one answers, and of the other.
-type Longest = (u16, Descriptor, Descriptor, Answer, Answer);
+// A chain whose table has 1,024 entries.
+struct Longest {
+    // Of each entry but the last.
+    flags: u16,
+    // The last entry of a split and of a packed ring.
+    split: Descriptor,
+    packed: Descriptor,
+    // What a pop of the one answers, and of the other.
+    of_split: Answer,
+    of_packed: Answer,
+}
 
 static ALL_READ: [Longest; 5] = [
     // To be written, which is more than any reply has; and to be read, which is more than any
     // request has.
-    (
-        WRITE,
-        (59207, 9, WRITE, 0),
-        (59207, 9, 0, WRITE),
-        Answer::Chain(0, 1, 255, 9216),
-        Answer::Chain(9, 256, 255, 9216),
-    ),
-    (
-        0,
-        (59207, 9, 0, 0),
-        (59207, 9, 0, 0),
-        Answer::Chain(0, 1, 8705, 0),
-        Answer::Chain(9, 256, 8705, 0),
-    ),
+    Longest {
+        flags: WRITE,
+        split: (59207, 9, WRITE, 0),
+        packed: (59207, 9, 0, WRITE),
+        of_split: Answer::Chain(0, 1, 255, 9216),
+        of_packed: Answer::Chain(9, 256, 255, 9216),
+    },
+    Longest {
+        flags: 0,
+        split: (59207, 9, 0, 0),
+        packed: (59207, 9, 0, 0),
+        of_split: Answer::Chain(0, 1, 8705, 0),
+        of_packed: Answer::Chain(9, 256, 8705, 0),
+    },
     // Refused at the last entry alone.
-    (
-        WRITE,
-        (65536, 1, WRITE, 0),
-        (65536, 1, 0, WRITE),
-        BAD_RANGE,
-        BAD_RANGE,
-    ),
-    (WRITE, (59207, 9, 0, 0), (59207, 9, 0, 0), ORDER, ORDER),
+    Longest {
+        flags: WRITE,
+        split: (65536, 1, WRITE, 0),
+        packed: (65536, 1, 0, WRITE),
+        of_split: BAD_RANGE,
+        of_packed: BAD_RANGE,
+    },
+    Longest {
+        flags: WRITE,
+        split: (59207, 9, 0, 0),
+        packed: (59207, 9, 0, 0),
+        of_split: ORDER,
+        of_packed: ORDER,
+    },
     // The last entry goes on at the first one; in a packed table NEXT doesn't count.
-    (
-        WRITE,
-        (59207, 9, WRITE + NEXT, 0),
-        (59207, 9, 0, WRITE + NEXT),
-        TOO_LONG,
-        Answer::Chain(9, 256, 255, 9216),
-    ),
+    Longest {
+        flags: WRITE,
+        split: (59207, 9, WRITE + NEXT, 0),
+        packed: (59207, 9, 0, WRITE + NEXT),
+        of_split: TOO_LONG,
+        of_packed: Answer::Chain(9, 256, 255, 9216),
+    },
 ];
 
 // The first pop gives this, and reads all descriptors: as many as the queue has places, and 1,024.
@@ -208,17 +222,17 @@ fn reads_all<R: Queue>(
 }
 
 fn reads_all_of_split(alloc: Global, row: &Longest) -> Result<(), Fail> {
-    let mut memory = longest(alloc, row.0)?;
+    let mut memory = longest(alloc, row.flags)?;
     check(set_word(&mut memory, 20482, 1), "the index")?;
     let ring = split_rings::ring_of(alloc, BEHIND_THE_TABLE, 256)?;
-    reads_all(alloc, memory, ring, row.1, row.3)
+    reads_all(alloc, memory, ring, row.split, row.of_split)
 }
 
 fn reads_all_of_packed(alloc: Global, row: &Longest) -> Result<(), Fail> {
     let mut memory = memory_of(alloc, 65536)?;
-    check(put_packed(&mut memory, row.0), "the longest chain")?;
+    check(put_packed(&mut memory, row.flags), "the longest chain")?;
     let ring = packed_rings::ring_at(alloc, BEHIND_THE_TABLE, 256)?;
-    reads_all(alloc, memory, ring, row.2, row.4)
+    reads_all(alloc, memory, ring, row.packed, row.of_packed)
 }
 
 #[test]

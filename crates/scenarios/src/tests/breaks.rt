@@ -3,7 +3,7 @@
 use crate::tests::asked::Asked;
 use crate::tests::image::fresh_store;
 use crate::tests::limits::{hold_64, is_busy};
-use crate::tests::lines::{Group, Line, fails, play, play_all};
+use crate::tests::lines::{Line, OF_A_WRITE, fails, play, play_all};
 use crate::tests::scene::{Scene, check, scene_of};
 use disk::CutDisk;
 use flusher::{Marks, Store};
@@ -49,15 +49,7 @@ static BROKEN: [Line; 22] = [
     Line::Counter(0, 1),
     Line::GiveThis {
         guest: 0,
-        intent: Group {
-            requests: 1,
-            sequence: 2,
-            counter: 1,
-            address: 0,
-            length: 256,
-            first: Some(0xa5),
-            last: Some(0xa5),
-        },
+        intent: OF_A_WRITE,
     },
 ];
 

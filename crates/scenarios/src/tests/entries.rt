@@ -1,7 +1,7 @@
 //! What the store is given, and when replies leave.
 
 use crate::tests::asked::Asked;
-use crate::tests::lines::{Group, Line, play_all};
+use crate::tests::lines::{Group, Line, OF_A_KEY, OF_A_WRITE, play_all};
 use crate::tests::scene::LIFE;
 use std::test::Fail;
 
@@ -13,15 +13,7 @@ static REPLIES: [Line; 22] = [
     Line::Ask(1, Asked::Key(0x11)),
     Line::GiveThis {
         guest: 1,
-        intent: Group {
-            requests: 1,
-            sequence: 1,
-            counter: 0,
-            address: 0,
-            length: 0,
-            first: None,
-            last: None,
-        },
+        intent: OF_A_KEY,
     },
     // The write comes while the key is on its way.
     Line::Ask(1, Asked::Write(0xa5, 0)),
@@ -49,15 +41,7 @@ static REPLIES: [Line; 22] = [
     Line::NoIntent(0),
     Line::GiveThis {
         guest: 1,
-        intent: Group {
-            requests: 1,
-            sequence: 2,
-            counter: 1,
-            address: 0,
-            length: 256,
-            first: Some(0xa5),
-            last: Some(0xa5),
-        },
+        intent: OF_A_WRITE,
     },
     Line::NoIntent(1),
     Line::NoReply(1),
@@ -91,28 +75,18 @@ static WHOLE: [&[Line]; 3] = [
         Line::Ask(0, Asked::Key(0x11)),
         Line::GiveThis {
             guest: 0,
-            intent: Group {
-                requests: 1,
-                sequence: 1,
-                counter: 0,
-                address: 0,
-                length: 0,
-                first: None,
-                last: None,
-            },
+            intent: OF_A_KEY,
         },
         Line::Run,
         Line::Ask(0, Asked::Blocks(496, 16)),
         Line::GiveThis {
             guest: 0,
             intent: Group {
-                requests: 1,
-                sequence: 2,
-                counter: 1,
                 address: 496,
                 length: 4_096,
                 first: Some(1),
                 last: Some(16),
+                ..OF_A_WRITE
             },
         },
         Line::NoIntent(0),
@@ -121,28 +95,17 @@ static WHOLE: [&[Line]; 3] = [
         Line::Ask(0, Asked::Key(0x11)),
         Line::GiveThis {
             guest: 0,
-            intent: Group {
-                requests: 1,
-                sequence: 1,
-                counter: 0,
-                address: 0,
-                length: 0,
-                first: None,
-                last: None,
-            },
+            intent: OF_A_KEY,
         },
         Line::Run,
         Line::Ask(0, Asked::Blocks(511, 1)),
         Line::GiveThis {
             guest: 0,
             intent: Group {
-                requests: 1,
-                sequence: 2,
-                counter: 1,
                 address: 511,
-                length: 256,
                 first: Some(1),
                 last: Some(1),
+                ..OF_A_WRITE
             },
         },
         Line::NoIntent(0),
@@ -152,15 +115,7 @@ static WHOLE: [&[Line]; 3] = [
         Line::Ask(0, Asked::Blocks(511, 2)),
         Line::GiveThis {
             guest: 0,
-            intent: Group {
-                requests: 1,
-                sequence: 1,
-                counter: 0,
-                address: 0,
-                length: 0,
-                first: None,
-                last: None,
-            },
+            intent: OF_A_KEY,
         },
         Line::NoIntent(0),
     ],
@@ -187,11 +142,7 @@ static GROUPED: [Line; 13] = [
         intent: Group {
             requests: 4,
             sequence: 4,
-            counter: 0,
-            address: 0,
-            length: 0,
-            first: None,
-            last: None,
+            ..OF_A_KEY
         },
     },
     Line::Run,
@@ -202,10 +153,9 @@ static GROUPED: [Line; 13] = [
             requests: 2,
             sequence: 6,
             counter: 4,
-            address: 0,
-            length: 256,
             first: Some(0xa3),
             last: Some(0xa3),
+            ..OF_A_WRITE
         },
     },
     Line::NoIntent(0),

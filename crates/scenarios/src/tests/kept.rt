@@ -2,7 +2,7 @@
 
 use crate::tests::asked::Asked;
 use crate::tests::image::{fresh_store, opened};
-use crate::tests::lines::{Group, Line, play};
+use crate::tests::lines::{Group, Line, OF_A_KEY, play};
 use crate::tests::scene::{KEY, board_of, check, scene_of};
 use disk::{CutDisk, Filler};
 use flusher::Store;
@@ -24,11 +24,7 @@ static KEPT: [Line; 9] = [
         intent: Group {
             requests: 3,
             sequence: 3,
-            counter: 0,
-            address: 0,
-            length: 0,
-            first: None,
-            last: None,
+            ..OF_A_KEY
         },
     },
     Line::Run,

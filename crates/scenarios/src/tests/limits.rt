@@ -14,10 +14,11 @@ use std::test::Fail;
 
 /// What a submitter offered a second time says of itself.
 fn is_the_same(job: &Job, guest: u16, frames: &[[u8; 512]]) -> bool {
-    job.guest() == guest
-        && job.session() == 1
-        && job.id() == 5
-        && job.places() == 3
+    let ticket = job.ticket();
+    ticket.guest == guest
+        && ticket.session == 1
+        && ticket.id == 5
+        && ticket.places == 3
         && job.writable() == 512
         && job.request() == frames.as_flattened()
 }

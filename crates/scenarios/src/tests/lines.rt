@@ -28,6 +28,28 @@ pub struct Group {
     pub last: Option<u8>,
 }
 
+/// What the intent of a key has that is programmed first.
+pub const OF_A_KEY: Group = Group {
+    requests: 1,
+    sequence: 1,
+    counter: 0,
+    address: 0,
+    length: 0,
+    first: None,
+    last: None,
+};
+
+/// What the intent has of the first write, of a block of bytes 0xa5.
+pub const OF_A_WRITE: Group = Group {
+    requests: 1,
+    sequence: 2,
+    counter: 1,
+    address: 0,
+    length: 256,
+    first: Some(0xa5),
+    last: Some(0xa5),
+};
+
 /// A line of a scene.
 #[derive(Clone, Copy)]
 pub enum Line {
@@ -273,7 +295,8 @@ fn break_off(scene: &mut Scene) -> bool {
 
 /// Whether it answers a request of this guest and session, with the id and the need that are told.
 fn is_answer(done: &Done, guest: u16, session: u64, need: u64) -> bool {
-    (done.guest(), done.session(), done.id(), done.need()) == (guest, session, 5, need)
+    let ticket = done.ticket();
+    (ticket.guest, ticket.session, ticket.id, done.need()) == (guest, session, 5, need)
 }
 
 fn replies(scene: &mut Scene, guest: u16, session: u64, need: u64, tail: &[u8; 12]) -> bool {

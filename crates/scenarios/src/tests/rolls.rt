@@ -3,7 +3,7 @@
 
 use crate::tests::asked::Asked;
 use crate::tests::limits::given_back;
-use crate::tests::lines::{Group, Line, has_no_reply, play_all};
+use crate::tests::lines::{Group, Line, OF_A_KEY, OF_A_WRITE, has_no_reply, play_all};
 use crate::tests::receipts::is_of_nonce;
 use crate::tests::scene::{
     LIFE, Scene, accepted, check, get_write_counter, job_of, nonce_of, scene_of,
@@ -177,10 +177,9 @@ static KEPT: [Line; 43] = [
             requests: 2,
             sequence: 9,
             counter: 7,
-            address: 0,
-            length: 256,
             first: Some(0xa0),
             last: Some(0xa0),
+            ..OF_A_WRITE
         },
     },
     Line::Run,
@@ -233,15 +232,7 @@ static KEPT: [Line; 43] = [
     Line::NoReply(1),
     Line::GiveThis {
         guest: 1,
-        intent: Group {
-            requests: 1,
-            sequence: 1,
-            counter: 0,
-            address: 0,
-            length: 0,
-            first: None,
-            last: None,
-        },
+        intent: OF_A_KEY,
     },
     Line::Run,
     Line::Settle,
@@ -327,15 +318,7 @@ static BROKEN: [&[Line]; 2] = [
         Line::Holds(1, 0xa5),
         Line::GiveThis {
             guest: 1,
-            intent: Group {
-                requests: 1,
-                sequence: 2,
-                counter: 1,
-                address: 0,
-                length: 256,
-                first: Some(0xa5),
-                last: Some(0xa5),
-            },
+            intent: OF_A_WRITE,
         },
         Line::NoIntent(1),
         Line::Turns(32_798),

@@ -62,7 +62,7 @@ pub fn scene_of(alloc: Global, guests: usize) -> Result<Scene, Fail> {
 impl Scene {
     /// Offers the book a job, with the tally of its guest.
     pub fn offer(&mut self, alloc: Global, job: Job) -> Result<Receipt, (Job, Refused)> {
-        match self.tallies.get_mut(usize::from(job.guest())) {
+        match self.tallies.get_mut(usize::from(job.ticket().guest)) {
             Some(tally) => self.book.submit(alloc, tally, job),
             None => Err((job, Refused::Foreign)),
         }
