@@ -25,12 +25,7 @@ pub fn write_chain<W: Write>(
     ensures { OnOk result (Appends (W.contents out.old) (W.contents out.new)
         (chain_text guest readable.now writable ++ 10 ∷ [])) }
 {
-    let text = match shown_bytes(alloc, readable) {
-        Ok(text) => text,
-        Err(_) => return Err(ClientFault::NoMemory),
-    };
-    match writeln!(out, "chain {guest} {text} {writable}") {
-        Ok(()) => Ok(()),
-        Err(_) => Err(ClientFault::FileFault),
-    }
+    let text = shown_bytes(alloc, readable)?;
+    writeln!(out, "chain {guest} {text} {writable}")?;
+    Ok(())
 }

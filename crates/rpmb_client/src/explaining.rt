@@ -141,10 +141,8 @@ fn stuff_text(bytes: &[u8; 512]) -> &'static str
 fn write_place<W: Write>(guest: u64, place: usize, n: usize, out: &mut W) -> Result<(), ClientFault>
     ensures { OnOk result (Appends (W.contents out.old) (W.contents out.new) (place_text guest place n)) }
 {
-    match write!(out, "guest {guest}, frame {place} of {n}: ") {
-        Ok(()) => Ok(()),
-        Err(_) => Err(ClientFault::FileFault),
-    }
+    write!(out, "guest {guest}, frame {place} of {n}: ")?;
+    Ok(())
 }
 
 /// Writes the type and the result of a frame.
@@ -155,16 +153,10 @@ fn write_front<W: Write>(alloc: Global, bytes: &[u8; 512], out: &mut W) -> Resul
     let frame = Frame::from_bytes(bytes);
     let kind = kind_text(frame.req_resp());
     let code = result_text(frame.result());
-    let Ok(digits) = two_bytes(alloc, bytes, 510) else {
-        return Err(ClientFault::NoMemory);
-    };
-    let Ok(code_digits) = two_bytes(alloc, bytes, 508) else {
-        return Err(ClientFault::NoMemory);
-    };
-    match write!(out, "{kind} 0x{digits}, result {code} 0x{code_digits}") {
-        Ok(()) => Ok(()),
-        Err(_) => Err(ClientFault::FileFault),
-    }
+    let digits = two_bytes(alloc, bytes, 510)?;
+    let code_digits = two_bytes(alloc, bytes, 508)?;
+    write!(out, "{kind} 0x{digits}, result {code} 0x{code_digits}")?;
+    Ok(())
 }
 
 /// Writes the write counter of a frame whose type carries one.
@@ -192,10 +184,8 @@ fn write_fields<W: Write>(bytes: &[u8; 512], out: &mut W) -> Result<(), ClientFa
     let frame = Frame::from_bytes(bytes);
     let address = frame.address();
     let blocks = frame.block_count();
-    match write!(out, ", address {address}, blocks {blocks}") {
-        Ok(()) => Ok(()),
-        Err(_) => Err(ClientFault::FileFault),
-    }
+    write!(out, ", address {address}, blocks {blocks}")?;
+    Ok(())
 }
 
 /// Writes what is to be judged of frame i, and its block.
@@ -212,19 +202,13 @@ fn write_checks<W: Write>(
     ensures { OnOk result (Appends (W.contents out.old) (W.contents out.new) (checks_text i frames.now key nonce)) }
 {
     let bytes = &frames[i];
-    let Ok(nonce) = nonce_text(alloc, nonce, bytes) else {
-        return Err(ClientFault::NoMemory);
-    };
-    let Ok(digits) = data_digits(alloc, bytes) else {
-        return Err(ClientFault::NoMemory);
-    };
+    let nonce = nonce_text(alloc, nonce, bytes)?;
+    let digits = data_digits(alloc, bytes)?;
     let mac = mac_text(i + 1 == frames.len(), key, frames, bytes);
     let data = data_name(bytes);
     let stuff = stuff_text(bytes);
-    match write!(out, ", nonce {nonce}, MAC {mac}{data}{digits}{stuff}") {
-        Ok(()) => Ok(()),
-        Err(_) => Err(ClientFault::FileFault),
-    }
+    write!(out, ", nonce {nonce}, MAC {mac}{data}{digits}{stuff}")?;
+    Ok(())
 }
 
 /// Writes the line of frame i, counted from 0.
@@ -241,26 +225,11 @@ fn write_frame<W: Write>(
     ensures { OnOk result (Appends (W.contents out.old) (W.contents out.new)
         (frame_line guest i frames.now key nonce)) }
 {
-    match write_place(guest, i + 1, frames.len(), out) {
-        Ok(()) => {}
-        Err(fault) => return Err(fault),
-    }
-    match write_front(alloc, &frames[i], out) {
-        Ok(()) => {}
-        Err(fault) => return Err(fault),
-    }
-    match write_counter(&frames[i], out) {
-        Ok(()) => {}
-        Err(fault) => return Err(fault),
-    }
-    match write_fields(&frames[i], out) {
-        Ok(()) => {}
-        Err(fault) => return Err(fault),
-    }
-    match write_checks(alloc, i, frames, key, nonce, out) {
-        Ok(()) => {}
-        Err(fault) => return Err(fault),
-    }
+    write_place(guest, i + 1, frames.len(), out)?;
+    write_front(alloc, &frames[i], out)?;
+    write_counter(&frames[i], out)?;
+    write_fields(&frames[i], out)?;
+    write_checks(alloc, i, frames, key, nonce, out)?;
     write_text(&Frame::from_bytes(&frames[i]).block_data(), out)
 }
 
@@ -286,10 +255,8 @@ fn write_frames<W: Write>(
 fn write_no_frames<W: Write>(guest: u64, count: usize, out: &mut W) -> Result<(), ClientFault>
     ensures { OnOk result (Appends (W.contents out.old) (W.contents out.new) (no_frames_line guest count)) }
 {
-    match writeln!(out, "guest {guest}, {count} bytes are no frames") {
-        Ok(()) => Ok(()),
-        Err(_) => Err(ClientFault::FileFault),
-    }
+    writeln!(out, "guest {guest}, {count} bytes are no frames")?;
+    Ok(())
 }
 
 /// Writes what a reply says: a line for each frame, with every field by its name, the result in words, and

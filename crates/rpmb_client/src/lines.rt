@@ -160,10 +160,7 @@ pub fn write_all<W: Write>(
             address: writer.address + from as u16,
             ..writer
         };
-        match write_one(alloc, part, &blocks[from..to], out) {
-            Ok(()) => {}
-            Err(fault) => return Err(fault),
-        }
+        write_one(alloc, part, &blocks[from..to], out)?;
     }
     Ok(())
 }

@@ -46,16 +46,10 @@ fn write_quoted<W: Write>(bytes: &[u8], out: &mut W) -> Result<(), ClientFault>
     ensures { OnOk result (Appends (W.contents out.old) (W.contents out.new)
         (codes ", text \"" ++ (bytes.now ++ (34 ∷ 10 ∷ [])))) }
 {
-    if out.write_all(b", text \"").is_err() {
-        return Err(ClientFault::FileFault);
-    }
-    if out.write_all(bytes).is_err() {
-        return Err(ClientFault::FileFault);
-    }
-    match out.write_all(b"\"\n") {
-        Ok(()) => Ok(()),
-        Err(_) => Err(ClientFault::FileFault),
-    }
+    out.write_all(b", text \"")?;
+    out.write_all(bytes)?;
+    out.write_all(b"\"\n")?;
+    Ok(())
 }
 
 /// Writes the text of a block that is one, and ends the line.
@@ -67,8 +61,6 @@ pub(crate) fn write_text<W: Write>(block: &[u8; 256], out: &mut W) -> Result<(),
     if is_text(block) {
         return write_quoted(&block[..printable_length(block)], out);
     }
-    match out.write_all(b"\n") {
-        Ok(()) => Ok(()),
-        Err(_) => Err(ClientFault::FileFault),
-    }
+    out.write_all(b"\n")?;
+    Ok(())
 }

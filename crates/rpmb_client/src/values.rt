@@ -76,10 +76,7 @@ pub fn array_of<const N: usize>(alloc: Global, digits: &[u8]) -> Result<[u8; N],
     ensures ok { IfOk result (λ array. array_said N digits.now ≡ Some array) }
     ensures err { IfErr result (IsWhyNot N digits.now) }
 {
-    let bytes = match bytes_of(alloc, digits) {
-        Ok(bytes) => bytes,
-        Err(fault) => return Err(fault),
-    };
+    let bytes = bytes_of(alloc, digits)?;
     match sized(bytes.as_slice()) {
         Some(array) => Ok(array),
         None => Err(ValueFault::BadLength(bytes.len())),
