@@ -96,10 +96,7 @@ fn write_blocks<W: Write>(guest: u16, partition: &Partition, out: &mut W) -> Res
     let count = 512 * u32::from(partition.capacity());
     for address in 0..count {
         let address = address as u16;
-        match write_block(guest, address, &partition.block(address), out) {
-            Ok(()) => {}
-            Err(fault) => return Err(fault),
-        }
+        write_block(guest, address, &partition.block(address), out)?;
     }
     Ok(())
 }
@@ -127,10 +124,7 @@ fn write_guests<W: Write>(partitions: &[Partition], out: &mut W) -> Result<(), F
     ensures only { (fault : Fault) → result ≡ Err fault → fault ≡ Fault.FileFault }
 {
     for guest in 0..partitions.len() {
-        match write_guest(guest as u16, &partitions[guest], out) {
-            Ok(()) => {}
-            Err(fault) => return Err(fault),
-        }
+        write_guest(guest as u16, &partitions[guest], out)?;
     }
     Ok(())
 }
@@ -143,10 +137,7 @@ fn write_listing<W: Write>(partitions: &[Partition], out: &mut W) -> Result<(), 
     ensures whole { OnOk result (All IsWhole partitions.now) }
     ensures only { (fault : Fault) → result ≡ Err fault → fault ≡ Fault.FileFault }
 {
-    match write_guests(partitions, out) {
-        Ok(()) => {}
-        Err(fault) => return Err(fault),
-    }
+    write_guests(partitions, out)?;
     match out.flush() {
         Ok(()) => Ok(()),
         Err(_) => Err(Fault::FileFault),

@@ -1,10 +1,10 @@
 -- The reasons of a fault, one part of a serve after another.
-use Rattle.std.proofs.Common.{◌≡◌, refl, ap, sym, subst, ◌∙◌, ℕ, List, Option, Some, None, Ok, Err}
+use Rattle.std.proofs.Common.{◌≡◌, refl, ap, sym, subst, ◌∙◌, ℕ, List, Option, Some, Ok, Err}
 use Rattle.std.specs.Prelude.{slice_get, is_some}
 use Rattle.disk.specs.Disk.{DiskCall, DiskState}
 use Rattle.mmio_transport.specs.Job.{Job}
 use Rattle.mmio_transport.specs.declared.done.Published.TheVariants.{Wrote, Dropped}
-use Rattle.board.specs.State.{BoardState, HasJob, in_place}
+use Rattle.board.specs.State.{BoardState, in_place}
 use Rattle.board.specs.Steps.{Answer, Does}
 use Rattle.board.specs.declared.step.Seen.TheVariants as seen
 use Rattle.board.specs.declared.step.Step.{Step}

@@ -1,5 +1,5 @@
 -- What a serve tells at its end.
-use Rattle.std.proofs.Common.{◌≡◌, ◌≢◌, refl, ap, sym, ◌∙◌, ℕ, Bool, true, false, Option, Some, None}
+use Rattle.std.proofs.Common.{◌≡◌, ◌≢◌, refl, ap, sym, ◌∙◌, ℕ, Option, Some, None}
 use Rattle.std.specs.Prelude.{slice_get, if◌then◌else◌, is_some}
 use Rattle.flusher.proofs.Guests.{get_set_same}
 use Rattle.mmio_transport.specs.Job.{Done}

@@ -1,5 +1,5 @@
 -- What steps make of a guest's job.
-use Rattle.std.proofs.Common.{◌≡◌, refl, ap, sym, subst, ◌∙◌, inl, inr, ℕ, zero, suc, Bool, true, false, List, [], ◌∷◌, Option, Some, None, Ok, length, arith}
+use Rattle.std.proofs.Common.{◌≡◌, refl, ap, sym, ◌∙◌, inl, inr, ℕ, zero, suc, Bool, true, false, List, [], ◌∷◌, Option, Some, None, Ok, length, arith}
 use Rattle.std.specs.Prelude.{slice_get}
 use Rattle.disk.specs.Disk.{DiskCall, DiskState}
 use Rattle.flusher.specs.Store.{is_free}

@@ -1,6 +1,5 @@
 -- What a pop and a publication of a device leave of its memory, by what was noted before.
-use Rattle.std.proofs.Common.{◌≡◌, ◌<◌, inl, inr, ◌∙◌, sym, ℕ, List, [], ◌∷◌, ◌++◌, Option, Some, None, Result, length, arith}
-use Rattle.std.specs.Prelude.{slice_get}
+use Rattle.std.proofs.Common.{◌<◌, inl, inr, ◌∙◌, sym, ℕ, List, [], ◌∷◌, ◌++◌, Option, Some, Result, length, arith}
 use Rattle.std.proofs.lemmas.Bool.{cases_lt}
 use Rattle.std.proofs.lemmas.Option.{slice_get_past}
 use Rattle.chains.specs.declared.range.Range.{Range as Part}

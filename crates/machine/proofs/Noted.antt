@@ -1,11 +1,11 @@
 -- Ranges that are noted.
-use Rattle.std.proofs.Common.{◌≡◌, ◌≤◌, ◌<◌, ◌⊎◌, ◌+◌, inl, inr, refl, ap, sym, subst, ◌∙◌, ℕ, zero, suc, Bool, true, false, List, [], ◌∷◌, ◌++◌, length, min, max, arith}
-use Rattle.std.specs.Prelude.{◌&&◌, nat_le, slice_set, slice_get, slice_index, Some}
+use Rattle.std.proofs.Common.{◌≡◌, ◌≤◌, ◌<◌, ◌+◌, inl, inr, sym, subst, ℕ, zero, suc, true, List, [], ◌∷◌, ◌++◌, length, min, max, arith}
+use Rattle.std.specs.Prelude.{◌&&◌, nat_le, slice_set, slice_get, Some}
 use Rattle.std.specs.List.{list_any}
 use Rattle.std.proofs.lemmas.Bool.Decides.{nat_tests}
 use Rattle.std.proofs.lemmas.List.{length_push}
 use Rattle.rpmb_book.proofs.IsolationLemmas.{by_test}
-use Rattle.machine.specs.Written.{Grow, IsCovered, IsIn, IsInSome, end_of}
+use Rattle.machine.specs.Written.{Grow, IsCovered, IsIn, end_of}
 use Rattle.machine.specs.declared.ranges.Range.{Range}
 
 -- a range that lies in one of the others is covered

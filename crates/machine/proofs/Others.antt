@@ -1,14 +1,13 @@
 -- What the steps of one guest leave of the others.
-use Rattle.std.proofs.Common.{◌≡◌, ◌≢◌, refl, ap, sym, subst, ◌∙◌, inl, inr, ℕ, Bool, true, false, List, Option, Some, None}
-use Rattle.std.specs.Prelude.{slice_get, slice_set}
+use Rattle.std.proofs.Common.{◌≡◌, ◌≢◌, refl, sym, subst, ◌∙◌, inl, inr, ℕ, Bool, true, false, List, Option, Some, None}
+use Rattle.std.specs.Prelude.{slice_get}
 use Rattle.disk.specs.Disk.{DiskCall, DiskState}
-use Rattle.flusher.specs.Store.{is_free}
 use Rattle.flusher.proofs.Guests.{get_set_other}
 use Rattle.intent_slots.specs.Payload.{Intent}
 use Rattle.mmio_transport.specs.Device.{DeviceState}
 use Rattle.mmio_transport.specs.Job.{Done, Job}
 use Rattle.rpmb_book.specs.Job.{Tally}
-use Rattle.board.specs.State.{BoardState, Fault, Marks, Report, in_place, put}
+use Rattle.board.specs.State.{BoardState, Fault, Marks, Report, put}
 use Rattle.board.specs.Steps.{AdvancesUnder, Answer, CollectsInto, Does, GivesWhere, PopsInto, PublishesFrom, SettlesBy, SubmitsFrom, TakesInto}
 use Rattle.board.specs.declared.step.Step.{Step}
 use Rattle.board.specs.declared.step.Step.TheVariants as step

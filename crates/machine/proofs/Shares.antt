@@ -1,11 +1,10 @@
 -- What serves a guest, one part after another.
-use Rattle.std.proofs.Common.{◌≡◌, ℕ}
+use Rattle.std.proofs.Common.{ℕ}
 use Rattle.disk.specs.Disk.{DiskCall, DiskState, Effect}
 use Rattle.board.specs.Board.{IsSound}
 use Rattle.board.specs.State.{BoardState}
 use Rattle.board.specs.Steps.{Answer, Does}
 use Rattle.board.specs.declared.step.Step.{Step}
-use Rattle.board.specs.Moving.{Moves}
 use Rattle.board.proofs.Moving.{KeepsPrefixes, LinksBy, moves_none, moves_twice, sound_moved, step_moves}
 use Rattle.machine.specs.Serving.{IsShare, Runs, Serves, Still, Then}
 

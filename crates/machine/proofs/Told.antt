@@ -1,7 +1,7 @@
 -- What a serve tells of its ranges, and leaves of a machine.
-use Rattle.std.proofs.Common.{◌≡◌, ◌≤◌, ◌<◌, ◌+◌, ◌∙◌, inl, inr, refl, ap, sym, subst, ℕ, zero, suc, List, [], ◌∷◌, Option, Some, None, length, map, min, arith}
+use Rattle.std.proofs.Common.{◌≡◌, ◌≤◌, ◌<◌, ◌+◌, ◌∙◌, inl, inr, refl, ap, sym, subst, ℕ, zero, suc, List, [], ◌∷◌, Option, Some, None, length, map, arith}
 use Rattle.std.specs.Prelude.{slice_get, take}
-use Rattle.disk.specs.OutboxDisk.{OutboxMakes, OutboxState, outbox_state}
+use Rattle.disk.specs.OutboxDisk.{OutboxMakes, outbox_state}
 use Rattle.board.specs.Board.{IsSound}
 use Rattle.board.proofs.Moving.{moves_none}
 use Rattle.machine.specs.Machine.{IsServed, MachineState, NoRoom, NoSuchGuest, OfBoard, TellsFault, TellsRanges}
@@ -9,7 +9,7 @@ use Rattle.machine.specs.Reasons.{HasReason}
 use Rattle.machine.specs.declared.fault.MachineFault.{MachineFault}
 use Rattle.machine.specs.declared.fault.MachineFault.TheVariants.{NoGuest, OutOfRange}
 use Rattle.machine.specs.Serving.{Serves, Still}
-use Rattle.machine.specs.Written.{IsIn, IsInSome, KeepsUntold, StaysOutside, StaysUntold, Writes, end_of, memory_in, told_at}
+use Rattle.machine.specs.Written.{IsIn, IsInSome, KeepsUntold, StaysOutside, StaysUntold, memory_in, told_at}
 use Rattle.machine.specs.declared.ranges.Range.{Range}
 use Rattle.machine.specs.declared.settings.Window.{Window}
 use Rattle.machine.proofs.Others.{others_stay}

@@ -1,11 +1,10 @@
 -- What was noted, and what stays outside of it, one part of a serve after another.
-use Rattle.std.proofs.Common.{◌≡◌, ◌≤◌, refl, ap, sym, subst, ◌∙◌, inl, inr, ℕ, List, [], ◌∷◌, Option, Some, None, length, arith}
+use Rattle.std.proofs.Common.{◌≡◌, refl, ap, sym, subst, ◌∙◌, ℕ, List, Option, Some, None}
 use Rattle.std.specs.Prelude.{slice_get, slice_set}
-use Rattle.disk.specs.Disk.{DiskCall, DiskState}
 use Rattle.flusher.proofs.Guests.{get_set_same}
 use Rattle.mmio_transport.specs.Device.{DeviceState}
 use Rattle.mmio_transport.specs.Job.{Done, Job}
-use Rattle.board.specs.State.{BoardState, in_place}
+use Rattle.board.specs.State.{BoardState}
 use Rattle.board.specs.Steps.{Answer, PopsInto, PublishesFrom}
 use Rattle.machine.specs.Written.{Grow, IsDeviceNoted, IsDoneNoted, IsQueueNoted, IsReplyNoted, Notes, StaysOutside, Writes, memory_in, memory_of}
 use Rattle.machine.specs.declared.ranges.Range.{Range}

@@ -1,5 +1,5 @@
 -- What a serve tells at its end.
-use Rattle.std.specs.Prelude.{◌≡◌, ℕ, Bool, true, false, nat_lt, Option, Some, None}
+use Rattle.std.specs.Prelude.{◌≡◌, ℕ, Bool, true, false, Option, Some, None}
 use Rattle.disk.specs.OutboxDisk.{OutboxState}
 use Rattle.flusher.specs.Store.{next_call}
 use Rattle.flusher.specs.declared.progress.Call.{Call}
@@ -7,7 +7,6 @@ use Rattle.flusher.specs.declared.progress.Call.TheVariants as call
 use Rattle.board.specs.State.{BoardState}
 use Rattle.machine.specs.Stepping.{HasNoReply}
 use Rattle.machine.specs.declared.fault.MachineFault.{MachineFault}
-use Rattle.machine.specs.declared.fault.MachineFault.TheVariants.{Busy}
 use Rattle.machine.specs.declared.leaving.Left.{Left}
 use Rattle.machine.specs.declared.leaving.Left.TheVariants as left
 use Rattle.machine.specs.declared.offering.Offered.{Offered}

@@ -4,7 +4,6 @@ use Rattle.disk.specs.Disk.{DiskCall, DiskState}
 use Rattle.board.specs.Board.{IsSound}
 use Rattle.board.specs.State.{BoardState, HasNoJob}
 use Rattle.board.specs.Steps.{Answer, Does}
-use Rattle.board.specs.declared.step.Act.{Act}
 use Rattle.board.specs.declared.step.Step.{Step}
 use Rattle.board.specs.declared.step.Step.TheVariants as step
 use Rattle.board.specs.Moving.{Moves}

@@ -1,13 +1,13 @@
 -- Which addresses of a guest's window a call wrote.
 use Rattle.std.specs.Prelude.{◌≡◌, ◌⊎◌, ◌<◌, ◌≤◌, ℕ, ◌+◌, Bool, ◌&&◌, nat_le, List, [], ◌∷◌, min}
-use Rattle.std.specs.Prelude.{Option, Some, None, length, map, slice_get}
+use Rattle.std.specs.Prelude.{Option, Some, None, length, slice_get}
 use Rattle.std.specs.List.{list_any}
 use Rattle.chains.specs.declared.range.Range.{Range as Part}
 use Rattle.mmio_transport.specs.Device.{DeviceState}
 use Rattle.mmio_transport.specs.Job.{Done}
 use Rattle.mmio_transport.specs.Queue.{written_by}
 use Rattle.mmio_transport.specs.Written.{IsSound, parts_of, range_in}
-use Rattle.board.specs.State.{BoardState, in_place}
+use Rattle.board.specs.State.{BoardState}
 use Rattle.machine.specs.declared.ranges.Range.{Range}
 use Rattle.machine.specs.declared.settings.Window.{Window}
 

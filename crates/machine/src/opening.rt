@@ -57,10 +57,7 @@ fn board_of(alloc: Global, windows: &[Window]) -> Result<BoardConfig, MachineFau
     if !are_placed(windows) {
         return Err(MachineFault::BadBoard);
     }
-    let guests = match configs(alloc, windows) {
-        Ok(guests) => guests,
-        Err(fault) => return Err(fault),
-    };
+    let guests = configs(alloc, windows)?;
     match BoardConfig::new(guests) {
         Ok(board) => Ok(board),
         Err(_) => Err(MachineFault::BadBoard),
@@ -88,10 +85,7 @@ pub fn format_image(alloc: Global, windows: &[Window], image: &mut [u8]) -> Resu
     ensures unchanged { OnErr result (image.new ≡ image.old) }
     ensures bad { result ≡ Err MachineFault.BadBoard → ¬ IsMonitored windows.now }
 {
-    let board = match board_of(alloc, windows) {
-        Ok(board) => board,
-        Err(fault) => return Err(fault),
-    };
+    let board = board_of(alloc, windows)?;
     if image.len() as u64 != Layout::of(&board).length() {
         return Err(MachineFault::BadLength);
     }
@@ -148,10 +142,7 @@ fn board_over(
     ensures bad { ¬ (result ≡ Err MachineFault.BadBoard) }
     ensures length { ¬ (result ≡ Err MachineFault.BadLength) }
 {
-    let disk = match disk_over(alloc, image) {
-        Ok(disk) => disk,
-        Err(fault) => return Err(fault),
-    };
+    let disk = disk_over(alloc, image)?;
     match Board::open(alloc, disk, LIFE, config) {
         Ok(board) => Ok(board),
         Err((_, fault)) => Err(MachineFault::of_opening(fault)),
@@ -192,21 +183,12 @@ impl Machine {
         ensures length { result ≡ Err MachineFault.BadLength
             → ¬ (length image.now ≡ length_of windows.now) }
     {
-        let config = match board_of(alloc, windows) {
-            Ok(config) => config,
-            Err(fault) => return Err(fault),
-        };
+        let config = board_of(alloc, windows)?;
         if image.len() as u64 != Layout::of(&config).length() {
             return Err(MachineFault::BadLength);
         }
-        let (kept, held, written) = match beside(alloc, windows) {
-            Ok(made) => made,
-            Err(fault) => return Err(fault),
-        };
-        let mut board = match board_over(alloc, &config, image) {
-            Ok(board) => board,
-            Err(fault) => return Err(fault),
-        };
+        let (kept, held, written) = beside(alloc, windows)?;
+        let mut board = board_over(alloc, &config, image)?;
         board.tell(Told::Opened);
         Ok(Machine::over(board, kept, held, written))
     }

@@ -58,14 +58,8 @@ pub extern "C" fn rpmb_format(alloc: Global, guests: &[RpmbGuest], image: &mut [
 fn opened(alloc: Global, guests: &[RpmbGuest], image: &[u8]) -> Result<Box<Machine>, MachineFault>
     ensures { IfOk result (λ machine. IsOpened (map window_of guests.now) image.now machine.value) }
 {
-    let windows = match windows_of(alloc, guests) {
-        Ok(windows) => windows,
-        Err(fault) => return Err(fault),
-    };
-    let machine = match Machine::open(alloc, &windows, image) {
-        Ok(machine) => machine,
-        Err(fault) => return Err(fault),
-    };
+    let windows = windows_of(alloc, guests)?;
+    let machine = Machine::open(alloc, &windows, image)?;
     match Box::new(alloc, machine) {
         Ok(machine) => Ok(machine),
         Err(_) => Err(MachineFault::NoMemory),

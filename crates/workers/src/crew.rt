@@ -187,10 +187,7 @@ fn start_workers<'s, E, L: Ledger + Send + Sync, G: Gate + Sync, R: Wait + Sync>
         let Some(seat) = hall.seat(number) else {
             return Err(HostFault::Foreign);
         };
-        let handle = match start_worker(scope, rt, alloc, seat, gate, worker) {
-            Ok(handle) => handle,
-            Err(fault) => return Err(fault),
-        };
+        let handle = start_worker(scope, rt, alloc, seat, gate, worker)?;
         if started.push(handle).is_err() {
             return Err(HostFault::NoMemory);
         }
@@ -215,10 +212,7 @@ fn start_drivers<'s, E, L: Ledger + Send + Sync, R: Wait + Sync>(
         let Some(seat) = hall.seat(i) else {
             return Err(HostFault::Foreign);
         };
-        let handle = match start_driver(scope, rt, alloc, seat, &scripts[i]) {
-            Ok(handle) => handle,
-            Err(fault) => return Err(fault),
-        };
+        let handle = start_driver(scope, rt, alloc, seat, &scripts[i])?;
         if started.push(handle).is_err() {
             return Err(HostFault::NoMemory);
         }
@@ -254,18 +248,9 @@ fn start_all<
         ≡ (slice_index_or s.drivers.items i d).promise.0) }
     ensures flusher { IfOk result (λ s. s.flusher.promise.0.value ≡ flusher) }
 {
-    let workers = match start_workers(scope, rt, alloc, hall, gate, workers) {
-        Ok(workers) => workers,
-        Err(fault) => return Err(fault),
-    };
-    let drivers = match start_drivers(scope, rt, alloc, hall, scripts) {
-        Ok(drivers) => drivers,
-        Err(fault) => return Err(fault),
-    };
-    let flusher = match start_flusher(scope, rt, hall, gate, flusher) {
-        Ok(flusher) => flusher,
-        Err(fault) => return Err(fault),
-    };
+    let workers = start_workers(scope, rt, alloc, hall, gate, workers)?;
+    let drivers = start_drivers(scope, rt, alloc, hall, scripts)?;
+    let flusher = start_flusher(scope, rt, hall, gate, flusher)?;
     Ok(Started {
         workers,
         drivers,

@@ -1,4 +1,4 @@
-use Rattle.std.proofs.Common.{◌≡◌, ◌∙◌, ap, sym}
+use Rattle.std.proofs.Common.{◌∙◌, ap, sym}
 use Rattle.std.specs.Prelude.{option_copied}
 use Rattle.machine.proofs.Lower.{covered_more}
 use Rattle.machine.proofs.Within.{done_noted, notes_twice}

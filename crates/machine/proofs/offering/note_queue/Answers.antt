@@ -1,4 +1,4 @@
-use Rattle.std.proofs.Common.{◌≡◌, ◌<◌, ◌∙◌, ap, sym, subst, Option, List}
+use Rattle.std.proofs.Common.{◌<◌, ◌∙◌, ap, sym, subst, Option}
 use Rattle.std.specs.Prelude.{option_copied}
 use Rattle.chains.specs.declared.range.Range.{Range as Part}
 use Rattle.mmio_transport.specs.Written.{range_in}

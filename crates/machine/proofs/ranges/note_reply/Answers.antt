@@ -1,4 +1,4 @@
-use Rattle.std.proofs.Common.{◌≡◌, ◌≤◌, ap, sym, subst, ℕ, List, length, arith}
+use Rattle.std.proofs.Common.{ap, sym, subst, ℕ, List, length, arith}
 use Rattle.machine.proofs.Replies.{Rest, rest_all, rest_step}
 use Rattle.machine.proofs.Within.{notes_same, notes_twice}
 use Rattle.machine.proofs.ranges.note_reply.Goals as goal

@@ -1,7 +1,4 @@
-use Rattle.std.proofs.Common.{Ok, refl, subst, ap, ◌∙◌}
-use Rattle.std.specs.Prelude.{slice_get}
-use Rattle.board.specs.State.{in_place}
-use Rattle.board.specs.Steps.{SubmitsFrom}
+use Rattle.std.proofs.Common.{refl}
 use Rattle.board.specs.declared.step.Step.TheVariants as board_step
 use Rattle.machine.specs.Reasons.{Refuses}
 use Rattle.machine.specs.Serving.{Still}

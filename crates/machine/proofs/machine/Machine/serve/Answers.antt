@@ -1,13 +1,6 @@
-use Rattle.std.proofs.Common.{◌≡◌, ◌≤◌, ◌∙◌, List, Some, None, ℕ, ap, length, arith, refl, rules, subst, sym}
-use Rattle.std.specs.Prelude.{slice_get, take}
+use Rattle.std.proofs.Common.{◌≤◌, ℕ, ap, length, arith, refl, rules, subst, sym}
 use Rattle.std.proofs.lemmas.Option.{slice_get_read, slice_get_within}
-use Rattle.disk.specs.OutboxDisk.{OutboxMakes, OutboxState, outbox_state}
-use Rattle.board.specs.State.{BoardState}
-use Rattle.board.specs.Moving.{Moves}
-use Rattle.board.proofs.Moving.{moves_none}
 use Rattle.machine.specs.Machine.{IsServed, MachineState, TellsFault, TellsRanges}
-use Rattle.machine.specs.Serving.{OthersStay, Runs, Still}
-use Rattle.machine.proofs.Others.{others_stay}
 use Rattle.machine.proofs.Told.{fault_no_guest, fault_no_room, fault_of_board, served_none, served_by, told_none, told_by}
 use Rattle.machine.proofs.machine.Machine.serve.Goals as goal
 
