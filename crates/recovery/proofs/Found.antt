@@ -1,32 +1,19 @@
 -- What was read for one guest is what the content holds.
 use Rattle.std.proofs.Common.{◌≡◌, ◌⊎◌, inl, inr, ⊎_elim, Bool, true, false, Option, Some, None, ℕ, ◌+◌, ◌*◌, ◌^◌, ◌≤◌, ◌<◌, List, length, drop, get_or, refl, ap, sym, ◌∙◌, subst, arith}
-use Rattle.std.specs.Prelude.{slice_index, ◌==◌}
-use Rattle.std.proofs.lemmas.Bool.{cases_lt, cases_eq}
-use Rattle.std.proofs.lemmas.Bool.Decides.{nat_tests}
-use Rattle.std.proofs.lemmas.List.{get_or_past}
-use Rattle.rpmb_frame.specs.Partition.{Partition, sequence_of}
-use Rattle.disk.specs.Content.{Content, bytes_at, content_of}
-use Rattle.intent_slots.specs.Layout.{Region, SlotRegion, region_at, slot_region, other_side, blocks_at, image_length}
-use Rattle.intent_slots.proofs.Starts.{lies_inside}
+use Rattle.recovery.proofs.Common.{slice_index, ◌==◌, cases_lt, cases_eq, nat_tests, get_or_past, Partition, sequence_of, Content, bytes_at, content_of, Region, region_at, slot_region, other_side, image_length, lies_inside, A, B, Agree, GroupFits, last_of, Part, HoldsHome, HasPayload, ByHome, ByPayload, ByNeither, ByOne, ByBoth, StandsIn, is_paired, redo, blocks_of, get_bytes, payload_short, same_content, blocks_below, blocks_beyond, IsBegun, HasPart, IsFound, GatesAre, GatesFit, FindsFault, OpenFault}
+use Rattle.intent_slots.specs.Layout.{SlotRegion, blocks_at}
 use Rattle.intent_slots.specs.declared.layout.Side.{Side}
-use Rattle.intent_slots.specs.declared.layout.Side.TheVariants.{A, B}
 use Rattle.intent_slots.proofs.Decoding.{one_group}
-use Rattle.intent_slots.specs.Fields.{Agree}
 use Rattle.intent_slots.specs.Home.{IsHome}
-use Rattle.intent_slots.specs.Payload.{Group, GroupFits, Intent, IsPayload, last_of, payload_length}
-use Rattle.intent_slots.specs.Recovered.{Part, HoldsHome, HasPayload, ByHome, ByPayload, StandsForTwo, ByNeither, ByOne, ByBoth, StandsIn, is_paired, redo, redone, blocks_of, after}
+use Rattle.intent_slots.specs.Payload.{Group, Intent, IsPayload, payload_length}
+use Rattle.intent_slots.specs.Recovered.{StandsForTwo, redone, after}
 use Rattle.intent_slots.proofs.Bytes.{length-bytes_at}
-use Rattle.intent_slots.proofs.Over.{get_bytes}
 use Rattle.intent_slots.proofs.ReadsBack.{home_own, payload_own}
-use Rattle.intent_slots.proofs.Same.{payload_short}
 use Rattle.flusher.specs.Pair.{resting, redoing, redoing_two}
 use Rattle.flusher.specs.Phase.{skipped}
 use Rattle.flusher.specs.SlotInvariant.{IsWideOpen}
-use Rattle.flusher.proofs.Blocks.{same_content, blocks_below, blocks_beyond}
 use Rattle.flusher.proofs.Rows.{skip}
-use Rattle.recovery.specs.Opening.{IsBegun, HasPart}
-use Rattle.recovery.specs.Reading.{IsFound, GateIs, GatesAre, GatesFit, gates_of, FindsFault, FindsPayloadFault}
-use Rattle.recovery.specs.declared.fault.OpenFault.{OpenFault}
+use Rattle.recovery.specs.Reading.{GateIs, gates_of, FindsPayloadFault}
 use Rattle.recovery.specs.declared.fault.OpenFault.TheVariants as fault
 use Rattle.recovery.specs.declared.reading.Gates.TheVariants as gates
 

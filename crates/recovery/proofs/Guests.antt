@@ -1,15 +1,10 @@
 -- All guests of an opening.
 use Rattle.std.proofs.Common.{◌≡◌, ◌≢◌, ⊎_elim, ℕ, suc, ◌+◌, ◌<◌, ◌≤◌, true, false, Option, Some, None, List, [], ◌∷◌, ◌++◌, length, map, refl, ap, sym, subst, ◌∙◌, arith}
-use Rattle.std.specs.Prelude.{Result, Ok, Err, OnOk, slice_get, if◌then◌else◌}
-use Rattle.std.proofs.lemmas.Option.{slice_get_within, slice_get_cases}
-use Rattle.rpmb_frame.specs.Partition.{Partition, sequence_of}
-use Rattle.disk.specs.Content.{Content}
-use Rattle.disk.specs.Disk.{DiskState, MayLeave}
-use Rattle.intent_slots.specs.Header.{HasCapacities}
-use Rattle.intent_slots.specs.Layout.{Region, region_at, image_length, end_of, AreApart}
-use Rattle.intent_slots.specs.Recovered.{Part, part_of, Stands, StandsIn, is_paired}
-use Rattle.intent_slots.proofs.Starts.{lies_inside, overlaps_never}
-use Rattle.flusher.specs.declared.guest.Guest.{Guest}
+use Rattle.recovery.proofs.Common.{Result, Ok, Err, OnOk, slice_get, slice_get_within, Partition, sequence_of, Content, DiskState, MayLeave, HasCapacities, Region, region_at, image_length, end_of, Part, Stands, StandsIn, is_paired, lies_inside, overlaps_never, Guest, same_content, OpenFault, Untouched, IsBegun, EachBegun, AllBegun, HasFront, HasPart, IsImage, AnswersFault, parts_of, NoMagic, OtherLength, TellsVersionFault, Gives, IsFound, AllFound, FindsFault}
+use Rattle.std.specs.Prelude.{if◌then◌else◌}
+use Rattle.std.proofs.lemmas.Option.{slice_get_cases}
+use Rattle.intent_slots.specs.Layout.{AreApart}
+use Rattle.intent_slots.specs.Recovered.{part_of}
 use Rattle.flusher.specs.declared.slot.Slot.{Slot}
 use Rattle.flusher.specs.declared.phase.Phase.{Phase}
 use Rattle.flusher.specs.Phase.{is_settled, is_opening}
@@ -19,12 +14,10 @@ use Rattle.flusher.proofs.Table.{settled_stands}
 use Rattle.flusher.specs.Marks.{marks_of}
 use Rattle.flusher.specs.SlotInvariant.{PairRow, PairSeen, IsOrdered, IsHeld, guest_row, guest_seen, Follows}
 use Rattle.flusher.specs.Store.{AllFit, GuestFits}
-use Rattle.flusher.proofs.Blocks.{same_content}
-use Rattle.recovery.specs.declared.fault.OpenFault.{OpenFault}
 use Rattle.recovery.specs.declared.fault.OpenFault.TheVariants as fault
-use Rattle.recovery.specs.Opening.{Untouched, IsBegun, EachBegun, AllBegun, AllStand, IsAtRest, sequences_of, IsFirst, HasFront, HasPart, HasParts, IsImage, IsUnformatted, NoFront, NoParts, Answers, AnswersFault, parts_of, part_or}
-use Rattle.recovery.specs.Front.{HasNoHeader, NoMagic, OtherLength, TellsVersionFault}
-use Rattle.recovery.specs.Reading.{Gives, IsFound, AllFound, FindsFault, FindsAll, FindsAllFault}
+use Rattle.recovery.specs.Opening.{AllStand, IsAtRest, sequences_of, IsFirst, HasParts, IsUnformatted, NoFront, NoParts, Answers, part_or}
+use Rattle.recovery.specs.Front.{HasNoHeader}
+use Rattle.recovery.specs.Reading.{FindsAll, FindsAllFault}
 use Rattle.recovery.proofs.Lists.{Each, none_each, each_more}
 use Rattle.recovery.proofs.Ways.{gives_on}
 

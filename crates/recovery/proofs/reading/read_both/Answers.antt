@@ -1,9 +1,5 @@
 use Rattle.std.proofs.Common.{◌∙◌, length, subst, true, arith}
-use Rattle.std.specs.Prelude.{ℕ}
-use Rattle.intent_slots.specs.Layout.{region_at, slot_region, other_side}
-use Rattle.intent_slots.specs.declared.layout.Side.TheVariants.{A, B}
-use Rattle.intent_slots.specs.Recovered.{HasPayload}
-use Rattle.recovery.specs.Reading.{GatesAre, Finds}
+use Rattle.recovery.proofs.Common.{ℕ, region_at, slot_region, other_side, A, B, HasPayload, GatesAre, Finds}
 use Rattle.recovery.specs.declared.reading.Gates.TheVariants as gates
 use Rattle.recovery.proofs.Found.{ends_first, ends_second, ends_apart}
 use Rattle.recovery.proofs.Lists.{of_guest}
