@@ -1,8 +1,6 @@
 -- What stands where the next chain begins.
 use Rattle.std.proofs.Common.{◌≡◌, ℕ, inl, inr, List, length, Option, Some, None, Result, Ok, Err}
-use Rattle.chains.specs.declared.descriptor.Area.{Area}
-use Rattle.chains.specs.declared.fault.ChainFault.{ChainFault}
-use Rattle.chains.specs.Walk.{Found, walk}
+use Rattle.chains.proofs.Common.{Area, ChainFault, Found, walk}
 use Rattle.chains.specs.Ring.{MayGrow}
 use Rattle.chains.specs.Start.{some_found, found_from, members_from}
 

@@ -1,11 +1,9 @@
 -- Which partition a content holds where both slots are in use.
 use Rattle.std.proofs.Common.{◌≡◌, Bool, true, false, Some, ℕ, ◌+◌, ◌≤◌, ◌<◌, ap, sym, ◌∙◌, arith}
-use Rattle.disk.specs.Content.{Content}
+use Rattle.intent_slots.proofs.Common.{Content, A, B, Region, end_of, Group, last_of, Part, redone, redo}
 use Rattle.intent_slots.specs.declared.layout.Side.{Side}
-use Rattle.intent_slots.specs.declared.layout.Side.TheVariants.{A, B}
-use Rattle.intent_slots.specs.Layout.{Region, slot_region, other_side, end_of}
-use Rattle.intent_slots.specs.Payload.{Group, last_of}
-use Rattle.intent_slots.specs.Recovered.{Part, HoldsHome, HasPayload, redone, redo, after, StandsIn, ByNeither, ByOne, ByBoth, OnePartInTwo, TwoAreTheirBytes}
+use Rattle.intent_slots.specs.Layout.{slot_region, other_side}
+use Rattle.intent_slots.specs.Recovered.{HoldsHome, HasPayload, after, StandsIn, ByNeither, ByOne, ByBoth, OnePartInTwo, TwoAreTheirBytes}
 use Rattle.intent_slots.proofs.Same.{same_home, same_payload, payload_short}
 use Rattle.intent_slots.proofs.Homes.{one_home}
 use Rattle.intent_slots.proofs.Decoding.{one_group}

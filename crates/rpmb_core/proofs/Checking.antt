@@ -1,15 +1,10 @@
 -- The frames of a write are the first of those that its bytes are cut into, so what a check says of the bytes it says
 -- of the request.
 use Rattle.std.proofs.Common.{◌≡◌, ◌≢◌, ◌-◌, ◌*◌, ◌+◌, ◌≤◌, ℕ, zero, suc, Bool, true, false, ◌&&◌, ◌||◌, List, [], ◌∷◌, length, take, refl, ap, sym, ◌∙◌, subst, eqb, leb, ltb, arith}
-use Rattle.std.specs.Prelude.{not}
-use Rattle.std.proofs.lemmas.Bool.Decides.{nat_tests}
-use Rattle.rpmb_frame.specs.Codes.{req_program_key, req_get_write_counter, req_data_write, req_data_read, req_result_read}
-use Rattle.rpmb_frame.specs.Frame.{req_resp_of, first_of, last_of}
-use Rattle.rpmb_frame.specs.Limits.{Limits}
-use Rattle.rpmb_frame.specs.Request.{Request, Command, ProgramKey, GetWriteCounter, DataWrite, DataRead, ResultRead, Malformed, command_of, frames_of, request}
-use Rattle.rpmb_frame.specs.Table.{first_row}
+use Rattle.rpmb_core.proofs.Common.{not, nat_tests, req_program_key, req_get_write_counter, req_data_write, req_data_read, req_result_read, req_resp_of, first_of, last_of, Limits, Request, Command, ProgramKey, GetWriteCounter, DataWrite, DataRead, ResultRead, Malformed, command_of, frames_of, first_row, Says}
+use Rattle.rpmb_frame.specs.Request.{request}
 use Rattle.rpmb_core.specs.Verdict.{has_mac}
-use Rattle.rpmb_core.specs.MacCheck.{Says, SaysOf, SaysOfWrite, SaysOfCommand, Covers}
+use Rattle.rpmb_core.specs.MacCheck.{SaysOf, SaysOfWrite, SaysOfCommand, Covers}
 use Rattle.rpmb_core.specs.declared.mac_check.MacCheck.{MacCheck}
 
 -- a fact of the frames of a write

@@ -1,12 +1,7 @@
 -- A reply that gets its MAC at last.
 use Rattle.std.proofs.Common.{◌≡◌, ◌≤◌, ◌+◌, ◌-◌, ◌*◌, ◌/◌, ◌∙◌, ℕ, zero, suc, Bool, true, false, List, [], ◌∷◌, ◌++◌, Option, None, Some, length, take, drop, refl, ap, sym, arith, append-nil, length-drop}
-use Rattle.std.specs.Prelude.{if◌then◌else◌}
-use Rattle.std.proofs.lemmas.List.{take-append-drop, take_at}
-use Rattle.std.specs.Simd.{first_chunks}
-use Rattle.rpmb_frame.specs.Request.{frames_of}
-use Rattle.rpmb_frame.proofs.Joined.{frames_of-joined, length-joined}
-use Rattle.hmac256.specs.Hmac.{mac}
-use Rattle.rpmb_core.specs.Reply.{closed, joined, sealed}
+use Rattle.rpmb_core.proofs.Common.{if◌then◌else◌, take-append-drop, take_at, first_chunks, frames_of, frames_of-joined, length-joined, mac, joined, sealed}
+use Rattle.rpmb_core.specs.Reply.{closed}
 use Rattle.rpmb_core.proofs.Frames.{Are512}
 use Rattle.rpmb_core.proofs.Sealing.{put, seal_is}
 use Rattle.rpmb_core.proofs.Sent.{cut_are, sealed_are}

@@ -1,7 +1,5 @@
 use Rattle.std.proofs.Common.{◌≡◌, ◌≢◌, ◌≤◌, ◌-◌, length, ap, sym, ◌∙◌, subst, arith}
-use Rattle.rpmb_frame.specs.Codes.{req_result_read}
-use Rattle.rpmb_frame.specs.Frame.{req_resp_of, first_of, last_of}
-use Rattle.rpmb_core.specs.MacCheck.{Says}
+use Rattle.rpmb_core.proofs.Common.{req_result_read, req_resp_of, first_of, last_of, Says}
 use Rattle.rpmb_core.proofs.Checking.{says_first, covers_empty, covers_other, covers_first, covers_all}
 use Rattle.rpmb_core.proofs.mac_check.MacCheck.of_bytes.Goals as goal
 use Rattle.rpmb_core.proofs.mac_check.MacCheck.of_bytes.Goals.{then-count-eq0-via-then-count-eq0, then-count-eq0-via-else-count-eq0+then-req_resp-ne-DATA_WRITE, else-count-gt1-via-then-count-gt1+else-asks_result, else-count-gt1-via-else-count-gt1}
