@@ -1,22 +1,9 @@
 -- Whatever is called on a book that was opened, its life goes on by turns that are right where they stand.
 use Rattle.std.proofs.Common.{◌≡◌, ◌<◌, zero, suc, Bool, true, false, List, [], ◌∷◌, ◌++◌, Option, Some, None, length, refl, ap, sym, ◌∙◌, subst, append-nil, append_assoc, arith}
-use Rattle.std.specs.Prelude.{ℕ, ◌&&◌, not, if◌then◌else◌, is_none, is_some, slice_get}
-use Rattle.std.proofs.lemmas.Option.{slice_get_within}
-use Rattle.rpmb_frame.specs.Partition.{Partition}
-use Rattle.rpmb_frame.specs.declared.config.GuestConfig.{GuestConfig}
-use Rattle.mmio_transport.specs.Job.{Job}
-use Rattle.rpmb_book.specs.Job.{Tally}
-use Rattle.rpmb_book.specs.Guest.{GuestState, first_due, first_intent}
-use Rattle.rpmb_book.specs.Turn.{Turn, Take, Settle, Collect, Break, State, IsRight, are_within, move_some}
-use Rattle.rpmb_book.specs.Marks.{marks_for}
-use Rattle.rpmb_book.specs.Replay.{replay, IsLegal, fresh_guests}
-use Rattle.rpmb_book.specs.Bounded.{IsBounded, IsBoundedGuest}
-use Rattle.rpmb_book.specs.Book.{BookView, state, guest_of, is_full, refusal, submit_of, first_of, is_share, next_intent, are_taken, may_settle, due_at, due_of}
-use Rattle.rpmb_book.specs.Fold.{after_submit}
-use Rattle.rpmb_book.specs.Life.{GoesOn, Lives, turn_if}
+use Rattle.rpmb_book.proofs.Common.{◌&&◌, not, if◌then◌else◌, is_none, is_some, slice_get, slice_get_within, Partition, GuestConfig, Job, Tally, GuestState, first_due, first_intent, Turn, Take, Settle, Collect, Break, State, IsRight, are_within, move_some, marks_for, replay, IsLegal, fresh_guests, IsBounded, IsBoundedGuest, BookView, guest_of, is_full, refusal, submit_of, first_of, is_share, next_intent, are_taken, may_settle, due_at, due_of, after_submit, GoesOn, Lives, turn_if, IsAfter, answered_jobs, jobs_of}
+use Rattle.std.specs.Prelude.{ℕ}
+use Rattle.rpmb_book.specs.Book.{state}
 use Rattle.rpmb_book.specs.Calls.{Call, ToSubmit, ToTake, ToSettle, ToBreakOff, ToCollect, after_call, after_calls, turns_of, turns_in, IsFresh, IsLived, IsToldAsAloneByCalls, IsOutcomeByCalls, IsAfterItsJobsByCalls}
-use Rattle.rpmb_book.specs.Asked.{IsAfter, answered_jobs}
-use Rattle.rpmb_book.specs.Isolation.{jobs_of}
 use Rattle.rpmb_book.proofs.AskedLemmas.{after_its_jobs}
 use Rattle.rpmb_book.proofs.Bounding.{bounded}
 use Rattle.rpmb_book.proofs.IsolationLemmas.{as_alone}

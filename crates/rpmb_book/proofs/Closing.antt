@@ -1,7 +1,6 @@
 -- Replies whose MAC is made later.
 use Rattle.std.proofs.Common.{◌≡◌, ◌≤◌, ◌*◌, ◌/◌, ℕ, List, [], ◌∷◌, Option, None, length, refl, arith}
-use Rattle.mmio_transport.specs.Job.{Job, done_of}
-use Rattle.rpmb_core.specs.Reply.{closed, failed}
+use Rattle.rpmb_book.proofs.Common.{Job, done_of, closed, failed}
 use Rattle.rpmb_core.proofs.Closing.{length-closed}
 use Rattle.rpmb_core.proofs.Failing.{length-failure_frame}
 

@@ -1,3 +1,4 @@
+pub mod Common
 pub mod Planning
 pub mod Places
 pub mod Replay

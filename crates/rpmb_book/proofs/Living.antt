@@ -1,13 +1,8 @@
 -- A life goes on by the turns of each call, and a fold keeps it.
 use Rattle.std.proofs.Common.{◌≡◌, ℕ, ◌+◌, Bool, true, false, List, [], ◌∷◌, ◌++◌, Some, length, refl, ap, sym, ◌∙◌, subst, append-nil, append_assoc, length-append}
-use Rattle.std.specs.Prelude.{◌==◌, not, if◌then◌else◌, slice_get}
-use Rattle.mmio_transport.specs.Job.{Job}
-use Rattle.rpmb_book.specs.Guest.{GuestState}
-use Rattle.rpmb_book.specs.Turn.{Turn, State, after_turn}
-use Rattle.rpmb_book.specs.Replay.{replay, IsLegal}
-use Rattle.rpmb_book.specs.Book.{BookView, state, submits_in, submit_of, with_turn}
-use Rattle.rpmb_book.specs.Fold.{after_submit, folded, roomy}
-use Rattle.rpmb_book.specs.Life.{Begins, GoesOn, Lives, turn_if}
+use Rattle.rpmb_book.proofs.Common.{◌==◌, not, if◌then◌else◌, slice_get, Job, GuestState, Turn, State, after_turn, replay, IsLegal, BookView, submits_in, submit_of, with_turn, after_submit, folded, roomy, GoesOn, Lives, turn_if}
+use Rattle.rpmb_book.specs.Book.{state}
+use Rattle.rpmb_book.specs.Life.{Begins}
 use Rattle.rpmb_book.proofs.Rolling.{chosen, longest, not_chosen}
 use Rattle.rpmb_book.proofs.Room.{by_test}
 

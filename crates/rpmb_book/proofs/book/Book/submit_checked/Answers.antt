@@ -1,8 +1,6 @@
 use Rattle.std.proofs.Common.{◌∙◌, ◌+◌, ap, length, sym}
-use Rattle.std.specs.Prelude.{slice_get}
-use Rattle.rpmb_book.specs.Book.{counted_in, guest_of, state, with_turn, submit_of}
-use Rattle.rpmb_book.specs.Turn.{State, Submit, made_of}
-use Rattle.rpmb_book.specs.Fold.{after_submit, roomy}
+use Rattle.rpmb_book.proofs.Common.{slice_get, counted_in, guest_of, with_turn, submit_of, State, Submit, made_of, after_submit, roomy}
+use Rattle.rpmb_book.specs.Book.{state}
 use Rattle.rpmb_book.proofs.Rolling.{count_one, rolls, named_by}
 use Rattle.rpmb_book.proofs.book.Book.submit_checked.Goals as goal
 

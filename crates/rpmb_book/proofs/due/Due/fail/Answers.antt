@@ -1,6 +1,5 @@
 use Rattle.std.proofs.Common.{◌≡◌, ◌∙◌, ap, sym, subst, List, ℕ}
-use Rattle.mmio_transport.specs.Job.{Done, done_of, room_of}
-use Rattle.rpmb_core.specs.Reply.{closed, failed}
+use Rattle.rpmb_book.proofs.Common.{Done, done_of, room_of, closed, failed}
 use Rattle.rpmb_book.specs.Guest.{break_code}
 use Rattle.rpmb_book.proofs.Closing.{IsWholeWithin, failed_closed, failed_within, open_done}
 use Rattle.rpmb_book.proofs.due.Due.fail.Goals as goal
