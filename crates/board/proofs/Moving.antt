@@ -1,33 +1,15 @@
 -- What one step of a board does to its disk, and what steps one after another do.
 use Rattle.std.proofs.Common.{◌≡◌, ◌≤◌, ◌<◌, ◌⊎◌, ◌+◌, ◌^◌, inl, inr, ℕ, zero, suc, Bool, true, false, List, Option, Some, None, Result, Ok, Err, length, refl, ap, sym, subst, ◌∙◌, arith, length-set}
-use Rattle.std.specs.Prelude.{position, slice_get, slice_set}
+use Rattle.board.proofs.Common.{slice_get, slice_set, slice_get_within, Request, Partition, GuestConfig, DiskCall, DiskState, Effect, HasRisen, Read, Still, Sync, Within, Write, within_weaker, Intent, Part, Guest, Progress, StoreFault, pending_stays, MovedBy, Round, planned, settles, guest_after_sync, mark_of, given, DeviceState, Job, state, AreOfBoard, by_test, IsLinkedBoard, IsSound, LeavesPrefixes, StaysLinked, accepted_after, answered, marks_in, BoardState, Advances, Answer, Does, Step}
+use Rattle.std.specs.Prelude.{position}
 use Rattle.std.specs.List.{list_any}
-use Rattle.std.proofs.lemmas.Option.{slice_get_within}
-use Rattle.rpmb_frame.specs.Request.{Request}
-use Rattle.rpmb_frame.specs.Partition.{Partition}
-use Rattle.rpmb_frame.specs.declared.config.GuestConfig.{GuestConfig}
-use Rattle.disk.specs.Disk.{Counts, DiskCall, DiskState, Effect, HasRisen, Read, Still, Sync, Within, Write, is_success}
-use Rattle.disk.proofs.Ways.{within_both, within_weaker}
-use Rattle.intent_slots.specs.Payload.{Intent}
-use Rattle.intent_slots.specs.Recovered.{Part}
-use Rattle.flusher.specs.declared.guest.Guest.{Guest}
-use Rattle.flusher.specs.Progress.{Progress}
-use Rattle.flusher.specs.declared.progress.StoreFault.{StoreFault}
-use Rattle.flusher.proofs.Pending.{pending_stays}
-use Rattle.flusher.specs.Round.{MovedBy, Round, plan_at, planned, settles}
-use Rattle.flusher.specs.Pair.{guest_after_sync, guest_awaits, guest_has_write, mark_of}
-use Rattle.flusher.specs.Store.{given}
+use Rattle.disk.specs.Disk.{Counts, is_success}
+use Rattle.disk.proofs.Ways.{within_both}
+use Rattle.flusher.specs.Round.{plan_at}
+use Rattle.flusher.specs.Pair.{guest_awaits, guest_has_write}
 use Rattle.flusher.proofs.Endings.{round_badly, round_well}
-use Rattle.mmio_transport.specs.Device.{DeviceState}
-use Rattle.mmio_transport.specs.Job.{Job}
-use Rattle.rpmb_book.specs.Book.{state}
 use Rattle.rpmb_book.specs.Audit.{HasHistory}
-use Rattle.rpmb_book.specs.Sound.{AreOfBoard, IsSound as IsSoundBook}
-use Rattle.rpmb_book.proofs.IsolationLemmas.{by_test}
-use Rattle.board.specs.Board.{IsLinkedBoard, IsSound, LeavesPrefixes, StaysLinked, accepted_after, answered, marks_in}
-use Rattle.board.specs.State.{BoardState}
-use Rattle.board.specs.Steps.{Advances, Answer, Does}
-use Rattle.board.specs.declared.step.Step.{Step}
+use Rattle.rpmb_book.specs.Sound.{IsSound as IsSoundBook}
 use Rattle.board.proofs.Linked.{drives_linked, in_book}
 use Rattle.board.proofs.Prefixes.{does_moments, leaves_now}
 use Rattle.board.proofs.Stays.{does_stay}

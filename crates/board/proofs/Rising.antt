@@ -1,27 +1,11 @@
 -- Prefixes of requests that go on, and marks that rise.
 use Rattle.std.proofs.Common.{◌≡◌, ◌≤◌, ◌+◌, ℕ, zero, suc, Bool, true, false, List, [], ◌∷◌, ◌++◌, Option, Some, None, length, take, refl, ap, sym, ◌∙◌, arith, append_assoc, append-nil, length-append}
-use Rattle.std.specs.Prelude.{if◌then◌else◌, ◌==◌, drop, slice_get}
+use Rattle.board.proofs.Common.{if◌then◌else◌, ◌==◌, drop, slice_get, Request, Partition, sequence, GuestConfig, partition_after_all, DiskState, Group, Intent, Part, part_of, Guest, marks_of, pending_settles, entries_in, guest_after_sync, mark_of, opening_of, pending_intents, Besides, guest_settled, given, given_of, Job, GuestState, accepts, request_of, IsOfBoard, LeavesPrefixes, accepted_by, joined_when, IsLinked, IsPrefix, entries_all}
 use Rattle.std.proofs.lemmas.List.{length-drop, take-append-le}
-use Rattle.rpmb_frame.specs.Request.{Request}
-use Rattle.rpmb_frame.specs.Partition.{Partition, sequence}
-use Rattle.rpmb_frame.specs.declared.config.GuestConfig.{GuestConfig}
-use Rattle.rpmb_core.specs.Requests.{partition_after_all}
-use Rattle.disk.specs.Disk.{DiskState}
-use Rattle.intent_slots.specs.Payload.{Group, Intent}
-use Rattle.intent_slots.specs.Recovered.{Part, part_of}
-use Rattle.flusher.specs.declared.guest.Guest.{Guest}
-use Rattle.flusher.specs.Marks.{mark, marks_of}
+use Rattle.flusher.specs.Marks.{mark}
 use Rattle.flusher.specs.Laws.{Settles}
-use Rattle.flusher.proofs.Pending.{pending_settles}
-use Rattle.flusher.specs.Pair.{entries_in, guest_after_sync, mark_of, opening_of, pending_intents}
-use Rattle.flusher.specs.SlotInvariant.{Besides, guest_settled}
-use Rattle.flusher.specs.Store.{given, given_of}
-use Rattle.mmio_transport.specs.Job.{Job}
-use Rattle.rpmb_book.specs.Guest.{GuestState, accepts, request_of}
-use Rattle.rpmb_book.specs.Sound.{IsOfBoard}
 use Rattle.rpmb_book.specs.Turn.{State}
-use Rattle.board.specs.Board.{LeavesPrefixes, accepted_by, joined_when}
-use Rattle.board.specs.Link.{IsLinked, IsPrefix, due, entries_all}
+use Rattle.board.specs.Link.{due}
 use Rattle.board.proofs.Links.{sync_links, length-entries}
 use Rattle.board.specs.Moving.{GoOn}
 use Rattle.board.proofs.Linked.{same_marks}

@@ -1,17 +1,7 @@
 -- What a step makes of the store: an intent is given to it, it makes its call, or it stays.
 use Rattle.std.proofs.Common.{◌≡◌, ◌⊎◌, ℕ, Bool, true, false, Option, Some, None, refl, ap, ◌∙◌, inl, inr}
-use Rattle.std.specs.Prelude.{slice_get}
-use Rattle.disk.specs.Disk.{DiskCall, DiskState}
-use Rattle.intent_slots.specs.Payload.{Intent}
-use Rattle.flusher.specs.Store.{given, is_free}
-use Rattle.mmio_transport.specs.Device.{DeviceState}
-use Rattle.mmio_transport.specs.Job.{Job, Done}
-use Rattle.rpmb_book.specs.Job.{Tally}
-use Rattle.board.specs.declared.step.Act.{Act}
-use Rattle.board.specs.declared.step.Step.{Step}
+use Rattle.board.proofs.Common.{slice_get, DiskCall, DiskState, Intent, given, is_free, DeviceState, Job, Done, Tally, Act, Step, BoardState, Fault, Marks, Report, in_place, Advances, AdvancesUnder, Answer, CollectsInto, Does, Drives, GivesWhere, PopsInto, PublishesFrom, SettlesBy, SubmitsFrom, TakesInto}
 use Rattle.board.specs.declared.step.Step.TheVariants as step
-use Rattle.board.specs.State.{BoardState, Fault, Marks, Report, in_place}
-use Rattle.board.specs.Steps.{Advances, AdvancesUnder, Answer, CollectsInto, Does, Drives, GivesWhere, PopsInto, PublishesFrom, SettlesBy, SubmitsFrom, TakesInto}
 
 module _ {D : Type 0} (shows : D → DiskState) (makes : D → DiskCall → D → Type 0) (answer : Answer) (old new : BoardState D) where
   abbrev pub OfStore : Type 0

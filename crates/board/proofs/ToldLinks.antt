@@ -1,13 +1,8 @@
 -- A board whose disk was told something between two steps is tied as before.
 use Rattle.std.proofs.Common.{◌≡◌, ℕ, true, false, List}
-use Rattle.rpmb_frame.specs.Request.{Request}
-use Rattle.rpmb_frame.specs.Partition.{Partition}
-use Rattle.rpmb_frame.specs.declared.config.GuestConfig.{GuestConfig}
-use Rattle.disk.specs.OutboxDisk.{OutboxState, outbox_state}
+use Rattle.board.proofs.Common.{Request, Partition, GuestConfig, outbox_state, Part, IsLinkedBoard, BoardState}
+use Rattle.disk.specs.OutboxDisk.{OutboxState}
 use Rattle.disk.specs.declared.outbox_disk.Told.{Told}
-use Rattle.intent_slots.specs.Recovered.{Part}
-use Rattle.board.specs.Board.{IsLinkedBoard}
-use Rattle.board.specs.State.{BoardState}
 use Rattle.board.specs.Telling.{telling}
 
 pub told_linked : (told : Told) (config : List GuestConfig) (bases : ℕ → Partition) (accepted : ℕ → List Request) (parts : ℕ → Part) (b : BoardState OutboxState) → IsLinkedBoard outbox_state config bases accepted parts b

@@ -1,17 +1,7 @@
 -- An upgrade, stopped or not, leaves what goes back to the same prefixes, and images of the board.
 use Rattle.std.proofs.Common.{◌≡◌, true, ℕ, ◌≤◌, List, length, arith}
-use Rattle.std.proofs.lemmas.List.{length-map}
-use Rattle.disk.specs.Content.{Content}
-use Rattle.disk.specs.Disk.{DiskState, MayLeave}
-use Rattle.rpmb_frame.specs.Request.{Request}
-use Rattle.rpmb_frame.specs.Partition.{Partition}
-use Rattle.rpmb_frame.specs.declared.config.GuestConfig.{GuestConfig}
-use Rattle.intent_slots.specs.Layout.{capacities_of}
-use Rattle.recovery.specs.Opening.{IsImage}
-use Rattle.recovery.specs.Upgrade.{LeavesAsBefore}
+use Rattle.board.proofs.Common.{length-map, Content, DiskState, MayLeave, Request, Partition, GuestConfig, capacities_of, IsImage, LeavesAsBefore, LeavesPrefixes, IsPrefix}
 use Rattle.recovery.proofs.Before.{such_before, image_before}
-use Rattle.board.specs.Board.{LeavesPrefixes}
-use Rattle.board.specs.Link.{IsPrefix}
 
 length-capacities : (config : List GuestConfig) → length (capacities_of config) ≡ length config
 unfolding capacities_of

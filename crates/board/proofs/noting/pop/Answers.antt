@@ -1,5 +1,5 @@
 use Rattle.std.proofs.Common.{◌∙◌, ap, inl, refl, sym}
-use Rattle.std.specs.Prelude.{is_some, option_copied, slice_get}
+use Rattle.board.proofs.Common.{is_some, option_copied, slice_get}
 use Rattle.board.proofs.Noted.{pops_full}
 use Rattle.board.proofs.noting.pop.Goals as goal
 

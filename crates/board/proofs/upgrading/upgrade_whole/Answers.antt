@@ -1,7 +1,5 @@
 use Rattle.std.proofs.Common.{refl}
-use Rattle.disk.specs.CutDisk.{CutMakes, cut_state}
-use Rattle.intent_slots.specs.Layout.{capacities_of}
-use Rattle.recovery.specs.Upgrade.{LeavesAsBefore}
+use Rattle.board.proofs.Common.{CutMakes, cut_state, capacities_of, LeavesAsBefore}
 use Rattle.board.proofs.Opened.{within_end}
 use Rattle.board.proofs.upgrading.upgrade_whole.Goals as goal
 

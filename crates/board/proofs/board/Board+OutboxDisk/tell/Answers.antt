@@ -1,6 +1,5 @@
 use Rattle.std.proofs.Common.{subst, sym}
-use Rattle.disk.specs.OutboxDisk.{outbox_state}
-use Rattle.board.specs.Board.{IsSound}
+use Rattle.board.proofs.Common.{outbox_state, IsSound}
 use Rattle.board.proofs.ToldLinks.{told_linked}
 use Rattle.board.proofs.board.Board+OutboxDisk.tell.Goals as goal
 

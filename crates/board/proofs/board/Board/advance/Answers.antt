@@ -1,4 +1,4 @@
-use Rattle.board.specs.Steps.{answer_by}
+use Rattle.board.proofs.Common.{answer_by}
 use Rattle.board.specs.declared.step.Step.TheVariants as step
 use Rattle.board.specs.declared.step.StepFault.TheVariants as fault
 use Rattle.board.proofs.Moving.{made, steps_sound}

@@ -1,4 +1,4 @@
-use Rattle.board.specs.Steps.{did_answer}
+use Rattle.board.proofs.Common.{did_answer}
 use Rattle.board.specs.declared.step.Step.TheVariants as step
 use Rattle.board.proofs.Moving.{made, steps_sound}
 use Rattle.board.proofs.board.Board.collect.Goals as goal

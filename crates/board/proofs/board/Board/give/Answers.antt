@@ -1,8 +1,7 @@
 use Rattle.std.proofs.Common.{sym}
-use Rattle.std.specs.Prelude.{slice_get}
+use Rattle.board.proofs.Common.{slice_get, did_answer}
 use Rattle.board.proofs.Doing.{full_at}
 use Rattle.board.proofs.Stays.{may_give_it}
-use Rattle.board.specs.Steps.{did_answer}
 use Rattle.board.specs.declared.step.Step.TheVariants as step
 use Rattle.board.proofs.Moving.{made, steps_sound}
 use Rattle.board.proofs.board.Board.give.Goals as goal

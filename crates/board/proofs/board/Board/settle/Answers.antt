@@ -1,5 +1,5 @@
+use Rattle.board.proofs.Common.{did_answer}
 use Rattle.board.proofs.Stays.{may_settle_them}
-use Rattle.board.specs.Steps.{did_answer}
 use Rattle.board.specs.declared.step.Step.TheVariants as step
 use Rattle.board.proofs.Moving.{made, steps_sound}
 use Rattle.board.proofs.board.Board.settle.Goals as goal

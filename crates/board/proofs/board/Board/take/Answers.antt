@@ -1,6 +1,6 @@
 use Rattle.std.proofs.Common.{None}
+use Rattle.board.proofs.Common.{did_answer}
 use Rattle.board.proofs.Stays.{is_share_of}
-use Rattle.board.specs.Steps.{did_answer}
 use Rattle.board.specs.declared.step.Step.TheVariants as step
 use Rattle.board.proofs.Moving.{made, steps_sound}
 use Rattle.board.proofs.board.Board.take.Goals as goal
