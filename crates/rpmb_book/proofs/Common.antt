@@ -1,10 +1,11 @@
 -- The names that most proofs cite, passed on from one place. Declares nothing.
-pub use Rattle.std.proofs.lemmas.List.{length-map, append-nil, drop_all, take_all}
+pub use Rattle.std.proofs.lemmas.Bool.Decides.{nat_tests}
+pub use Rattle.std.proofs.lemmas.List.{length-map, drop-drop, append-nil, drop_all, take_all}
 pub use Rattle.std.proofs.lemmas.List.Edits.{map_over_more}
 pub use Rattle.std.proofs.lemmas.List.Sums.{sum_by-cons}
 pub use Rattle.std.proofs.lemmas.Option.{slice_get_cases, slice_get_within}
 pub use Rattle.std.specs.List.{AllByRecursion}
-pub use Rattle.std.specs.Prelude.{◌==◌, IsSome, map, max, nat_le, option_map, ◌&&◌, nat_lt, count_by, unwrap_or, option_to_list, All, ◌||◌}
+pub use Rattle.std.specs.Prelude.{◌==◌, slice_get, not, IsSome, map, max, nat_le, if◌then◌else◌, option_map, ◌&&◌, is_none, is_some, nat_lt, count_by, unwrap_or, replicate, option_to_list, All, ◌||◌}
 pub use base.Logic.{SProp, ent}
 pub use contract.Monad.{Fun}
 unfoldable pub use contract.Running.{tables_of}
@@ -31,18 +32,20 @@ pub use types.Logic.{Logic}
 pub use types.Part.{agg}
 pub use types.Run.{enter, returns, no_more}
 pub use Rattle.rpmb_frame.specs.Config.{IsGuest}
-unfoldable pub use Rattle.rpmb_frame.specs.Request.{request}
+pub use Rattle.rpmb_frame.specs.Limits.{Limits}
+pub use Rattle.rpmb_frame.specs.Partition.{sequence, Partition}
+unfoldable pub use Rattle.rpmb_frame.specs.Request.{command_of, request}
+pub use Rattle.rpmb_frame.specs.Request.{ProgramKey, GetWriteCounter, DataWrite, DataRead, ResultRead, Malformed, frames_of, Command}
 pub use Rattle.rpmb_frame.specs.declared.config.GuestConfig.{GuestConfig}
-pub use Rattle.intent_slots.proofs.Common.{slice_get, replicate, Entry, EntryFits, Programs, Stores, EntriesFit, Intent}
 pub use Rattle.intent_slots.specs.Home.{HomeFits}
-pub use Rattle.intent_slots.specs.Payload.{IsWrite}
+pub use Rattle.intent_slots.specs.Payload.{Entry, EntryFits, Programs, Stores, EntriesFit, Intent, IsWrite}
 pub use Rattle.intent_slots.specs.Recovered.{part_of}
 pub use Rattle.mmio_transport.specs.Job.{Job, Done, done_of, room_of}
-unfoldable pub use Rattle.rpmb_core.proofs.Common.{command_of, verdict}
-pub use Rattle.rpmb_core.proofs.Common.{nat_tests, sequence, not, Limits, ProgramKey, GetWriteCounter, DataWrite, DataRead, ResultRead, Malformed, frames_of, if◌then◌else◌, is_none, is_some, Partition, drop-drop, Command, is_accepted, partition_after, reply_length}
 pub use Rattle.rpmb_core.proofs.Sequence.{after_refused, keyed_after, sequence_accepted}
+pub use Rattle.rpmb_core.specs.Accept.{is_accepted, partition_after}
 unfoldable pub use Rattle.rpmb_core.specs.Reply.{closed}
-pub use Rattle.rpmb_core.specs.Reply.{failed}
+pub use Rattle.rpmb_core.specs.Reply.{failed, reply_length}
+unfoldable pub use Rattle.rpmb_core.specs.Verdict.{verdict}
 pub use Rattle.rpmb_book.specs.Allowed.{IsAllowed}
 pub use Rattle.rpmb_book.specs.Asked.{answered_jobs, IsAfter, answered_in}
 unfoldable pub use Rattle.rpmb_book.specs.Book.{is_full}
