@@ -16,9 +16,10 @@ use Rattle.host.specs.declared.fault.HostFault.TheVariants.{Foreign}
 use Rattle.host.specs.declared.front.Front.{Front}
 use Rattle.host.proofs.Hosts.{reset_of, set_views, view_at}
 use Rattle.host.proofs.Keeping.{reset_keeps, store_keeps}
-use Rattle.host.proofs.Same.{also_there, below_there}
+use Rattle.board.proofs.Linked.{there_is}
+use Rattle.host.proofs.Settled.{also_there}
 use Rattle.host.proofs.Seen.{front_there, no_guest}
-use Rattle.host.proofs.Shares.{touches_lent}
+use Rattle.host.proofs.Shares.{share_lent}
 use Rattle.host.proofs.Updates.{set-nothing}
 
 -- a guest that the board lacks
@@ -88,7 +89,7 @@ module _ {D : Type 0} (shows : D → DiskState) (makes : D → DiskCall → D �
       let there : slice_get fronts n ≡ Some front = subst (λ k. slice_get fronts k ≡ Some front) at_is (front_there fronts at front inside value) in
       let d = also_there fronts board.devices n front there (sym many) in
       let j = job d.0 d.1 in
-      let t = touches_lent shows makes n board (device_after_reset d.0 front) calm in
+      let t = (share_lent shows makes n board d.0 (device_after_reset d.0 front) calm d.1).touches in
       let after : HostState D = record { board = with_device board n (device_after_reset d.0 front); fronts = set fronts n (front_after_reset front) } in
       let whole : after ≡ record { board = b'; fronts = set fronts at front' } =
       ap₂ (λ b f. (let r : HostState D = record { board = b; fronts = set fronts n f } in r)) (sym (board_is d.0 d.1)) (sym front_is)
@@ -102,6 +103,6 @@ module _ {D : Type 0} (shows : D → DiskState) (makes : D → DiskCall → D �
   pub store_done : (at : ℕ) (bytes : List ℕ) (told : Result (Unit {0}) HostFault) (d d' : DeviceState) → n < length fronts → slice_get board.devices n ≡ Some d → StoresIn d at bytes told d'
       → StoreCall h n at bytes told (record { board = with_device board n d'; fronts = fronts })
   store_done at bytes told d d' inside there into =
-      let front = below_there fronts n inside in
+      let front = there_is fronts n inside in
       let j = job d there in
       subst (λ v. StoreCall v n at bytes told (record { board = with_device board n d'; fronts = fronts })) is (store_called before n front.0 front.1 d there j.0 j.1 at bytes told d' into)

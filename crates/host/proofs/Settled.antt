@@ -1,121 +1,34 @@
--- What the store's next call, and the book's hearing of it, make of a board one guest of which waits.
-use Rattle.std.proofs.Common.{◌≡◌, ◌≤◌, ◌<◌, inl, inr, ℕ, zero, suc, ◌+◌, Bool, true, false, ◌||◌, List, [], ◌∷◌, Some, None, Result, Ok, length, map, max, refl, ap, ap₂, sym, subst, ◌∙◌, arith}
+-- Steps over which a guest goes on waiting.
+use Rattle.std.proofs.Common.{◌≡◌, ◌≤◌, ◌<◌, ℕ, zero, suc, ◌+◌, Bool, true, false, ◌||◌, ◌&&◌, List, [], ◌∷◌, Some, None, length, map, max, refl, ap, ap₂, sym, subst, ◌∙◌, arith}
 use Rattle.std.specs.Prelude.{if◌then◌else◌, nat_le, nat_lt, slice_get}
 use Rattle.std.proofs.lemmas.Bool.Decides.{nat_tests}
 use Rattle.std.proofs.lemmas.List.{length-map}
+use Rattle.std.proofs.lemmas.Option.{slice_get_within}
 use Rattle.rpmb_frame.specs.Partition.{sequence}
 use Rattle.rpmb_core.proofs.Following.{sequence_of_all}
 use Rattle.disk.specs.Disk.{DiskState}
 use Rattle.flusher.specs.declared.guest.Guest.{Guest}
-use Rattle.flusher.specs.Progress.{Progress, Synced}
-use Rattle.flusher.specs.declared.progress.StoreFault.{StoreFault}
 use Rattle.flusher.specs.Marks.{marks_of}
-use Rattle.flusher.specs.Round.{Moves, MovedBy, settles}
 use Rattle.flusher.specs.Pair.{mark_of}
 use Rattle.flusher.specs.Store.{StoreState}
 use Rattle.rpmb_book.specs.Asked.{answered_in}
 use Rattle.rpmb_book.specs.Book.{BookView, after_settle, may_settle, state, waiting_of, with_turn}
-use Rattle.rpmb_book.specs.Guest.{GuestState, Held, broken_off, failed_held, kept_or_failed, settled_at}
+use Rattle.rpmb_book.specs.Guest.{GuestCore, GuestState, Held, broken_off, failed_held, kept_or_failed, settled_at}
 use Rattle.rpmb_book.specs.Marks.{marks_for}
-use Rattle.rpmb_book.specs.Turn.{Break, Settle, move_some, settled_all}
+use Rattle.rpmb_book.specs.Turn.{Break, Settle, Turn, after_turn, move_some, settled_all, update}
+use Rattle.rpmb_book.proofs.Replay.{replay-push}
 use Rattle.board.specs.Board.{IsSound}
-use Rattle.board.specs.State.{BoardState, Fault, Marks, guests}
-use Rattle.board.specs.Steps.{Answer, SettlesBy}
-use Rattle.board.proofs.Linked.{as_many, turned}
+use Rattle.board.specs.State.{BoardState, Marks, guests}
+use Rattle.board.proofs.Linked.{as_many, there_is, turned}
 use Rattle.board.proofs.Stays.{marks_at, may_settle_them}
 use Rattle.host.specs.Calm.{is_broken}
 use Rattle.host.specs.Runner.{RunnerView, held_since, runner_of, runner_since, since}
-use Rattle.host.specs.Waiting.{IsLate, Waits}
-use Rattle.flusher.proofs.Pending.{pending_stays}
+use Rattle.host.specs.Waiting.{AreMarked, IsLate, Waits}
 use Rattle.host.proofs.Since.{since_whole}
-use Rattle.host.proofs.Same.{Same, also_there, cores_in, count_same, same_guest, state_of}
 
--- 1. A call that settles nothing
-
-moved_mark : (y y' : Guest) → MovedBy false y y' → mark_of y' ≡ mark_of y
-moved_mark y y' (inl is) = ap mark_of is
-moved_mark y y' (inr is) = ap mark_of is ∙ (pending_stays y).1
-
-pub quiet_same : {D : Type 0} (b b' : BoardState D) (progress : Result Progress StoreFault) (store : StoreState D) → settles progress ≡ false → Moves progress b.store.guests store.guests
-    → store.broken ≡ b.store.broken → b.report ≡ None → b' ≡ record b { store = store; report = None } → Same b b'
-quiet_same b b' progress store settles_not moves broken report is = subst (λ v. Same b v) (sym is) (record {
-  each = λ k x at. (x, at, same_guest x);
-  count = refl;
-  stored = λ k y' at. (let y = also_there store.guests b.store.guests k y' at (sym moves.count) in
-      (y.0, y.1, moved_mark y.0 y' (subst (λ s. MovedBy s y.0 y') settles_not (moves.each k y.0 y' y.1 at))));
-  broken = refl;
-  store = broken;
-  devices = refl;
-  jobs = refl;
-  dones = refl;
-  report = sym report;
-  runner = refl;
-})
-
--- 2. A sync, of which the book hears
-
-kept : (m n : ℕ) → nat_lt n m ≡ false → max m n ≡ n
-kept m n is = grind (arith, nat_tests)
-
-neither : (a b : Bool) → (a || b) ≡ false → (a ≡ false) × (b ≡ false)
-neither true b is = absurd (cc)
-neither false b is = (refl, is)
-
--- where no mark moves anything, a Settle changes nothing
-unmoved : (gs : List GuestState) (ms : List ℕ) → move_some gs ms ≡ false → settled_all gs ms ≡ gs
-unmoved [] ms is = refl
-unmoved (g ∷ gs) [] is = refl
-unmoved (g ∷ gs) (m ∷ ms) is =
-    let both = neither (nat_lt g.settled m) (move_some gs ms) is in
-    rw (kept m g.settled both.0, unmoved gs ms both.1) refl
-
-all_marks : (ms : List ℕ) → marks_for (length ms) ms ≡ ms
-all_marks [] = refl
-all_marks (m ∷ ms) = ap (λ l. m ∷ l) (all_marks ms)
-
--- the book after a Settle: one that moves nothing changes nothing
-pub record IsSettled (b : BookView) (marks : List ℕ) (b' : BookView) : Type 0 where
-  pub guests : (state b').guests ≡ settled_all (state b).guests marks
-  pub broken : (state b').broken ≡ (state b).broken
-  pub count : answered_in (state b').guests ≡ answered_in (state b).guests
-
-pub settled_book : (b : BookView) (shares marks : List ℕ) → may_settle b shares marks ≡ true → length marks ≡ length (state b).guests → IsSettled b marks (after_settle b shares marks)
-settled_book b shares marks may many = by (move_some (state b).guests marks) refl
-  where
-    full : marks_for (length (state b).guests) marks ≡ marks
-    full = ap (λ n. marks_for n marks) (sym many) ∙ all_marks marks
-
-    by : (m : Bool) → move_some (state b).guests marks ≡ m → IsSettled b marks (after_settle b shares marks)
-    by true moves = rw (may, moves, full) (record {
-      guests = ap (λ s. s.guests) (state_of b (Settle marks));
-      broken = ap (λ s. s.broken) (state_of b (Settle marks));
-      count = count_same b (Settle marks) refl;
-    })
-    by false moves = rw (may, moves) (record { guests = sym (unmoved (state b).guests marks moves); broken = refl; count = refl })
-
-pub waiting_settled : (gs : List GuestState) (ms : List ℕ) (k : ℕ) → waiting_of (slice_get (settled_all gs ms) k) ≡ waiting_of (slice_get gs k)
-waiting_settled [] ms k = refl
-waiting_settled (g ∷ gs) [] k = refl
-waiting_settled (g ∷ gs) (m ∷ ms) zero = refl
-waiting_settled (g ∷ gs) (m ∷ ms) (suc k) = waiting_settled gs ms k
-
-pub cores_settled : (gs : List GuestState) (ms : List ℕ) → cores_in (settled_all gs ms) ≡ cores_in gs
-cores_settled [] ms = refl
-cores_settled (g ∷ gs) [] = refl
-cores_settled (g ∷ gs) (m ∷ ms) = ap (λ cs. g.core ∷ cs) (cores_settled gs ms)
-
-length_settled : (gs : List GuestState) (ms : List ℕ) → length (settled_all gs ms) ≡ length gs
-length_settled [] ms = refl
-length_settled (g ∷ gs) [] = refl
-length_settled (g ∷ gs) (m ∷ ms) = ap suc (length_settled gs ms)
-
--- a guest after it
-settled_each : (gs : List GuestState) (ms : List ℕ) (k : ℕ) (x' : GuestState) (m : ℕ) → slice_get (settled_all gs ms) k ≡ Some x' → slice_get ms k ≡ Some m
-    → (x : GuestState) × (slice_get gs k ≡ Some x) × (x' ≡ settled_at m x)
-settled_each [] ms k x' m at mark = absurd (cc)
-settled_each (g ∷ gs) [] k x' m at mark = absurd (cc)
-settled_each (g ∷ gs) (n ∷ ns) zero x' m at mark = (let same : n ≡ m = cc in let is : settled_at n g ≡ x' = cc in (g, refl, sym is ∙ ap (λ v. settled_at v g) same))
-settled_each (g ∷ gs) (n ∷ ns) (suc k) x' m at mark = settled_each gs ns k x' m at mark
+-- where there are as many, there is one
+pub also_there : {X Y : Type 0} (xs : List X) (ys : List Y) (k : ℕ) (x : X) → slice_get xs k ≡ Some x → length ys ≡ length xs → (y : Y) × (slice_get ys k ≡ Some y)
+also_there xs ys k x at many = there_is ys k (let below = slice_get_within xs k x at in omega (arith, below, many))
 
 -- a mark is at most the guest's sequence, and what is settled at most the mark
 pub record IsBelow {D : Type 0} (b : BoardState D) (k : ℕ) (x : GuestState) : Type 0 where
@@ -133,124 +46,240 @@ below shows b k x s at =
     let all : sequence x.core.partition ≡ sequence (s.bases k) + length (s.accepted k) = ap sequence l.partition ∙ sequence_of_all (s.bases k) (s.accepted k) l.in_turn in
     record { stored = t.stored; at = t.in_store; settled = l.settled; mark = omega (arith, mark, within, all) }
 
-greater : (m n : ℕ) → n ≤ m → max m n ≡ m
-greater m n le = grind (arith, nat_tests)
+-- 1. What answers depend on, after a turn
 
--- a board whose book heard of a sync, or of a call that failed
-abbrev heard_of : {D : Type 0} → BoardState D → StoreState D → List ℕ → BoardState D
-heard_of b store told = record b { store = store; report = None; book = after_settle b.book b.shares told }
+pub state_of : (b : BookView) (t : Turn) → state (with_turn b t) ≡ after_turn (state b) t
+state_of b t = replay-push b.opening b.history t
 
-abbrev broken_of : {D : Type 0} → BoardState D → StoreState D → BoardState D
-broken_of b store = record b { store = store; report = None; book = with_turn b.book Break }
+abbrev pub cores_in : List GuestState → List GuestCore
+cores_in gs = map (λ g. g.core) gs
 
--- the guest still waits, and this is what became of the parts
-pub record IsHeard {D : Type 0} (waits : BoardState D → Type 0) (b : BoardState D) (store : StoreState D) (now : List GuestState) (b' : BoardState D) : Type 0 where
-  pub is : waits b'
-  pub stored : b'.store ≡ store
-  pub intents : b'.intents ≡ b.intents
-  pub known : guests b' ≡ now
+abbrev pub runner_in : List GuestState → RunnerView
+runner_in gs = record { cores = cores_in gs; answered = answered_in gs }
 
-pub synced_waits : {D : Type 0} (shows : D → DiskState) (g : ℕ) (start : BoardState D) (reply : Held) (b b1 b2 : BoardState D) (store : StoreState D) (told : List ℕ) (answer : Answer)
-    → Waits shows g start reply b → is_broken b ≡ false → IsSound shows b1 → IsSound shows b2
-    → Moves (Ok (Synced told)) b.store.guests store.guests → store.broken ≡ false → b1 ≡ record b { store = store; report = Some (Marks told) } → SettlesBy b1.report answer b1 b2
-    → IsHeard (Waits shows g start reply) b store (settled_all (guests b) told) b2
-unfolding marks_of
-synced_waits {D = D} shows g start reply b b1 b2 store told answer w whole sound1 sound2 moves broken is settles = record {
-  is = made (sym is2);
-  stored = ap (λ v. v.store) is2;
-  intents = ap (λ v. v.intents) is2;
-  known = ap guests is2 ∙ book.guests;
-}
+-- of one guest more
+abbrev joined : GuestCore → ℕ → RunnerView → RunnerView
+joined c n v = record { cores = c ∷ v.cores; answered = n + v.answered }
+
+pub runner_update : (gs : List GuestState) (n : ℕ) (f : GuestState → GuestState) → ((x : GuestState) → (f x).core ≡ x.core) → ((x : GuestState) → (f x).submits ≡ x.submits) → runner_in (update gs n f) ≡ runner_in gs
+runner_update [] n f core count = refl
+runner_update (g ∷ gs) zero f core count = ap₂ (λ c k. joined c k (runner_in gs)) (core g) (count g)
+runner_update (g ∷ gs) (suc n) f core count = ap (joined g.core g.submits) (runner_update gs n f core count)
+
+pub runner_more : (gs : List GuestState) (n : ℕ) (f : GuestState → GuestState) (h : GuestCore → GuestCore) (x : GuestState) → slice_get gs n ≡ Some x → ((y : GuestState) → (f y).core ≡ h y.core) → ((y : GuestState) → (f y).submits ≡ y.submits + 1)
+    → runner_in (update gs n f) ≡ record { cores = update (cores_in gs) n h; answered = answered_in gs + 1 }
+runner_more [] n f h x at core more = absurd (cc)
+runner_more (g ∷ gs) zero f h x at core more = ap₂ (λ c k. (let r : RunnerView = record { cores = c ∷ cores_in gs; answered = k } in r)) (core g) (omega (arith, more g))
+runner_more (g ∷ gs) (suc n) f h x at core more =
+    let rest = runner_more gs n f h x at core more in
+    ap₂ (λ c k. (let r : RunnerView = record { cores = g.core ∷ c; answered = k } in r)) (ap (λ v. v.cores) rest) (omega (arith, ap (λ v. v.answered) rest))
+
+pub runner_settled : (gs : List GuestState) (ms : List ℕ) → runner_in (settled_all gs ms) ≡ runner_in gs
+runner_settled [] ms = refl
+runner_settled (g ∷ gs) [] = refl
+runner_settled (g ∷ gs) (m ∷ ms) = ap (joined g.core g.submits) (runner_settled gs ms)
+
+runner_broken : (gs : List GuestState) → runner_in (map broken_off gs) ≡ runner_since false true (runner_in gs)
+runner_broken [] = refl
+runner_broken (g ∷ gs) = ap (joined (since false true g.core) g.submits) (runner_broken gs)
+
+-- what a book that heard of a sync keeps
+pub record KeepsRunner (b b' : BookView) : Type 0 where
+  pub broken : (state b').broken ≡ (state b).broken
+  pub runner : runner_in (state b').guests ≡ runner_in (state b).guests
+
+pub settle_keeps : (b : BookView) (shares marks : List ℕ) → KeepsRunner b (after_settle b shares marks)
+settle_keeps b shares marks = by (may_settle b shares marks && move_some (state b).guests marks)
   where
-    s1 : IsSound shows (record b { store = store; report = Some (Marks told) })
-    s1 = subst (IsSound shows) is sound1
+    of : List ℕ
+    of = marks_for (length (state b).guests) marks
 
-    may : may_settle b.book b.shares told ≡ true
-    may = may_settle_them shows s1.config s1.bases s1.accepted s1.parts (record b { store = store; report = Some (Marks told) }) s1.linked told refl
+    by : (moves : Bool) → KeepsRunner b (if moves then with_turn b (Settle of) else b)
+    by true = record {
+      broken = ap (λ s. s.broken) (state_of b (Settle of));
+      runner = ap (λ s. runner_in s.guests) (state_of b (Settle of)) ∙ runner_settled (state b).guests of;
+    }
+    by false = record { broken = refl; runner = refl }
 
-    is2 : b2 ≡ record b { store = store; report = None; book = after_settle b.book b.shares told }
-    is2 = (subst (λ v. SettlesBy v.report answer v b2) is settles).1
+-- 2. Nothing changes that a waiting guest shows, but that more may be settled
 
-    named : told ≡ marks_of store.guests
-    named = moves.marks told refl
+pub record IsSameGuest (x x' : GuestState) : Type 0 where
+  pub held : x'.held ≡ x.held
+  pub core : x'.core ≡ x.core
+  pub settled : x.settled ≤ x'.settled
 
-    many : length told ≡ length (guests b)
-    many = ap length named ∙ length-map store.guests mark_of ∙ s1.linked.held ∙ sym s1.linked.many
+pub same_guest : (x : GuestState) → IsSameGuest x x
+same_guest x = record { held = refl; core = refl; settled = omega arith }
 
-    book : IsSettled b.book told (after_settle b.book b.shares told)
-    book = settled_book b.book b.shares told may many
+pub record Same {D : Type 0} (b b' : BoardState D) : Type 0 where
+  pub each : (k : ℕ) (x' : GuestState) → slice_get (guests b') k ≡ Some x' → (x : GuestState) × (slice_get (guests b) k ≡ Some x) × IsSameGuest x x'
+  pub count : length (guests b') ≡ length (guests b)
+  pub marked : AreMarked b → AreMarked b'
+  pub broken : is_broken b' ≡ is_broken b
+  pub store : b'.store.broken ≡ b.store.broken
+  pub devices : b'.devices ≡ b.devices
+  pub jobs : b'.jobs ≡ b.jobs
+  pub dones : b'.dones ≡ b.dones
+  pub report : b'.report ≡ b.report
+  pub runner : runner_of b' ≡ runner_of b
 
-    sound : IsSound shows (heard_of b store told)
-    sound = subst (IsSound shows) is2 sound2
+-- where the book stays, and the store alone moved, and no mark
+pub stored_same : {D : Type 0} (b b' : BoardState D) → b'.book ≡ b.book → ((k : ℕ) (y' : Guest) → slice_get b'.store.guests k ≡ Some y' → (y : Guest) × (slice_get b.store.guests k ≡ Some y) × (mark_of y' ≡ mark_of y)) → b'.store.broken ≡ b.store.broken
+    → b'.devices ≡ b.devices → b'.jobs ≡ b.jobs → b'.dones ≡ b.dones → b'.report ≡ b.report → Same b b'
+stored_same b b' book marks broken devices jobs dones report = record {
+  each = λ k x at. (x, ap (λ v. slice_get (state v).guests k) (sym book) ∙ at, same_guest x);
+  count = ap (λ v. length (state v).guests) book;
+  marked = λ marked k x y' at there. (let y = marks k y' there in marked k x y.0 (ap (λ v. slice_get (state v).guests k) (sym book) ∙ at) y.1 ∙ sym y.2);
+  broken = ap (λ v. (state v).broken) book;
+  store = broken;
+  devices = devices;
+  jobs = jobs;
+  dones = dones;
+  report = report;
+  runner = ap (λ v. runner_in (state v).guests) book;
+}
 
-    -- a guest, and its mark
-    each : (k : ℕ) (x' : GuestState) (y : Guest) → slice_get (guests (heard_of b store told)) k ≡ Some x' → slice_get store.guests k ≡ Some y → (x : GuestState) × (slice_get (guests b) k ≡ Some x) × (x' ≡ settled_at (mark_of y) x)
-    each k x' y at there = settled_each (guests b) told k x' (mark_of y) (sym (ap (λ l. slice_get l k) book.guests) ∙ at) (ap (λ l. slice_get l k) named ∙ marks_at store.guests k y there)
+pub still : {D : Type 0} (b b' : BoardState D) → b' ≡ b → Same b b'
+still b b' is = subst (λ v. Same b v) (sym is) (stored_same b b refl (λ k y at. (y, at, refl)) refl refl refl refl refl)
 
-    of_store : (k : ℕ) (x' : GuestState) → slice_get (guests (heard_of b store told)) k ≡ Some x' → IsBelow (heard_of b store told) k x'
-    of_store k x' at = below shows (heard_of b store told) k x' sound at
+pub same_waits : {D : Type 0} (shows : D → DiskState) (g : ℕ) (start : BoardState D) (reply : Held) (b b' : BoardState D)
+    → Waits shows g start reply b → Same b b' → IsSound shows b' → Waits shows g start reply b'
+same_waits shows g start reply b b' w s sound =
+    let y = also_there (guests b) (guests b') g w.guest w.there s.count in
+    let x = s.each g y.0 y.1 in
+    let is : x.0 ≡ w.guest = (let a = x.1 in let c = w.there in cc) in
+    let whole = λ (known : is_broken b' ≡ false). sym s.broken ∙ known in
+    record {
+      sound = sound;
+      guest = y.0;
+      there = y.1;
+      held = w.held;
+      holds = x.2.held ∙ ap (λ v. v.held) is ∙ w.holds;
+      same = w.same ∙ ap (λ k. held_since (is_broken start) k reply) (sym s.broken);
+      need = λ known. w.need (whole known) ∙ ap (λ c. sequence c.partition) (sym (x.2.core ∙ ap (λ v. v.core) is));
+      late = λ broken. (let le = w.late (sym s.broken ∙ broken) in let grown = x.2.settled in let settled = ap (λ v. v.settled) is in omega (arith, le, grown, settled));
+      others = λ k v other at. (let u = s.each k v at in let calm = w.others k u.0 other u.1 in record {
+        none = u.2.held ∙ calm.none;
+        settled = λ known. (
+            let full = calm.settled (whole known) in
+            let core = ap (λ c. sequence c.partition) u.2.core in
+            let grown = u.2.settled in
+            let z = below shows b' k v sound at in
+            let most = z.settled in
+            let mark = z.mark in
+            omega (arith, full, core, grown, most, mark));
+      });
+      marked = λ known. s.marked (w.marked (whole known));
+      replies = λ k o at. w.replies k o (ap (λ l. slice_get l k) (sym s.dones) ∙ at);
+      dones = s.dones ∙ w.dones;
+      report = s.report ∙ w.report;
+      broken = s.store ∙ w.broken ∙ sym s.broken;
+      stays = record {
+        devices = s.devices ∙ w.stays.devices;
+        jobs = s.jobs ∙ w.stays.jobs;
+        runner = s.runner ∙ w.stays.runner ∙ ap (λ k. runner_since (is_broken start) k (runner_of start)) (sym s.broken);
+        whole = λ known. w.stays.whole (whole known);
+      };
+    }
 
-    same_mark : (k : ℕ) (x' : GuestState) (y : Guest) → slice_get (guests (heard_of b store told)) k ≡ Some x' → slice_get store.guests k ≡ Some y → x'.settled ≡ mark_of y
-    same_mark k x' y at there =
-        let x = each k x' y at there in
-        let most = (of_store k x' at).settled in
-        let other = (of_store k x' at).at in
-        let same : (of_store k x' at).stored ≡ y = cc in
-        let marked : mark_of (of_store k x' at).stored ≡ mark_of y = ap mark_of same in
-        let settled : x'.settled ≡ max (mark_of y) x.0.settled = ap (λ v. v.settled) x.2 in
-        largest (mark_of y) x.0.settled x'.settled settled (omega (arith, most, marked))
-      where
-        largest : (m n s : ℕ) → s ≡ max m n → s ≤ m → s ≡ m
-        largest m n s is le = grind (arith, nat_tests)
+-- 3. A sync, of which the book hears
 
-    made : (heard_of b store told) ≡ b2 → Waits shows g start reply b2
-    made to =
-        let whole' : is_broken (heard_of b store told) ≡ false = book.broken ∙ whole in
-        let y = also_there (guests b) (guests (heard_of b store told)) g w.guest w.there (ap length book.guests ∙ length_settled (guests b) told) in
-        let z = of_store g y.0 y.1 in
-        let x = each g y.0 z.stored y.1 z.at in
-        let same : x.0 ≡ w.guest = (let a = x.1 in let c = w.there in cc) in
-        let core : y.0.core ≡ w.guest.core = ap (λ v. v.core) x.2 ∙ ap (λ v. v.core) same in
-        subst (Waits shows g start reply) to (record {
-          sound = sound;
-          guest = y.0;
-          there = y.1;
-          held = w.held;
-          holds = ap (λ v. v.held) x.2 ∙ ap (λ v. v.held) same ∙ w.holds;
-          same = w.same ∙ ap (λ k. held_since (is_broken start) k reply) (sym book.broken);
-          need = λ is. w.need whole ∙ ap (λ c. sequence c.partition) (sym core);
-          late = λ broke. absurd (let no = whole' in cc);
-          others = λ k v other at. (let s = of_store k v at in let u = each k v s.stored at s.at in let calm = w.others k u.0 other u.1 in record {
-            none = ap (λ q. q.held) u.2 ∙ calm.none;
-            settled = λ is. (
-                let least = calm.settled whole in
-                let now_settled = same_mark k v s.stored at s.at in
-                let most = s.mark in
-                let same_core : sequence v.core.partition ≡ sequence u.0.core.partition = ap (λ q. sequence q.core.partition) u.2 in
-                let grown : v.settled ≡ max (mark_of s.stored) u.0.settled = ap (λ q. q.settled) u.2 in
-                squeezed (mark_of s.stored) u.0.settled (sequence v.core.partition) v.settled grown now_settled most (least ∙ sym same_core));
-          });
-          marked = λ is k v y' at there. same_mark k v y' at there;
-          replies = w.replies;
-          dones = w.dones;
-          report = refl;
-          broken = broken ∙ sym whole';
-          stays = record {
-            devices = w.stays.devices;
-            jobs = w.stays.jobs;
-            runner = ap₂ (λ c k. (let r : RunnerView = record { cores = c; answered = k } in r)) (ap cores_in book.guests ∙ cores_settled (guests b) told) book.count ∙ w.stays.runner ∙ ap (λ k. runner_since (is_broken start) k (runner_of start)) (sym book.broken);
-            whole = λ is. w.stays.whole whole;
-          };
-        })
-      where
-        squeezed : (m n q s : ℕ) → s ≡ max m n → s ≡ m → m ≤ q → n ≡ q → s ≡ q
-        squeezed m n q s is same le eq = grind (arith, nat_tests)
+-- where no mark moves anything, a Settle changes nothing
+unmoved : (gs : List GuestState) (ms : List ℕ) → move_some gs ms ≡ false → settled_all gs ms ≡ gs
+unmoved [] ms is = refl
+unmoved (g ∷ gs) [] is = refl
+unmoved (g ∷ gs) (m ∷ ms) is =
+    let both = neither (nat_lt g.settled m) (move_some gs ms) is in
+    rw (kept m g.settled both.0, unmoved gs ms both.1) refl
+  where
+    kept : (m n : ℕ) → nat_lt n m ≡ false → max m n ≡ n
+    kept m n is = grind (arith, nat_tests)
 
--- 3. A call that failed, of which the book hears
+    neither : (a b : Bool) → (a || b) ≡ false → (a ≡ false) × (b ≡ false)
+    neither true b is = absurd (cc)
+    neither false b is = (refl, is)
 
--- a reply that is late is not kept
-failed_late : (settled : ℕ) (h : Held) → settled < h.done.need → kept_or_failed settled h ≡ failed_held h
-failed_late settled h late = (let is : nat_le h.done.need settled ≡ false = grind (arith, nat_tests) in rw is refl)
+all_marks : (ms : List ℕ) → marks_for (length ms) ms ≡ ms
+all_marks [] = refl
+all_marks (m ∷ ms) = ap (λ l. m ∷ l) (all_marks ms)
+
+settled_guests : (b : BookView) (shares marks : List ℕ) → may_settle b shares marks ≡ true → length marks ≡ length (state b).guests → (state (after_settle b shares marks)).guests ≡ settled_all (state b).guests marks
+settled_guests b shares marks may many = by (move_some (state b).guests marks) refl
+  where
+    full : marks_for (length (state b).guests) marks ≡ marks
+    full = ap (λ n. marks_for n marks) (sym many) ∙ all_marks marks
+
+    by : (m : Bool) → move_some (state b).guests marks ≡ m → (state (after_settle b shares marks)).guests ≡ settled_all (state b).guests marks
+    by true moves = rw (may, moves, full) (ap (λ s. s.guests) (state_of b (Settle marks)))
+    by false moves = rw (may, moves) (sym (unmoved (state b).guests marks moves))
+
+waiting_settled : (gs : List GuestState) (ms : List ℕ) (k : ℕ) → waiting_of (slice_get (settled_all gs ms) k) ≡ waiting_of (slice_get gs k)
+waiting_settled [] ms k = refl
+waiting_settled (g ∷ gs) [] k = refl
+waiting_settled (g ∷ gs) (m ∷ ms) zero = refl
+waiting_settled (g ∷ gs) (m ∷ ms) (suc k) = waiting_settled gs ms k
+
+length_settled : (gs : List GuestState) (ms : List ℕ) → length (settled_all gs ms) ≡ length gs
+length_settled [] ms = refl
+length_settled (g ∷ gs) [] = refl
+length_settled (g ∷ gs) (m ∷ ms) = ap suc (length_settled gs ms)
+
+settled_same : (gs : List GuestState) (ms : List ℕ) (k : ℕ) (x' : GuestState) → slice_get (settled_all gs ms) k ≡ Some x' → (x : GuestState) × (slice_get gs k ≡ Some x) × IsSameGuest x x'
+settled_same [] ms k x' at = absurd (cc)
+settled_same (g ∷ gs) [] k x' at = (x', at, same_guest x')
+settled_same (g ∷ gs) (n ∷ ns) zero x' at = (let is : settled_at n g ≡ x' = cc in (g, refl, subst (IsSameGuest g) is (record { held = refl; core = refl; settled = omega arith })))
+settled_same (g ∷ gs) (n ∷ ns) (suc k) x' at = settled_same gs ns k x' at
+
+settled_least : (gs : List GuestState) (ms : List ℕ) (k : ℕ) (x' : GuestState) (m : ℕ) → slice_get (settled_all gs ms) k ≡ Some x' → slice_get ms k ≡ Some m → m ≤ x'.settled
+settled_least [] ms k x' m at mark = absurd (cc)
+settled_least (g ∷ gs) [] k x' m at mark = absurd (cc)
+settled_least (g ∷ gs) (n ∷ ns) zero x' m at mark =
+    let same : n ≡ m = cc in
+    let is : settled_at n g ≡ x' = cc in
+    let settled = ap (λ v. v.settled) is in
+    omega (arith, same, settled)
+settled_least (g ∷ gs) (n ∷ ns) (suc k) x' m at mark = settled_least gs ns k x' m at mark
+
+module _ {D : Type 0} (shows : D → DiskState) (b : BoardState D) (store : StoreState D) (told : List ℕ) (before : IsSound shows (record b { store = store; report = Some (Marks told) })) where
+  abbrev heard_of : BoardState D
+  heard_of = record b { store = store; report = None; book = after_settle b.book b.shares told }
+
+  named : told ≡ marks_of store.guests
+  named = before.linked.reported told refl
+
+  known : guests heard_of ≡ settled_all (guests b) told
+  unfolding marks_of
+  known = settled_guests b.book b.shares told (may_settle_them shows before.config before.bases before.accepted before.parts (record b { store = store; report = Some (Marks told) }) before.linked told refl)
+      (ap length named ∙ length-map store.guests mark_of ∙ before.linked.held ∙ sym before.linked.many)
+
+  pub waiting_heard : (g : ℕ) → waiting_of (slice_get (guests heard_of) g) ≡ waiting_of (slice_get (guests b) g)
+  waiting_heard g = ap (λ l. waiting_of (slice_get l g)) known ∙ waiting_settled (guests b) told g
+
+  pub synced_same : b.report ≡ None → store.broken ≡ b.store.broken → IsSound shows heard_of → Same b heard_of
+  synced_same report broken sound = record {
+    each = λ k x' at. settled_same (guests b) told k x' (ap (λ l. slice_get l k) (sym known) ∙ at);
+    count = ap length known ∙ length_settled (guests b) told;
+    marked = λ marked k x' y at there. (
+        let z = below shows heard_of k x' sound at in
+        let other = z.at in
+        let same : z.stored ≡ y = cc in
+        let to = ap mark_of same in
+        let most = z.settled in
+        let least = settled_least (guests b) told k x' (mark_of y) (ap (λ l. slice_get l k) (sym known) ∙ at) (ap (λ l. slice_get l k) named ∙ marks_at store.guests k y there) in
+        omega (arith, to, most, least));
+    broken = kept.broken;
+    store = broken;
+    devices = refl;
+    jobs = refl;
+    dones = refl;
+    report = sym report;
+    runner = kept.runner;
+  }
+    where
+      kept : KeepsRunner b.book (after_settle b.book b.shares told)
+      kept = settle_keeps b.book b.shares told
+
+-- 4. A call that failed, of which the book hears
 
 kept_need : (settled : ℕ) (h : Held) → (kept_or_failed settled h).done.need ≤ settled
 kept_need settled h = by (nat_le h.done.need settled) refl
@@ -259,66 +288,70 @@ kept_need settled h = by (nat_le h.done.need settled) refl
     by true is = grind (arith, nat_tests)
     by false is = omega arith
 
-cores_broken_off : (gs : List GuestState) → cores_in (map broken_off gs) ≡ map (since false true) (cores_in gs)
-cores_broken_off [] = refl
-cores_broken_off (g ∷ gs) = ap (λ cs. since false true g.core ∷ cs) (cores_broken_off gs)
+module _ {D : Type 0} (shows : D → DiskState) (g : ℕ) (start : BoardState D) (reply : Held) (b : BoardState D) (store : StoreState D) where
+  abbrev broken_of : BoardState D
+  broken_of = record b { store = store; report = None; book = with_turn b.book Break }
 
-pub broken_waits : {D : Type 0} (shows : D → DiskState) (g : ℕ) (start : BoardState D) (reply : Held) (b b1 b2 : BoardState D) (store : StoreState D) (answer : Answer)
-    → Waits shows g start reply b → is_broken b ≡ false → IsLate g b → IsSound shows b2
-    → store.broken ≡ true → b1 ≡ record b { store = store; report = Some Fault } → SettlesBy b1.report answer b1 b2
-    → Waits shows g start reply b2 × (b2.store ≡ store)
-broken_waits {D = D} shows g start reply b b1 b2 store answer w whole late sound2 broken is settles = (made (sym is2), ap (λ v. v.store) is2)
-  where
-    is2 : b2 ≡ (broken_of b store)
-    is2 = (subst (λ v. SettlesBy v.report answer v b2) is settles).1 ∙ rw whole refl
+  pub broken_waits : Waits shows g start reply b → IsLate g b → store.broken ≡ true → IsSound shows broken_of → Waits shows g start reply broken_of
+  broken_waits w is_late broken sound = record {
+    sound = sound;
+    guest = y.0;
+    there = y.1;
+    held = kept_or_failed w.guest.settled w.held;
+    holds = ap (λ v. v.held) x.2 ∙ ap (λ v. map (kept_or_failed v.settled) v.held) same ∙ ap (map (kept_or_failed w.guest.settled)) w.holds;
+    same = failed_late ∙ ap failed_held (w.same ∙ ap₂ (λ was now. held_since was now reply) started whole) ∙ ap₂ (λ was now. held_since was now reply) (sym started) (sym broke);
+    need = λ known. absurd (unbroken known);
+    late = λ yes. (let le = kept_need w.guest.settled w.held in let settled = ap (λ v. v.settled) x.2 in let mine = ap (λ v. v.settled) same in omega (arith, le, settled, mine));
+    others = λ k v other at. (let u = each k v at in record {
+      none = ap (λ q. q.held) u.2 ∙ ap (map (kept_or_failed u.0.settled)) (w.others k u.0 other u.1).none;
+      settled = λ known. absurd (unbroken known);
+    });
+    marked = λ known. absurd (unbroken known);
+    replies = w.replies;
+    dones = w.dones;
+    report = refl;
+    broken = broken ∙ sym broke;
+    stays = record {
+      devices = w.stays.devices;
+      jobs = w.stays.jobs;
+      runner = ap (λ s. runner_in s.guests) (state_of b.book Break) ∙ rw whole (runner_broken (guests b))
+          ∙ ap (runner_since false true) (w.stays.runner ∙ since_whole (is_broken start) (is_broken b) (runner_of start) whole)
+          ∙ ap₂ (λ was now. runner_since was now (runner_of start)) (sym started) (sym broke);
+      whole = λ known. absurd (unbroken known);
+    };
+  }
+    where
+      whole : is_broken b ≡ false
+      whole = is_late.whole
 
-    cores_broke : cores_in (guests (broken_of b store)) ≡ map (since false true) (cores_in (guests b))
-    cores_broke = ap (λ s. cores_in s.guests) (state_of b.book Break) ∙ rw whole (cores_broken_off (guests b))
+      started : is_broken start ≡ false
+      started = w.stays.whole whole
 
-    broke : is_broken (broken_of b store) ≡ true
-    broke = ap (λ s. s.broken) (state_of b.book Break) ∙ rw whole refl
+      broke : is_broken broken_of ≡ true
+      broke = ap (λ s. s.broken) (state_of b.book Break) ∙ rw whole refl
 
-    each : (k : ℕ) (x' : GuestState) → slice_get (guests (broken_of b store)) k ≡ Some x' → (x : GuestState) × (slice_get (guests b) k ≡ Some x) × (x' ≡ broken_off x)
-    each k x' at = (let x = turned b.book Break k x' at in (x.0, x.1, x.2 ∙ rw whole refl))
+      unbroken : is_broken broken_of ≡ false → ⊥
+      unbroken known = (let yes = broke in cc)
 
-    due : w.guest.settled < w.held.done.need
-    due = (let less = late.late w.guest w.there in let need = w.need whole in omega (arith, less, need))
+      each : (k : ℕ) (x' : GuestState) → slice_get (guests broken_of) k ≡ Some x' → (x : GuestState) × (slice_get (guests b) k ≡ Some x) × (x' ≡ broken_off x)
+      each k x' at = (let x = turned b.book Break k x' at in (x.0, x.1, x.2 ∙ rw whole refl))
 
-    -- as it was made, until now
-    was_held : w.held ≡ reply
-    was_held = w.same ∙ ap₂ (λ was now. held_since was now reply) (w.stays.whole whole) whole
+      y : (v : GuestState) × (slice_get (guests broken_of) g ≡ Some v)
+      y = also_there (guests b) (guests broken_of) g w.guest w.there (as_many b.book Break)
 
-    made : (broken_of b store) ≡ b2 → Waits shows g start reply b2
-    made to =
-        let y = also_there (guests b) (guests (broken_of b store)) g w.guest w.there (as_many b.book Break) in
-        let x = each g y.0 y.1 in
-        let same : x.0 ≡ w.guest = (let a = x.1 in let c = w.there in cc) in
-        let settled : y.0.settled ≡ w.guest.settled = ap (λ v. v.settled) x.2 ∙ ap (λ v. v.settled) same in
-        let le = kept_need w.guest.settled w.held in
-        subst (Waits shows g start reply) to (record {
-          sound = subst (IsSound shows) is2 sound2;
-          guest = y.0;
-          there = y.1;
-          held = kept_or_failed w.guest.settled w.held;
-          holds = ap (λ v. v.held) x.2 ∙ ap (λ v. map (kept_or_failed v.settled) v.held) same ∙ ap (map (kept_or_failed w.guest.settled)) w.holds;
-          same = failed_late w.guest.settled w.held due ∙ ap failed_held was_held ∙ ap₂ (λ was now. held_since was now reply) (sym (w.stays.whole whole)) (sym broke);
-          need = λ no. absurd (let yes = broke in cc);
-          late = λ yes. omega (arith, le, settled);
-          others = λ k v other at. (let u = each k v at in record {
-            none = ap (λ q. q.held) u.2 ∙ ap (map (kept_or_failed u.0.settled)) (w.others k u.0 other u.1).none;
-            settled = λ no. absurd (let yes = broke in cc);
-          });
-          marked = λ no. absurd (let yes = broke in cc);
-          replies = w.replies;
-          dones = w.dones;
-          report = refl;
-          broken = broken ∙ sym broke;
-          stays = record {
-            devices = w.stays.devices;
-            jobs = w.stays.jobs;
-            runner = ap₂ (λ c k. (let r : RunnerView = record { cores = c; answered = k } in r)) cores_broke (count_same b.book Break refl)
-                ∙ ap (runner_since false true) (w.stays.runner ∙ since_whole (is_broken start) (is_broken b) (runner_of start) whole)
-                ∙ ap₂ (λ was now. runner_since was now (runner_of start)) (sym (w.stays.whole whole)) (sym broke);
-            whole = λ no. absurd (let yes = broke in cc);
-          };
-        })
+      x : (v : GuestState) × (slice_get (guests b) g ≡ Some v) × (y.0 ≡ broken_off v)
+      x = each g y.0 y.1
+
+      same : x.0 ≡ w.guest
+      same = (let a = x.1 in let c = w.there in cc)
+
+      -- a reply that is late is not kept
+      failed_late : kept_or_failed w.guest.settled w.held ≡ failed_held w.held
+      failed_late =
+          let less = is_late.late w.guest w.there in
+          let need = w.need whole in
+          let is : nat_le w.held.done.need w.guest.settled ≡ false = late_is w.held.done.need w.guest.settled (omega (arith, less, need)) in
+          rw is refl
+        where
+          late_is : (n m : ℕ) → m < n → nat_le n m ≡ false
+          late_is n m less = grind (arith, nat_tests)

@@ -20,8 +20,7 @@ use Rattle.host.specs.Calm.{IsCalm, is_broken}
 use Rattle.host.specs.Finishing.{LeavesAll}
 use Rattle.board.specs.Moving.{Moves}
 use Rattle.host.specs.Runner.{runner_of}
-use Rattle.host.proofs.Same.{also_there, cores_in}
-use Rattle.host.proofs.Settled.{below}
+use Rattle.host.proofs.Settled.{also_there, below, cores_in}
 
 -- the cores of a list of guests, by their places
 core_at : (xs ys : List GuestState) (g : ℕ) (x y : GuestState) → cores_in xs ≡ cores_in ys → slice_get xs g ≡ Some x → slice_get ys g ≡ Some y → x.core ≡ y.core
