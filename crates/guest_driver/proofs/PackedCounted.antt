@@ -145,7 +145,6 @@ back_counted driver id counted head =
     let some : owner driver.owners id ≢ None = λ none. absurd (let both : Some id ≡ None = sym head ∙ none in cc) in
     let one : slice_set owners flight.last None ≡ owners = one_id driver.owners id flight.last None (counted.alone id some) in
     let less : places_taken owners driver.flights + flight.places ≡ taken = taken-less driver.owners driver.flights id id (omega (arith, owned, flown)) head in
-    let few = counted.room in
     let goes : mark_after driver.form.kind size driver.used flight.places ≡ mark_of size (counted.reaped + flight.places) =
     ap (λ (k : RingKind). mark_after k size driver.used flight.places) kind ∙ ap (λ (u : ℕ). mark_after Packed size u flight.places) counted.used
     ∙ mark_next size counted.reaped flight.places in
@@ -158,7 +157,7 @@ back_counted driver id counted head =
       reaped = counted.reaped + flight.places;
       used = goes;
       offered = counted.offered ∙ ap (mark_of size) (omega (arith, less));
-      room = omega (arith, less, few);
+      room = omega (arith, less);
     } in
     subst (λ (o : List (Option ℕ)). IsCounted (record (after_reap driver id) { owners = o })) (sym one) kept
 
@@ -174,15 +173,13 @@ reap_counted memory driver (Err BadUsed) driver' counted reaps = subst IsCounted
 none_free : (driver : DriverState) → IsCounted driver → AreTaken driver.owners 0 → free_places driver.size driver.offered driver.used ≡ 0
 none_free driver counted taken =
     let size = driver.size in
-    let owned = counted.owned in
-    let flown = counted.flown in
     let few = counted.room in
     let count : ℕ = places_taken driver.owners driver.flights in
-    let all : length driver.owners ≤ count = taken-all driver.owners driver.flights (omega (arith, owned, flown)) (λ i low. taken i (omega arith) low) (λ i low. counted.each i (taken i (omega arith) low)) in
+    let all : length driver.owners ≤ count = taken-all driver.owners driver.flights (omega arith) (λ i low. taken i (omega arith) low) (λ i low. counted.each i (taken i (omega arith) low)) in
     elim (cases_lt 0 size) [
       | inl some ↦ (
           let is = free_is size counted.reaped count some few in
-          let none : free_places size (mark_of size (counted.reaped + count)) (mark_of size counted.reaped) ≡ 0 = omega (arith, is, all, owned) in
+          let none : free_places size (mark_of size (counted.reaped + count)) (mark_of size counted.reaped) ≡ 0 = omega (arith, is, all) in
           ap (λ (o : ℕ). free_places size o driver.used) counted.offered ∙ ap (free_places size (mark_of size (counted.reaped + count))) counted.used ∙ none
           )
       | inr empty ↦ omega (arith, empty)

@@ -105,8 +105,7 @@ all_taken size offered used next owners flights s long is = λ k low below.
 pub too_few : (size offered used next : ℕ) (owners : List (Option ℕ)) (flights : List Flight) (two : Bool) → IsStretch size offered used next owners flights → length owners ≡ size
     → ¬ HasNextFree owners next two → HasTooFew owners two
 too_few size offered used next owners flights false s long none =
-    let low = s.next_low in
-    all_taken size offered used next owners flights s long (λ free. none (record { below = omega (arith, long, low); free = free }))
+    all_taken size offered used next owners flights s long (λ free. none (record { below = omega (arith, long); free = free }))
 too_few size offered used next owners flights true s long none = λ d below free k above small.
     let low = s.next_low in
     let inside : next < length owners = omega (arith, long, low) in
@@ -179,9 +178,8 @@ room_for size offered used next last count owners flights s t =
     elim t.is [
       | inl one ↦ let k = one.1 in omega (arith, k, some)
       | inr two ↦
-          let k = two.2 in
           elim (cases_lt (s.many + 1) size) [
-            | inl less ↦ omega (arith, k, less)
+            | inl less ↦ omega (arith, less)
             | inr full ↦
                 absurd (s.covers last t.low (others_within size s.first s.many next last a b c s.ends (omega (arith, full)) t.low two.1) t.last_free)
           ]
@@ -189,14 +187,7 @@ room_for size offered used next last count owners flights s t =
 
 ends_more : (size first many next last count behind : ℕ) → Numbers size first many next last count behind → IsBehind size first (many + count) behind
 ends_more size first many next last count behind n =
-    let a = n.first_low in
-    let b = n.many_low in
-    let c = n.next_low in
-    let d = n.last_low in
-    let e = n.ends in
-    let f = n.spans in
-    let g = n.follower in
-    omega (arith, a, b, c, d, e, f, g)
+    omega arith
 
 within_more : (size first many next last count behind d : ℕ) → Numbers size first many next last count behind → IsWithin size first many d → IsWithin size first (many + count) d
 within_more size first many next last count behind d n w =
@@ -205,32 +196,17 @@ within_more size first many next last count behind d n w =
 
 next_is_within : (size first many next last count behind : ℕ) → Numbers size first many next last count behind → IsWithin size first (many + count) next
 next_is_within size first many next last count behind n =
-    let a = n.first_low in
-    let b = n.many_low in
-    let c = n.next_low in
-    let e = n.ends in
-    let f = n.spans in
-    omega (arith, a, b, c, e, f)
+    omega arith
 
 last_is_within : (size first many next last count behind : ℕ) → Numbers size first many next last count behind → IsWithin size first (many + count) last
 last_is_within size first many next last count behind n =
-    let a = n.first_low in
-    let b = n.many_low in
-    let c = n.next_low in
-    let e = n.ends in
-    let f = n.spans in
-    omega (arith, a, b, c, e, f)
+    omega arith
 
 others_were : (size first many next last count behind d : ℕ) → Numbers size first many next last count behind → d < size → d ≢ next → d ≢ last
     → IsWithin size first (many + count) d → IsWithin size first many d
 others_were size first many next last count behind d n low p q w =
-    let a = n.first_low in
-    let b = n.many_low in
-    let c = n.next_low in
-    let e = n.ends in
-    let f = n.spans in
     let g = within_cases size first (many + count) d w in
-    omega (arith, a, b, c, e, f, g, low, p, q)
+    omega (arith, g, low, p, q)
 
 -- each chain has a descriptor of its own
 few_of : (size offered used next : ℕ) (owners : List (Option ℕ)) (flights : List Flight) → (s : IsStretch size offered used next owners flights) → turn used offered ≤ s.many
@@ -239,9 +215,8 @@ few_of size offered used next owners flights s =
       | inl some ↦
           let old = s.oldest some in
           let h = s.room s.first s.first_low old.0 in
-          let zero = old.1 in
           let p = one_cases size s.first s.many (turn used offered) (turn_of used flights s.first) s.first h in
-          omega (arith, p, zero)
+          omega (arith, p)
       | inr none ↦ omega (arith, none)
     ]
 
@@ -252,11 +227,7 @@ room_old size first many count chains t d some h =
 
 room_new : (size first many next last count behind chains t : ℕ) → 0 < count → t ≡ chains → Numbers size first many next last count behind → HaveOne size first (many + count) (chains + 1) t next
 room_new size first many next last count behind chains t some is n =
-    let a = n.first_low in
-    let c = n.next_low in
-    let b = n.many_low in
-    let e = n.ends in
-    omega (arith, a, b, c, e, some, is)
+    omega (arith, some, is)
 
 -- what the owners and the flights are with the chain
 record Gains (size next last : ℕ) (owners owners' : List (Option ℕ)) (flights flights' : List Flight) (f : Flight) : Type 0 where
@@ -486,67 +457,35 @@ record Fewer (size first many next last count behind : ℕ) : Type 0 where
 -- the first of the stretch are given back
 ends_less : (size first many next last count behind : ℕ) → Fewer size first many next last count behind → IsBehind size behind (many - count) next
 ends_less size first many next last count behind n =
-    let a = n.first_low in
-    let b = n.many_low in
-    let c = n.next_low in
-    let d = n.enough in
-    let e = n.ends in
-    let f = n.spans in
-    let g = n.follower in
-    omega (arith, a, b, c, d, e, f, g)
+    omega arith
 
 within_less : (size first many next last count behind d : ℕ) → Fewer size first many next last count behind → d < size → d ≢ first → d ≢ last → IsWithin size first many d
     → IsWithin size behind (many - count) d
 within_less size first many next last count behind d n low p q w =
-    let a = n.first_low in
-    let b = n.many_low in
-    let c = n.enough in
-    let f = n.spans in
-    let g = n.follower in
     let h = within_cases size first many d w in
-    omega (arith, a, b, c, f, g, h, low, p, q)
+    omega (arith, h, low, p, q)
 
 within_was : (size first many next last count behind d : ℕ) → Fewer size first many next last count behind → d < size → IsWithin size behind (many - count) d → IsWithin size first many d
 within_was size first many next last count behind d n low w =
-    let a = n.first_low in
-    let b = n.many_low in
-    let c = n.enough in
-    let f = n.spans in
-    let g = n.follower in
     let h = within_cases size behind (many - count) d w in
-    omega (arith, a, b, c, f, g, h, low)
+    omega (arith, h, low)
 
 first_left : (size first many next last count behind : ℕ) → Fewer size first many next last count behind → IsWithin size behind (many - count) first → ⊥
 first_left size first many next last count behind n w =
-    let a = n.first_low in
-    let b = n.many_low in
-    let c = n.enough in
-    let f = n.spans in
-    let g = n.follower in
     let h = within_cases size behind (many - count) first w in
-    omega (arith, a, b, c, f, g, h)
+    omega (arith, h)
 
 last_left : (size first many next last count behind : ℕ) → Fewer size first many next last count behind → IsWithin size behind (many - count) last → ⊥
 last_left size first many next last count behind n w =
-    let a = n.first_low in
-    let b = n.many_low in
-    let c = n.enough in
-    let f = n.spans in
-    let g = n.follower in
     let h = within_cases size behind (many - count) last w in
-    omega (arith, a, b, c, f, g, h)
+    omega (arith, h)
 
 room_less : (size first many next last count behind chains chains' t t' d : ℕ) → Fewer size first many next last count behind → d < size → d ≢ first → d ≢ last → IsWithin size first many d
     → chains' + 1 ≡ chains → t' + 1 ≡ t → HaveOne size first many chains t d → HaveOne size behind (many - count) chains' t' d
 room_less size first many next last count behind chains chains' t t' d n low p q w less turns h =
-    let a = n.first_low in
-    let b = n.many_low in
-    let c = n.enough in
-    let f = n.spans in
-    let g = n.follower in
     let i = one_cases size first many chains t d h in
     let j = within_cases size first many d w in
-    omega (arith, a, b, c, f, g, i, j, low, p, q, less, turns)
+    omega (arith, i, j, low, p, q, less, turns)
 
 record Loses (size id last : ℕ) (owners owners' : List (Option ℕ)) : Type 0 where
   head : owner owners' id ≡ None
@@ -602,12 +541,11 @@ turn_is_less size offered used next id last owners owners' flights d s tail id_l
       owned = g.others l l_not_id l_not_last ∙ old.owned;
       older = λ more.
           (let o = old.older (omega (arith, more, less, fewer)) in
-          let turns = o.1 in
-          let b_not_id : b ≢ id = λ e. (let z = ap (turn_of used flights) e ∙ zero in absurd (omega (arith, z, turns))) in
+          let b_not_id : b ≢ id = λ e. (let z = ap (turn_of used flights) e ∙ zero in absurd (omega (arith, z))) in
           let b_not_last : b ≢ last = λ e. b_not_id (some_same b id (owner owners last) (ap (owner owners) (sym e) ∙ o.0) tail) in
           let b_turn = s.each b b_low o.0 in
-          let b_less = turn_less used (get_or flights b no_flight).place s.used_low b_turn.low (omega (arith, turns)) in
-          (g.others b b_not_id b_not_last ∙ o.0, omega (arith, b_less, turns, less)));
+          let b_less = turn_less used (get_or flights b no_flight).place s.used_low b_turn.low (omega arith) in
+          (g.others b b_not_id b_not_last ∙ o.0, omega (arith, b_less, less)));
       newest = λ e. old.newest (omega (arith, e, less, fewer));
     }
 
@@ -618,8 +556,7 @@ stretch_less : (size offered used next id last : ℕ) (owners owners' : List (Op
 stretch_less size offered used next id last owners owners' flights s is id_low head place lasts g =
     let oldest = s.each id id_low head in
     let zero : turn_of used flights id ≡ 0 = ap (turn used) place ∙ turn_zero used s.used_low in
-    let before = oldest.before in
-    let some : 0 < turn used offered = omega (arith, before, zero) in
+    let some : 0 < turn used offered = omega (arith, zero) in
     let o = s.oldest some in
     let here : id ≡ s.first = s.once id s.first id_low s.first_low head o.0 (zero ∙ sym o.1) in
     let tail : owner owners last ≡ Some id = ap (owner owners) is ∙ oldest.owned in
@@ -632,7 +569,6 @@ stretch_less size offered used next id last owners owners' flights s is id_low h
     let count = counted.0 in
     let first_within = within_cases size s.first s.many s.first (s.taken s.first s.first_low (some_taken (owner owners s.first) s.first o.0)) in
     let last_within = within_cases size s.first s.many last (s.taken last last_low (some_taken (owner owners last) id tail)) in
-    let cases = counted.1 in
     let many_low = s.many_low in
     let first_low = s.first_low in
     let n : Fewer size s.first s.many next last count b = record {
@@ -640,7 +576,7 @@ stretch_less size offered used next id last owners owners' flights s is id_low h
       many_low = s.many_low;
       next_low = s.next_low;
       last_low = last_low;
-      enough = omega (arith, first_within, last_within, cases, many_low, first_low, last_low);
+      enough = omega (arith, first_within, last_within, many_low, first_low, last_low);
       ends = behind_cases size s.first s.many next s.ends;
       spans = counted.1;
       follower = follow_cases size last b last_low b_follows;
