@@ -49,13 +49,13 @@ owner-replicate size id =
     let long : length free ≡ size = length-replicate size None in
     elim (cases_lt id size) [
       | inl low ↦ get_or-replicate size id None None low
-      | inr past ↦ get_or_past free id None (omega (arith, past, long))
+      | inr past ↦ get_or_past free id None (omega arith)
     ]
 
 first_mark : (size : ℕ) → 0 ≡ mark_of size 0
 first_mark size = elim (cases_lt 0 size) [
-  | inl some ↦ sym (mod-eq_of_lt (omega (arith, some)))
-  | inr empty ↦ (let none : 0 ≡ size = omega (arith, empty) in subst (λ (n : ℕ). 0 ≡ mark_of n 0) none refl)
+  | inl some ↦ sym (mod-eq_of_lt (omega arith))
+  | inr empty ↦ (let none : 0 ≡ size = omega arith in subst (λ (n : ℕ). 0 ≡ mark_of n 0) none refl)
 ]
 
 pub begins_counted : ADriverBeginsCounted
@@ -69,8 +69,8 @@ begins_counted form size event_idx kind =
       each = λ id is. absurd (is (owner-replicate size id));
       reaped = 0;
       used = first_mark size;
-      offered = first_mark size ∙ ap (mark_of size) (omega (arith, none));
-      room = omega (arith, none);
+      offered = first_mark size ∙ ap (mark_of size) (omega arith);
+      room = omega arith;
     }
 
 -- an id that is written as first and last descriptor
@@ -82,8 +82,6 @@ add_counted : (driver : DriverState) (c : Offer) → IsCounted driver → 0 < le
 add_counted driver c counted some takes fits =
     let kind = counted.kind in
     let size = driver.size in
-    let owned = counted.owned in
-    let flown = counted.flown in
     let low : c.head < length driver.owners = takes.0.below in
     let flight : Flight = flight_of driver.form driver.offered c in
     let owners : List (Option ℕ) = slice_set driver.owners c.head (Some c.head) in
@@ -92,27 +90,26 @@ add_counted driver c counted some takes fits =
     let taken : ℕ = places_taken driver.owners driver.flights in
     let n : ℕ = places_of driver.form c in
     let is_n : n ≡ places_by Packed driver.form.indirect c = ap (λ (k : RingKind). places_by k driver.form.indirect c) kind in
-    let more : places_taken owners flights ≡ taken + n = taken-more driver.owners driver.flights c.head c.head flight (omega (arith, owned, flown)) low takes.0.free in
-    let few = counted.room in
+    let more : places_taken owners flights ≡ taken + n = taken-more driver.owners driver.flights c.head c.head flight (omega arith) low takes.0.free in
     let m : ℕ = places_by Packed driver.form.indirect c in
     let at_marks : m ≤ free_places size (mark_of size (counted.reaped + taken)) (mark_of size counted.reaped) =
     subst (λ (u : ℕ). m ≤ free_places size (mark_of size (counted.reaped + taken)) u) counted.used
     (subst (λ (o : ℕ). m ≤ free_places size o driver.used) counted.offered fits) in
-    let wide : 0 < size = omega (arith, low, owned) in
-    let room : taken + m ≤ size = room_more size counted.reaped taken m wide few at_marks in
+    let wide : 0 < size = omega arith in
+    let room : taken + m ≤ size = room_more size counted.reaped taken m wide counted.room at_marks in
     let goes : mark_after driver.form.kind size driver.offered n ≡ mark_of size (counted.reaped + places_taken owners flights) =
     ap (λ (k : RingKind). mark_after k size driver.offered n) kind ∙ ap (λ (o : ℕ). mark_after Packed size o n) counted.offered
-    ∙ mark_next size (counted.reaped + taken) n ∙ ap (mark_of size) (omega (arith, more)) in
+    ∙ mark_next size (counted.reaped + taken) n ∙ ap (mark_of size) (omega arith) in
     let kept : IsCounted (record (after_offer driver c) { owners = owners }) = record {
       kind = kind;
-      owned = length-set driver.owners c.head (Some c.head) ∙ owned;
-      flown = length-set driver.flights c.head flight ∙ flown;
-      alone = entry_more (λ id f. f.last ≡ id) driver.owners driver.flights c.head flight (omega (arith, low, owned, flown)) counted.alone takes.1;
-      each = entry_more (λ id f. 0 < f.places) driver.owners driver.flights c.head flight (omega (arith, low, owned, flown)) counted.each (some_places driver.form.kind driver.form.indirect c some);
+      owned = length-set driver.owners c.head (Some c.head) ∙ counted.owned;
+      flown = length-set driver.flights c.head flight ∙ counted.flown;
+      alone = entry_more (λ id f. f.last ≡ id) driver.owners driver.flights c.head flight (omega arith) counted.alone takes.1;
+      each = entry_more (λ id f. 0 < f.places) driver.owners driver.flights c.head flight (omega arith) counted.each (some_places driver.form.kind driver.form.indirect c some);
       reaped = counted.reaped;
       used = counted.used;
       offered = goes;
-      room = omega (arith, more, room, is_n);
+      room = omega arith;
     } in
     subst (λ (o : List (Option ℕ)). IsCounted (record (after_offer driver c) { owners = o })) (sym one) kept
 
@@ -136,28 +133,26 @@ back_counted : (driver : DriverState) (id : ℕ) → IsCounted driver → owner 
 back_counted driver id counted head =
     let kind = counted.kind in
     let size = driver.size in
-    let owned = counted.owned in
-    let flown = counted.flown in
     let flight : Flight = get_or driver.flights id no_flight in
     let low : id < length driver.owners = owner_low driver.owners id id head in
     let taken : ℕ = places_taken driver.owners driver.flights in
     let owners : List (Option ℕ) = slice_set driver.owners id None in
     let some : owner driver.owners id ≢ None = λ none. absurd (let both : Some id ≡ None = sym head ∙ none in cc) in
     let one : slice_set owners flight.last None ≡ owners = one_id driver.owners id flight.last None (counted.alone id some) in
-    let less : places_taken owners driver.flights + flight.places ≡ taken = taken-less driver.owners driver.flights id id (omega (arith, owned, flown)) head in
+    let less : places_taken owners driver.flights + flight.places ≡ taken = taken-less driver.owners driver.flights id id (omega arith) head in
     let goes : mark_after driver.form.kind size driver.used flight.places ≡ mark_of size (counted.reaped + flight.places) =
     ap (λ (k : RingKind). mark_after k size driver.used flight.places) kind ∙ ap (λ (u : ℕ). mark_after Packed size u flight.places) counted.used
     ∙ mark_next size counted.reaped flight.places in
     let kept : IsCounted (record (after_reap driver id) { owners = owners }) = record {
       kind = kind;
-      owned = length-set driver.owners id None ∙ owned;
-      flown = flown;
+      owned = length-set driver.owners id None ∙ counted.owned;
+      flown = counted.flown;
       alone = λ k is. counted.alone k (owned_before driver.owners id k low is);
       each = λ k is. counted.each k (owned_before driver.owners id k low is);
       reaped = counted.reaped + flight.places;
       used = goes;
-      offered = counted.offered ∙ ap (mark_of size) (omega (arith, less));
-      room = omega (arith, less);
+      offered = counted.offered ∙ ap (mark_of size) (omega arith);
+      room = omega arith;
     } in
     subst (λ (o : List (Option ℕ)). IsCounted (record (after_reap driver id) { owners = o })) (sym one) kept
 
@@ -173,16 +168,15 @@ reap_counted memory driver (Err BadUsed) driver' counted reaps = subst IsCounted
 none_free : (driver : DriverState) → IsCounted driver → AreTaken driver.owners 0 → free_places driver.size driver.offered driver.used ≡ 0
 none_free driver counted taken =
     let size = driver.size in
-    let few = counted.room in
     let count : ℕ = places_taken driver.owners driver.flights in
     let all : length driver.owners ≤ count = taken-all driver.owners driver.flights (omega arith) (λ i low. taken i (omega arith) low) (λ i low. counted.each i (taken i (omega arith) low)) in
     elim (cases_lt 0 size) [
       | inl some ↦ (
-          let is = free_is size counted.reaped count some few in
-          let none : free_places size (mark_of size (counted.reaped + count)) (mark_of size counted.reaped) ≡ 0 = omega (arith, is, all) in
+          let is = free_is size counted.reaped count some counted.room in
+          let none : free_places size (mark_of size (counted.reaped + count)) (mark_of size counted.reaped) ≡ 0 = omega arith in
           ap (λ (o : ℕ). free_places size o driver.used) counted.offered ∙ ap (free_places size (mark_of size (counted.reaped + count))) counted.used ∙ none
           )
-      | inr empty ↦ omega (arith, empty)
+      | inr empty ↦ omega arith
     ]
 
 pub full_by_places : APackedRingIsFullByItsPlaces
@@ -193,6 +187,6 @@ full_by_places driver readable writable some counted =
     let taken : AreTaken driver.owners 0 → free < places_by Packed form.indirect c = λ t.
     (let none : free ≡ 0 = none_free driver counted t in
     let needs = some_places Packed form.indirect c some in
-    omega (arith, none, needs)) in
+    omega arith) in
     let packed : full_by Packed form.indirect driver readable writable ↔ (free < places_by Packed form.indirect c) = (λ full. elim full [ inl few ↦ few | inr t ↦ taken t ], λ few. inl few) in
     subst (λ (k : RingKind). full_by k form.indirect driver readable writable ↔ (free < places_by k form.indirect c)) (sym counted.kind) packed
