@@ -175,7 +175,7 @@ room_for size offered used next last count owners flights s t =
       | inr full ↦ absurd (s.covers next c (all_within size s.first s.many next a full c) t.free)
     ] in
     elim t.is [
-      | inl one ↦ let k = one.1 in omega arith
+      | inl one ↦ omega arith
       | inr two ↦
           elim (cases_lt (s.many + 1) size) [
             | inl less ↦ omega arith
@@ -267,7 +267,6 @@ turn_stays : (size offered used next last count : ℕ) (owners owners' : List (O
     → IsInTurn size ((offered + 1) % 65536) used (following size last) owners' flights' d
 turn_stays size offered used next last count owners owners' flights flights' f d s small t g at p low head old more =
     let same = g.flown d p in
-    let before = old.before in
     let turns : turn_of used flights' d ≡ turn_of used flights d = ap (λ (v : Flight). turn used v.place) same in
     let lasts : (get_or flights' d no_flight).last ≡ (get_or flights d no_flight).last = ap (λ (v : Flight). v.last) same in
     let b = behind size flights d in
@@ -291,7 +290,7 @@ turn_stays size offered used next last count owners owners' flights flights' f d
     ] in
     record {
       one = ap (λ (v : Flight). v.places) same ∙ old.one;
-      low = let e = ap (λ (v : Flight). v.place) same in let h = old.low in omega arith;
+      low = let e = ap (λ (v : Flight). v.place) same in omega arith;
       before = omega arith;
       spans = elim old.spans [ inl e ↦ inl (lasts ∙ e) | inr e ↦ inr (lasts ∙ e) ];
       owned = ap (owner owners') lasts ∙ stays ∙ old.owned;
@@ -330,7 +329,7 @@ stretch_more : (size offered used next last count : ℕ) (owners owners' : List 
 stretch_more size offered used next last count owners owners' flights flights' f s small t g at ends one =
     let room = room_for size offered used next last count owners flights s t in
     let few = few_of size offered used next owners flights s in
-    let some : 0 < count = elim t.is [ inl e ↦ let k = e.1 in omega arith | inr e ↦ let k = e.2 in omega arith ] in
+    let some : 0 < count = elim t.is [ inl e ↦ omega arith | inr e ↦ omega arith ] in
     let more = turn_more used offered s.used_low s.offered_low (omega arith) in
     let behind_of = follows size last t.low in
     let n : Numbers size s.first s.many next last count (following size last) = record {
@@ -414,7 +413,7 @@ taken_of : (size next last : ℕ) (owners : List (Option ℕ)) (two : Bool) → 
 taken_of size next last owners false long h is = (
   1,
   record {
-    low = let b = h.below in omega arith;
+    low = omega arith;
     free = h.free;
     last_free = ap (owner owners) is ∙ h.free;
     is = inl (is, refl);
@@ -423,7 +422,7 @@ taken_of size next last owners false long h is = (
 taken_of size next last owners true long h is = (
   2,
   record {
-    low = let b = h.second.below in omega arith;
+    low = omega arith;
     free = h.first.free;
     last_free = ap (owner owners) is ∙ h.second.free;
     is = inr (is ∙ ap (λ v. following v next) long, (λ e. h.two (sym e ∙ is)), refl);
@@ -526,7 +525,6 @@ turn_is_less : (size offered used next id last : ℕ) (owners owners' : List (Op
     → IsInTurn size offered ((used + 1) % 65536) next owners' flights d
 turn_is_less size offered used next id last owners owners' flights d s tail id_low id_head zero g lasts low p q head less fewer =
     let old = s.each d low head in
-    let before = old.before in
     let l = (get_or flights d no_flight).last in
     let l_not_id : l ≢ id = λ e. p (some_same d id (owner owners id) (ap (owner owners) (sym e) ∙ old.owned) id_head) in
     let l_not_last : l ≢ last = λ e. p (some_same d id (owner owners last) (ap (owner owners) (sym e) ∙ old.owned) tail) in
@@ -568,8 +566,6 @@ stretch_less size offered used next id last owners owners' flights s is id_low h
     let count = counted.0 in
     let first_within = within_cases size s.first s.many s.first (s.taken s.first s.first_low (some_taken (owner owners s.first) s.first o.0)) in
     let last_within = within_cases size s.first s.many last (s.taken last last_low (some_taken (owner owners last) id tail)) in
-    let many_low = s.many_low in
-    let first_low = s.first_low in
     let n : Fewer size s.first s.many next last count b = record {
       first_low = s.first_low;
       many_low = s.many_low;
