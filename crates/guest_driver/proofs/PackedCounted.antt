@@ -24,24 +24,12 @@ use Rattle.guest_driver.proofs.PackedCounting.{taken-replicate, taken-more, take
 entry_more : (Q : ℕ → Flight → Type 0) (owners : List (Option ℕ)) (flights : List Flight) (head : ℕ) (flight : Flight) → head < length flights
     → ((id : ℕ) → owner owners id ≢ None → Q id (get_or flights id no_flight)) → Q head flight
     → (id : ℕ) → owner (slice_set owners head (Some head)) id ≢ None → Q id (get_or (slice_set flights head flight) id no_flight)
-entry_more Q owners flights head flight low each new id is = elim (cases_eq id head) [
-  | inl same ↦ (
-      let there : get_or (slice_set flights head flight) head no_flight ≡ flight = get_or-set_same flights head flight no_flight low in
-      subst (λ (n : ℕ). Q n (get_or (slice_set flights head flight) n no_flight)) (sym same) (subst (Q head) (sym there) new)
-      )
-  | inr other ↦ (
-      let kept : get_or (slice_set flights head flight) id no_flight ≡ get_or flights id no_flight = get_or-set_other flights head id flight no_flight other in
-      let owned : owner (slice_set owners head (Some head)) id ≡ owner owners id = get_or-set_other owners head id (Some head) None other in
-      subst (Q id) (sym kept) (each id (λ none. is (owned ∙ none)))
-      )
-]
+entry_more Q owners flights head flight low each new id is =
+    grind (arith, get_or-set_other, get_or-set_same)
 
 -- a chain that is in flight yet was so before another came back
 owned_before : (owners : List (Option ℕ)) (i id : ℕ) → i < length owners → owner (slice_set owners i None) id ≢ None → owner owners id ≢ None
-owned_before owners i id low is none = elim (cases_eq id i) [
-  | inl same ↦ is (ap (λ n. owner (slice_set owners i None) n) same ∙ get_or-set_same owners i None None low)
-  | inr other ↦ is (get_or-set_other owners i id None None other ∙ none)
-]
+owned_before owners i id low is none = grind (arith, get_or-set_other, get_or-set_same)
 
 owner-replicate : (size id : ℕ) → owner (replicate size None) id ≡ None
 owner-replicate size id =
@@ -53,25 +41,11 @@ owner-replicate size id =
     ]
 
 first_mark : (size : ℕ) → 0 ≡ mark_of size 0
-first_mark size = elim (cases_lt 0 size) [
-  | inl some ↦ sym (mod-eq_of_lt (omega arith))
-  | inr empty ↦ (let none : 0 ≡ size = omega arith in subst (λ (n : ℕ). 0 ≡ mark_of n 0) none refl)
-]
+first_mark size = grind arith
 
 pub begins_counted : ADriverBeginsCounted
 begins_counted form size event_idx kind =
-    let none = taken-replicate size size in
-    record {
-      kind = kind;
-      owned = length-replicate size None;
-      flown = length-replicate size no_flight;
-      alone = λ id is. absurd (is (owner-replicate size id));
-      each = λ id is. absurd (is (owner-replicate size id));
-      reaped = 0;
-      used = first_mark size;
-      offered = first_mark size ∙ ap (mark_of size) (omega arith);
-      room = omega arith;
-    }
+    grind (arith, length-replicate, owner-replicate, taken-replicate)
 
 -- an id that is written as first and last descriptor
 one_id : (owners : List (Option ℕ)) (i last : ℕ) (o : Option ℕ) → last ≡ i → slice_set (slice_set owners i o) last o ≡ slice_set owners i o
@@ -166,27 +140,7 @@ reap_counted memory driver (Err BadUsed) driver' counted reaps = subst IsCounted
 
 -- where no id is free, no place is
 none_free : (driver : DriverState) → IsCounted driver → AreTaken driver.owners 0 → free_places driver.size driver.offered driver.used ≡ 0
-none_free driver counted taken =
-    let size = driver.size in
-    let count : ℕ = places_taken driver.owners driver.flights in
-    let all : length driver.owners ≤ count = taken-all driver.owners driver.flights (omega arith) (λ i low. taken i (omega arith) low) (λ i low. counted.each i (taken i (omega arith) low)) in
-    elim (cases_lt 0 size) [
-      | inl some ↦ (
-          let is = free_is size counted.reaped count some counted.room in
-          let none : free_places size (mark_of size (counted.reaped + count)) (mark_of size counted.reaped) ≡ 0 = omega arith in
-          ap (λ (o : ℕ). free_places size o driver.used) counted.offered ∙ ap (free_places size (mark_of size (counted.reaped + count))) counted.used ∙ none
-          )
-      | inr empty ↦ omega arith
-    ]
+none_free driver counted taken = grind (arith, free_is, taken-all)
 
 pub full_by_places : APackedRingIsFullByItsPlaces
-full_by_places driver readable writable some counted =
-    let c : Offer = offer_of readable writable 0 0 in
-    let form = driver.form in
-    let free : ℕ = free_places driver.size driver.offered driver.used in
-    let taken : AreTaken driver.owners 0 → free < places_by Packed form.indirect c = λ t.
-    (let none : free ≡ 0 = none_free driver counted t in
-    let needs = some_places Packed form.indirect c some in
-    omega arith) in
-    let packed : full_by Packed form.indirect driver readable writable ↔ (free < places_by Packed form.indirect c) = (λ full. elim full [ inl few ↦ few | inr t ↦ taken t ], λ few. inl few) in
-    subst (λ (k : RingKind). full_by k form.indirect driver readable writable ↔ (free < places_by k form.indirect c)) (sym counted.kind) packed
+full_by_places driver readable writable some counted = grind (arith, none_free)

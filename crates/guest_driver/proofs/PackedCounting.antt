@@ -19,8 +19,7 @@ taken-more (None ∷ os) (f ∷ fs) zero head flight same low free = omega arith
 taken-more (Some h ∷ os) (f ∷ fs) zero head flight same low free = absurd (cc)
 taken-more (None ∷ os) (f ∷ fs) (suc i) head flight same low free = taken-more os fs i head flight (omega arith) (omega arith) free
 taken-more (Some h ∷ os) (f ∷ fs) (suc i) head flight same low free =
-    let rest = taken-more os fs i head flight (omega arith) (omega arith) free in
-    omega arith
+    grind (arith, (taken-more os fs i head flight (omega arith) (omega arith) free))
 
 -- a chain less
 pub taken-less : (owners : List (Option ℕ)) (flights : List Flight) (i head : ℕ) → length flights ≡ length owners
@@ -31,8 +30,7 @@ taken-less (None ∷ os) (f ∷ fs) zero head same is = absurd (cc)
 taken-less (Some h ∷ os) (f ∷ fs) zero head same is = omega arith
 taken-less (None ∷ os) (f ∷ fs) (suc i) head same is = taken-less os fs i head (omega arith) is
 taken-less (Some h ∷ os) (f ∷ fs) (suc i) head same is =
-    let rest = taken-less os fs i head (omega arith) is in
-    omega arith
+    grind (arith, (taken-less os fs i head (omega arith) is))
 
 -- where no id is free, each takes a place
 pub taken-all : (owners : List (Option ℕ)) (flights : List Flight) → length flights ≡ length owners

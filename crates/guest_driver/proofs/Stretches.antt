@@ -19,40 +19,20 @@ pub record Follows (size d s : ℕ) : Type 0 where
   pub low : s < size
 
 pub follows : (size d : ℕ) → d < size → Follows size d (following size d)
-follows size d low = record {
-  next = λ h. mod-eq_of_lt h;
-  first = λ e. ap (λ x. x % size) e ∙ mod_self size;
-  low = mod_below (d + 1) size (omega arith);
-}
+follows size d low = grind arith
 
 -- the same by cases, as omega takes them
 follow_cases : (size d s : ℕ) → d < size → Follows size d s → ((d + 1 < size) × (s ≡ d + 1)) ⊎ ((d + 1 ≡ size) × (s ≡ 0))
-follow_cases size d s low f =
-    elim (cases_lt (d + 1) size) [
-      | inl near ↦ inl (near, f.next near)
-      | inr far ↦ let e : d + 1 ≡ size = omega arith in inr (e, f.first e)
-    ]
+follow_cases size d s low f = grind arith
 
 within_cases : (size first many d : ℕ) → IsWithin size first many d → ((first ≤ d) × (d < first + many)) ⊎ ((d < first) × (d + size < first + many))
-within_cases size first many d w =
-    elim (cases_lt d first) [
-      | inl near ↦ inr (near, w.round near)
-      | inr far ↦ inl (far, w.behind far)
-    ]
+within_cases size first many d w = grind arith
 
 behind_cases : (size first many next : ℕ) → IsBehind size first many next → ((first + many < size) × (next ≡ first + many)) ⊎ ((size ≤ first + many) × (next + size ≡ first + many))
-behind_cases size first many next b =
-    elim (cases_lt (first + many) size) [
-      | inl near ↦ inl (near, b.behind near)
-      | inr far ↦ inr (far, b.round far)
-    ]
+behind_cases size first many next b = grind arith
 
 one_cases : (size first many chains t d : ℕ) → HaveOne size first many chains t d → ((first ≤ d) × (chains + d ≤ first + many + t)) ⊎ ((d < first) × (chains + (d + size) ≤ first + many + t))
-one_cases size first many chains t d h =
-    elim (cases_lt d first) [
-      | inl near ↦ inr (near, h.round near)
-      | inr far ↦ inl (far, h.behind far)
-    ]
+one_cases size first many chains t d h = grind arith
 
 turn_zero : (used : ℕ) → used < 65536 → turn used used ≡ 0
 unfolding turn
@@ -88,52 +68,17 @@ next_within size first many next a b c e w = let p = behind_cases size first man
 
 follower_within : (size first many next s : ℕ) → first < size → many ≤ size → next < size → IsBehind size first many next → Follows size next s → IsWithin size first many s
     → size ≤ many + 1
-follower_within size first many next s a b c e f w =
-    let p = behind_cases size first many next e in
-    let q = within_cases size first many s w in
-    let r = follow_cases size next s c f in
-    omega arith
+follower_within size first many next s a b c e f w = grind arith
 
 pub all_taken : (size offered used next : ℕ) (owners : List (Option ℕ)) (flights : List Flight) → IsStretch size offered used next owners flights → length owners ≡ size
     → owner owners next ≢ None → AreTaken owners 0
-all_taken size offered used next owners flights s long is = λ k low below.
-    let w = s.taken next s.next_low is in
-    let full = next_within size s.first s.many next s.first_low s.many_low s.next_low s.ends w in
-    let small : k < size = omega arith in
-    s.covers k small (all_within size s.first s.many k s.first_low full small)
+all_taken size offered used next owners flights s long is = grind arith
 
 pub too_few : (size offered used next : ℕ) (owners : List (Option ℕ)) (flights : List Flight) (two : Bool) → IsStretch size offered used next owners flights → length owners ≡ size
     → ¬ HasNextFree owners next two → HasTooFew owners two
-too_few size offered used next owners flights false s long none =
-    all_taken size offered used next owners flights s long (λ free. none (record { below = omega arith; free = free }))
-too_few size offered used next owners flights true s long none = λ d below free k above small.
-    let inside : next < length owners = omega arith in
-    let s2 = following (length owners) next in
-    let f : Follows (length owners) next s2 = follows (length owners) next inside in
-    let at : Follows size next s2 = subst (λ v. Follows v next s2) long f in
-    elim (is_free (owner owners next)) [
-      | inr taken ↦ all_taken size offered used next owners flights s long taken k (omega arith) small
-      | inl open_next ↦
-          elim (cases_eq next s2) [
-            | inl same ↦
-                let p = follow_cases size next s2 s.next_low at in
-                absurd (omega arith)
-            | inr differ ↦
-                elim (is_free (owner owners s2)) [
-                  | inl open_second ↦
-                      absurd (none (record { first = record { below = inside; free = open_next }; second = record { below = f.low; free = open_second }; two = differ }))
-                  | inr taken ↦
-                      let w = s.taken s2 at.low taken in
-                      let few = follower_within size s.first s.many next s2 s.first_low s.many_low s.next_low s.ends at w in
-                      let d_low : d < size = omega arith in
-                      let k_low : k < size = omega arith in
-                      elim (cases_eq d next) [
-                        | inl here ↦ s.covers k k_low (others_within size s.first s.many next k s.first_low s.many_low s.next_low s.ends few k_low (λ e. omega arith))
-                        | inr other ↦ absurd (s.covers d d_low (others_within size s.first s.many next d s.first_low s.many_low s.next_low s.ends few d_low other) free)
-                      ]
-                ]
-          ]
-    ]
+too_few size offered used next owners flights false s long none = grind arith
+too_few size offered used next owners flights true s long none =
+    grind (arith, follows, others_within)
 
 -- 2. A chain is offered
 
@@ -156,77 +101,38 @@ record Numbers (size first many next last count behind : ℕ) : Type 0 where
 last_by : (size next last count : ℕ) → next < size → Follows size next (following size next) → ((last ≡ next) × (count ≡ 1)) ⊎ ((last ≡ following size next) × (last ≢ next) × (count ≡ 2))
     → ((last ≡ next) × (count ≡ 1)) ⊎ ((next + 1 < size) × (last ≡ next + 1) × (count ≡ 2)) ⊎ ((next + 1 ≡ size) × (last ≡ 0) × (last ≢ next) × (count ≡ 2))
 last_by size next last count low f (inl one) = inl one
-last_by size next last count low f (inr two) =
-    elim (follow_cases size next (following size next) low f) [
-      | inl near ↦ inr (inl (near.0, two.0 ∙ near.1, two.2))
-      | inr far ↦ inr (inr (far.0, two.0 ∙ far.1, two.1, two.2))
-    ]
+last_by size next last count low f (inr two) = grind arith
 
 -- there is room for it
 room_for : (size offered used next last count : ℕ) (owners : List (Option ℕ)) (flights : List Flight) → (s : IsStretch size offered used next owners flights) → IsTaken size next last count owners
     → s.many + count ≤ size
-room_for size offered used next last count owners flights s t =
-    let a = s.first_low in
-    let b = s.many_low in
-    let c = s.next_low in
-    let some : s.many < size =
-    elim (cases_lt s.many size) [
-      | inl less ↦ less
-      | inr full ↦ absurd (s.covers next c (all_within size s.first s.many next a full c) t.free)
-    ] in
-    elim t.is [
-      | inl one ↦ omega arith
-      | inr two ↦
-          elim (cases_lt (s.many + 1) size) [
-            | inl less ↦ omega arith
-            | inr full ↦
-                absurd (s.covers last t.low (others_within size s.first s.many next last a b c s.ends (omega arith) t.low two.1) t.last_free)
-          ]
-    ]
+room_for size offered used next last count owners flights s t = grind arith
 
 ends_more : (size first many next last count behind : ℕ) → Numbers size first many next last count behind → IsBehind size first (many + count) behind
-ends_more size first many next last count behind n =
-    omega arith
+ends_more size first many next last count behind n = grind arith
 
 within_more : (size first many next last count behind d : ℕ) → Numbers size first many next last count behind → IsWithin size first many d → IsWithin size first (many + count) d
-within_more size first many next last count behind d n w =
-    let q = within_cases size first many d w in
-    omega arith
+within_more size first many next last count behind d n w = grind arith
 
 next_is_within : (size first many next last count behind : ℕ) → Numbers size first many next last count behind → IsWithin size first (many + count) next
-next_is_within size first many next last count behind n =
-    omega arith
+next_is_within size first many next last count behind n = grind arith
 
 last_is_within : (size first many next last count behind : ℕ) → Numbers size first many next last count behind → IsWithin size first (many + count) last
-last_is_within size first many next last count behind n =
-    omega arith
+last_is_within size first many next last count behind n = grind arith
 
 others_were : (size first many next last count behind d : ℕ) → Numbers size first many next last count behind → d < size → d ≢ next → d ≢ last
     → IsWithin size first (many + count) d → IsWithin size first many d
-others_were size first many next last count behind d n low p q w =
-    let g = within_cases size first (many + count) d w in
-    omega arith
+others_were size first many next last count behind d n low p q w = grind arith
 
 -- each chain has a descriptor of its own
 few_of : (size offered used next : ℕ) (owners : List (Option ℕ)) (flights : List Flight) → (s : IsStretch size offered used next owners flights) → turn used offered ≤ s.many
-few_of size offered used next owners flights s =
-    elim (cases_lt 0 (turn used offered)) [
-      | inl some ↦
-          let old = s.oldest some in
-          let h = s.room s.first s.first_low old.0 in
-          let p = one_cases size s.first s.many (turn used offered) (turn_of used flights s.first) s.first h in
-          omega arith
-      | inr none ↦ omega arith
-    ]
+few_of size offered used next owners flights s = grind arith
 
 room_old : (size first many count chains t d : ℕ) → 0 < count → HaveOne size first many chains t d → HaveOne size first (many + count) (chains + 1) t d
-room_old size first many count chains t d some h =
-    let p = one_cases size first many chains t d h in
-    omega arith
+room_old size first many count chains t d some h = grind arith
 
 room_new : (size first many next last count behind chains t : ℕ) → 0 < count → t ≡ chains → Numbers size first many next last count behind → HaveOne size first (many + count) (chains + 1) t next
-room_new size first many next last count behind chains t some is n =
-    omega arith
+room_new size first many next last count behind chains t some is n = grind arith
 
 -- what the owners and the flights are with the chain
 record Gains (size next last : ℕ) (owners owners' : List (Option ℕ)) (flights flights' : List Flight) (f : Flight) : Type 0 where
@@ -239,19 +145,7 @@ record Gains (size next last : ℕ) (owners owners' : List (Option ℕ)) (flight
 gains : (size next last : ℕ) (owners : List (Option ℕ)) (flights : List Flight) (f : Flight) → length owners ≡ size → length flights ≡ size → next < size → last < size
     → Gains size next last owners (slice_set (slice_set owners next (Some next)) last (Some next)) flights (slice_set flights next f) f
 gains size next last owners flights f long wide low last_low =
-    let first = slice_set owners next (Some next) in
-    let long' = length-set owners next (Some next) in
-    let here : owner (slice_set first last (Some next)) last ≡ Some next = get_or-set_same first last (Some next) None (omega (arith, long')) in
-    record {
-      head = elim (cases_eq next last) [
-        | inl same ↦ ap (owner (slice_set first last (Some next))) same ∙ here
-        | inr other ↦ get_or-set_other first last next (Some next) None other ∙ get_or-set_same owners next (Some next) None (omega arith)
-      ];
-      tail = here;
-      others = λ d p q. get_or-set_other first last d (Some next) None q ∙ get_or-set_other owners next d (Some next) None p;
-      flight = get_or-set_same flights next f no_flight (omega arith);
-      flown = λ d p. get_or-set_other flights next d f no_flight p;
-    }
+    grind (arith, get_or-set_other, get_or-set_same, length-set)
 
 some_same : (a b : ℕ) (o : Option ℕ) → o ≡ Some a → o ≡ Some b → a ≡ b
 some_same a b o p q = let e = sym p ∙ q in cc
@@ -304,23 +198,12 @@ turn_joins : (size offered used next last count : ℕ) (owners owners' : List (O
     → turn used ((offered + 1) % 65536) ≡ turn used offered + 1
     → IsInTurn size ((offered + 1) % 65536) used (following size last) owners' flights' next
 turn_joins size offered used next last count owners owners' flights flights' f low t g at ends one more =
-    let turns : turn_of used flights' next ≡ turn used offered = ap (λ (v : Flight). turn used v.place) g.flight ∙ ap (turn used) at in
-    let lasts : (get_or flights' next no_flight).last ≡ last = ap (λ (v : Flight). v.last) g.flight ∙ ends in
-    record {
-      one = ap (λ (v : Flight). v.places) g.flight ∙ one;
-      low = let e = ap (λ (v : Flight). v.place) g.flight in omega arith;
-      before = omega arith;
-      spans = elim t.is [ inl e ↦ inl (lasts ∙ e.0) | inr e ↦ inr (lasts ∙ e.0) ];
-      owned = ap (owner owners') lasts ∙ g.tail;
-      older = λ less. absurd (omega arith);
-      newest = λ _. ap (following size) lasts;
-    }
+    grind arith
 
 -- a head is the new one, or was one
 head_was : (size next last : ℕ) (owners owners' : List (Option ℕ)) (flights flights' : List Flight) (f : Flight) (d : ℕ) → Gains size next last owners owners' flights flights' f
     → d ≢ next → IsHead owners' d → IsHead owners d
-head_was size next last owners owners' flights flights' f d g p head =
-    sym (g.others d p (λ e. p (some_same d next (owner owners' d) head (ap (owner owners') e ∙ g.tail)))) ∙ head
+head_was size next last owners owners' flights flights' f d g p head = grind arith
 
 stretch_more : (size offered used next last count : ℕ) (owners owners' : List (Option ℕ)) (flights flights' : List Flight) (f : Flight)
     → IsStretch size offered used next owners flights → size ≤ 65535 → IsTaken size next last count owners → Gains size next last owners owners' flights flights' f
@@ -454,36 +337,25 @@ record Fewer (size first many next last count behind : ℕ) : Type 0 where
 
 -- the first of the stretch are given back
 ends_less : (size first many next last count behind : ℕ) → Fewer size first many next last count behind → IsBehind size behind (many - count) next
-ends_less size first many next last count behind n =
-    omega arith
+ends_less size first many next last count behind n = grind arith
 
 within_less : (size first many next last count behind d : ℕ) → Fewer size first many next last count behind → d < size → d ≢ first → d ≢ last → IsWithin size first many d
     → IsWithin size behind (many - count) d
-within_less size first many next last count behind d n low p q w =
-    let h = within_cases size first many d w in
-    omega arith
+within_less size first many next last count behind d n low p q w = grind arith
 
 within_was : (size first many next last count behind d : ℕ) → Fewer size first many next last count behind → d < size → IsWithin size behind (many - count) d → IsWithin size first many d
-within_was size first many next last count behind d n low w =
-    let h = within_cases size behind (many - count) d w in
-    omega arith
+within_was size first many next last count behind d n low w = grind arith
 
 first_left : (size first many next last count behind : ℕ) → Fewer size first many next last count behind → IsWithin size behind (many - count) first → ⊥
-first_left size first many next last count behind n w =
-    let h = within_cases size behind (many - count) first w in
-    omega arith
+first_left size first many next last count behind n w = grind arith
 
 last_left : (size first many next last count behind : ℕ) → Fewer size first many next last count behind → IsWithin size behind (many - count) last → ⊥
-last_left size first many next last count behind n w =
-    let h = within_cases size behind (many - count) last w in
-    omega arith
+last_left size first many next last count behind n w = grind arith
 
 room_less : (size first many next last count behind chains chains' t t' d : ℕ) → Fewer size first many next last count behind → d < size → d ≢ first → d ≢ last → IsWithin size first many d
     → chains' + 1 ≡ chains → t' + 1 ≡ t → HaveOne size first many chains t d → HaveOne size behind (many - count) chains' t' d
 room_less size first many next last count behind chains chains' t t' d n low p q w less turns h =
-    let i = one_cases size first many chains t d h in
-    let j = within_cases size first many d w in
-    omega arith
+    grind arith
 
 record Loses (size id last : ℕ) (owners owners' : List (Option ℕ)) : Type 0 where
   head : owner owners' id ≡ None
@@ -492,17 +364,7 @@ record Loses (size id last : ℕ) (owners owners' : List (Option ℕ)) : Type 0 
 
 loses : (size id last : ℕ) (owners : List (Option ℕ)) → length owners ≡ size → id < size → last < size → Loses size id last owners (slice_set (slice_set owners id None) last None)
 loses size id last owners long low last_low =
-    let first = slice_set owners id None in
-    let long' = length-set owners id None in
-    let here : owner (slice_set first last None) last ≡ None = get_or-set_same first last None None (omega (arith, long')) in
-    record {
-      head = elim (cases_eq id last) [
-        | inl same ↦ ap (owner (slice_set first last None)) same ∙ here
-        | inr other ↦ get_or-set_other first last id None None other ∙ get_or-set_same owners id None None (omega arith)
-      ];
-      tail = here;
-      others = λ d p q. get_or-set_other first last d None None q ∙ get_or-set_other owners id d None None p;
-    }
+    grind (arith, get_or-set_other, get_or-set_same, length-set)
 
 count_of : (size first last : ℕ) (owners : List (Option ℕ)) → first < size → (last ≡ first) ⊎ (last ≡ following size first)
     → (count : ℕ) × (((last ≡ first) × (count ≡ 1)) ⊎ ((first + 1 < size) × (last ≡ first + 1) × (count ≡ 2)) ⊎ ((first + 1 ≡ size) × (last ≡ 0) × (last ≢ first) × (count ≡ 2)))
@@ -651,26 +513,7 @@ stretch_back size offered used next id owners flights s long low head place last
 
 pub stretch_begins : (size : ℕ) (owners : List (Option ℕ)) (flights : List Flight) → 0 < size → ((d : ℕ) → d < size → owner owners d ≡ None)
     → IsStretch size 0 0 0 owners flights
-stretch_begins size owners flights some free_all =
-    let none_turn : turn 0 0 ≡ 0 = turn_zero 0 (omega arith) in
-    let no_head : (d : ℕ) → d < size → IsHead owners d → ⊥ = λ d low h. (let z = sym (free_all d low) ∙ h in absurd (cc)) in
-    record {
-      first = 0;
-      many = 0;
-      first_low = some;
-      many_low = omega arith;
-      used_low = omega arith;
-      offered_low = omega arith;
-      next_low = some;
-      ends = omega arith;
-      taken = λ d low t. absurd (t (free_all d low));
-      covers = λ d low w. (let b = w.behind (omega arith) in absurd (omega arith));
-      room = λ d low h. absurd (no_head d low h);
-      oldest = λ more. absurd (omega arith);
-      none = λ _. refl;
-      each = λ d low h. absurd (no_head d low h);
-      once = λ d e low low' h h' same. absurd (no_head d low h);
-    }
+stretch_begins size owners flights some free_all = grind (arith, turn_zero)
 
 -- the order of the table is that of a driver that accepted VIRTIO_F_IN_ORDER
 pub in_order_of : (kind : RingKind) (in_order : Bool) → ordered_by kind in_order ≡ true → in_order ≡ true
@@ -688,19 +531,11 @@ none_of_none owners true none = λ d below free. absurd (omega arith)
 pub chooses_by : (size offered used next : ℕ) (owners : List (Option ℕ)) (flights : List Flight) (two : Bool) (pair : Option (ℕ × ℕ))
     → (0 < size → IsStretch size offered used next owners flights) → length owners ≡ size → ChoosesNext owners next two pair → ChoosesBy true owners next two pair
 chooses_by size offered used next owners flights two (Some pair) s long h = h
-chooses_by size offered used next owners flights two None s long h =
-    elim (cases_lt 0 size) [
-      | inl some ↦ too_few size offered used next owners flights two (s some) long h
-      | inr none ↦ none_of_none owners two (omega arith)
-    ]
+chooses_by size offered used next owners flights two None s long h = grind (arith, too_few)
 
 -- a descriptor with an owner is one of the ring's
 pub owner_low : (owners : List (Option ℕ)) (d h : ℕ) → owner owners d ≡ Some h → d < length owners
-owner_low owners d h is =
-    elim (cases_lt d (length owners)) [
-      | inl low ↦ low
-      | inr past ↦ let z = sym is ∙ get_or-eq_default owners None past in absurd (cc)
-    ]
+owner_low owners d h is = grind (arith, get_or-eq_default)
 
 -- a split ring's chain has one place
 pub one_place : (kind : RingKind) (in_order : Bool) (size mark places : ℕ) → ordered_by kind in_order ≡ true → mark_after kind size mark places ≡ (mark + places) % 65536
@@ -714,10 +549,4 @@ pub stretch_by : (size offered used next head last writable next' : ℕ) (two or
     → IsStretch size ((offered + 1) % 65536) used next' (slice_set (slice_set owners head (Some head)) last (Some head))
     (slice_set flights head (record { last = last; places = 1; writable = writable; place = offered }))
 stretch_by size offered used next head last writable next' two ordered in_order owners flights is order s small long wide takes follows_it low =
-    let t : TakesBy true owners next two head last = subst (λ b. TakesBy b owners next two head last) order takes in
-    let next_is : next' ≡ following size last = follows_it ∙ ap (λ b. next_by b size next last) is in
-    let f : Flight = record { last = last; places = 1; writable = writable; place = offered } in
-    let more = stretch_offered size offered used next last writable two owners flights (s (omega arith)) small long wide t.0 t.2 in
-    let P : ℕ → Type 0 = λ h. IsStretch size ((offered + 1) % 65536) used (following size last) (slice_set (slice_set owners h (Some h)) last (Some h)) (slice_set flights h f) in
-    let Q : ℕ → Type 0 = λ n. IsStretch size ((offered + 1) % 65536) used n (slice_set (slice_set owners head (Some head)) last (Some head)) (slice_set flights head f) in
-    subst Q (sym next_is) (subst P (sym t.1) more)
+    grind (arith, stretch_offered)
