@@ -1,8 +1,7 @@
 -- While a place of a packed ring is free, so is an id.
-use Rattle.std.proofs.Common.{◌≡◌, ◌≢◌, inl, inr, ◌↔◌, ℕ, ◌+◌, ◌<◌, ◌≤◌, false, List, length, replicate, get_or, slice_set, Option, Some, None, Ok, Err, refl, sym, ap, subst, ◌∙◌, arith}
+use Rattle.std.proofs.Common.{◌≡◌, ◌≢◌, inl, inr, ℕ, ◌+◌, ◌<◌, ◌≤◌, false, List, length, replicate, get_or, slice_set, Option, Some, None, Ok, Err, sym, ap, subst, ◌∙◌, arith}
 use Rattle.std.proofs.lemmas.List.{length-set, length-replicate, get_or-replicate, get_or_past, get_or-set_same, get_or-set_other}
-use Rattle.std.proofs.lemmas.Bool.{cases_eq, cases_lt}
-use Rattle.std.proofs.Math.Nat.{mod-eq_of_lt}
+use Rattle.std.proofs.lemmas.Bool.{cases_lt}
 use Rattle.rpmb_frame.specs.declared.config.RingKind.{RingKind}
 use Rattle.rpmb_frame.specs.declared.config.RingKind.TheVariants.{Packed}
 use Rattle.guest_driver.specs.declared.flight.Flight.{Flight}
@@ -11,7 +10,7 @@ use Rattle.guest_driver.specs.Offered.{Offer}
 use Rattle.guest_driver.specs.Kinds.{places_by, places_of, mark_after}
 use Rattle.guest_driver.specs.PackedHeld.{free_places}
 use Rattle.guest_driver.specs.PackedUsed.{mark_of}
-use Rattle.guest_driver.specs.Driver.{DriverState, no_flight, owner, offer_of, flight_of, after_offer, Adds, Takes, TakesBy, AreTaken, ordered_by, two_by, has_two, fits_by, full_by}
+use Rattle.guest_driver.specs.Driver.{DriverState, no_flight, owner, offer_of, flight_of, after_offer, Adds, Takes, TakesBy, AreTaken, ordered_by, two_by, has_two, fits_by}
 use Rattle.guest_driver.specs.Reap.{after_reap}
 use Rattle.guest_driver.specs.PackedRoom.{places_taken, IsCounted, ADriverBeginsCounted, AnOfferIsCounted, AReapIsCounted, APackedRingIsFullByItsPlaces}
 use Rattle.guest_driver.proofs.ByKind.{some_places}
@@ -39,9 +38,6 @@ owner-replicate size id =
       | inl low ↦ get_or-replicate size id None None low
       | inr past ↦ get_or_past free id None (omega arith)
     ]
-
-first_mark : (size : ℕ) → 0 ≡ mark_of size 0
-first_mark size = grind arith
 
 pub begins_counted : ADriverBeginsCounted
 begins_counted form size event_idx kind =

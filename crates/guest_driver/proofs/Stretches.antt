@@ -1,12 +1,11 @@
 -- The stretch of the table that isn't free, as chains are offered and come back.
 use Rattle.std.proofs.Common.{◌≡◌, ◌≢◌, ◌⊎◌, ℕ, ◌+◌, ◌-◌, ◌%◌, ◌<◌, ◌≤◌, inl, inr, Bool, true, false, List, length, get_or, slice_set, Option, Some, None, refl, sym, ap, ◌∙◌, subst, arith}
-use Rattle.std.proofs.Math.Nat.{mod-eq_of_lt, mod_self}
 use Rattle.std.proofs.lemmas.Nat.{mod_below}
 use Rattle.std.proofs.lemmas.Bool.{cases_eq, cases_lt}
 use Rattle.std.proofs.Math.ListN.{get_or-eq_default}
 use Rattle.std.proofs.lemmas.List.{get_or-set_same, get_or-set_other, length-set}
 use Rattle.guest_driver.specs.declared.flight.Flight.{Flight}
-use Rattle.guest_driver.specs.Driver.{no_flight, owner, following, ordered_by, HasNextFree, AreTaken, HasTooFew, last_after, ChoosesNext, ChoosesBy, TakesBy, next_by}
+use Rattle.guest_driver.specs.Driver.{no_flight, owner, following, ordered_by, HasNextFree, HasTooFew, last_after, ChoosesNext, ChoosesBy, TakesBy, next_by}
 use Rattle.guest_driver.specs.TableOrder.{turn, turn_of, IsWithin, IsBehind, HaveOne, IsHead, behind, IsInTurn, IsStretch}
 use Rattle.guest_driver.specs.Kinds.{mark_after}
 use Rattle.rpmb_frame.specs.declared.config.RingKind.{RingKind}
@@ -31,9 +30,6 @@ within_cases size first many d w = grind arith
 behind_cases : (size first many next : ℕ) → IsBehind size first many next → ((first + many < size) × (next ≡ first + many)) ⊎ ((size ≤ first + many) × (next + size ≡ first + many))
 behind_cases size first many next b = grind arith
 
-one_cases : (size first many chains t d : ℕ) → HaveOne size first many chains t d → ((first ≤ d) × (chains + d ≤ first + many + t)) ⊎ ((d < first) × (chains + (d + size) ≤ first + many + t))
-one_cases size first many chains t d h = grind arith
-
 turn_zero : (used : ℕ) → used < 65536 → turn used used ≡ 0
 unfolding turn
 turn_zero used low = omega arith
@@ -46,10 +42,6 @@ turn_less : (used mark : ℕ) → used < 65536 → mark < 65536 → 0 < turn use
 unfolding turn
 turn_less used mark low other some = omega arith
 
-is_free : (o : Option ℕ) → (o ≡ None) ⊎ (o ≢ None)
-is_free None = inl refl
-is_free (Some x) = inr (λ e. absurd (cc))
-
 some_taken : (o : Option ℕ) (x : ℕ) → o ≡ Some x → o ≢ None
 some_taken o x e n = let z = sym e ∙ n in absurd (cc)
 
@@ -59,20 +51,6 @@ some_taken o x e n = let z = sym e ∙ n in absurd (cc)
 others_within : (size first many next x : ℕ) → first < size → many ≤ size → next < size → IsBehind size first many next → size ≤ many + 1 → x < size → x ≢ next
     → IsWithin size first many x
 others_within size first many next x a b c e few low other = let p = behind_cases size first many next e in omega arith
-
-all_within : (size first many x : ℕ) → first < size → size ≤ many → x < size → IsWithin size first many x
-all_within size first many x a full low = omega arith
-
-next_within : (size first many next : ℕ) → first < size → many ≤ size → next < size → IsBehind size first many next → IsWithin size first many next → size ≤ many
-next_within size first many next a b c e w = let p = behind_cases size first many next e in let q = within_cases size first many next w in omega arith
-
-follower_within : (size first many next s : ℕ) → first < size → many ≤ size → next < size → IsBehind size first many next → Follows size next s → IsWithin size first many s
-    → size ≤ many + 1
-follower_within size first many next s a b c e f w = grind arith
-
-pub all_taken : (size offered used next : ℕ) (owners : List (Option ℕ)) (flights : List Flight) → IsStretch size offered used next owners flights → length owners ≡ size
-    → owner owners next ≢ None → AreTaken owners 0
-all_taken size offered used next owners flights s long is = grind arith
 
 pub too_few : (size offered used next : ℕ) (owners : List (Option ℕ)) (flights : List Flight) (two : Bool) → IsStretch size offered used next owners flights → length owners ≡ size
     → ¬ HasNextFree owners next two → HasTooFew owners two
@@ -522,10 +500,6 @@ in_order_of Packed in_order e = absurd (cc)
 
 pub ordered_of : (kind : RingKind) (in_order : Bool) → kind ≡ Split → in_order ≡ true → ordered_by kind in_order ≡ true
 ordered_of kind in_order split is = ap (λ k. ordered_by k in_order) split ∙ is
-
-none_of_none : (owners : List (Option ℕ)) (two : Bool) → length owners ≡ 0 → HasTooFew owners two
-none_of_none owners false none = λ k low below. absurd (omega arith)
-none_of_none owners true none = λ d below free. absurd (omega arith)
 
 -- where the next descriptors aren't free, too few are
 pub chooses_by : (size offered used next : ℕ) (owners : List (Option ℕ)) (flights : List Flight) (two : Bool) (pair : Option (ℕ × ℕ))
