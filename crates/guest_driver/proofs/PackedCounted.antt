@@ -1,7 +1,6 @@
 -- While a place of a packed ring is free, so is an id.
-use Rattle.std.proofs.Common.{◌≡◌, ◌≢◌, inl, inr, ℕ, ◌+◌, ◌<◌, ◌≤◌, false, List, length, replicate, get_or, slice_set, Option, Some, None, Ok, Err, sym, ap, subst, ◌∙◌, arith}
+use Rattle.std.proofs.Common.{◌≡◌, ◌≢◌, ℕ, ◌+◌, ◌<◌, ◌≤◌, false, List, length, replicate, get_or, slice_set, Option, Some, None, Ok, Err, sym, ap, subst, ◌∙◌, arith}
 use Rattle.std.proofs.lemmas.List.{length-set, length-replicate, get_or-replicate, get_or_past, get_or-set_same, get_or-set_other}
-use Rattle.std.proofs.lemmas.Bool.{cases_lt}
 use Rattle.rpmb_frame.specs.declared.config.RingKind.{RingKind}
 use Rattle.rpmb_frame.specs.declared.config.RingKind.TheVariants.{Packed}
 use Rattle.guest_driver.specs.declared.flight.Flight.{Flight}
@@ -31,13 +30,7 @@ owned_before : (owners : List (Option ℕ)) (i id : ℕ) → i < length owners �
 owned_before owners i id low is none = grind (arith, get_or-set_other, get_or-set_same)
 
 owner-replicate : (size id : ℕ) → owner (replicate size None) id ≡ None
-owner-replicate size id =
-    let free : List (Option ℕ) = replicate size None in
-    let long : length free ≡ size = length-replicate size None in
-    elim (cases_lt id size) [
-      | inl low ↦ get_or-replicate size id None None low
-      | inr past ↦ get_or_past free id None (omega arith)
-    ]
+owner-replicate size id = grind (arith, get_or-replicate, get_or_past, length-replicate)
 
 pub begins_counted : ADriverBeginsCounted
 begins_counted form size event_idx kind =
@@ -101,30 +94,7 @@ offer_counted memory driver readable writable (Err BadUsed) memory' driver' some
 
 back_counted : (driver : DriverState) (id : ℕ) → IsCounted driver → owner driver.owners id ≡ Some id → IsCounted (after_reap driver id)
 back_counted driver id counted head =
-    let kind = counted.kind in
-    let size = driver.size in
-    let flight : Flight = get_or driver.flights id no_flight in
-    let low : id < length driver.owners = owner_low driver.owners id id head in
-    let taken : ℕ = places_taken driver.owners driver.flights in
-    let owners : List (Option ℕ) = slice_set driver.owners id None in
-    let some : owner driver.owners id ≢ None = λ none. absurd (let both : Some id ≡ None = sym head ∙ none in cc) in
-    let one : slice_set owners flight.last None ≡ owners = one_id driver.owners id flight.last None (counted.alone id some) in
-    let less : places_taken owners driver.flights + flight.places ≡ taken = taken-less driver.owners driver.flights id id (omega arith) head in
-    let goes : mark_after driver.form.kind size driver.used flight.places ≡ mark_of size (counted.reaped + flight.places) =
-    ap (λ (k : RingKind). mark_after k size driver.used flight.places) kind ∙ ap (λ (u : ℕ). mark_after Packed size u flight.places) counted.used
-    ∙ mark_next size counted.reaped flight.places in
-    let kept : IsCounted (record (after_reap driver id) { owners = owners }) = record {
-      kind = kind;
-      owned = length-set driver.owners id None ∙ counted.owned;
-      flown = counted.flown;
-      alone = λ k is. counted.alone k (owned_before driver.owners id k low is);
-      each = λ k is. counted.each k (owned_before driver.owners id k low is);
-      reaped = counted.reaped + flight.places;
-      used = goes;
-      offered = counted.offered ∙ ap (mark_of size) (omega arith);
-      room = omega arith;
-    } in
-    subst (λ (o : List (Option ℕ)). IsCounted (record (after_reap driver id) { owners = o })) (sym one) kept
+    grind (arith, length-set, mark_next, one_id, owned_before, owner_low, taken-less)
 
 pub reap_counted : AReapIsCounted
 reap_counted memory driver (Ok None) driver' counted reaps = subst IsCounted (sym reaps.1) counted
