@@ -30,7 +30,7 @@ use Rattle.flusher.specs.Laws.{GivenAdds, NoneLeftIsEmpty}
 
 open_lowers : (i : Group) (k : ℕ) (o : Option Entry) → slice_get i.entries k ≡ o → calls_left (open_after k o) i < calls_left (Open k) i
 open_lowers i k None is = omega arith
-open_lowers i k (Some e) is = (let below = slice_get_within i.entries k e is in omega (arith, below))
+open_lowers i k (Some e) is = (let below = slice_get_within i.entries k e is in omega arith)
 
 phase_write_lowers : (phase : Phase) (i : Group) → has_write phase ≡ true → calls_left (written phase i) i < calls_left phase i
 phase_write_lowers Given i has = omega arith
@@ -80,8 +80,8 @@ sync_adds_none None = omega arith
 sync_adds_none (Some s) = of (has_write s.phase) refl
   where
     of : (b : Bool) → has_write s.phase ≡ b → slot_left (after_sync (Some s)) ≤ slot_left (Some s)
-    of true is = (let same = phase_sync_keeps s.phase s.intent is in omega (arith, same))
-    of false is = (let less = phase_sync_lowers s.phase s.intent is in omega (arith, less))
+    of true is = (let same = phase_sync_keeps s.phase s.intent is in omega arith)
+    of false is = (let less = phase_sync_lowers s.phase s.intent is in omega arith)
 
 some_left : (phase : Phase) (i : Group) → 0 < calls_left phase i
 some_left Given i = omega arith
@@ -109,8 +109,8 @@ behind_has first None w = absurd (cc)
 behind_has first (Some s) w = and_left (has_write s.phase) (is_let first s.phase) w
 
 turn_lowers : (t : Turn) (x : Guest) → turn_of x ≡ t → has_turn t ≡ true → guest_left (moved_in t x) < guest_left x
-turn_lowers First x is has = (let fewer = write_lowers x.slot (turn_first (slot_writes x.slot) (behind_writes x.slot x.behind) is) in omega (arith, fewer))
-turn_lowers Second x is has = (let fewer = write_lowers x.behind (behind_has x.slot x.behind (turn_behind (slot_writes x.slot) (behind_writes x.slot x.behind) is)) in omega (arith, fewer))
+turn_lowers First x is has = (let fewer = write_lowers x.slot (turn_first (slot_writes x.slot) (behind_writes x.slot x.behind) is) in omega arith)
+turn_lowers Second x is has = (let fewer = write_lowers x.behind (behind_has x.slot x.behind (turn_behind (slot_writes x.slot) (behind_writes x.slot x.behind) is)) in omega arith)
 turn_lowers Neither x is has = absurd (cc)
 
 guest_write_lowers : (x : Guest) → guest_has_write x ≡ true → guest_left (guest_after_write x) < guest_left x
@@ -126,7 +126,7 @@ guest_sync_adds_none x =
     let sum = ordered_left x (marked x) (after_sync x.slot) (after_sync x.behind) in
     let one = sync_adds_none x.slot in
     let two = sync_adds_none x.behind in
-    omega (arith, sum, one, two)
+    omega arith
 
 guest_sync_lowers : (x : Guest) → guest_awaits x ≡ true → guest_left (guest_after_sync x) < guest_left x
 guest_sync_lowers x waits = by (slot_awaits x.slot) refl
@@ -135,25 +135,25 @@ guest_sync_lowers x waits = by (slot_awaits x.slot) refl
     sum = ordered_left x (marked x) (after_sync x.slot) (after_sync x.behind)
 
     by : (b : Bool) → slot_awaits x.slot ≡ b → guest_left (guest_after_sync x) < guest_left x
-    by true is = (let one = sync_lowers x.slot is in let two = sync_adds_none x.behind in let all = sum in omega (arith, all, one, two))
+    by true is = (let one = sync_lowers x.slot is in let two = sync_adds_none x.behind in let all = sum in omega arith)
     by false is = (
         let later : slot_awaits x.behind ≡ true = sym (ap (λ (v : Bool). v || slot_awaits x.behind) is) ∙ waits in
         let one = sync_adds_none x.slot in
         let two = sync_lowers x.behind later in
         let all = sum in
-        omega (arith, all, one, two))
+        omega arith)
 
 left_of-set : (xs : List Guest) (g : ℕ) (x y : Guest) → slice_get xs g ≡ Some x → left_of (slice_set xs g y) + guest_left x ≡ left_of xs + guest_left y
 unfolding left_of
 left_of-set [] zero x y at = absurd (cc)
 left_of-set [] (suc g) x y at = absurd (cc)
-left_of-set (z ∷ xs) zero x y at = (let same : guest_left z ≡ guest_left x = (let e : z ≡ x = cc in ap guest_left e) in omega (arith, same))
-left_of-set (z ∷ xs) (suc g) x y at = (let rest = left_of-set xs g x y at in omega (arith, rest))
+left_of-set (z ∷ xs) zero x y at = (let same : guest_left z ≡ guest_left x = (let e : z ≡ x = cc in ap guest_left e) in omega arith)
+left_of-set (z ∷ xs) (suc g) x y at = (let rest = left_of-set xs g x y at in omega arith)
 
 left_of-sync : (xs : List Guest) → left_of (map guest_after_sync xs) ≤ left_of xs
 unfolding left_of
 left_of-sync [] = omega arith
-left_of-sync (x ∷ xs) = (let first = guest_sync_adds_none x in let rest = left_of-sync xs in omega (arith, first, rest))
+left_of-sync (x ∷ xs) = (let first = guest_sync_adds_none x in let rest = left_of-sync xs in omega arith)
 
 left_of-sync-lower : (xs : List Guest) → list_any guest_awaits xs ≡ true → left_of (map guest_after_sync xs) < left_of xs
 unfolding left_of
@@ -161,12 +161,12 @@ left_of-sync-lower [] waits = absurd (cc)
 left_of-sync-lower (x ∷ xs) waits = of (guest_awaits x) refl (left_of-sync-lower xs)
   where
     of : (b : Bool) → guest_awaits x ≡ b → (list_any guest_awaits xs ≡ true → left_of (map guest_after_sync xs) < left_of xs) → left_of (map guest_after_sync (x ∷ xs)) < left_of (x ∷ xs)
-    of true is later = (let first = guest_sync_lowers x is in let rest = left_of-sync xs in omega (arith, first, rest))
+    of true is later = (let first = guest_sync_lowers x is in let rest = left_of-sync xs in omega arith)
     of false is later = (
         let waits_later : list_any guest_awaits xs ≡ true = cc in
         let first = guest_sync_adds_none x in
         let rest = later waits_later in
-        omega (arith, first, rest))
+        omega arith)
 
 -- 3. A call that succeeds
 
@@ -186,7 +186,7 @@ write_of old g x plan at =
     let has = sym (ap guest_has_write (get_or_from_slice_get old g x x at)) ∙ first.1 in
     let fewer = guest_write_lowers x has in
     let whole = left_of-set old g x (guest_after_write x) at in
-    omega (arith, fewer, whole)
+    omega arith
 
 module _ {D : Type 0} (makes : D → DiskCall → D → Type 0) (od : D) (old : List Guest) (result : Result Progress StoreFault) (nd : D) (new : List Guest) (broken : Bool) where
   sync_all : (ok : Bool) → planned old ≡ SyncAll → new ≡ (if ok then map guest_after_sync old else old) → Ends ok (Synced (marks_of new)) result broken → called result ≡ true → left_of new < left_of old
@@ -219,13 +219,13 @@ given_adds guests i x at room =
     let more = room_left x i x.slot x.behind room in
     let is : given guests i ≡ slice_set guests i.guest (with_intent x i) = ap (given_of guests i) at in
     let after = ap left_of is in
-    omega (arith, whole, more, after)
+    omega arith
 
 -- 5. None left
 
 empty_of : (slot : Option Slot) → slot_left slot ≡ 0 → is_empty slot ≡ true
 empty_of None none = refl
-empty_of (Some s) none = absurd (let some = some_left s.phase s.intent.group in omega (arith, some, none))
+empty_of (Some s) none = absurd (let some = some_left s.phase s.intent.group in omega arith)
 
 none_of : (slot : Option Slot) → is_empty slot ≡ true → slot_left slot ≡ 0
 none_of None is = refl
@@ -237,10 +237,10 @@ empty_where_none [] none zero x at = absurd (cc)
 empty_where_none [] none (suc g) x at = absurd (cc)
 empty_where_none (z ∷ xs) none zero x at = (
     let e : z ≡ x = cc in
-    let first : slot_left z.slot ≡ 0 = omega (arith, none) in
-    let second : slot_left z.behind ≡ 0 = omega (arith, none) in
+    let first : slot_left z.slot ≡ 0 = omega arith in
+    let second : slot_left z.behind ≡ 0 = omega arith in
     (empty_of x.slot (sym (ap (λ (v : Guest). slot_left v.slot) e) ∙ first), empty_of x.behind (sym (ap (λ (v : Guest). slot_left v.behind) e) ∙ second)))
-empty_where_none (z ∷ xs) none (suc g) x at = (let rest : left_of xs ≡ 0 = omega (arith, none) in empty_where_none xs rest g x at)
+empty_where_none (z ∷ xs) none (suc g) x at = (let rest : left_of xs ≡ 0 = omega arith in empty_where_none xs rest g x at)
 
 none_where_empty : (xs : List Guest) → AllEmpty xs → left_of xs ≡ 0
 unfolding left_of
@@ -250,7 +250,7 @@ none_where_empty (z ∷ xs) all = (
     let first = none_of z.slot both.0 in
     let second = none_of z.behind both.1 in
     let rest = none_where_empty xs (λ g x at. all (suc g) x at) in
-    omega (arith, first, second, rest))
+    omega arith)
 
 pub none_left_is_empty : NoneLeftIsEmpty
 none_left_is_empty guests = (empty_where_none guests, none_where_empty guests)

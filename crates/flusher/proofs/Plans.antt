@@ -86,7 +86,7 @@ no_write : (xs : List Guest) → position guest_has_write xs ≡ None → (g : �
 no_write xs none g x at =
     let past : length xs ≤ position_or_len guest_has_write xs = grind (arith, common_steps) in
     let below = slice_get_within xs g x at in
-    sym (ap guest_has_write (get_or_from_slice_get xs g x x at)) ∙ fails_before_first guest_has_write xs g x (omega (arith, past, below))
+    sym (ap guest_has_write (get_or_from_slice_get xs g x x at)) ∙ fails_before_first guest_has_write xs g x (omega arith)
 
 no_wait : (xs : List Guest) → list_any guest_awaits xs ≡ false → (g : ℕ) (x : Guest) → slice_get xs g ≡ Some x → guest_awaits x ≡ false
 no_wait xs none g x at = of (guest_awaits x) refl
@@ -132,32 +132,32 @@ module _ {D : Type 0} (makes : D → DiskCall → D → Type 0) (od : D) (old : 
       → (g : ℕ) (x y : Guest) → slice_get old g ≡ Some x → slice_get new g ≡ Some y → MovedBy (settles result) x y
   moves_write n z is slots none g x y before after = subst (λ (b : Bool). MovedBy b x y) (sym none) (⊎_elim
       (λ e. (let same : z ≡ x = (let f : slice_get old n ≡ Some x = ap (slice_get old) (sym e.0) ∙ before in cc) in inr (e.1 ∙ ap guest_after_write same)))
-      (λ e. (let same : x ≡ y = (let f = e.1 in cc) in inl (sym same)))
+      (λ e. (let same : x ≡ y = (cc) in inl (sym same)))
       (set_cases old n g (guest_after_write z) y (subst (λ (l : List Guest). slice_get l g ≡ Some y) slots after)))
 
   moves_sync : new ≡ map guest_after_sync old → settles result ≡ true
       → (g : ℕ) (x y : Guest) → slice_get old g ≡ Some x → slice_get new g ≡ Some y → MovedBy (settles result) x y
   moves_sync slots all g x y before after = subst (λ (b : Bool). MovedBy b x y) (sym all) (
       let from = map_cases guest_after_sync old g y (subst (λ (l : List Guest). slice_get l g ≡ Some y) slots after) in
-      let same : from.0 ≡ x = (let f = from.1 in cc) in
+      let same : from.0 ≡ x = (cc) in
       from.2 ∙ ap guest_after_sync same)
 
   wrote_ends : (ok : Bool) → Ends ok Wrote result broken → (settles result ≡ false) × (result ≡ Ok Idle → ⊥) × ((told : List ℕ) → result ≡ Ok (Synced told) → ⊥)
-  wrote_ends true e = (ap settles e.0, (λ is. absurd (let f = e.0 in cc)), λ told is. absurd (let f = e.0 in cc))
-  wrote_ends false e = (ap settles e.0, (λ is. absurd (let f = e.0 in cc)), λ told is. absurd (let f = e.0 in cc))
+  wrote_ends true e = (ap settles e.0, (λ is. absurd (cc)), λ told is. absurd (cc))
+  wrote_ends false e = (ap settles e.0, (λ is. absurd (cc)), λ told is. absurd (cc))
 
   synced_moves : (ok : Bool) → new ≡ (if ok then map guest_after_sync old else old) → Ends ok (Synced (marks_of new)) result broken → Moves result old new
   synced_moves true slots e = record {
     count = ap length slots ∙ length-map old guest_after_sync;
     each = moves_sync slots (ap settles e.0);
-    idle = λ is. absurd (let f = e.0 in cc);
-    marks = λ told is. (let f = e.0 in cc);
+    idle = λ is. absurd (cc);
+    marks = λ told is. (cc);
   }
   synced_moves false slots e = record {
     count = ap length slots;
     each = moves_none (ap settles e.0) slots;
     idle = λ is. slots;
-    marks = λ told is. absurd (let f = e.0 in cc);
+    marks = λ told is. absurd (cc);
   }
 
   moves_by_plan : (p : Plan) → Round makes p od old result nd new broken → Moves result old new
@@ -172,15 +172,15 @@ module _ {D : Type 0} (makes : D → DiskCall → D → Type 0) (od : D) (old : 
     count = ap length r.2;
     each = moves_none (ap settles r.0) r.2;
     idle = λ is. r.2;
-    marks = λ told is. absurd (let f = r.0 in cc);
+    marks = λ told is. absurd (cc);
   }
 
   pub round_moves : Round makes (planned old) od old result nd new broken → Moves result old new
   round_moves = moves_by_plan (planned old)
 
   sync_not_idle : (ok : Bool) → Ends ok (Synced (marks_of new)) result broken → result ≡ Ok Idle → ⊥
-  sync_not_idle true e is = absurd (let f = e.0 in cc)
-  sync_not_idle false e is = absurd (let f = e.0 in cc)
+  sync_not_idle true e is = absurd (cc)
+  sync_not_idle false e is = absurd (cc)
 
   idle_plan : (p : Plan) → Round makes p od old result nd new broken → result ≡ Ok Idle ↔ p ≡ Nothing
   idle_plan (WriteOf g) r = ((λ is. absurd ((wrote_ends r.ok r.ends).1 is)), λ is. absurd (cc))
@@ -212,11 +212,11 @@ module _ {D : Type 0} (state : D → DiskState) (makes : D → DiskCall → D �
   behind_in First g x at bytes is next =
       let f = fits.each g x is in
       let from = (within (region_of x) (side_of x) (side_ok (region_of x) x.side) (slot_write x.slot) (at, bytes) (write_fits (region_of x) (side_of x) x.slot (at, bytes) f.slot_fits next) next).0 in
-      omega (arith, from, f.behind)
+      omega (arith, f.behind)
   behind_in Second g x at bytes is next =
       let f = fits.each g x is in
       let from = (within (region_of x) (side_behind x) (side_ok (region_of x) (other_side x.side)) (slot_write x.behind) (at, bytes) (write_fits (region_of x) (side_behind x) x.behind (at, bytes) f.behind_fits next) next).0 in
-      omega (arith, from, f.behind)
+      omega (arith, f.behind)
   behind_in Neither g x at bytes is next = absurd (cc)
 
   goes_behind : (g : ℕ) (x : Guest) (at : ℕ) (bytes : List ℕ) → slice_get old g ≡ Some x → guest_write x ≡ Some (at, bytes) → 1024 ≤ at

@@ -57,7 +57,7 @@ stays_or_closes s = by s.phase refl
     by Closing here = inl here
 
 pub stays_not : (s : Slot) → Stays s → s.phase ≢ Closing
-stays_not s st is = (let gone : synced s.phase s.intent.group ≡ None = ap (λ (v : Phase). synced v s.intent.group) is in let there = st.is in absurd (cc))
+stays_not s st is = (let gone : synced s.phase s.intent.group ≡ None = ap (λ (v : Phase). synced v s.intent.group) is in absurd (cc))
 
 -- 2. Marks
 
@@ -85,7 +85,7 @@ pending_same : (n : ℕ) (phase : Phase) (i : Intent) (first : ℕ) → first �
 pending_same n Given i first chained is = is
 pending_same n Written i first chained is = is
 pending_same n Ready i first chained is = is
-pending_same n Opening i first chained is = omega (arith, chained)
+pending_same n Opening i first chained is = omega arith
 pending_same n (Open k) i first chained is = is
 pending_same n Applying i first chained is = is
 pending_same n Applied i first chained is = is

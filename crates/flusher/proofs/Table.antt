@@ -47,7 +47,7 @@ module _ (x : Guest) (at : ℕ) (bytes : List ℕ) where
   range_in Neither p c r next = absurd (cc)
 
 pub t_range : (p : Part) (x : Guest) (c : Content) (at : ℕ) (bytes : List ℕ) → guest_row p x c → guest_write x ≡ Some (at, bytes) → ((region_of x).base ≤ at) × (at + length bytes ≤ end_of (region_of x)) × (1024 ≤ at)
-t_range p x c at bytes r next = (let in_it = range_in x at bytes (turn_of x) p c r.0 next in let far = r.2.behind in (in_it.0, in_it.1, omega (arith, in_it.0, far)))
+t_range p x c at bytes r next = (let in_it = range_in x at bytes (turn_of x) p c r.0 next in (in_it.0, in_it.1, omega (arith, in_it.0)))
 
 pub same_version : (x : Guest) (c d : Content) → c 512 ≡ d 512 → IsOfVersion x c → IsOfVersion x d
 unfolding is_paired
@@ -225,14 +225,14 @@ module _ (region : Region) (side : Side) (p between : Part) (c : Content) where
   any_stands true (Some f) (Some s) row b l ch be single = both f s.phase s.intent row b l ch be
 
 pub same_above : (p q : Part) (n : ℕ) → n ≡ sequence_of_part p → q ≡ p → n ≤ sequence_of_part q
-same_above p q n is same = (let e = ap sequence_of_part same in omega (arith, is, e))
+same_above p q n is same = (let e = ap sequence_of_part same in omega arith)
 
 -- neither the partition before an intent nor the one after it is below the mark
 phase_above : (m : ℕ) (phase : Phase) (i : Intent) (g : Group) → Follows m (if is_settled phase then None else Some i) → (if is_opening phase then Some i.group else None) ≡ Some g → m ≤ last_of g + 1
 phase_above m Given i g f is = absurd (cc)
 phase_above m Written i g f is = absurd (cc)
 phase_above m Ready i g f is = absurd (cc)
-phase_above m Opening i g f is = (let e : i.group ≡ g = cc in subst (λ (v : Group). m ≤ last_of v + 1) e (omega (arith, f)))
+phase_above m Opening i g f is = (let e : i.group ≡ g = cc in subst (λ (v : Group). m ≤ last_of v + 1) e (omega arith))
 phase_above m (Open k) i g f is = absurd (cc)
 phase_above m Applying i g f is = absurd (cc)
 phase_above m Applied i g f is = absurd (cc)
@@ -246,9 +246,9 @@ module _ (p q : Part) (n : ℕ) (slot behind : Option Slot) (is : n ≡ sequence
   above_by : (o u : Option Group) → opening_in slot ≡ o → opening_in behind ≡ u → BeforeOrAfter p (or_else o u) q → n ≤ sequence_of_part q
   above_by None None at there m = same_above p q n is m
   above_by (Some i) u at there (inl m) = same_above p q n is m
-  above_by (Some i) u at there (inr m) = (let e = ap sequence_of_part m in let le = opening_above n slot i f at in omega (arith, e, le))
+  above_by (Some i) u at there (inr m) = (let e = ap sequence_of_part m in let le = opening_above n slot i f at in omega arith)
   above_by None (Some j) at there (inl m) = same_above p q n is m
-  above_by None (Some j) at there (inr m) = (let e = ap sequence_of_part m in let le = opening_above (n + length (entries_in (pending_of slot))) behind j g there in omega (arith, e, le))
+  above_by None (Some j) at there (inr m) = (let e = ap sequence_of_part m in let le = opening_above (n + length (entries_in (pending_of slot))) behind j g there in omega arith)
 
   above : BeforeOrAfter p (or_else (opening_in slot) (opening_in behind)) q → n ≤ sequence_of_part q
   above = above_by (opening_in slot) (opening_in behind) refl refl

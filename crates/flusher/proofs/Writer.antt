@@ -44,7 +44,7 @@ synced_intent P (Some s) none p = in_phase_intent P s.intent (synced s.phase s.i
 
 mark_small : (o : Option Group) (size n : ℕ) → n ≤ 2 ^ 32 → ((i : Group) → o ≡ Some i → GroupFits size i) → mark_after o n ≤ 2 ^ 32
 mark_small None size n le f = le
-mark_small (Some i) size n le f = (let g = f i refl in let small = g.counters in let some = g.one in omega (arith, small, some))
+mark_small (Some i) size n le f = (let g = f i refl in omega arith)
 
 opening_fits : (size : ℕ) (phase : Phase) (i : Intent) (g : Group) → GroupFits size i.group → (if is_opening phase then Some i.group else None) ≡ Some g → GroupFits size g
 opening_fits size Given i g f is = absurd (cc)
