@@ -29,119 +29,55 @@ use Rattle.flusher.specs.Laws.{GivenAdds, NoneLeftIsEmpty}
 -- 1. A slot
 
 open_lowers : (i : Group) (k : ℕ) (o : Option Entry) → slice_get i.entries k ≡ o → calls_left (open_after k o) i < calls_left (Open k) i
-open_lowers i k None is = omega arith
-open_lowers i k (Some e) is = (let below = slice_get_within i.entries k e is in omega arith)
+open_lowers i k o is = grind (arith, slice_get_within)
 
 phase_write_lowers : (phase : Phase) (i : Group) → has_write phase ≡ true → calls_left (written phase i) i < calls_left phase i
-phase_write_lowers Given i has = omega arith
-phase_write_lowers Written i has = absurd (cc)
-phase_write_lowers Ready i has = omega arith
-phase_write_lowers Opening i has = absurd (cc)
-phase_write_lowers (Open k) i has = open_lowers i k (slice_get i.entries k) refl
-phase_write_lowers Applying i has = absurd (cc)
-phase_write_lowers Applied i has = omega arith
-phase_write_lowers Closing i has = absurd (cc)
+phase_write_lowers phase i has = grind (arith, open_lowers)
 
 write_lowers : (slot : Option Slot) → slot_writes slot ≡ true → slot_left (after_write slot) < slot_left slot
-write_lowers None has = absurd (cc)
-write_lowers (Some s) has = phase_write_lowers s.phase s.intent.group has
+write_lowers slot has = grind (arith, phase_write_lowers)
 
 phase_sync_lowers : (phase : Phase) (i : Intent) → has_write phase ≡ false → slot_left (in_phase i (synced phase i.group)) < calls_left phase i.group
-phase_sync_lowers Given i has = absurd (cc)
-phase_sync_lowers Written i has = omega arith
-phase_sync_lowers Ready i has = absurd (cc)
-phase_sync_lowers Opening i has = omega arith
-phase_sync_lowers (Open k) i has = absurd (cc)
-phase_sync_lowers Applying i has = omega arith
-phase_sync_lowers Applied i has = absurd (cc)
-phase_sync_lowers Closing i has = omega arith
+phase_sync_lowers phase i has = grind arith
 
 -- a slot with a write stays as it is
 phase_sync_keeps : (phase : Phase) (i : Intent) → has_write phase ≡ true → slot_left (in_phase i (synced phase i.group)) ≡ calls_left phase i.group
-phase_sync_keeps Given i has = refl
-phase_sync_keeps Written i has = absurd (cc)
-phase_sync_keeps Ready i has = refl
-phase_sync_keeps Opening i has = absurd (cc)
-phase_sync_keeps (Open k) i has = refl
-phase_sync_keeps Applying i has = absurd (cc)
-phase_sync_keeps Applied i has = refl
-phase_sync_keeps Closing i has = absurd (cc)
+phase_sync_keeps phase i has = grind arith
 
 sync_lowers : (slot : Option Slot) → slot_awaits slot ≡ true → slot_left (after_sync slot) < slot_left slot
-sync_lowers None waits = absurd (cc)
-sync_lowers (Some s) waits = of (has_write s.phase) refl
-  where
-    of : (b : Bool) → has_write s.phase ≡ b → slot_left (after_sync (Some s)) < slot_left (Some s)
-    of true is = absurd (cc)
-    of false is = phase_sync_lowers s.phase s.intent is
+sync_lowers slot waits = grind arith
 
 sync_adds_none : (slot : Option Slot) → slot_left (after_sync slot) ≤ slot_left slot
-sync_adds_none None = omega arith
-sync_adds_none (Some s) = of (has_write s.phase) refl
-  where
-    of : (b : Bool) → has_write s.phase ≡ b → slot_left (after_sync (Some s)) ≤ slot_left (Some s)
-    of true is = (let same = phase_sync_keeps s.phase s.intent is in omega arith)
-    of false is = (let less = phase_sync_lowers s.phase s.intent is in omega arith)
+sync_adds_none slot = grind arith
 
 some_left : (phase : Phase) (i : Group) → 0 < calls_left phase i
-some_left Given i = omega arith
-some_left Written i = omega arith
-some_left Ready i = omega arith
-some_left Opening i = omega arith
-some_left (Open k) i = omega arith
-some_left Applying i = omega arith
-some_left Applied i = omega arith
-some_left Closing i = omega arith
+some_left phase i = grind arith
 
 -- 2. All guests
 
 turn_first : (a b : Bool) → turn_by a b ≡ First → a ≡ true
-turn_first true b is = refl
-turn_first false true is = absurd (cc)
-turn_first false false is = absurd (cc)
+turn_first a b is = grind arith
 
 and_left : (a b : Bool) → (a && b) ≡ true → a ≡ true
-and_left true b is = refl
-and_left false b is = absurd (cc)
+and_left a b is = grind arith
 
 behind_has : (first behind : Option Slot) → behind_writes first behind ≡ true → slot_writes behind ≡ true
-behind_has first None w = absurd (cc)
-behind_has first (Some s) w = and_left (has_write s.phase) (is_let first s.phase) w
+behind_has first behind w = grind arith
 
 turn_lowers : (t : Turn) (x : Guest) → turn_of x ≡ t → has_turn t ≡ true → guest_left (moved_in t x) < guest_left x
-turn_lowers First x is has = (let fewer = write_lowers x.slot (turn_first (slot_writes x.slot) (behind_writes x.slot x.behind) is) in omega arith)
-turn_lowers Second x is has = (let fewer = write_lowers x.behind (behind_has x.slot x.behind (turn_behind (slot_writes x.slot) (behind_writes x.slot x.behind) is)) in omega arith)
-turn_lowers Neither x is has = absurd (cc)
+turn_lowers t x is has = grind (arith, write_lowers)
 
 guest_write_lowers : (x : Guest) → guest_has_write x ≡ true → guest_left (guest_after_write x) < guest_left x
 guest_write_lowers x has = turn_lowers (turn_of x) x refl has
 
 ordered_left : (x : Guest) (n : ℕ) (slot behind : Option Slot) → guest_left (moved_up x n slot behind) ≡ slot_left slot + slot_left behind
-ordered_left x n (Some f) behind = refl
-ordered_left x n None (Some b) = omega arith
-ordered_left x n None None = refl
+ordered_left x n slot behind = grind arith
 
 guest_sync_adds_none : (x : Guest) → guest_left (guest_after_sync x) ≤ guest_left x
-guest_sync_adds_none x =
-    let sum = ordered_left x (marked x) (after_sync x.slot) (after_sync x.behind) in
-    let one = sync_adds_none x.slot in
-    let two = sync_adds_none x.behind in
-    omega arith
+guest_sync_adds_none x = grind arith
 
 guest_sync_lowers : (x : Guest) → guest_awaits x ≡ true → guest_left (guest_after_sync x) < guest_left x
-guest_sync_lowers x waits = by (slot_awaits x.slot) refl
-  where
-    sum : guest_left (guest_after_sync x) ≡ slot_left (after_sync x.slot) + slot_left (after_sync x.behind)
-    sum = ordered_left x (marked x) (after_sync x.slot) (after_sync x.behind)
-
-    by : (b : Bool) → slot_awaits x.slot ≡ b → guest_left (guest_after_sync x) < guest_left x
-    by true is = (let one = sync_lowers x.slot is in let two = sync_adds_none x.behind in let all = sum in omega arith)
-    by false is = (
-        let later : slot_awaits x.behind ≡ true = sym (ap (λ (v : Bool). v || slot_awaits x.behind) is) ∙ waits in
-        let one = sync_adds_none x.slot in
-        let two = sync_lowers x.behind later in
-        let all = sum in
-        omega arith)
+guest_sync_lowers x waits = grind arith
 
 left_of-set : (xs : List Guest) (g : ℕ) (x y : Guest) → slice_get xs g ≡ Some x → left_of (slice_set xs g y) + guest_left x ≡ left_of xs + guest_left y
 unfolding left_of
@@ -171,14 +107,10 @@ left_of-sync-lower (x ∷ xs) waits = of (guest_awaits x) refl (left_of-sync-low
 -- 3. A call that succeeds
 
 plan_write : (o : Option ℕ) (b : Bool) (g : ℕ) → plan_at o b ≡ WriteOf g → o ≡ Some g
-plan_write (Some h) b g is = cc
-plan_write None true g is = absurd (cc)
-plan_write None false g is = absurd (cc)
+plan_write o b g is = grind arith
 
 plan_sync : (o : Option ℕ) (b : Bool) → plan_at o b ≡ SyncAll → b ≡ true
-plan_sync (Some g) b is = absurd (cc)
-plan_sync None true is = refl
-plan_sync None false is = absurd (cc)
+plan_sync o b is = grind arith
 
 write_of : (old : List Guest) (g : ℕ) (x : Guest) → planned old ≡ WriteOf g → slice_get old g ≡ Some x → left_of (slice_set old g (guest_after_write x)) < left_of old
 write_of old g x plan at =
@@ -190,13 +122,10 @@ write_of old g x plan at =
 
 module _ {D : Type 0} (makes : D → DiskCall → D → Type 0) (od : D) (old : List Guest) (result : Result Progress StoreFault) (nd : D) (new : List Guest) (broken : Bool) where
   sync_all : (ok : Bool) → planned old ≡ SyncAll → new ≡ (if ok then map guest_after_sync old else old) → Ends ok (Synced (marks_of new)) result broken → called result ≡ true → left_of new < left_of old
-  sync_all true plan slots ends made = subst (λ (l : List Guest). left_of l < left_of old) (sym slots) (left_of-sync-lower old (plan_sync _ _ plan))
-  sync_all false plan slots ends made = absurd (let is = ap called ends.0 in cc)
+  sync_all ok plan slots ends made = grind (arith, left_of-sync-lower)
 
   lowers_by_plan : (p : Plan) → planned old ≡ p → Round makes p od old result nd new broken → called result ≡ true → left_of new < left_of old
-  lowers_by_plan (WriteOf g) plan r made = (let w = r.wrote in subst (λ (l : List Guest). left_of l < left_of old) (sym w.slots) (write_of old g w.guest plan w.is))
-  lowers_by_plan SyncAll plan r made = sync_all r.ok plan r.synced.slots r.ends made
-  lowers_by_plan Nothing plan r made = absurd (let is = ap called r.0 in cc)
+  lowers_by_plan p plan r made = grind (arith, sync_all, write_of)
 
   pub round_lowers : Round makes (planned old) od old result nd new broken → called result ≡ true → left_of new < left_of old
   round_lowers = lowers_by_plan (planned old) refl
@@ -204,13 +133,7 @@ module _ {D : Type 0} (makes : D → DiskCall → D → Type 0) (od : D) (old : 
 -- 4. An intent that is given
 
 room_left : (x : Guest) (i : Intent) (slot behind : Option Slot) → (if x.paired then is_empty behind else is_empty slot) ≡ true → guest_left (given_at (with_slots x slot behind) i slot) ≡ guest_left (with_slots x slot behind) + (length i.group.entries + 8)
-room_left x i None behind room = omega arith
-room_left x i (Some f) None room = omega arith
-room_left x i (Some f) (Some b) room = absurd (by x.paired room)
-  where
-    by : (pair : Bool) → (if pair then false else false) ≡ true → ⊥
-    by true is = absurd (cc)
-    by false is = absurd (cc)
+room_left x i slot behind room = grind arith
 
 pub given_adds : GivenAdds
 unfolding given
@@ -224,22 +147,16 @@ given_adds guests i x at room =
 -- 5. None left
 
 empty_of : (slot : Option Slot) → slot_left slot ≡ 0 → is_empty slot ≡ true
-empty_of None none = refl
-empty_of (Some s) none = absurd (let some = some_left s.phase s.intent.group in omega arith)
+empty_of slot none = grind arith
 
 none_of : (slot : Option Slot) → is_empty slot ≡ true → slot_left slot ≡ 0
-none_of None is = refl
-none_of (Some s) is = absurd (cc)
+none_of slot is = grind arith
 
 empty_where_none : (xs : List Guest) → left_of xs ≡ 0 → AllEmpty xs
 unfolding left_of
 empty_where_none [] none zero x at = absurd (cc)
 empty_where_none [] none (suc g) x at = absurd (cc)
-empty_where_none (z ∷ xs) none zero x at = (
-    let e : z ≡ x = cc in
-    let first : slot_left z.slot ≡ 0 = omega arith in
-    let second : slot_left z.behind ≡ 0 = omega arith in
-    (empty_of x.slot (sym (ap (λ (v : Guest). slot_left v.slot) e) ∙ first), empty_of x.behind (sym (ap (λ (v : Guest). slot_left v.behind) e) ∙ second)))
+empty_where_none (z ∷ xs) none zero x at = grind arith
 empty_where_none (z ∷ xs) none (suc g) x at = (let rest : left_of xs ≡ 0 = omega arith in empty_where_none xs rest g x at)
 
 none_where_empty : (xs : List Guest) → AllEmpty xs → left_of xs ≡ 0
