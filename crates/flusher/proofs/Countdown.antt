@@ -1,29 +1,27 @@
 -- The calls that a store has before it, one by one.
-use Rattle.std.proofs.Common.{◌≡◌, ◌<◌, ◌≤◌, ◌+◌, Bool, true, false, Option, Some, None, Result, ℕ, zero, suc, List, [], ◌∷◌, map, refl, ap, sym, ◌∙◌, subst, arith}
-use Rattle.std.specs.Prelude.{slice_get, slice_set, if◌then◌else◌, ◌||◌, ◌&&◌, length}
+use Rattle.std.proofs.Common.{◌≡◌, ◌<◌, ◌≤◌, ◌+◌, Bool, true, false, Option, Some, Result, ℕ, zero, suc, List, [], ◌∷◌, map, refl, ap, sym, ◌∙◌, arith}
+use Rattle.std.specs.Prelude.{slice_get, slice_set, if◌then◌else◌, length}
 use Rattle.std.specs.List.{list_any}
 use Rattle.std.proofs.lemmas.List.Quantifiers.{position-Some}
 use Rattle.std.proofs.lemmas.Option.{slice_get_within, get_or_from_slice_get}
 use Rattle.disk.specs.Disk.{DiskCall}
 use Rattle.intent_slots.specs.Payload.{Entry, Group, Intent}
 use Rattle.flusher.specs.declared.phase.Phase.{Phase}
-use Rattle.flusher.specs.declared.phase.Phase.TheVariants.{Given, Written, Ready, Opening, Open, Applying, Applied, Closing}
+use Rattle.flusher.specs.declared.phase.Phase.TheVariants.{Open}
 use Rattle.flusher.specs.declared.guest.Guest.{Guest}
 use Rattle.flusher.specs.declared.slot.Slot.{Slot}
 use Rattle.flusher.specs.declared.plan.Plan.{Plan}
-use Rattle.flusher.specs.declared.plan.Plan.TheVariants.{WriteOf, SyncAll, Nothing}
+use Rattle.flusher.specs.declared.plan.Plan.TheVariants.{WriteOf, SyncAll}
 use Rattle.flusher.specs.Progress.{Progress, Synced}
 use Rattle.flusher.specs.declared.progress.StoreFault.{StoreFault}
-use Rattle.flusher.specs.Phase.{has_write, open_after, written, synced}
-use Rattle.flusher.specs.Slot.{is_empty, slot_writes, slot_awaits, after_write, after_sync, in_phase}
-use Rattle.flusher.specs.Pair.{behind_writes, is_let, turn_by, turn_of, has_turn, moved_in, marked, moved_up, with_slots, given_at, with_intent, guest_has_write, guest_awaits, guest_after_write, guest_after_sync}
+use Rattle.flusher.specs.Phase.{has_write, open_after, written}
+use Rattle.flusher.specs.Slot.{is_empty, slot_writes, after_write}
+use Rattle.flusher.specs.Pair.{turn_of, has_turn, moved_in, with_slots, given_at, with_intent, guest_has_write, guest_awaits, guest_after_write, guest_after_sync}
 use Rattle.flusher.specs.Marks.{marks_of}
 use Rattle.flusher.specs.Round.{plan_at, planned, AllEmpty, Ends, Round}
 use Rattle.flusher.specs.Store.{given, given_of}
 use Rattle.flusher.specs.CallsLeft.{calls_left, slot_left, guest_left, left_of, called}
 use Rattle.flusher.specs.declared.guest.Turn.{Turn}
-use Rattle.flusher.specs.declared.guest.Turn.TheVariants.{First, Second, Neither}
-use Rattle.flusher.proofs.Turns.{turn_behind}
 use Rattle.flusher.specs.Laws.{GivenAdds, NoneLeftIsEmpty}
 
 -- 1. A slot
@@ -37,41 +35,13 @@ phase_write_lowers phase i has = grind (arith, open_lowers)
 write_lowers : (slot : Option Slot) → slot_writes slot ≡ true → slot_left (after_write slot) < slot_left slot
 write_lowers slot has = grind (arith, phase_write_lowers)
 
-phase_sync_lowers : (phase : Phase) (i : Intent) → has_write phase ≡ false → slot_left (in_phase i (synced phase i.group)) < calls_left phase i.group
-phase_sync_lowers phase i has = grind arith
-
--- a slot with a write stays as it is
-phase_sync_keeps : (phase : Phase) (i : Intent) → has_write phase ≡ true → slot_left (in_phase i (synced phase i.group)) ≡ calls_left phase i.group
-phase_sync_keeps phase i has = grind arith
-
-sync_lowers : (slot : Option Slot) → slot_awaits slot ≡ true → slot_left (after_sync slot) < slot_left slot
-sync_lowers slot waits = grind arith
-
-sync_adds_none : (slot : Option Slot) → slot_left (after_sync slot) ≤ slot_left slot
-sync_adds_none slot = grind arith
-
-some_left : (phase : Phase) (i : Group) → 0 < calls_left phase i
-some_left phase i = grind arith
-
 -- 2. All guests
-
-turn_first : (a b : Bool) → turn_by a b ≡ First → a ≡ true
-turn_first a b is = grind arith
-
-and_left : (a b : Bool) → (a && b) ≡ true → a ≡ true
-and_left a b is = grind arith
-
-behind_has : (first behind : Option Slot) → behind_writes first behind ≡ true → slot_writes behind ≡ true
-behind_has first behind w = grind arith
 
 turn_lowers : (t : Turn) (x : Guest) → turn_of x ≡ t → has_turn t ≡ true → guest_left (moved_in t x) < guest_left x
 turn_lowers t x is has = grind (arith, write_lowers)
 
 guest_write_lowers : (x : Guest) → guest_has_write x ≡ true → guest_left (guest_after_write x) < guest_left x
 guest_write_lowers x has = turn_lowers (turn_of x) x refl has
-
-ordered_left : (x : Guest) (n : ℕ) (slot behind : Option Slot) → guest_left (moved_up x n slot behind) ≡ slot_left slot + slot_left behind
-ordered_left x n slot behind = grind arith
 
 guest_sync_adds_none : (x : Guest) → guest_left (guest_after_sync x) ≤ guest_left x
 guest_sync_adds_none x = grind arith
@@ -108,9 +78,6 @@ left_of-sync-lower (x ∷ xs) waits = of (guest_awaits x) refl (left_of-sync-low
 
 plan_write : (o : Option ℕ) (b : Bool) (g : ℕ) → plan_at o b ≡ WriteOf g → o ≡ Some g
 plan_write o b g is = grind arith
-
-plan_sync : (o : Option ℕ) (b : Bool) → plan_at o b ≡ SyncAll → b ≡ true
-plan_sync o b is = grind arith
 
 write_of : (old : List Guest) (g : ℕ) (x : Guest) → planned old ≡ WriteOf g → slice_get old g ≡ Some x → left_of (slice_set old g (guest_after_write x)) < left_of old
 write_of old g x plan at =

@@ -4,20 +4,16 @@ use Rattle.std.specs.Prelude.{slice_get, slice_set, if◌then◌else◌}
 use Rattle.std.proofs.lemmas.Option.{slice_get-get_or, slice_get_within}
 use Rattle.disk.specs.Content.{Content}
 use Rattle.disk.specs.Disk.{DiskState, MayLeave}
-use Rattle.flusher.specs.declared.phase.Phase.{Phase}
-use Rattle.flusher.specs.declared.phase.Phase.TheVariants.{Given, Written, Ready, Opening, Open, Applying, Applied, Closing}
-use Rattle.flusher.specs.Phase.{is_settled}
-use Rattle.flusher.proofs.Held.{seen_left}
 use Rattle.flusher.proofs.Syncs.{two_row}
-use Rattle.intent_slots.specs.Layout.{SlotRegion, Region, AreApart, end_of}
-use Rattle.intent_slots.specs.Payload.{Intent, GroupFits, last_of}
+use Rattle.intent_slots.specs.Layout.{Region, AreApart, end_of}
+use Rattle.intent_slots.specs.Payload.{Intent, GroupFits}
 use Rattle.intent_slots.specs.Recovered.{Part}
 use Rattle.flusher.specs.declared.guest.Guest.{Guest}
 use Rattle.flusher.specs.declared.slot.Slot.{Slot}
 use Rattle.flusher.specs.Slot.{is_empty, intent_of, pending_of}
-use Rattle.flusher.specs.Pair.{has_room, region_of, side_of, side_behind, mark_of, with_intent, with_slots, given_slot, given_at, entries_in}
+use Rattle.flusher.specs.Pair.{has_room, region_of, side_behind, mark_of, with_intent, with_slots, given_slot, given_at, entries_in}
 use Rattle.flusher.specs.Marks.{marks_of}
-use Rattle.flusher.specs.SlotInvariant.{IsOfVersion, PhaseRow, Behind, Besides, Follows, sequence_of_part, IsHeld, guest_row, guest_seen}
+use Rattle.flusher.specs.SlotInvariant.{IsOfVersion, Behind, Besides, IsHeld, guest_row, guest_seen}
 use Rattle.flusher.specs.Store.{AllFit, GuestFits, Gives, HasSameKey, given, given_of, is_free, is_free_of, next_of, next_sequence, Fits, FitsOf, FitsGuest}
 use Rattle.flusher.proofs.Blocks.{none_past}
 use Rattle.flusher.proofs.Guests.{set_cases, get_set_same, get_set_other, map_set}
@@ -38,11 +34,6 @@ given_mark x i slot = grind arith
 
 given_version : (x : Guest) (i : Intent) (c : Content) (slot : Option Slot) → IsOfVersion x c → IsOfVersion (given_at x i slot) c
 given_version x i c slot v = grind arith
-
--- an intent that comes next comes next after the one in the first slot
-chained_by : (region : Region) (side : SlotRegion) (p between : Part) (n first : ℕ) (phase : Phase) (j : Intent) (c : Content) → PhaseRow region side between phase j.group c → between ≡ p → n ≡ sequence_of_part p
-    → Follows n (if is_settled phase then None else Some j) → first ≡ n + length (entries_in (if is_settled phase then None else Some j)) → first ≡ last_of j.group + 1
-chained_by region side p between n first phase j c r l m f is = grind arith
 
 -- the row of a guest with an intent given
 module _ (p : Part) (x : Guest) (i : Intent) (c : Content) where
@@ -81,9 +72,6 @@ module _ (p : Part) (x : Guest) (i : Intent) (c : Content) where
 
   given_seen : has_room x ≡ true → FitsGuest x i → guest_row p x c → guest_seen p x c → guest_seen p (with_intent x i) c
   given_seen room fits r s = seen_goes x.slot x.behind room fits.inside r.1.ordered.besides s
-
-paired_room : (pair : Bool) → (if pair then false else false) ≡ true → ⊥
-paired_room pair is = grind arith
 
 given_fits : (len : ℕ) (x : Guest) (i : Intent) (slot behind : Option Slot) → (if x.paired then is_empty behind else is_empty slot) ≡ true → GroupFits x.extent.size i.group → GuestFits len i.guest (with_slots x slot behind) → GuestFits len i.guest (given_at (with_slots x slot behind) i slot)
 given_fits len x i slot behind room fits old = grind arith

@@ -1,21 +1,21 @@
 -- Two slots of one partition: what each write and each sync keeps.
-use Rattle.std.proofs.Common.{◌≡◌, inl, inr, Bool, true, false, Option, Some, None, ℕ, ◌+◌, drop, refl, ap, sym, ◌∙◌, subst, arith}
+use Rattle.std.proofs.Common.{◌≡◌, inl, inr, Bool, true, false, Option, Some, ℕ, ◌+◌, refl, ap, ◌∙◌, arith}
 use Rattle.std.proofs.lemmas.Bool.{cases_eq}
 use Rattle.disk.specs.Content.{Content}
 use Rattle.intent_slots.specs.declared.layout.Side.{Side}
 use Rattle.intent_slots.specs.declared.layout.Side.TheVariants.{A, B}
 use Rattle.intent_slots.specs.Layout.{Region, SlotRegion, slot_region, other_side, blocks_at}
-use Rattle.intent_slots.specs.Payload.{Group, GroupFits, Intent, last_of}
-use Rattle.intent_slots.specs.Recovered.{Part, HoldsHome, HasPayload, redone, redo, blocks_of, after, StandsFor, ByHome, ByPayload, StandsForTwo, ByNeither, ByOne, ByBoth}
+use Rattle.intent_slots.specs.Payload.{Group, Intent, last_of}
+use Rattle.intent_slots.specs.Recovered.{Part, HoldsHome, HasPayload, redone, after, StandsFor, ByHome, ByPayload, StandsForTwo, ByOne, ByBoth}
 use Rattle.intent_slots.proofs.Bytes.{SameOn}
 use Rattle.flusher.specs.declared.phase.Phase.{Phase}
 use Rattle.flusher.specs.declared.phase.Phase.TheVariants.{Given, Written, Ready, Opening, Open, Applying, Applied, Closing}
 use Rattle.flusher.specs.declared.slot.Slot.{Slot}
-use Rattle.flusher.specs.Phase.{NextWrite, NoWrite, PayloadWrite, GateWrite, BlocksWrite, HomeWrite, next_write, written, synced, is_opening, is_settled}
+use Rattle.flusher.specs.Phase.{PayloadWrite, GateWrite, next_write, written, synced, is_opening, is_settled}
 use Rattle.flusher.specs.Slot.{in_phase, after_sync}
 use Rattle.flusher.specs.Pair.{is_let_beside}
 use Rattle.flusher.specs.SlotInvariant.{IsShut, IsWideOpen, PhaseRow, Row, PhaseSeen, Seen, BeforeOrAfter, BehindRow, Behind, BehindPhaseSeen, BehindSeen, LeadsBy}
-use Rattle.flusher.proofs.Rows.{Keeps, Puts, same_pl, redone_after, skip}
+use Rattle.flusher.proofs.Rows.{Keeps, same_pl, redone_after, skip}
 
 -- 1. A write of one slot, and the other one's gate and payload
 
@@ -25,9 +25,6 @@ pub record Spares (side : SlotRegion) (c d : Content) : Type 0 where
   pub payload : SameOn side.payload 16648 c d
 
 module _ (region : Region) (c d : Content) where
-  pub spares : (side : Side) (n : NextWrite) → Keeps region (slot_region region side) n c d → Spares (slot_region region (other_side side)) c d
-  spares side n out = grind arith
-
   module _ (side : SlotRegion) (same : Spares side c d) where
     behind_row_beside : (phase : Phase) (i : Group) → BehindRow region side phase i c → BehindRow region side phase i d
     behind_row_beside phase i b = grind (arith, same_pl)
@@ -41,10 +38,6 @@ module _ (region : Region) (c d : Content) where
     pub behind_seen_beside : (slot : Option Slot) → BehindSeen region side slot c → BehindSeen region side slot d
     behind_seen_beside slot s = grind (arith, behind_phase_seen_beside)
 
--- an intent on its way beside another one lies in the partition
-pub behind_row_fits : (region : Region) (side : SlotRegion) (phase : Phase) (i : Group) (c : Content) → BehindRow region side phase i c → GroupFits region.size i
-behind_row_fits region side phase i c b = grind arith
-
 -- nothing of a partition was touched
 pub spares_frame : (region : Region) (side : Side) (c d : Content) → SameOn region.base (35328 + region.size) c d → Spares (slot_region region side) c d
 spares_frame region side c d same = grind arith
@@ -57,12 +50,6 @@ pub record SparesHome (region : Region) (c d : Content) : Type 0 where
   pub blocks : SameOn (blocks_at region) region.size c d
 
 module _ (region : Region) (c d : Content) where
-  payload_spares : (side : Side) (i : Group) → Keeps region (slot_region region side) (PayloadWrite i) c d → SparesHome region c d
-  payload_spares side i out = grind arith
-
-  gate_spares : (side : Side) (byte : ℕ) → Keeps region (slot_region region side) (GateWrite byte) c d → SparesHome region c d
-  gate_spares side byte out = grind arith
-
   -- what the slot behind may write beside the first leaves the home record and the blocks
   pub behind_spares : (side : Side) (first phase : Phase) (i : Group) → is_let_beside first phase ≡ true → Keeps region (slot_region region side) (next_write phase i) c d → SparesHome region c d
   behind_spares side first phase i is out = grind arith
@@ -85,16 +72,9 @@ module _ (region : Region) (c d : Content) where
   behind_write side first Applied i is out b = absurd (cc)
   behind_write side first Closing i is out b = absurd (cc)
 
-  pub behind_write_seen : (side : Side) (first phase : Phase) (i : Group) → is_let_beside first phase ≡ true → Puts region (slot_region region side) (next_write phase i) d
-      → BehindPhaseSeen region (slot_region region side) (written phase i) i d
-  behind_write_seen side first phase i is put = grind arith
-
 -- 3. A sync
 
 module _ (region : Region) (side : SlotRegion) (p q : Part) (c : Content) (held : HoldsHome region c q) where
-  at_p : q ≡ p → HoldsHome region c p
-  at_p is = subst (HoldsHome region c) is held
-
   promoted_phase : (phase : Phase) (i : Group) → BehindRow region side phase i c → LeadsBy (is_settled phase) q i p → PhaseRow region side p phase i c
   promoted_phase phase i b l = grind arith
 

@@ -1,6 +1,6 @@
 -- Which call comes next, and what it makes of the guests and of the header.
-use Rattle.std.proofs.Common.{◌≡◌, ◌↔◌, ◌≤◌, inl, inr, ⊎_elim, Bool, true, false, not, Option, Some, None, Result, Ok, Err, rules, ℕ, List, [], ◌∷◌, length, map, length-set, get_or, refl, ap, sym, ◌∙◌, subst, arith}
-use Rattle.std.specs.Prelude.{slice_get, slice_set, position, if◌then◌else◌, ◌||◌, ◌&&◌}
+use Rattle.std.proofs.Common.{◌≡◌, ◌↔◌, ◌≤◌, inl, inr, ⊎_elim, Bool, true, false, Option, Some, None, Result, Ok, ℕ, List, [], ◌∷◌, length, map, length-set, get_or, refl, ap, sym, ◌∙◌, subst, arith}
+use Rattle.std.specs.Prelude.{slice_get, slice_set, position, if◌then◌else◌, ◌||◌}
 use Rattle.std.specs.List.{list_any, position_or_len}
 use Rattle.std.proofs.lemmas.List.{length-map}
 use Rattle.std.proofs.lemmas.Grind.{common_steps}
@@ -8,7 +8,7 @@ use Rattle.std.proofs.lemmas.List.Sums.{fails_before_first}
 use Rattle.std.proofs.lemmas.List.Quantifiers.{position-Some}
 use Rattle.std.proofs.lemmas.List.Folds.{list_any_at, list_any_none}
 use Rattle.std.proofs.lemmas.Option.{slice_get-get_or, slice_get_within, get_or_from_slice_get}
-use Rattle.disk.specs.Disk.{DiskState, DiskCall, Read, Write, Sync, Effect, during, Within, Still, Then}
+use Rattle.disk.specs.Disk.{DiskState, DiskCall, Write, Sync, Effect, during, Within, Still, Then}
 use Rattle.flusher.specs.declared.guest.Guest.{Guest}
 use Rattle.flusher.specs.declared.slot.Slot.{Slot}
 use Rattle.flusher.specs.declared.guest.Turn.{Turn}
@@ -18,11 +18,10 @@ use Rattle.flusher.specs.declared.plan.Plan.{Plan}
 use Rattle.flusher.specs.declared.plan.Plan.TheVariants.{WriteOf, SyncAll, Nothing}
 use Rattle.flusher.specs.declared.progress.Made.{Made}
 use Rattle.flusher.specs.declared.progress.Made.TheVariants as made
-use Rattle.flusher.specs.Progress.{Progress, Wrote, Synced, Idle, with_marks}
+use Rattle.flusher.specs.Progress.{Progress, Synced, Idle, with_marks}
 use Rattle.flusher.specs.declared.progress.StoreFault.{StoreFault}
-use Rattle.flusher.specs.Phase.{has_write}
 use Rattle.flusher.specs.Slot.{is_empty, slot_write, slot_writes, slot_awaits}
-use Rattle.flusher.specs.Pair.{behind_writes, turn_by, turn_of, has_turn, write_in, region_of, side_of, side_behind, guest_write, guest_has_write, guest_awaits, guest_after_write, guest_after_sync}
+use Rattle.flusher.specs.Pair.{turn_of, write_in, region_of, side_behind, guest_write, guest_has_write, guest_awaits, guest_after_write, guest_after_sync}
 use Rattle.flusher.specs.Marks.{marks_of}
 use Rattle.flusher.specs.Round.{plan_at, planned, AllEmpty, Ends, Round, settles, MovedBy, Moves, FrontStays}
 use Rattle.flusher.specs.Store.{AllFit}
@@ -37,24 +36,11 @@ use Rattle.flusher.proofs.Writes.{write_fits, within}
 empty_of : (slot : Option Slot) → slot_writes slot ≡ false → slot_awaits slot ≡ false → is_empty slot ≡ true
 empty_of slot w a = grind arith
 
-quiet_slot : (slot : Option Slot) → is_empty slot ≡ true → (slot_writes slot ≡ false) × (slot_awaits slot ≡ false)
-quiet_slot slot is = grind arith
-
-no_turn : (a b : Bool) → has_turn (turn_by a b) ≡ false → (a ≡ false) × (b ≡ false)
-no_turn a b is = grind arith
-
 neither : (a b : Bool) → (a || b) ≡ false → (a ≡ false) × (b ≡ false)
 neither a b is = grind arith
 
--- behind a slot that is empty nothing waits for a turn
-behind_empty : (first behind : Option Slot) → is_empty first ≡ true → behind_writes first behind ≡ false → slot_awaits behind ≡ false → is_empty behind ≡ true
-behind_empty first behind is w a = grind arith
-
 empty_guest : (x : Guest) → guest_has_write x ≡ false → guest_awaits x ≡ false → (is_empty x.slot ≡ true) × (is_empty x.behind ≡ true)
 empty_guest x w a = grind arith
-
-none_behind : (first behind : Option Slot) → is_empty behind ≡ true → behind_writes first behind ≡ false
-none_behind first behind is = grind arith
 
 quiet : (x : Guest) → (is_empty x.slot ≡ true) × (is_empty x.behind ≡ true) → (guest_has_write x ≡ false) × (guest_awaits x ≡ false)
 quiet x is = grind arith
@@ -98,9 +84,6 @@ nothing_where_empty xs = (
 -- 2. The guests
 
 module _ {D : Type 0} (makes : D → DiskCall → D → Type 0) (od : D) (old : List Guest) (result : Result Progress StoreFault) (nd : D) (new : List Guest) (broken : Bool) where
-  moves_none : settles result ≡ false → new ≡ old → (g : ℕ) (x y : Guest) → slice_get old g ≡ Some x → slice_get new g ≡ Some y → MovedBy (settles result) x y
-  moves_none none same g x y before after = grind arith
-
   moves_write : (n : ℕ) (z : Guest) → slice_get old n ≡ Some z → new ≡ slice_set old n (guest_after_write z) → settles result ≡ false
       → (g : ℕ) (x y : Guest) → slice_get old g ≡ Some x → slice_get new g ≡ Some y → MovedBy (settles result) x y
   moves_write n z is slots none g x y before after = subst (λ (b : Bool). MovedBy b x y) (sym none) (⊎_elim
@@ -112,9 +95,6 @@ module _ {D : Type 0} (makes : D → DiskCall → D → Type 0) (od : D) (old : 
       → (g : ℕ) (x y : Guest) → slice_get old g ≡ Some x → slice_get new g ≡ Some y → MovedBy (settles result) x y
   moves_sync slots all g x y before after = grind (arith, map_cases)
 
-  wrote_ends : (ok : Bool) → Ends ok Wrote result broken → (settles result ≡ false) × (result ≡ Ok Idle → ⊥) × ((told : List ℕ) → result ≡ Ok (Synced told) → ⊥)
-  wrote_ends ok e = grind arith
-
   synced_moves : (ok : Bool) → new ≡ (if ok then map guest_after_sync old else old) → Ends ok (Synced (marks_of new)) result broken → Moves result old new
   synced_moves ok slots e = grind (arith, length-map, moves_sync)
 
@@ -123,9 +103,6 @@ module _ {D : Type 0} (makes : D → DiskCall → D → Type 0) (od : D) (old : 
 
   pub round_moves : Round makes (planned old) od old result nd new broken → Moves result old new
   round_moves = moves_by_plan (planned old)
-
-  sync_not_idle : (ok : Bool) → Ends ok (Synced (marks_of new)) result broken → result ≡ Ok Idle → ⊥
-  sync_not_idle ok e is = grind arith
 
   idle_plan : (p : Plan) → Round makes p od old result nd new broken → result ≡ Ok Idle ↔ p ≡ Nothing
   idle_plan p r = grind arith

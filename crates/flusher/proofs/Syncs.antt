@@ -3,10 +3,10 @@ use Rattle.std.proofs.Common.{◌≡◌, ◌≢◌, ◌⊎◌, inl, inr, Bool, t
 use Rattle.std.specs.Prelude.{if◌then◌else◌}
 use Rattle.disk.specs.Content.{Content}
 use Rattle.intent_slots.specs.declared.layout.Side.{Side}
-use Rattle.intent_slots.specs.declared.layout.Side.TheVariants.{A, B}
+use Rattle.intent_slots.specs.declared.layout.Side.TheVariants.{A}
 use Rattle.intent_slots.specs.Layout.{Region, SlotRegion, slot_region, other_side}
 use Rattle.intent_slots.specs.Payload.{Group, Intent, last_of}
-use Rattle.intent_slots.specs.Recovered.{Part, HoldsHome, after}
+use Rattle.intent_slots.specs.Recovered.{Part, HoldsHome}
 use Rattle.flusher.specs.declared.phase.Phase.{Phase}
 use Rattle.flusher.specs.declared.phase.Phase.TheVariants.{Given, Written, Ready, Opening, Open, Applying, Applied, Closing}
 use Rattle.flusher.specs.declared.slot.Slot.{Slot}
@@ -71,9 +71,6 @@ follows_first n phase i o none f = grind arith
 abbrev after_pending : ℕ → Phase → Intent → Option Group → ℕ
 after_pending n phase i o = mark_after (or_else (if is_opening phase then Some i.group else None) o) n + length (entries_in (pending_of (in_phase i (synced phase i.group))))
 
-pending_same : (n : ℕ) (phase : Phase) (i : Intent) (first : ℕ) → first ≡ last_of i.group + 1 → first ≡ n + length (entries_in (if is_settled phase then None else Some i)) → first ≡ after_pending n phase i None
-pending_same n phase i first chained is = grind arith
-
 follows_next : (n : ℕ) (first : Phase) (i : Intent) (phase : Phase) (j : Intent) → j.group.first ≡ last_of i.group + 1 → Follows (n + length (entries_in (if is_settled first then None else Some i))) (if is_settled phase then None else Some j)
     → Follows (after_pending n first i (if is_opening phase then Some j.group else None)) (pending_of (in_phase j (synced phase j.group)))
 follows_next n first i phase j chained f = grind arith
@@ -81,21 +78,12 @@ follows_next n first i phase j chained f = grind arith
 chained_phases : (i j : Intent) (o p : Option Phase) → Chained (Some i) (Some j) → Chained (intent_of (in_phase i o)) (intent_of (in_phase j p))
 chained_phases i j o p ch = grind arith
 
-still_settled : (phase next : Phase) (i : Group) → synced phase i ≡ Some next → is_settled phase ≡ true → is_settled next ≡ true
-still_settled phase next i s b = grind arith
-
 synced_besides : (first phase : Phase) (i j : Intent) (next : Phase) → synced first i.group ≡ Some next → PhaseBesides first phase → Besides (Some (record { phase = next; intent = i })) (in_phase j (synced phase j.group))
 synced_besides first phase i j next is b = grind arith
 
 module _ (x : Guest) (n : ℕ) where
   abbrev InOrder : Option Slot → Option Slot → Type 0
   InOrder slot behind = Besides (moved_up x n slot behind).slot (moved_up x n slot behind).behind
-
-  one_in_order : (o : Option Slot) → InOrder o None
-  one_in_order o = grind arith
-
-  next_in_order : (o : Option Slot) → InOrder None o
-  next_in_order o = grind arith
 
   -- the slot behind is as far as the first one lets it be
   pub synced_order : (slot behind : Option Slot) → Besides slot behind → InOrder (after_sync slot) (after_sync behind)
@@ -124,11 +112,6 @@ from_row pair region side s c b = grind arith
 
 shut_behind : (pair : Bool) (region : Region) (side : SlotRegion) (c : Content) → IsShut side c → Behind pair region side None c
 shut_behind pair region side c shut = grind arith
-
--- both empty: slot A is the first
-both_shut : (region : Region) (c : Content) (side : Side) (pair : Bool) → IsShut (slot_region region side) c → Behind pair region (slot_region region (other_side side)) None c → (pair ≡ false → side ≡ A)
-    → IsShut (slot_region region A) c × Behind pair region (slot_region region B) None c
-both_shut region c side pair mine theirs single = grind arith
 
 -- the rows of both slots, and the marks
 abbrev pub two_row : Part → Guest → Content → Type 0

@@ -1,11 +1,11 @@
 -- The rows of one guest, as a round asks for them.
-use Rattle.std.proofs.Common.{◌≡◌, inl, inr, Bool, true, false, Option, Some, None, ℕ, ◌+◌, ◌≤◌, List, length, refl, ap, sym, ◌∙◌, subst, arith}
+use Rattle.std.proofs.Common.{◌≡◌, inl, Bool, true, false, Option, Some, None, ℕ, ◌+◌, ◌≤◌, List, length, refl, ap, sym, ◌∙◌, subst, arith}
 use Rattle.std.specs.Prelude.{if◌then◌else◌, ◌==◌}
 use Rattle.disk.specs.Content.{Content}
 use Rattle.intent_slots.specs.declared.layout.Side.{Side}
 use Rattle.intent_slots.specs.declared.layout.Side.TheVariants.{A}
 use Rattle.intent_slots.specs.Layout.{Region, slot_region, other_side, end_of}
-use Rattle.intent_slots.specs.Payload.{Group, Intent, last_of}
+use Rattle.intent_slots.specs.Payload.{Group, Intent}
 use Rattle.intent_slots.specs.Recovered.{Part, StandsFor, StandsIn, is_paired}
 use Rattle.intent_slots.proofs.Bytes.{SameOn}
 use Rattle.flusher.specs.declared.phase.Phase.{Phase}
@@ -15,15 +15,15 @@ use Rattle.flusher.specs.declared.guest.Guest.{Guest}
 use Rattle.flusher.specs.declared.guest.Turn.{Turn}
 use Rattle.flusher.specs.declared.guest.Turn.TheVariants.{First, Second, Neither}
 use Rattle.flusher.specs.Phase.{is_opening, is_settled}
-use Rattle.flusher.specs.Slot.{slot_write, slot_writes, intent_of, pending_of, opening_in, after_write, after_sync}
-use Rattle.flusher.specs.Pair.{region_of, side_of, side_behind, entries_in, opening_of, or_else, behind_writes, turn_of, write_in, moved_in, guest_write, guest_after_write, guest_after_sync, moved_up, marked}
+use Rattle.flusher.specs.Slot.{slot_write, slot_writes, intent_of, pending_of, opening_in, after_sync}
+use Rattle.flusher.specs.Pair.{region_of, side_of, side_behind, entries_in, or_else, behind_writes, turn_of, write_in, moved_in, guest_write, guest_after_write, guest_after_sync, moved_up, marked}
 use Rattle.flusher.specs.SlotInvariant.{PhaseRow, Row, guest_row, guest_seen, guest_settled, PairRow, PairSeen, Behind, LeadsTo, LeadsBy, PhaseBesides, Besides, Chained, BeforeOrAfter, Follows, IsOrdered, IsMarked, IsOfVersion, IsKept, sequence_of_part}
 use Rattle.flusher.specs.Store.{IntentFits}
 use Rattle.flusher.proofs.Rows.{row_frame, seen_frame, Keeps, IsWritten, own_write, own_seen, row_stands}
 use Rattle.flusher.proofs.Writes.{SameOutside, WriteFits, row_fits, write_fits, within, keeps, puts}
-use Rattle.flusher.proofs.Pairs.{behind_row_fits, spares, spares_frame, behind_beside, behind_seen_beside, one_stands, both_move, both_settled}
-use Rattle.flusher.proofs.Turns.{side_ok, turn_behind, pending_written, intent_written, leads_written, first_writes_besides, behind_writes_besides, behind_keeps_first, behind_keeps_first_seen, behind_goes_on, behind_goes_on_seen, may_first, may_behind}
-use Rattle.flusher.proofs.Syncs.{or_none, from_row, sync_goes}
+use Rattle.flusher.proofs.Pairs.{spares_frame, behind_beside, behind_seen_beside, one_stands, both_move, both_settled}
+use Rattle.flusher.proofs.Turns.{side_ok, turn_behind, leads_written, behind_keeps_first, behind_keeps_first_seen, behind_goes_on, behind_goes_on_seen}
+use Rattle.flusher.proofs.Syncs.{or_none, sync_goes}
 
 -- 1. The write that comes next
 
@@ -56,10 +56,6 @@ moved_version : (t : Turn) (x : Guest) (c : Content) → IsOfVersion x c → IsO
 moved_version t x c v = grind arith
 
 -- 2. Marks
-
--- a write settles nothing
-first_marks : (p : Part) (x : Guest) → IsMarked p x → IsMarked p (moved_in First x)
-first_marks p x m = grind arith
 
 second_marks : (p : Part) (x : Guest) → behind_writes x.slot x.behind ≡ true → IsMarked p x → IsMarked p (moved_in Second x)
 second_marks p x w m = grind arith
@@ -173,16 +169,6 @@ module _ (region : Region) (side : Side) (p between : Part) (c : Content) where
       → LeadsTo between behind p → Chained (intent_of slot) (intent_of behind) → Besides slot behind → (paired ≡ false → (behind ≡ None) × (side ≡ A))
       → StandsAny paired region p (or_else (opening_in slot) (opening_in behind)) c
   any_stands paired slot behind row b l ch be single = grind (arith, alone, both)
-
-pub same_above : (p q : Part) (n : ℕ) → n ≡ sequence_of_part p → q ≡ p → n ≤ sequence_of_part q
-same_above p q n is same = (let e = ap sequence_of_part same in omega arith)
-
--- neither the partition before an intent nor the one after it is below the mark
-phase_above : (m : ℕ) (phase : Phase) (i : Intent) (g : Group) → Follows m (if is_settled phase then None else Some i) → (if is_opening phase then Some i.group else None) ≡ Some g → m ≤ last_of g + 1
-phase_above m phase i g f is = grind arith
-
-opening_above : (m : ℕ) (slot : Option Slot) (g : Group) → Follows m (pending_of slot) → opening_in slot ≡ Some g → m ≤ last_of g + 1
-opening_above m slot g f is = grind arith
 
 module _ (p q : Part) (n : ℕ) (slot behind : Option Slot) (is : n ≡ sequence_of_part p) (f : Follows n (pending_of slot)) (g : Follows (n + length (entries_in (pending_of slot))) (pending_of behind)) where
   above_by : (o u : Option Group) → opening_in slot ≡ o → opening_in behind ≡ u → BeforeOrAfter p (or_else o u) q → n ≤ sequence_of_part q

@@ -1,44 +1,29 @@
 -- A guest whose turn it is to write: which of its slots, and what that leaves of the other.
-use Rattle.std.proofs.Common.{◌≡◌, ◌≢◌, inl, Bool, true, false, Option, Some, None, ℕ, refl, ap, sym, ◌∙◌, subst, arith}
-use Rattle.std.specs.Prelude.{slice_get, if◌then◌else◌, ◌&&◌}
+use Rattle.std.proofs.Common.{◌≡◌, ◌≢◌, Bool, true, Option, Some, None, arith}
+use Rattle.std.specs.Prelude.{if◌then◌else◌, ◌&&◌}
 use Rattle.disk.specs.Content.{Content}
 use Rattle.intent_slots.specs.declared.layout.Side.{Side}
-use Rattle.intent_slots.specs.declared.layout.Side.TheVariants.{A, B}
 use Rattle.intent_slots.specs.Layout.{Region, SlotRegion, IsSlotRegion, slot_region, other_side}
-use Rattle.intent_slots.specs.Payload.{Entry, Group}
+use Rattle.intent_slots.specs.Payload.{Group}
 use Rattle.intent_slots.specs.Recovered.{Part}
-use Rattle.flusher.specs.declared.phase.Phase.{Phase}
-use Rattle.flusher.specs.declared.phase.Phase.TheVariants.{Given, Written, Ready, Opening, Open, Applying, Applied, Closing}
+use Rattle.flusher.specs.declared.phase.Phase.TheVariants.{Closing}
 use Rattle.flusher.specs.declared.slot.Slot.{Slot}
 use Rattle.flusher.specs.declared.guest.Turn.TheVariants.{Second}
-use Rattle.flusher.specs.Phase.{has_write, open_after, written, is_opening, is_closing, is_settled}
+use Rattle.flusher.specs.Phase.{has_write, written}
 use Rattle.flusher.specs.Slot.{slot_write, after_write, intent_of, pending_of, opening_in}
 use Rattle.flusher.specs.Pair.{or_else, is_let_beside, behind_writes, turn_by}
-use Rattle.flusher.specs.SlotInvariant.{Row, Seen, Behind, BehindRow, BehindSeen, LeadsTo, LeadsBy, PhaseBesides, Besides, BeforeOrAfter}
+use Rattle.flusher.specs.SlotInvariant.{Row, Seen, Behind, BehindRow, BehindSeen, LeadsTo, Besides}
 use Rattle.flusher.proofs.Rows.{Keeps, Puts, row_beside, seen_beside}
-use Rattle.flusher.proofs.Pairs.{Spares, spares, behind_spares, behind_write, behind_write_seen}
+use Rattle.flusher.proofs.Pairs.{behind_spares, behind_write}
 
 pub side_ok : (region : Region) (side : Side) → IsSlotRegion region (slot_region region side)
 side_ok region side = grind arith
-
-pub spares_other : (region : Region) (c d : Content) (side : Side) (n : _) → Keeps region (slot_region region (other_side side)) n c d → Spares (slot_region region side) c d
-spares_other region c d side n out = grind arith
 
 pub turn_behind : (a b : Bool) → turn_by a b ≡ Second → b ≡ true
 turn_behind a b is = grind arith
 
 pub and_right : (a b : Bool) → (a && b) ≡ true → b ≡ true
 and_right a b is = grind arith
-
-pub closing_is : (phase : Phase) → is_closing phase ≡ true → phase ≡ Closing
-closing_is phase is = grind arith
-
--- a write settles nothing
-open_settled : (k : ℕ) (o : Option Entry) → is_settled (open_after k o) ≡ true
-open_settled k o = grind arith
-
-pub settled_written : (phase : Phase) (i : Group) → is_settled (written phase i) ≡ is_settled phase
-settled_written phase i = grind arith
 
 pub pending_written : (slot : Option Slot) → pending_of (after_write slot) ≡ pending_of slot
 pending_written slot = grind arith
@@ -51,14 +36,8 @@ leads_written between behind p l = grind arith
 
 -- 1. How far the slot behind may be
 
-first_besides : (first phase : Phase) (i : Group) → PhaseBesides first phase → PhaseBesides (written first i) phase
-first_besides first phase i b = grind arith
-
 pub first_writes_besides : (first behind : Option Slot) → Besides first behind → Besides (after_write first) behind
 first_writes_besides first behind b = grind arith
-
-behind_besides : (first phase : Phase) (i : Group) → is_let_beside first phase ≡ true → PhaseBesides first (written phase i)
-behind_besides first phase i is = grind arith
 
 pub behind_writes_besides : (first behind : Option Slot) → Besides first behind → behind_writes first behind ≡ true → Besides first (after_write behind)
 behind_writes_besides first behind b w = grind arith
@@ -102,31 +81,8 @@ module _ (paired : Bool) (region : Region) (side : Side) (between : Part) (c d :
 or_none : (o : Option Group) → or_else o None ≡ o
 or_none o = grind arith
 
-open_opens_nothing : (k : ℕ) (o : Option Entry) → is_opening (open_after k o) ≡ false
-open_opens_nothing k o = grind arith
-
 abbrev opening_if : Bool → Group → Option Group
 opening_if opening i = if opening then Some i else None
 
--- a slot behind a first one that isn't being shut opens un gate
-pub quiet_beside : (first phase : Phase) (i : Group) → first ≢ Closing → PhaseBesides first phase → opening_if (is_opening phase) i ≡ None
-quiet_beside first phase i un b = grind arith
-
 pub quiet_behind : (first : Slot) (behind : Option Slot) → first.phase ≢ Closing → Besides (Some first) behind → opening_in behind ≡ None
 quiet_behind first behind un b = grind arith
-
-not_closing : (phase : Phase) → is_closing phase ≡ false → phase ≢ Closing
-not_closing phase un is = (let e = ap is_closing is in cc)
-
-module _ (p q : Part) where
-  first_may : (phase : Phase) (i : Group) (o : Option Group) → (is_closing phase ≡ false → o ≡ None) → BeforeOrAfter p (or_else (opening_if (is_opening phase) i) o) q → BeforeOrAfter p (or_else (opening_if (is_opening (written phase i)) i) o) q
-  first_may phase i o none m = grind arith
-
-  pub may_first : (first behind : Option Slot) → Besides first behind → BeforeOrAfter p (or_else (opening_in first) (opening_in behind)) q → BeforeOrAfter p (or_else (opening_in (after_write first)) (opening_in behind)) q
-  may_first first behind b m = grind arith
-
-  behind_may : (first phase : Phase) (i j : Group) → is_let_beside first phase ≡ true → BeforeOrAfter p (or_else (opening_if (is_opening first) i) (opening_if (is_opening phase) j)) q → BeforeOrAfter p (or_else (opening_if (is_opening first) i) (opening_if (is_opening (written phase j)) j)) q
-  behind_may first phase i j is m = grind arith
-
-  pub may_behind : (first behind : Option Slot) → Besides first behind → behind_writes first behind ≡ true → BeforeOrAfter p (or_else (opening_in first) (opening_in behind)) q → BeforeOrAfter p (or_else (opening_in first) (opening_in (after_write behind))) q
-  may_behind first behind b w m = grind arith

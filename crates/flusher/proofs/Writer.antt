@@ -1,63 +1,32 @@
 -- The guest whose turn it is.
-use Rattle.std.proofs.Common.{◌≡◌, Bool, IsTrue, Option, Some, None, ℕ, arith, ◌^◌, ◌≤◌, List, get_or, refl, ap, sym, ◌∙◌, subst, ⊎_elim}
-use Rattle.std.specs.Prelude.{slice_get, slice_set, position, MatchOption, if◌then◌else◌}
+use Rattle.std.proofs.Common.{◌≡◌, Bool, IsTrue, Option, Some, None, ℕ, arith, List, get_or, refl, sym, ◌∙◌, subst, ⊎_elim}
+use Rattle.std.specs.Prelude.{slice_get, slice_set, position, MatchOption}
 use Rattle.std.proofs.lemmas.List.Quantifiers.{position-Some}
 use Rattle.std.proofs.lemmas.Option.{slice_get-get_or}
 use Rattle.disk.specs.Disk.{DiskCall, Write}
 use Rattle.intent_slots.specs.Layout.{Region, SlotRegion}
-use Rattle.intent_slots.specs.Payload.{Entry, Group, Intent, GroupFits}
+use Rattle.intent_slots.specs.Payload.{Entry, Group, Intent}
 use Rattle.intent_slots.specs.Home.{home_bytes}
-use Rattle.flusher.specs.declared.phase.Phase.{Phase}
-use Rattle.flusher.specs.declared.phase.Phase.TheVariants.{Given, Written, Ready, Opening, Open, Applying, Applied, Closing}
 use Rattle.flusher.specs.declared.slot.Slot.{Slot}
 use Rattle.flusher.specs.declared.guest.Guest.{Guest}
 use Rattle.intent_slots.specs.Payload.{last_of}
-use Rattle.flusher.specs.Phase.{open_write, synced, is_opening}
+use Rattle.flusher.specs.Phase.{open_write}
 use Rattle.flusher.specs.declared.guest.Turn.{Turn}
-use Rattle.flusher.specs.declared.guest.Turn.TheVariants.{First, Second, Neither}
-use Rattle.flusher.specs.Slot.{spelled, intent_of, in_phase, opening_in, slot_writes, after_write, after_sync}
-use Rattle.flusher.specs.Pair.{opening_of, or_else, mark_after, marked, moved_up, behind_writes, turn_of, moved_in, guest_write, guest_after_write, guest_after_sync, guest_has_write}
-use Rattle.flusher.specs.Store.{AllFit, GuestFits, IntentFits, IsOf}
+use Rattle.flusher.specs.Slot.{spelled, intent_of, after_sync}
+use Rattle.flusher.specs.Pair.{turn_of, moved_in, guest_write, guest_after_write, guest_after_sync, guest_has_write}
+use Rattle.flusher.specs.Store.{AllFit, GuestFits}
 use Rattle.flusher.specs.Round.{WroteSlot}
-use Rattle.flusher.specs.SlotInvariant.{Besides}
 use Rattle.flusher.proofs.Guests.{set_cases, map_cases}
-use Rattle.flusher.proofs.Turns.{turn_behind, first_writes_besides, behind_writes_besides}
-use Rattle.flusher.proofs.Syncs.{synced_order}
 use Rattle.std.specs.Prelude.{map}
 
 pub of_home : {D : Type 0} (makes : D → DiskCall → D → Type 0) (od nd : D) (ok : Bool) (region : Region) (side : SlotRegion) (i : Group) (o : Option Entry) (at : ℕ) (bytes : List ℕ) → o ≡ None → at ≡ region.base → bytes ≡ home_bytes i.key (last_of i) → makes od (Write at bytes ok) nd → MatchOption (spelled region side (open_write i o)) ⊥ (λ w. makes od (Write w.0 w.1 ok) nd)
 of_home makes od nd ok region side i None at bytes none there is call = subst (λ (n : ℕ). makes od (Write n (home_bytes i.key (last_of i)) ok) nd) there (subst (λ (b : List ℕ). makes od (Write at b ok) nd) is call)
 of_home makes od nd ok region side i (Some e) at bytes none there is call = absurd (cc)
 
--- a write keeps the intent, and a sync keeps it or lets it go
-written_intent : (P : Option Intent → Type 0) (slot : Option Slot) → P (intent_of slot) → P (intent_of (after_write slot))
-written_intent P slot p = grind arith
-
-in_phase_intent : (P : Option Intent → Type 0) (i : Intent) (o : Option Phase) → P None → P (Some i) → P (intent_of (in_phase i o))
-in_phase_intent P i o none p = grind arith
-
 pub synced_intent : (P : Option Intent → Type 0) (slot : Option Slot) → P None → P (intent_of slot) → P (intent_of (after_sync slot))
 synced_intent P slot none p = grind arith
 
-mark_small : (o : Option Group) (size n : ℕ) → n ≤ 2 ^ 32 → ((i : Group) → o ≡ Some i → GroupFits size i) → mark_after o n ≤ 2 ^ 32
-mark_small o size n le f = grind arith
-
-opening_fits : (size : ℕ) (phase : Phase) (i : Intent) (g : Group) → GroupFits size i.group → (if is_opening phase then Some i.group else None) ≡ Some g → GroupFits size g
-opening_fits size phase i g f is = grind arith
-
-slot_opening_fits : (size : ℕ) (slot : Option Slot) (g : Group) → IntentFits size (intent_of slot) → opening_in slot ≡ Some g → GroupFits size g
-slot_opening_fits size slot g f is = grind arith
-
-either_fits : (size : ℕ) (o u : Option Group) (g : Group) → ((i : Group) → o ≡ Some i → GroupFits size i) → ((i : Group) → u ≡ Some i → GroupFits size i) → or_else o u ≡ Some g → GroupFits size g
-either_fits size o u g f h is = grind arith
-
 module _ (len g : ℕ) (x : Guest) (f : GuestFits len g x) where
-  marked_fits : marked x ≤ 2 ^ 32
-  marked_fits = grind arith
-
-  ordered_fits : (slot behind : Option Slot) → IntentFits x.extent.size (intent_of slot) → IntentFits x.extent.size (intent_of behind) → IsOf g (intent_of slot) → IsOf g (intent_of behind) → Besides (moved_up x (marked x) slot behind).slot (moved_up x (marked x) slot behind).behind → GuestFits len g (moved_up x (marked x) slot behind)
-  ordered_fits slot behind a b c d e = grind arith
-
   synced_fits : GuestFits len g (guest_after_sync x)
   synced_fits = grind arith
 
@@ -98,8 +67,5 @@ module _ (xs : List Guest) (g : ℕ) (none : Guest) (next : position guest_has_w
   its_fit len fits = fits.each g (get_or xs g none) in_place
 
   module _ {D : Type 0} (makes : D → DiskCall → D → Type 0) (od nd : D) (ok : Bool) (moved : Guest) (is : moved ≡ guest_after_write (get_or xs g none)) where
-    of_option : (o : Option (ℕ × List ℕ)) → MatchOption o ⊥ (λ w. makes od (Write w.0 w.1 ok) nd) → (w : ℕ × List ℕ) × (o ≡ Some w) × makes od (Write w.0 w.1 ok) nd
-    of_option o m = grind arith
-
     pub wrote_slot : MatchOption (guest_write (get_or xs g none)) ⊥ (λ w. makes od (Write w.0 w.1 ok) nd) → WroteSlot makes g od xs ok nd (slice_set xs g moved)
     wrote_slot m = grind (arith, in_place)
