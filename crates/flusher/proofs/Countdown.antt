@@ -1,159 +1,65 @@
 -- The calls that a store has before it, one by one.
-use Rattle.std.proofs.Common.{◌≡◌, ◌<◌, ◌≤◌, ◌+◌, Bool, true, false, Option, Some, None, Result, ℕ, zero, suc, List, [], ◌∷◌, map, refl, ap, sym, ◌∙◌, subst, arith}
-use Rattle.std.specs.Prelude.{slice_get, slice_set, if◌then◌else◌, ◌||◌, ◌&&◌, length}
+use Rattle.std.proofs.Common.{◌≡◌, ◌<◌, ◌≤◌, ◌+◌, Bool, true, false, Option, Some, Result, ℕ, zero, suc, List, [], ◌∷◌, map, refl, ap, sym, ◌∙◌, arith}
+use Rattle.std.specs.Prelude.{slice_get, slice_set, if◌then◌else◌, length}
 use Rattle.std.specs.List.{list_any}
 use Rattle.std.proofs.lemmas.List.Quantifiers.{position-Some}
 use Rattle.std.proofs.lemmas.Option.{slice_get_within, get_or_from_slice_get}
 use Rattle.disk.specs.Disk.{DiskCall}
 use Rattle.intent_slots.specs.Payload.{Entry, Group, Intent}
 use Rattle.flusher.specs.declared.phase.Phase.{Phase}
-use Rattle.flusher.specs.declared.phase.Phase.TheVariants.{Given, Written, Ready, Opening, Open, Applying, Applied, Closing}
+use Rattle.flusher.specs.declared.phase.Phase.TheVariants.{Open}
 use Rattle.flusher.specs.declared.guest.Guest.{Guest}
 use Rattle.flusher.specs.declared.slot.Slot.{Slot}
 use Rattle.flusher.specs.declared.plan.Plan.{Plan}
-use Rattle.flusher.specs.declared.plan.Plan.TheVariants.{WriteOf, SyncAll, Nothing}
+use Rattle.flusher.specs.declared.plan.Plan.TheVariants.{WriteOf, SyncAll}
 use Rattle.flusher.specs.Progress.{Progress, Synced}
 use Rattle.flusher.specs.declared.progress.StoreFault.{StoreFault}
-use Rattle.flusher.specs.Phase.{has_write, open_after, written, synced}
-use Rattle.flusher.specs.Slot.{is_empty, slot_writes, slot_awaits, after_write, after_sync, in_phase}
-use Rattle.flusher.specs.Pair.{behind_writes, is_let, turn_by, turn_of, has_turn, moved_in, marked, moved_up, with_slots, given_at, with_intent, guest_has_write, guest_awaits, guest_after_write, guest_after_sync}
+use Rattle.flusher.specs.Phase.{has_write, open_after, written}
+use Rattle.flusher.specs.Slot.{is_empty, slot_writes, after_write}
+use Rattle.flusher.specs.Pair.{turn_of, has_turn, moved_in, with_slots, given_at, with_intent, guest_has_write, guest_awaits, guest_after_write, guest_after_sync}
 use Rattle.flusher.specs.Marks.{marks_of}
 use Rattle.flusher.specs.Round.{plan_at, planned, AllEmpty, Ends, Round}
 use Rattle.flusher.specs.Store.{given, given_of}
 use Rattle.flusher.specs.CallsLeft.{calls_left, slot_left, guest_left, left_of, called}
 use Rattle.flusher.specs.declared.guest.Turn.{Turn}
-use Rattle.flusher.specs.declared.guest.Turn.TheVariants.{First, Second, Neither}
-use Rattle.flusher.proofs.Turns.{turn_behind}
 use Rattle.flusher.specs.Laws.{GivenAdds, NoneLeftIsEmpty}
 
 -- 1. A slot
 
 open_lowers : (i : Group) (k : ℕ) (o : Option Entry) → slice_get i.entries k ≡ o → calls_left (open_after k o) i < calls_left (Open k) i
-open_lowers i k None is = omega arith
-open_lowers i k (Some e) is = (let below = slice_get_within i.entries k e is in omega (arith, below))
+open_lowers i k o is = grind (arith, slice_get_within)
 
 phase_write_lowers : (phase : Phase) (i : Group) → has_write phase ≡ true → calls_left (written phase i) i < calls_left phase i
-phase_write_lowers Given i has = omega arith
-phase_write_lowers Written i has = absurd (cc)
-phase_write_lowers Ready i has = omega arith
-phase_write_lowers Opening i has = absurd (cc)
-phase_write_lowers (Open k) i has = open_lowers i k (slice_get i.entries k) refl
-phase_write_lowers Applying i has = absurd (cc)
-phase_write_lowers Applied i has = omega arith
-phase_write_lowers Closing i has = absurd (cc)
+phase_write_lowers phase i has = grind (arith, open_lowers)
 
 write_lowers : (slot : Option Slot) → slot_writes slot ≡ true → slot_left (after_write slot) < slot_left slot
-write_lowers None has = absurd (cc)
-write_lowers (Some s) has = phase_write_lowers s.phase s.intent.group has
-
-phase_sync_lowers : (phase : Phase) (i : Intent) → has_write phase ≡ false → slot_left (in_phase i (synced phase i.group)) < calls_left phase i.group
-phase_sync_lowers Given i has = absurd (cc)
-phase_sync_lowers Written i has = omega arith
-phase_sync_lowers Ready i has = absurd (cc)
-phase_sync_lowers Opening i has = omega arith
-phase_sync_lowers (Open k) i has = absurd (cc)
-phase_sync_lowers Applying i has = omega arith
-phase_sync_lowers Applied i has = absurd (cc)
-phase_sync_lowers Closing i has = omega arith
-
--- a slot with a write stays as it is
-phase_sync_keeps : (phase : Phase) (i : Intent) → has_write phase ≡ true → slot_left (in_phase i (synced phase i.group)) ≡ calls_left phase i.group
-phase_sync_keeps Given i has = refl
-phase_sync_keeps Written i has = absurd (cc)
-phase_sync_keeps Ready i has = refl
-phase_sync_keeps Opening i has = absurd (cc)
-phase_sync_keeps (Open k) i has = refl
-phase_sync_keeps Applying i has = absurd (cc)
-phase_sync_keeps Applied i has = refl
-phase_sync_keeps Closing i has = absurd (cc)
-
-sync_lowers : (slot : Option Slot) → slot_awaits slot ≡ true → slot_left (after_sync slot) < slot_left slot
-sync_lowers None waits = absurd (cc)
-sync_lowers (Some s) waits = of (has_write s.phase) refl
-  where
-    of : (b : Bool) → has_write s.phase ≡ b → slot_left (after_sync (Some s)) < slot_left (Some s)
-    of true is = absurd (cc)
-    of false is = phase_sync_lowers s.phase s.intent is
-
-sync_adds_none : (slot : Option Slot) → slot_left (after_sync slot) ≤ slot_left slot
-sync_adds_none None = omega arith
-sync_adds_none (Some s) = of (has_write s.phase) refl
-  where
-    of : (b : Bool) → has_write s.phase ≡ b → slot_left (after_sync (Some s)) ≤ slot_left (Some s)
-    of true is = (let same = phase_sync_keeps s.phase s.intent is in omega (arith, same))
-    of false is = (let less = phase_sync_lowers s.phase s.intent is in omega (arith, less))
-
-some_left : (phase : Phase) (i : Group) → 0 < calls_left phase i
-some_left Given i = omega arith
-some_left Written i = omega arith
-some_left Ready i = omega arith
-some_left Opening i = omega arith
-some_left (Open k) i = omega arith
-some_left Applying i = omega arith
-some_left Applied i = omega arith
-some_left Closing i = omega arith
+write_lowers slot has = grind (arith, phase_write_lowers)
 
 -- 2. All guests
 
-turn_first : (a b : Bool) → turn_by a b ≡ First → a ≡ true
-turn_first true b is = refl
-turn_first false true is = absurd (cc)
-turn_first false false is = absurd (cc)
-
-and_left : (a b : Bool) → (a && b) ≡ true → a ≡ true
-and_left true b is = refl
-and_left false b is = absurd (cc)
-
-behind_has : (first behind : Option Slot) → behind_writes first behind ≡ true → slot_writes behind ≡ true
-behind_has first None w = absurd (cc)
-behind_has first (Some s) w = and_left (has_write s.phase) (is_let first s.phase) w
-
 turn_lowers : (t : Turn) (x : Guest) → turn_of x ≡ t → has_turn t ≡ true → guest_left (moved_in t x) < guest_left x
-turn_lowers First x is has = (let fewer = write_lowers x.slot (turn_first (slot_writes x.slot) (behind_writes x.slot x.behind) is) in omega (arith, fewer))
-turn_lowers Second x is has = (let fewer = write_lowers x.behind (behind_has x.slot x.behind (turn_behind (slot_writes x.slot) (behind_writes x.slot x.behind) is)) in omega (arith, fewer))
-turn_lowers Neither x is has = absurd (cc)
+turn_lowers t x is has = grind (arith, write_lowers)
 
 guest_write_lowers : (x : Guest) → guest_has_write x ≡ true → guest_left (guest_after_write x) < guest_left x
 guest_write_lowers x has = turn_lowers (turn_of x) x refl has
 
-ordered_left : (x : Guest) (n : ℕ) (slot behind : Option Slot) → guest_left (moved_up x n slot behind) ≡ slot_left slot + slot_left behind
-ordered_left x n (Some f) behind = refl
-ordered_left x n None (Some b) = omega arith
-ordered_left x n None None = refl
-
 guest_sync_adds_none : (x : Guest) → guest_left (guest_after_sync x) ≤ guest_left x
-guest_sync_adds_none x =
-    let sum = ordered_left x (marked x) (after_sync x.slot) (after_sync x.behind) in
-    let one = sync_adds_none x.slot in
-    let two = sync_adds_none x.behind in
-    omega (arith, sum, one, two)
+guest_sync_adds_none x = grind arith
 
 guest_sync_lowers : (x : Guest) → guest_awaits x ≡ true → guest_left (guest_after_sync x) < guest_left x
-guest_sync_lowers x waits = by (slot_awaits x.slot) refl
-  where
-    sum : guest_left (guest_after_sync x) ≡ slot_left (after_sync x.slot) + slot_left (after_sync x.behind)
-    sum = ordered_left x (marked x) (after_sync x.slot) (after_sync x.behind)
-
-    by : (b : Bool) → slot_awaits x.slot ≡ b → guest_left (guest_after_sync x) < guest_left x
-    by true is = (let one = sync_lowers x.slot is in let two = sync_adds_none x.behind in let all = sum in omega (arith, all, one, two))
-    by false is = (
-        let later : slot_awaits x.behind ≡ true = sym (ap (λ (v : Bool). v || slot_awaits x.behind) is) ∙ waits in
-        let one = sync_adds_none x.slot in
-        let two = sync_lowers x.behind later in
-        let all = sum in
-        omega (arith, all, one, two))
+guest_sync_lowers x waits = grind arith
 
 left_of-set : (xs : List Guest) (g : ℕ) (x y : Guest) → slice_get xs g ≡ Some x → left_of (slice_set xs g y) + guest_left x ≡ left_of xs + guest_left y
 unfolding left_of
 left_of-set [] zero x y at = absurd (cc)
 left_of-set [] (suc g) x y at = absurd (cc)
-left_of-set (z ∷ xs) zero x y at = (let same : guest_left z ≡ guest_left x = (let e : z ≡ x = cc in ap guest_left e) in omega (arith, same))
-left_of-set (z ∷ xs) (suc g) x y at = (let rest = left_of-set xs g x y at in omega (arith, rest))
+left_of-set (z ∷ xs) zero x y at = (let same : guest_left z ≡ guest_left x = (let e : z ≡ x = cc in ap guest_left e) in omega arith)
+left_of-set (z ∷ xs) (suc g) x y at = (let rest = left_of-set xs g x y at in omega arith)
 
 left_of-sync : (xs : List Guest) → left_of (map guest_after_sync xs) ≤ left_of xs
 unfolding left_of
 left_of-sync [] = omega arith
-left_of-sync (x ∷ xs) = (let first = guest_sync_adds_none x in let rest = left_of-sync xs in omega (arith, first, rest))
+left_of-sync (x ∷ xs) = (let first = guest_sync_adds_none x in let rest = left_of-sync xs in omega arith)
 
 left_of-sync-lower : (xs : List Guest) → list_any guest_awaits xs ≡ true → left_of (map guest_after_sync xs) < left_of xs
 unfolding left_of
@@ -161,24 +67,17 @@ left_of-sync-lower [] waits = absurd (cc)
 left_of-sync-lower (x ∷ xs) waits = of (guest_awaits x) refl (left_of-sync-lower xs)
   where
     of : (b : Bool) → guest_awaits x ≡ b → (list_any guest_awaits xs ≡ true → left_of (map guest_after_sync xs) < left_of xs) → left_of (map guest_after_sync (x ∷ xs)) < left_of (x ∷ xs)
-    of true is later = (let first = guest_sync_lowers x is in let rest = left_of-sync xs in omega (arith, first, rest))
+    of true is later = (let first = guest_sync_lowers x is in let rest = left_of-sync xs in omega arith)
     of false is later = (
         let waits_later : list_any guest_awaits xs ≡ true = cc in
         let first = guest_sync_adds_none x in
         let rest = later waits_later in
-        omega (arith, first, rest))
+        omega arith)
 
 -- 3. A call that succeeds
 
 plan_write : (o : Option ℕ) (b : Bool) (g : ℕ) → plan_at o b ≡ WriteOf g → o ≡ Some g
-plan_write (Some h) b g is = cc
-plan_write None true g is = absurd (cc)
-plan_write None false g is = absurd (cc)
-
-plan_sync : (o : Option ℕ) (b : Bool) → plan_at o b ≡ SyncAll → b ≡ true
-plan_sync (Some g) b is = absurd (cc)
-plan_sync None true is = refl
-plan_sync None false is = absurd (cc)
+plan_write o b g is = grind arith
 
 write_of : (old : List Guest) (g : ℕ) (x : Guest) → planned old ≡ WriteOf g → slice_get old g ≡ Some x → left_of (slice_set old g (guest_after_write x)) < left_of old
 write_of old g x plan at =
@@ -186,17 +85,14 @@ write_of old g x plan at =
     let has = sym (ap guest_has_write (get_or_from_slice_get old g x x at)) ∙ first.1 in
     let fewer = guest_write_lowers x has in
     let whole = left_of-set old g x (guest_after_write x) at in
-    omega (arith, fewer, whole)
+    omega arith
 
 module _ {D : Type 0} (makes : D → DiskCall → D → Type 0) (od : D) (old : List Guest) (result : Result Progress StoreFault) (nd : D) (new : List Guest) (broken : Bool) where
   sync_all : (ok : Bool) → planned old ≡ SyncAll → new ≡ (if ok then map guest_after_sync old else old) → Ends ok (Synced (marks_of new)) result broken → called result ≡ true → left_of new < left_of old
-  sync_all true plan slots ends made = subst (λ (l : List Guest). left_of l < left_of old) (sym slots) (left_of-sync-lower old (plan_sync _ _ plan))
-  sync_all false plan slots ends made = absurd (let is = ap called ends.0 in cc)
+  sync_all ok plan slots ends made = grind (arith, left_of-sync-lower)
 
   lowers_by_plan : (p : Plan) → planned old ≡ p → Round makes p od old result nd new broken → called result ≡ true → left_of new < left_of old
-  lowers_by_plan (WriteOf g) plan r made = (let w = r.wrote in subst (λ (l : List Guest). left_of l < left_of old) (sym w.slots) (write_of old g w.guest plan w.is))
-  lowers_by_plan SyncAll plan r made = sync_all r.ok plan r.synced.slots r.ends made
-  lowers_by_plan Nothing plan r made = absurd (let is = ap called r.0 in cc)
+  lowers_by_plan p plan r made = grind (arith, sync_all, write_of)
 
   pub round_lowers : Round makes (planned old) od old result nd new broken → called result ≡ true → left_of new < left_of old
   round_lowers = lowers_by_plan (planned old) refl
@@ -204,13 +100,7 @@ module _ {D : Type 0} (makes : D → DiskCall → D → Type 0) (od : D) (old : 
 -- 4. An intent that is given
 
 room_left : (x : Guest) (i : Intent) (slot behind : Option Slot) → (if x.paired then is_empty behind else is_empty slot) ≡ true → guest_left (given_at (with_slots x slot behind) i slot) ≡ guest_left (with_slots x slot behind) + (length i.group.entries + 8)
-room_left x i None behind room = omega arith
-room_left x i (Some f) None room = omega arith
-room_left x i (Some f) (Some b) room = absurd (by x.paired room)
-  where
-    by : (pair : Bool) → (if pair then false else false) ≡ true → ⊥
-    by true is = absurd (cc)
-    by false is = absurd (cc)
+room_left x i slot behind room = grind arith
 
 pub given_adds : GivenAdds
 unfolding given
@@ -219,28 +109,22 @@ given_adds guests i x at room =
     let more = room_left x i x.slot x.behind room in
     let is : given guests i ≡ slice_set guests i.guest (with_intent x i) = ap (given_of guests i) at in
     let after = ap left_of is in
-    omega (arith, whole, more, after)
+    omega arith
 
 -- 5. None left
 
 empty_of : (slot : Option Slot) → slot_left slot ≡ 0 → is_empty slot ≡ true
-empty_of None none = refl
-empty_of (Some s) none = absurd (let some = some_left s.phase s.intent.group in omega (arith, some, none))
+empty_of slot none = grind arith
 
 none_of : (slot : Option Slot) → is_empty slot ≡ true → slot_left slot ≡ 0
-none_of None is = refl
-none_of (Some s) is = absurd (cc)
+none_of slot is = grind arith
 
 empty_where_none : (xs : List Guest) → left_of xs ≡ 0 → AllEmpty xs
 unfolding left_of
 empty_where_none [] none zero x at = absurd (cc)
 empty_where_none [] none (suc g) x at = absurd (cc)
-empty_where_none (z ∷ xs) none zero x at = (
-    let e : z ≡ x = cc in
-    let first : slot_left z.slot ≡ 0 = omega (arith, none) in
-    let second : slot_left z.behind ≡ 0 = omega (arith, none) in
-    (empty_of x.slot (sym (ap (λ (v : Guest). slot_left v.slot) e) ∙ first), empty_of x.behind (sym (ap (λ (v : Guest). slot_left v.behind) e) ∙ second)))
-empty_where_none (z ∷ xs) none (suc g) x at = (let rest : left_of xs ≡ 0 = omega (arith, none) in empty_where_none xs rest g x at)
+empty_where_none (z ∷ xs) none zero x at = grind arith
+empty_where_none (z ∷ xs) none (suc g) x at = (let rest : left_of xs ≡ 0 = omega arith in empty_where_none xs rest g x at)
 
 none_where_empty : (xs : List Guest) → AllEmpty xs → left_of xs ≡ 0
 unfolding left_of
@@ -250,7 +134,7 @@ none_where_empty (z ∷ xs) all = (
     let first = none_of z.slot both.0 in
     let second = none_of z.behind both.1 in
     let rest = none_where_empty xs (λ g x at. all (suc g) x at) in
-    omega (arith, first, second, rest))
+    omega arith)
 
 pub none_left_is_empty : NoneLeftIsEmpty
 none_left_is_empty guests = (empty_where_none guests, none_where_empty guests)

@@ -4,57 +4,36 @@ use Rattle.std.specs.Prelude.{slice_get, slice_set, if◌then◌else◌}
 use Rattle.std.proofs.lemmas.Option.{slice_get-get_or, slice_get_within}
 use Rattle.disk.specs.Content.{Content}
 use Rattle.disk.specs.Disk.{DiskState, MayLeave}
-use Rattle.flusher.specs.declared.phase.Phase.{Phase}
-use Rattle.flusher.specs.declared.phase.Phase.TheVariants.{Given, Written, Ready, Opening, Open, Applying, Applied, Closing}
-use Rattle.flusher.specs.Phase.{is_settled}
-use Rattle.flusher.proofs.Held.{seen_left}
 use Rattle.flusher.proofs.Syncs.{two_row}
-use Rattle.intent_slots.specs.Layout.{SlotRegion, Region, AreApart, end_of}
-use Rattle.intent_slots.specs.Payload.{Intent, GroupFits, last_of}
+use Rattle.intent_slots.specs.Layout.{Region, AreApart, end_of}
+use Rattle.intent_slots.specs.Payload.{Intent, GroupFits}
 use Rattle.intent_slots.specs.Recovered.{Part}
 use Rattle.flusher.specs.declared.guest.Guest.{Guest}
 use Rattle.flusher.specs.declared.slot.Slot.{Slot}
 use Rattle.flusher.specs.Slot.{is_empty, intent_of, pending_of}
-use Rattle.flusher.specs.Pair.{has_room, region_of, side_of, side_behind, mark_of, with_intent, with_slots, given_slot, given_at, entries_in}
+use Rattle.flusher.specs.Pair.{has_room, region_of, side_behind, mark_of, with_intent, with_slots, given_slot, given_at, entries_in}
 use Rattle.flusher.specs.Marks.{marks_of}
-use Rattle.flusher.specs.SlotInvariant.{IsOfVersion, PhaseRow, Behind, Besides, Follows, sequence_of_part, IsHeld, guest_row, guest_seen}
+use Rattle.flusher.specs.SlotInvariant.{IsOfVersion, Behind, Besides, IsHeld, guest_row, guest_seen}
 use Rattle.flusher.specs.Store.{AllFit, GuestFits, Gives, HasSameKey, given, given_of, is_free, is_free_of, next_of, next_sequence, Fits, FitsOf, FitsGuest}
 use Rattle.flusher.proofs.Blocks.{none_past}
 use Rattle.flusher.proofs.Guests.{set_cases, get_set_same, get_set_other, map_set}
 
 -- the guest that stands there
 pub found : (xs ys : List Guest) (g k : ℕ) (x : Guest) → ys ≡ xs → k ≡ g → k < length ys → x ≡ get_or ys k x → slice_get xs g ≡ Some x
-found xs ys g k x same at below is =
-    subst (λ (n : ℕ). slice_get xs n ≡ Some x) at (subst (λ (v : List Guest). slice_get v k ≡ Some x) same (slice_get-get_or ys k x below ∙ ap Some (sym is)))
+found xs ys g k x same at below is = grind (arith, slice_get-get_or)
 
 -- none stands there
 pub absent : (xs ys : List Guest) (g k : ℕ) → ys ≡ xs → k ≡ g → length ys ≤ k → slice_get xs g ≡ None
-absent xs ys g k same at past =
-    subst (λ (n : ℕ). slice_get xs n ≡ None) at (subst (λ (v : List Guest). slice_get v k ≡ None) same (none_past ys k past))
+absent xs ys g k same at past = grind (arith, none_past)
 
 pub given_region : (x : Guest) (i : Intent) (slot : Option Slot) → region_of (given_at x i slot) ≡ region_of x
-given_region x i None = refl
-given_region x i (Some f) = refl
+given_region x i slot = grind arith
 
 pub given_mark : (x : Guest) (i : Intent) (slot : Option Slot) → mark_of (given_at x i slot) ≡ mark_of x
-given_mark x i None = refl
-given_mark x i (Some f) = refl
+given_mark x i slot = grind arith
 
 given_version : (x : Guest) (i : Intent) (c : Content) (slot : Option Slot) → IsOfVersion x c → IsOfVersion (given_at x i slot) c
-given_version x i c None v = record { behind = v.behind; version = v.version }
-given_version x i c (Some f) v = record { behind = v.behind; version = v.version }
-
--- an intent that comes next comes next after the one in the first slot
-chained_by : (region : Region) (side : SlotRegion) (p between : Part) (n first : ℕ) (phase : Phase) (j : Intent) (c : Content) → PhaseRow region side between phase j.group c → between ≡ p → n ≡ sequence_of_part p
-    → Follows n (if is_settled phase then None else Some j) → first ≡ n + length (entries_in (if is_settled phase then None else Some j)) → first ≡ last_of j.group + 1
-chained_by region side p between n first Given j c r l m f is = (let one = r.2.one in omega (arith, f, is, one))
-chained_by region side p between n first Written j c r l m f is = (let one = r.2.one in omega (arith, f, is, one))
-chained_by region side p between n first Ready j c r l m f is = (let one = r.2.fits.one in omega (arith, f, is, one))
-chained_by region side p between n first Opening j c r l m f is = (let one = r.1.fits.one in omega (arith, f, is, one))
-chained_by region side p between n first (Open k) j c r l m f is = (let e = ap sequence_of_part (r.1 ∙ l) in omega (arith, e, m, is))
-chained_by region side p between n first Applying j c r l m f is = (let e = ap sequence_of_part (r.1 ∙ l) in omega (arith, e, m, is))
-chained_by region side p between n first Applied j c r l m f is = (let e = ap sequence_of_part (r.1 ∙ l) in omega (arith, e, m, is))
-chained_by region side p between n first Closing j c r l m f is = (let e = ap sequence_of_part (r.0 ∙ l) in omega (arith, e, m, is))
+given_version x i c slot v = grind arith
 
 -- the row of a guest with an intent given
 module _ (p : Part) (x : Guest) (i : Intent) (c : Content) where
@@ -68,43 +47,18 @@ module _ (p : Part) (x : Guest) (i : Intent) (c : Content) where
       → guest_seen p (with_slots x slot behind) c → guest_seen p (given_at (with_slots x slot behind) i slot) c
 
   full : (pair : Bool) → (if pair then false else false) ≡ true → ⊥
-  full true is = absurd (cc)
-  full false is = absurd (cc)
+  full pair is = grind arith
 
   paired_is : (pair : Bool) → (if pair then true else false) ≡ true → pair ≡ true
-  paired_is true is = refl
-  paired_is false is = absurd (cc)
+  paired_is pair is = grind arith
 
   beside : (pair : Bool) → pair ≡ true → Behind pair x.extent (side_behind x) None c → GroupFits x.extent.size i.group → Behind pair x.extent (side_behind x) (given_slot i) c
-  beside true is b fits = (b, fits)
-  beside false is b fits = absurd (cc)
+  beside pair is b fits = grind arith
 
   row_goes : (slot behind : Option Slot) → Goes slot behind
-  row_goes None None room fits key next r = (
-    record { between = r.0.between; leads = r.0.leads; row = (r.0.row.0, r.0.row.1, fits); behind = r.0.behind },
-    record {
-      mark = r.1.mark;
-      follows = omega (arith, next);
-      next_follows = tt;
-      ordered = record { chained = tt; besides = tt; single = λ un. record { alone = refl; side = (r.1.ordered.single un).side } };
-    },
-  )
+  row_goes None None room fits key next r = grind arith
   row_goes None (Some b) room fits key next r = absurd r.1.ordered.besides
-  row_goes (Some f) None room fits key next r =
-      let two = paired_is x.paired room in
-      let comes : i.group.first ≡ x.mark + length (entries_in (pending_of (Some f))) = omega (arith, next) in (
-        record { between = r.0.between; leads = r.0.leads; row = r.0.row; behind = beside x.paired two r.0.behind fits },
-        record {
-          mark = r.1.mark;
-          follows = r.1.follows;
-          next_follows = comes;
-          ordered = record {
-            chained = (chained_by x.extent (side_of x) p r.0.between x.mark i.group.first f.phase f.intent c r.0.row r.0.leads r.1.mark r.1.follows comes, key);
-            besides = tt;
-            single = λ un. absurd (cc);
-          };
-        },
-      )
+  row_goes (Some f) None room fits key next r = grind arith
   row_goes (Some f) (Some b) room fits key next r = absurd (full x.paired room)
 
   seen_goes : (slot behind : Option Slot) → SeenGoes slot behind
@@ -119,25 +73,15 @@ module _ (p : Part) (x : Guest) (i : Intent) (c : Content) where
   given_seen : has_room x ≡ true → FitsGuest x i → guest_row p x c → guest_seen p x c → guest_seen p (with_intent x i) c
   given_seen room fits r s = seen_goes x.slot x.behind room fits.inside r.1.ordered.besides s
 
-paired_room : (pair : Bool) → (if pair then false else false) ≡ true → ⊥
-paired_room true is = absurd (cc)
-paired_room false is = absurd (cc)
-
 given_fits : (len : ℕ) (x : Guest) (i : Intent) (slot behind : Option Slot) → (if x.paired then is_empty behind else is_empty slot) ≡ true → GroupFits x.extent.size i.group → GuestFits len i.guest (with_slots x slot behind) → GuestFits len i.guest (given_at (with_slots x slot behind) i slot)
-given_fits len x i None None room fits old = record { behind = old.behind; room = old.room; slot_fits = fits; behind_fits = tt; own = refl; behind_own = tt; mark = old.mark; besides = tt }
-given_fits len x i None (Some b) room fits old = absurd old.besides
-given_fits len x i (Some f) None room fits old = record { behind = old.behind; room = old.room; slot_fits = old.slot_fits; behind_fits = fits; own = old.own; behind_own = refl; mark = old.mark; besides = tt }
-given_fits len x i (Some f) (Some b) room fits old = absurd (paired_room x.paired room)
+given_fits len x i slot behind room fits old = grind arith
 
 module _ (parts : ℕ → Part) (xs : List Guest) (broken : Bool) (s : DiskState) (i : Intent) (x : Guest) (at : slice_get xs i.guest ≡ Some x) (room : has_room x ≡ true) (fits : FitsGuest x i) (next : i.group.first + 1 ≡ next_of (Some x)) (held : IsHeld parts xs broken s) where
   abbrev new : Guest
   new = with_intent x i
 
   stood : (h : ℕ) (y : Guest) → slice_get (slice_set xs i.guest new) h ≡ Some y → (z : Guest) × (slice_get xs h ≡ Some z) × (region_of y ≡ region_of z)
-  stood h y here = ⊎_elim
-      (λ e. (x, subst (λ (v : ℕ). slice_get xs v ≡ Some x) (sym e.0) at, ap region_of e.1 ∙ given_region x i x.slot))
-      (λ e. (y, e.1, refl))
-      (set_cases xs i.guest h new y here)
+  stood h y here = grind (arith, set_cases)
 
   row_given : (h : ℕ) (y : Guest) → slice_get (slice_set xs i.guest new) h ≡ Some y → (c : Content) → MayLeave s c → guest_row (parts h) y c
   row_given h y here c left = ⊎_elim
@@ -147,11 +91,7 @@ module _ (parts : ℕ → Part) (xs : List Guest) (broken : Bool) (s : DiskState
       (set_cases xs i.guest h new y here)
 
   seen_given : broken ≡ false → (h : ℕ) (y : Guest) → slice_get (slice_set xs i.guest new) h ≡ Some y → guest_seen (parts h) y s.seen
-  seen_given whole h y here = ⊎_elim
-      (λ e. subst (λ (v : Guest). guest_seen (parts h) v s.seen) (sym e.1) (subst (λ (v : ℕ). guest_seen (parts v) new s.seen) (sym e.0)
-      (given_seen (parts i.guest) x i s.seen room fits (held.rows i.guest x at s.seen (seen_left s)) (held.seen_rows whole i.guest x at))))
-      (λ e. held.seen_rows whole h y e.1)
-      (set_cases xs i.guest h new y here)
+  seen_given whole h y here = grind (arith, given_seen, set_cases)
 
   held_given : IsHeld parts (slice_set xs i.guest new) broken s
   held_given = record {
@@ -164,14 +104,13 @@ module _ (parts : ℕ → Part) (xs : List Guest) (broken : Bool) (s : DiskState
   }
 
 below_of : (xs : List Guest) (g : ℕ) (o : Option Guest) → slice_get xs g ≡ o → is_free_of o ≡ true → g < length xs
-below_of xs g None at free = absurd (cc)
-below_of xs g (Some y) at free = slice_get_within xs g y at
+below_of xs g o at free = grind (arith, slice_get_within)
 
 module _ (xs v : List Guest) (i : Intent) (k : ℕ) (x y : Guest) (same : xs ≡ v) (at : k ≡ i.guest) (is : x ≡ get_or xs k x) (free : is_free v i.guest ≡ true) (moved : y ≡ with_intent x i) where
   -- the guest that is given it stands there
   here : slice_get v i.guest ≡ Some x
   unfolding is_free
-  here = (let below = below_of v i.guest (slice_get v i.guest) refl free in found v xs i.guest k x same at (let l = ap length same in omega (arith, below, at, l)) is)
+  here = (let below = below_of v i.guest (slice_get v i.guest) refl free in found v xs i.guest k x same at (let l = ap length same in omega (arith, at)) is)
 
   -- the guests with it given
   pub given_there : slice_set xs k y ≡ given v i
@@ -184,12 +123,7 @@ module _ (xs v : List Guest) (i : Intent) (k : ℕ) (x y : Guest) (same : xs ≡
   -- What giving makes of the guests.
   pub gives_it : Gives i v (slice_set xs k y)
   unfolding marks_of
-  gives_it = subst (λ (n : ℕ). Gives i v (slice_set xs n y)) (sym at) (subst (λ (l : List Guest). Gives i v (slice_set l i.guest y)) (sym same) (subst (λ (w : Guest). Gives i v (slice_set v i.guest w)) (sym moved) (record {
-    count = length-set v i.guest (with_intent x i);
-    its_own = its_own;
-    others = λ g other. get_set_other v i.guest g (with_intent x i) other;
-    marks = map_set mark_of v i.guest x (with_intent x i) here (given_mark x i x.slot);
-  })))
+  gives_it = grind (arith, get_set_other, here, its_own, length-set, map_set)
 
   -- A guest whose slot is empty is given an intent.
   pub gives : (parts : ℕ → Part) (broken : Bool) (s : DiskState) → Fits v i → i.group.first + 1 ≡ next_sequence v i.guest → IsHeld parts v broken s → IsHeld parts (slice_set xs k y) broken s

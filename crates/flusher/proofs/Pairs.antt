@@ -1,21 +1,21 @@
 -- Two slots of one partition: what each write and each sync keeps.
-use Rattle.std.proofs.Common.{◌≡◌, inl, inr, Bool, true, false, Option, Some, None, ℕ, ◌+◌, drop, refl, ap, sym, ◌∙◌, subst, arith}
+use Rattle.std.proofs.Common.{◌≡◌, inl, inr, Bool, true, false, Option, Some, ℕ, ◌+◌, refl, ap, ◌∙◌, arith}
 use Rattle.std.proofs.lemmas.Bool.{cases_eq}
 use Rattle.disk.specs.Content.{Content}
 use Rattle.intent_slots.specs.declared.layout.Side.{Side}
 use Rattle.intent_slots.specs.declared.layout.Side.TheVariants.{A, B}
 use Rattle.intent_slots.specs.Layout.{Region, SlotRegion, slot_region, other_side, blocks_at}
-use Rattle.intent_slots.specs.Payload.{Group, GroupFits, Intent, last_of}
-use Rattle.intent_slots.specs.Recovered.{Part, HoldsHome, HasPayload, redone, redo, blocks_of, after, StandsFor, ByHome, ByPayload, StandsForTwo, ByNeither, ByOne, ByBoth}
+use Rattle.intent_slots.specs.Payload.{Group, Intent, last_of}
+use Rattle.intent_slots.specs.Recovered.{Part, HoldsHome, HasPayload, redone, after, StandsFor, ByHome, ByPayload, StandsForTwo, ByOne, ByBoth}
 use Rattle.intent_slots.proofs.Bytes.{SameOn}
 use Rattle.flusher.specs.declared.phase.Phase.{Phase}
 use Rattle.flusher.specs.declared.phase.Phase.TheVariants.{Given, Written, Ready, Opening, Open, Applying, Applied, Closing}
 use Rattle.flusher.specs.declared.slot.Slot.{Slot}
-use Rattle.flusher.specs.Phase.{NextWrite, NoWrite, PayloadWrite, GateWrite, BlocksWrite, HomeWrite, next_write, written, synced, is_opening, is_settled}
+use Rattle.flusher.specs.Phase.{PayloadWrite, GateWrite, next_write, written, synced, is_opening, is_settled}
 use Rattle.flusher.specs.Slot.{in_phase, after_sync}
 use Rattle.flusher.specs.Pair.{is_let_beside}
 use Rattle.flusher.specs.SlotInvariant.{IsShut, IsWideOpen, PhaseRow, Row, PhaseSeen, Seen, BeforeOrAfter, BehindRow, Behind, BehindPhaseSeen, BehindSeen, LeadsBy}
-use Rattle.flusher.proofs.Rows.{Keeps, Puts, same_pl, redone_after, skip}
+use Rattle.flusher.proofs.Rows.{Keeps, same_pl, redone_after, skip}
 
 -- 1. A write of one slot, and the other one's gate and payload
 
@@ -25,64 +25,22 @@ pub record Spares (side : SlotRegion) (c d : Content) : Type 0 where
   pub payload : SameOn side.payload 16648 c d
 
 module _ (region : Region) (c d : Content) where
-  pub spares : (side : Side) (n : NextWrite) → Keeps region (slot_region region side) n c d → Spares (slot_region region (other_side side)) c d
-  spares A NoWrite out = absurd out
-  spares A (PayloadWrite i) out = record { gate = sym (out (slot_region region B).gate (inr (omega arith))); payload = λ k le lt. sym (out k (inr (omega arith))) }
-  spares A (GateWrite byte) out = record { gate = sym (out (slot_region region B).gate (inr (omega arith))); payload = λ k le lt. sym (out k (inr (omega arith))) }
-  spares A (BlocksWrite e) out = record { gate = sym (out (slot_region region B).gate (inl (omega arith))); payload = λ k le lt. sym (out k (inl (omega arith))) }
-  spares A (HomeWrite i) out = record { gate = sym (out (slot_region region B).gate (inr (omega arith))); payload = λ k le lt. sym (out k (inr (omega arith))) }
-  spares B NoWrite out = absurd out
-  spares B (PayloadWrite i) out = record { gate = sym (out (slot_region region A).gate (inl (omega arith))); payload = λ k le lt. sym (out k (inl (omega arith))) }
-  spares B (GateWrite byte) out = record { gate = sym (out (slot_region region A).gate (inl (omega arith))); payload = λ k le lt. sym (out k (inl (omega arith))) }
-  spares B (BlocksWrite e) out = record { gate = sym (out (slot_region region A).gate (inl (omega arith))); payload = λ k le lt. sym (out k (inl (omega arith))) }
-  spares B (HomeWrite i) out = record { gate = sym (out (slot_region region A).gate (inr (omega arith))); payload = λ k le lt. sym (out k (inr (omega arith))) }
-
   module _ (side : SlotRegion) (same : Spares side c d) where
     behind_row_beside : (phase : Phase) (i : Group) → BehindRow region side phase i c → BehindRow region side phase i d
-    behind_row_beside Given i b = ((λ e. b.0 (same.gate ∙ e)), b.1)
-    behind_row_beside Written i b = ((λ e. b.0 (same.gate ∙ e)), b.1)
-    behind_row_beside Ready i b = ((λ e. b.0 (same.gate ∙ e)), same_pl region side c d i same.payload b.1)
-    behind_row_beside Opening i b = same_pl region side c d i same.payload b
-    behind_row_beside (Open k) i b = (sym same.gate ∙ b.0, same_pl region side c d i same.payload b.1, b.2)
-    behind_row_beside Applying i b = b
-    behind_row_beside Applied i b = b
-    behind_row_beside Closing i b = b
+    behind_row_beside phase i b = grind (arith, same_pl)
 
     pub behind_beside : (paired : Bool) (slot : Option Slot) → Behind paired region side slot c → Behind paired region side slot d
-    behind_beside false None b = b
-    behind_beside true None b = λ e. b (same.gate ∙ e)
-    behind_beside false (Some s) b = behind_row_beside s.phase s.intent.group b
-    behind_beside true (Some s) b = behind_row_beside s.phase s.intent.group b
+    behind_beside paired slot b = grind (arith, behind_row_beside)
 
     behind_phase_seen_beside : (phase : Phase) (i : Group) → BehindPhaseSeen region side phase i c → BehindPhaseSeen region side phase i d
-    behind_phase_seen_beside Given i s = tt
-    behind_phase_seen_beside Written i s = same_pl region side c d i same.payload s
-    behind_phase_seen_beside Ready i s = tt
-    behind_phase_seen_beside Opening i s = sym same.gate ∙ s
-    behind_phase_seen_beside (Open k) i s = tt
-    behind_phase_seen_beside Applying i s = tt
-    behind_phase_seen_beside Applied i s = tt
-    behind_phase_seen_beside Closing i s = tt
+    behind_phase_seen_beside phase i s = grind (arith, same_pl)
 
     pub behind_seen_beside : (slot : Option Slot) → BehindSeen region side slot c → BehindSeen region side slot d
-    behind_seen_beside None s = tt
-    behind_seen_beside (Some x) s = behind_phase_seen_beside x.phase x.intent.group s
-
--- an intent on its way beside another one lies in the partition
-pub behind_row_fits : (region : Region) (side : SlotRegion) (phase : Phase) (i : Group) (c : Content) → BehindRow region side phase i c → GroupFits region.size i
-behind_row_fits region side Given i c b = b.1
-behind_row_fits region side Written i c b = b.1
-behind_row_fits region side Ready i c b = b.1.fits
-behind_row_fits region side Opening i c b = b.fits
-behind_row_fits region side (Open k) i c b = b.1.fits
-behind_row_fits region side Applying i c b = absurd b
-behind_row_fits region side Applied i c b = absurd b
-behind_row_fits region side Closing i c b = absurd b
+    behind_seen_beside slot s = grind (arith, behind_phase_seen_beside)
 
 -- nothing of a partition was touched
 pub spares_frame : (region : Region) (side : Side) (c d : Content) → SameOn region.base (35328 + region.size) c d → Spares (slot_region region side) c d
-spares_frame region A c d same = record { gate = same (slot_region region A).gate (omega arith) (omega arith); payload = λ k le lt. same k (omega arith) (omega arith) }
-spares_frame region B c d same = record { gate = same (slot_region region B).gate (omega arith) (omega arith); payload = λ k le lt. same k (omega arith) (omega arith) }
+spares_frame region side c d same = grind arith
 
 -- 2. The write of the slot behind
 
@@ -92,32 +50,15 @@ pub record SparesHome (region : Region) (c d : Content) : Type 0 where
   pub blocks : SameOn (blocks_at region) region.size c d
 
 module _ (region : Region) (c d : Content) where
-  payload_spares : (side : Side) (i : Group) → Keeps region (slot_region region side) (PayloadWrite i) c d → SparesHome region c d
-  payload_spares A i out = record { home = λ k le lt. sym (out k (inl (omega arith))); blocks = λ k le lt. sym (out k (inr (omega arith))) }
-  payload_spares B i out = record { home = λ k le lt. sym (out k (inl (omega arith))); blocks = λ k le lt. sym (out k (inr (omega arith))) }
-
-  gate_spares : (side : Side) (byte : ℕ) → Keeps region (slot_region region side) (GateWrite byte) c d → SparesHome region c d
-  gate_spares A byte out = record { home = λ k le lt. sym (out k (inl (omega arith))); blocks = λ k le lt. sym (out k (inr (omega arith))) }
-  gate_spares B byte out = record { home = λ k le lt. sym (out k (inl (omega arith))); blocks = λ k le lt. sym (out k (inr (omega arith))) }
-
   -- what the slot behind may write beside the first leaves the home record and the blocks
   pub behind_spares : (side : Side) (first phase : Phase) (i : Group) → is_let_beside first phase ≡ true → Keeps region (slot_region region side) (next_write phase i) c d → SparesHome region c d
-  behind_spares side first Given i is out = payload_spares side i out
-  behind_spares side first Written i is out = absurd (cc)
-  behind_spares side first Ready i is out = gate_spares side 165 out
-  behind_spares side first Opening i is out = absurd (cc)
-  behind_spares side first (Open k) i is out = absurd (cc)
-  behind_spares side first Applying i is out = absurd (cc)
-  behind_spares side first Applied i is out = absurd (cc)
-  behind_spares side first Closing i is out = absurd (cc)
+  behind_spares side first phase i is out = grind arith
 
   behind_payload : (side : Side) (i : Group) → Keeps region (slot_region region side) (PayloadWrite i) c d → c (slot_region region side).gate ≡ d (slot_region region side).gate
-  behind_payload A i out = sym (out (slot_region region A).gate (inl (omega arith)))
-  behind_payload B i out = sym (out (slot_region region B).gate (inl (omega arith)))
+  behind_payload side i out = grind arith
 
   behind_gate : (side : Side) (i : Group) (byte : ℕ) → Keeps region (slot_region region side) (GateWrite byte) c d → HasPayload region (slot_region region side) i c → HasPayload region (slot_region region side) i d
-  behind_gate A i byte out has = same_pl region (slot_region region A) c d i (λ k le lt. sym (out k (inr (omega arith)))) has
-  behind_gate B i byte out has = same_pl region (slot_region region B) c d i (λ k le lt. sym (out k (inr (omega arith)))) has
+  behind_gate side i byte out has = grind (arith, same_pl)
 
   -- its own row goes on, whatever stands in the write's range
   pub behind_write : (side : Side) (first phase : Phase) (i : Group) → is_let_beside first phase ≡ true → Keeps region (slot_region region side) (next_write phase i) c d
@@ -131,45 +72,14 @@ module _ (region : Region) (c d : Content) where
   behind_write side first Applied i is out b = absurd (cc)
   behind_write side first Closing i is out b = absurd (cc)
 
-  pub behind_write_seen : (side : Side) (first phase : Phase) (i : Group) → is_let_beside first phase ≡ true → Puts region (slot_region region side) (next_write phase i) d
-      → BehindPhaseSeen region (slot_region region side) (written phase i) i d
-  behind_write_seen side first Given i is put = put
-  behind_write_seen side first Written i is put = absurd (cc)
-  behind_write_seen side first Ready i is put = put
-  behind_write_seen side first Opening i is put = absurd (cc)
-  behind_write_seen side first (Open k) i is put = absurd (cc)
-  behind_write_seen side first Applying i is put = absurd (cc)
-  behind_write_seen side first Applied i is put = absurd (cc)
-  behind_write_seen side first Closing i is put = absurd (cc)
-
 -- 3. A sync
 
 module _ (region : Region) (side : SlotRegion) (p q : Part) (c : Content) (held : HoldsHome region c q) where
-  at_p : q ≡ p → HoldsHome region c p
-  at_p is = subst (HoldsHome region c) is held
-
   promoted_phase : (phase : Phase) (i : Group) → BehindRow region side phase i c → LeadsBy (is_settled phase) q i p → PhaseRow region side p phase i c
-  promoted_phase Given i b l = (b.0, at_p l, b.1)
-  promoted_phase Written i b l = (b.0, at_p l, b.1)
-  promoted_phase Ready i b l = (b.0, at_p l, b.1)
-  promoted_phase Opening i b l = (at_p l, b)
-  promoted_phase (Open k) i b l = (b.0, redone_after region i c q held ∙ l, b.1)
-  promoted_phase Applying i b l = absurd b
-  promoted_phase Applied i b l = absurd b
-  promoted_phase Closing i b l = absurd b
+  promoted_phase phase i b l = grind arith
 
   promoted_phase_seen : (phase : Phase) (i : Group) → BehindRow region side phase i c → BehindPhaseSeen region side phase i c → LeadsBy (is_settled phase) q i p → PhaseSeen region side p phase i c
-  promoted_phase_seen Given i b s l = tt
-  promoted_phase_seen Written i b s l = s
-  promoted_phase_seen Ready i b s l = tt
-  promoted_phase_seen Opening i b s l = s
-  promoted_phase_seen (Open k) i b s l =
-      let skips = skip i.entries (blocks_of region c) in
-      let here : redo i.entries (blocks_of region c) ≡ p.blocks = ap (redo i.entries) held.same_blocks ∙ ap (λ (v : Part). v.blocks) l in
-      ap (λ (n : ℕ). redo (drop n i.entries) (blocks_of region c)) b.2 ∙ sym skips ∙ here
-  promoted_phase_seen Applying i b s l = absurd b
-  promoted_phase_seen Applied i b s l = absurd b
-  promoted_phase_seen Closing i b s l = absurd b
+  promoted_phase_seen phase i b s l = grind (arith, skip)
 
 -- the slot behind, where the first one is known to be shut and the home is the one's that it leads to: it is the first
 pub promoted_row : (region : Region) (side : SlotRegion) (p q : Part) (s : Slot) (c : Content) → HoldsHome region c q → BehindRow region side s.phase s.intent.group c → LeadsBy (is_settled s.phase) q s.intent.group p → Row region side p (Some s) c
@@ -180,28 +90,13 @@ promoted_seen region side p q s c held b seen leads = promoted_phase_seen region
 
 module _ (region : Region) (side : SlotRegion) (c : Content) where
   put : (i : Intent) (phase : Phase) → BehindRow region side phase i.group c → (pair : Bool) → Behind pair region side (Some (record { phase = phase; intent = i })) c
-  put i phase b false = b
-  put i phase b true = b
+  put i phase b pair = grind arith
 
   phase_synced : (phase : Phase) (i : Intent) (paired : Bool) → is_opening phase ≡ false → BehindRow region side phase i.group c → BehindPhaseSeen region side phase i.group c → Behind paired region side (in_phase i (synced phase i.group)) c
-  phase_synced Given i paired un b s = put i Given b paired
-  phase_synced Written i paired un b s = put i Ready (b.0, s) paired
-  phase_synced Ready i paired un b s = put i Ready b paired
-  phase_synced Opening i paired un b s = absurd (cc)
-  phase_synced (Open k) i paired un b s = put i (Open k) b paired
-  phase_synced Applying i paired un b s = absurd b
-  phase_synced Applied i paired un b s = absurd b
-  phase_synced Closing i paired un b s = absurd b
+  phase_synced phase i paired un b s = grind arith
 
   phase_synced_seen : (phase : Phase) (i : Intent) → is_opening phase ≡ false → BehindRow region side phase i.group c → BehindPhaseSeen region side phase i.group c → BehindSeen region side (in_phase i (synced phase i.group)) c
-  phase_synced_seen Given i un b s = tt
-  phase_synced_seen Written i un b s = tt
-  phase_synced_seen Ready i un b s = tt
-  phase_synced_seen Opening i un b s = absurd (cc)
-  phase_synced_seen (Open k) i un b s = tt
-  phase_synced_seen Applying i un b s = absurd b
-  phase_synced_seen Applied i un b s = absurd b
-  phase_synced_seen Closing i un b s = absurd b
+  phase_synced_seen phase i un b s = grind arith
 
 -- the slot behind beside one that stays: what it was given or had written goes on
 pub behind_synced : (region : Region) (side : SlotRegion) (s : Slot) (c : Content) → is_opening s.phase ≡ false → BehindRow region side s.phase s.intent.group c → BehindPhaseSeen region side s.phase s.intent.group c
@@ -215,11 +110,7 @@ behind_synced_seen region side s c quiet b seen = phase_synced_seen region side 
 
 module _ (region : Region) (side : Side) (c : Content) where
   neither : (p : Part) → IsShut (slot_region region side) c → IsShut (slot_region region (other_side side)) c → HoldsHome region c p → StandsForTwo region c p
-  neither p = by side
-    where
-      by : (at : Side) → IsShut (slot_region region at) c → IsShut (slot_region region (other_side at)) c → HoldsHome region c p → StandsForTwo region c p
-      by A mine theirs held = ByNeither mine theirs held
-      by B mine theirs held = ByNeither theirs mine held
+  neither p = grind arith
 
   -- the other gate is shut: what the one says
   pub one_stands : (p : Part) → IsShut (slot_region region (other_side side)) c → StandsFor region (slot_region region side) c p → StandsForTwo region c p

@@ -1,6 +1,6 @@
 -- Which call comes next, and what it makes of the guests and of the header.
-use Rattle.std.proofs.Common.{◌≡◌, ◌↔◌, ◌≤◌, inl, inr, ⊎_elim, Bool, true, false, not, Option, Some, None, Result, Ok, Err, rules, ℕ, List, [], ◌∷◌, length, map, length-set, get_or, refl, ap, sym, ◌∙◌, subst, arith}
-use Rattle.std.specs.Prelude.{slice_get, slice_set, position, if◌then◌else◌, ◌||◌, ◌&&◌}
+use Rattle.std.proofs.Common.{◌≡◌, ◌↔◌, ◌≤◌, inl, inr, ⊎_elim, Bool, true, false, Option, Some, None, Result, Ok, ℕ, List, [], ◌∷◌, length, map, length-set, get_or, refl, ap, sym, ◌∙◌, subst, arith}
+use Rattle.std.specs.Prelude.{slice_get, slice_set, position, if◌then◌else◌, ◌||◌}
 use Rattle.std.specs.List.{list_any, position_or_len}
 use Rattle.std.proofs.lemmas.List.{length-map}
 use Rattle.std.proofs.lemmas.Grind.{common_steps}
@@ -8,7 +8,7 @@ use Rattle.std.proofs.lemmas.List.Sums.{fails_before_first}
 use Rattle.std.proofs.lemmas.List.Quantifiers.{position-Some}
 use Rattle.std.proofs.lemmas.List.Folds.{list_any_at, list_any_none}
 use Rattle.std.proofs.lemmas.Option.{slice_get-get_or, slice_get_within, get_or_from_slice_get}
-use Rattle.disk.specs.Disk.{DiskState, DiskCall, Read, Write, Sync, Effect, during, Within, Still, Then}
+use Rattle.disk.specs.Disk.{DiskState, DiskCall, Write, Sync, Effect, during, Within, Still, Then}
 use Rattle.flusher.specs.declared.guest.Guest.{Guest}
 use Rattle.flusher.specs.declared.slot.Slot.{Slot}
 use Rattle.flusher.specs.declared.guest.Turn.{Turn}
@@ -18,11 +18,10 @@ use Rattle.flusher.specs.declared.plan.Plan.{Plan}
 use Rattle.flusher.specs.declared.plan.Plan.TheVariants.{WriteOf, SyncAll, Nothing}
 use Rattle.flusher.specs.declared.progress.Made.{Made}
 use Rattle.flusher.specs.declared.progress.Made.TheVariants as made
-use Rattle.flusher.specs.Progress.{Progress, Wrote, Synced, Idle, with_marks}
+use Rattle.flusher.specs.Progress.{Progress, Synced, Idle, with_marks}
 use Rattle.flusher.specs.declared.progress.StoreFault.{StoreFault}
-use Rattle.flusher.specs.Phase.{has_write}
 use Rattle.flusher.specs.Slot.{is_empty, slot_write, slot_writes, slot_awaits}
-use Rattle.flusher.specs.Pair.{behind_writes, turn_by, turn_of, has_turn, write_in, region_of, side_of, side_behind, guest_write, guest_has_write, guest_awaits, guest_after_write, guest_after_sync}
+use Rattle.flusher.specs.Pair.{turn_of, write_in, region_of, side_behind, guest_write, guest_has_write, guest_awaits, guest_after_write, guest_after_sync}
 use Rattle.flusher.specs.Marks.{marks_of}
 use Rattle.flusher.specs.Round.{plan_at, planned, AllEmpty, Ends, Round, settles, MovedBy, Moves, FrontStays}
 use Rattle.flusher.specs.Store.{AllFit}
@@ -35,58 +34,22 @@ use Rattle.flusher.proofs.Writes.{write_fits, within}
 
 -- a slot is empty where it neither writes nor waits
 empty_of : (slot : Option Slot) → slot_writes slot ≡ false → slot_awaits slot ≡ false → is_empty slot ≡ true
-empty_of None w a = refl
-empty_of (Some s) w a = absurd (let n = ap not w in cc)
-
-quiet_slot : (slot : Option Slot) → is_empty slot ≡ true → (slot_writes slot ≡ false) × (slot_awaits slot ≡ false)
-quiet_slot None is = (refl, refl)
-quiet_slot (Some s) is = absurd (cc)
-
-no_turn : (a b : Bool) → has_turn (turn_by a b) ≡ false → (a ≡ false) × (b ≡ false)
-no_turn true b is = absurd (cc)
-no_turn false true is = absurd (cc)
-no_turn false false is = (refl, refl)
+empty_of slot w a = grind arith
 
 neither : (a b : Bool) → (a || b) ≡ false → (a ≡ false) × (b ≡ false)
-neither true b is = absurd (cc)
-neither false true is = absurd (cc)
-neither false false is = (refl, refl)
-
--- behind a slot that is empty nothing waits for a turn
-behind_empty : (first behind : Option Slot) → is_empty first ≡ true → behind_writes first behind ≡ false → slot_awaits behind ≡ false → is_empty behind ≡ true
-behind_empty first None is w a = refl
-behind_empty None (Some s) is w a = absurd (by (has_write s.phase) w a)
-  where
-    by : (b : Bool) → (b && true) ≡ false → not b ≡ false → ⊥
-    by true w a = absurd (cc)
-    by false w a = absurd (cc)
-behind_empty (Some f) (Some s) is w a = absurd (cc)
+neither a b is = grind arith
 
 empty_guest : (x : Guest) → guest_has_write x ≡ false → guest_awaits x ≡ false → (is_empty x.slot ≡ true) × (is_empty x.behind ≡ true)
-empty_guest x w a =
-    let turns = no_turn (slot_writes x.slot) (behind_writes x.slot x.behind) w in
-    let waits = neither (slot_awaits x.slot) (slot_awaits x.behind) a in
-    let first = empty_of x.slot turns.0 waits.0 in
-    (first, behind_empty x.slot x.behind first turns.1 waits.1)
-
-none_behind : (first behind : Option Slot) → is_empty behind ≡ true → behind_writes first behind ≡ false
-none_behind first None is = refl
-none_behind first (Some s) is = absurd (cc)
+empty_guest x w a = grind arith
 
 quiet : (x : Guest) → (is_empty x.slot ≡ true) × (is_empty x.behind ≡ true) → (guest_has_write x ≡ false) × (guest_awaits x ≡ false)
-quiet x is =
-    let one = quiet_slot x.slot is.0 in
-    let two = quiet_slot x.behind is.1 in
-    let behind = none_behind x.slot x.behind is.1 in (
-      ap (λ (b : Bool). has_turn (turn_by b (behind_writes x.slot x.behind))) one.0 ∙ ap (λ (b : Bool). has_turn (turn_by false b)) behind,
-      ap (λ (b : Bool). b || slot_awaits x.behind) one.1 ∙ two.1,
-    )
+quiet x is = grind arith
 
 no_write : (xs : List Guest) → position guest_has_write xs ≡ None → (g : ℕ) (x : Guest) → slice_get xs g ≡ Some x → guest_has_write x ≡ false
 no_write xs none g x at =
     let past : length xs ≤ position_or_len guest_has_write xs = grind (arith, common_steps) in
     let below = slice_get_within xs g x at in
-    sym (ap guest_has_write (get_or_from_slice_get xs g x x at)) ∙ fails_before_first guest_has_write xs g x (omega (arith, past, below))
+    sym (ap guest_has_write (get_or_from_slice_get xs g x x at)) ∙ fails_before_first guest_has_write xs g x (omega arith)
 
 no_wait : (xs : List Guest) → list_any guest_awaits xs ≡ false → (g : ℕ) (x : Guest) → slice_get xs g ≡ Some x → guest_awaits x ≡ false
 no_wait xs none g x at = of (guest_awaits x) refl
@@ -96,9 +59,7 @@ no_wait xs none g x at = of (guest_awaits x) refl
     of true is = absurd (let found = list_any_at guest_awaits xs g x (slice_get_within xs g x at) (ap guest_awaits (get_or_from_slice_get xs g x x at) ∙ is) in cc)
 
 plan_nothing : (o : Option ℕ) (b : Bool) → plan_at o b ≡ Nothing → (o ≡ None) × (b ≡ false)
-plan_nothing (Some g) b e = absurd (cc)
-plan_nothing None true e = absurd (cc)
-plan_nothing None false e = (refl, refl)
+plan_nothing o b e = grind arith
 
 none_writes : (xs : List Guest) → AllEmpty xs → position guest_has_write xs ≡ None
 none_writes [] all = refl
@@ -123,79 +84,35 @@ nothing_where_empty xs = (
 -- 2. The guests
 
 module _ {D : Type 0} (makes : D → DiskCall → D → Type 0) (od : D) (old : List Guest) (result : Result Progress StoreFault) (nd : D) (new : List Guest) (broken : Bool) where
-  moves_none : settles result ≡ false → new ≡ old → (g : ℕ) (x y : Guest) → slice_get old g ≡ Some x → slice_get new g ≡ Some y → MovedBy (settles result) x y
-  moves_none none same g x y before after =
-      let e : x ≡ y = (let f : slice_get old g ≡ Some y = subst (λ (l : List Guest). slice_get l g ≡ Some y) same after in cc) in
-      subst (λ (b : Bool). MovedBy b x y) (sym none) (inl (sym e))
-
   moves_write : (n : ℕ) (z : Guest) → slice_get old n ≡ Some z → new ≡ slice_set old n (guest_after_write z) → settles result ≡ false
       → (g : ℕ) (x y : Guest) → slice_get old g ≡ Some x → slice_get new g ≡ Some y → MovedBy (settles result) x y
   moves_write n z is slots none g x y before after = subst (λ (b : Bool). MovedBy b x y) (sym none) (⊎_elim
       (λ e. (let same : z ≡ x = (let f : slice_get old n ≡ Some x = ap (slice_get old) (sym e.0) ∙ before in cc) in inr (e.1 ∙ ap guest_after_write same)))
-      (λ e. (let same : x ≡ y = (let f = e.1 in cc) in inl (sym same)))
+      (λ e. (let same : x ≡ y = (cc) in inl (sym same)))
       (set_cases old n g (guest_after_write z) y (subst (λ (l : List Guest). slice_get l g ≡ Some y) slots after)))
 
   moves_sync : new ≡ map guest_after_sync old → settles result ≡ true
       → (g : ℕ) (x y : Guest) → slice_get old g ≡ Some x → slice_get new g ≡ Some y → MovedBy (settles result) x y
-  moves_sync slots all g x y before after = subst (λ (b : Bool). MovedBy b x y) (sym all) (
-      let from = map_cases guest_after_sync old g y (subst (λ (l : List Guest). slice_get l g ≡ Some y) slots after) in
-      let same : from.0 ≡ x = (let f = from.1 in cc) in
-      from.2 ∙ ap guest_after_sync same)
-
-  wrote_ends : (ok : Bool) → Ends ok Wrote result broken → (settles result ≡ false) × (result ≡ Ok Idle → ⊥) × ((told : List ℕ) → result ≡ Ok (Synced told) → ⊥)
-  wrote_ends true e = (ap settles e.0, (λ is. absurd (let f = e.0 in cc)), λ told is. absurd (let f = e.0 in cc))
-  wrote_ends false e = (ap settles e.0, (λ is. absurd (let f = e.0 in cc)), λ told is. absurd (let f = e.0 in cc))
+  moves_sync slots all g x y before after = grind (arith, map_cases)
 
   synced_moves : (ok : Bool) → new ≡ (if ok then map guest_after_sync old else old) → Ends ok (Synced (marks_of new)) result broken → Moves result old new
-  synced_moves true slots e = record {
-    count = ap length slots ∙ length-map old guest_after_sync;
-    each = moves_sync slots (ap settles e.0);
-    idle = λ is. absurd (let f = e.0 in cc);
-    marks = λ told is. (let f = e.0 in cc);
-  }
-  synced_moves false slots e = record {
-    count = ap length slots;
-    each = moves_none (ap settles e.0) slots;
-    idle = λ is. slots;
-    marks = λ told is. absurd (let f = e.0 in cc);
-  }
+  synced_moves ok slots e = grind (arith, length-map, moves_sync)
 
   moves_by_plan : (p : Plan) → Round makes p od old result nd new broken → Moves result old new
-  moves_by_plan (WriteOf g) r = (let w = r.wrote in let e = wrote_ends r.ok r.ends in record {
-    count = ap length w.slots ∙ length-set old g (guest_after_write w.guest);
-    each = moves_write g w.guest w.is w.slots e.0;
-    idle = λ is. absurd (e.1 is);
-    marks = λ told is. absurd (e.2 told is);
-  })
-  moves_by_plan SyncAll r = synced_moves r.ok r.synced.slots r.ends
-  moves_by_plan Nothing r = record {
-    count = ap length r.2;
-    each = moves_none (ap settles r.0) r.2;
-    idle = λ is. r.2;
-    marks = λ told is. absurd (let f = r.0 in cc);
-  }
+  moves_by_plan p r = grind (arith, length-set, moves_write, synced_moves)
 
   pub round_moves : Round makes (planned old) od old result nd new broken → Moves result old new
   round_moves = moves_by_plan (planned old)
 
-  sync_not_idle : (ok : Bool) → Ends ok (Synced (marks_of new)) result broken → result ≡ Ok Idle → ⊥
-  sync_not_idle true e is = absurd (let f = e.0 in cc)
-  sync_not_idle false e is = absurd (let f = e.0 in cc)
-
   idle_plan : (p : Plan) → Round makes p od old result nd new broken → result ≡ Ok Idle ↔ p ≡ Nothing
-  idle_plan (WriteOf g) r = ((λ is. absurd ((wrote_ends r.ok r.ends).1 is)), λ is. absurd (cc))
-  idle_plan SyncAll r = ((λ is. absurd (sync_not_idle r.ok r.ends is)), λ is. absurd (cc))
-  idle_plan Nothing r = ((λ is. refl), λ is. r.0)
+  idle_plan p r = grind arith
 
   pub round_idle : Round makes (planned old) od old result nd new broken → result ≡ Ok Idle ↔ AllEmpty old
   round_idle r = (let one = idle_plan (planned old) r in let two = nothing_where_empty old in ((λ is. two.0 (one.0 is)), λ all. one.1 (two.1 all)))
 
 -- what was told is what was made
 pub made_idle : (guests : List Guest) (r : Result Made StoreFault) → with_marks guests r ≡ Ok Idle → r ≡ Ok made.Idle
-made_idle guests (Ok made.Idle) is = refl
-made_idle guests (Ok made.Wrote) is = search rules
-made_idle guests (Ok made.Synced) is = search rules
-made_idle guests (Err e) is = search rules
+made_idle guests r is = grind arith
 
 -- 3. The header
 
@@ -209,14 +126,11 @@ module _ {D : Type 0} (state : D → DiskState) (makes : D → DiskCall → D �
 
   -- a guest's write goes behind the header
   behind_in : (t : Turn) (g : ℕ) (x : Guest) (at : ℕ) (bytes : List ℕ) → slice_get old g ≡ Some x → write_in t x ≡ Some (at, bytes) → 1024 ≤ at
-  behind_in First g x at bytes is next =
-      let f = fits.each g x is in
-      let from = (within (region_of x) (side_of x) (side_ok (region_of x) x.side) (slot_write x.slot) (at, bytes) (write_fits (region_of x) (side_of x) x.slot (at, bytes) f.slot_fits next) next).0 in
-      omega (arith, from, f.behind)
+  behind_in First g x at bytes is next = grind (arith, write_fits)
   behind_in Second g x at bytes is next =
       let f = fits.each g x is in
       let from = (within (region_of x) (side_behind x) (side_ok (region_of x) (other_side x.side)) (slot_write x.behind) (at, bytes) (write_fits (region_of x) (side_behind x) x.behind (at, bytes) f.behind_fits next) next).0 in
-      omega (arith, from, f.behind)
+      omega (arith, f.behind)
   behind_in Neither g x at bytes is next = absurd (cc)
 
   goes_behind : (g : ℕ) (x : Guest) (at : ℕ) (bytes : List ℕ) → slice_get old g ≡ Some x → guest_write x ≡ Some (at, bytes) → 1024 ≤ at
@@ -226,8 +140,7 @@ module _ {D : Type 0} (state : D → DiskState) (makes : D → DiskCall → D �
   in_write at bytes ok le k lt = (refl, λ un. not_in at (length bytes) k ((state od).unsynced k) (inl (omega (arith, le, lt))) un)
 
   after_call : (at : ℕ) (bytes : List ℕ) (ok : Bool) → 1024 ≤ at → makes od (Write at bytes ok) nd → AtFront (state nd)
-  after_call at bytes ok le made k lt = (let w = effect od nd (Write at bytes ok) made in
-      (w.outside known k (inl (omega (arith, le, lt))), λ un. w.unsynced known k (inl (omega (arith, le, lt))) un))
+  after_call at bytes ok le made k lt = grind arith
 
   front_by_plan : (p : Plan) → Round makes p od old result nd new broken → Within state makes AtFront od nd
   front_by_plan (WriteOf g) r = (let w = r.wrote in let le = goes_behind g w.guest w.at w.bytes w.is w.next in
@@ -241,13 +154,10 @@ module _ {D : Type 0} (state : D → DiskState) (makes : D → DiskCall → D �
 
 -- No call makes a disk faithful, or takes it away.
 counts_faithful : (a b : DiskState) (call : DiskCall) → Effect a call b → b.faithful ≡ a.faithful
-counts_faithful a b (Read good) e = e.counts.faithful
-counts_faithful a b (Write at bytes good) e = e.counts.faithful
-counts_faithful a b (Sync good) e = e.counts.faithful
+counts_faithful a b call e = grind arith
 
 pub round_faithful : {D : Type 0} (shows : D → DiskState) (makes : D → DiskCall → D → Type 0) → ((a b : D) (call : DiskCall) → makes a call b → Effect (shows a) call (shows b))
     → (p : Plan) (od : D) (old : List Guest) (result : Result Progress StoreFault) (nd : D) (new : List Guest) (broken : Bool) → Round makes p od old result nd new broken → (shows nd).faithful ≡ (shows od).faithful
-round_faithful shows makes effect (WriteOf g) od old result nd new broken r =
-    counts_faithful (shows od) (shows nd) (Write r.wrote.at r.wrote.bytes r.ok) (effect od nd (Write r.wrote.at r.wrote.bytes r.ok) r.wrote.call)
+round_faithful shows makes effect (WriteOf g) od old result nd new broken r = grind arith
 round_faithful shows makes effect SyncAll od old result nd new broken r = counts_faithful (shows od) (shows nd) (Sync r.ok) (effect od nd (Sync r.ok) r.synced.call)
 round_faithful shows makes effect Nothing od old result nd new broken r = ap (λ d. (shows d).faithful) r.1

@@ -3,10 +3,10 @@ use Rattle.std.proofs.Common.{◌≡◌, ◌≢◌, ◌⊎◌, inl, inr, Bool, t
 use Rattle.std.specs.Prelude.{if◌then◌else◌}
 use Rattle.disk.specs.Content.{Content}
 use Rattle.intent_slots.specs.declared.layout.Side.{Side}
-use Rattle.intent_slots.specs.declared.layout.Side.TheVariants.{A, B}
+use Rattle.intent_slots.specs.declared.layout.Side.TheVariants.{A}
 use Rattle.intent_slots.specs.Layout.{Region, SlotRegion, slot_region, other_side}
 use Rattle.intent_slots.specs.Payload.{Group, Intent, last_of}
-use Rattle.intent_slots.specs.Recovered.{Part, HoldsHome, after}
+use Rattle.intent_slots.specs.Recovered.{Part, HoldsHome}
 use Rattle.flusher.specs.declared.phase.Phase.{Phase}
 use Rattle.flusher.specs.declared.phase.Phase.TheVariants.{Given, Written, Ready, Opening, Open, Applying, Applied, Closing}
 use Rattle.flusher.specs.declared.slot.Slot.{Slot}
@@ -22,12 +22,10 @@ use Rattle.flusher.proofs.Turns.{quiet_behind}
 -- 1. Words
 
 pub or_none : (o : Option Group) → or_else o None ≡ o
-or_none None = refl
-or_none (Some i) = refl
+or_none o = grind arith
 
 pub twice : (side : Side) → other_side (other_side side) ≡ side
-twice A = refl
-twice B = refl
+twice side = grind arith
 
 -- a sync lets a slot go once its gate is shut, else it stays
 pub record Stays (s : Slot) : Type 0 where
@@ -57,99 +55,39 @@ stays_or_closes s = by s.phase refl
     by Closing here = inl here
 
 pub stays_not : (s : Slot) → Stays s → s.phase ≢ Closing
-stays_not s st is = (let gone : synced s.phase s.intent.group ≡ None = ap (λ (v : Phase). synced v s.intent.group) is in let there = st.is in absurd (cc))
+stays_not s st is = (let gone : synced s.phase s.intent.group ≡ None = ap (λ (v : Phase). synced v s.intent.group) is in absurd (cc))
 
 -- 2. Marks
 
 mark_with : (o : Option Group) (n : ℕ) (p : Part) → n ≡ sequence_of_part p → mark_after o n ≡ sequence_of_part (settled_with o p)
-mark_with None n p is = is
-mark_with (Some i) n p is = refl
+mark_with o n p is = grind arith
 
 -- an intent that isn't settled still follows
 follows_first : (n : ℕ) (phase : Phase) (i : Intent) (o : Option Group) → (is_closing phase ≡ false → o ≡ None) → Follows n (if is_settled phase then None else Some i)
     → Follows (mark_after (or_else (if is_opening phase then Some i.group else None) o) n) (pending_of (in_phase i (synced phase i.group)))
-follows_first n Given i o none f = subst (λ (v : Option Group). i.group.first ≡ mark_after v n) (sym (none refl)) f
-follows_first n Written i o none f = subst (λ (v : Option Group). i.group.first ≡ mark_after v n) (sym (none refl)) f
-follows_first n Ready i o none f = subst (λ (v : Option Group). i.group.first ≡ mark_after v n) (sym (none refl)) f
-follows_first n Opening i o none f = tt
-follows_first n (Open k) i o none f = tt
-follows_first n Applying i o none f = tt
-follows_first n Applied i o none f = tt
-follows_first n Closing i o none f = tt
+follows_first n phase i o none f = grind arith
 
 -- and so does the one behind it
 abbrev after_pending : ℕ → Phase → Intent → Option Group → ℕ
 after_pending n phase i o = mark_after (or_else (if is_opening phase then Some i.group else None) o) n + length (entries_in (pending_of (in_phase i (synced phase i.group))))
 
-pending_same : (n : ℕ) (phase : Phase) (i : Intent) (first : ℕ) → first ≡ last_of i.group + 1 → first ≡ n + length (entries_in (if is_settled phase then None else Some i)) → first ≡ after_pending n phase i None
-pending_same n Given i first chained is = is
-pending_same n Written i first chained is = is
-pending_same n Ready i first chained is = is
-pending_same n Opening i first chained is = omega (arith, chained)
-pending_same n (Open k) i first chained is = is
-pending_same n Applying i first chained is = is
-pending_same n Applied i first chained is = is
-pending_same n Closing i first chained is = is
-
 follows_next : (n : ℕ) (first : Phase) (i : Intent) (phase : Phase) (j : Intent) → j.group.first ≡ last_of i.group + 1 → Follows (n + length (entries_in (if is_settled first then None else Some i))) (if is_settled phase then None else Some j)
     → Follows (after_pending n first i (if is_opening phase then Some j.group else None)) (pending_of (in_phase j (synced phase j.group)))
-follows_next n first i Given j chained f = pending_same n first i j.group.first chained f
-follows_next n first i Written j chained f = pending_same n first i j.group.first chained f
-follows_next n first i Ready j chained f = pending_same n first i j.group.first chained f
-follows_next n first i Opening j chained f = tt
-follows_next n first i (Open k) j chained f = tt
-follows_next n first i Applying j chained f = tt
-follows_next n first i Applied j chained f = tt
-follows_next n first i Closing j chained f = tt
+follows_next n first i phase j chained f = grind arith
 
 chained_phases : (i j : Intent) (o p : Option Phase) → Chained (Some i) (Some j) → Chained (intent_of (in_phase i o)) (intent_of (in_phase j p))
-chained_phases i j None p ch = tt
-chained_phases i j (Some a) None ch = tt
-chained_phases i j (Some a) (Some b) ch = ch
-
-still_settled : (phase next : Phase) (i : Group) → synced phase i ≡ Some next → is_settled phase ≡ true → is_settled next ≡ true
-still_settled Given next i s b = absurd (cc)
-still_settled Written next i s b = absurd (cc)
-still_settled Ready next i s b = absurd (cc)
-still_settled Opening next i s b = absurd (cc)
-still_settled (Open k) next i s b = (let e : Open k ≡ next = cc in sym (ap is_settled e))
-still_settled Applying next i s b = (let e : Applied ≡ next = cc in sym (ap is_settled e))
-still_settled Applied next i s b = (let e : Applied ≡ next = cc in sym (ap is_settled e))
-still_settled Closing next i s b = absurd (cc)
+chained_phases i j o p ch = grind arith
 
 synced_besides : (first phase : Phase) (i j : Intent) (next : Phase) → synced first i.group ≡ Some next → PhaseBesides first phase → Besides (Some (record { phase = next; intent = i })) (in_phase j (synced phase j.group))
-synced_besides first Given i j next is b = tt
-synced_besides first Written i j next is b = tt
-synced_besides first Ready i j next is b = tt
-synced_besides first Opening i j next is b = absurd (let gone : synced first i.group ≡ None = ap (λ (v : Phase). synced v i.group) b in cc)
-synced_besides first (Open k) i j next is b = still_settled first next i.group is b
-synced_besides first Applying i j next is b = absurd b
-synced_besides first Applied i j next is b = absurd b
-synced_besides first Closing i j next is b = absurd b
+synced_besides first phase i j next is b = grind arith
 
 module _ (x : Guest) (n : ℕ) where
   abbrev InOrder : Option Slot → Option Slot → Type 0
   InOrder slot behind = Besides (moved_up x n slot behind).slot (moved_up x n slot behind).behind
 
-  one_in_order : (o : Option Slot) → InOrder o None
-  one_in_order None = tt
-  one_in_order (Some s) = tt
-
-  next_in_order : (o : Option Slot) → InOrder None o
-  next_in_order None = tt
-  next_in_order (Some s) = tt
-
   -- the slot behind is as far as the first one lets it be
   pub synced_order : (slot behind : Option Slot) → Besides slot behind → InOrder (after_sync slot) (after_sync behind)
-  synced_order None None b = tt
-  synced_order None (Some s) b = absurd b
-  synced_order (Some f) None b = one_in_order (after_sync (Some f))
-  synced_order (Some f) (Some s) b = elim (stays_or_closes f) [
-    | inl closing ↦ (
-        let gone : after_sync (Some f) ≡ None = ap (λ (v : Phase). in_phase f.intent (synced v f.intent.group)) closing in
-        subst (λ (o : Option Slot). InOrder o (after_sync (Some s))) (sym gone) (next_in_order (after_sync (Some s))))
-    | inr st ↦ subst (λ (o : Option Slot). InOrder o (after_sync (Some s))) (sym (stays_there f st)) (synced_besides f.phase s.phase f.intent s.intent st.next st.is b)
-  ]
+  synced_order slot behind b = grind arith
 
 -- 3. The rows
 
@@ -157,47 +95,23 @@ abbrev opening_if : Bool → Group → Option Group
 opening_if opening i = if opening then Some i else None
 
 settled_quiet : (phase : Phase) → is_settled phase ≡ true → is_opening phase ≡ false
-settled_quiet Given is = absurd (cc)
-settled_quiet Written is = absurd (cc)
-settled_quiet Ready is = absurd (cc)
-settled_quiet Opening is = absurd (cc)
-settled_quiet (Open k) is = refl
-settled_quiet Applying is = refl
-settled_quiet Applied is = refl
-settled_quiet Closing is = refl
+settled_quiet phase is = grind arith
 
 quiet_is : (opening : Bool) (i : Group) → opening_if opening i ≡ None → opening ≡ false
-quiet_is true i is = absurd (cc)
-quiet_is false i is = refl
+quiet_is opening i is = grind arith
 
 same_leads : (o : Option Group) (between p : Part) → between ≡ p → settled_with o between ≡ settled_with (or_else o None) p
 same_leads o between p is = ap (settled_with o) is ∙ ap (λ (v : Option Group). settled_with v p) (sym (or_none o))
 
 leads_synced : (first phase : Phase) (i : Group) (j : Intent) (between p : Part) → first ≢ Closing → PhaseBesides first phase → LeadsBy (is_settled phase) between j.group p
     → LeadsTo (settled_with (opening_if (is_opening first) i) between) (in_phase j (synced phase j.group)) (settled_with (or_else (opening_if (is_opening first) i) (opening_if (is_opening phase) j.group)) p)
-leads_synced first Given i j between p un b l = same_leads (opening_if (is_opening first) i) between p l
-leads_synced first Written i j between p un b l = same_leads (opening_if (is_opening first) i) between p l
-leads_synced first Ready i j between p un b l = same_leads (opening_if (is_opening first) i) between p l
-leads_synced first Opening i j between p un b l = absurd (un b)
-leads_synced first (Open k) i j between p un b l = subst (λ (v : Bool). after (settled_with (opening_if v i) between) j.group ≡ settled_with (or_else (opening_if v i) None) p) (sym (settled_quiet first b)) l
-leads_synced first Applying i j between p un b l = absurd b
-leads_synced first Applied i j between p un b l = absurd b
-leads_synced first Closing i j between p un b l = absurd b
+leads_synced first phase i j between p un b l = grind arith
 
 pub from_row : (pair : Bool) (region : Region) (side : SlotRegion) (s : Slot) (c : Content) → Behind pair region side (Some s) c → BehindRow region side s.phase s.intent.group c
-from_row false region side s c b = b
-from_row true region side s c b = b
+from_row pair region side s c b = grind arith
 
 shut_behind : (pair : Bool) (region : Region) (side : SlotRegion) (c : Content) → IsShut side c → Behind pair region side None c
-shut_behind false region side c shut = tt
-shut_behind true region side c shut = shut
-
--- both empty: slot A is the first
-both_shut : (region : Region) (c : Content) (side : Side) (pair : Bool) → IsShut (slot_region region side) c → Behind pair region (slot_region region (other_side side)) None c → (pair ≡ false → side ≡ A)
-    → IsShut (slot_region region A) c × Behind pair region (slot_region region B) None c
-both_shut region c A pair mine theirs single = (mine, theirs)
-both_shut region c B true mine theirs single = (theirs, mine)
-both_shut region c B false mine theirs single = absurd (let e : B ≡ A = single refl in cc)
+shut_behind pair region side c shut = grind arith
 
 -- the rows of both slots, and the marks
 abbrev pub two_row : Part → Guest → Content → Type 0
@@ -210,13 +124,7 @@ module _ (p : Part) (x : Guest) (c : Content) where
 
   rests : IsShut (side_of x) c → HoldsHome x.extent c p → Behind x.paired x.extent (side_behind x) None c → x.mark ≡ sequence_of_part p → (x.paired ≡ false → x.side ≡ A)
       → two_row p (moved_up x x.mark None None) c × guest_seen p (moved_up x x.mark None None) c
-  rests mine held theirs mark single = (let shut = both_shut x.extent c x.side x.paired mine theirs single in (
-    (
-      record { between = p; leads = refl; row = (shut.0, held); behind = shut.1 },
-      record { mark = mark; follows = tt; next_follows = tt; ordered = record { chained = tt; besides = tt; single = λ un. record { alone = refl; side = refl } } },
-    ),
-    record { between = p; leads = refl; row = (shut.0, held); seen = tt; behind = shut.1; behind_seen = tt },
-  ))
+  rests mine held theirs mark single = grind arith
 
   empty_goes : Goes None None
   empty_goes r s = rests s.row.0 (subst (HoldsHome x.extent c) s.leads s.row.1) s.behind r.1.mark (λ un. (r.1.ordered.single un).side)

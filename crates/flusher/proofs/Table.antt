@@ -1,11 +1,11 @@
 -- The rows of one guest, as a round asks for them.
-use Rattle.std.proofs.Common.{◌≡◌, inl, inr, Bool, true, false, Option, Some, None, ℕ, ◌+◌, ◌≤◌, List, length, refl, ap, sym, ◌∙◌, subst, arith}
+use Rattle.std.proofs.Common.{◌≡◌, inl, Bool, true, false, Option, Some, None, ℕ, ◌+◌, ◌≤◌, List, length, refl, ap, sym, ◌∙◌, subst, arith}
 use Rattle.std.specs.Prelude.{if◌then◌else◌, ◌==◌}
 use Rattle.disk.specs.Content.{Content}
 use Rattle.intent_slots.specs.declared.layout.Side.{Side}
 use Rattle.intent_slots.specs.declared.layout.Side.TheVariants.{A}
 use Rattle.intent_slots.specs.Layout.{Region, slot_region, other_side, end_of}
-use Rattle.intent_slots.specs.Payload.{Group, Intent, last_of}
+use Rattle.intent_slots.specs.Payload.{Group, Intent}
 use Rattle.intent_slots.specs.Recovered.{Part, StandsFor, StandsIn, is_paired}
 use Rattle.intent_slots.proofs.Bytes.{SameOn}
 use Rattle.flusher.specs.declared.phase.Phase.{Phase}
@@ -15,21 +15,20 @@ use Rattle.flusher.specs.declared.guest.Guest.{Guest}
 use Rattle.flusher.specs.declared.guest.Turn.{Turn}
 use Rattle.flusher.specs.declared.guest.Turn.TheVariants.{First, Second, Neither}
 use Rattle.flusher.specs.Phase.{is_opening, is_settled}
-use Rattle.flusher.specs.Slot.{slot_write, slot_writes, intent_of, pending_of, opening_in, after_write, after_sync}
-use Rattle.flusher.specs.Pair.{region_of, side_of, side_behind, entries_in, opening_of, or_else, behind_writes, turn_of, write_in, moved_in, guest_write, guest_after_write, guest_after_sync, moved_up, marked}
+use Rattle.flusher.specs.Slot.{slot_write, slot_writes, intent_of, pending_of, opening_in, after_sync}
+use Rattle.flusher.specs.Pair.{region_of, side_of, side_behind, entries_in, or_else, behind_writes, turn_of, write_in, moved_in, guest_write, guest_after_write, guest_after_sync, moved_up, marked}
 use Rattle.flusher.specs.SlotInvariant.{PhaseRow, Row, guest_row, guest_seen, guest_settled, PairRow, PairSeen, Behind, LeadsTo, LeadsBy, PhaseBesides, Besides, Chained, BeforeOrAfter, Follows, IsOrdered, IsMarked, IsOfVersion, IsKept, sequence_of_part}
 use Rattle.flusher.specs.Store.{IntentFits}
 use Rattle.flusher.proofs.Rows.{row_frame, seen_frame, Keeps, IsWritten, own_write, own_seen, row_stands}
 use Rattle.flusher.proofs.Writes.{SameOutside, WriteFits, row_fits, write_fits, within, keeps, puts}
-use Rattle.flusher.proofs.Pairs.{behind_row_fits, spares, spares_frame, behind_beside, behind_seen_beside, one_stands, both_move, both_settled}
-use Rattle.flusher.proofs.Turns.{side_ok, turn_behind, pending_written, intent_written, leads_written, first_writes_besides, behind_writes_besides, behind_keeps_first, behind_keeps_first_seen, behind_goes_on, behind_goes_on_seen, may_first, may_behind}
-use Rattle.flusher.proofs.Syncs.{or_none, from_row, sync_goes}
+use Rattle.flusher.proofs.Pairs.{spares_frame, behind_beside, behind_seen_beside, one_stands, both_move, both_settled}
+use Rattle.flusher.proofs.Turns.{side_ok, turn_behind, leads_written, behind_keeps_first, behind_keeps_first_seen, behind_goes_on, behind_goes_on_seen}
+use Rattle.flusher.proofs.Syncs.{or_none, sync_goes}
 
 -- 1. The write that comes next
 
 behind_fits : (region : Region) (side : Side) (slot : Option Slot) (pair : Bool) (c : Content) → Behind pair region (slot_region region side) slot c → IntentFits region.size (intent_of slot)
-behind_fits region side None pair c b = tt
-behind_fits region side (Some s) pair c b = behind_row_fits region (slot_region region side) s.phase s.intent.group c (from_row pair region (slot_region region side) s c b)
+behind_fits region side slot pair c b = grind arith
 
 module _ (x : Guest) (at : ℕ) (bytes : List ℕ) where
   abbrev region : Region
@@ -47,43 +46,19 @@ module _ (x : Guest) (at : ℕ) (bytes : List ℕ) where
   range_in Neither p c r next = absurd (cc)
 
 pub t_range : (p : Part) (x : Guest) (c : Content) (at : ℕ) (bytes : List ℕ) → guest_row p x c → guest_write x ≡ Some (at, bytes) → ((region_of x).base ≤ at) × (at + length bytes ≤ end_of (region_of x)) × (1024 ≤ at)
-t_range p x c at bytes r next = (let in_it = range_in x at bytes (turn_of x) p c r.0 next in let far = r.2.behind in (in_it.0, in_it.1, omega (arith, in_it.0, far)))
+t_range p x c at bytes r next = (let in_it = range_in x at bytes (turn_of x) p c r.0 next in (in_it.0, in_it.1, omega (arith, in_it.0)))
 
 pub same_version : (x : Guest) (c d : Content) → c 512 ≡ d 512 → IsOfVersion x c → IsOfVersion x d
 unfolding is_paired
 same_version x c d same v = record { behind = v.behind; version = v.version ∙ ap (λ (n : ℕ). n == 2) same }
 
 moved_version : (t : Turn) (x : Guest) (c : Content) → IsOfVersion x c → IsOfVersion (moved_in t x) c
-moved_version First x c v = record { behind = v.behind; version = v.version }
-moved_version Second x c v = record { behind = v.behind; version = v.version }
-moved_version Neither x c v = v
+moved_version t x c v = grind arith
 
 -- 2. Marks
 
--- a write settles nothing
-first_marks : (p : Part) (x : Guest) → IsMarked p x → IsMarked p (moved_in First x)
-first_marks p x m = record {
-  mark = m.mark;
-  follows = subst (Follows x.mark) (sym (pending_written x.slot)) m.follows;
-  next_follows = subst (λ (o : Option Intent). Follows (x.mark + length (entries_in o)) (pending_of x.behind)) (sym (pending_written x.slot)) m.next_follows;
-  ordered = record {
-    chained = subst (λ (o : Option Intent). Chained o (intent_of x.behind)) (sym (intent_written x.slot)) m.ordered.chained;
-    besides = first_writes_besides x.slot x.behind m.ordered.besides;
-    single = λ un. record { alone = (m.ordered.single un).alone; side = (m.ordered.single un).side };
-  };
-}
-
 second_marks : (p : Part) (x : Guest) → behind_writes x.slot x.behind ≡ true → IsMarked p x → IsMarked p (moved_in Second x)
-second_marks p x w m = record {
-  mark = m.mark;
-  follows = m.follows;
-  next_follows = subst (Follows (x.mark + length (entries_in (pending_of x.slot)))) (sym (pending_written x.behind)) m.next_follows;
-  ordered = record {
-    chained = subst (Chained (intent_of x.slot)) (sym (intent_written x.behind)) m.ordered.chained;
-    besides = behind_writes_besides x.slot x.behind m.ordered.besides w;
-    single = λ un. record { alone = ap after_write (m.ordered.single un).alone; side = (m.ordered.single un).side };
-  };
-}
+second_marks p x w m = grind arith
 
 -- 3. A write
 
@@ -101,16 +76,7 @@ module _ (x : Guest) (at : ℕ) (bytes : List ℕ) (c d : Content) (out : SameOu
   version_stays far v = same_version x c d (sym (out 512 (inl (omega (arith, far))))) v
 
   write_in_turn : (t : Turn) → turn_of x ≡ t → (p : Part) → write_in t x ≡ Some (at, bytes) → PairRow p x c × IsMarked p x → PairRow p (moved_in t x) d × IsMarked p (moved_in t x)
-  write_in_turn First is p next r =
-      let keep = first_keeps r.0.between r.0.row next in (
-        record {
-          between = r.0.between;
-          leads = r.0.leads;
-          row = own_write area (side_of x) (side_ok area x.side) r.0.between c d x.slot keep r.0.row;
-          behind = behind_beside area c d (side_behind x) (spares area c d x.side (slot_write x.slot) keep) x.paired x.behind r.0.behind;
-        },
-        first_marks p x r.1,
-      )
+  write_in_turn First is p next r = grind (arith, behind_beside, first_keeps, own_write)
   write_in_turn Second is p next r =
       let keep = second_keeps r.0.behind next in
       let w = turn_behind (slot_writes x.slot) (behind_writes x.slot x.behind) is in
@@ -128,17 +94,7 @@ module _ (x : Guest) (at : ℕ) (bytes : List ℕ) (c d : Content) (out : SameOu
   module _ (put : IsWritten d at bytes) where
     seen_in_turn : (t : Turn) → turn_of x ≡ t → (p : Part) → write_in t x ≡ Some (at, bytes) → IsMarked p x → PairSeen p x c → PairSeen p (moved_in t x) d
     seen_in_turn First is p next m s =
-        let keep = first_keeps s.between s.row next in
-        let spare = spares area c d x.side (slot_write x.slot) keep in
-        record {
-          between = s.between;
-          leads = s.leads;
-          row = own_write area (side_of x) (side_ok area x.side) s.between c d x.slot keep s.row;
-          seen = own_seen area (side_of x) (side_ok area x.side) s.between c d x.slot keep
-              (puts area (side_of x) (side_ok area x.side) (slot_write x.slot) at bytes d (first_write_fits x at bytes s.between c s.row next) next put) s.row s.seen;
-          behind = behind_beside area c d (side_behind x) spare x.paired x.behind s.behind;
-          behind_seen = behind_seen_beside area c d (side_behind x) spare x.behind s.behind_seen;
-        }
+        grind (arith, behind_beside, behind_seen_beside, first_keeps, own_seen, own_write, puts)
     seen_in_turn Second is p next m s =
         let keep = second_keeps s.behind next in
         let w = turn_behind (slot_writes x.slot) (behind_writes x.slot x.behind) is in
@@ -190,14 +146,7 @@ module _ (region : Region) (side : Side) (p between : Part) (c : Content) where
   not_single un = absurd (cc)
 
   settled_quiet : (phase : Phase) → is_settled phase ≡ true → is_opening phase ≡ false
-  settled_quiet Given is = absurd (cc)
-  settled_quiet Written is = absurd (cc)
-  settled_quiet Ready is = absurd (cc)
-  settled_quiet Opening is = absurd (cc)
-  settled_quiet (Open k) is = refl
-  settled_quiet Applying is = refl
-  settled_quiet Applied is = refl
-  settled_quiet Closing is = refl
+  settled_quiet phase is = grind arith
 
   both : (f : Slot) (phase : Phase) (j : Intent) → Row region (slot_region region side) between (Some f) c → Behind true region (slot_region region (other_side side)) (Some (record { phase = phase; intent = j })) c
       → LeadsBy (is_settled phase) between j.group p → Chained (Some f.intent) (Some j) → PhaseBesides f.phase phase
@@ -219,36 +168,11 @@ module _ (region : Region) (side : Side) (p between : Part) (c : Content) where
   any_stands : (paired : Bool) (slot behind : Option Slot) → Row region (slot_region region side) between slot c → Behind paired region (slot_region region (other_side side)) behind c
       → LeadsTo between behind p → Chained (intent_of slot) (intent_of behind) → Besides slot behind → (paired ≡ false → (behind ≡ None) × (side ≡ A))
       → StandsAny paired region p (or_else (opening_in slot) (opening_in behind)) c
-  any_stands paired slot None row b l ch be single = alone paired slot row b l (λ un. (single un).1)
-  any_stands paired None (Some s) row b l ch be single = absurd be
-  any_stands false (Some f) (Some s) row b l ch be single = absurd (let is = (single refl).0 in cc)
-  any_stands true (Some f) (Some s) row b l ch be single = both f s.phase s.intent row b l ch be
-
-pub same_above : (p q : Part) (n : ℕ) → n ≡ sequence_of_part p → q ≡ p → n ≤ sequence_of_part q
-same_above p q n is same = (let e = ap sequence_of_part same in omega (arith, is, e))
-
--- neither the partition before an intent nor the one after it is below the mark
-phase_above : (m : ℕ) (phase : Phase) (i : Intent) (g : Group) → Follows m (if is_settled phase then None else Some i) → (if is_opening phase then Some i.group else None) ≡ Some g → m ≤ last_of g + 1
-phase_above m Given i g f is = absurd (cc)
-phase_above m Written i g f is = absurd (cc)
-phase_above m Ready i g f is = absurd (cc)
-phase_above m Opening i g f is = (let e : i.group ≡ g = cc in subst (λ (v : Group). m ≤ last_of v + 1) e (omega (arith, f)))
-phase_above m (Open k) i g f is = absurd (cc)
-phase_above m Applying i g f is = absurd (cc)
-phase_above m Applied i g f is = absurd (cc)
-phase_above m Closing i g f is = absurd (cc)
-
-opening_above : (m : ℕ) (slot : Option Slot) (g : Group) → Follows m (pending_of slot) → opening_in slot ≡ Some g → m ≤ last_of g + 1
-opening_above m None g f is = absurd (cc)
-opening_above m (Some s) g f is = phase_above m s.phase s.intent g f is
+  any_stands paired slot behind row b l ch be single = grind (arith, alone, both)
 
 module _ (p q : Part) (n : ℕ) (slot behind : Option Slot) (is : n ≡ sequence_of_part p) (f : Follows n (pending_of slot)) (g : Follows (n + length (entries_in (pending_of slot))) (pending_of behind)) where
   above_by : (o u : Option Group) → opening_in slot ≡ o → opening_in behind ≡ u → BeforeOrAfter p (or_else o u) q → n ≤ sequence_of_part q
-  above_by None None at there m = same_above p q n is m
-  above_by (Some i) u at there (inl m) = same_above p q n is m
-  above_by (Some i) u at there (inr m) = (let e = ap sequence_of_part m in let le = opening_above n slot i f at in omega (arith, e, le))
-  above_by None (Some j) at there (inl m) = same_above p q n is m
-  above_by None (Some j) at there (inr m) = (let e = ap sequence_of_part m in let le = opening_above (n + length (entries_in (pending_of slot))) behind j g there in omega (arith, e, le))
+  above_by o u at there m = grind arith
 
   above : BeforeOrAfter p (or_else (opening_in slot) (opening_in behind)) q → n ≤ sequence_of_part q
   above = above_by (opening_in slot) (opening_in behind) refl refl
@@ -261,22 +185,11 @@ t_stands p x c r =
 
 -- where no gate opens, the settled partition stands
 pub settled_stands : (p : Part) (x : Guest) (c : Content) → PairRow p x c → IsOrdered x → opening_in x.slot ≡ None → opening_in x.behind ≡ None → StandsIn x.paired (region_of x) c p
-settled_stands p x c r o one two =
-    let st = any_stands (region_of x) x.side p r.between c x.paired x.slot x.behind r.row r.behind r.leads o.chained o.besides (λ un. ((o.single un).alone, (o.single un).side)) in
-    let none : opening_of x ≡ None = ap (λ (v : Option Group). or_else v (opening_in x.behind)) one ∙ two in
-    let same : st.part ≡ p = subst (λ (v : Option Group). BeforeOrAfter p v st.part) none st.may in
-    subst (StandsIn x.paired (region_of x) c) same st.is
+settled_stands p x c r o one two = grind (arith, any_stands)
 
 -- what stands before a write may stand while it is under way
 kept_in_turn : (t : Turn) (p : Part) (x : Guest) (c : Content) → turn_of x ≡ t → Besides x.slot x.behind → IsKept p x c → IsKept p (moved_in t x) c
-kept_in_turn First p x c is b k = record { part = k.part; stands = k.stands; may = may_first p k.part x.slot x.behind b k.may; marked = k.marked }
-kept_in_turn Second p x c is b k = record {
-  part = k.part;
-  stands = k.stands;
-  may = may_behind p k.part x.slot x.behind b (turn_behind (slot_writes x.slot) (behind_writes x.slot x.behind) is) k.may;
-  marked = k.marked;
-}
-kept_in_turn Neither p x c is b k = k
+kept_in_turn t p x c is b k = grind arith
 
 pub t_moved : (p : Part) (x : Guest) (c : Content) → guest_row p x c → IsKept p (guest_after_write x) c
 t_moved p x c r = kept_in_turn (turn_of x) p x c refl r.1.ordered.besides (t_stands p x c r)
@@ -296,19 +209,11 @@ t_frame p x c d same front r = (
 )
 
 pub t_seen_frame : (p : Part) (x : Guest) (c d : Content) → SameOn (region_of x).base (35328 + (region_of x).size) c d → guest_seen p x c → guest_seen p x d
-t_seen_frame p x c d same s = (let spare = spares_frame (region_of x) (other_side x.side) c d same in record {
-  between = s.between;
-  leads = s.leads;
-  row = row_frame (region_of x) (side_of x) (side_ok (region_of x) x.side) c d same s.between x.slot s.row;
-  seen = seen_frame (region_of x) (side_of x) (side_ok (region_of x) x.side) c d same s.between x.slot s.seen;
-  behind = behind_beside (region_of x) c d (side_behind x) spare x.paired x.behind s.behind;
-  behind_seen = behind_seen_beside (region_of x) c d (side_behind x) spare x.behind s.behind_seen;
-})
+t_seen_frame p x c d same s =
+    grind (arith, behind_beside, behind_seen_beside, row_frame, seen_frame)
 
 ordered_version : (x : Guest) (n : ℕ) (c : Content) (slot behind : Option Slot) → IsOfVersion x c → IsOfVersion (moved_up x n slot behind) c
-ordered_version x n c (Some f) behind v = record { behind = v.behind; version = v.version }
-ordered_version x n c None (Some b) v = record { behind = v.behind; version = v.version }
-ordered_version x n c None None v = record { behind = v.behind; version = v.version }
+ordered_version x n c slot behind v = grind arith
 
 pub t_synced : (p : Part) (x : Guest) (c : Content) → guest_row p x c → guest_seen p x c → guest_row (guest_settled x p) (guest_after_sync x) c
 t_synced p x c r s = (let both = (sync_goes p x c x.slot x.behind (r.0, r.1) s).0 in (both.0, both.1, ordered_version x (marked x) c (after_sync x.slot) (after_sync x.behind) r.2))
@@ -318,17 +223,13 @@ t_synced_seen p x c r s = (sync_goes p x c x.slot x.behind (r.0, r.1) s).1
 
 -- a guest stays where it stands
 moved_region : (t : Turn) (x : Guest) → region_of (moved_in t x) ≡ region_of x
-moved_region First x = refl
-moved_region Second x = refl
-moved_region Neither x = refl
+moved_region t x = grind arith
 
 pub region_moved : (x : Guest) → region_of (guest_after_write x) ≡ region_of x
 region_moved x = moved_region (turn_of x) x
 
 ordered_region : (x : Guest) (n : ℕ) (slot behind : Option Slot) → region_of (moved_up x n slot behind) ≡ region_of x
-ordered_region x n (Some f) behind = refl
-ordered_region x n None (Some b) = refl
-ordered_region x n None None = refl
+ordered_region x n slot behind = grind arith
 
 pub region_synced : (x : Guest) → region_of (guest_after_sync x) ≡ region_of x
 region_synced x = ordered_region x (marked x) (after_sync x.slot) (after_sync x.behind)

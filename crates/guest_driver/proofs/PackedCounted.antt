@@ -1,8 +1,6 @@
 -- While a place of a packed ring is free, so is an id.
-use Rattle.std.proofs.Common.{◌≡◌, ◌≢◌, inl, inr, ◌↔◌, ℕ, ◌+◌, ◌<◌, ◌≤◌, false, List, length, replicate, get_or, slice_set, Option, Some, None, Ok, Err, refl, sym, ap, subst, ◌∙◌, arith}
+use Rattle.std.proofs.Common.{◌≡◌, ◌≢◌, ℕ, ◌+◌, ◌<◌, ◌≤◌, false, List, length, replicate, get_or, slice_set, Option, Some, None, Ok, Err, sym, ap, subst, ◌∙◌, arith}
 use Rattle.std.proofs.lemmas.List.{length-set, length-replicate, get_or-replicate, get_or_past, get_or-set_same, get_or-set_other}
-use Rattle.std.proofs.lemmas.Bool.{cases_eq, cases_lt}
-use Rattle.std.proofs.Math.Nat.{mod-eq_of_lt}
 use Rattle.rpmb_frame.specs.declared.config.RingKind.{RingKind}
 use Rattle.rpmb_frame.specs.declared.config.RingKind.TheVariants.{Packed}
 use Rattle.guest_driver.specs.declared.flight.Flight.{Flight}
@@ -11,7 +9,7 @@ use Rattle.guest_driver.specs.Offered.{Offer}
 use Rattle.guest_driver.specs.Kinds.{places_by, places_of, mark_after}
 use Rattle.guest_driver.specs.PackedHeld.{free_places}
 use Rattle.guest_driver.specs.PackedUsed.{mark_of}
-use Rattle.guest_driver.specs.Driver.{DriverState, no_flight, owner, offer_of, flight_of, after_offer, Adds, Takes, TakesBy, AreTaken, ordered_by, two_by, has_two, fits_by, full_by}
+use Rattle.guest_driver.specs.Driver.{DriverState, no_flight, owner, offer_of, flight_of, after_offer, Adds, Takes, TakesBy, AreTaken, ordered_by, two_by, has_two, fits_by}
 use Rattle.guest_driver.specs.Reap.{after_reap}
 use Rattle.guest_driver.specs.PackedRoom.{places_taken, IsCounted, ADriverBeginsCounted, AnOfferIsCounted, AReapIsCounted, APackedRingIsFullByItsPlaces}
 use Rattle.guest_driver.proofs.ByKind.{some_places}
@@ -24,54 +22,19 @@ use Rattle.guest_driver.proofs.PackedCounting.{taken-replicate, taken-more, take
 entry_more : (Q : ℕ → Flight → Type 0) (owners : List (Option ℕ)) (flights : List Flight) (head : ℕ) (flight : Flight) → head < length flights
     → ((id : ℕ) → owner owners id ≢ None → Q id (get_or flights id no_flight)) → Q head flight
     → (id : ℕ) → owner (slice_set owners head (Some head)) id ≢ None → Q id (get_or (slice_set flights head flight) id no_flight)
-entry_more Q owners flights head flight low each new id is = elim (cases_eq id head) [
-  | inl same ↦ (
-      let there : get_or (slice_set flights head flight) head no_flight ≡ flight = get_or-set_same flights head flight no_flight low in
-      subst (λ (n : ℕ). Q n (get_or (slice_set flights head flight) n no_flight)) (sym same) (subst (Q head) (sym there) new)
-      )
-  | inr other ↦ (
-      let kept : get_or (slice_set flights head flight) id no_flight ≡ get_or flights id no_flight = get_or-set_other flights head id flight no_flight other in
-      let owned : owner (slice_set owners head (Some head)) id ≡ owner owners id = get_or-set_other owners head id (Some head) None other in
-      subst (Q id) (sym kept) (each id (λ none. is (owned ∙ none)))
-      )
-]
+entry_more Q owners flights head flight low each new id is =
+    grind (arith, get_or-set_other, get_or-set_same)
 
 -- a chain that is in flight yet was so before another came back
 owned_before : (owners : List (Option ℕ)) (i id : ℕ) → i < length owners → owner (slice_set owners i None) id ≢ None → owner owners id ≢ None
-owned_before owners i id low is none = elim (cases_eq id i) [
-  | inl same ↦ is (ap (λ n. owner (slice_set owners i None) n) same ∙ get_or-set_same owners i None None low)
-  | inr other ↦ is (get_or-set_other owners i id None None other ∙ none)
-]
+owned_before owners i id low is none = grind (arith, get_or-set_other, get_or-set_same)
 
 owner-replicate : (size id : ℕ) → owner (replicate size None) id ≡ None
-owner-replicate size id =
-    let free : List (Option ℕ) = replicate size None in
-    let long : length free ≡ size = length-replicate size None in
-    elim (cases_lt id size) [
-      | inl low ↦ get_or-replicate size id None None low
-      | inr past ↦ get_or_past free id None (omega (arith, past, long))
-    ]
-
-first_mark : (size : ℕ) → 0 ≡ mark_of size 0
-first_mark size = elim (cases_lt 0 size) [
-  | inl some ↦ sym (mod-eq_of_lt (omega (arith, some)))
-  | inr empty ↦ (let none : 0 ≡ size = omega (arith, empty) in subst (λ (n : ℕ). 0 ≡ mark_of n 0) none refl)
-]
+owner-replicate size id = grind (arith, get_or-replicate, get_or_past, length-replicate)
 
 pub begins_counted : ADriverBeginsCounted
 begins_counted form size event_idx kind =
-    let none = taken-replicate size size in
-    record {
-      kind = kind;
-      owned = length-replicate size None;
-      flown = length-replicate size no_flight;
-      alone = λ id is. absurd (is (owner-replicate size id));
-      each = λ id is. absurd (is (owner-replicate size id));
-      reaped = 0;
-      used = first_mark size;
-      offered = first_mark size ∙ ap (mark_of size) (omega (arith, none));
-      room = omega (arith, none);
-    }
+    grind (arith, length-replicate, owner-replicate, taken-replicate)
 
 -- an id that is written as first and last descriptor
 one_id : (owners : List (Option ℕ)) (i last : ℕ) (o : Option ℕ) → last ≡ i → slice_set (slice_set owners i o) last o ≡ slice_set owners i o
@@ -82,8 +45,6 @@ add_counted : (driver : DriverState) (c : Offer) → IsCounted driver → 0 < le
 add_counted driver c counted some takes fits =
     let kind = counted.kind in
     let size = driver.size in
-    let owned = counted.owned in
-    let flown = counted.flown in
     let low : c.head < length driver.owners = takes.0.below in
     let flight : Flight = flight_of driver.form driver.offered c in
     let owners : List (Option ℕ) = slice_set driver.owners c.head (Some c.head) in
@@ -92,27 +53,26 @@ add_counted driver c counted some takes fits =
     let taken : ℕ = places_taken driver.owners driver.flights in
     let n : ℕ = places_of driver.form c in
     let is_n : n ≡ places_by Packed driver.form.indirect c = ap (λ (k : RingKind). places_by k driver.form.indirect c) kind in
-    let more : places_taken owners flights ≡ taken + n = taken-more driver.owners driver.flights c.head c.head flight (omega (arith, owned, flown)) low takes.0.free in
-    let few = counted.room in
+    let more : places_taken owners flights ≡ taken + n = taken-more driver.owners driver.flights c.head c.head flight (omega arith) low takes.0.free in
     let m : ℕ = places_by Packed driver.form.indirect c in
     let at_marks : m ≤ free_places size (mark_of size (counted.reaped + taken)) (mark_of size counted.reaped) =
     subst (λ (u : ℕ). m ≤ free_places size (mark_of size (counted.reaped + taken)) u) counted.used
     (subst (λ (o : ℕ). m ≤ free_places size o driver.used) counted.offered fits) in
-    let wide : 0 < size = omega (arith, low, owned) in
-    let room : taken + m ≤ size = room_more size counted.reaped taken m wide few at_marks in
+    let wide : 0 < size = omega arith in
+    let room : taken + m ≤ size = room_more size counted.reaped taken m wide counted.room at_marks in
     let goes : mark_after driver.form.kind size driver.offered n ≡ mark_of size (counted.reaped + places_taken owners flights) =
     ap (λ (k : RingKind). mark_after k size driver.offered n) kind ∙ ap (λ (o : ℕ). mark_after Packed size o n) counted.offered
-    ∙ mark_next size (counted.reaped + taken) n ∙ ap (mark_of size) (omega (arith, more)) in
+    ∙ mark_next size (counted.reaped + taken) n ∙ ap (mark_of size) (omega arith) in
     let kept : IsCounted (record (after_offer driver c) { owners = owners }) = record {
       kind = kind;
-      owned = length-set driver.owners c.head (Some c.head) ∙ owned;
-      flown = length-set driver.flights c.head flight ∙ flown;
-      alone = entry_more (λ id f. f.last ≡ id) driver.owners driver.flights c.head flight (omega (arith, low, owned, flown)) counted.alone takes.1;
-      each = entry_more (λ id f. 0 < f.places) driver.owners driver.flights c.head flight (omega (arith, low, owned, flown)) counted.each (some_places driver.form.kind driver.form.indirect c some);
+      owned = length-set driver.owners c.head (Some c.head) ∙ counted.owned;
+      flown = length-set driver.flights c.head flight ∙ counted.flown;
+      alone = entry_more (λ id f. f.last ≡ id) driver.owners driver.flights c.head flight (omega arith) counted.alone takes.1;
+      each = entry_more (λ id f. 0 < f.places) driver.owners driver.flights c.head flight (omega arith) counted.each (some_places driver.form.kind driver.form.indirect c some);
       reaped = counted.reaped;
       used = counted.used;
       offered = goes;
-      room = omega (arith, more, room, is_n);
+      room = omega arith;
     } in
     subst (λ (o : List (Option ℕ)). IsCounted (record (after_offer driver c) { owners = o })) (sym one) kept
 
@@ -134,33 +94,7 @@ offer_counted memory driver readable writable (Err BadUsed) memory' driver' some
 
 back_counted : (driver : DriverState) (id : ℕ) → IsCounted driver → owner driver.owners id ≡ Some id → IsCounted (after_reap driver id)
 back_counted driver id counted head =
-    let kind = counted.kind in
-    let size = driver.size in
-    let owned = counted.owned in
-    let flown = counted.flown in
-    let flight : Flight = get_or driver.flights id no_flight in
-    let low : id < length driver.owners = owner_low driver.owners id id head in
-    let taken : ℕ = places_taken driver.owners driver.flights in
-    let owners : List (Option ℕ) = slice_set driver.owners id None in
-    let some : owner driver.owners id ≢ None = λ none. absurd (let both : Some id ≡ None = sym head ∙ none in cc) in
-    let one : slice_set owners flight.last None ≡ owners = one_id driver.owners id flight.last None (counted.alone id some) in
-    let less : places_taken owners driver.flights + flight.places ≡ taken = taken-less driver.owners driver.flights id id (omega (arith, owned, flown)) head in
-    let few = counted.room in
-    let goes : mark_after driver.form.kind size driver.used flight.places ≡ mark_of size (counted.reaped + flight.places) =
-    ap (λ (k : RingKind). mark_after k size driver.used flight.places) kind ∙ ap (λ (u : ℕ). mark_after Packed size u flight.places) counted.used
-    ∙ mark_next size counted.reaped flight.places in
-    let kept : IsCounted (record (after_reap driver id) { owners = owners }) = record {
-      kind = kind;
-      owned = length-set driver.owners id None ∙ owned;
-      flown = flown;
-      alone = λ k is. counted.alone k (owned_before driver.owners id k low is);
-      each = λ k is. counted.each k (owned_before driver.owners id k low is);
-      reaped = counted.reaped + flight.places;
-      used = goes;
-      offered = counted.offered ∙ ap (mark_of size) (omega (arith, less));
-      room = omega (arith, less, few);
-    } in
-    subst (λ (o : List (Option ℕ)). IsCounted (record (after_reap driver id) { owners = o })) (sym one) kept
+    grind (arith, length-set, mark_next, one_id, owned_before, owner_low, taken-less)
 
 pub reap_counted : AReapIsCounted
 reap_counted memory driver (Ok None) driver' counted reaps = subst IsCounted (sym reaps.1) counted
@@ -172,30 +106,7 @@ reap_counted memory driver (Err BadUsed) driver' counted reaps = subst IsCounted
 
 -- where no id is free, no place is
 none_free : (driver : DriverState) → IsCounted driver → AreTaken driver.owners 0 → free_places driver.size driver.offered driver.used ≡ 0
-none_free driver counted taken =
-    let size = driver.size in
-    let owned = counted.owned in
-    let flown = counted.flown in
-    let few = counted.room in
-    let count : ℕ = places_taken driver.owners driver.flights in
-    let all : length driver.owners ≤ count = taken-all driver.owners driver.flights (omega (arith, owned, flown)) (λ i low. taken i (omega arith) low) (λ i low. counted.each i (taken i (omega arith) low)) in
-    elim (cases_lt 0 size) [
-      | inl some ↦ (
-          let is = free_is size counted.reaped count some few in
-          let none : free_places size (mark_of size (counted.reaped + count)) (mark_of size counted.reaped) ≡ 0 = omega (arith, is, all, owned) in
-          ap (λ (o : ℕ). free_places size o driver.used) counted.offered ∙ ap (free_places size (mark_of size (counted.reaped + count))) counted.used ∙ none
-          )
-      | inr empty ↦ omega (arith, empty)
-    ]
+none_free driver counted taken = grind (arith, free_is, taken-all)
 
 pub full_by_places : APackedRingIsFullByItsPlaces
-full_by_places driver readable writable some counted =
-    let c : Offer = offer_of readable writable 0 0 in
-    let form = driver.form in
-    let free : ℕ = free_places driver.size driver.offered driver.used in
-    let taken : AreTaken driver.owners 0 → free < places_by Packed form.indirect c = λ t.
-    (let none : free ≡ 0 = none_free driver counted t in
-    let needs = some_places Packed form.indirect c some in
-    omega (arith, none, needs)) in
-    let packed : full_by Packed form.indirect driver readable writable ↔ (free < places_by Packed form.indirect c) = (λ full. elim full [ inl few ↦ few | inr t ↦ taken t ], λ few. inl few) in
-    subst (λ (k : RingKind). full_by k form.indirect driver readable writable ↔ (free < places_by k form.indirect c)) (sym counted.kind) packed
+full_by_places driver readable writable some counted = grind (arith, none_free)

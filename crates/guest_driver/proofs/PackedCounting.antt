@@ -13,38 +13,36 @@ taken-replicate (suc n) (suc m) = taken-replicate n m
 -- a chain more
 pub taken-more : (owners : List (Option ℕ)) (flights : List Flight) (i head : ℕ) (flight : Flight) → length flights ≡ length owners → i < length owners
     → owner owners i ≡ None → places_taken (slice_set owners i (Some head)) (slice_set flights i flight) ≡ places_taken owners flights + flight.places
-taken-more [] flights i head flight same low free = absurd (omega (arith, low))
-taken-more (o ∷ os) [] i head flight same low free = absurd (omega (arith, same))
+taken-more [] flights i head flight same low free = absurd (omega arith)
+taken-more (o ∷ os) [] i head flight same low free = absurd (omega arith)
 taken-more (None ∷ os) (f ∷ fs) zero head flight same low free = omega arith
 taken-more (Some h ∷ os) (f ∷ fs) zero head flight same low free = absurd (cc)
-taken-more (None ∷ os) (f ∷ fs) (suc i) head flight same low free = taken-more os fs i head flight (omega (arith, same)) (omega (arith, low)) free
+taken-more (None ∷ os) (f ∷ fs) (suc i) head flight same low free = taken-more os fs i head flight (omega arith) (omega arith) free
 taken-more (Some h ∷ os) (f ∷ fs) (suc i) head flight same low free =
-    let rest = taken-more os fs i head flight (omega (arith, same)) (omega (arith, low)) free in
-    omega (arith, rest)
+    grind (arith, (taken-more os fs i head flight (omega arith) (omega arith) free))
 
 -- a chain less
 pub taken-less : (owners : List (Option ℕ)) (flights : List Flight) (i head : ℕ) → length flights ≡ length owners
     → owner owners i ≡ Some head → places_taken (slice_set owners i None) flights + (get_or flights i no_flight).places ≡ places_taken owners flights
 taken-less [] flights i head same is = absurd (cc)
-taken-less (o ∷ os) [] i head same is = absurd (omega (arith, same))
+taken-less (o ∷ os) [] i head same is = absurd (omega arith)
 taken-less (None ∷ os) (f ∷ fs) zero head same is = absurd (cc)
 taken-less (Some h ∷ os) (f ∷ fs) zero head same is = omega arith
-taken-less (None ∷ os) (f ∷ fs) (suc i) head same is = taken-less os fs i head (omega (arith, same)) is
+taken-less (None ∷ os) (f ∷ fs) (suc i) head same is = taken-less os fs i head (omega arith) is
 taken-less (Some h ∷ os) (f ∷ fs) (suc i) head same is =
-    let rest = taken-less os fs i head (omega (arith, same)) is in
-    omega (arith, rest)
+    grind (arith, (taken-less os fs i head (omega arith) is))
 
 -- where no id is free, each takes a place
 pub taken-all : (owners : List (Option ℕ)) (flights : List Flight) → length flights ≡ length owners
     → ((i : ℕ) → i < length owners → owner owners i ≢ None) → ((i : ℕ) → i < length owners → 0 < (get_or flights i no_flight).places)
     → length owners ≤ places_taken owners flights
 taken-all [] flights same all each = omega arith
-taken-all (o ∷ os) [] same all each = absurd (omega (arith, same))
+taken-all (o ∷ os) [] same all each = absurd (omega arith)
 taken-all (None ∷ os) (f ∷ fs) same all each = absurd (all 0 (omega arith) refl)
 taken-all (Some h ∷ os) (f ∷ fs) same all each =
     let first : 0 < f.places = each 0 (omega arith) in
-    let rest = taken-all os fs (omega (arith, same)) (λ i low. all (suc i) (omega (arith, low))) (λ i low. each (suc i) (omega (arith, low))) in
-    omega (arith, first, rest)
+    let rest = taken-all os fs (omega arith) (λ i low. all (suc i) (omega arith)) (λ i low. each (suc i) (omega arith)) in
+    omega arith
 
 -- an entry that is written twice
 pub set_twice : (owners : List (Option ℕ)) (i : ℕ) (o : Option ℕ) → slice_set (slice_set owners i o) i o ≡ slice_set owners i o

@@ -1,12 +1,11 @@
 -- The stretch of the table that isn't free, as chains are offered and come back.
 use Rattle.std.proofs.Common.{◌≡◌, ◌≢◌, ◌⊎◌, ℕ, ◌+◌, ◌-◌, ◌%◌, ◌<◌, ◌≤◌, inl, inr, Bool, true, false, List, length, get_or, slice_set, Option, Some, None, refl, sym, ap, ◌∙◌, subst, arith}
-use Rattle.std.proofs.Math.Nat.{mod-eq_of_lt, mod_self}
 use Rattle.std.proofs.lemmas.Nat.{mod_below}
 use Rattle.std.proofs.lemmas.Bool.{cases_eq, cases_lt}
 use Rattle.std.proofs.Math.ListN.{get_or-eq_default}
 use Rattle.std.proofs.lemmas.List.{get_or-set_same, get_or-set_other, length-set}
 use Rattle.guest_driver.specs.declared.flight.Flight.{Flight}
-use Rattle.guest_driver.specs.Driver.{no_flight, owner, following, ordered_by, HasNextFree, AreTaken, HasTooFew, last_after, ChoosesNext, ChoosesBy, TakesBy, next_by}
+use Rattle.guest_driver.specs.Driver.{no_flight, owner, following, ordered_by, HasNextFree, HasTooFew, last_after, ChoosesNext, ChoosesBy, TakesBy, next_by}
 use Rattle.guest_driver.specs.TableOrder.{turn, turn_of, IsWithin, IsBehind, HaveOne, IsHead, behind, IsInTurn, IsStretch}
 use Rattle.guest_driver.specs.Kinds.{mark_after}
 use Rattle.rpmb_frame.specs.declared.config.RingKind.{RingKind}
@@ -19,56 +18,29 @@ pub record Follows (size d s : ℕ) : Type 0 where
   pub low : s < size
 
 pub follows : (size d : ℕ) → d < size → Follows size d (following size d)
-follows size d low = record {
-  next = λ h. mod-eq_of_lt h;
-  first = λ e. ap (λ x. x % size) e ∙ mod_self size;
-  low = mod_below (d + 1) size (omega (arith, low));
-}
+follows size d low = grind arith
 
 -- the same by cases, as omega takes them
 follow_cases : (size d s : ℕ) → d < size → Follows size d s → ((d + 1 < size) × (s ≡ d + 1)) ⊎ ((d + 1 ≡ size) × (s ≡ 0))
-follow_cases size d s low f =
-    elim (cases_lt (d + 1) size) [
-      | inl near ↦ inl (near, f.next near)
-      | inr far ↦ let e : d + 1 ≡ size = omega (arith, low, far) in inr (e, f.first e)
-    ]
+follow_cases size d s low f = grind arith
 
 within_cases : (size first many d : ℕ) → IsWithin size first many d → ((first ≤ d) × (d < first + many)) ⊎ ((d < first) × (d + size < first + many))
-within_cases size first many d w =
-    elim (cases_lt d first) [
-      | inl near ↦ inr (near, w.round near)
-      | inr far ↦ inl (far, w.behind far)
-    ]
+within_cases size first many d w = grind arith
 
 behind_cases : (size first many next : ℕ) → IsBehind size first many next → ((first + many < size) × (next ≡ first + many)) ⊎ ((size ≤ first + many) × (next + size ≡ first + many))
-behind_cases size first many next b =
-    elim (cases_lt (first + many) size) [
-      | inl near ↦ inl (near, b.behind near)
-      | inr far ↦ inr (far, b.round far)
-    ]
-
-one_cases : (size first many chains t d : ℕ) → HaveOne size first many chains t d → ((first ≤ d) × (chains + d ≤ first + many + t)) ⊎ ((d < first) × (chains + (d + size) ≤ first + many + t))
-one_cases size first many chains t d h =
-    elim (cases_lt d first) [
-      | inl near ↦ inr (near, h.round near)
-      | inr far ↦ inl (far, h.behind far)
-    ]
+behind_cases size first many next b = grind arith
 
 turn_zero : (used : ℕ) → used < 65536 → turn used used ≡ 0
 unfolding turn
-turn_zero used low = omega (arith, low)
+turn_zero used low = omega arith
 
 turn_more : (used offered : ℕ) → used < 65536 → offered < 65536 → turn used offered < 65535 → turn used ((offered + 1) % 65536) ≡ turn used offered + 1
 unfolding turn
-turn_more used offered low other few = omega (arith, low, other, few)
+turn_more used offered low other few = omega arith
 
 turn_less : (used mark : ℕ) → used < 65536 → mark < 65536 → 0 < turn used mark → turn ((used + 1) % 65536) mark + 1 ≡ turn used mark
 unfolding turn
-turn_less used mark low other some = omega (arith, low, other, some)
-
-is_free : (o : Option ℕ) → (o ≡ None) ⊎ (o ≢ None)
-is_free None = inl refl
-is_free (Some x) = inr (λ e. absurd (cc))
+turn_less used mark low other some = omega arith
 
 some_taken : (o : Option ℕ) (x : ℕ) → o ≡ Some x → o ≢ None
 some_taken o x e n = let z = sym e ∙ n in absurd (cc)
@@ -80,62 +52,11 @@ others_within : (size first many next x : ℕ) → first < size → many ≤ siz
     → IsWithin size first many x
 others_within size first many next x a b c e few low other = let p = behind_cases size first many next e in omega arith
 
-all_within : (size first many x : ℕ) → first < size → size ≤ many → x < size → IsWithin size first many x
-all_within size first many x a full low = omega arith
-
-next_within : (size first many next : ℕ) → first < size → many ≤ size → next < size → IsBehind size first many next → IsWithin size first many next → size ≤ many
-next_within size first many next a b c e w = let p = behind_cases size first many next e in let q = within_cases size first many next w in omega arith
-
-follower_within : (size first many next s : ℕ) → first < size → many ≤ size → next < size → IsBehind size first many next → Follows size next s → IsWithin size first many s
-    → size ≤ many + 1
-follower_within size first many next s a b c e f w =
-    let p = behind_cases size first many next e in
-    let q = within_cases size first many s w in
-    let r = follow_cases size next s c f in
-    omega arith
-
-pub all_taken : (size offered used next : ℕ) (owners : List (Option ℕ)) (flights : List Flight) → IsStretch size offered used next owners flights → length owners ≡ size
-    → owner owners next ≢ None → AreTaken owners 0
-all_taken size offered used next owners flights s long is = λ k low below.
-    let w = s.taken next s.next_low is in
-    let full = next_within size s.first s.many next s.first_low s.many_low s.next_low s.ends w in
-    let small : k < size = omega (arith, below, long) in
-    s.covers k small (all_within size s.first s.many k s.first_low full small)
-
 pub too_few : (size offered used next : ℕ) (owners : List (Option ℕ)) (flights : List Flight) (two : Bool) → IsStretch size offered used next owners flights → length owners ≡ size
     → ¬ HasNextFree owners next two → HasTooFew owners two
-too_few size offered used next owners flights false s long none =
-    let low = s.next_low in
-    all_taken size offered used next owners flights s long (λ free. none (record { below = omega (arith, long, low); free = free }))
-too_few size offered used next owners flights true s long none = λ d below free k above small.
-    let low = s.next_low in
-    let inside : next < length owners = omega (arith, long, low) in
-    let s2 = following (length owners) next in
-    let f : Follows (length owners) next s2 = follows (length owners) next inside in
-    let at : Follows size next s2 = subst (λ v. Follows v next s2) long f in
-    elim (is_free (owner owners next)) [
-      | inr taken ↦ all_taken size offered used next owners flights s long taken k (omega arith) small
-      | inl open_next ↦
-          elim (cases_eq next s2) [
-            | inl same ↦
-                let p = follow_cases size next s2 low at in
-                absurd (omega (arith, p, same, above, small, long, low))
-            | inr differ ↦
-                elim (is_free (owner owners s2)) [
-                  | inl open_second ↦
-                      absurd (none (record { first = record { below = inside; free = open_next }; second = record { below = f.low; free = open_second }; two = differ }))
-                  | inr taken ↦
-                      let w = s.taken s2 at.low taken in
-                      let few = follower_within size s.first s.many next s2 s.first_low s.many_low s.next_low s.ends at w in
-                      let d_low : d < size = omega (arith, below, long) in
-                      let k_low : k < size = omega (arith, small, long) in
-                      elim (cases_eq d next) [
-                        | inl here ↦ s.covers k k_low (others_within size s.first s.many next k s.first_low s.many_low s.next_low s.ends few k_low (λ e. omega (arith, e, here, above)))
-                        | inr other ↦ absurd (s.covers d d_low (others_within size s.first s.many next d s.first_low s.many_low s.next_low s.ends few d_low other) free)
-                      ]
-                ]
-          ]
-    ]
+too_few size offered used next owners flights false s long none = grind arith
+too_few size offered used next owners flights true s long none =
+    grind (arith, follows, others_within)
 
 -- 2. A chain is offered
 
@@ -158,105 +79,38 @@ record Numbers (size first many next last count behind : ℕ) : Type 0 where
 last_by : (size next last count : ℕ) → next < size → Follows size next (following size next) → ((last ≡ next) × (count ≡ 1)) ⊎ ((last ≡ following size next) × (last ≢ next) × (count ≡ 2))
     → ((last ≡ next) × (count ≡ 1)) ⊎ ((next + 1 < size) × (last ≡ next + 1) × (count ≡ 2)) ⊎ ((next + 1 ≡ size) × (last ≡ 0) × (last ≢ next) × (count ≡ 2))
 last_by size next last count low f (inl one) = inl one
-last_by size next last count low f (inr two) =
-    elim (follow_cases size next (following size next) low f) [
-      | inl near ↦ inr (inl (near.0, two.0 ∙ near.1, two.2))
-      | inr far ↦ inr (inr (far.0, two.0 ∙ far.1, two.1, two.2))
-    ]
+last_by size next last count low f (inr two) = grind arith
 
 -- there is room for it
 room_for : (size offered used next last count : ℕ) (owners : List (Option ℕ)) (flights : List Flight) → (s : IsStretch size offered used next owners flights) → IsTaken size next last count owners
     → s.many + count ≤ size
-room_for size offered used next last count owners flights s t =
-    let a = s.first_low in
-    let b = s.many_low in
-    let c = s.next_low in
-    let some : s.many < size =
-    elim (cases_lt s.many size) [
-      | inl less ↦ less
-      | inr full ↦ absurd (s.covers next c (all_within size s.first s.many next a full c) t.free)
-    ] in
-    elim t.is [
-      | inl one ↦ let k = one.1 in omega (arith, k, some)
-      | inr two ↦
-          let k = two.2 in
-          elim (cases_lt (s.many + 1) size) [
-            | inl less ↦ omega (arith, k, less)
-            | inr full ↦
-                absurd (s.covers last t.low (others_within size s.first s.many next last a b c s.ends (omega (arith, full)) t.low two.1) t.last_free)
-          ]
-    ]
+room_for size offered used next last count owners flights s t = grind arith
 
 ends_more : (size first many next last count behind : ℕ) → Numbers size first many next last count behind → IsBehind size first (many + count) behind
-ends_more size first many next last count behind n =
-    let a = n.first_low in
-    let b = n.many_low in
-    let c = n.next_low in
-    let d = n.last_low in
-    let e = n.ends in
-    let f = n.spans in
-    let g = n.follower in
-    omega (arith, a, b, c, d, e, f, g)
+ends_more size first many next last count behind n = grind arith
 
 within_more : (size first many next last count behind d : ℕ) → Numbers size first many next last count behind → IsWithin size first many d → IsWithin size first (many + count) d
-within_more size first many next last count behind d n w =
-    let q = within_cases size first many d w in
-    omega (arith, q)
+within_more size first many next last count behind d n w = grind arith
 
 next_is_within : (size first many next last count behind : ℕ) → Numbers size first many next last count behind → IsWithin size first (many + count) next
-next_is_within size first many next last count behind n =
-    let a = n.first_low in
-    let b = n.many_low in
-    let c = n.next_low in
-    let e = n.ends in
-    let f = n.spans in
-    omega (arith, a, b, c, e, f)
+next_is_within size first many next last count behind n = grind arith
 
 last_is_within : (size first many next last count behind : ℕ) → Numbers size first many next last count behind → IsWithin size first (many + count) last
-last_is_within size first many next last count behind n =
-    let a = n.first_low in
-    let b = n.many_low in
-    let c = n.next_low in
-    let e = n.ends in
-    let f = n.spans in
-    omega (arith, a, b, c, e, f)
+last_is_within size first many next last count behind n = grind arith
 
 others_were : (size first many next last count behind d : ℕ) → Numbers size first many next last count behind → d < size → d ≢ next → d ≢ last
     → IsWithin size first (many + count) d → IsWithin size first many d
-others_were size first many next last count behind d n low p q w =
-    let a = n.first_low in
-    let b = n.many_low in
-    let c = n.next_low in
-    let e = n.ends in
-    let f = n.spans in
-    let g = within_cases size first (many + count) d w in
-    omega (arith, a, b, c, e, f, g, low, p, q)
+others_were size first many next last count behind d n low p q w = grind arith
 
 -- each chain has a descriptor of its own
 few_of : (size offered used next : ℕ) (owners : List (Option ℕ)) (flights : List Flight) → (s : IsStretch size offered used next owners flights) → turn used offered ≤ s.many
-few_of size offered used next owners flights s =
-    elim (cases_lt 0 (turn used offered)) [
-      | inl some ↦
-          let old = s.oldest some in
-          let h = s.room s.first s.first_low old.0 in
-          let zero = old.1 in
-          let p = one_cases size s.first s.many (turn used offered) (turn_of used flights s.first) s.first h in
-          omega (arith, p, zero)
-      | inr none ↦ omega (arith, none)
-    ]
+few_of size offered used next owners flights s = grind arith
 
 room_old : (size first many count chains t d : ℕ) → 0 < count → HaveOne size first many chains t d → HaveOne size first (many + count) (chains + 1) t d
-room_old size first many count chains t d some h =
-    let p = one_cases size first many chains t d h in
-    omega (arith, p, some)
+room_old size first many count chains t d some h = grind arith
 
 room_new : (size first many next last count behind chains t : ℕ) → 0 < count → t ≡ chains → Numbers size first many next last count behind → HaveOne size first (many + count) (chains + 1) t next
-room_new size first many next last count behind chains t some is n =
-    let a = n.first_low in
-    let c = n.next_low in
-    let b = n.many_low in
-    let e = n.ends in
-    omega (arith, a, b, c, e, some, is)
+room_new size first many next last count behind chains t some is n = grind arith
 
 -- what the owners and the flights are with the chain
 record Gains (size next last : ℕ) (owners owners' : List (Option ℕ)) (flights flights' : List Flight) (f : Flight) : Type 0 where
@@ -269,19 +123,7 @@ record Gains (size next last : ℕ) (owners owners' : List (Option ℕ)) (flight
 gains : (size next last : ℕ) (owners : List (Option ℕ)) (flights : List Flight) (f : Flight) → length owners ≡ size → length flights ≡ size → next < size → last < size
     → Gains size next last owners (slice_set (slice_set owners next (Some next)) last (Some next)) flights (slice_set flights next f) f
 gains size next last owners flights f long wide low last_low =
-    let first = slice_set owners next (Some next) in
-    let long' = length-set owners next (Some next) in
-    let here : owner (slice_set first last (Some next)) last ≡ Some next = get_or-set_same first last (Some next) None (omega (arith, last_low, long, long')) in
-    record {
-      head = elim (cases_eq next last) [
-        | inl same ↦ ap (owner (slice_set first last (Some next))) same ∙ here
-        | inr other ↦ get_or-set_other first last next (Some next) None other ∙ get_or-set_same owners next (Some next) None (omega (arith, low, long))
-      ];
-      tail = here;
-      others = λ d p q. get_or-set_other first last d (Some next) None q ∙ get_or-set_other owners next d (Some next) None p;
-      flight = get_or-set_same flights next f no_flight (omega (arith, low, wide));
-      flown = λ d p. get_or-set_other flights next d f no_flight p;
-    }
+    grind (arith, get_or-set_other, get_or-set_same, length-set)
 
 some_same : (a b : ℕ) (o : Option ℕ) → o ≡ Some a → o ≡ Some b → a ≡ b
 some_same a b o p q = let e = sym p ∙ q in cc
@@ -297,7 +139,6 @@ turn_stays : (size offered used next last count : ℕ) (owners owners' : List (O
     → IsInTurn size ((offered + 1) % 65536) used (following size last) owners' flights' d
 turn_stays size offered used next last count owners owners' flights flights' f d s small t g at p low head old more =
     let same = g.flown d p in
-    let before = old.before in
     let turns : turn_of used flights' d ≡ turn_of used flights d = ap (λ (v : Flight). turn used v.place) same in
     let lasts : (get_or flights' d no_flight).last ≡ (get_or flights d no_flight).last = ap (λ (v : Flight). v.last) same in
     let b = behind size flights d in
@@ -317,16 +158,16 @@ turn_stays size offered used next last count owners owners' flights flights' f d
     let older_both : IsHead owners' b × (turn_of used flights' b ≡ turn_of used flights d + 1) =
     elim (cases_lt (turn_of used flights d + 1) (turn used offered)) [
       | inl less ↦ older_old less
-      | inr far ↦ older_new (omega (arith, far, before))
+      | inr far ↦ older_new (omega arith)
     ] in
     record {
       one = ap (λ (v : Flight). v.places) same ∙ old.one;
-      low = let e = ap (λ (v : Flight). v.place) same in let h = old.low in omega (arith, e, h);
-      before = omega (arith, turns, before, more);
+      low = let e = ap (λ (v : Flight). v.place) same in omega arith;
+      before = omega arith;
       spans = elim old.spans [ inl e ↦ inl (lasts ∙ e) | inr e ↦ inr (lasts ∙ e) ];
       owned = ap (owner owners') lasts ∙ stays ∙ old.owned;
       older = λ _. (ap (owner owners') behinds ∙ older_both.0 ∙ ap Some (sym behinds), ap (turn_of used flights') behinds ∙ older_both.1 ∙ ap (λ v. v + 1) (sym turns));
-      newest = λ e. absurd (omega (arith, e, turns, before, more));
+      newest = λ e. absurd (omega arith);
     }
 
 -- the new chain has the last turn
@@ -335,23 +176,12 @@ turn_joins : (size offered used next last count : ℕ) (owners owners' : List (O
     → turn used ((offered + 1) % 65536) ≡ turn used offered + 1
     → IsInTurn size ((offered + 1) % 65536) used (following size last) owners' flights' next
 turn_joins size offered used next last count owners owners' flights flights' f low t g at ends one more =
-    let turns : turn_of used flights' next ≡ turn used offered = ap (λ (v : Flight). turn used v.place) g.flight ∙ ap (turn used) at in
-    let lasts : (get_or flights' next no_flight).last ≡ last = ap (λ (v : Flight). v.last) g.flight ∙ ends in
-    record {
-      one = ap (λ (v : Flight). v.places) g.flight ∙ one;
-      low = let e = ap (λ (v : Flight). v.place) g.flight in omega (arith, e, at, low);
-      before = omega (arith, turns, more);
-      spans = elim t.is [ inl e ↦ inl (lasts ∙ e.0) | inr e ↦ inr (lasts ∙ e.0) ];
-      owned = ap (owner owners') lasts ∙ g.tail;
-      older = λ less. absurd (omega (arith, less, turns, more));
-      newest = λ _. ap (following size) lasts;
-    }
+    grind arith
 
 -- a head is the new one, or was one
 head_was : (size next last : ℕ) (owners owners' : List (Option ℕ)) (flights flights' : List Flight) (f : Flight) (d : ℕ) → Gains size next last owners owners' flights flights' f
     → d ≢ next → IsHead owners' d → IsHead owners d
-head_was size next last owners owners' flights flights' f d g p head =
-    sym (g.others d p (λ e. p (some_same d next (owner owners' d) head (ap (owner owners') e ∙ g.tail)))) ∙ head
+head_was size next last owners owners' flights flights' f d g p head = grind arith
 
 stretch_more : (size offered used next last count : ℕ) (owners owners' : List (Option ℕ)) (flights flights' : List Flight) (f : Flight)
     → IsStretch size offered used next owners flights → size ≤ 65535 → IsTaken size next last count owners → Gains size next last owners owners' flights flights' f
@@ -360,8 +190,8 @@ stretch_more : (size offered used next last count : ℕ) (owners owners' : List 
 stretch_more size offered used next last count owners owners' flights flights' f s small t g at ends one =
     let room = room_for size offered used next last count owners flights s t in
     let few = few_of size offered used next owners flights s in
-    let some : 0 < count = elim t.is [ inl e ↦ let k = e.1 in omega (arith, k) | inr e ↦ let k = e.2 in omega (arith, k) ] in
-    let more = turn_more used offered s.used_low s.offered_low (omega (arith, few, room, some, small)) in
+    let some : 0 < count = elim t.is [ inl e ↦ omega arith | inr e ↦ omega arith ] in
+    let more = turn_more used offered s.used_low s.offered_low (omega arith) in
     let behind_of = follows size last t.low in
     let n : Numbers size s.first s.many next last count (following size last) = record {
       first_low = s.first_low;
@@ -377,7 +207,7 @@ stretch_more size offered used next last count owners owners' flights flights' f
     let old_turn : (d : ℕ) → d ≢ next → turn_of used flights' d ≡ turn_of used flights d = λ d p. ap (λ (v : Flight). turn used v.place) (g.flown d p) in
     let was : (d : ℕ) → d ≢ next → IsHead owners' d → IsHead owners d = λ d p h. head_was size next last owners owners' flights flights' f d g p h in
     let below : (d : ℕ) → d < size → d ≢ next → IsHead owners' d → turn_of used flights' d < turn used offered = λ d low p h.
-    (let e = old_turn d p in let b = (s.each d low (was d p h)).before in omega (arith, e, b)) in
+    (let e = old_turn d p in let b = (s.each d low (was d p h)).before in omega arith) in
     record {
       first = s.first;
       many = s.many + count;
@@ -418,11 +248,11 @@ stretch_more size offered used next last count owners owners' flights flights' f
             let q = apart owners s.first last s.first o.0 t.last_free in
             (g.others s.first p q ∙ o.0, old_turn s.first p ∙ o.1)
         | inr none ↦
-            let zero : turn used offered ≡ 0 = omega (arith, none) in
+            let zero : turn used offered ≡ 0 = omega arith in
             let here : s.first ≡ next = s.none zero in
             (ap (owner owners') here ∙ g.head ∙ ap Some (sym here), ap (turn_of used flights') here ∙ new_turn ∙ zero)
       ];
-      none = λ e. absurd (omega (arith, e, more));
+      none = λ e. absurd (omega arith);
       each = λ d low h. elim (cases_eq d next) [
         | inl here ↦ subst (λ v. IsInTurn size ((offered + 1) % 65536) used (following size last) owners' flights' v) (sym here) joins
         | inr p ↦ turn_stays size offered used next last count owners owners' flights flights' f d s small t g at p low (was d p h) (s.each d low (was d p h)) more
@@ -430,10 +260,10 @@ stretch_more size offered used next last count owners owners' flights flights' f
       once = λ d e low low' h h' same. elim (cases_eq d next) [
         | inl here ↦ elim (cases_eq e next) [
           | inl there ↦ here ∙ sym there
-          | inr q ↦ let b = below e low' q h' in let a = ap (turn_of used flights') here ∙ new_turn in absurd (omega (arith, b, a, same))
+          | inr q ↦ let b = below e low' q h' in let a = ap (turn_of used flights') here ∙ new_turn in absurd (omega arith)
         ]
         | inr p ↦ elim (cases_eq e next) [
-          | inl there ↦ let b = below d low p h in let a = ap (turn_of used flights') there ∙ new_turn in absurd (omega (arith, b, a, same))
+          | inl there ↦ let b = below d low p h in let a = ap (turn_of used flights') there ∙ new_turn in absurd (omega arith)
           | inr q ↦ s.once d e low low' (was d p h) (was e q h') (sym (old_turn d p) ∙ same ∙ old_turn e q)
         ]
       ];
@@ -444,7 +274,7 @@ taken_of : (size next last : ℕ) (owners : List (Option ℕ)) (two : Bool) → 
 taken_of size next last owners false long h is = (
   1,
   record {
-    low = let b = h.below in omega (arith, b, is, long);
+    low = omega arith;
     free = h.free;
     last_free = ap (owner owners) is ∙ h.free;
     is = inl (is, refl);
@@ -453,7 +283,7 @@ taken_of size next last owners false long h is = (
 taken_of size next last owners true long h is = (
   2,
   record {
-    low = let b = h.second.below in omega (arith, b, is, long);
+    low = omega arith;
     free = h.first.free;
     last_free = ap (owner owners) is ∙ h.second.free;
     is = inr (is ∙ ap (λ v. following v next) long, (λ e. h.two (sym e ∙ is)), refl);
@@ -485,68 +315,25 @@ record Fewer (size first many next last count behind : ℕ) : Type 0 where
 
 -- the first of the stretch are given back
 ends_less : (size first many next last count behind : ℕ) → Fewer size first many next last count behind → IsBehind size behind (many - count) next
-ends_less size first many next last count behind n =
-    let a = n.first_low in
-    let b = n.many_low in
-    let c = n.next_low in
-    let d = n.enough in
-    let e = n.ends in
-    let f = n.spans in
-    let g = n.follower in
-    omega (arith, a, b, c, d, e, f, g)
+ends_less size first many next last count behind n = grind arith
 
 within_less : (size first many next last count behind d : ℕ) → Fewer size first many next last count behind → d < size → d ≢ first → d ≢ last → IsWithin size first many d
     → IsWithin size behind (many - count) d
-within_less size first many next last count behind d n low p q w =
-    let a = n.first_low in
-    let b = n.many_low in
-    let c = n.enough in
-    let f = n.spans in
-    let g = n.follower in
-    let h = within_cases size first many d w in
-    omega (arith, a, b, c, f, g, h, low, p, q)
+within_less size first many next last count behind d n low p q w = grind arith
 
 within_was : (size first many next last count behind d : ℕ) → Fewer size first many next last count behind → d < size → IsWithin size behind (many - count) d → IsWithin size first many d
-within_was size first many next last count behind d n low w =
-    let a = n.first_low in
-    let b = n.many_low in
-    let c = n.enough in
-    let f = n.spans in
-    let g = n.follower in
-    let h = within_cases size behind (many - count) d w in
-    omega (arith, a, b, c, f, g, h, low)
+within_was size first many next last count behind d n low w = grind arith
 
 first_left : (size first many next last count behind : ℕ) → Fewer size first many next last count behind → IsWithin size behind (many - count) first → ⊥
-first_left size first many next last count behind n w =
-    let a = n.first_low in
-    let b = n.many_low in
-    let c = n.enough in
-    let f = n.spans in
-    let g = n.follower in
-    let h = within_cases size behind (many - count) first w in
-    omega (arith, a, b, c, f, g, h)
+first_left size first many next last count behind n w = grind arith
 
 last_left : (size first many next last count behind : ℕ) → Fewer size first many next last count behind → IsWithin size behind (many - count) last → ⊥
-last_left size first many next last count behind n w =
-    let a = n.first_low in
-    let b = n.many_low in
-    let c = n.enough in
-    let f = n.spans in
-    let g = n.follower in
-    let h = within_cases size behind (many - count) last w in
-    omega (arith, a, b, c, f, g, h)
+last_left size first many next last count behind n w = grind arith
 
 room_less : (size first many next last count behind chains chains' t t' d : ℕ) → Fewer size first many next last count behind → d < size → d ≢ first → d ≢ last → IsWithin size first many d
     → chains' + 1 ≡ chains → t' + 1 ≡ t → HaveOne size first many chains t d → HaveOne size behind (many - count) chains' t' d
 room_less size first many next last count behind chains chains' t t' d n low p q w less turns h =
-    let a = n.first_low in
-    let b = n.many_low in
-    let c = n.enough in
-    let f = n.spans in
-    let g = n.follower in
-    let i = one_cases size first many chains t d h in
-    let j = within_cases size first many d w in
-    omega (arith, a, b, c, f, g, i, j, low, p, q, less, turns)
+    grind arith
 
 record Loses (size id last : ℕ) (owners owners' : List (Option ℕ)) : Type 0 where
   head : owner owners' id ≡ None
@@ -555,17 +342,7 @@ record Loses (size id last : ℕ) (owners owners' : List (Option ℕ)) : Type 0 
 
 loses : (size id last : ℕ) (owners : List (Option ℕ)) → length owners ≡ size → id < size → last < size → Loses size id last owners (slice_set (slice_set owners id None) last None)
 loses size id last owners long low last_low =
-    let first = slice_set owners id None in
-    let long' = length-set owners id None in
-    let here : owner (slice_set first last None) last ≡ None = get_or-set_same first last None None (omega (arith, last_low, long, long')) in
-    record {
-      head = elim (cases_eq id last) [
-        | inl same ↦ ap (owner (slice_set first last None)) same ∙ here
-        | inr other ↦ get_or-set_other first last id None None other ∙ get_or-set_same owners id None None (omega (arith, low, long))
-      ];
-      tail = here;
-      others = λ d p q. get_or-set_other first last d None None q ∙ get_or-set_other owners id d None None p;
-    }
+    grind (arith, get_or-set_other, get_or-set_same, length-set)
 
 count_of : (size first last : ℕ) (owners : List (Option ℕ)) → first < size → (last ≡ first) ⊎ (last ≡ following size first)
     → (count : ℕ) × (((last ≡ first) × (count ≡ 1)) ⊎ ((first + 1 < size) × (last ≡ first + 1) × (count ≡ 2)) ⊎ ((first + 1 ≡ size) × (last ≡ 0) × (last ≢ first) × (count ≡ 2)))
@@ -588,7 +365,6 @@ turn_is_less : (size offered used next id last : ℕ) (owners owners' : List (Op
     → IsInTurn size offered ((used + 1) % 65536) next owners' flights d
 turn_is_less size offered used next id last owners owners' flights d s tail id_low id_head zero g lasts low p q head less fewer =
     let old = s.each d low head in
-    let before = old.before in
     let l = (get_or flights d no_flight).last in
     let l_not_id : l ≢ id = λ e. p (some_same d id (owner owners id) (ap (owner owners) (sym e) ∙ old.owned) id_head) in
     let l_not_last : l ≢ last = λ e. p (some_same d id (owner owners last) (ap (owner owners) (sym e) ∙ old.owned) tail) in
@@ -597,18 +373,17 @@ turn_is_less size offered used next id last owners owners' flights d s tail id_l
     record {
       one = old.one;
       low = old.low;
-      before = omega (arith, before, less, fewer);
+      before = omega arith;
       spans = old.spans;
       owned = g.others l l_not_id l_not_last ∙ old.owned;
       older = λ more.
-          (let o = old.older (omega (arith, more, less, fewer)) in
-          let turns = o.1 in
-          let b_not_id : b ≢ id = λ e. (let z = ap (turn_of used flights) e ∙ zero in absurd (omega (arith, z, turns))) in
+          (let o = old.older (omega arith) in
+          let b_not_id : b ≢ id = λ e. (let z = ap (turn_of used flights) e ∙ zero in absurd (omega arith)) in
           let b_not_last : b ≢ last = λ e. b_not_id (some_same b id (owner owners last) (ap (owner owners) (sym e) ∙ o.0) tail) in
           let b_turn = s.each b b_low o.0 in
-          let b_less = turn_less used (get_or flights b no_flight).place s.used_low b_turn.low (omega (arith, turns)) in
-          (g.others b b_not_id b_not_last ∙ o.0, omega (arith, b_less, turns, less)));
-      newest = λ e. old.newest (omega (arith, e, less, fewer));
+          let b_less = turn_less used (get_or flights b no_flight).place s.used_low b_turn.low (omega arith) in
+          (g.others b b_not_id b_not_last ∙ o.0, omega arith));
+      newest = λ e. old.newest (omega arith);
     }
 
 stretch_less : (size offered used next id last : ℕ) (owners owners' : List (Option ℕ)) (flights : List Flight)
@@ -618,12 +393,11 @@ stretch_less : (size offered used next id last : ℕ) (owners owners' : List (Op
 stretch_less size offered used next id last owners owners' flights s is id_low head place lasts g =
     let oldest = s.each id id_low head in
     let zero : turn_of used flights id ≡ 0 = ap (turn used) place ∙ turn_zero used s.used_low in
-    let before = oldest.before in
-    let some : 0 < turn used offered = omega (arith, before, zero) in
+    let some : 0 < turn used offered = omega arith in
     let o = s.oldest some in
     let here : id ≡ s.first = s.once id s.first id_low s.first_low head o.0 (zero ∙ sym o.1) in
     let tail : owner owners last ≡ Some id = ap (owner owners) is ∙ oldest.owned in
-    let last_low : last < size = let e = lasts id id_low in omega (arith, e, is) in
+    let last_low : last < size = let e = lasts id id_low in omega arith in
     let b = following size last in
     let behinds : behind size flights id ≡ b = ap (following size) (sym is) in
     let b_follows = follows size last last_low in
@@ -632,15 +406,12 @@ stretch_less size offered used next id last owners owners' flights s is id_low h
     let count = counted.0 in
     let first_within = within_cases size s.first s.many s.first (s.taken s.first s.first_low (some_taken (owner owners s.first) s.first o.0)) in
     let last_within = within_cases size s.first s.many last (s.taken last last_low (some_taken (owner owners last) id tail)) in
-    let cases = counted.1 in
-    let many_low = s.many_low in
-    let first_low = s.first_low in
     let n : Fewer size s.first s.many next last count b = record {
       first_low = s.first_low;
       many_low = s.many_low;
       next_low = s.next_low;
       last_low = last_low;
-      enough = omega (arith, first_within, last_within, cases, many_low, first_low, last_low);
+      enough = omega arith;
       ends = behind_cases size s.first s.many next s.ends;
       spans = counted.1;
       follower = follow_cases size last b last_low b_follows;
@@ -657,7 +428,7 @@ stretch_less size offered used next id last owners owners' flights s is id_low h
     elim (cases_lt 0 (turn_of used flights d)) [
       | inl more ↦ more
       | inr none ↦
-          let z : turn_of used flights d ≡ 0 = omega (arith, none) in
+          let z : turn_of used flights d ≡ 0 = omega arith in
           absurd (not_id d (some_taken (owner owners' d) d h) (s.once d id low id_low (was d h) head (z ∙ sym zero)))
     ] in
     turn_less used (get_or flights d no_flight).place s.used_low old.low positive) in
@@ -665,7 +436,7 @@ stretch_less size offered used next id last owners owners' flights s is id_low h
       first = b;
       many = s.many - count;
       first_low = b_follows.low;
-      many_low = omega (arith, many_low);
+      many_low = omega arith;
       used_low = mod_below (used + 1) 65536 (omega arith);
       offered_low = s.offered_low;
       next_low = s.next_low;
@@ -688,19 +459,19 @@ stretch_less size offered used next id last owners owners' flights s is id_low h
           room_less size s.first s.many next last count b (turn used offered) (turn used' offered) (turn_of used flights d) (turn_of used' flights d) d n low (λ e. p (e ∙ sym here)) q
           (s.taken d low (some_taken (owner owners d) d (was d h))) fewer (less d low h) (s.room d low (was d h)));
       oldest = λ more.
-          (let next_one = oldest.older (omega (arith, more, fewer, zero)) in
+          (let next_one = oldest.older (omega arith) in
           let b_head : IsHead owners b = ap (owner owners) (sym behinds) ∙ next_one.0 ∙ ap Some behinds in
           let b_turn : turn_of used flights b ≡ turn_of used flights id + 1 = ap (turn_of used flights) (sym behinds) ∙ next_one.1 in
-          let p : b ≢ id = λ e. (let z = ap (turn_of used flights) e in absurd (omega (arith, z, b_turn))) in
+          let p : b ≢ id = λ e. (let z = ap (turn_of used flights) e in absurd (omega arith)) in
           let q : b ≢ last = λ e. p (some_same b id (owner owners last) (ap (owner owners) (sym e) ∙ b_head) tail) in
           let kept = g.others b p q ∙ b_head in
           let l = less b b_follows.low kept in
-          (kept, omega (arith, l, b_turn, zero)));
-      none = λ e. sym behinds ∙ oldest.newest (omega (arith, e, fewer, zero));
+          (kept, omega arith));
+      none = λ e. sym behinds ∙ oldest.newest (omega arith);
       each = λ d low h.
           (let t = some_taken (owner owners' d) d h in
           turn_is_less size offered used next id last owners owners' flights d s tail id_low head zero g lasts low (not_id d t) (not_last d t) (was d h) (less d low h) fewer);
-      once = λ d e low low' h h' same. s.once d e low low' (was d h) (was e h') (let x = less d low h in let y = less e low' h' in omega (arith, x, y, same));
+      once = λ d e low low' h h' same. s.once d e low low' (was d h) (was e h') (let x = less d low h in let y = less e low' h' in omega arith);
     }
 
 -- the stretch once the oldest chain came back
@@ -720,26 +491,7 @@ stretch_back size offered used next id owners flights s long low head place last
 
 pub stretch_begins : (size : ℕ) (owners : List (Option ℕ)) (flights : List Flight) → 0 < size → ((d : ℕ) → d < size → owner owners d ≡ None)
     → IsStretch size 0 0 0 owners flights
-stretch_begins size owners flights some free_all =
-    let none_turn : turn 0 0 ≡ 0 = turn_zero 0 (omega arith) in
-    let no_head : (d : ℕ) → d < size → IsHead owners d → ⊥ = λ d low h. (let z = sym (free_all d low) ∙ h in absurd (cc)) in
-    record {
-      first = 0;
-      many = 0;
-      first_low = some;
-      many_low = omega arith;
-      used_low = omega arith;
-      offered_low = omega arith;
-      next_low = some;
-      ends = omega arith;
-      taken = λ d low t. absurd (t (free_all d low));
-      covers = λ d low w. (let b = w.behind (omega arith) in absurd (omega (arith, b)));
-      room = λ d low h. absurd (no_head d low h);
-      oldest = λ more. absurd (omega (arith, more, none_turn));
-      none = λ _. refl;
-      each = λ d low h. absurd (no_head d low h);
-      once = λ d e low low' h h' same. absurd (no_head d low h);
-    }
+stretch_begins size owners flights some free_all = grind (arith, turn_zero)
 
 -- the order of the table is that of a driver that accepted VIRTIO_F_IN_ORDER
 pub in_order_of : (kind : RingKind) (in_order : Bool) → ordered_by kind in_order ≡ true → in_order ≡ true
@@ -749,27 +501,15 @@ in_order_of Packed in_order e = absurd (cc)
 pub ordered_of : (kind : RingKind) (in_order : Bool) → kind ≡ Split → in_order ≡ true → ordered_by kind in_order ≡ true
 ordered_of kind in_order split is = ap (λ k. ordered_by k in_order) split ∙ is
 
-none_of_none : (owners : List (Option ℕ)) (two : Bool) → length owners ≡ 0 → HasTooFew owners two
-none_of_none owners false none = λ k low below. absurd (omega (arith, below, none))
-none_of_none owners true none = λ d below free. absurd (omega (arith, below, none))
-
 -- where the next descriptors aren't free, too few are
 pub chooses_by : (size offered used next : ℕ) (owners : List (Option ℕ)) (flights : List Flight) (two : Bool) (pair : Option (ℕ × ℕ))
     → (0 < size → IsStretch size offered used next owners flights) → length owners ≡ size → ChoosesNext owners next two pair → ChoosesBy true owners next two pair
 chooses_by size offered used next owners flights two (Some pair) s long h = h
-chooses_by size offered used next owners flights two None s long h =
-    elim (cases_lt 0 size) [
-      | inl some ↦ too_few size offered used next owners flights two (s some) long h
-      | inr none ↦ none_of_none owners two (omega (arith, none, long))
-    ]
+chooses_by size offered used next owners flights two None s long h = grind (arith, too_few)
 
 -- a descriptor with an owner is one of the ring's
 pub owner_low : (owners : List (Option ℕ)) (d h : ℕ) → owner owners d ≡ Some h → d < length owners
-owner_low owners d h is =
-    elim (cases_lt d (length owners)) [
-      | inl low ↦ low
-      | inr past ↦ let z = sym is ∙ get_or-eq_default owners None past in absurd (cc)
-    ]
+owner_low owners d h is = grind (arith, get_or-eq_default)
 
 -- a split ring's chain has one place
 pub one_place : (kind : RingKind) (in_order : Bool) (size mark places : ℕ) → ordered_by kind in_order ≡ true → mark_after kind size mark places ≡ (mark + places) % 65536
@@ -783,10 +523,4 @@ pub stretch_by : (size offered used next head last writable next' : ℕ) (two or
     → IsStretch size ((offered + 1) % 65536) used next' (slice_set (slice_set owners head (Some head)) last (Some head))
     (slice_set flights head (record { last = last; places = 1; writable = writable; place = offered }))
 stretch_by size offered used next head last writable next' two ordered in_order owners flights is order s small long wide takes follows_it low =
-    let t : TakesBy true owners next two head last = subst (λ b. TakesBy b owners next two head last) order takes in
-    let next_is : next' ≡ following size last = follows_it ∙ ap (λ b. next_by b size next last) is in
-    let f : Flight = record { last = last; places = 1; writable = writable; place = offered } in
-    let more = stretch_offered size offered used next last writable two owners flights (s (omega (arith, low))) small long wide t.0 t.2 in
-    let P : ℕ → Type 0 = λ h. IsStretch size ((offered + 1) % 65536) used (following size last) (slice_set (slice_set owners h (Some h)) last (Some h)) (slice_set flights h f) in
-    let Q : ℕ → Type 0 = λ n. IsStretch size ((offered + 1) % 65536) used n (slice_set (slice_set owners head (Some head)) last (Some head)) (slice_set flights head f) in
-    subst Q (sym next_is) (subst P (sym t.1) more)
+    grind (arith, stretch_offered)
