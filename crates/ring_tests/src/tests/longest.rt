@@ -151,7 +151,7 @@ fn put_packed(memory: &mut Memory, write: u16) -> bool {
 }
 
 // A chain whose table has 1,024 entries.
-struct Longest {
+struct LongTable {
     // Of each entry but the last.
     flags: u16,
     // The last entry of a split and of a packed ring.
@@ -162,17 +162,17 @@ struct Longest {
     of_packed: Answer,
 }
 
-static ALL_READ: [Longest; 5] = [
+static ALL_READ: [LongTable; 5] = [
     // To be written, which is more than any reply has; and to be read, which is more than any
     // request has.
-    Longest {
+    LongTable {
         flags: WRITE,
         split: (59207, 9, WRITE, 0),
         packed: (59207, 9, 0, WRITE),
         of_split: Answer::Chain(0, 1, 255, 9216),
         of_packed: Answer::Chain(9, 256, 255, 9216),
     },
-    Longest {
+    LongTable {
         flags: 0,
         split: (59207, 9, 0, 0),
         packed: (59207, 9, 0, 0),
@@ -180,14 +180,14 @@ static ALL_READ: [Longest; 5] = [
         of_packed: Answer::Chain(9, 256, 8705, 0),
     },
     // Refused at the last entry alone.
-    Longest {
+    LongTable {
         flags: WRITE,
         split: (65536, 1, WRITE, 0),
         packed: (65536, 1, 0, WRITE),
         of_split: BAD_RANGE,
         of_packed: BAD_RANGE,
     },
-    Longest {
+    LongTable {
         flags: WRITE,
         split: (59207, 9, 0, 0),
         packed: (59207, 9, 0, 0),
@@ -195,7 +195,7 @@ static ALL_READ: [Longest; 5] = [
         of_packed: ORDER,
     },
     // The last entry goes on at the first one; in a packed table NEXT doesn't count.
-    Longest {
+    LongTable {
         flags: WRITE,
         split: (59207, 9, WRITE + NEXT, 0),
         packed: (59207, 9, 0, WRITE + NEXT),
@@ -221,14 +221,14 @@ fn reads_all<R: Queue>(
     )
 }
 
-fn reads_all_of_split(alloc: Global, row: &Longest) -> Result<(), Fail> {
+fn reads_all_of_split(alloc: Global, row: &LongTable) -> Result<(), Fail> {
     let mut memory = longest(alloc, row.flags)?;
     check(set_word(&mut memory, 20482, 1), "the index")?;
     let ring = split_rings::ring_of(alloc, BEHIND_THE_TABLE, 256)?;
     reads_all(alloc, memory, ring, row.split, row.of_split)
 }
 
-fn reads_all_of_packed(alloc: Global, row: &Longest) -> Result<(), Fail> {
+fn reads_all_of_packed(alloc: Global, row: &LongTable) -> Result<(), Fail> {
     let mut memory = memory_of(alloc, 65536)?;
     check(put_packed(&mut memory, row.flags), "the longest chain")?;
     let ring = packed_rings::ring_at(alloc, BEHIND_THE_TABLE, 256)?;

@@ -8,13 +8,13 @@ returns-clause-keeps g c =
     let shows = g.D.Disk.state in
     let makes = g.D.Disk.makes in
     let old = c.args.parts.store in
-    let run = c.in-Ok-run_all.ensures.flusher in
+    let run = c.in_ok-crew.ensures.flusher in
     let begun = subst (Keeps shows makes old) (sym c.new-flusher.ensures.1) (keeps_begins shows makes old) in
     if_ok_weaker c.finish.result (λ e is. subst (Keeps shows makes old) (sym is.0) (run.0 old begun)) c.finish.ensures.store
 
 pub returns-clause-heard : goal.returns-clause-heard
 returns-clause-heard g c =
-    let run = c.in-Ok-run_all.ensures.flusher in
+    let run = c.in_ok-crew.ensures.flusher in
     let new = c.new-flusher.ensures in
     if_ok_weaker c.finish.result
     (λ e is same. ap (λ s. s.broken) is.0 ∙ run.1 (ap (λ s. s.broken) new.1 ∙ sym same ∙ sym (new.2 ∙ c.is_broken-broken.ensures)) ∙ sym is.1)
