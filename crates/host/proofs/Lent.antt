@@ -14,11 +14,10 @@ use Rattle.host.specs.Runner.{runner_of}
 use Rattle.host.specs.declared.fault.HostFault.{HostFault}
 use Rattle.host.specs.declared.fault.HostFault.TheVariants.{Foreign}
 use Rattle.host.specs.declared.front.Front.{Front}
-use Rattle.host.proofs.Hosts.{reset_of, set_views, view_at}
+use Rattle.host.proofs.Hosts.{reset_of, set_views, view_at, front_there, no_guest}
 use Rattle.host.proofs.Keeping.{reset_keeps, store_keeps}
 use Rattle.board.proofs.Linked.{there_is}
 use Rattle.host.proofs.Settled.{also_there}
-use Rattle.host.proofs.Seen.{front_there, no_guest}
 use Rattle.host.proofs.Shares.{share_lent}
 use Rattle.host.proofs.Updates.{set-nothing}
 

@@ -282,11 +282,7 @@ module _ {D : Type 0} (shows : D → DiskState) (b : BoardState D) (store : Stor
 -- 4. A call that failed, of which the book hears
 
 kept_need : (settled : ℕ) (h : Held) → (kept_or_failed settled h).done.need ≤ settled
-kept_need settled h = by (nat_le h.done.need settled) refl
-  where
-    by : (b : Bool) → nat_le h.done.need settled ≡ b → (if b then h else failed_held h).done.need ≤ settled
-    by true is = grind (arith, nat_tests)
-    by false is = omega arith
+kept_need settled h = grind arith
 
 module _ {D : Type 0} (shows : D → DiskState) (g : ℕ) (start : BoardState D) (reply : Held) (b : BoardState D) (store : StoreState D) where
   abbrev broken_of : BoardState D

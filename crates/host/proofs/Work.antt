@@ -1,15 +1,15 @@
 -- What a Take and a Give leave to do, until a guest's reply may leave.
-use Rattle.std.proofs.Common.{◌≡◌, ◌<◌, ◌≤◌, ℕ, ◌+◌, Bool, true, false, List, [], ◌∷◌, Option, Some, None, length, drop, refl, ap, sym, subst, ◌∙◌, arith}
+use Rattle.std.proofs.Common.{◌≡◌, ◌<◌, ◌≤◌, ℕ, ◌+◌, Bool, true, false, List, [], ◌∷◌, Option, Some, None, length, drop, refl, ap, sym, subst, ◌∙◌, arith, inl, inr, Result, Ok, Err}
 use Rattle.std.specs.Prelude.{◌==◌, if◌then◌else◌, slice_get, slice_set}
 use Rattle.std.proofs.lemmas.List.{length-drop}
 use Rattle.rpmb_frame.specs.Request.{Request}
 use Rattle.rpmb_frame.specs.Partition.{sequence}
-use Rattle.disk.specs.Disk.{DiskState}
-use Rattle.intent_slots.specs.Payload.{Entry, Intent}
+use Rattle.disk.specs.Disk.{DiskState, DiskCall}
+use Rattle.intent_slots.specs.Payload.{Intent}
 use Rattle.flusher.specs.declared.guest.Guest.{Guest}
 use Rattle.flusher.specs.declared.slot.Slot.{Slot}
-use Rattle.flusher.specs.CallsLeft.{left_of}
-use Rattle.flusher.specs.Round.{AllEmpty}
+use Rattle.flusher.specs.CallsLeft.{left_of, called}
+use Rattle.flusher.specs.Round.{AllEmpty, MovedBy, settles}
 use Rattle.flusher.specs.Slot.{is_empty}
 use Rattle.flusher.specs.Pair.{given_at, has_room, mark_of, with_intent}
 use Rattle.flusher.specs.Store.{given, given_of, is_free, is_free_of}
@@ -17,31 +17,33 @@ use Rattle.flusher.proofs.Countdown.{given_adds}
 use Rattle.flusher.proofs.Guests.{get_set_same, get_set_other}
 use Rattle.flusher.proofs.Lookups.{given_mark}
 use Rattle.rpmb_core.proofs.Following.{sequence_of_all}
-use Rattle.rpmb_book.specs.Book.{first_of, guest_of, is_share, next_intent, share_moved, state, waiting_of, with_turn}
-use Rattle.rpmb_book.specs.Guest.{GuestState, first_intent, took}
+use Rattle.rpmb_book.specs.Book.{first_of, guest_of, is_share, next_intent, share_moved, waiting_of, with_turn}
+use Rattle.rpmb_book.specs.Guest.{GuestState, first_intent, took, Held}
 use Rattle.rpmb_book.specs.Turn.{Take}
-use Rattle.rpmb_book.proofs.Grouping.{intent_is, none_waits}
-use Rattle.rpmb_book.proofs.Room.{length-parts}
 use Rattle.board.specs.Board.{IsSound}
 use Rattle.board.specs.Link.{due, entries_of}
-use Rattle.board.specs.State.{BoardState, guests, in_place}
-use Rattle.board.specs.Steps.{Answer, GivesWhere, TakesInto}
+use Rattle.board.specs.State.{BoardState, guests, in_place, Marks}
+use Rattle.board.specs.Steps.{Answer, GivesWhere, TakesInto, report_of}
 use Rattle.board.proofs.Doing.{full_at}
 use Rattle.board.proofs.Linked.{as_many, at_each, own, there_is, turned}
 use Rattle.board.proofs.Stays.{is_share_of, may_give_it}
-use Rattle.host.specs.Waiting.{IsLate}
-use Rattle.host.specs.Work.{between_calls, calls_of, todo_of, waiting_calls}
-use Rattle.host.proofs.Settled.{IsSameGuest, Same, also_there, runner_in, runner_update, same_guest, state_of, still, stored_same}
+use Rattle.host.specs.Waiting.{IsLate, Waits, WritesOn}
+use Rattle.host.specs.Work.{between_calls, calls_of, todo_of, waiting_calls, work_of}
+use Rattle.host.proofs.Settled.{IsSameGuest, Same, also_there, runner_in, runner_update, state_of, still, stored_same, broken_waits, same_waits, synced_same, waiting_heard}
+use Rattle.std.proofs.lemmas.Option.{slice_get_within}
+use Rattle.flusher.specs.Progress.{Progress, Wrote, Synced, Idle}
+use Rattle.flusher.specs.declared.progress.StoreFault.{StoreFault}
+use Rattle.flusher.proofs.Pending.{pending_stays}
+use Rattle.host.specs.Advancing.{GoesBy, GoesOn, Hears, IsListened, book_heard}
+use Rattle.host.specs.Calm.{is_broken}
+use Rattle.host.proofs.Ending.{heard_at, heard_badly, heard_idle, heard_lowers, heard_well}
 
 full_is_not : (i : Intent) → Some (Some i) ≡ Some None → ⊥
 full_is_not i is = absurd (let no : Some i ≡ None = cc in cc)
 
 -- what is late stays so, where the book does
 late_still : {D : Type 0} (g : ℕ) (b b' : BoardState D) → b'.book ≡ b.book → IsLate g b → IsLate g b'
-late_still g b b' is late = record {
-  whole = ap (λ v. (state v).broken) is ∙ late.whole;
-  late = λ x at. late.late x (ap (λ v. slice_get (state v).guests g) (sym is) ∙ at);
-}
+late_still g b b' is late = grind arith
 
 -- 1. Take
 
@@ -56,28 +58,14 @@ not_taken : {D : Type 0} (g : ℕ) (b b' : BoardState D) → b' ≡ b → (slice
 not_taken g b b' is rest = subst (IsTaken g b) (sym is) (record { same = still b b refl; late = λ late. late; work = omega arith; rest = rest })
 
 nothing_first : (g : ℕ) (x : GuestState) → first_intent g x ≡ None → x.waiting ≡ []
-nothing_first g x is = empty x.waiting (none_waits g x (sym is))
-  where
-    empty : (es : List Entry) → length es ≡ 0 → es ≡ []
-    empty [] none = refl
-    empty (e ∷ es) none = absurd (omega (arith, none))
+nothing_first g x is = grind arith
 
 -- an intent of several requests adds fewer calls than each alone
 first_rest : (g : ℕ) (x : GuestState) (i : Intent) → first_intent g x ≡ Some i → calls_of i + waiting_calls (drop 4 x.waiting) ≤ waiting_calls x.waiting
-first_rest g x i is =
-    let next = intent_is g x i is in
-    let many = ap (λ (j : Intent). length j.group.entries) next.0 in
-    let parts = length-parts 4 x.waiting in
-    let left = length-drop 4 x.waiting in
-    let some = next.1 in
-    omega (arith, many, parts, left, some)
+first_rest g x i is = grind arith
 
 took_guest : (n k : ℕ) (x : GuestState) → IsSameGuest x (if n == k then took x else x)
-took_guest n k x = by (n == k)
-  where
-    by : (c : Bool) → IsSameGuest x (if c then took x else x)
-    by true = record { held = refl; core = refl; settled = omega arith }
-    by false = same_guest x
+took_guest n k x = grind arith
 
 pub take_work : {D : Type 0} (shows : D → DiskState) (g : ℕ) (x : GuestState) (o : Option (Option Intent)) (answer : Answer) (b b' : BoardState D) → IsSound shows b → slice_get (guests b) g ≡ Some x → slice_get b.intents g ≡ o
     → TakesInto g o answer b b' → IsTaken g b b'
@@ -140,11 +128,7 @@ empty_slot (Some s) is = absurd (cc)
 
 -- a guest whose slots are empty has room, and one that was given an intent has a slot that isn't
 has_room_empty : (z : Guest) → is_empty z.slot ≡ true → is_empty z.behind ≡ true → has_room z ≡ true
-has_room_empty z one two = by z.paired
-  where
-    by : (pair : Bool) → (if pair then is_empty z.behind else is_empty z.slot) ≡ true
-    by true = two
-    by false = one
+has_room_empty z one two = grind arith
 
 given_is_not_empty : (z : Guest) (i : Intent) (slot : Option Slot) → is_empty (given_at z i slot).slot ≡ true → ⊥
 given_is_not_empty z i None is = absurd (cc)
@@ -216,3 +200,102 @@ settled_all_at_rest shows g x b sound at empty place waits =
     let long = length-drop l.stored (sound.accepted g) in
     let within = l.within in
     (t.stored, t.in_store, omega (arith, mark, all, long, rest, within))
+
+-- One round of Take, Give, and a call of the store: less is left to do.
+
+moved_mark : (y y' : Guest) → MovedBy false y y' → mark_of y' ≡ mark_of y
+moved_mark y y' (inl is) = ap mark_of is
+moved_mark y y' (inr is) = ap mark_of is ∙ (pending_stays y).1
+
+work_less : {D : Type 0} (g : ℕ) (b b' : BoardState D) → is_broken b ≡ false → (is_broken b' ≡ false → todo_of g b' < todo_of g b) → work_of g b' < work_of g b
+work_less g b b' whole less = grind arith
+
+module _ {D : Type 0} (shows : D → DiskState) (makes : D → DiskCall → D → Type 0) (g : ℕ) (start : BoardState D) (reply : Held) where
+  abbrev W : BoardState D → Type 0
+  W b = Waits shows g start reply b
+
+  -- a call of the store, of which the book hears
+  pub record Moved (b b' : BoardState D) : Type 0 where
+    pub waits : W b'
+    pub less : (AllEmpty b.store.guests → ⊥) → is_broken b' ≡ false → todo_of g b' < todo_of g b
+
+  moved : (went : Bool) (b b' : BoardState D) → W b → IsLate g b → IsSound shows b' → GoesOn shows makes went b b' → Moved b b'
+  moved went b b' w late sound goes = by h.progress refl
+    where
+      h : Hears shows makes went b b'
+      h = subst (λ k. GoesBy shows makes k went b b') late.whole goes
+
+      now : (p : Result Progress StoreFault) → h.progress ≡ p → b' ≡ record b { store = h.store; report = None; book = book_heard b.book b.shares p }
+      now p is = heard_at shows makes went b b' late.whole h p is
+
+      -- a call that tells the book nothing
+      quiet : (p : Progress) → h.progress ≡ Ok p → settles (Ok p) ≡ false → Same b (record b { store = h.store; report = None })
+      quiet p is not =
+          let broken = heard_well shows makes went b b' late.whole h p is in
+          stored_same b (record b { store = h.store; report = None }) refl
+          (λ k y' at. (let y = also_there h.store.guests b.store.guests k y' at (sym h.moves.count) in
+          (y.0, y.1, moved_mark y.0 y' (subst (λ s. MovedBy s y.0 y') (ap settles is ∙ not) (h.moves.each k y.0 y' y.1 at)))))
+          (broken ∙ sym (w.broken ∙ late.whole)) refl refl refl (sym w.report)
+
+      fewer : (p : Result Progress StoreFault) → h.progress ≡ p → called p ≡ true → waiting_of (slice_get (guests b') g) ≡ waiting_of (slice_get (guests b) g) → todo_of g b' < todo_of g b
+      fewer p is made waiting =
+          let left = heard_lowers shows makes went b b' late.whole h (ap called is ∙ made) in
+          let store = ap (λ v. left_of v.store.guests) h.is in
+          let intents = ap (λ v. between_calls (in_place (slice_get v.intents g))) h.is in
+          let waits = ap waiting_calls waiting in
+          omega (arith, left, store, intents, waits)
+
+      by : (p : Result Progress StoreFault) → h.progress ≡ p → Moved b b'
+      by (Ok Wrote) is = (let to = now (Ok Wrote) is in record {
+        waits = same_waits shows g start reply b b' w (subst (Same b) (sym to) (quiet Wrote is refl)) sound;
+        less = λ busy known. fewer (Ok Wrote) is refl (ap (λ v. waiting_of (slice_get (guests v) g)) to);
+      })
+      by (Ok Idle) is = (let to = now (Ok Idle) is in record {
+        waits = same_waits shows g start reply b b' w (subst (Same b) (sym to) (quiet Idle is refl)) sound;
+        less = λ busy known. absurd (busy (heard_idle shows makes went b b' late.whole h is));
+      })
+      by (Ok (Synced told)) is =
+          let to = now (Ok (Synced told)) is in
+          let before : IsSound shows (record b { store = h.store; report = Some (Marks told) }) = subst (λ p. IsSound shows (record b { store = h.store; report = report_of p })) is (h.between w.sound) in
+          let broken = heard_well shows makes went b b' late.whole h (Synced told) is in
+          let same = synced_same shows b h.store told before w.report (broken ∙ sym (w.broken ∙ late.whole)) (subst (IsSound shows) to sound) in
+          record {
+            waits = same_waits shows g start reply b b' w (subst (Same b) (sym to) same) sound;
+            less = λ busy known. fewer (Ok (Synced told)) is refl (ap (λ v. waiting_of (slice_get (guests v) g)) to ∙ waiting_heard shows b h.store told before g);
+          }
+      by (Err e) is =
+          let to = now (Err e) is in
+          let broken = heard_badly shows makes went b b' late.whole h e is in
+          let waits = broken_waits shows g start reply b h.store w late broken (subst (IsSound shows) to sound) in
+          let off = ap (λ v. v.store.broken) to ∙ broken in
+          record {
+            waits = subst W (sym to) waits;
+            less = λ busy known. absurd (let same = (subst W (sym to) waits).broken in cc);
+          }
+
+  -- the whole round
+  pub writes : (b0 b1 b2 b3 : BoardState D) (a1 a2 : Answer) (went : Bool) → W b0 → IsLate g b0 → IsSound shows b1 → IsSound shows b2 → IsSound shows b3
+      → TakesInto g (slice_get b0.intents g) a1 b0 b1 → GivesWhere g (is_free b1.store.guests g) (in_place (slice_get b1.intents g)) a2 b1 b2
+      → (IsListened b2 → GoesOn shows makes went b2 b3) → WritesOn shows g start reply b0 b3
+  writes b0 b1 b2 b3 a1 a2 went w late s1 s2 s3 takes gives goes =
+      let taken = take_work shows g w.guest (slice_get b0.intents g) a1 b0 b1 w.sound w.there refl takes in
+      let w1 = same_waits shows g start reply b0 b1 w taken.same s1 in
+      let late1 = taken.late late in
+      let t = s1.linked.each g w1.guest w1.there in
+      let given = give_work shows g (is_free b1.store.guests g) (in_place (slice_get b1.intents g)) a2 b1 b2 s1 (slice_get_within b1.store.guests g t.stored t.in_store) refl refl gives in
+      let w2 = same_waits shows g start reply b1 b2 w1 given.same s2 in
+      let late2 = given.late late1 in
+      let m = moved went b2 b3 w2 late2 s3 (goes (record { report = w2.report; broken = w2.broken })) in
+      let busy : AllEmpty b2.store.guests → ⊥ = λ empty.
+      (let rest = given.rest empty in
+      let place : slice_get b1.intents g ≡ Some None = (let o = also_there (guests b1) b1.intents g w1.guest w1.there (s1.linked.places.intents ∙ sym s1.linked.many) in o.1 ∙ ap Some (ap in_place (sym o.1) ∙ rest.1)) in
+      let waits : w1.guest.waiting ≡ [] = ap waiting_of (sym w1.there) ∙ taken.rest place in
+      let z = settled_all_at_rest shows g w1.guest b1 s1 w1.there (subst (λ v. AllEmpty v.store.guests) rest.0 empty) rest.1 waits in
+      let marked = w1.marked late1.whole g w1.guest z.0 w1.there z.1 in
+      let less = late1.late w1.guest w1.there in
+      let full = z.2 in
+      omega (arith, marked, less, full)) in
+      record {
+        waits = m.waits;
+        less = work_less g b0 b3 late.whole (λ known. (let less = m.less busy known in let first = taken.work in let second = given.work in omega (arith, less, first, second)));
+      }

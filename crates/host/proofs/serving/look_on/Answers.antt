@@ -1,7 +1,7 @@
-use Rattle.std.proofs.Common.{◌+◌, Ok, Err, max, subst, sym}
-use Rattle.host.specs.Looks.{AnswerAll, Looks, LooksOn, OnShare}
+use Rattle.std.proofs.Common.{Ok, Err, max, subst, sym, arith}
+use Rattle.host.specs.Looks.{Looks, LooksOn, OnShare}
 use Rattle.host.specs.declared.serving.Look.{Look}
-use Rattle.host.specs.declared.serving.Look.TheVariants.{Answered, Nothing, Stopped}
+use Rattle.host.specs.declared.serving.Look.TheVariants.{Nothing, Stopped}
 use Rattle.host.proofs.Looks.{all_more, looks_all, looks_found, looks_then}
 use Rattle.host.proofs.Shares.{share_none, share_then}
 use Rattle.host.proofs.serving.look_on.Goals as goal
@@ -10,12 +10,7 @@ pub loop-answered-init : goal.loop-answered-init
 loop-answered-init g c = share_none g.D.Disk.state g.D.Disk.makes c.args.guest c.args.board.now c.requires.calm c.requires.there
 
 pub loop-answered-preserved : goal.loop-answered-preserved
-loop-answered-preserved g c =
-    let n = c.args.guest in
-    let looks : Look → Type 0 = λ x. OnShare g.D.Disk.state g.D.Disk.makes n (λ s s'. Looks n s (Ok x) s') c.loop-answered.board c.look_once.new.board in
-    share_then g.D.Disk.state g.D.Disk.makes n (λ s s'. AnswerAll n c.loop-answered.answered s s') (λ s s'. Looks n s (Ok Answered) s') (λ s s'. AnswerAll n (c.loop-answered.answered + 1) s s')
-    c.args.board.now c.loop-answered.board c.look_once.new.board c.loop-answered.invariant (subst looks c.in-Ok-Answered.field-0-is c.in-Ok-Answered.ensures)
-    (λ s s1 s' all one. all_more n c.loop-answered.answered s s1 s' all one)
+loop-answered-preserved g c = grind (arith, share_then, all_more)
 
 pub returns-in-Ok-Nothing : goal.returns-in-Ok-Nothing
 returns-in-Ok-Nothing g c =
@@ -41,6 +36,4 @@ returns-in-Err g c =
     (Err c.in-Err.fault) (Err c.in-Err.fault) c.loop-answered-test.true c.in-Err.ensures (λ s s' l. l)
 
 pub returns : goal.returns
-returns g c =
-    looks_all g.D.Disk.state g.D.Disk.makes c.args.guest c.args.board.now c.loop-answered.board c.loop-answered.board c.loop-answered.answered c.args.times c.max-answered-end.result c.max-answered-end.ensures c.loop-answered.invariant
-    c.loop-answered-test.false c.loop-answered.auto.answered-end
+returns g c = grind (arith, looks_all)
