@@ -87,30 +87,30 @@ room_for : (size offered used next last count : ℕ) (owners : List (Option ℕ)
 room_for size offered used next last count owners flights s t = grind arith
 
 ends_more : (size first many next last count behind : ℕ) → Numbers size first many next last count behind → IsBehind size first (many + count) behind
-ends_more size first many next last count behind n = grind arith
+ends_more size first many next last count behind n = omega arith
 
 within_more : (size first many next last count behind d : ℕ) → Numbers size first many next last count behind → IsWithin size first many d → IsWithin size first (many + count) d
-within_more size first many next last count behind d n w = grind arith
+within_more size first many next last count behind d n w = omega arith
 
 next_is_within : (size first many next last count behind : ℕ) → Numbers size first many next last count behind → IsWithin size first (many + count) next
-next_is_within size first many next last count behind n = grind arith
+next_is_within size first many next last count behind n = omega arith
 
 last_is_within : (size first many next last count behind : ℕ) → Numbers size first many next last count behind → IsWithin size first (many + count) last
-last_is_within size first many next last count behind n = grind arith
+last_is_within size first many next last count behind n = omega arith
 
 others_were : (size first many next last count behind d : ℕ) → Numbers size first many next last count behind → d < size → d ≢ next → d ≢ last
     → IsWithin size first (many + count) d → IsWithin size first many d
-others_were size first many next last count behind d n low p q w = grind arith
+others_were size first many next last count behind d n low p q w = omega arith
 
 -- each chain has a descriptor of its own
 few_of : (size offered used next : ℕ) (owners : List (Option ℕ)) (flights : List Flight) → (s : IsStretch size offered used next owners flights) → turn used offered ≤ s.many
 few_of size offered used next owners flights s = grind arith
 
 room_old : (size first many count chains t d : ℕ) → 0 < count → HaveOne size first many chains t d → HaveOne size first (many + count) (chains + 1) t d
-room_old size first many count chains t d some h = grind arith
+room_old size first many count chains t d some h = omega arith
 
 room_new : (size first many next last count behind chains t : ℕ) → 0 < count → t ≡ chains → Numbers size first many next last count behind → HaveOne size first (many + count) (chains + 1) t next
-room_new size first many next last count behind chains t some is n = grind arith
+room_new size first many next last count behind chains t some is n = omega arith
 
 -- what the owners and the flights are with the chain
 record Gains (size next last : ℕ) (owners owners' : List (Option ℕ)) (flights flights' : List Flight) (f : Flight) : Type 0 where
@@ -315,7 +315,7 @@ record Fewer (size first many next last count behind : ℕ) : Type 0 where
 
 -- the first of the stretch are given back
 ends_less : (size first many next last count behind : ℕ) → Fewer size first many next last count behind → IsBehind size behind (many - count) next
-ends_less size first many next last count behind n = grind arith
+ends_less size first many next last count behind n = omega arith
 
 within_less : (size first many next last count behind d : ℕ) → Fewer size first many next last count behind → d < size → d ≢ first → d ≢ last → IsWithin size first many d
     → IsWithin size behind (many - count) d
