@@ -9,7 +9,7 @@ use Rattle.guest_driver.specs.Driver.{no_flight, owner, following, ordered_by, H
 use Rattle.guest_driver.specs.TableOrder.{turn, turn_of, IsWithin, IsBehind, HaveOne, IsHead, behind, IsInTurn, IsStretch}
 use Rattle.guest_driver.specs.Kinds.{mark_after}
 use Rattle.rpmb_frame.specs.declared.config.RingKind.{RingKind}
-use Rattle.rpmb_frame.specs.declared.config.RingKind.TheVariants.{Split, Packed}
+use Rattle.rpmb_frame.specs.declared.config.RingKind.TheVariants.{Split}
 
 -- the descriptor that follows one
 pub record Follows (size d s : ℕ) : Type 0 where
@@ -54,8 +54,7 @@ others_within size first many next x a b c e few low other = let p = behind_case
 
 pub too_few : (size offered used next : ℕ) (owners : List (Option ℕ)) (flights : List Flight) (two : Bool) → IsStretch size offered used next owners flights → length owners ≡ size
     → ¬ HasNextFree owners next two → HasTooFew owners two
-too_few size offered used next owners flights false s long none = grind arith
-too_few size offered used next owners flights true s long none =
+too_few size offered used next owners flights two s long none =
     grind (arith, follows, others_within)
 
 -- 2. A chain is offered
@@ -78,8 +77,7 @@ record Numbers (size first many next last count behind : ℕ) : Type 0 where
 
 last_by : (size next last count : ℕ) → next < size → Follows size next (following size next) → ((last ≡ next) × (count ≡ 1)) ⊎ ((last ≡ following size next) × (last ≢ next) × (count ≡ 2))
     → ((last ≡ next) × (count ≡ 1)) ⊎ ((next + 1 < size) × (last ≡ next + 1) × (count ≡ 2)) ⊎ ((next + 1 ≡ size) × (last ≡ 0) × (last ≢ next) × (count ≡ 2))
-last_by size next last count low f (inl one) = inl one
-last_by size next last count low f (inr two) = grind arith
+last_by size next last count low f x6 = grind arith
 
 -- there is room for it
 room_for : (size offered used next last count : ℕ) (owners : List (Option ℕ)) (flights : List Flight) → (s : IsStretch size offered used next owners flights) → IsTaken size next last count owners
@@ -495,8 +493,7 @@ stretch_begins size owners flights some free_all = grind (arith, turn_zero)
 
 -- the order of the table is that of a driver that accepted VIRTIO_F_IN_ORDER
 pub in_order_of : (kind : RingKind) (in_order : Bool) → ordered_by kind in_order ≡ true → in_order ≡ true
-in_order_of Split in_order e = e
-in_order_of Packed in_order e = absurd (cc)
+in_order_of kind in_order e = grind arith
 
 pub ordered_of : (kind : RingKind) (in_order : Bool) → kind ≡ Split → in_order ≡ true → ordered_by kind in_order ≡ true
 ordered_of kind in_order split is = ap (λ k. ordered_by k in_order) split ∙ is
@@ -504,8 +501,7 @@ ordered_of kind in_order split is = ap (λ k. ordered_by k in_order) split ∙ i
 -- where the next descriptors aren't free, too few are
 pub chooses_by : (size offered used next : ℕ) (owners : List (Option ℕ)) (flights : List Flight) (two : Bool) (pair : Option (ℕ × ℕ))
     → (0 < size → IsStretch size offered used next owners flights) → length owners ≡ size → ChoosesNext owners next two pair → ChoosesBy true owners next two pair
-chooses_by size offered used next owners flights two (Some pair) s long h = h
-chooses_by size offered used next owners flights two None s long h = grind (arith, too_few)
+chooses_by size offered used next owners flights two pair s long h = grind (arith, too_few)
 
 -- a descriptor with an owner is one of the ring's
 pub owner_low : (owners : List (Option ℕ)) (d h : ℕ) → owner owners d ≡ Some h → d < length owners
@@ -513,8 +509,7 @@ owner_low owners d h is = grind (arith, get_or-eq_default)
 
 -- a split ring's chain has one place
 pub one_place : (kind : RingKind) (in_order : Bool) (size mark places : ℕ) → ordered_by kind in_order ≡ true → mark_after kind size mark places ≡ (mark + places) % 65536
-one_place Split in_order size mark places e = refl
-one_place Packed in_order size mark places e = absurd (cc)
+one_place kind in_order size mark places e = grind arith
 
 -- the stretch once a driver offered a chain
 pub stretch_by : (size offered used next head last writable next' : ℕ) (two ordered in_order : Bool) (owners : List (Option ℕ)) (flights : List Flight)
