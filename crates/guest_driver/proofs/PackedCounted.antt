@@ -55,14 +55,10 @@ add_counted driver c counted some takes fits =
     let is_n : n ≡ places_by Packed driver.form.indirect c = ap (λ (k : RingKind). places_by k driver.form.indirect c) kind in
     let more : places_taken owners flights ≡ taken + n = taken-more driver.owners driver.flights c.head c.head flight (omega arith) low takes.0.free in
     let m : ℕ = places_by Packed driver.form.indirect c in
-    let at_marks : m ≤ free_places size (mark_of size (counted.reaped + taken)) (mark_of size counted.reaped) =
-    subst (λ (u : ℕ). m ≤ free_places size (mark_of size (counted.reaped + taken)) u) counted.used
-    (subst (λ (o : ℕ). m ≤ free_places size o driver.used) counted.offered fits) in
+    let at_marks : m ≤ free_places size (mark_of size (counted.reaped + taken)) (mark_of size counted.reaped) = grind arith in
     let wide : 0 < size = omega arith in
     let room : taken + m ≤ size = room_more size counted.reaped taken m wide counted.room at_marks in
-    let goes : mark_after driver.form.kind size driver.offered n ≡ mark_of size (counted.reaped + places_taken owners flights) =
-    ap (λ (k : RingKind). mark_after k size driver.offered n) kind ∙ ap (λ (o : ℕ). mark_after Packed size o n) counted.offered
-    ∙ mark_next size (counted.reaped + taken) n ∙ ap (mark_of size) (omega arith) in
+    let goes : mark_after driver.form.kind size driver.offered n ≡ mark_of size (counted.reaped + places_taken owners flights) = grind (arith, mark_next) in
     let kept : IsCounted (record (after_offer driver c) { owners = owners }) = record {
       kind = kind;
       owned = length-set driver.owners c.head (Some c.head) ∙ counted.owned;

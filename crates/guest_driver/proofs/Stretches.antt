@@ -9,7 +9,7 @@ use Rattle.guest_driver.specs.Driver.{no_flight, owner, following, ordered_by, H
 use Rattle.guest_driver.specs.TableOrder.{turn, turn_of, IsWithin, IsBehind, HaveOne, IsHead, behind, IsInTurn, IsStretch}
 use Rattle.guest_driver.specs.Kinds.{mark_after}
 use Rattle.rpmb_frame.specs.declared.config.RingKind.{RingKind}
-use Rattle.rpmb_frame.specs.declared.config.RingKind.TheVariants.{Split, Packed}
+use Rattle.rpmb_frame.specs.declared.config.RingKind.TheVariants.{Split}
 
 -- the descriptor that follows one
 pub record Follows (size d s : ℕ) : Type 0 where
@@ -54,8 +54,7 @@ others_within size first many next x a b c e few low other = let p = behind_case
 
 pub too_few : (size offered used next : ℕ) (owners : List (Option ℕ)) (flights : List Flight) (two : Bool) → IsStretch size offered used next owners flights → length owners ≡ size
     → ¬ HasNextFree owners next two → HasTooFew owners two
-too_few size offered used next owners flights false s long none = grind arith
-too_few size offered used next owners flights true s long none =
+too_few size offered used next owners flights two s long none =
     grind (arith, follows, others_within)
 
 -- 2. A chain is offered
@@ -78,8 +77,7 @@ record Numbers (size first many next last count behind : ℕ) : Type 0 where
 
 last_by : (size next last count : ℕ) → next < size → Follows size next (following size next) → ((last ≡ next) × (count ≡ 1)) ⊎ ((last ≡ following size next) × (last ≢ next) × (count ≡ 2))
     → ((last ≡ next) × (count ≡ 1)) ⊎ ((next + 1 < size) × (last ≡ next + 1) × (count ≡ 2)) ⊎ ((next + 1 ≡ size) × (last ≡ 0) × (last ≢ next) × (count ≡ 2))
-last_by size next last count low f (inl one) = inl one
-last_by size next last count low f (inr two) = grind arith
+last_by size next last count low f x6 = grind arith
 
 -- there is room for it
 room_for : (size offered used next last count : ℕ) (owners : List (Option ℕ)) (flights : List Flight) → (s : IsStretch size offered used next owners flights) → IsTaken size next last count owners
@@ -87,30 +85,15 @@ room_for : (size offered used next last count : ℕ) (owners : List (Option ℕ)
 room_for size offered used next last count owners flights s t = grind arith
 
 ends_more : (size first many next last count behind : ℕ) → Numbers size first many next last count behind → IsBehind size first (many + count) behind
-ends_more size first many next last count behind n = grind arith
-
-within_more : (size first many next last count behind d : ℕ) → Numbers size first many next last count behind → IsWithin size first many d → IsWithin size first (many + count) d
-within_more size first many next last count behind d n w = grind arith
-
-next_is_within : (size first many next last count behind : ℕ) → Numbers size first many next last count behind → IsWithin size first (many + count) next
-next_is_within size first many next last count behind n = grind arith
-
-last_is_within : (size first many next last count behind : ℕ) → Numbers size first many next last count behind → IsWithin size first (many + count) last
-last_is_within size first many next last count behind n = grind arith
+ends_more size first many next last count behind n = omega arith
 
 others_were : (size first many next last count behind d : ℕ) → Numbers size first many next last count behind → d < size → d ≢ next → d ≢ last
     → IsWithin size first (many + count) d → IsWithin size first many d
-others_were size first many next last count behind d n low p q w = grind arith
+others_were size first many next last count behind d n low p q w = omega arith
 
 -- each chain has a descriptor of its own
 few_of : (size offered used next : ℕ) (owners : List (Option ℕ)) (flights : List Flight) → (s : IsStretch size offered used next owners flights) → turn used offered ≤ s.many
 few_of size offered used next owners flights s = grind arith
-
-room_old : (size first many count chains t d : ℕ) → 0 < count → HaveOne size first many chains t d → HaveOne size first (many + count) (chains + 1) t d
-room_old size first many count chains t d some h = grind arith
-
-room_new : (size first many next last count behind chains t : ℕ) → 0 < count → t ≡ chains → Numbers size first many next last count behind → HaveOne size first (many + count) (chains + 1) t next
-room_new size first many next last count behind chains t some is n = grind arith
 
 -- what the owners and the flights are with the chain
 record Gains (size next last : ℕ) (owners owners' : List (Option ℕ)) (flights flights' : List Flight) (f : Flight) : Type 0 where
@@ -150,11 +133,7 @@ turn_stays size offered used next last count owners owners' flights flights' f d
       g.others b (apart owners b next b o.0 t.free) (apart owners b last b o.0 t.last_free) ∙ o.0,
       ap (λ (v : Flight). turn used v.place) (g.flown b (apart owners b next b o.0 t.free)) ∙ o.1,
     )) in
-    let older_new : turn_of used flights d + 1 ≡ turn used offered → IsHead owners' b × (turn_of used flights' b ≡ turn_of used flights d + 1) = λ e.
-    (let n : b ≡ next = old.newest e in (
-      ap (owner owners') n ∙ g.head ∙ ap Some (sym n),
-      ap (turn_of used flights') n ∙ ap (λ (v : Flight). turn used v.place) g.flight ∙ ap (turn used) at ∙ sym e,
-    )) in
+    let older_new : turn_of used flights d + 1 ≡ turn used offered → IsHead owners' b × (turn_of used flights' b ≡ turn_of used flights d + 1) = grind arith in
     let older_both : IsHead owners' b × (turn_of used flights' b ≡ turn_of used flights d + 1) =
     elim (cases_lt (turn_of used flights d + 1) (turn used offered)) [
       | inl less ↦ older_old less
@@ -193,21 +172,12 @@ stretch_more size offered used next last count owners owners' flights flights' f
     let some : 0 < count = elim t.is [ inl e ↦ omega arith | inr e ↦ omega arith ] in
     let more = turn_more used offered s.used_low s.offered_low (omega arith) in
     let behind_of = follows size last t.low in
-    let n : Numbers size s.first s.many next last count (following size last) = record {
-      first_low = s.first_low;
-      many_low = room;
-      next_low = s.next_low;
-      last_low = t.low;
-      ends = behind_cases size s.first s.many next s.ends;
-      spans = last_by size next last count s.next_low (follows size next s.next_low) t.is;
-      follower = follow_cases size last (following size last) t.low behind_of;
-    } in
+    let n : Numbers size s.first s.many next last count (following size last) = grind (arith, behind_cases, follow_cases, follows, last_by) in
     let joins = turn_joins size offered used next last count owners owners' flights flights' f s.offered_low t g at ends one more in
     let new_turn : turn_of used flights' next ≡ turn used offered = ap (λ (v : Flight). turn used v.place) g.flight ∙ ap (turn used) at in
     let old_turn : (d : ℕ) → d ≢ next → turn_of used flights' d ≡ turn_of used flights d = λ d p. ap (λ (v : Flight). turn used v.place) (g.flown d p) in
     let was : (d : ℕ) → d ≢ next → IsHead owners' d → IsHead owners d = λ d p h. head_was size next last owners owners' flights flights' f d g p h in
-    let below : (d : ℕ) → d < size → d ≢ next → IsHead owners' d → turn_of used flights' d < turn used offered = λ d low p h.
-    (let e = old_turn d p in let b = (s.each d low (was d p h)).before in omega arith) in
+    let below : (d : ℕ) → d < size → d ≢ next → IsHead owners' d → turn_of used flights' d < turn used offered = grind arith in
     record {
       first = s.first;
       many = s.many + count;
@@ -217,13 +187,7 @@ stretch_more size offered used next last count owners owners' flights flights' f
       offered_low = mod_below (offered + 1) 65536 (omega arith);
       next_low = behind_of.low;
       ends = ends_more size s.first s.many next last count (following size last) n;
-      taken = λ d low is. elim (cases_eq d next) [
-        | inl here ↦ subst (λ v. IsWithin size s.first (s.many + count) v) (sym here) (next_is_within size s.first s.many next last count (following size last) n)
-        | inr p ↦ elim (cases_eq d last) [
-          | inl here ↦ subst (λ v. IsWithin size s.first (s.many + count) v) (sym here) (last_is_within size s.first s.many next last count (following size last) n)
-          | inr q ↦ within_more size s.first s.many next last count (following size last) d n (s.taken d low (λ e. is (g.others d p q ∙ e)))
-        ]
-      ];
+      taken = grind arith;
       covers = λ d low w. elim (cases_eq d next) [
         | inl here ↦ some_taken (owner owners' d) next (ap (owner owners') here ∙ g.head)
         | inr p ↦ elim (cases_eq d last) [
@@ -231,42 +195,14 @@ stretch_more size offered used next last count owners owners' flights flights' f
           | inr q ↦ λ e. s.covers d low (others_were size s.first s.many next last count (following size last) d n low p q w) (sym (g.others d p q) ∙ e)
         ]
       ];
-      room = λ d low h. elim (cases_eq d next) [
-        | inl here ↦
-            subst (λ v. HaveOne size s.first (s.many + count) (turn used ((offered + 1) % 65536)) (turn_of used flights' v) v) (sym here)
-            (subst (λ v. HaveOne size s.first (s.many + count) v (turn_of used flights' next) next) (sym more)
-            (room_new size s.first s.many next last count (following size last) (turn used offered) (turn_of used flights' next) some new_turn n))
-        | inr p ↦
-            subst (λ v. HaveOne size s.first (s.many + count) v (turn_of used flights' d) d) (sym more)
-            (subst (λ v. HaveOne size s.first (s.many + count) (turn used offered + 1) v d) (sym (old_turn d p))
-            (room_old size s.first s.many count (turn used offered) (turn_of used flights d) d some (s.room d low (was d p h))))
-      ];
-      oldest = λ _. elim (cases_lt 0 (turn used offered)) [
-        | inl already ↦
-            let o = s.oldest already in
-            let p = apart owners s.first next s.first o.0 t.free in
-            let q = apart owners s.first last s.first o.0 t.last_free in
-            (g.others s.first p q ∙ o.0, old_turn s.first p ∙ o.1)
-        | inr none ↦
-            let zero : turn used offered ≡ 0 = omega arith in
-            let here : s.first ≡ next = s.none zero in
-            (ap (owner owners') here ∙ g.head ∙ ap Some (sym here), ap (turn_of used flights') here ∙ new_turn ∙ zero)
-      ];
+      room = grind arith;
+      oldest = grind arith;
       none = λ e. absurd (omega arith);
       each = λ d low h. elim (cases_eq d next) [
         | inl here ↦ subst (λ v. IsInTurn size ((offered + 1) % 65536) used (following size last) owners' flights' v) (sym here) joins
         | inr p ↦ turn_stays size offered used next last count owners owners' flights flights' f d s small t g at p low (was d p h) (s.each d low (was d p h)) more
       ];
-      once = λ d e low low' h h' same. elim (cases_eq d next) [
-        | inl here ↦ elim (cases_eq e next) [
-          | inl there ↦ here ∙ sym there
-          | inr q ↦ let b = below e low' q h' in let a = ap (turn_of used flights') here ∙ new_turn in absurd (omega arith)
-        ]
-        | inr p ↦ elim (cases_eq e next) [
-          | inl there ↦ let b = below d low p h in let a = ap (turn_of used flights') there ∙ new_turn in absurd (omega arith)
-          | inr q ↦ s.once d e low low' (was d p h) (was e q h') (sym (old_turn d p) ∙ same ∙ old_turn e q)
-        ]
-      ];
+      once = grind arith;
     }
 
 taken_of : (size next last : ℕ) (owners : List (Option ℕ)) (two : Bool) → length owners ≡ size → HasNextFree owners next two → last ≡ last_after owners next two
@@ -315,20 +251,7 @@ record Fewer (size first many next last count behind : ℕ) : Type 0 where
 
 -- the first of the stretch are given back
 ends_less : (size first many next last count behind : ℕ) → Fewer size first many next last count behind → IsBehind size behind (many - count) next
-ends_less size first many next last count behind n = grind arith
-
-within_less : (size first many next last count behind d : ℕ) → Fewer size first many next last count behind → d < size → d ≢ first → d ≢ last → IsWithin size first many d
-    → IsWithin size behind (many - count) d
-within_less size first many next last count behind d n low p q w = grind arith
-
-within_was : (size first many next last count behind d : ℕ) → Fewer size first many next last count behind → d < size → IsWithin size behind (many - count) d → IsWithin size first many d
-within_was size first many next last count behind d n low w = grind arith
-
-first_left : (size first many next last count behind : ℕ) → Fewer size first many next last count behind → IsWithin size behind (many - count) first → ⊥
-first_left size first many next last count behind n w = grind arith
-
-last_left : (size first many next last count behind : ℕ) → Fewer size first many next last count behind → IsWithin size behind (many - count) last → ⊥
-last_left size first many next last count behind n w = grind arith
+ends_less size first many next last count behind n = omega arith
 
 room_less : (size first many next last count behind chains chains' t t' d : ℕ) → Fewer size first many next last count behind → d < size → d ≢ first → d ≢ last → IsWithin size first many d
     → chains' + 1 ≡ chains → t' + 1 ≡ t → HaveOne size first many chains t d → HaveOne size behind (many - count) chains' t' d
@@ -404,34 +327,14 @@ stretch_less size offered used next id last owners owners' flights s is id_low h
     let spans : (last ≡ s.first) ⊎ (last ≡ following size s.first) = elim oldest.spans [ inl e ↦ inl (is ∙ e ∙ here) | inr e ↦ inr (is ∙ e ∙ ap (following size) here) ] in
     let counted = count_of size s.first last owners s.first_low spans in
     let count = counted.0 in
-    let first_within = within_cases size s.first s.many s.first (s.taken s.first s.first_low (some_taken (owner owners s.first) s.first o.0)) in
     let last_within = within_cases size s.first s.many last (s.taken last last_low (some_taken (owner owners last) id tail)) in
-    let n : Fewer size s.first s.many next last count b = record {
-      first_low = s.first_low;
-      many_low = s.many_low;
-      next_low = s.next_low;
-      last_low = last_low;
-      enough = omega arith;
-      ends = behind_cases size s.first s.many next s.ends;
-      spans = counted.1;
-      follower = follow_cases size last b last_low b_follows;
-    } in
+    let n : Fewer size s.first s.many next last count b = grind arith in
     let used' = (used + 1) % 65536 in
     let fewer = turn_less used offered s.used_low s.offered_low some in
     let not_id : (d : ℕ) → owner owners' d ≢ None → d ≢ id = λ d t e. t (ap (owner owners') e ∙ g.head) in
     let not_last : (d : ℕ) → owner owners' d ≢ None → d ≢ last = λ d t e. t (ap (owner owners') e ∙ g.tail) in
-    let was : (d : ℕ) → IsHead owners' d → IsHead owners d = λ d h.
-    (let t = some_taken (owner owners' d) d h in sym (g.others d (not_id d t) (not_last d t)) ∙ h) in
-    let less : (d : ℕ) → d < size → IsHead owners' d → turn_of used' flights d + 1 ≡ turn_of used flights d = λ d low h.
-    (let old = s.each d low (was d h) in
-    let positive : 0 < turn_of used flights d =
-    elim (cases_lt 0 (turn_of used flights d)) [
-      | inl more ↦ more
-      | inr none ↦
-          let z : turn_of used flights d ≡ 0 = omega arith in
-          absurd (not_id d (some_taken (owner owners' d) d h) (s.once d id low id_low (was d h) head (z ∙ sym zero)))
-    ] in
-    turn_less used (get_or flights d no_flight).place s.used_low old.low positive) in
+    let was : (d : ℕ) → IsHead owners' d → IsHead owners d = grind arith in
+    let less : (d : ℕ) → d < size → IsHead owners' d → turn_of used' flights d + 1 ≡ turn_of used flights d = grind (arith, cases_lt, some_taken, turn_less) in
     record {
       first = b;
       many = s.many - count;
@@ -441,32 +344,15 @@ stretch_less size offered used next id last owners owners' flights s is id_low h
       offered_low = s.offered_low;
       next_low = s.next_low;
       ends = ends_less size s.first s.many next last count b n;
-      taken = λ d low t.
-          (let p = not_id d t in
-          let q = not_last d t in
-          within_less size s.first s.many next last count b d n low (λ e. p (e ∙ sym here)) q (s.taken d low (λ e. t (g.others d p q ∙ e))));
-      covers = λ d low w. elim (cases_eq d id) [
-        | inl same ↦ absurd (first_left size s.first s.many next last count b n (subst (λ v. IsWithin size b (s.many - count) v) (same ∙ here) w))
-        | inr p ↦ elim (cases_eq d last) [
-          | inl same ↦ absurd (last_left size s.first s.many next last count b n (subst (λ v. IsWithin size b (s.many - count) v) same w))
-          | inr q ↦ λ e. s.covers d low (within_was size s.first s.many next last count b d n low w) (sym (g.others d p q) ∙ e)
-        ]
-      ];
+      taken = grind arith;
+      covers = grind arith;
       room = λ d low h.
           (let t = some_taken (owner owners' d) d h in
           let p = not_id d t in
           let q = not_last d t in
           room_less size s.first s.many next last count b (turn used offered) (turn used' offered) (turn_of used flights d) (turn_of used' flights d) d n low (λ e. p (e ∙ sym here)) q
           (s.taken d low (some_taken (owner owners d) d (was d h))) fewer (less d low h) (s.room d low (was d h)));
-      oldest = λ more.
-          (let next_one = oldest.older (omega arith) in
-          let b_head : IsHead owners b = ap (owner owners) (sym behinds) ∙ next_one.0 ∙ ap Some behinds in
-          let b_turn : turn_of used flights b ≡ turn_of used flights id + 1 = ap (turn_of used flights) (sym behinds) ∙ next_one.1 in
-          let p : b ≢ id = λ e. (let z = ap (turn_of used flights) e in absurd (omega arith)) in
-          let q : b ≢ last = λ e. p (some_same b id (owner owners last) (ap (owner owners) (sym e) ∙ b_head) tail) in
-          let kept = g.others b p q ∙ b_head in
-          let l = less b b_follows.low kept in
-          (kept, omega arith));
+      oldest = grind arith;
       none = λ e. sym behinds ∙ oldest.newest (omega arith);
       each = λ d low h.
           (let t = some_taken (owner owners' d) d h in
@@ -495,8 +381,7 @@ stretch_begins size owners flights some free_all = grind (arith, turn_zero)
 
 -- the order of the table is that of a driver that accepted VIRTIO_F_IN_ORDER
 pub in_order_of : (kind : RingKind) (in_order : Bool) → ordered_by kind in_order ≡ true → in_order ≡ true
-in_order_of Split in_order e = e
-in_order_of Packed in_order e = absurd (cc)
+in_order_of kind in_order e = grind arith
 
 pub ordered_of : (kind : RingKind) (in_order : Bool) → kind ≡ Split → in_order ≡ true → ordered_by kind in_order ≡ true
 ordered_of kind in_order split is = ap (λ k. ordered_by k in_order) split ∙ is
@@ -504,8 +389,7 @@ ordered_of kind in_order split is = ap (λ k. ordered_by k in_order) split ∙ i
 -- where the next descriptors aren't free, too few are
 pub chooses_by : (size offered used next : ℕ) (owners : List (Option ℕ)) (flights : List Flight) (two : Bool) (pair : Option (ℕ × ℕ))
     → (0 < size → IsStretch size offered used next owners flights) → length owners ≡ size → ChoosesNext owners next two pair → ChoosesBy true owners next two pair
-chooses_by size offered used next owners flights two (Some pair) s long h = h
-chooses_by size offered used next owners flights two None s long h = grind (arith, too_few)
+chooses_by size offered used next owners flights two pair s long h = grind (arith, too_few)
 
 -- a descriptor with an owner is one of the ring's
 pub owner_low : (owners : List (Option ℕ)) (d h : ℕ) → owner owners d ≡ Some h → d < length owners
@@ -513,8 +397,7 @@ owner_low owners d h is = grind (arith, get_or-eq_default)
 
 -- a split ring's chain has one place
 pub one_place : (kind : RingKind) (in_order : Bool) (size mark places : ℕ) → ordered_by kind in_order ≡ true → mark_after kind size mark places ≡ (mark + places) % 65536
-one_place Split in_order size mark places e = refl
-one_place Packed in_order size mark places e = absurd (cc)
+one_place kind in_order size mark places e = grind arith
 
 -- the stretch once a driver offered a chain
 pub stretch_by : (size offered used next head last writable next' : ℕ) (two ordered in_order : Bool) (owners : List (Option ℕ)) (flights : List Flight)
