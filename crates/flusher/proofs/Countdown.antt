@@ -71,7 +71,6 @@ left_of-sync-lower (x ∷ xs) waits = of (guest_awaits x) refl (left_of-sync-low
     of false is later = (
         let waits_later : list_any guest_awaits xs ≡ true = cc in
         let first = guest_sync_adds_none x in
-        let rest = later waits_later in
         omega arith)
 
 -- 3. A call that succeeds
