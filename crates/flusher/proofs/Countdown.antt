@@ -51,10 +51,8 @@ guest_sync_lowers x waits = grind arith
 
 left_of-set : (xs : List Guest) (g : ℕ) (x y : Guest) → slice_get xs g ≡ Some x → left_of (slice_set xs g y) + guest_left x ≡ left_of xs + guest_left y
 unfolding left_of
-left_of-set [] zero x y at = absurd (cc)
-left_of-set [] (suc g) x y at = absurd (cc)
-left_of-set (z ∷ xs) zero x y at = (let same : guest_left z ≡ guest_left x = (let e : z ≡ x = cc in ap guest_left e) in omega arith)
 left_of-set (z ∷ xs) (suc g) x y at = (let rest = left_of-set xs g x y at in omega arith)
+left_of-set xs g x y at = grind arith
 
 left_of-sync : (xs : List Guest) → left_of (map guest_after_sync xs) ≤ left_of xs
 unfolding left_of
@@ -71,7 +69,6 @@ left_of-sync-lower (x ∷ xs) waits = of (guest_awaits x) refl (left_of-sync-low
     of false is later = (
         let waits_later : list_any guest_awaits xs ≡ true = cc in
         let first = guest_sync_adds_none x in
-        let rest = later waits_later in
         omega arith)
 
 -- 3. A call that succeeds

@@ -5,7 +5,7 @@ use Rattle.std.proofs.lemmas.Option.{slice_get-get_or, slice_get_within}
 use Rattle.disk.specs.Content.{Content}
 use Rattle.disk.specs.Disk.{DiskState, MayLeave}
 use Rattle.flusher.proofs.Syncs.{two_row}
-use Rattle.intent_slots.specs.Layout.{Region, AreApart, end_of}
+use Rattle.intent_slots.specs.Layout.{Region, end_of}
 use Rattle.intent_slots.specs.Payload.{Intent, GroupFits}
 use Rattle.intent_slots.specs.Recovered.{Part}
 use Rattle.flusher.specs.declared.guest.Guest.{Guest}
@@ -97,8 +97,7 @@ module _ (parts : ℕ → Part) (xs : List Guest) (broken : Bool) (s : DiskState
   held_given = record {
     known = held.known;
     fits = λ h y here. (let z = stood h y here in let old = held.fits h z.0 z.1 in subst (λ (v : Region). end_of v ≤ s.len) (sym z.2) old);
-    apart = λ h k y y' other here there. (let z = stood h y here in let z' = stood k y' there in
-        subst (λ (v : Region). AreApart v (region_of y')) (sym z.2) (subst (λ (v : Region). AreApart (region_of z.0) v) (sym z'.2) (held.apart h k z.0 z'.0 other z.1 z'.1)));
+    apart = λ h k y y' other here there. grind (arith, here, stood);
     rows = row_given;
     seen_rows = seen_given;
   }

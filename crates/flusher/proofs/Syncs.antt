@@ -5,16 +5,16 @@ use Rattle.disk.specs.Content.{Content}
 use Rattle.intent_slots.specs.declared.layout.Side.{Side}
 use Rattle.intent_slots.specs.declared.layout.Side.TheVariants.{A}
 use Rattle.intent_slots.specs.Layout.{Region, SlotRegion, slot_region, other_side}
-use Rattle.intent_slots.specs.Payload.{Group, Intent, last_of}
+use Rattle.intent_slots.specs.Payload.{Group, Intent}
 use Rattle.intent_slots.specs.Recovered.{Part, HoldsHome}
 use Rattle.flusher.specs.declared.phase.Phase.{Phase}
 use Rattle.flusher.specs.declared.phase.Phase.TheVariants.{Given, Written, Ready, Opening, Open, Applying, Applied, Closing}
 use Rattle.flusher.specs.declared.slot.Slot.{Slot}
 use Rattle.flusher.specs.declared.guest.Guest.{Guest}
 use Rattle.flusher.specs.Phase.{skipped, synced, is_opening, is_closing, is_settled}
-use Rattle.flusher.specs.Slot.{after_sync, in_phase, intent_of, pending_of, opening_in}
+use Rattle.flusher.specs.Slot.{after_sync, in_phase, pending_of, opening_in}
 use Rattle.flusher.specs.Pair.{entries_in, or_else, mark_after, with_slots, moved_up, guest_after_sync, side_of, side_behind}
-use Rattle.flusher.specs.SlotInvariant.{IsShut, Row, Seen, Behind, BehindRow, LeadsTo, LeadsBy, PhaseBesides, Besides, Chained, Follows, IsMarked, PairRow, guest_seen, settled, settled_with, sequence_of_part, guest_settled}
+use Rattle.flusher.specs.SlotInvariant.{IsShut, Row, Seen, Behind, BehindRow, LeadsTo, LeadsBy, PhaseBesides, Besides, Follows, IsMarked, PairRow, guest_seen, settled, settled_with, sequence_of_part, guest_settled}
 use Rattle.flusher.proofs.Rows.{synced_row, synced_seen}
 use Rattle.flusher.proofs.Pairs.{promoted_row, promoted_seen, behind_synced, behind_synced_seen}
 use Rattle.flusher.proofs.Turns.{quiet_behind}
@@ -59,9 +59,6 @@ stays_not s st is = (let gone : synced s.phase s.intent.group ≡ None = ap (λ 
 
 -- 2. Marks
 
-mark_with : (o : Option Group) (n : ℕ) (p : Part) → n ≡ sequence_of_part p → mark_after o n ≡ sequence_of_part (settled_with o p)
-mark_with o n p is = grind arith
-
 -- an intent that isn't settled still follows
 follows_first : (n : ℕ) (phase : Phase) (i : Intent) (o : Option Group) → (is_closing phase ≡ false → o ≡ None) → Follows n (if is_settled phase then None else Some i)
     → Follows (mark_after (or_else (if is_opening phase then Some i.group else None) o) n) (pending_of (in_phase i (synced phase i.group)))
@@ -70,16 +67,6 @@ follows_first n phase i o none f = grind arith
 -- and so does the one behind it
 abbrev after_pending : ℕ → Phase → Intent → Option Group → ℕ
 after_pending n phase i o = mark_after (or_else (if is_opening phase then Some i.group else None) o) n + length (entries_in (pending_of (in_phase i (synced phase i.group))))
-
-follows_next : (n : ℕ) (first : Phase) (i : Intent) (phase : Phase) (j : Intent) → j.group.first ≡ last_of i.group + 1 → Follows (n + length (entries_in (if is_settled first then None else Some i))) (if is_settled phase then None else Some j)
-    → Follows (after_pending n first i (if is_opening phase then Some j.group else None)) (pending_of (in_phase j (synced phase j.group)))
-follows_next n first i phase j chained f = grind arith
-
-chained_phases : (i j : Intent) (o p : Option Phase) → Chained (Some i) (Some j) → Chained (intent_of (in_phase i o)) (intent_of (in_phase j p))
-chained_phases i j o p ch = grind arith
-
-synced_besides : (first phase : Phase) (i j : Intent) (next : Phase) → synced first i.group ≡ Some next → PhaseBesides first phase → Besides (Some (record { phase = next; intent = i })) (in_phase j (synced phase j.group))
-synced_besides first phase i j next is b = grind arith
 
 module _ (x : Guest) (n : ℕ) where
   abbrev InOrder : Option Slot → Option Slot → Type 0
@@ -145,12 +132,7 @@ module _ (p : Part) (x : Guest) (c : Content) where
         let nothing : x.mark + 0 ≡ x.mark = omega arith in
         let f = subst (λ (n : ℕ). Follows n (pending_of (Some b))) nothing r.1.next_follows in
         let g = subst (λ (o : Option Group). Follows (mark_after o x.mark) (pending_of (after_sync (Some b)))) (or_none (opening_in (Some b))) (follows_first x.mark b.phase b.intent None (λ un. refl) f) in
-        let marks : IsMarked (settled (Some b) p) (moved_up x (mark_after (opening_in (Some b)) x.mark) None (Some (staying b st))) = record {
-          mark = mark_with (opening_in (Some b)) x.mark p r.1.mark;
-          follows = subst (λ (o : Option Slot). Follows (mark_after (opening_in (Some b)) x.mark) (pending_of o)) (stays_there b st) g;
-          next_follows = tt;
-          ordered = record { chained = tt; besides = tt; single = λ un. absurd (let is = (r.1.ordered.single un).alone in cc) };
-        } in
+        let marks : IsMarked (settled (Some b) p) (moved_up x (mark_after (opening_in (Some b)) x.mark) None (Some (staying b st))) = grind arith in
         subst go (sym (stays_there b st)) (
           (record { between = settled (Some b) p; leads = refl; row = here; behind = shut }, marks),
           record { between = settled (Some b) p; leads = refl; row = here; seen = seen; behind = shut; behind_seen = tt },
@@ -183,12 +165,7 @@ module _ (p : Part) (x : Guest) (c : Content) where
         let row = subst (λ (v : Option Slot). Row x.extent (side_of x) (settled (Some f) s.between) v c) (stays_there f st) (synced_row x.extent (side_of x) s.between (Some f) c s.row s.seen) in
         let seen = subst (λ (v : Option Slot). Seen x.extent (side_of x) (settled (Some f) s.between) v c) (stays_there f st) (synced_seen x.extent (side_of x) s.between (Some f) c s.row s.seen) in
         let leads = same_leads (opening_in (Some f)) s.between p s.leads in
-        let marks : IsMarked (settled_with o p) (moved_up x (mark_after o x.mark) (Some to) None) = record {
-          mark = mark_with o x.mark p r.1.mark;
-          follows = subst (λ (v : Option Slot). Follows (mark_after o x.mark) (pending_of v)) (stays_there f st) (follows_first x.mark f.phase f.intent None (λ un. refl) r.1.follows);
-          next_follows = tt;
-          ordered = record { chained = tt; besides = tt; single = λ un. record { alone = refl; side = (r.1.ordered.single un).side } };
-        } in
+        let marks : IsMarked (settled_with o p) (moved_up x (mark_after o x.mark) (Some to) None) = grind arith in
         subst (λ (v : Option Slot). two_row (settled_with o p) (moved_up x (mark_after o x.mark) v None) c × guest_seen (settled_with o p) (moved_up x (mark_after o x.mark) v None) c) (sym (stays_there f st)) (
           (record { between = settled (Some f) s.between; leads = leads; row = row; behind = s.behind }, marks),
           record { between = settled (Some f) s.between; leads = leads; row = row; seen = seen; behind = s.behind; behind_seen = tt },
@@ -207,18 +184,7 @@ module _ (p : Part) (x : Guest) (c : Content) where
         let behind = behind_synced x.extent (side_behind x) b c quiet below s.behind_seen x.paired in
         let behind_seen = behind_synced_seen x.extent (side_behind x) b c quiet below s.behind_seen in
         let chain = r.1.ordered.chained in
-        let marks : IsMarked (settled_with o p) (moved_up x (mark_after o x.mark) (Some to) (after_sync (Some b))) = record {
-          mark = mark_with o x.mark p r.1.mark;
-          follows = subst (λ (v : Option Slot). Follows (mark_after o x.mark) (pending_of v)) (stays_there f st) (follows_first x.mark f.phase f.intent (opening_in (Some b)) (λ un. none) r.1.follows);
-          next_follows = subst (λ (v : Option Slot). Follows (mark_after o x.mark + length (entries_in (pending_of v))) (pending_of (after_sync (Some b)))) (stays_there f st)
-              (follows_next x.mark f.phase f.intent b.phase b.intent chain.0 r.1.next_follows);
-          ordered = record {
-            chained = subst (λ (v : Option Slot). Chained (intent_of v) (intent_of (after_sync (Some b)))) (stays_there f st)
-                (chained_phases f.intent b.intent (synced f.phase f.intent.group) (synced b.phase b.intent.group) chain);
-            besides = synced_besides f.phase b.phase f.intent b.intent st.next st.is r.1.ordered.besides;
-            single = λ un. absurd (let is = (r.1.ordered.single un).alone in cc);
-          };
-        } in
+        let marks : IsMarked (settled_with o p) (moved_up x (mark_after o x.mark) (Some to) (after_sync (Some b))) = grind arith in
         subst (λ (v : Option Slot). two_row (settled_with o p) (moved_up x (mark_after o x.mark) v (after_sync (Some b))) c × guest_seen (settled_with o p) (moved_up x (mark_after o x.mark) v (after_sync (Some b))) c) (sym (stays_there f st)) (
           (record { between = settled (Some f) s.between; leads = leads; row = row; behind = behind }, marks),
           record { between = settled (Some f) s.between; leads = leads; row = row; seen = seen; behind = behind; behind_seen = behind_seen },

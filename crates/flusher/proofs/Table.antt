@@ -105,8 +105,7 @@ module _ (x : Guest) (at : ℕ) (bytes : List ℕ) (c d : Content) (out : SameOu
           row = behind_keeps_first x.paired area x.side s.between c d x.slot x.behind b w keep s.row;
           seen = behind_keeps_first_seen x.paired area x.side s.between c d x.slot x.behind b w keep s.seen;
           behind = behind_goes_on x.paired area x.side s.between c d x.slot x.behind b w keep s.behind;
-          behind_seen = behind_goes_on_seen x.paired area x.side s.between c d x.slot x.behind b w
-              (puts area (side_behind x) (side_ok area (other_side x.side)) (slot_write x.behind) at bytes d (second_write_fits x at bytes c s.behind next) next put);
+          behind_seen = grind (arith, behind_goes_on_seen, puts, second_write_fits, side_ok);
         }
     seen_in_turn Neither is p next m s = absurd (cc)
 

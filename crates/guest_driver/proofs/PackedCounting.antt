@@ -13,24 +13,18 @@ taken-replicate (suc n) (suc m) = taken-replicate n m
 -- a chain more
 pub taken-more : (owners : List (Option ℕ)) (flights : List Flight) (i head : ℕ) (flight : Flight) → length flights ≡ length owners → i < length owners
     → owner owners i ≡ None → places_taken (slice_set owners i (Some head)) (slice_set flights i flight) ≡ places_taken owners flights + flight.places
-taken-more [] flights i head flight same low free = absurd (omega arith)
-taken-more (o ∷ os) [] i head flight same low free = absurd (omega arith)
-taken-more (None ∷ os) (f ∷ fs) zero head flight same low free = omega arith
-taken-more (Some h ∷ os) (f ∷ fs) zero head flight same low free = absurd (cc)
 taken-more (None ∷ os) (f ∷ fs) (suc i) head flight same low free = taken-more os fs i head flight (omega arith) (omega arith) free
 taken-more (Some h ∷ os) (f ∷ fs) (suc i) head flight same low free =
     grind (arith, (taken-more os fs i head flight (omega arith) (omega arith) free))
+taken-more owners flights i head flight same low free = grind arith
 
 -- a chain less
 pub taken-less : (owners : List (Option ℕ)) (flights : List Flight) (i head : ℕ) → length flights ≡ length owners
     → owner owners i ≡ Some head → places_taken (slice_set owners i None) flights + (get_or flights i no_flight).places ≡ places_taken owners flights
-taken-less [] flights i head same is = absurd (cc)
-taken-less (o ∷ os) [] i head same is = absurd (omega arith)
-taken-less (None ∷ os) (f ∷ fs) zero head same is = absurd (cc)
-taken-less (Some h ∷ os) (f ∷ fs) zero head same is = omega arith
 taken-less (None ∷ os) (f ∷ fs) (suc i) head same is = taken-less os fs i head (omega arith) is
 taken-less (Some h ∷ os) (f ∷ fs) (suc i) head same is =
     grind (arith, (taken-less os fs i head (omega arith) is))
+taken-less owners flights i head same is = grind arith
 
 -- where no id is free, each takes a place
 pub taken-all : (owners : List (Option ℕ)) (flights : List Flight) → length flights ≡ length owners
@@ -46,7 +40,5 @@ taken-all (Some h ∷ os) (f ∷ fs) same all each =
 
 -- an entry that is written twice
 pub set_twice : (owners : List (Option ℕ)) (i : ℕ) (o : Option ℕ) → slice_set (slice_set owners i o) i o ≡ slice_set owners i o
-set_twice [] zero o = refl
-set_twice [] (suc i) o = refl
-set_twice (x ∷ xs) zero o = refl
 set_twice (x ∷ xs) (suc i) o = ap (λ v. x ∷ v) (set_twice xs i o)
+set_twice owners i o = grind arith

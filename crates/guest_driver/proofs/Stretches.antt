@@ -196,13 +196,32 @@ stretch_more size offered used next last count owners owners' flights flights' f
         ]
       ];
       room = grind arith;
-      oldest = grind arith;
+      oldest = λ _. elim (cases_lt 0 (turn used offered)) [
+        | inl already ↦
+            let o = s.oldest already in
+            let p = apart owners s.first next s.first o.0 t.free in
+            let q = apart owners s.first last s.first o.0 t.last_free in
+            (g.others s.first p q ∙ o.0, old_turn s.first p ∙ o.1)
+        | inr none ↦
+            let zero : turn used offered ≡ 0 = omega arith in
+            let here : s.first ≡ next = s.none zero in
+            (ap (owner owners') here ∙ g.head ∙ ap Some (sym here), ap (turn_of used flights') here ∙ new_turn ∙ zero)
+      ];
       none = λ e. absurd (omega arith);
       each = λ d low h. elim (cases_eq d next) [
         | inl here ↦ subst (λ v. IsInTurn size ((offered + 1) % 65536) used (following size last) owners' flights' v) (sym here) joins
         | inr p ↦ turn_stays size offered used next last count owners owners' flights flights' f d s small t g at p low (was d p h) (s.each d low (was d p h)) more
       ];
-      once = grind arith;
+      once = λ d e low low' h h' same. elim (cases_eq d next) [
+        | inl here ↦ elim (cases_eq e next) [
+          | inl there ↦ here ∙ sym there
+          | inr q ↦ let b = below e low' q h' in let a = ap (turn_of used flights') here ∙ new_turn in absurd (omega arith)
+        ]
+        | inr p ↦ elim (cases_eq e next) [
+          | inl there ↦ let b = below d low p h in let a = ap (turn_of used flights') there ∙ new_turn in absurd (omega arith)
+          | inr q ↦ s.once d e low low' (was d p h) (was e q h') (sym (old_turn d p) ∙ same ∙ old_turn e q)
+        ]
+      ];
     }
 
 taken_of : (size next last : ℕ) (owners : List (Option ℕ)) (two : Bool) → length owners ≡ size → HasNextFree owners next two → last ≡ last_after owners next two
