@@ -1,27 +1,11 @@
 -- The calls that a store has before it, one by one.
 use Rattle.std.proofs.Common.{◌≡◌, ◌<◌, ◌≤◌, ◌+◌, Bool, true, false, Option, Some, Result, ℕ, zero, suc, List, [], ◌∷◌, map, refl, ap, sym, ◌∙◌, arith}
-use Rattle.std.specs.Prelude.{slice_get, slice_set, if◌then◌else◌, length}
-use Rattle.std.specs.List.{list_any}
-use Rattle.std.proofs.lemmas.List.Quantifiers.{position-Some}
-use Rattle.std.proofs.lemmas.Option.{slice_get_within, get_or_from_slice_get}
-use Rattle.disk.specs.Disk.{DiskCall}
-use Rattle.intent_slots.specs.Payload.{Entry, Group, Intent}
-use Rattle.flusher.specs.declared.phase.Phase.{Phase}
-use Rattle.flusher.specs.declared.phase.Phase.TheVariants.{Open}
-use Rattle.flusher.specs.declared.guest.Guest.{Guest}
-use Rattle.flusher.specs.declared.slot.Slot.{Slot}
-use Rattle.flusher.specs.declared.plan.Plan.{Plan}
-use Rattle.flusher.specs.declared.plan.Plan.TheVariants.{WriteOf, SyncAll}
-use Rattle.flusher.specs.Progress.{Progress, Synced}
-use Rattle.flusher.specs.declared.progress.StoreFault.{StoreFault}
-use Rattle.flusher.specs.Phase.{has_write, open_after, written}
-use Rattle.flusher.specs.Slot.{is_empty, slot_writes, after_write}
-use Rattle.flusher.specs.Pair.{turn_of, has_turn, moved_in, with_slots, given_at, with_intent, guest_has_write, guest_awaits, guest_after_write, guest_after_sync}
-use Rattle.flusher.specs.Marks.{marks_of}
-use Rattle.flusher.specs.Round.{plan_at, planned, AllEmpty, Ends, Round}
-use Rattle.flusher.specs.Store.{given, given_of}
+use Rattle.flusher.proofs.Common.{slice_get, slice_set, if◌then◌else◌, list_any, position-Some, slice_get_within, get_or_from_slice_get, DiskCall, Entry, Group, Intent, Phase, Open, Guest, Slot, Plan, WriteOf, SyncAll, Progress, Synced, StoreFault, has_write, open_after, is_empty, slot_writes, after_write, turn_of, moved_in, with_slots, given_at, with_intent, guest_has_write, guest_awaits, guest_after_write, guest_after_sync, marks_of, plan_at, planned, AllEmpty, Ends, Round, given_of, Turn}
+use Rattle.std.specs.Prelude.{length}
+use Rattle.flusher.specs.Phase.{written}
+use Rattle.flusher.specs.Pair.{has_turn}
+use Rattle.flusher.specs.Store.{given}
 use Rattle.flusher.specs.CallsLeft.{calls_left, slot_left, guest_left, left_of, called}
-use Rattle.flusher.specs.declared.guest.Turn.{Turn}
 use Rattle.flusher.specs.Laws.{GivenAdds, NoneLeftIsEmpty}
 
 -- 1. A slot

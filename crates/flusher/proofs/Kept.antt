@@ -1,17 +1,8 @@
 -- What a whole round keeps, over any disk.
 use Rattle.std.proofs.Common.{◌≡◌, Bool, true, false, not, Option, Some, None, Result, Ok, ℕ, List, map, refl, ap, sym, ◌∙◌, ⊎_elim, subst}
-use Rattle.std.specs.Prelude.{slice_get, slice_set, if◌then◌else◌}
-use Rattle.disk.specs.Disk.{DiskState, DiskCall, Write, Sync, Effect, during, Within, Still, Then, Writes, Syncs}
-use Rattle.flusher.specs.declared.guest.Guest.{Guest}
-use Rattle.flusher.specs.Progress.{Progress, Wrote, Synced}
-use Rattle.flusher.specs.declared.progress.StoreFault.{StoreFault}
-use Rattle.flusher.specs.Marks.{marks_of}
-use Rattle.intent_slots.specs.Recovered.{Part}
-use Rattle.flusher.specs.Pair.{region_of, guest_write, guest_after_write, guest_after_sync}
-use Rattle.flusher.specs.SlotInvariant.{IsKept, guest_row, guest_seen, guest_settled, settled_by, IsHeld, EachStop}
-use Rattle.flusher.specs.declared.plan.Plan.{Plan}
-use Rattle.flusher.specs.declared.plan.Plan.TheVariants.{WriteOf, SyncAll, Nothing}
-use Rattle.flusher.specs.Round.{planned, Ends, Round, written_at, under_way_by, under_way, parts_after}
+use Rattle.flusher.proofs.Common.{slice_get, slice_set, if◌then◌else◌, DiskState, DiskCall, Write, Sync, Effect, during, Within, Still, Then, Writes, Syncs, Guest, Progress, Wrote, Synced, StoreFault, marks_of, Part, region_of, guest_write, guest_after_write, guest_after_sync, IsKept, guest_row, guest_seen, guest_settled, settled_by, IsHeld, Plan, WriteOf, SyncAll, Nothing, planned, Ends, Round, written_at, under_way_by, under_way}
+use Rattle.flusher.specs.SlotInvariant.{EachStop}
+use Rattle.flusher.specs.Round.{parts_after}
 use Rattle.flusher.proofs.Guests.{set_cases}
 use Rattle.flusher.proofs.Table.{t_range, t_write, t_seen, t_stands, t_moved, t_frame, t_seen_frame, t_synced, t_synced_seen, region_moved, region_synced}
 use Rattle.flusher.proofs.Held.{Touches, touches_written, touches_during}

@@ -1,20 +1,9 @@
 -- A guest of the store, as a call finds it, and as one is given an intent.
 use Rattle.std.proofs.Common.{◌≡◌, ◌<◌, ◌≤◌, ℕ, ◌+◌, Bool, true, false, List, length, length-set, get_or, Option, Some, None, refl, ap, sym, ◌∙◌, subst, arith, ⊎_elim}
-use Rattle.std.specs.Prelude.{slice_get, slice_set, if◌then◌else◌}
-use Rattle.std.proofs.lemmas.Option.{slice_get-get_or, slice_get_within}
-use Rattle.disk.specs.Content.{Content}
-use Rattle.disk.specs.Disk.{DiskState, MayLeave}
+use Rattle.flusher.proofs.Common.{slice_get, slice_set, if◌then◌else◌, slice_get-get_or, slice_get_within, Content, DiskState, MayLeave, Region, end_of, Intent, GroupFits, Part, Guest, Slot, is_empty, intent_of, pending_of, has_room, region_of, side_behind, mark_of, with_intent, with_slots, given_at, entries_in, marks_of, IsOfVersion, Behind, Besides, IsHeld, guest_row, guest_seen, AllFit, GuestFits, given_of, next_of, next_sequence}
 use Rattle.flusher.proofs.Syncs.{two_row}
-use Rattle.intent_slots.specs.Layout.{Region, end_of}
-use Rattle.intent_slots.specs.Payload.{Intent, GroupFits}
-use Rattle.intent_slots.specs.Recovered.{Part}
-use Rattle.flusher.specs.declared.guest.Guest.{Guest}
-use Rattle.flusher.specs.declared.slot.Slot.{Slot}
-use Rattle.flusher.specs.Slot.{is_empty, intent_of, pending_of}
-use Rattle.flusher.specs.Pair.{has_room, region_of, side_behind, mark_of, with_intent, with_slots, given_slot, given_at, entries_in}
-use Rattle.flusher.specs.Marks.{marks_of}
-use Rattle.flusher.specs.SlotInvariant.{IsOfVersion, Behind, Besides, IsHeld, guest_row, guest_seen}
-use Rattle.flusher.specs.Store.{AllFit, GuestFits, Gives, HasSameKey, given, given_of, is_free, is_free_of, next_of, next_sequence, Fits, FitsOf, FitsGuest}
+use Rattle.flusher.specs.Pair.{given_slot}
+use Rattle.flusher.specs.Store.{Gives, HasSameKey, given, is_free, is_free_of, Fits, FitsOf, FitsGuest}
 use Rattle.flusher.proofs.Blocks.{none_past}
 use Rattle.flusher.proofs.Guests.{set_cases, get_set_same, get_set_other, map_set}
 

@@ -1,20 +1,10 @@
 -- Two slots of one partition: what each write and each sync keeps.
 use Rattle.std.proofs.Common.{◌≡◌, inl, inr, Bool, true, false, Option, Some, ℕ, ◌+◌, refl, ap, ◌∙◌, arith}
-use Rattle.std.proofs.lemmas.Bool.{cases_eq}
-use Rattle.disk.specs.Content.{Content}
-use Rattle.intent_slots.specs.declared.layout.Side.{Side}
-use Rattle.intent_slots.specs.declared.layout.Side.TheVariants.{A, B}
-use Rattle.intent_slots.specs.Layout.{Region, SlotRegion, slot_region, other_side, blocks_at}
-use Rattle.intent_slots.specs.Payload.{Group, Intent, last_of}
-use Rattle.intent_slots.specs.Recovered.{Part, HoldsHome, HasPayload, redone, after, StandsFor, ByHome, ByPayload, StandsForTwo, ByOne, ByBoth}
-use Rattle.intent_slots.proofs.Bytes.{SameOn}
-use Rattle.flusher.specs.declared.phase.Phase.{Phase}
-use Rattle.flusher.specs.declared.phase.Phase.TheVariants.{Given, Written, Ready, Opening, Open, Applying, Applied, Closing}
-use Rattle.flusher.specs.declared.slot.Slot.{Slot}
-use Rattle.flusher.specs.Phase.{PayloadWrite, GateWrite, next_write, written, synced, is_opening, is_settled}
-use Rattle.flusher.specs.Slot.{in_phase, after_sync}
-use Rattle.flusher.specs.Pair.{is_let_beside}
-use Rattle.flusher.specs.SlotInvariant.{IsShut, IsWideOpen, PhaseRow, Row, PhaseSeen, Seen, BeforeOrAfter, BehindRow, Behind, BehindPhaseSeen, BehindSeen, LeadsBy}
+use Rattle.flusher.proofs.Common.{cases_eq, Content, Side, A, Region, SlotRegion, slot_region, other_side, blocks_at, Group, Intent, last_of, Part, HoldsHome, HasPayload, redone, after, StandsFor, ByHome, ByPayload, SameOn, Phase, Given, Written, Ready, Opening, Open, Applying, Applied, Closing, Slot, PayloadWrite, GateWrite, next_write, is_opening, is_settled, in_phase, after_sync, is_let_beside, IsShut, PhaseRow, Row, PhaseSeen, Seen, BeforeOrAfter, BehindRow, Behind, BehindSeen, LeadsBy}
+use Rattle.intent_slots.specs.declared.layout.Side.TheVariants.{B}
+use Rattle.intent_slots.specs.Recovered.{StandsForTwo, ByOne, ByBoth}
+use Rattle.flusher.specs.Phase.{written, synced}
+use Rattle.flusher.specs.SlotInvariant.{IsWideOpen, BehindPhaseSeen}
 use Rattle.flusher.proofs.Rows.{Keeps, same_pl, redone_after, skip}
 
 -- 1. A write of one slot, and the other one's gate and payload

@@ -1,17 +1,8 @@
 -- The intents of a guest that aren't settled, over its calls.
 use Rattle.std.proofs.Common.{◌≡◌, Bool, true, false, Option, Some, None, ℕ, [], ◌∷◌, ◌++◌, refl, ap, sym, ◌∙◌, subst}
-use Rattle.std.specs.Prelude.{if◌then◌else◌}
-use Rattle.intent_slots.specs.Payload.{Group, Intent}
-use Rattle.flusher.specs.declared.phase.Phase.{Phase}
-use Rattle.flusher.specs.declared.phase.Phase.TheVariants.{Given, Written, Ready, Opening, Open, Applying, Applied, Closing}
-use Rattle.flusher.specs.declared.slot.Slot.{Slot}
-use Rattle.flusher.specs.declared.guest.Guest.{Guest}
-use Rattle.flusher.specs.declared.guest.Turn.{Turn}
-use Rattle.flusher.specs.declared.guest.Turn.TheVariants.{First, Second, Neither}
-use Rattle.flusher.specs.Phase.{synced, is_opening, is_settled}
-use Rattle.flusher.specs.Slot.{is_empty, intent_of, slot_writes, pending_of, opening_in, in_phase, after_sync}
-use Rattle.flusher.specs.Pair.{has_room, behind_writes, listed, pending_intents, or_else, opening_of, mark_of, marked, moved_up, moved_in, turn_of, with_slots, given_at, guest_after_write, guest_after_sync, with_intent}
-use Rattle.flusher.specs.SlotInvariant.{Besides, PhaseBesides}
+use Rattle.flusher.proofs.Common.{if◌then◌else◌, Group, Intent, Phase, Given, Written, Ready, Opening, Open, Applying, Applied, Closing, Slot, Guest, Turn, First, Second, Neither, is_opening, is_settled, is_empty, intent_of, slot_writes, pending_of, opening_in, in_phase, after_sync, has_room, behind_writes, or_else, mark_of, marked, moved_up, moved_in, turn_of, with_slots, given_at, guest_after_write, guest_after_sync, with_intent, Besides, PhaseBesides}
+use Rattle.flusher.specs.Phase.{synced}
+use Rattle.flusher.specs.Pair.{listed, pending_intents, opening_of}
 use Rattle.flusher.specs.Laws.{PendingStays, PendingGrows, PendingSettles, Settles}
 use Rattle.flusher.proofs.Turns.{pending_written, intent_written, turn_behind, first_writes_besides, behind_writes_besides}
 use Rattle.flusher.proofs.Syncs.{synced_order}

@@ -1,30 +1,14 @@
 -- Which call comes next, and what it makes of the guests and of the header.
 use Rattle.std.proofs.Common.{◌≡◌, ◌↔◌, ◌≤◌, inl, inr, ⊎_elim, Bool, true, false, Option, Some, None, Result, Ok, ℕ, List, [], ◌∷◌, length, map, length-set, get_or, refl, ap, sym, ◌∙◌, subst, arith}
-use Rattle.std.specs.Prelude.{slice_get, slice_set, position, if◌then◌else◌, ◌||◌}
-use Rattle.std.specs.List.{list_any, position_or_len}
+use Rattle.flusher.proofs.Common.{slice_get, slice_set, position, if◌then◌else◌, ◌||◌, list_any, common_steps, position-Some, slice_get-get_or, slice_get_within, get_or_from_slice_get, DiskState, DiskCall, Write, Sync, Effect, during, Within, Still, Then, Guest, Slot, Turn, First, Second, Neither, other_side, Plan, WriteOf, SyncAll, Nothing, Progress, Synced, Idle, with_marks, StoreFault, is_empty, slot_write, slot_writes, turn_of, write_in, region_of, side_behind, guest_write, guest_has_write, guest_awaits, guest_after_write, guest_after_sync, marks_of, plan_at, planned, AllEmpty, Ends, Round, AllFit}
+use Rattle.std.specs.List.{position_or_len}
 use Rattle.std.proofs.lemmas.List.{length-map}
-use Rattle.std.proofs.lemmas.Grind.{common_steps}
 use Rattle.std.proofs.lemmas.List.Sums.{fails_before_first}
-use Rattle.std.proofs.lemmas.List.Quantifiers.{position-Some}
 use Rattle.std.proofs.lemmas.List.Folds.{list_any_at, list_any_none}
-use Rattle.std.proofs.lemmas.Option.{slice_get-get_or, slice_get_within, get_or_from_slice_get}
-use Rattle.disk.specs.Disk.{DiskState, DiskCall, Write, Sync, Effect, during, Within, Still, Then}
-use Rattle.flusher.specs.declared.guest.Guest.{Guest}
-use Rattle.flusher.specs.declared.slot.Slot.{Slot}
-use Rattle.flusher.specs.declared.guest.Turn.{Turn}
-use Rattle.flusher.specs.declared.guest.Turn.TheVariants.{First, Second, Neither}
-use Rattle.intent_slots.specs.Layout.{other_side}
-use Rattle.flusher.specs.declared.plan.Plan.{Plan}
-use Rattle.flusher.specs.declared.plan.Plan.TheVariants.{WriteOf, SyncAll, Nothing}
 use Rattle.flusher.specs.declared.progress.Made.{Made}
 use Rattle.flusher.specs.declared.progress.Made.TheVariants as made
-use Rattle.flusher.specs.Progress.{Progress, Synced, Idle, with_marks}
-use Rattle.flusher.specs.declared.progress.StoreFault.{StoreFault}
-use Rattle.flusher.specs.Slot.{is_empty, slot_write, slot_writes, slot_awaits}
-use Rattle.flusher.specs.Pair.{turn_of, write_in, region_of, side_behind, guest_write, guest_has_write, guest_awaits, guest_after_write, guest_after_sync}
-use Rattle.flusher.specs.Marks.{marks_of}
-use Rattle.flusher.specs.Round.{plan_at, planned, AllEmpty, Ends, Round, settles, MovedBy, Moves, FrontStays}
-use Rattle.flusher.specs.Store.{AllFit}
+use Rattle.flusher.specs.Slot.{slot_awaits}
+use Rattle.flusher.specs.Round.{settles, MovedBy, Moves, FrontStays}
 use Rattle.flusher.proofs.Guests.{set_cases, map_cases}
 use Rattle.flusher.proofs.Held.{not_in}
 use Rattle.flusher.proofs.Turns.{side_ok}

@@ -1,20 +1,8 @@
 -- A sync of a guest's two slots, each in its phase.
 use Rattle.std.proofs.Common.{◌≡◌, ◌≢◌, ◌⊎◌, inl, inr, Bool, true, false, Option, Some, None, ℕ, ◌+◌, length, refl, ap, sym, ◌∙◌, subst, arith}
-use Rattle.std.specs.Prelude.{if◌then◌else◌}
-use Rattle.disk.specs.Content.{Content}
-use Rattle.intent_slots.specs.declared.layout.Side.{Side}
-use Rattle.intent_slots.specs.declared.layout.Side.TheVariants.{A}
-use Rattle.intent_slots.specs.Layout.{Region, SlotRegion, slot_region, other_side}
-use Rattle.intent_slots.specs.Payload.{Group, Intent}
-use Rattle.intent_slots.specs.Recovered.{Part, HoldsHome}
-use Rattle.flusher.specs.declared.phase.Phase.{Phase}
-use Rattle.flusher.specs.declared.phase.Phase.TheVariants.{Given, Written, Ready, Opening, Open, Applying, Applied, Closing}
-use Rattle.flusher.specs.declared.slot.Slot.{Slot}
-use Rattle.flusher.specs.declared.guest.Guest.{Guest}
-use Rattle.flusher.specs.Phase.{skipped, synced, is_opening, is_closing, is_settled}
-use Rattle.flusher.specs.Slot.{after_sync, in_phase, pending_of, opening_in}
-use Rattle.flusher.specs.Pair.{entries_in, or_else, mark_after, with_slots, moved_up, guest_after_sync, side_of, side_behind}
-use Rattle.flusher.specs.SlotInvariant.{IsShut, Row, Seen, Behind, BehindRow, LeadsTo, LeadsBy, PhaseBesides, Besides, Follows, IsMarked, PairRow, guest_seen, settled, settled_with, sequence_of_part, guest_settled}
+use Rattle.flusher.proofs.Common.{if◌then◌else◌, Content, Side, A, Region, SlotRegion, slot_region, other_side, Group, Intent, Part, HoldsHome, Phase, Given, Written, Ready, Opening, Open, Applying, Applied, Closing, Slot, Guest, skipped, is_opening, is_settled, after_sync, in_phase, pending_of, opening_in, entries_in, or_else, with_slots, moved_up, guest_after_sync, side_of, side_behind, IsShut, Row, Seen, Behind, BehindRow, LeadsTo, LeadsBy, PhaseBesides, Besides, Follows, IsMarked, PairRow, guest_seen, settled, settled_with, sequence_of_part, guest_settled}
+use Rattle.flusher.specs.Phase.{synced, is_closing}
+use Rattle.flusher.specs.Pair.{mark_after}
 use Rattle.flusher.proofs.Rows.{synced_row, synced_seen}
 use Rattle.flusher.proofs.Pairs.{promoted_row, promoted_seen, behind_synced, behind_synced_seen}
 use Rattle.flusher.proofs.Turns.{quiet_behind}

@@ -1,24 +1,9 @@
 -- The rows of one guest, as a round asks for them.
 use Rattle.std.proofs.Common.{◌≡◌, inl, Bool, true, false, Option, Some, None, ℕ, ◌+◌, ◌≤◌, List, length, refl, ap, sym, ◌∙◌, subst, arith}
-use Rattle.std.specs.Prelude.{if◌then◌else◌, ◌==◌}
-use Rattle.disk.specs.Content.{Content}
-use Rattle.intent_slots.specs.declared.layout.Side.{Side}
-use Rattle.intent_slots.specs.declared.layout.Side.TheVariants.{A}
-use Rattle.intent_slots.specs.Layout.{Region, slot_region, other_side, end_of}
-use Rattle.intent_slots.specs.Payload.{Group, Intent}
-use Rattle.intent_slots.specs.Recovered.{Part, StandsFor, StandsIn, is_paired}
-use Rattle.intent_slots.proofs.Bytes.{SameOn}
-use Rattle.flusher.specs.declared.phase.Phase.{Phase}
-use Rattle.flusher.specs.declared.phase.Phase.TheVariants.{Given, Written, Ready, Opening, Open, Applying, Applied, Closing}
-use Rattle.flusher.specs.declared.slot.Slot.{Slot}
-use Rattle.flusher.specs.declared.guest.Guest.{Guest}
-use Rattle.flusher.specs.declared.guest.Turn.{Turn}
-use Rattle.flusher.specs.declared.guest.Turn.TheVariants.{First, Second, Neither}
-use Rattle.flusher.specs.Phase.{is_opening, is_settled}
-use Rattle.flusher.specs.Slot.{slot_write, slot_writes, intent_of, pending_of, opening_in, after_sync}
-use Rattle.flusher.specs.Pair.{region_of, side_of, side_behind, entries_in, or_else, behind_writes, turn_of, write_in, moved_in, guest_write, guest_after_write, guest_after_sync, moved_up, marked}
-use Rattle.flusher.specs.SlotInvariant.{PhaseRow, Row, guest_row, guest_seen, guest_settled, PairRow, PairSeen, Behind, LeadsTo, LeadsBy, PhaseBesides, Besides, Chained, BeforeOrAfter, Follows, IsOrdered, IsMarked, IsOfVersion, IsKept, sequence_of_part}
-use Rattle.flusher.specs.Store.{IntentFits}
+use Rattle.flusher.proofs.Common.{if◌then◌else◌, Content, Side, A, Region, slot_region, other_side, end_of, Group, Intent, Part, StandsFor, SameOn, Phase, Given, Written, Ready, Opening, Open, Applying, Applied, Closing, Slot, Guest, Turn, First, Second, Neither, is_opening, is_settled, slot_write, slot_writes, intent_of, pending_of, opening_in, after_sync, region_of, side_of, side_behind, entries_in, or_else, behind_writes, turn_of, write_in, moved_in, guest_write, guest_after_write, guest_after_sync, moved_up, marked, PhaseRow, Row, guest_row, guest_seen, guest_settled, PairRow, Behind, LeadsTo, LeadsBy, PhaseBesides, Besides, BeforeOrAfter, Follows, IsMarked, IsOfVersion, IsKept, sequence_of_part, IntentFits}
+use Rattle.std.specs.Prelude.{◌==◌}
+use Rattle.intent_slots.specs.Recovered.{StandsIn, is_paired}
+use Rattle.flusher.specs.SlotInvariant.{PairSeen, Chained, IsOrdered}
 use Rattle.flusher.proofs.Rows.{row_frame, seen_frame, Keeps, IsWritten, own_write, own_seen, row_stands}
 use Rattle.flusher.proofs.Writes.{SameOutside, WriteFits, row_fits, write_fits, within, keeps, puts}
 use Rattle.flusher.proofs.Pairs.{spares_frame, behind_beside, behind_seen_beside, one_stands, both_move, both_settled}

@@ -1,18 +1,9 @@
 -- A guest whose turn it is to write: which of its slots, and what that leaves of the other.
 use Rattle.std.proofs.Common.{◌≡◌, ◌≢◌, Bool, true, Option, Some, None, arith}
-use Rattle.std.specs.Prelude.{if◌then◌else◌, ◌&&◌}
-use Rattle.disk.specs.Content.{Content}
-use Rattle.intent_slots.specs.declared.layout.Side.{Side}
-use Rattle.intent_slots.specs.Layout.{Region, SlotRegion, IsSlotRegion, slot_region, other_side}
-use Rattle.intent_slots.specs.Payload.{Group}
-use Rattle.intent_slots.specs.Recovered.{Part}
-use Rattle.flusher.specs.declared.phase.Phase.TheVariants.{Closing}
-use Rattle.flusher.specs.declared.slot.Slot.{Slot}
-use Rattle.flusher.specs.declared.guest.Turn.TheVariants.{Second}
-use Rattle.flusher.specs.Phase.{has_write, written}
-use Rattle.flusher.specs.Slot.{slot_write, after_write, intent_of, pending_of, opening_in}
-use Rattle.flusher.specs.Pair.{or_else, is_let_beside, behind_writes, turn_by}
-use Rattle.flusher.specs.SlotInvariant.{Row, Seen, Behind, BehindRow, BehindSeen, LeadsTo, Besides}
+use Rattle.flusher.proofs.Common.{if◌then◌else◌, Content, Side, Region, SlotRegion, IsSlotRegion, slot_region, other_side, Group, Part, Closing, Slot, Second, has_write, slot_write, after_write, intent_of, pending_of, opening_in, or_else, is_let_beside, behind_writes, Row, Seen, Behind, BehindRow, BehindSeen, LeadsTo, Besides}
+use Rattle.std.specs.Prelude.{◌&&◌}
+use Rattle.flusher.specs.Phase.{written}
+use Rattle.flusher.specs.Pair.{turn_by}
 use Rattle.flusher.proofs.Rows.{Keeps, Puts, row_beside, seen_beside}
 use Rattle.flusher.proofs.Pairs.{behind_spares, behind_write}
 

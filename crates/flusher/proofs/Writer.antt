@@ -1,20 +1,8 @@
 -- The guest whose turn it is.
 use Rattle.std.proofs.Common.{◌≡◌, Bool, IsTrue, Option, Some, None, ℕ, arith, List, get_or, refl, sym, ◌∙◌, subst, ⊎_elim}
-use Rattle.std.specs.Prelude.{slice_get, slice_set, position, MatchOption}
-use Rattle.std.proofs.lemmas.List.Quantifiers.{position-Some}
-use Rattle.std.proofs.lemmas.Option.{slice_get-get_or}
-use Rattle.disk.specs.Disk.{DiskCall, Write}
-use Rattle.intent_slots.specs.Layout.{Region, SlotRegion}
-use Rattle.intent_slots.specs.Payload.{Entry, Group, Intent}
+use Rattle.flusher.proofs.Common.{slice_get, slice_set, position, position-Some, slice_get-get_or, DiskCall, Write, Region, SlotRegion, Entry, Group, Intent, Slot, Guest, last_of, open_write, Turn, spelled, intent_of, after_sync, turn_of, moved_in, guest_write, guest_after_write, guest_after_sync, guest_has_write, AllFit, GuestFits}
+use Rattle.std.specs.Prelude.{MatchOption}
 use Rattle.intent_slots.specs.Home.{home_bytes}
-use Rattle.flusher.specs.declared.slot.Slot.{Slot}
-use Rattle.flusher.specs.declared.guest.Guest.{Guest}
-use Rattle.intent_slots.specs.Payload.{last_of}
-use Rattle.flusher.specs.Phase.{open_write}
-use Rattle.flusher.specs.declared.guest.Turn.{Turn}
-use Rattle.flusher.specs.Slot.{spelled, intent_of, after_sync}
-use Rattle.flusher.specs.Pair.{turn_of, moved_in, guest_write, guest_after_write, guest_after_sync, guest_has_write}
-use Rattle.flusher.specs.Store.{AllFit, GuestFits}
 use Rattle.flusher.specs.Round.{WroteSlot}
 use Rattle.flusher.proofs.Guests.{set_cases, map_cases}
 use Rattle.std.specs.Prelude.{map}

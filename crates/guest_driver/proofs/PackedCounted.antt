@@ -1,17 +1,9 @@
 -- While a place of a packed ring is free, so is an id.
 use Rattle.std.proofs.Common.{◌≡◌, ◌≢◌, ℕ, ◌+◌, ◌<◌, ◌≤◌, false, List, length, replicate, get_or, slice_set, Option, Some, None, Ok, Err, sym, ap, subst, ◌∙◌, arith}
-use Rattle.std.proofs.lemmas.List.{length-set, length-replicate, get_or-replicate, get_or_past, get_or-set_same, get_or-set_other}
-use Rattle.rpmb_frame.specs.declared.config.RingKind.{RingKind}
-use Rattle.rpmb_frame.specs.declared.config.RingKind.TheVariants.{Packed}
-use Rattle.guest_driver.specs.declared.flight.Flight.{Flight}
-use Rattle.guest_driver.specs.declared.fault.DriverFault.TheVariants.{NoRoom, OutOfRange, NoMemory, BadUsed}
-use Rattle.guest_driver.specs.Offered.{Offer}
-use Rattle.guest_driver.specs.Kinds.{places_by, places_of, mark_after}
-use Rattle.guest_driver.specs.PackedHeld.{free_places}
-use Rattle.guest_driver.specs.PackedUsed.{mark_of}
-use Rattle.guest_driver.specs.Driver.{DriverState, no_flight, owner, offer_of, flight_of, after_offer, Adds, Takes, TakesBy, AreTaken, ordered_by, two_by, has_two, fits_by}
-use Rattle.guest_driver.specs.Reap.{after_reap}
-use Rattle.guest_driver.specs.PackedRoom.{places_taken, IsCounted, ADriverBeginsCounted, AnOfferIsCounted, AReapIsCounted, APackedRingIsFullByItsPlaces}
+use Rattle.guest_driver.proofs.Common.{length-set, length-replicate, get_or-replicate, get_or-set_same, get_or-set_other, RingKind, Packed, Flight, NoRoom, OutOfRange, NoMemory, BadUsed, Offer, places_by, places_of, mark_after, free_places, mark_of, DriverState, no_flight, owner, offer_of, flight_of, after_offer, Adds, TakesBy, ordered_by, two_by, has_two, fits_by, after_reap, places_taken}
+use Rattle.std.proofs.lemmas.List.{get_or_past}
+use Rattle.guest_driver.specs.Driver.{Takes, AreTaken}
+use Rattle.guest_driver.specs.PackedRoom.{IsCounted, ADriverBeginsCounted, AnOfferIsCounted, AReapIsCounted, APackedRingIsFullByItsPlaces}
 use Rattle.guest_driver.proofs.ByKind.{some_places}
 use Rattle.guest_driver.proofs.PackedKind.{free_is, room_more}
 use Rattle.guest_driver.proofs.PackedMarks.{mark_next}

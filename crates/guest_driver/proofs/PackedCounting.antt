@@ -1,8 +1,6 @@
 -- How many places the chains in flight of a packed ring take.
 use Rattle.std.proofs.Common.{◌≡◌, ◌≢◌, ℕ, zero, suc, ◌+◌, ◌<◌, ◌≤◌, List, [], ◌∷◌, length, replicate, get_or, slice_set, Option, Some, None, refl, ap, arith}
-use Rattle.guest_driver.specs.declared.flight.Flight.{Flight}
-use Rattle.guest_driver.specs.Driver.{no_flight, owner}
-use Rattle.guest_driver.specs.PackedRoom.{places_taken}
+use Rattle.guest_driver.proofs.Common.{Flight, no_flight, owner, places_taken}
 
 -- none where none is in flight
 pub taken-replicate : (n m : ℕ) → places_taken (replicate n None) (replicate m no_flight) ≡ 0

@@ -1,15 +1,9 @@
 -- The stretch of the table that isn't free, as chains are offered and come back.
 use Rattle.std.proofs.Common.{◌≡◌, ◌≢◌, ◌⊎◌, ℕ, ◌+◌, ◌-◌, ◌%◌, ◌<◌, ◌≤◌, inl, inr, Bool, true, false, List, length, get_or, slice_set, Option, Some, None, refl, sym, ap, ◌∙◌, subst, arith}
-use Rattle.std.proofs.lemmas.Nat.{mod_below}
-use Rattle.std.proofs.lemmas.Bool.{cases_eq, cases_lt}
+use Rattle.guest_driver.proofs.Common.{mod_below, cases_eq, cases_lt, get_or-set_same, get_or-set_other, length-set, Flight, no_flight, owner, ordered_by, ChoosesNext, ChoosesBy, TakesBy, next_by, IsStretch, mark_after, RingKind, Split}
 use Rattle.std.proofs.Math.ListN.{get_or-eq_default}
-use Rattle.std.proofs.lemmas.List.{get_or-set_same, get_or-set_other, length-set}
-use Rattle.guest_driver.specs.declared.flight.Flight.{Flight}
-use Rattle.guest_driver.specs.Driver.{no_flight, owner, following, ordered_by, HasNextFree, HasTooFew, last_after, ChoosesNext, ChoosesBy, TakesBy, next_by}
-use Rattle.guest_driver.specs.TableOrder.{turn, turn_of, IsWithin, IsBehind, HaveOne, IsHead, behind, IsInTurn, IsStretch}
-use Rattle.guest_driver.specs.Kinds.{mark_after}
-use Rattle.rpmb_frame.specs.declared.config.RingKind.{RingKind}
-use Rattle.rpmb_frame.specs.declared.config.RingKind.TheVariants.{Split}
+use Rattle.guest_driver.specs.Driver.{following, HasNextFree, HasTooFew, last_after}
+use Rattle.guest_driver.specs.TableOrder.{turn, turn_of, IsWithin, IsBehind, HaveOne, IsHead, behind, IsInTurn}
 
 -- the descriptor that follows one
 pub record Follows (size d s : ℕ) : Type 0 where

@@ -1,13 +1,10 @@
 -- What a pop leaves, case by case.
 use Rattle.std.proofs.Common.{◌≡◌, ℕ, ◌+◌, ap, arith, List, Bool, true, false, if◌then◌else◌, Option, Some, None, Result, Ok, Err, refl, sym, subst}
-use Rattle.chains.specs.Ring.{after_pop}
-use Rattle.mmio_transport.specs.declared.fault.DeviceFault.{DeviceFault}
+use Rattle.mmio_transport.proofs.Common.{after_pop, DeviceFault, QueueState, event, Job, DeviceState, IsOfThePast, with_fault, after_job, GivesJob}
 use Rattle.mmio_transport.specs.declared.fault.DeviceFault.TheVariants.{NoMemory, Refused, NeedsReset}
-use Rattle.mmio_transport.specs.Queue.{QueueState, event}
-use Rattle.mmio_transport.specs.Job.{Job, done_of}
-use Rattle.mmio_transport.specs.Device.{DeviceState}
-use Rattle.mmio_transport.specs.Gone.{IsOfThePast, WhatIsPoppedIsOfThePast}
-use Rattle.mmio_transport.specs.Popping.{is_stopped, live_queue, with_fault, after_job, GivesNext, GivesFrom, GivesJob}
+use Rattle.mmio_transport.specs.Job.{done_of}
+use Rattle.mmio_transport.specs.Gone.{WhatIsPoppedIsOfThePast}
+use Rattle.mmio_transport.specs.Popping.{is_stopped, live_queue, GivesNext, GivesFrom}
 
 -- what holds of each state that a pop may leave
 pub record Cases (P : DeviceState → Type 0) (d : DeviceState) : Type 0 where

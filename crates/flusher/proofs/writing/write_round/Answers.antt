@@ -1,5 +1,5 @@
 use Rattle.std.proofs.Common.{◌∙◌, ap}
-use Rattle.flusher.specs.Pair.{guest_after_write}
+use Rattle.flusher.proofs.Common.{guest_after_write}
 use Rattle.flusher.proofs.Writer.{can_write, still_fits, wrote_slot, its_fit, default_is}
 use Rattle.flusher.proofs.writing.write_round.Goals as goal
 

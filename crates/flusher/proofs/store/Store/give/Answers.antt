@@ -1,8 +1,5 @@
 use Rattle.std.proofs.Common.{ap, sym, ◌∙◌, subst, length-set, arith, List}
-use Rattle.flusher.specs.declared.guest.Guest.{Guest}
-use Rattle.flusher.specs.Store.{AllFit}
-use Rattle.std.specs.Prelude.{slice_set}
-use Rattle.flusher.specs.SlotInvariant.{IsHeld}
+use Rattle.flusher.proofs.Common.{Guest, AllFit, slice_set, IsHeld}
 use Rattle.flusher.proofs.Lookups.{gives, gives_it, given_there, still_fits}
 use Rattle.flusher.proofs.store.Store.give.Goals as goal
 

@@ -1,5 +1,5 @@
 use Rattle.std.proofs.Common.{◌≡◌, ◌∙◌, ℕ, ◌++◌, List, length, take, drop, ap, sym, arith}
-use Rattle.std.proofs.lemmas.Grind.{common_steps}
+use Rattle.flusher.proofs.Common.{common_steps}
 use Rattle.flusher.proofs.store.Store.round.Goals as goal
 
 -- the guests as the store has them, once a call that was lent them gave them back

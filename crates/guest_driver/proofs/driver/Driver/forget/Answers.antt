@@ -1,6 +1,5 @@
 use Rattle.std.proofs.Common.{◌≡◌, None, replicate, length, ap, ◌∙◌, rules, arith}
-use Rattle.std.proofs.lemmas.List.{get_or-replicate}
-use Rattle.guest_driver.specs.Driver.{owner}
+use Rattle.guest_driver.proofs.Common.{get_or-replicate, owner}
 use Rattle.guest_driver.proofs.Stretches.{stretch_begins}
 use Rattle.guest_driver.proofs.driver.Driver.forget.Goals as goal
 

@@ -1,7 +1,5 @@
 use Rattle.std.proofs.Common.{◌≡◌, ◌<◌, None, replicate, get_or, ◌≤◌, subst, sym, ap, ◌∙◌, rules, arith}
-use Rattle.std.proofs.lemmas.List.{get_or-replicate}
-use Rattle.guest_driver.specs.declared.flight.Flight.{Flight}
-use Rattle.guest_driver.specs.Driver.{owner, no_flight}
+use Rattle.guest_driver.proofs.Common.{get_or-replicate, Flight, owner, no_flight}
 use Rattle.guest_driver.proofs.Stretches.{stretch_begins}
 use Rattle.guest_driver.proofs.driver.Driver.new.Goals as goal
 

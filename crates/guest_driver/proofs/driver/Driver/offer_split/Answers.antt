@@ -1,6 +1,6 @@
 use Rattle.std.proofs.Common.{◌≡◌, true, ◌+◌, ◌%◌, ◌<◌, Some, slice_set, subst, sym}
-use Rattle.guest_driver.specs.Driver.{DriverState, TakesBy, next_by, in_table_order, takes_two}
-use Rattle.guest_driver.specs.TableOrder.{IsStretch}
+use Rattle.guest_driver.proofs.Common.{DriverState, TakesBy, next_by, takes_two, IsStretch}
+use Rattle.guest_driver.specs.Driver.{in_table_order}
 use Rattle.guest_driver.proofs.Stretches.{stretch_by, in_order_of}
 use Rattle.guest_driver.proofs.driver.Driver.offer_split.Goals as goal
 

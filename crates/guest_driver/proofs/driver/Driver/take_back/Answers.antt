@@ -1,9 +1,6 @@
 use Rattle.std.proofs.Common.{◌≡◌, ℕ, ◌+◌, ◌%◌, ◌<◌, true, None, Some, get_or, slice_set, subst, sym, ap, ◌∙◌, arith}
-use Rattle.std.proofs.lemmas.List.{get_or_default, length-set}
-use Rattle.guest_driver.specs.declared.flight.Flight.{Flight}
-use Rattle.guest_driver.specs.Driver.{DriverState, no_flight, owner}
-use Rattle.guest_driver.specs.Kinds.{mark_after}
-use Rattle.guest_driver.specs.TableOrder.{IsStretch}
+use Rattle.guest_driver.proofs.Common.{length-set, Flight, DriverState, no_flight, owner, mark_after, IsStretch}
+use Rattle.std.proofs.lemmas.List.{get_or_default}
 use Rattle.guest_driver.proofs.Stretches.{stretch_back, in_order_of, one_place, owner_low}
 use Rattle.guest_driver.proofs.driver.Driver.take_back.Goals as goal
 

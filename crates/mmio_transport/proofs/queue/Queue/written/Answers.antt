@@ -1,5 +1,5 @@
 use Rattle.std.proofs.Common.{◌≤◌, ◌+◌, ◌*◌, length, subst, sym}
-use Rattle.chains.specs.Ring.{RingState}
+use Rattle.mmio_transport.proofs.Common.{RingState}
 use Rattle.mmio_transport.proofs.Areas.{packed_areas}
 use Rattle.mmio_transport.proofs.queue.Queue.written.Goals as goal
 
