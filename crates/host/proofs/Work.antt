@@ -96,18 +96,7 @@ take_work {D = D} shows g x (Some None) answer b b' sound at place takes = by (n
         let before : waiting_calls (waiting_of (slice_get (guests b) g)) ≡ waiting_calls x.waiting = ap (λ o. waiting_calls (waiting_of o)) at in
         let after : waiting_calls (waiting_of (slice_get (guests now) g)) ≡ waiting_calls (drop 4 x.waiting) = ap (λ o. waiting_calls (waiting_of o)) y.1 ∙ ap (λ v. waiting_calls v.waiting) taken in
         subst (IsTaken g b) (sym is) (record {
-          same = record {
-            each = λ k v there. (let z = turned b.book (Take g) k v there in (z.0, z.1, subst (λ q. IsSameGuest z.0 q) (sym z.2) (took_guest g k z.0)));
-            count = as_many b.book (Take g);
-            marked = λ marked k v z there stored. (let q = turned b.book (Take g) k v there in ap (λ s. s.settled) q.2 ∙ took_settled g k q.0 ∙ marked k q.0 z q.1 stored);
-            broken = broken;
-            store = refl;
-            devices = refl;
-            jobs = refl;
-            dones = refl;
-            report = refl;
-            runner = ap (λ s. runner_in s.guests) (state_of b.book (Take g)) ∙ runner_update (guests b) g took (λ v. refl) (λ v. refl);
-          };
+          same = grind (arith, turned, took_guest, as_many, took_settled, runner_in, state_of, runner_update);
           late = λ late. record { whole = broken ∙ late.whole; late = λ v there. (let v_is : v ≡ took x = (let a = y.1 in let c = taken in cc) in subst (λ q. q.settled < sequence q.core.partition) (sym v_is) (late.late x at)) };
           work = omega (arith, one, zero_between, before, after, more);
           rest = λ empty. absurd (full_is_not i (sym full ∙ empty));
