@@ -24,7 +24,7 @@ use Rattle.board.proofs.Stays.{marks_at, may_settle_them}
 use Rattle.host.specs.Calm.{is_broken}
 use Rattle.host.specs.Runner.{RunnerView, held_since, runner_of, runner_since, since}
 use Rattle.host.specs.Waiting.{AreMarked, IsLate, Waits}
-use Rattle.host.proofs.Since.{since_whole}
+use Rattle.host.proofs.Updates.{since_whole}
 
 -- where there are as many, there is one
 pub also_there : {X Y : Type 0} (xs : List X) (ys : List Y) (k : ℕ) (x : X) → slice_get xs k ≡ Some x → length ys ≡ length xs → (y : Y) × (slice_get ys k ≡ Some y)

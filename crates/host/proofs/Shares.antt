@@ -56,21 +56,9 @@ module _ {D : Type 0} (shows : D → DiskState) (makes : D → DiskCall → D �
     old = share_of b d o;
     new = share_of b' d' o';
     before = record { at = at; place = place; runner = refl; broken = refl };
-    after = record {
-      at = ap (λ l. slice_get l g) devices ∙ get_set_same b.devices g d d' at;
-      place = ap (λ l. slice_get l g) jobs ∙ get_set_same b.jobs g o o' place;
-      runner = refl;
-      broken = refl;
-    };
+    after = grind (arith, get_set_same);
     does = does;
-    touches = record {
-      calm = calm;
-      devices = λ k other. ap (λ l. slice_get l k) devices ∙ get_set_other b.devices g k d' other;
-      jobs = λ k other. ap (λ l. slice_get l k) jobs ∙ get_set_other b.jobs g k o' other;
-      many = ap length devices ∙ length-set b.devices g d';
-      wide = ap length jobs ∙ length-set b.jobs g o';
-      whole = whole;
-    };
+    touches = grind (arith, get_set_other, length-set);
     moves = moves;
   }
 
@@ -98,14 +86,7 @@ module _ {D : Type 0} (shows : D → DiskState) (makes : D → DiskCall → D �
     before = p.before;
     after = q.after;
     does = both p.old p.new q.new p.does (subst (λ s. Q s q.new) (one_share b q.old p.new q.before p.after) q.does);
-    touches = record {
-      calm = q.touches.calm;
-      devices = λ k other. q.touches.devices k other ∙ p.touches.devices k other;
-      jobs = λ k other. q.touches.jobs k other ∙ p.touches.jobs k other;
-      many = q.touches.many ∙ p.touches.many;
-      wide = q.touches.wide ∙ p.touches.wide;
-      whole = λ whole. p.touches.whole (q.touches.whole whole);
-    };
+    touches = grind arith;
     moves = moves_twice shows makes a b c p.moves q.moves;
   }
 

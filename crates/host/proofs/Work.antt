@@ -1,6 +1,6 @@
--- What a Take and a Give leave to do, until a guest's reply may leave.
+-- What a Take, a Give, a call of the store and a look leave to do, until a guest's reply may leave.
 use Rattle.std.proofs.Common.{◌≡◌, ◌<◌, ◌≤◌, ℕ, ◌+◌, Bool, true, false, List, [], ◌∷◌, Option, Some, None, length, drop, refl, ap, sym, subst, ◌∙◌, arith, inl, inr, Result, Ok, Err}
-use Rattle.std.specs.Prelude.{◌==◌, if◌then◌else◌, slice_get, slice_set}
+use Rattle.std.specs.Prelude.{◌==◌, if◌then◌else◌, slice_get, slice_set, nat_le}
 use Rattle.std.proofs.lemmas.List.{length-drop}
 use Rattle.rpmb_frame.specs.Request.{Request}
 use Rattle.rpmb_frame.specs.Partition.{sequence}
@@ -17,26 +17,28 @@ use Rattle.flusher.proofs.Countdown.{given_adds}
 use Rattle.flusher.proofs.Guests.{get_set_same, get_set_other}
 use Rattle.flusher.proofs.Lookups.{given_mark}
 use Rattle.rpmb_core.proofs.Following.{sequence_of_all}
-use Rattle.rpmb_book.specs.Book.{first_of, guest_of, is_share, next_intent, share_moved, waiting_of, with_turn}
-use Rattle.rpmb_book.specs.Guest.{GuestState, first_intent, took, Held}
-use Rattle.rpmb_book.specs.Turn.{Take}
+use Rattle.rpmb_book.specs.Book.{first_of, guest_of, is_share, next_intent, share_moved, waiting_of, with_turn, due_at, due_of}
+use Rattle.rpmb_book.specs.Guest.{GuestState, first_intent, took, Held, collected, first_due}
+use Rattle.rpmb_book.specs.Turn.{Take, Collect}
 use Rattle.board.specs.Board.{IsSound}
 use Rattle.board.specs.Link.{due, entries_of}
 use Rattle.board.specs.State.{BoardState, guests, in_place, Marks}
-use Rattle.board.specs.Steps.{Answer, GivesWhere, TakesInto, report_of}
+use Rattle.board.specs.Steps.{Answer, GivesWhere, TakesInto, report_of, CollectsInto, did_answer}
 use Rattle.board.proofs.Doing.{full_at}
-use Rattle.board.proofs.Linked.{as_many, at_each, own, there_is, turned}
+use Rattle.board.proofs.Linked.{as_many, at_each, own, there_is, turned, other_guest}
 use Rattle.board.proofs.Stays.{is_share_of, may_give_it}
-use Rattle.host.specs.Waiting.{IsLate, Waits, WritesOn}
+use Rattle.host.specs.Waiting.{IsLate, Waits, WritesOn, Collected, Leaves}
 use Rattle.host.specs.Work.{between_calls, calls_of, todo_of, waiting_calls, work_of}
-use Rattle.host.proofs.Settled.{IsSameGuest, Same, also_there, runner_in, runner_update, state_of, still, stored_same, broken_waits, same_waits, synced_same, waiting_heard}
+use Rattle.host.proofs.Settled.{IsSameGuest, Same, also_there, runner_in, runner_update, state_of, still, stored_same, broken_waits, same_waits, synced_same, waiting_heard, below}
 use Rattle.std.proofs.lemmas.Option.{slice_get_within}
 use Rattle.flusher.specs.Progress.{Progress, Wrote, Synced, Idle}
 use Rattle.flusher.specs.declared.progress.StoreFault.{StoreFault}
 use Rattle.flusher.proofs.Pending.{pending_stays}
 use Rattle.host.specs.Advancing.{GoesBy, GoesOn, Hears, IsListened, book_heard}
-use Rattle.host.specs.Calm.{is_broken}
+use Rattle.host.specs.Calm.{is_broken, IsCalmGuest}
 use Rattle.host.proofs.Ending.{heard_at, heard_badly, heard_idle, heard_lowers, heard_well}
+use Rattle.std.proofs.lemmas.Bool.Decides.{nat_tests}
+use Rattle.host.specs.Runner.{held_since}
 
 full_is_not : (i : Intent) → Some (Some i) ≡ Some None → ⊥
 full_is_not i is = absurd (let no : Some i ≡ None = cc in cc)
@@ -96,18 +98,7 @@ take_work {D = D} shows g x (Some None) answer b b' sound at place takes = by (n
         let before : waiting_calls (waiting_of (slice_get (guests b) g)) ≡ waiting_calls x.waiting = ap (λ o. waiting_calls (waiting_of o)) at in
         let after : waiting_calls (waiting_of (slice_get (guests now) g)) ≡ waiting_calls (drop 4 x.waiting) = ap (λ o. waiting_calls (waiting_of o)) y.1 ∙ ap (λ v. waiting_calls v.waiting) taken in
         subst (IsTaken g b) (sym is) (record {
-          same = record {
-            each = λ k v there. (let z = turned b.book (Take g) k v there in (z.0, z.1, subst (λ q. IsSameGuest z.0 q) (sym z.2) (took_guest g k z.0)));
-            count = as_many b.book (Take g);
-            marked = λ marked k v z there stored. (let q = turned b.book (Take g) k v there in ap (λ s. s.settled) q.2 ∙ took_settled g k q.0 ∙ marked k q.0 z q.1 stored);
-            broken = broken;
-            store = refl;
-            devices = refl;
-            jobs = refl;
-            dones = refl;
-            report = refl;
-            runner = ap (λ s. runner_in s.guests) (state_of b.book (Take g)) ∙ runner_update (guests b) g took (λ v. refl) (λ v. refl);
-          };
+          same = grind (arith, turned, took_guest, as_many, took_settled, runner_in, state_of, runner_update);
           late = λ late. record { whole = broken ∙ late.whole; late = λ v there. (let v_is : v ≡ took x = (let a = y.1 in let c = taken in cc) in subst (λ q. q.settled < sequence q.core.partition) (sym v_is) (late.late x at)) };
           work = omega (arith, one, zero_between, before, after, more);
           rest = λ empty. absurd (full_is_not i (sym full ∙ empty));
@@ -299,3 +290,63 @@ module _ {D : Type 0} (shows : D → DiskState) (makes : D → DiskCall → D �
         waits = m.waits;
         less = work_less g b0 b3 late.whole (λ known. (let less = m.less busy known in let first = taken.work in let second = given.work in omega (arith, less, first, second)));
       }
+
+-- A look for the reply that a guest waits for.
+
+module _ {D : Type 0} (shows : D → DiskState) (g : ℕ) (start : BoardState D) (reply : Held) (b b' : BoardState D) (w : Waits shows g start reply b) where
+  empty : slice_get b.dones g ≡ Some None
+  empty = grind (arith, also_there)
+
+  due_is : due_of b.book g ≡ (if nat_le w.held.done.need w.guest.settled then Some w.held.done else None)
+  due_is = ap due_at w.there ∙ ap (first_due w.guest.settled) w.holds
+
+  due_when : (c : Bool) → nat_le w.held.done.need w.guest.settled ≡ c → due_of b.book g ≡ (if c then Some w.held.done else None)
+  due_when c is = due_is ∙ ap (λ x. if x then Some w.held.done else None) is
+
+  over : (n m : ℕ) → nat_le n m ≡ false → m < n
+  over n m greater = grind (arith, nat_tests)
+
+  -- a reply that isn't due needs more than is settled, of a board that isn't broken
+  is_late : nat_le w.held.done.need w.guest.settled ≡ false → IsLate g b
+  is_late is = grind arith
+
+  abbrev now : BoardState D
+  now = record b { book = with_turn b.book (Collect g); dones = slice_set b.dones g (Some w.held.done) }
+
+  -- one that is due lies in its place then
+  leaves : nat_le w.held.done.need w.guest.settled ≡ true → IsSound shows now → Leaves shows g start reply now
+  leaves is sound = record {
+    sound = sound;
+    done = w.held.done;
+    given = ap (λ h. h.done) (w.same ∙ ap (λ k. held_since (is_broken start) k reply) (sym same_broken));
+    quiet = at_each {P = λ k. (x : GuestState) → slice_get (guests now) k ≡ Some x → IsCalmGuest (is_broken now) x} g
+        (λ y at. (
+        let x = own b.book (Collect g) g collected (λ k v. refl) y at in
+        let same : x.0 ≡ w.guest = (let a = x.1 in let c = w.there in cc) in
+        record {
+          none = ap (λ v. v.held) x.2 ∙ ap (λ v. drop 1 v.held) same ∙ ap (drop 1) w.holds;
+          settled = λ whole. (
+              let need = w.need (sym same_broken ∙ whole) in
+              let le = under w.held.done.need w.guest.settled is in
+              let most = below shows b g w.guest w.sound w.there in
+              let settled = most.settled in
+              let mark = most.mark in
+              subst (λ v. v.settled ≡ sequence v.core.partition) (sym (x.2 ∙ ap collected same)) (omega (arith, le, need, settled, mark)));
+        }))
+        (λ k other x at. (let c = w.others k x other (other_guest b.book (Collect g) g collected (λ m v. refl) k other x at) in
+        record { none = c.none; settled = λ whole. c.settled (sym same_broken ∙ whole) }));
+    dones = ap (λ l. slice_set l g (Some w.held.done)) w.dones;
+    replies = λ k o at. w.replies k o (ap (λ l. slice_get l k) w.dones ∙ at);
+    report = w.report;
+    broken = w.broken ∙ sym same_broken;
+    stays = grind (arith, runner_in, state_of, runner_update, same_broken);
+  }
+    where
+      same_broken : is_broken now ≡ is_broken b
+      same_broken = ap (λ s. s.broken) (state_of b.book (Collect g))
+
+      under : (n m : ℕ) → nat_le n m ≡ true → n ≤ m
+      under n m least = grind (arith, nat_tests)
+
+  pub collects : (did : Bool) → CollectsInto g (slice_get b.dones g) (did_answer did) b b' → IsSound shows b' → Collected did shows g start reply b b'
+  collects did into sound = grind (arith, empty, due_when, leaves, is_late)
