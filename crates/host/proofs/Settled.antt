@@ -1,29 +1,14 @@
 -- Steps over which a guest goes on waiting.
 use Rattle.std.proofs.Common.{◌≡◌, ◌≤◌, ◌<◌, ℕ, zero, suc, ◌+◌, Bool, true, false, ◌||◌, ◌&&◌, List, [], ◌∷◌, Some, None, length, map, max, refl, ap, ap₂, sym, subst, ◌∙◌, arith}
-use Rattle.std.specs.Prelude.{if◌then◌else◌, nat_le, nat_lt, slice_get}
-use Rattle.std.proofs.lemmas.Bool.Decides.{nat_tests}
-use Rattle.std.proofs.lemmas.List.{length-map}
-use Rattle.std.proofs.lemmas.Option.{slice_get_within}
-use Rattle.rpmb_frame.specs.Partition.{sequence}
-use Rattle.rpmb_core.proofs.Following.{sequence_of_all}
-use Rattle.disk.specs.Disk.{DiskState}
-use Rattle.flusher.specs.declared.guest.Guest.{Guest}
-use Rattle.flusher.specs.Marks.{marks_of}
-use Rattle.flusher.specs.Pair.{mark_of}
+use Rattle.host.proofs.Common.{if◌then◌else◌, nat_le, nat_lt, slice_get, nat_tests, length-map, slice_get_within, sequence, sequence_of_all, DiskState, Guest, marks_of, mark_of, answered_in, BookView, state, waiting_of, with_turn, GuestCore, GuestState, Held, after_turn, update, IsSound, BoardState, Marks, guests, as_many, there_is, turned, marks_at, is_broken, RunnerView, held_since, runner_of, runner_since, since, IsLate, Waits}
 use Rattle.flusher.specs.Store.{StoreState}
-use Rattle.rpmb_book.specs.Asked.{answered_in}
-use Rattle.rpmb_book.specs.Book.{BookView, after_settle, may_settle, state, waiting_of, with_turn}
-use Rattle.rpmb_book.specs.Guest.{GuestCore, GuestState, Held, broken_off, failed_held, kept_or_failed, settled_at}
+use Rattle.rpmb_book.specs.Book.{after_settle, may_settle}
+use Rattle.rpmb_book.specs.Guest.{broken_off, failed_held, kept_or_failed, settled_at}
 use Rattle.rpmb_book.specs.Marks.{marks_for}
-use Rattle.rpmb_book.specs.Turn.{Break, Settle, Turn, after_turn, move_some, settled_all, update}
+use Rattle.rpmb_book.specs.Turn.{Break, Settle, Turn, move_some, settled_all}
 use Rattle.rpmb_book.proofs.Replay.{replay-push}
-use Rattle.board.specs.Board.{IsSound}
-use Rattle.board.specs.State.{BoardState, Marks, guests}
-use Rattle.board.proofs.Linked.{as_many, there_is, turned}
-use Rattle.board.proofs.Stays.{marks_at, may_settle_them}
-use Rattle.host.specs.Calm.{is_broken}
-use Rattle.host.specs.Runner.{RunnerView, held_since, runner_of, runner_since, since}
-use Rattle.host.specs.Waiting.{AreMarked, IsLate, Waits}
+use Rattle.board.proofs.Stays.{may_settle_them}
+use Rattle.host.specs.Waiting.{AreMarked}
 use Rattle.host.proofs.Updates.{since_whole}
 
 -- where there are as many, there is one

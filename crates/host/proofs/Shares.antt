@@ -1,32 +1,9 @@
 -- One guest's share in a board, through one call after another.
 use Rattle.std.proofs.Common.{◌≡◌, ◌<◌, ℕ, false, Option, Some, length, refl, ap, sym, subst, ◌∙◌, length-set, max, List, None, Result, Ok, Err, arith}
-use Rattle.std.specs.Prelude.{slice_get, slice_set}
-use Rattle.disk.specs.Disk.{DiskCall, DiskState}
-use Rattle.flusher.proofs.Guests.{get_set_same, get_set_other}
-use Rattle.mmio_transport.specs.Device.{DeviceState}
-use Rattle.mmio_transport.specs.Job.{Job}
-use Rattle.board.specs.Moving.{Moves}
-use Rattle.board.specs.State.{BoardState}
-use Rattle.board.proofs.Linked.{there_is}
-use Rattle.board.proofs.Moving.{lent_moves, moves_none, moves_twice, sound_moved}
-use Rattle.host.specs.Calm.{IsCalm, is_broken}
-use Rattle.host.specs.Guest.{with_device, stuck_by}
-use Rattle.host.specs.Looks.{ShowsShare, OnShare, Share, share_of, LooksOn}
+use Rattle.host.proofs.Common.{slice_get, slice_set, DiskCall, DiskState, get_set_same, get_set_other, DeviceState, Job, Moves, BoardState, there_is, lent_moves, moves_none, moves_twice, sound_moved, IsCalm, is_broken, with_device, stuck_by, ShowsShare, OnShare, Share, share_of, LooksOn, ButForMemory, DriverState, Offering, Reaps, DriverFault, Reaped, ChainDoes, Chains, ChainsFrom, EndsChain, FollowsOffer, told_by, HostFault, Answer, Front, Stuck, Look, Answered}
 use Rattle.host.proofs.Settled.{also_there}
 use Rattle.host.proofs.Updates.{set-nothing}
-use Rattle.guest_driver.specs.Access.{ButForMemory}
-use Rattle.guest_driver.specs.Driver.{DriverState, Offering}
-use Rattle.guest_driver.specs.Reap.{Reaps}
-use Rattle.guest_driver.specs.declared.fault.DriverFault.{DriverFault}
-use Rattle.guest_driver.specs.declared.reaping.Reaped.{Reaped}
-use Rattle.host.specs.Chain.{ChainDoes, Chains, ChainsFrom, EndsChain, FollowsOffer, told_by}
-use Rattle.host.specs.declared.fault.HostFault.{HostFault}
-use Rattle.host.specs.declared.front.Answer.{Answer}
 use Rattle.host.specs.declared.front.Answer.TheVariants as answer
-use Rattle.host.specs.declared.front.Front.{Front}
-use Rattle.host.specs.declared.front.Stuck.{Stuck}
-use Rattle.host.specs.declared.serving.Look.{Look}
-use Rattle.host.specs.declared.serving.Look.TheVariants.{Answered}
 
 module _ {D : Type 0} (shows : D → DiskState) (makes : D → DiskCall → D → Type 0) (g : ℕ) where
   -- 1. The share

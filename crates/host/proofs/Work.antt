@@ -1,44 +1,28 @@
 -- What a Take, a Give, a call of the store and a look leave to do, until a guest's reply may leave.
 use Rattle.std.proofs.Common.{◌≡◌, ◌<◌, ◌≤◌, ℕ, ◌+◌, Bool, true, false, List, [], ◌∷◌, Option, Some, None, length, drop, refl, ap, sym, subst, ◌∙◌, arith, inl, inr, Result, Ok, Err}
-use Rattle.std.specs.Prelude.{◌==◌, if◌then◌else◌, slice_get, slice_set, nat_le}
+use Rattle.host.proofs.Common.{◌==◌, if◌then◌else◌, slice_get, slice_set, nat_le, Request, sequence, DiskState, DiskCall, Guest, left_of, called, AllEmpty, mark_of, get_set_same, get_set_other, sequence_of_all, guest_of, waiting_of, with_turn, GuestState, Held, IsSound, BoardState, guests, in_place, Marks, report_of, did_answer, as_many, at_each, own, there_is, turned, other_guest, IsLate, Waits, Leaves, work_of, slice_get_within, Progress, Synced, Idle, StoreFault, GoesBy, GoesOn, Hears, IsListened, book_heard, is_broken, IsCalmGuest, nat_tests, held_since}
 use Rattle.std.proofs.lemmas.List.{length-drop}
-use Rattle.rpmb_frame.specs.Request.{Request}
-use Rattle.rpmb_frame.specs.Partition.{sequence}
-use Rattle.disk.specs.Disk.{DiskState, DiskCall}
 use Rattle.intent_slots.specs.Payload.{Intent}
-use Rattle.flusher.specs.declared.guest.Guest.{Guest}
 use Rattle.flusher.specs.declared.slot.Slot.{Slot}
-use Rattle.flusher.specs.CallsLeft.{left_of, called}
-use Rattle.flusher.specs.Round.{AllEmpty, MovedBy, settles}
+use Rattle.flusher.specs.Round.{MovedBy, settles}
 use Rattle.flusher.specs.Slot.{is_empty}
-use Rattle.flusher.specs.Pair.{given_at, has_room, mark_of, with_intent}
+use Rattle.flusher.specs.Pair.{given_at, has_room, with_intent}
 use Rattle.flusher.specs.Store.{given, given_of, is_free, is_free_of}
 use Rattle.flusher.proofs.Countdown.{given_adds}
-use Rattle.flusher.proofs.Guests.{get_set_same, get_set_other}
 use Rattle.flusher.proofs.Lookups.{given_mark}
-use Rattle.rpmb_core.proofs.Following.{sequence_of_all}
-use Rattle.rpmb_book.specs.Book.{first_of, guest_of, is_share, next_intent, share_moved, waiting_of, with_turn, due_at, due_of}
-use Rattle.rpmb_book.specs.Guest.{GuestState, first_intent, took, Held, collected, first_due}
+use Rattle.rpmb_book.specs.Book.{first_of, is_share, next_intent, share_moved, due_at, due_of}
+use Rattle.rpmb_book.specs.Guest.{first_intent, took, collected, first_due}
 use Rattle.rpmb_book.specs.Turn.{Take, Collect}
-use Rattle.board.specs.Board.{IsSound}
 use Rattle.board.specs.Link.{due, entries_of}
-use Rattle.board.specs.State.{BoardState, guests, in_place, Marks}
-use Rattle.board.specs.Steps.{Answer, GivesWhere, TakesInto, report_of, CollectsInto, did_answer}
+use Rattle.board.specs.Steps.{Answer, GivesWhere, TakesInto, CollectsInto}
 use Rattle.board.proofs.Doing.{full_at}
-use Rattle.board.proofs.Linked.{as_many, at_each, own, there_is, turned, other_guest}
 use Rattle.board.proofs.Stays.{is_share_of, may_give_it}
-use Rattle.host.specs.Waiting.{IsLate, Waits, WritesOn, Collected, Leaves}
-use Rattle.host.specs.Work.{between_calls, calls_of, todo_of, waiting_calls, work_of}
+use Rattle.host.specs.Waiting.{WritesOn, Collected}
+use Rattle.host.specs.Work.{between_calls, calls_of, todo_of, waiting_calls}
 use Rattle.host.proofs.Settled.{IsSameGuest, Same, also_there, runner_in, runner_update, state_of, still, stored_same, broken_waits, same_waits, synced_same, waiting_heard, below}
-use Rattle.std.proofs.lemmas.Option.{slice_get_within}
-use Rattle.flusher.specs.Progress.{Progress, Wrote, Synced, Idle}
-use Rattle.flusher.specs.declared.progress.StoreFault.{StoreFault}
+use Rattle.flusher.specs.Progress.{Wrote}
 use Rattle.flusher.proofs.Pending.{pending_stays}
-use Rattle.host.specs.Advancing.{GoesBy, GoesOn, Hears, IsListened, book_heard}
-use Rattle.host.specs.Calm.{is_broken, IsCalmGuest}
 use Rattle.host.proofs.Ending.{heard_at, heard_badly, heard_idle, heard_lowers, heard_well}
-use Rattle.std.proofs.lemmas.Bool.Decides.{nat_tests}
-use Rattle.host.specs.Runner.{held_since}
 
 full_is_not : (i : Intent) → Some (Some i) ≡ Some None → ⊥
 full_is_not i is = absurd (let no : Some i ≡ None = cc in cc)

@@ -1,7 +1,5 @@
 use Rattle.std.proofs.Common.{Ok, Err, max, subst, sym, arith}
-use Rattle.host.specs.Looks.{Looks, LooksOn, OnShare}
-use Rattle.host.specs.declared.serving.Look.{Look}
-use Rattle.host.specs.declared.serving.Look.TheVariants.{Nothing, Stopped}
+use Rattle.host.proofs.Common.{Looks, LooksOn, OnShare, Look, Nothing, Stopped}
 use Rattle.host.proofs.Looks.{all_more, looks_all, looks_found, looks_then}
 use Rattle.host.proofs.Shares.{share_none, share_then}
 use Rattle.host.proofs.serving.look_on.Goals as goal

@@ -1,4 +1,4 @@
-use Rattle.host.specs.Looks.{AnswerAll, OnShare}
+use Rattle.host.proofs.Common.{AnswerAll, OnShare}
 use Rattle.host.proofs.serving.look_on.Given as goal
 
 -- each look so far answered a job

@@ -1,10 +1,7 @@
 use Rattle.std.proofs.Common.{Ok, Err, inl, inr, refl, subst, sym, ap, ◌∙◌}
-use Rattle.mmio_transport.specs.declared.fault.DeviceFault.TheVariants.{NoMemory as Starved, Refused as Spoiled, NeedsReset}
+use Rattle.host.proofs.Common.{NeedsReset, Looks, OnShare, HostFault, NoMemory, Stopped}
+use Rattle.mmio_transport.specs.declared.fault.DeviceFault.TheVariants.{NoMemory as Starved, Refused as Spoiled}
 use Rattle.board.specs.Steps.{publish_answer}
-use Rattle.host.specs.Looks.{Looks, OnShare}
-use Rattle.host.specs.declared.fault.HostFault.{HostFault}
-use Rattle.host.specs.declared.fault.HostFault.TheVariants.{NoMemory}
-use Rattle.host.specs.declared.serving.Look.TheVariants.{Stopped}
 use Rattle.host.proofs.Looks.{look_answered, look_failed, look_nothing, look_refused, look_waits}
 use Rattle.host.proofs.serving.look_once.Goals as goal
 
