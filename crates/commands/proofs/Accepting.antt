@@ -1,26 +1,11 @@
 -- What the lines of a run have accepted, and of which guest.
 use Rattle.std.proofs.Common.{◌≡◌, ◌<◌, ◌+◌, ℕ, Bool, true, false, List, [], ◌∷◌, ◌++◌, Option, Some, None, Result, Ok, Err, length, map, refl, ap, sym, ◌∙◌, arith}
-use Rattle.std.specs.Prelude.{option_map, slice_get}
-use Rattle.std.proofs.lemmas.List.{append-nil, length-append, nil_from_length}
-use Rattle.std.proofs.lemmas.Option.{slice_get-get_or, slice_get-map}
-use Rattle.rpmb_frame.specs.Partition.{Partition, sequence}
-use Rattle.rpmb_frame.specs.Request.{Request}
-use Rattle.rpmb_frame.specs.declared.config.GuestConfig.{GuestConfig}
-use Rattle.rpmb_core.proofs.Following.{sequence_of_all}
-use Rattle.disk.specs.Disk.{DiskState}
-use Rattle.rpmb_book.specs.Guest.{GuestCore, GuestState}
-use Rattle.script.specs.Line.{Said, chain, nothing, reset, store}
-use Rattle.board.specs.Board.{StaysLinked}
-use Rattle.board.specs.State.{BoardState, guests}
-use Rattle.host.specs.Calm.{is_broken}
-use Rattle.host.specs.Guest.{GuestView}
-use Rattle.host.specs.Host.{HostState, HostView, ResetsAt, StoresAt, seen}
-use Rattle.board.specs.Moving.{GoOn}
-use Rattle.host.specs.Runner.{runner_of, since}
-use Rattle.host.specs.declared.fault.HostFault.{HostFault}
-use Rattle.commands.specs.Calling.{LineDone, LineFails, NextFails}
+use Rattle.commands.proofs.Common.{slice_get, append-nil, length-append, slice_get-get_or, Partition, sequence, Request, GuestConfig, sequence_of_all, DiskState, GuestCore, GuestState, Said, chain, nothing, reset, store, StaysLinked, BoardState, guests, is_broken, GuestView, HostState, HostView, ResetsAt, StoresAt, seen, GoOn, runner_of, HostFault, LineDone, LineFails, NextFails, Fault}
+use Rattle.std.specs.Prelude.{option_map}
+use Rattle.std.proofs.lemmas.List.{nil_from_length}
+use Rattle.std.proofs.lemmas.Option.{slice_get-map}
+use Rattle.host.specs.Runner.{since}
 use Rattle.commands.specs.Moments.{AcceptsOwn, NextAccepts}
-use Rattle.commands.specs.declared.fault.Fault.{Fault}
 
 pub guest_at : (xs : List GuestState) (g : ℕ) → g < length xs → (x : GuestState) × (slice_get xs g ≡ Some x)
 guest_at [] g inside = absurd (omega (arith, inside))

@@ -1,14 +1,7 @@
 -- The faults that a table allows, one by one.
 use Rattle.std.proofs.Common.{◌≡◌, ℕ, List, Option, Err, []}
-use Rattle.std.specs.Prelude.{true}
-use Rattle.std.specs.Io.KnownBytes.{Keeps}
-use Rattle.disk.specs.Disk.{DiskState, HasRisen}
+use Rattle.commands.proofs.Common.{true, Keeps, DiskState, HasRisen, GuestConfig, Said, IsOfReading, IsOfTelling, LineEnds, OpeningEnds, MayEnd, Moment, StopsAt, broken_at, Fault}
 use Rattle.recovery.specs.Opening.{IsOther, IsUnformatted}
-use Rattle.rpmb_frame.specs.declared.config.GuestConfig.{GuestConfig}
-use Rattle.script.specs.Line.{Said}
-use Rattle.commands.specs.Ending.{IsOfReading, IsOfTelling, LineEnds, OpeningEnds}
-use Rattle.commands.specs.Moments.{MayEnd, Moment, StopsAt, broken_at}
-use Rattle.commands.specs.declared.fault.Fault.{Fault}
 use Rattle.commands.specs.declared.fault.Fault.TheVariants as fault
 
 -- why an image isn't opened

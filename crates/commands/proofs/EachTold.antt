@@ -1,29 +1,14 @@
 -- Lines of guests that are written one after another, and what a script whose guests are served comes to.
 use Rattle.std.proofs.Common.{◌≡◌, ◌∙◌, ℕ, zero, suc, ◌+◌, ◌<◌, List, [], ◌∷◌, ◌++◌, Option, Some, Result, Ok, Err, take, length, map, get_or, refl, ap, subst, sym, arith, inr}
-use Rattle.std.proofs.KnownBytes.{Appends-nil, Appends-trans, Keeps-refl}
-use Rattle.std.proofs.lemmas.List.{append_assoc, append-nil, get_or-map, length-map}
-use Rattle.std.proofs.lemmas.Option.{slice_get_read}
-use Rattle.std.specs.Io.KnownBytes.{Appends}
-use Rattle.std.specs.Prelude.{IfErr, slice_get, slice_index_or, true, vec_len}
-use Rattle.rpmb_frame.specs.declared.config.GuestConfig.{GuestConfig}
-use Rattle.disk.specs.Disk.{DiskState}
-use Rattle.intent_slots.specs.Layout.{capacities_of}
-use Rattle.script.specs.Line.{Said, said, served_line_of}
-use Rattle.script.specs.Script.{lines_of}
-use Rattle.script.specs.declared.line.Line.{Line}
-use Rattle.recovery.specs.Opening.{AnswersFault}
-use Rattle.recovery.specs.declared.fault.OpenFault.{OpenFault}
+use Rattle.commands.proofs.Common.{Appends-nil, Appends-trans, Keeps-refl, append_assoc, append-nil, length-map, slice_get_read, Appends, IfErr, slice_get, slice_index_or, true, GuestConfig, DiskState, capacities_of, Said, served_line_of, lines_of, Line, AnswersFault, OpenFault, HostFault, Answer, HaveAll, chain_orders, Order, Ends, IsOfReading, IsOfTelling, serving, fault_of, fault_of_image, PrintsEach, answer_line, answer_lines, chains_of, guests_lines, Fault}
+use Rattle.std.proofs.lemmas.List.{get_or-map}
+use Rattle.std.specs.Prelude.{vec_len}
+use Rattle.script.specs.Line.{said}
 use Rattle.recovery.specs.declared.fault.OpenFault.TheVariants as image
-use Rattle.host.specs.declared.fault.HostFault.{HostFault}
 use Rattle.host.specs.declared.fault.HostFault.TheVariants as host
-use Rattle.host.specs.declared.front.Answer.{Answer}
-use Rattle.workers.specs.Orders.{HaveAll, chain_orders}
 use Rattle.workers.specs.declared.driver.DriverEnd.{DriverEnd}
-use Rattle.workers.specs.declared.order.Order.{Order}
-use Rattle.commands.specs.Ending.{Ends, IsOfReading, IsOfTelling, IsServable, serving}
-use Rattle.commands.specs.Fault.{fault_of, fault_of_image}
-use Rattle.commands.specs.Serving.{IsUnservedAt, PrintsEach, ServePrints, ServedPrint, answer_line, answer_lines, chains_of, guests_lines}
-use Rattle.commands.specs.declared.fault.Fault.{Fault}
+use Rattle.commands.specs.Ending.{IsServable}
+use Rattle.commands.specs.Serving.{IsUnservedAt, ServePrints, ServedPrint}
 use Rattle.commands.specs.declared.fault.Fault.TheVariants as fault
 use Rattle.commands.proofs.Cases.{reading_cases, telling_cases}
 use Rattle.commands.proofs.Printing.{says_same}

@@ -1,16 +1,11 @@
 -- Which faults end `show` and `upgrade`, and which calls they make.
 use Rattle.std.proofs.Common.{◌≡◌, List, refl}
-use Rattle.std.specs.Prelude.{true}
-use Rattle.rpmb_frame.specs.declared.config.GuestConfig.{GuestConfig}
-use Rattle.disk.specs.Disk.{DiskCall, DiskState, HasRisen}
-use Rattle.intent_slots.specs.Layout.{capacities_of}
-use Rattle.recovery.specs.declared.fault.OpenFault.{OpenFault}
+use Rattle.commands.proofs.Common.{true, GuestConfig, DiskCall, DiskState, HasRisen, capacities_of, OpenFault, AnswersFault, fault_of_image, Ends, IsReadAlone, Synced, showing, upgrading}
 use Rattle.recovery.specs.declared.fault.OpenFault.TheVariants as image
-use Rattle.recovery.specs.Opening.{AnswersFault, CallsFault}
+use Rattle.recovery.specs.Opening.{CallsFault}
 use Rattle.recovery.specs.Upgrade.{CallsNotDone}
 use Rattle.recovery.specs.Front.{TellsVersionFault}
-use Rattle.commands.specs.Fault.{fault_of_image}
-use Rattle.commands.specs.Ending.{Ends, IsReadAlone, Synced, Uncalled, showing, upgrading}
+use Rattle.commands.specs.Ending.{Uncalled}
 
 -- a fault of an opening ends a listing
 pub show_ends : (board : List GuestConfig) (old new : DiskState) (f : OpenFault) → (f ≡ image.NoMemory → new ≡ old) → (f ≡ image.DiskFault → HasRisen old.failures new.failures)

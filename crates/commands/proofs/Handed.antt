@@ -1,10 +1,7 @@
 -- Orders that are handed out to guests, one after another.
 use Rattle.std.proofs.Common.{◌≡◌, ◌≢◌, ⊎_elim, ◌∙◌, ◌+◌, ◌<◌, ◌==◌, ◌++◌, ◌∷◌, ℕ, suc, List, [], true, false, if◌then◌else◌, length, refl, ap, sym, arith}
-use Rattle.std.proofs.lemmas.Bool.{cases_eq}
+use Rattle.commands.proofs.Common.{cases_eq, All, slice_index_or, slice_set, chain_orders, chains_in, Order}
 use Rattle.std.proofs.lemmas.List.{get_or-set_other, get_or-set_same}
-use Rattle.std.specs.Prelude.{All, slice_index_or, slice_set}
-use Rattle.workers.specs.Orders.{chain_orders, chains_in}
-use Rattle.workers.specs.declared.order.Order.{Order}
 
 chain_orders_more : (xs : List Order) (o : Order) → chain_orders (xs ++ o ∷ []) ≡ chain_orders xs + chains_in o
 chain_orders_more [] o = omega arith

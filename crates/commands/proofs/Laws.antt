@@ -1,31 +1,16 @@
 -- What follows of a run from its moments: what it printed, which fault ended it, and what it leaves.
 use Rattle.std.proofs.Common.{◌≡◌, ◌<◌, inl, inr, ℕ, Bool, true, false, List, [], ◌∷◌, ◌++◌, Option, Some, None, Result, Ok, Err, length, map, refl, ap, sym, subst, ◌∙◌, arith}
-use Rattle.std.specs.Prelude.{IfErr, OnOk, slice_get, take}
-use Rattle.std.proofs.KnownBytes.{Appends-kept}
-use Rattle.std.proofs.lemmas.List.{append-nil, length-map, take_all}
-use Rattle.std.proofs.lemmas.Option.{slice_get_within}
-use Rattle.std.specs.Io.KnownBytes.{Appends, Keeps}
-use Rattle.rpmb_frame.specs.Partition.{Partition}
-use Rattle.rpmb_frame.specs.declared.config.GuestConfig.{GuestConfig}
-use Rattle.rpmb_core.specs.Requests.{partition_after_all}
-use Rattle.disk.specs.Disk.{DiskCall, DiskState, HasRisen, MayLeave}
-use Rattle.disk.proofs.Ways.{within_end}
-use Rattle.intent_slots.specs.Layout.{capacities_of, region_at}
+use Rattle.commands.proofs.Common.{IfErr, OnOk, slice_get, Appends-kept, append-nil, length-map, slice_get_within, Appends, Keeps, Partition, GuestConfig, partition_after_all, DiskCall, DiskState, HasRisen, within_end, capacities_of, region_at, part_of, Untouched, GuestCore, GuestState, Said, bases_of, guests, seen, Ends, NextEnds, RunPrints, running, IsFailedIn, text_when, told_when, AnyMoment, Begun, IsTold, MayEnd, Moment, StopsAt, Trail, Went, broken_at, StoresNothing, first_told, Fault}
+use Rattle.std.specs.Prelude.{take}
+use Rattle.std.proofs.lemmas.List.{take_all}
+use Rattle.disk.specs.Disk.{MayLeave}
 use Rattle.intent_slots.specs.Recovered as recovered
-use Rattle.intent_slots.specs.Recovered.{part_of}
-use Rattle.recovery.specs.Opening.{Untouched}
-use Rattle.rpmb_book.specs.Guest.{GuestCore, GuestState}
-use Rattle.script.specs.Line.{Said}
 use Rattle.board.specs.Board.{LeavesPrefixes}
-use Rattle.board.specs.Opening.{bases_of}
-use Rattle.board.specs.State.{guests}
-use Rattle.host.specs.Host.{seen}
-use Rattle.commands.specs.Ending.{Ends, IsReadable, NextEnds, OneEnds, PrintsAllOn, PrintsFirstOn, RunPrints, running}
-use Rattle.commands.specs.Failing.{HasFailed, IsFailedIn, text_when, told_when}
+use Rattle.commands.specs.Ending.{IsReadable, OneEnds, PrintsAllOn, PrintsFirstOn}
+use Rattle.commands.specs.Failing.{HasFailed}
 use Rattle.commands.specs.Image.{Ran}
-use Rattle.commands.specs.Moments.{AcceptNoMore, AnyMoment, Begun, IsRefused, IsTold, MayEnd, Moment, StopsAt, Trail, Went, WholeRun, broken_at, disk_at, kept_at}
-use Rattle.commands.specs.Transcript.{Says, StoresNothing, first_told, partitions_after}
-use Rattle.commands.specs.declared.fault.Fault.{Fault}
+use Rattle.commands.specs.Moments.{AcceptNoMore, IsRefused, WholeRun, disk_at, kept_at}
+use Rattle.commands.specs.Transcript.{Says, partitions_after}
 use Rattle.commands.specs.declared.fault.Fault.TheVariants as fault
 use Rattle.commands.proofs.Cases.{end_cases, line_cases, opening_cases}
 use Rattle.commands.proofs.Lines.{next_before}

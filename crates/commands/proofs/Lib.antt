@@ -1,3 +1,4 @@
+pub mod Common
 pub mod Lines
 pub mod Printing
 pub mod Reasons

@@ -1,30 +1,9 @@
 -- What follows of a line's call for a host whose guests are all ready.
 use Rattle.std.proofs.Common.{◌≡◌, ◌<◌, ◌+◌, ℕ, Bool, false, List, [], ◌∷◌, Option, Some, None, Result, Ok, Err, ap, arith, get_or, length, refl, subst, sym, ◌∙◌}
-use Rattle.std.specs.Prelude.{slice_get}
-use Rattle.std.proofs.lemmas.Option.{slice_get-get_or}
-use Rattle.std.proofs.KnownBytes.{Appends-kept, Appends-nil}
-use Rattle.std.specs.Io.KnownBytes.{Appends, Keeps}
-use Rattle.rpmb_frame.specs.declared.config.GuestConfig.{GuestConfig}
-use Rattle.script.specs.Line.{Said, nothing, chain, reset, store}
-use Rattle.mmio_transport.specs.Device.{last_count}
-use Rattle.host.specs.Call.{ChainCall}
-use Rattle.host.specs.Calm.{is_broken}
-use Rattle.host.specs.Guest.{GuestView}
-use Rattle.host.specs.Runner.{RunnerView, cores_when, reply_when}
-use Rattle.host.specs.Ready.{FailsBy, job_of}
-use Rattle.host.specs.Host.{ChainsAt, HostState, HostView, seen}
-use Rattle.host.specs.declared.fault.HostFault.{HostFault}
+use Rattle.commands.proofs.Common.{slice_get, slice_get-get_or, Appends-kept, Appends-nil, Appends, Keeps, GuestConfig, Said, nothing, chain, reset, store, last_count, ChainCall, is_broken, GuestView, RunnerView, cores_when, reply_when, job_of, ChainsAt, HostState, HostView, seen, HostFault, Answer, Used, Stuck, ChainFault, LineDone, LineFails, NextFails, IsOfWriting, LineEnds, NextEnds, fault_of, IsAt, answer_line, StoresNothing, Told, used_line, Fault}
+use Rattle.host.specs.Ready.{FailsBy}
 use Rattle.host.specs.declared.fault.HostFault.TheVariants as host
-use Rattle.host.specs.declared.front.Answer.{Answer}
-use Rattle.host.specs.declared.front.Answer.TheVariants.{Used, Stuck}
 use Rattle.host.proofs.Hosts.{all_later}
-use Rattle.commands.specs.Calling.{ChainFault, LineDone, LineFails, NextFails}
-use Rattle.commands.specs.Ending.{IsOfWriting, LineEnds, NextEnds}
-use Rattle.commands.specs.Fault.{fault_of}
-use Rattle.commands.specs.Running.{IsAt}
-use Rattle.commands.specs.Serving.{answer_line}
-use Rattle.commands.specs.Transcript.{StoresNothing, Told, used_line}
-use Rattle.commands.specs.declared.fault.Fault.{Fault}
 use Rattle.commands.proofs.Cases.{line_cases}
 use Rattle.commands.proofs.Until.{Breaks, RunsSince, breaks_chain, breaks_none}
 

@@ -1,21 +1,11 @@
 -- A listing that is written line by line.
 use Rattle.std.proofs.Common.{◌≡◌, ⊎_elim, ℕ, zero, suc, ◌+◌, ◌<◌, ◌≤◌, List, [], ◌∷◌, Option, Some, Result, Ok, Err, OnOk, length, map, refl, subst, sym, arith, get_or, true}
-use Rattle.std.proofs.KnownBytes.{Appends-nil, Appends-trans}
-use Rattle.std.proofs.lemmas.Bool.{cases_eq}
-use Rattle.std.proofs.lemmas.List.{get_or_read, length-map}
-use Rattle.std.proofs.lemmas.Option.{get_or_from_slice_get, slice_get-get_or, slice_get_cases, slice_get_read, slice_get_within}
-use Rattle.std.specs.Io.KnownBytes.{Appends}
-use Rattle.std.specs.Prelude.{All, slice_get, slice_index}
-use Rattle.disk.specs.Disk.{DiskState}
-use Rattle.rpmb_frame.specs.Config.{IsBoard, IsGuest}
-use Rattle.rpmb_frame.specs.declared.config.GuestConfig.{GuestConfig}
-use Rattle.rpmb_frame.specs.Partition.{Partition, IsWhole, block_of}
-use Rattle.intent_slots.specs.Layout.{capacities_of}
-use Rattle.intent_slots.specs.Recovered.{Stands, part_of}
-use Rattle.flusher.specs.declared.guest.Guest.{Guest}
+use Rattle.commands.proofs.Common.{Appends-nil, Appends-trans, cases_eq, get_or_read, length-map, get_or_from_slice_get, slice_get-get_or, slice_get_cases, slice_get_read, slice_get_within, Appends, All, slice_get, DiskState, IsBoard, IsGuest, GuestConfig, Partition, IsWhole, capacities_of, part_of, Guest, Fault, block_shown, blocks_below, listing}
+use Rattle.std.specs.Prelude.{slice_index}
+use Rattle.rpmb_frame.specs.Partition.{block_of}
+use Rattle.intent_slots.specs.Recovered.{Stands}
 use Rattle.recovery.specs.Opening.{AllBegun, AllStand}
-use Rattle.commands.specs.declared.fault.Fault.{Fault}
-use Rattle.commands.specs.Listing.{Lists, block_shown, blocks_below, guest_listing, listing, listing_at, listing_below}
+use Rattle.commands.specs.Listing.{Lists, guest_listing, listing_at, listing_below}
 
 pub no_blocks : (start : Option (List ℕ)) (guest : ℕ) (p : Partition) → Appends start start (blocks_below 0 guest p)
 unfolding blocks_below

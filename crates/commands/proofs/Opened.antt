@@ -1,35 +1,16 @@
 -- The opening of an image for a run, and the last board of its host.
 use Rattle.std.proofs.Common.{◌≡◌, ◌⊎◌, inl, inr, ℕ, zero, suc, true, List, [], ◌∷◌, Some, Result, Err, length, map, refl, ap, ap₂, sym, subst, ◌∙◌, arith}
-use Rattle.std.specs.Prelude.{is_ok, not, slice_get}
-use Rattle.std.proofs.lemmas.List.{length-map}
-use Rattle.rpmb_frame.specs.Partition.{Partition}
-use Rattle.rpmb_frame.specs.Request.{Request}
-use Rattle.rpmb_frame.specs.declared.config.GuestConfig.{GuestConfig}
-use Rattle.disk.specs.Disk.{DiskCall, DiskState, HasRisen, Within}
+use Rattle.commands.proofs.Common.{is_ok, not, slice_get, length-map, Partition, Request, GuestConfig, DiskCall, DiskState, HasRisen, Within, capacities_of, region_at, part_of, AnswersFault, Untouched, OpenFault, GuestCore, GuestState, StaysLinked, Begins, bases_of, BoardState, guests, HostState, Moves, runner_of, OpeningEnds, fault_of_image, AreOf, IsOpened, MovesTo, Fault}
 use Rattle.disk.specs.declared.disk.DiskFault.{DiskFault}
-use Rattle.intent_slots.specs.Layout.{capacities_of, region_at}
 use Rattle.intent_slots.specs.Recovered as recovered
-use Rattle.intent_slots.specs.Recovered.{part_of}
-use Rattle.recovery.specs.Opening.{AnswersFault, IsImage, Untouched}
-use Rattle.recovery.specs.declared.fault.OpenFault.{OpenFault}
+use Rattle.recovery.specs.Opening.{IsImage}
 use Rattle.recovery.specs.declared.fault.OpenFault.TheVariants as image
-use Rattle.rpmb_book.specs.Guest.{GuestCore, GuestState}
 use Rattle.rpmb_book.specs.Replay.{fresh_guests}
 use Rattle.rpmb_book.proofs.OpeningLemmas.{uncounted}
-use Rattle.board.specs.Board.{StaysLinked}
-use Rattle.board.specs.Opening.{Begins, Stands, bases_of}
-use Rattle.board.specs.State.{BoardState, guests}
+use Rattle.board.specs.Opening.{Stands}
 use Rattle.host.specs.Finishing.{Finishes as HostFinishes}
-use Rattle.host.specs.Host.{HostState}
-use Rattle.board.specs.Moving.{Moves}
 use Rattle.host.specs.Opening.{IsFirstHost}
-use Rattle.host.specs.Runner.{runner_of}
-use Rattle.commands.specs.Ending.{OpeningEnds}
-use Rattle.commands.specs.Fault.{fault_of_image}
-use Rattle.commands.specs.Image.{AreOf, IsOpened}
-use Rattle.commands.specs.Moments.{MovesTo}
 use Rattle.commands.specs.Transcript.{first_cores}
-use Rattle.commands.specs.declared.fault.Fault.{Fault}
 use Rattle.commands.specs.declared.fault.Fault.TheVariants as fault
 
 -- 1. The opening

@@ -1,12 +1,8 @@
 -- What lines print, one after another.
 use Rattle.std.proofs.Common.{◌≡◌, ℕ, suc, List, [], ◌∷◌, ◌++◌, Option, Some, None, length, map, refl, ap, ap₂, sym, ◌∙◌, arith}
-use Rattle.std.proofs.lemmas.List.{append_assoc, append-nil}
-use Rattle.script.specs.Line.{IsWithin, Said, said}
+use Rattle.commands.proofs.Common.{append_assoc, append-nil, IsWithin, Said, Line, All, Told, printed_by, told_after, told_by, transcript, AreWithin, IsSized}
+use Rattle.script.specs.Line.{said}
 use Rattle.script.specs.Script.{first_none}
-use Rattle.script.specs.declared.line.Line.{Line}
-use Rattle.std.specs.Prelude.{All}
-use Rattle.commands.specs.Transcript.{Told, printed_by, told_after, told_by, transcript}
-use Rattle.commands.specs.Running.{AreWithin, IsSized}
 
 -- a line more at the end
 pub told_after-append : (t : Told) (lines : List Said) (line : Said) → told_after t (lines ++ line ∷ []) ≡ told_by (told_after t lines) line

@@ -1,11 +1,9 @@
 -- Which faults a line may come to.
 use Rattle.std.proofs.Common.{◌≡◌, ◌==◌, ◌+◌, ◌-◌, ◌*◌, ◌%◌, ◌<◌, ◌≤◌, ℕ, inl, inr, Bool, true, false, List, Option, Some, None, Result, Ok, Err, ap, ◌∙◌, arith, length, refl, subst, sym}
+use Rattle.commands.proofs.Common.{All, slice_get, get_or_from_slice_get, slice_get_within, IsGuest, GuestConfig, IsWithin, chain, nothing, store, reset, GuestView, is_broken, ChainsAt, HostState, HostView, ResetsAt, StoresAt, seen, RunnerView, HostFault, Answer, Said, ChainFault, LineDone, LineFails, IsOfWriting, LineEnds, fault_of, Fault}
 use Rattle.std.proofs.Math.Nat.{add-mul-mod_self_right, mod-eq_of_lt}
-use Rattle.std.specs.Prelude.{All, nat_lt, slice_get}
+use Rattle.std.specs.Prelude.{nat_lt}
 use Rattle.std.proofs.lemmas.Bool.Decides.{nat_tests}
-use Rattle.std.proofs.lemmas.Option.{get_or_from_slice_get, slice_get_within}
-use Rattle.rpmb_frame.specs.Config.{IsGuest}
-use Rattle.rpmb_frame.specs.declared.config.GuestConfig.{GuestConfig}
 use Rattle.rpmb_frame.specs.declared.config.RingKind.{RingKind}
 use Rattle.rpmb_frame.specs.declared.config.RingKind.TheVariants.{Split, Packed}
 use Rattle.guest_driver.specs.declared.form.Form.{Form}
@@ -15,22 +13,12 @@ use Rattle.guest_driver.specs.Offered.{Offer}
 use Rattle.guest_driver.specs.PackedHeld.{free_places}
 use Rattle.guest_driver.specs.PackedOffered.{none_or_one, places_of}
 use Rattle.guest_driver.specs.Negotiation.{form_of}
-use Rattle.script.specs.Line.{IsWithin, chain, nothing, store, reset}
-use Rattle.host.specs.Guest.{GuestView, StoresInto}
-use Rattle.host.specs.Calm.{is_broken}
-use Rattle.host.specs.Host.{ChainsAt, HostChains, HostResetsGuest, HostState, HostStores, HostView, ResetsAt, StoresAt, StuckBy, seen}
+use Rattle.host.specs.Guest.{StoresInto}
+use Rattle.host.specs.Host.{HostChains, HostResetsGuest, HostStores, StuckBy}
 use Rattle.host.specs.Reasons.{ChainReason, IsAtRest, IsLevel, HostExplains, HostKeeps, IsGuestOf, ReasonAt}
-use Rattle.host.specs.Runner.{RunnerView}
-use Rattle.host.specs.declared.fault.HostFault.{HostFault}
 use Rattle.host.specs.declared.fault.HostFault.TheVariants as host
-use Rattle.host.specs.declared.front.Answer.{Answer}
 use Rattle.host.specs.declared.front.Stuck.{Stuck}
-use Rattle.script.specs.Line.{Said}
-use Rattle.commands.specs.Calling.{ChainFault, LineDone, LineFails}
-use Rattle.commands.specs.Ending.{IsOfWriting, LineEnds}
-use Rattle.commands.specs.Fault.{fault_of}
 use Rattle.commands.specs.Reasons.{IsHostOf, IsInside, IsOutside, StoresInside}
-use Rattle.commands.specs.declared.fault.Fault.{Fault}
 use Rattle.commands.specs.declared.fault.Fault.TheVariants as fault
 use Rattle.commands.proofs.Lines.{there_is}
 

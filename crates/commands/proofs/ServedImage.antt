@@ -1,21 +1,16 @@
 -- What the threads of a serve leave of the image.
 use Rattle.std.proofs.Common.{◌≡◌, ◌⊎◌, inl, inr, ◌∙◌, ℕ, ◌<◌, ◌≤◌, Bool, true, false, List, Option, Some, None, Result, Ok, Err, length, take, refl, ap, ap₂, sym, subst, arith}
-use Rattle.std.specs.Prelude.{position, IfSome, OnOk, slice_get}
+use Rattle.commands.proofs.Common.{OnOk, slice_get, length-map, get_or_from_slice_get, slice_get_cases, sequence, GuestConfig, DiskCall, DiskState, HasRisen, Still, Within, within_end, capacities_of, region_at, part_of, Guest, mark_of, Untouched, Begins, bases_of, BoardState, AreOf, Fault}
+use Rattle.std.specs.Prelude.{position, IfSome}
 use Rattle.std.specs.List.{list_any}
-use Rattle.std.proofs.lemmas.List.{length-map}
-use Rattle.std.proofs.lemmas.Option.{get_or_from_slice_get, slice_get_cases}
-use Rattle.rpmb_frame.specs.Partition.{empty_partition, sequence}
-use Rattle.rpmb_frame.specs.declared.config.GuestConfig.{GuestConfig}
+use Rattle.rpmb_frame.specs.Partition.{empty_partition}
 use Rattle.disk.specs.Content.{Content}
-use Rattle.disk.specs.Disk.{DiskCall, DiskState, HasRisen, Still, Within}
-use Rattle.disk.proofs.Ways.{within_end, within_weaker}
-use Rattle.intent_slots.specs.Layout.{capacities_of, region_at}
+use Rattle.disk.proofs.Ways.{within_weaker}
 use Rattle.intent_slots.specs.Payload.{Intent}
 use Rattle.intent_slots.specs.Recovered as recovered
-use Rattle.intent_slots.specs.Recovered.{Part, part_of}
-use Rattle.flusher.specs.declared.guest.Guest.{Guest}
+use Rattle.intent_slots.specs.Recovered.{Part}
 use Rattle.flusher.specs.declared.progress.Call.TheVariants as call
-use Rattle.flusher.specs.Pair.{guest_awaits, guest_has_write, mark_of, opening_of, or_else, region_of}
+use Rattle.flusher.specs.Pair.{guest_awaits, guest_has_write, opening_of, or_else, region_of}
 use Rattle.flusher.specs.Round.{AllEmpty, call_of, plan_at}
 use Rattle.flusher.specs.Slot.{is_empty, opening_in}
 use Rattle.flusher.specs.SlotInvariant.{BeforeOrAfter, IsKept, sequence_of_part}
@@ -23,15 +18,11 @@ use Rattle.flusher.specs.Store.{StoreState}
 use Rattle.flusher.specs.declared.slot.Slot.{Slot}
 use Rattle.flusher.proofs.Kept.{stops}
 use Rattle.flusher.proofs.Plans.{nothing_where_empty}
-use Rattle.recovery.specs.Opening.{Untouched, part_or, parts_of}
+use Rattle.recovery.specs.Opening.{part_or, parts_of}
 use Rattle.rpmb_book.specs.Book.{BookView, state}
-use Rattle.board.specs.Opening.{Begins, bases_of}
-use Rattle.board.specs.State.{BoardState}
 use Rattle.workers.specs.Following.{IsAtRest}
 use Rattle.workers.specs.Keeping.{Keeps, LeavesWhole, Reaches, after_all, to_keep}
-use Rattle.commands.specs.Image.{AreOf}
 use Rattle.commands.specs.ServedImage.{LeavesOne, ServeKeeps, LeavesOnFrom, ServeMoments, ServesImage}
-use Rattle.commands.specs.declared.fault.Fault.{Fault}
 use Rattle.commands.specs.declared.fault.Fault.TheVariants as fault
 
 there : {X : Type 0} (xs : List X) (n : ℕ) → n < length xs → (y : X) × (slice_get xs n ≡ Some y)

@@ -1,9 +1,7 @@
 -- A text that a writer takes front by front.
 use Rattle.std.proofs.Common.{◌≡◌, ℕ, ◌+◌, ◌≤◌, List, ◌++◌, Option, length, subst, sym, ◌∙◌, ap, ap₂, take, drop, arith}
-use Rattle.std.proofs.KnownBytes.{Appends-kept, Appends-nil, Appends-trans}
+use Rattle.commands.proofs.Common.{Appends-kept, Appends-nil, Appends-trans, Appends, Keeps, Takes}
 use Rattle.std.proofs.lemmas.List.{drop-take, length-drop, take-append-drop, take-take}
-use Rattle.std.specs.Io.KnownBytes.{Appends, Keeps}
-use Rattle.commands.specs.Ending.{Takes}
 
 -- the writer took so many bytes of the text
 pub record Took (start now : Option (List ℕ)) (text : List ℕ) (taken : ℕ) : Type 0 where

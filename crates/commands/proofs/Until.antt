@@ -1,18 +1,10 @@
 -- What lines print where a call of the disk fails in one of them.
 use Rattle.std.proofs.Common.{◌≡◌, ℕ, zero, suc, ◌+◌, ◌<◌, Bool, true, false, List, [], ◌∷◌, ◌++◌, Option, Some, None, get_or, length, refl, ap, sym, ◌∙◌, arith}
-use Rattle.std.proofs.lemmas.List.{append_assoc, append-nil}
-use Rattle.std.specs.Prelude.{slice_get}
-use Rattle.std.specs.Io.KnownBytes.{Appends}
-use Rattle.mmio_transport.specs.Device.{last_count}
+use Rattle.commands.proofs.Common.{append_assoc, append-nil, slice_get, Appends, last_count, GuestCore, Said, nothing, chain, store, reset, HostView, job_of, cores_when, reply_when, IsFailedIn, text_when, told_when, IsAt, StoresNothing, Told, printed_by, told_after, told_by, transcript, used_line}
 use Rattle.mmio_transport.specs.Job.{Job}
-use Rattle.rpmb_book.specs.Guest.{GuestCore}
-use Rattle.script.specs.Line.{Said, nothing, chain, store, reset}
-use Rattle.host.specs.Host.{HostView}
-use Rattle.host.specs.Ready.{job_of}
-use Rattle.host.specs.Runner.{answer_at, answer_since_at, cores_when, reply_of, reply_when}
-use Rattle.commands.specs.Failing.{IsChainAt, IsFailedIn, failures, printed_since, text_when, told_broken, told_since, told_until, told_when, transcript_until}
-use Rattle.commands.specs.Running.{IsAt, IsChain, answered_by, answered_in}
-use Rattle.commands.specs.Transcript.{StoresNothing, Told, printed_by, told_after, told_by, transcript, used_line}
+use Rattle.host.specs.Runner.{answer_at, answer_since_at, reply_of}
+use Rattle.commands.specs.Failing.{IsChainAt, failures, printed_since, told_broken, told_since, told_until, transcript_until}
+use Rattle.commands.specs.Running.{IsChain, answered_by, answered_in}
 use Rattle.commands.proofs.Printing.{told_after-append, transcript-append}
 
 -- 1. While no call fails, a line prints what the transcript says

@@ -1,43 +1,15 @@
 -- The moments of a run, line by line.
 use Rattle.std.proofs.Common.{◌≡◌, ◌≤◌, ◌<◌, ◌+◌, inl, inr, ℕ, suc, true, false, Bool, List, [], ◌∷◌, ◌++◌, Option, None, Some, Result, Ok, Err, length, map, refl, ap, sym, subst, ◌∙◌, arith}
-use Rattle.std.specs.Prelude.{is_ok, not, slice_get}
-use Rattle.std.proofs.lemmas.List.{append_assoc, length-append}
-use Rattle.std.proofs.lemmas.Option.{get_or_from_slice_get}
-use Rattle.std.proofs.KnownBytes.{Appends-nil, Appends-trans, Keeps-refl, Keeps-trans}
-use Rattle.std.specs.Io.KnownBytes.{Appends, Keeps}
-use Rattle.rpmb_frame.specs.Config.{IsBoard}
-use Rattle.rpmb_frame.specs.Partition.{Partition, sequence}
-use Rattle.rpmb_frame.specs.Request.{Request}
-use Rattle.rpmb_frame.specs.declared.config.GuestConfig.{GuestConfig}
-use Rattle.rpmb_core.specs.Requests.{partition_after_all}
-use Rattle.rpmb_core.proofs.Following.{sequence_of_all}
-use Rattle.disk.specs.Disk.{DiskCall, DiskState, HasRisen, Still, Within}
-use Rattle.intent_slots.specs.Layout.{capacities_of}
-use Rattle.recovery.specs.Opening.{Untouched}
+use Rattle.commands.proofs.Common.{is_ok, not, slice_get, append_assoc, length-append, get_or_from_slice_get, Appends-nil, Appends-trans, Keeps-refl, Appends, Keeps, IsBoard, Partition, sequence, Request, GuestConfig, partition_after_all, sequence_of_all, DiskCall, DiskState, HasRisen, Still, Within, capacities_of, Untouched, mark_of, GuestCore, GuestState, last_count, IsWithin, Said, Line, StaysLinked, bases_of, BoardState, guests, is_broken, HostState, seen, GoOn, Moves, moves_none, moves_twice, LineDone, LineRuns, KeepsUnless, OpeningEnds, IsFailedIn, text_when, told_when, IsOpened, AnyMoment, Begun, IsTold, MayEnd, Moment, MovesTo, Starts, StopsAt, Trail, Walked, Went, moment_of, AreWithin, IsAt, StoresNothing, Told, first_told, Fault}
+use Rattle.std.proofs.KnownBytes.{Keeps-trans}
 use Rattle.recovery.proofs.Ways.{untouched_here}
 use Rattle.flusher.specs.Marks.{marks_of}
-use Rattle.flusher.specs.Pair.{mark_of}
-use Rattle.rpmb_book.specs.Guest.{GuestCore, GuestState}
-use Rattle.mmio_transport.specs.Device.{last_count}
-use Rattle.script.specs.Line.{IsWithin, Said, said}
-use Rattle.script.specs.declared.line.Line.{Line}
-use Rattle.board.specs.Board.{StaysLinked, marks_in}
-use Rattle.board.specs.Opening.{bases_of}
-use Rattle.board.specs.State.{BoardState, guests}
+use Rattle.script.specs.Line.{said}
+use Rattle.board.specs.Board.{marks_in}
 use Rattle.board.proofs.Stays.{marks_at}
-use Rattle.host.specs.Calm.{IsCalm, is_broken}
-use Rattle.host.specs.Host.{HostState, seen}
-use Rattle.board.specs.Moving.{GoOn, Moves}
-use Rattle.board.proofs.Moving.{moves_none, moves_twice}
+use Rattle.host.specs.Calm.{IsCalm}
 use Rattle.host.proofs.Settled.{below}
-use Rattle.commands.specs.Calling.{LineDone, LineRuns}
-use Rattle.commands.specs.Ending.{KeepsUnless, OpeningEnds}
-use Rattle.commands.specs.Failing.{IsFailedIn, text_when, told_when}
-use Rattle.commands.specs.Image.{IsOpened}
-use Rattle.commands.specs.Moments.{AnyMoment, Begun, IsDone, IsTold, Leads, LinesCome, MayEnd, Moment, MovesTo, Starts, Stopped, StopsAt, Trail, Walked, Went, moment_of}
-use Rattle.commands.specs.Running.{AreWithin, IsAt}
-use Rattle.commands.specs.Transcript.{StoresNothing, Told, first_told}
-use Rattle.commands.specs.declared.fault.Fault.{Fault}
+use Rattle.commands.specs.Moments.{IsDone, Leads, LinesCome, Stopped}
 use Rattle.commands.specs.declared.fault.Fault.TheVariants as fault
 use Rattle.commands.proofs.Accepting.{accepts_own, guest_at, next_own, none_more, partition_in}
 use Rattle.commands.proofs.Cases.{line_cases}

@@ -1,13 +1,11 @@
 -- Whether a sync is awaited, by the store's next call.
 use Rattle.std.proofs.Common.{◌≡◌, ◌∙◌, ap, sym, Bool, false}
-use Rattle.std.specs.Prelude.{◌&&◌}
-use Rattle.disk.specs.Outbox.{is_none}
+use Rattle.machine.proofs.Common.{◌&&◌, is_none, BoardState, is_awaited}
 use Rattle.disk.specs.OutboxDisk.{OutboxState}
 use Rattle.flusher.specs.Store.{next_call}
 use Rattle.flusher.specs.declared.progress.Call.{Call}
 use Rattle.flusher.specs.declared.progress.Call.TheVariants as call
-use Rattle.board.specs.State.{BoardState}
-use Rattle.machine.specs.Machine.{is_awaited, is_sync}
+use Rattle.machine.specs.Machine.{is_sync}
 
 module _ (b : BoardState OutboxState) (c : Call) (is : c ≡ next_call b.store.broken b.store.guests) where
   by_call : is_awaited b ≡ is_sync c && is_none b.store.disk.outbox.writes

@@ -1,23 +1,12 @@
 -- The reasons of a fault, one part of a serve after another.
 use Rattle.std.proofs.Common.{◌≡◌, refl, ap, sym, subst, ◌∙◌, ℕ, List, Option, Some, Ok, Err}
-use Rattle.std.specs.Prelude.{slice_get, is_some}
-use Rattle.disk.specs.Disk.{DiskCall, DiskState}
-use Rattle.mmio_transport.specs.Job.{Job}
+use Rattle.machine.proofs.Common.{slice_get, is_some, DiskCall, DiskState, Job, BoardState, in_place, Answer, Does, Step, told_fault, HasReason, Lacks, Refuses, Waits, IsShare, Runs, Still, MachineFault, Left, Offered}
 use Rattle.mmio_transport.specs.declared.done.Published.TheVariants.{Wrote, Dropped}
-use Rattle.board.specs.State.{BoardState, in_place}
-use Rattle.board.specs.Steps.{Answer, Does}
 use Rattle.board.specs.declared.step.Seen.TheVariants as seen
-use Rattle.board.specs.declared.step.Step.{Step}
 use Rattle.board.specs.declared.step.StepFault.{StepFault}
-use Rattle.machine.specs.Ending.{told_fault}
-use Rattle.machine.specs.Reasons.{HasReason, Lacks, Refuses, Waits}
-use Rattle.machine.specs.Serving.{IsShare, Runs, Still}
 use Rattle.machine.specs.Stepping.{Goes, reason_of, went_of}
-use Rattle.machine.specs.declared.fault.MachineFault.{MachineFault}
 use Rattle.machine.specs.declared.fault.MachineFault.TheVariants.{NoMemory}
-use Rattle.machine.specs.declared.leaving.Left.{Left}
 use Rattle.machine.specs.declared.leaving.Left.TheVariants as left
-use Rattle.machine.specs.declared.offering.Offered.{Offered}
 use Rattle.machine.specs.declared.offering.Offered.TheVariants as offered
 use Rattle.machine.specs.declared.stepping.Went.{Went}
 use Rattle.machine.specs.declared.stepping.Went.TheVariants as went

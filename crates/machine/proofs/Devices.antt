@@ -1,14 +1,6 @@
 -- The steps that keep every device.
 use Rattle.std.proofs.Common.{◌≡◌, refl, ap, ◌∙◌, inl, inr, ℕ, Bool, true, false, Option, Some, None}
-use Rattle.std.specs.Prelude.{slice_get}
-use Rattle.disk.specs.Disk.{DiskCall, DiskState}
-use Rattle.flusher.specs.Store.{is_free}
-use Rattle.intent_slots.specs.Payload.{Intent}
-use Rattle.mmio_transport.specs.Job.{Done, Job}
-use Rattle.rpmb_book.specs.Job.{Tally}
-use Rattle.board.specs.State.{BoardState, Fault, Marks, Report, in_place}
-use Rattle.board.specs.Steps.{AdvancesUnder, Answer, CollectsInto, Does, GivesWhere, SettlesBy, SubmitsFrom, TakesInto}
-use Rattle.board.specs.declared.step.Step.{Step}
+use Rattle.machine.proofs.Common.{slice_get, DiskCall, DiskState, is_free, Intent, Done, Job, Tally, BoardState, Fault, Marks, Report, in_place, AdvancesUnder, Answer, CollectsInto, Does, GivesWhere, SettlesBy, SubmitsFrom, TakesInto, Step}
 use Rattle.board.specs.declared.step.Step.TheVariants as step
 use Rattle.machine.specs.Stepping.{keeps_devices}
 

@@ -1,17 +1,11 @@
 -- What a serve tells at its end.
 use Rattle.std.proofs.Common.{◌≡◌, ◌≢◌, refl, ap, sym, ◌∙◌, ℕ, Option, Some, None}
-use Rattle.std.specs.Prelude.{slice_get, if◌then◌else◌, is_some}
-use Rattle.flusher.proofs.Guests.{get_set_same}
-use Rattle.mmio_transport.specs.Job.{Done}
+use Rattle.machine.proofs.Common.{slice_get, is_some, get_set_same, Done, BoardState, in_place, put, Answer, CollectsInto, told_fault, Left, Offered}
+use Rattle.std.specs.Prelude.{if◌then◌else◌}
 use Rattle.rpmb_book.specs.Book.{due_of, with_turn}
 use Rattle.rpmb_book.specs.Turn.{Collect}
-use Rattle.board.specs.State.{BoardState, in_place, put}
-use Rattle.board.specs.Steps.{Answer, CollectsInto}
-use Rattle.machine.specs.Ending.{told_fault}
 use Rattle.machine.specs.Stepping.{HasNoReply}
-use Rattle.machine.specs.declared.leaving.Left.{Left}
 use Rattle.machine.specs.declared.leaving.Left.TheVariants as left
-use Rattle.machine.specs.declared.offering.Offered.{Offered}
 use Rattle.machine.specs.declared.offering.Offered.TheVariants as offered
 
 -- where no fault is told, and the limit wasn't met, no reply may leave

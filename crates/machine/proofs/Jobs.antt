@@ -1,21 +1,10 @@
 -- What steps make of a guest's job.
 use Rattle.std.proofs.Common.{◌≡◌, refl, ap, sym, ◌∙◌, inl, inr, ℕ, zero, suc, Bool, true, false, List, [], ◌∷◌, Option, Some, None, Ok, length, arith}
-use Rattle.std.specs.Prelude.{slice_get}
-use Rattle.disk.specs.Disk.{DiskCall, DiskState}
-use Rattle.flusher.specs.Store.{is_free}
-use Rattle.flusher.proofs.Guests.{get_set_same}
-use Rattle.intent_slots.specs.Payload.{Intent}
-use Rattle.mmio_transport.specs.Device.{DeviceState}
-use Rattle.mmio_transport.specs.Job.{Done, Job}
-use Rattle.rpmb_book.specs.Job.{Tally}
-use Rattle.board.specs.Board.{IsSound}
-use Rattle.board.specs.State.{BoardState, Fault, Marks, Report, in_place}
-use Rattle.board.specs.Steps.{AdvancesUnder, Answer, CollectsInto, Does, Drives, GivesWhere, PublishesFrom, SettlesBy, SubmitsFrom, TakesInto}
+use Rattle.machine.proofs.Common.{slice_get, DiskCall, DiskState, is_free, get_set_same, Intent, DeviceState, Done, Job, Tally, IsSound, BoardState, Fault, Marks, Report, in_place, AdvancesUnder, Answer, CollectsInto, Does, GivesWhere, PublishesFrom, SettlesBy, SubmitsFrom, TakesInto, Step, HasNoJob}
+use Rattle.board.specs.Steps.{Drives}
 use Rattle.board.specs.declared.step.Act.{Act}
 use Rattle.board.specs.declared.step.Seen.{Seen}
-use Rattle.board.specs.declared.step.Step.{Step}
 use Rattle.board.specs.declared.step.Step.TheVariants as step
-use Rattle.board.specs.State.{HasNoJob}
 use Rattle.machine.specs.Serving.{keeps_jobs}
 
 -- a place that one list lacks, another of the same length lacks

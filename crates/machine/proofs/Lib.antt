@@ -1,3 +1,4 @@
+pub mod Common
 pub mod Awaited
 pub mod Because
 pub mod Devices

@@ -1,19 +1,16 @@
 -- What a pop and a publication of a device leave of its memory, by what was noted before.
 use Rattle.std.proofs.Common.{◌<◌, inl, inr, ◌∙◌, sym, ℕ, List, [], ◌∷◌, ◌++◌, Option, Some, Result, length, arith}
+use Rattle.machine.proofs.Common.{DeviceState, Done, Job, parts_of, range_in, AreCovered, Grow, IsInSome, IsQueueNoted, IsReplyNoted, StaysOutside, Range}
 use Rattle.std.proofs.lemmas.Bool.{cases_lt}
 use Rattle.std.proofs.lemmas.Option.{slice_get_past}
 use Rattle.chains.specs.declared.range.Range.{Range as Part}
-use Rattle.mmio_transport.specs.Device.{DeviceState}
-use Rattle.mmio_transport.specs.Job.{Done, Job}
 use Rattle.mmio_transport.specs.Popping.{GivesJob}
 use Rattle.mmio_transport.specs.Publishing.{Publishes}
 use Rattle.mmio_transport.specs.Queue.{written_by}
-use Rattle.mmio_transport.specs.Written.{KeepsOutside, LiesIn, parts_of, range_in}
+use Rattle.mmio_transport.specs.Written.{KeepsOutside, LiesIn}
 use Rattle.mmio_transport.specs.declared.done.Published.{Published}
 use Rattle.mmio_transport.specs.declared.fault.DeviceFault.{DeviceFault}
 use Rattle.mmio_transport.proofs.Writing.{pop_writes, publication_writes}
-use Rattle.machine.specs.Written.{AreCovered, Grow, IsInSome, IsQueueNoted, IsReplyNoted, StaysOutside}
-use Rattle.machine.specs.declared.ranges.Range.{Range}
 
 -- what is covered stays covered
 pub covered_more : (ps : List Part) (rs rs' : List Range) → Grow rs rs' → AreCovered ps rs → AreCovered ps rs'

@@ -1,12 +1,12 @@
 -- Ranges that are noted.
 use Rattle.std.proofs.Common.{◌≡◌, ◌≤◌, ◌<◌, ◌+◌, inl, inr, sym, subst, ℕ, zero, suc, true, List, [], ◌∷◌, ◌++◌, length, min, max, arith}
-use Rattle.std.specs.Prelude.{◌&&◌, nat_le, slice_set, slice_get, Some}
+use Rattle.machine.proofs.Common.{◌&&◌, slice_set, slice_get, Grow, IsCovered, IsIn, Range}
+use Rattle.std.specs.Prelude.{nat_le, Some}
 use Rattle.std.specs.List.{list_any}
 use Rattle.std.proofs.lemmas.Bool.Decides.{nat_tests}
 use Rattle.std.proofs.lemmas.List.{length_push}
 use Rattle.rpmb_book.proofs.IsolationLemmas.{by_test}
-use Rattle.machine.specs.Written.{Grow, IsCovered, IsIn, end_of}
-use Rattle.machine.specs.declared.ranges.Range.{Range}
+use Rattle.machine.specs.Written.{end_of}
 
 -- a range that lies in one of the others is covered
 pub covered_by : (r : Range) (rs : List Range) → list_any (λ s. nat_le s.at r.at && nat_le (end_of r) (end_of s)) rs ≡ true → IsCovered r rs

@@ -1,17 +1,9 @@
 -- What the steps of one guest leave of the others.
 use Rattle.std.proofs.Common.{◌≡◌, ◌≢◌, refl, sym, subst, ◌∙◌, inl, inr, ℕ, Bool, true, false, List, Option, Some, None}
-use Rattle.std.specs.Prelude.{slice_get}
-use Rattle.disk.specs.Disk.{DiskCall, DiskState}
+use Rattle.machine.proofs.Common.{slice_get, DiskCall, DiskState, Intent, DeviceState, Done, Job, Tally, BoardState, Fault, Marks, Report, put, AdvancesUnder, Answer, CollectsInto, Does, GivesWhere, PopsInto, PublishesFrom, SettlesBy, SubmitsFrom, TakesInto, Step, IsShare, Runs, Still, Then}
 use Rattle.flusher.proofs.Guests.{get_set_other}
-use Rattle.intent_slots.specs.Payload.{Intent}
-use Rattle.mmio_transport.specs.Device.{DeviceState}
-use Rattle.mmio_transport.specs.Job.{Done, Job}
-use Rattle.rpmb_book.specs.Job.{Tally}
-use Rattle.board.specs.State.{BoardState, Fault, Marks, Report, put}
-use Rattle.board.specs.Steps.{AdvancesUnder, Answer, CollectsInto, Does, GivesWhere, PopsInto, PublishesFrom, SettlesBy, SubmitsFrom, TakesInto}
-use Rattle.board.specs.declared.step.Step.{Step}
 use Rattle.board.specs.declared.step.Step.TheVariants as step
-use Rattle.machine.specs.Serving.{IsShare, OthersStay, Runs, Still, Then}
+use Rattle.machine.specs.Serving.{OthersStay}
 
 -- something is put into one place
 put_other : {X : Type 0} (places : List (Option X)) (g k : ℕ) (o : Option X) → k ≢ g → slice_get (put places g o) k ≡ slice_get places k

@@ -1,11 +1,9 @@
 -- A reply's parts are noted one after another.
 use Rattle.std.proofs.Common.{◌≡◌, ◌≤◌, ◌<◌, ◌+◌, ◌∙◌, ap, get_or, sym, subst, refl, ℕ, zero, suc, List, [], ◌∷◌, Some, length, arith}
-use Rattle.std.specs.Prelude.{slice_get, min, ◌-◌, drop}
+use Rattle.machine.proofs.Common.{slice_get, parts_of, AreCovered, Grow, IsCovered, Range}
+use Rattle.std.specs.Prelude.{min, ◌-◌, drop}
 use Rattle.std.proofs.lemmas.Option.{slice_get-get_or}
 use Rattle.chains.specs.declared.range.Range.{Range as Part}
-use Rattle.mmio_transport.specs.Written.{parts_of}
-use Rattle.machine.specs.Written.{AreCovered, Grow, IsCovered}
-use Rattle.machine.specs.declared.ranges.Range.{Range}
 
 -- what begins at a place of a list
 drop_here : {X : Type 0} (xs : List X) (i : ℕ) (x : X) → slice_get xs i ≡ Some x → drop i xs ≡ x ∷ drop (i + 1) xs

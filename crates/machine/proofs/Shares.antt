@@ -1,12 +1,8 @@
 -- What serves a guest, one part after another.
 use Rattle.std.proofs.Common.{ℕ}
-use Rattle.disk.specs.Disk.{DiskCall, DiskState, Effect}
-use Rattle.board.specs.Board.{IsSound}
-use Rattle.board.specs.State.{BoardState}
-use Rattle.board.specs.Steps.{Answer, Does}
-use Rattle.board.specs.declared.step.Step.{Step}
-use Rattle.board.proofs.Moving.{KeepsPrefixes, LinksBy, moves_none, moves_twice, sound_moved, step_moves}
-use Rattle.machine.specs.Serving.{IsShare, Runs, Serves, Still, Then}
+use Rattle.machine.proofs.Common.{DiskCall, DiskState, IsSound, BoardState, Answer, Does, Step, moves_none, IsShare, Runs, Serves, Still, Then}
+use Rattle.disk.specs.Disk.{Effect}
+use Rattle.board.proofs.Moving.{KeepsPrefixes, LinksBy, moves_twice, sound_moved, step_moves}
 
 module _ {D : Type 0} (shows : D → DiskState) (makes : D → DiskCall → D → Type 0) (guest : ℕ) where
   pub runs_twice : (a b c : BoardState D) → Runs shows makes guest a b → Runs shows makes guest b c → Runs shows makes guest a c

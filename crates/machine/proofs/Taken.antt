@@ -1,10 +1,7 @@
 -- What a serve tells of the chains that it took.
 use Rattle.std.proofs.Common.{◌≡◌, ℕ, None}
-use Rattle.board.specs.State.{BoardState, HasNoJob}
-use Rattle.machine.specs.Ending.{told_fault}
+use Rattle.machine.proofs.Common.{BoardState, HasNoJob, told_fault, Left, Offered}
 use Rattle.machine.specs.Serving.{IsTaken}
-use Rattle.machine.specs.declared.leaving.Left.{Left}
-use Rattle.machine.specs.declared.offering.Offered.{Offered}
 use Rattle.machine.specs.declared.offering.Offered.TheVariants.{All, Limit, Refused}
 
 -- where no fault is told, none was refused

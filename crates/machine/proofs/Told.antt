@@ -1,16 +1,9 @@
 -- What a serve tells of its ranges, and leaves of a machine.
 use Rattle.std.proofs.Common.{◌≡◌, ◌≤◌, ◌<◌, ◌+◌, ◌∙◌, inl, inr, refl, ap, sym, subst, ℕ, zero, suc, List, [], ◌∷◌, Option, Some, None, length, map, arith}
-use Rattle.std.specs.Prelude.{slice_get, take}
-use Rattle.disk.specs.OutboxDisk.{OutboxMakes, outbox_state}
-use Rattle.board.specs.Board.{IsSound}
-use Rattle.board.proofs.Moving.{moves_none}
-use Rattle.machine.specs.Machine.{IsServed, MachineState, NoRoom, NoSuchGuest, OfBoard, TellsFault, TellsRanges}
-use Rattle.machine.specs.Reasons.{HasReason}
-use Rattle.machine.specs.declared.fault.MachineFault.{MachineFault}
+use Rattle.machine.proofs.Common.{slice_get, take, OutboxMakes, outbox_state, IsSound, moves_none, IsServed, MachineState, TellsFault, TellsRanges, HasReason, MachineFault, Serves, Still, IsIn, IsInSome, StaysOutside, memory_in, told_at, Range}
+use Rattle.machine.specs.Machine.{NoRoom, NoSuchGuest, OfBoard}
 use Rattle.machine.specs.declared.fault.MachineFault.TheVariants.{NoGuest, OutOfRange}
-use Rattle.machine.specs.Serving.{Serves, Still}
-use Rattle.machine.specs.Written.{IsIn, IsInSome, KeepsUntold, StaysOutside, StaysUntold, memory_in, told_at}
-use Rattle.machine.specs.declared.ranges.Range.{Range}
+use Rattle.machine.specs.Written.{KeepsUntold, StaysUntold}
 use Rattle.machine.specs.declared.settings.Window.{Window}
 use Rattle.machine.proofs.Others.{others_stay}
 

@@ -1,13 +1,7 @@
 -- What was noted, and what stays outside of it, one part of a serve after another.
 use Rattle.std.proofs.Common.{◌≡◌, refl, ap, sym, subst, ◌∙◌, ℕ, List, Option, Some, None}
-use Rattle.std.specs.Prelude.{slice_get, slice_set}
-use Rattle.flusher.proofs.Guests.{get_set_same}
-use Rattle.mmio_transport.specs.Device.{DeviceState}
-use Rattle.mmio_transport.specs.Job.{Done, Job}
-use Rattle.board.specs.State.{BoardState}
-use Rattle.board.specs.Steps.{Answer, PopsInto, PublishesFrom}
-use Rattle.machine.specs.Written.{Grow, IsDeviceNoted, IsDoneNoted, IsQueueNoted, IsReplyNoted, Notes, StaysOutside, Writes, memory_in, memory_of}
-use Rattle.machine.specs.declared.ranges.Range.{Range}
+use Rattle.machine.proofs.Common.{slice_get, slice_set, get_set_same, DeviceState, Done, Job, BoardState, Answer, PopsInto, PublishesFrom, Grow, IsQueueNoted, IsReplyNoted, Notes, StaysOutside, Writes, memory_in, Range}
+use Rattle.machine.specs.Written.{IsDeviceNoted, IsDoneNoted, memory_of}
 use Rattle.machine.proofs.Lower.{pop_stays, publish_stays}
 
 pub stays_same : (rs : List Range) (m : List ℕ) → StaysOutside rs m m

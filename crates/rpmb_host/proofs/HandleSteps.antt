@@ -4,34 +4,25 @@
 --     Boxed                    a box of the machine on the heap
 --     R, Z, heap_drop, E       the machine and the heap as the calls of `Box` pass them
 use Rattle.std.proofs.Common.{◌≡◌, ℕ, true, List, [], ◌∷◌, ◌++◌, refl, sym, subst}
+use Rattle.rpmb_host.proofs.Common.{Ura, tnil, tcons, dnil, impl, Val, never, fst∗, Logic, sem, ‵, ◌$◌, drop, rewrite, fsplit, fjoin, feq_i, feq_l, RawPtr, lone, Ptr, block_ptr, null_ptr, ptr_val, in_a_block, nothing, Option, None, Some, is_some, ghosts, dict, held, may_free}
 use mathlib.Core.Bool.{true≢false}
-use seplogic.Ra.Ura.{Ura}
 use mir.Raw.{raw as bare}
-use mir.Syntax.{Dict, tnil, tcons, dnil, impl}
-use mir.Val.{Val, vstruct, of_list}
-use base.Logic.{never, fst∗}
-use types.Logic.{Logic, sem}
-use types.Kit.{Item, Goal, Seq, Step, step, ‵, ◌$◌, drop, rewrite, fsplit, fjoin, fpick, fpack, feq_i, feq_l}
+use mir.Syntax.{Dict}
+use mir.Val.{vstruct, of_list}
+use types.Kit.{Item, Goal, Seq, Step, step, fpick, fpack}
 use denote.Exit.{no}
 use denote.RattleType.{RattleType, Valss}
-use denote.Builtin.{RawPtr}
-use denote.Memory.{lone}
 use denote.Param.{arg, layout}
 use denote.Param.Laws.{Laws, arg_laws}
-use denote.RawPtr.{Ptr, block_ptr, null_ptr, ptr_val, in_a_block}
-use denote.Steps.{nothing}
 use denote.Struct.Struct.{within}
 use denote.Struct.Owning.{shape}
-use Rattle.std.specs.Prelude.{Option, None, Some, is_some}
 use Rattle.std.specs.Box.Ownership.{box_owns}
 use Rattle.std.specs.contracts.alloc.Global as heap
-use Rattle.std.specs.contracts.impls.GlobalAllocator.TheImpl.{ghosts, dict}
 use Rattle.std.proofs.alloc.Global.TheLaws as heap_laws
 use Rattle.std_alloc.specs.contracts.boxed.Box as boxed
 use Rattle.std_alloc.proofs.BoxSteps.Form.{Bx}
 use Rattle.machine.specs.contracts.machine.Machine as thing
 use Rattle.machine.proofs.machine.Machine.TheLaws as thing_laws
-use Rattle.rpmb_host.specs.Held.{held, may_free}
 use Rattle.rpmb_host.specs.contracts.handle.Handle as handle
 
 abbrev pub X : Type 0

@@ -1,7 +1,7 @@
 use Rattle.std.proofs.Common.{◌++◌, ◌∙◌, ap, subst}
+use Rattle.commands.proofs.Common.{Takes}
 use Rattle.std.proofs.lemmas.Fmt.{contents_after_writes}
 use Rattle.arrayvec.specs.declared.array_string.ArrayString.{ArrayString}
-use Rattle.commands.specs.Ending.{Takes}
 use Rattle.commands.specs.Fault.{fault_line}
 use Rattle.commands.proofs.fault_lines.report.Goals as goal
 

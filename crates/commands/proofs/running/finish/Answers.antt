@@ -1,5 +1,5 @@
 use Rattle.std.proofs.Common.{ap, sym}
-use Rattle.std.specs.Prelude.{is_ok}
+use Rattle.commands.proofs.Common.{is_ok}
 use Rattle.commands.proofs.Opened.{moves_to}
 use Rattle.commands.proofs.running.finish.Goals as goal
 

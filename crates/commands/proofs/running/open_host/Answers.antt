@@ -1,5 +1,5 @@
 use Rattle.std.proofs.Common.{refl, subst, sym}
-use Rattle.commands.specs.Ending.{OpeningEnds}
+use Rattle.commands.proofs.Common.{OpeningEnds}
 use Rattle.commands.proofs.Opened.{opened_host, opening_ends}
 use Rattle.commands.proofs.running.open_host.Goals as goal
 

@@ -1,9 +1,6 @@
 use Rattle.std.proofs.Common.{◌≡◌, ℕ, List, Err, ap, inl, length, map, refl, subst, sym}
-use Rattle.std.proofs.KnownBytes.{Keeps-refl}
-use Rattle.script.specs.Line.{Said, line_of, said}
-use Rattle.script.specs.Script.{lines_of}
-use Rattle.commands.specs.Ending.{Ends, RunPrints, running}
-use Rattle.commands.specs.Moments.{AnyMoment}
+use Rattle.commands.proofs.Common.{Keeps-refl, Said, lines_of, Ends, RunPrints, running, AnyMoment}
+use Rattle.script.specs.Line.{line_of, said}
 use Rattle.commands.specs.Transcript.{IsBadAt}
 use Rattle.commands.specs.declared.fault.Fault.TheVariants as fault
 use Rattle.commands.proofs.Cases.{reading_cases}

@@ -1,17 +1,6 @@
 use Rattle.std.proofs.Common.{List, Option, ℕ, Result, Ok, Err, OnOk, subst}
-use Rattle.std.specs.Prelude.{IfErr}
-use Rattle.std.proofs.KnownBytes.{Keeps-refl}
-use Rattle.std.specs.Io.KnownBytes.{Appends}
-use Rattle.script.specs.Line.{chain}
-use Rattle.host.specs.Call.{ChainCall}
-use Rattle.host.specs.Host.{HostState}
-use Rattle.host.specs.declared.front.Answer.{Answer}
-use Rattle.host.specs.declared.front.Answer.TheVariants.{Stuck, Used}
+use Rattle.commands.proofs.Common.{IfErr, Keeps-refl, Appends, chain, ChainCall, HostState, Answer, Stuck, Used, IsOfWriting, KeepsUnless, answer_line, used_line, Fault}
 use Rattle.commands.specs.Calling.{LineEnded}
-use Rattle.commands.specs.Ending.{IsOfWriting, KeepsUnless}
-use Rattle.commands.specs.Serving.{answer_line}
-use Rattle.commands.specs.Transcript.{used_line}
-use Rattle.commands.specs.declared.fault.Fault.{Fault}
 use Rattle.commands.proofs.running.run_chain.Goals as goal
 
 -- the answer was written, or not

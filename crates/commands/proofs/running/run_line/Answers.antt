@@ -1,9 +1,6 @@
 use Rattle.std.proofs.Common.{Ok, Err, refl, subst, sym, ◌∙◌}
-use Rattle.std.proofs.KnownBytes.{Keeps-refl}
-use Rattle.script.specs.Line.{chain, said, store}
-use Rattle.script.specs.declared.line.Line.{Line}
-use Rattle.board.proofs.Moving.{moves_none}
-use Rattle.commands.specs.Calling.{LineRuns}
+use Rattle.commands.proofs.Common.{Keeps-refl, chain, store, Line, moves_none, LineRuns}
+use Rattle.script.specs.Line.{said}
 use Rattle.commands.proofs.running.run_line.Goals as goal
 
 pub returns-in-Nothing : goal.returns-in-Nothing

@@ -1,16 +1,7 @@
 use Rattle.std.proofs.Common.{◌≡◌, ◌+◌, ◌<◌, Err, List, [], Ok, ap, length, map, subst, sym, arith}
+use Rattle.commands.proofs.Common.{All, length-map, last_count, Line, seen, moves_none, moves_twice, LineRuns, NextFails, NextEnds, Walked, moment_of, AreWithin, IsSized}
 use Rattle.std.proofs.lemmas.Result.{err_from_is_err_and}
-use Rattle.std.specs.Prelude.{All}
-use Rattle.std.proofs.lemmas.List.{length-map}
-use Rattle.mmio_transport.specs.Device.{last_count}
 use Rattle.script.specs.Line.{said}
-use Rattle.script.specs.declared.line.Line.{Line}
-use Rattle.host.specs.Host.{seen}
-use Rattle.board.proofs.Moving.{moves_none, moves_twice}
-use Rattle.commands.specs.Calling.{LineRuns, NextFails}
-use Rattle.commands.specs.Ending.{NextEnds}
-use Rattle.commands.specs.Moments.{Walked, moment_of}
-use Rattle.commands.specs.Running.{AreWithin, IsSized}
 use Rattle.commands.proofs.Printing.{head_within, none_left, rest_sized, rest_within}
 use Rattle.commands.proofs.Reasons.{line_ends}
 use Rattle.commands.proofs.Walking.{done_at, walk_begins, walk_on}

@@ -1,11 +1,6 @@
 use Rattle.std.proofs.Common.{ℕ, List, [], length, map}
-use Rattle.std.specs.Prelude.{All}
+use Rattle.commands.proofs.Common.{All, Partition, GuestConfig, Moves, Starts, Walked, moment_of, AreWithin, IsSized}
 use Rattle.script.specs.Line.{said}
-use Rattle.rpmb_frame.specs.Partition.{Partition}
-use Rattle.rpmb_frame.specs.declared.config.GuestConfig.{GuestConfig}
-use Rattle.board.specs.Moving.{Moves}
-use Rattle.commands.specs.Moments.{Starts, Walked, moment_of}
-use Rattle.commands.specs.Running.{AreWithin, IsSized}
 use Rattle.commands.proofs.running.run_lines.Given as goal
 
 abbrev pub invariant-loop-line : goal.invariant-loop-line

@@ -1,7 +1,5 @@
 use Rattle.std.proofs.Common.{◌≡◌, ◌+◌, ◌<◌, ◌==◌, ◌++◌, ◌∷◌, ◌∙◌, [], if◌then◌else◌, length, ap, subst, arith}
-use Rattle.std.proofs.lemmas.List.{get_or_read}
-use Rattle.std.specs.Prelude.{slice_index_or, slice_set}
-use Rattle.workers.specs.Orders.{chain_orders, chains_in}
+use Rattle.commands.proofs.Common.{get_or_read, slice_index_or, slice_set, chain_orders, chains_in}
 use Rattle.commands.proofs.Handed.{one_given}
 use Rattle.commands.proofs.script_by_guest.give.Goals.{in-Ok, in-Err}
 use Rattle.commands.proofs.script_by_guest.give.Goals as goal

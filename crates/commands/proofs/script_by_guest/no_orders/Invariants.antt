@@ -1,5 +1,5 @@
 use Rattle.std.proofs.Common.{◌≡◌, [], vec_len}
-use Rattle.std.specs.Prelude.{All}
+use Rattle.commands.proofs.Common.{All}
 use Rattle.commands.proofs.script_by_guest.no_orders.Given as goal
 
 abbrev pub invariant-loop : goal.invariant-loop

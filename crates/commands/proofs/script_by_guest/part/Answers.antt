@@ -1,9 +1,6 @@
 use Rattle.std.proofs.Common.{◌≡◌, ◌+◌, List, [], map, subst, arith}
-use Rattle.std.specs.Prelude.{All, slice_index_or}
-use Rattle.script.specs.Line.{IsServed, IsWithin, said}
-use Rattle.script.specs.declared.line.Line.{Line}
-use Rattle.workers.specs.Orders.{chain_orders}
-use Rattle.commands.specs.Serving.{chains_of}
+use Rattle.commands.proofs.Common.{All, slice_index_or, IsServed, IsWithin, Line, chain_orders, chains_of}
+use Rattle.script.specs.Line.{said}
 use Rattle.commands.proofs.Handed.{rest_all}
 use Rattle.commands.proofs.script_by_guest.part.Goals as goal
 

@@ -1,9 +1,7 @@
 use Rattle.std.proofs.Common.{◌≡◌, ◌+◌, ◌<◌, ℕ, [], map, vec_len}
-use Rattle.std.specs.Prelude.{All, slice_index_or}
+use Rattle.commands.proofs.Common.{All, slice_index_or, IsServed, IsWithin, chain_orders, chains_of}
 use Rattle.std.specs.Vec.Iter.{into_iter_items}
-use Rattle.script.specs.Line.{IsServed, IsWithin, said}
-use Rattle.workers.specs.Orders.{chain_orders}
-use Rattle.commands.specs.Serving.{chains_of}
+use Rattle.script.specs.Line.{said}
 use Rattle.commands.proofs.script_by_guest.part.Given as goal
 
 abbrev pub invariant-loop-line : goal.invariant-loop-line

@@ -1,11 +1,5 @@
 use Rattle.std.proofs.Common.{Err, ap, length, subst, sym}
-use Rattle.std.proofs.lemmas.Result.{on_ok_weaker}
-use Rattle.script.specs.Line.{served_line_of}
-use Rattle.script.specs.Script.{lines_of}
-use Rattle.commands.specs.Serving.{PrintsEach}
-use Rattle.std.proofs.lemmas.Result.{IfErr-weaker}
-use Rattle.disk.specs.Disk.{DiskState}
-use Rattle.commands.specs.Ending.{Ends, serving}
+use Rattle.commands.proofs.Common.{on_ok_weaker, served_line_of, lines_of, PrintsEach, IfErr-weaker, DiskState, Ends, serving}
 use Rattle.commands.proofs.EachTold.{EndsServe, serve_prints, unread_ends, unread_prints}
 use Rattle.commands.proofs.ServedImage.{uncalled_keeps}
 use Rattle.commands.proofs.Printing.{none_bad, not_bad, says_same}

@@ -1,9 +1,7 @@
 use Rattle.std.proofs.Common.{◌≡◌, ap, length, map, refl, subst, sym, arith}
-use Rattle.std.proofs.lemmas.Result.{IfErr-weaker, on_ok_weaker}
+use Rattle.commands.proofs.Common.{IfErr-weaker, on_ok_weaker, HaveAll, IsOfTelling}
 use Rattle.script.specs.Line.{said}
 use Rattle.workers.specs.Keeping.{Keeps}
-use Rattle.workers.specs.Orders.{HaveAll}
-use Rattle.commands.specs.Ending.{IsOfTelling}
 use Rattle.commands.proofs.EachTold.{EndsServe, opening_serve, prints_each, served_print, telling_serve, threads_serve}
 use Rattle.commands.proofs.Opened.{image_of}
 use Rattle.commands.proofs.ServedImage.{serves_image, told_keeps, told_of, uncalled_keeps, unserved_keeps}

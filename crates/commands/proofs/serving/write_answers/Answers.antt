@@ -1,6 +1,5 @@
 use Rattle.std.proofs.Common.{subst, arith}
-use Rattle.std.specs.Io.KnownBytes.{Appends}
-use Rattle.commands.specs.Serving.{answer_lines}
+use Rattle.commands.proofs.Common.{Appends, answer_lines}
 use Rattle.commands.proofs.EachTold.{no_answer, one_answer, take_all}
 use Rattle.commands.proofs.serving.write_answers.Goals as goal
 

@@ -1,6 +1,5 @@
 use Rattle.std.proofs.Common.{take}
-use Rattle.std.specs.Io.KnownBytes.{Appends}
-use Rattle.commands.specs.Serving.{answer_lines}
+use Rattle.commands.proofs.Common.{Appends, answer_lines}
 use Rattle.commands.proofs.serving.write_answers.Given as goal
 
 abbrev pub invariant-loop-i : goal.invariant-loop-i

@@ -1,6 +1,5 @@
 use Rattle.std.proofs.Common.{◌∙◌, ap, subst, sym}
-use Rattle.std.specs.Io.KnownBytes.{Appends}
-use Rattle.commands.specs.Serving.{answer_lines}
+use Rattle.commands.proofs.Common.{Appends, answer_lines}
 use Rattle.commands.proofs.EachTold.{no_guest, one_guest}
 use Rattle.commands.proofs.serving.write_drivers.Goals as goal
 

@@ -1,6 +1,5 @@
 use Rattle.std.proofs.Common.{map, take}
-use Rattle.std.specs.Io.KnownBytes.{Appends}
-use Rattle.commands.specs.Serving.{guests_lines}
+use Rattle.commands.proofs.Common.{Appends, guests_lines}
 use Rattle.commands.proofs.serving.write_drivers.Given as goal
 
 abbrev pub invariant-loop-guest : goal.invariant-loop-guest

@@ -1,9 +1,5 @@
 use Rattle.std.proofs.Common.{ap, subst, sym, List, OnOk, length, ◌≤◌}
-use Rattle.std.specs.Io.KnownBytes.{Appends}
-use Rattle.commands.specs.Listing.{listing}
-use Rattle.std.specs.Prelude.{All}
-use Rattle.commands.specs.Ending.{Ends, IsReadAlone, Synced, showing}
-use Rattle.rpmb_frame.specs.Partition.{IsWhole, Partition}
+use Rattle.commands.proofs.Common.{Appends, listing, All, Ends, IsReadAlone, Synced, showing, IsWhole, Partition}
 use Rattle.commands.proofs.Ended.{read_alone, show_ends}
 use Rattle.commands.proofs.Listed.{all_small, few, lists}
 use Rattle.commands.proofs.showing.show.Goals as goal

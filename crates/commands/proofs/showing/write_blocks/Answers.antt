@@ -1,6 +1,5 @@
 use Rattle.std.proofs.Common.{subst}
-use Rattle.std.specs.Io.KnownBytes.{Appends}
-use Rattle.commands.specs.Listing.{block_shown}
+use Rattle.commands.proofs.Common.{Appends, block_shown}
 use Rattle.commands.proofs.Listed.{no_blocks, one_block}
 use Rattle.commands.proofs.showing.write_blocks.Goals as goal
 

@@ -1,5 +1,4 @@
-use Rattle.std.specs.Io.KnownBytes.{Appends}
-use Rattle.commands.specs.Listing.{blocks_below}
+use Rattle.commands.proofs.Common.{Appends, blocks_below}
 use Rattle.commands.proofs.showing.write_blocks.Given as goal
 
 abbrev pub invariant-loop-address : goal.invariant-loop-address

@@ -1,5 +1,5 @@
 use Rattle.std.proofs.Common.{subst, sym}
-use Rattle.commands.specs.Ending.{Ends, upgrading}
+use Rattle.commands.proofs.Common.{Ends, upgrading}
 use Rattle.commands.proofs.Ended.{upgrade_ends}
 use Rattle.commands.proofs.upgrading.upgrade.Goals as goal
 

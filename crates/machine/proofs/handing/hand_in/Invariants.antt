@@ -1,5 +1,4 @@
-use Rattle.std.specs.Prelude.{◌≡◌}
-use Rattle.machine.specs.Serving.{Serves}
+use Rattle.machine.proofs.Common.{◌≡◌, Serves}
 use Rattle.machine.proofs.handing.hand_in.Given as goal
 
 abbrev pub invariant-loop-record : goal.invariant-loop-record

@@ -1,5 +1,5 @@
 use Rattle.std.proofs.Common.{refl, ◌∙◌}
-use Rattle.disk.specs.OutboxDisk.{OutboxMakes, outbox_state}
+use Rattle.machine.proofs.Common.{OutboxMakes, outbox_state}
 use Rattle.machine.proofs.Shares.{serves_none, serves_twice}
 use Rattle.machine.proofs.handing.write_all.Goals as goal
 

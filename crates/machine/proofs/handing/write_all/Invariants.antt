@@ -1,6 +1,5 @@
-use Rattle.std.specs.Prelude.{◌≡◌, ℕ}
-use Rattle.disk.specs.OutboxDisk.{OutboxMakes, outbox_state}
-use Rattle.machine.specs.Serving.{Serves}
+use Rattle.machine.proofs.Common.{◌≡◌, OutboxMakes, outbox_state, Serves}
+use Rattle.std.specs.Prelude.{ℕ}
 use Rattle.machine.proofs.handing.write_all.Given as goal
 
 abbrev pub invariant-loop-write : goal.invariant-loop-write

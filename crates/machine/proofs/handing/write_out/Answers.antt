@@ -1,4 +1,4 @@
-use Rattle.disk.specs.OutboxDisk.{OutboxMakes, outbox_state}
+use Rattle.machine.proofs.Common.{OutboxMakes, outbox_state}
 use Rattle.machine.proofs.Shares.{serves_twice}
 use Rattle.machine.proofs.handing.write_out.Goals as goal
 

@@ -1,6 +1,4 @@
-use Rattle.std.specs.Prelude.{◌≡◌}
-use Rattle.machine.specs.Serving.{Serves}
-use Rattle.machine.specs.Written.{Writes}
+use Rattle.machine.proofs.Common.{◌≡◌, Serves, Writes}
 use Rattle.machine.proofs.leaving.let_all_leave.Given as goal
 
 abbrev pub invariant-loop-reply : goal.invariant-loop-reply

@@ -1,5 +1,5 @@
 use Rattle.std.proofs.Common.{◌∙◌, ap, sym}
-use Rattle.std.specs.Prelude.{option_copied}
+use Rattle.machine.proofs.Common.{option_copied}
 use Rattle.machine.proofs.Lower.{covered_more}
 use Rattle.machine.proofs.Within.{done_noted, notes_twice}
 use Rattle.machine.proofs.leaving.note_next.Goals as goal

@@ -1,9 +1,6 @@
 use Rattle.std.proofs.Common.{◌<◌, ◌∙◌, ap, sym, subst, Option}
-use Rattle.std.specs.Prelude.{option_copied}
+use Rattle.machine.proofs.Common.{option_copied, range_in, AreCovered, IsCovered, Range}
 use Rattle.chains.specs.declared.range.Range.{Range as Part}
-use Rattle.mmio_transport.specs.Written.{range_in}
-use Rattle.machine.specs.Written.{AreCovered, IsCovered}
-use Rattle.machine.specs.declared.ranges.Range.{Range}
 use Rattle.machine.proofs.Within.{queue_noted}
 use Rattle.machine.proofs.offering.note_queue.Goals as goal
 

@@ -1,5 +1,5 @@
 use Rattle.std.proofs.Common.{◌∙◌}
-use Rattle.machine.specs.Reasons.{Waits}
+use Rattle.machine.proofs.Common.{Waits}
 use Rattle.machine.proofs.Because.{reason_behind}
 use Rattle.machine.proofs.Shares.{serves_none, serves_twice, sound_served}
 use Rattle.machine.proofs.Within.{notes_same, writes_noted, writes_twice}

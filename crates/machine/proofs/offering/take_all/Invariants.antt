@@ -1,5 +1,4 @@
-use Rattle.machine.specs.Serving.{Serves}
-use Rattle.machine.specs.Written.{Writes}
+use Rattle.machine.proofs.Common.{Serves, Writes}
 use Rattle.machine.proofs.offering.take_all.Given as goal
 
 abbrev pub invariant-loop-chain : goal.invariant-loop-chain

@@ -1,5 +1,5 @@
 use Rattle.std.proofs.Common.{refl, ◌∙◌}
-use Rattle.machine.specs.Reasons.{Lacks}
+use Rattle.machine.proofs.Common.{Lacks}
 use Rattle.machine.proofs.Because.{reason_behind, refused_goes}
 use Rattle.machine.proofs.Shares.{serves_none, serves_twice, sound_served}
 use Rattle.machine.proofs.Within.{pop_within, writes_noted, writes_same, writes_twice}

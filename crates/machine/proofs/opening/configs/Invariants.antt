@@ -1,4 +1,4 @@
-use Rattle.std.specs.Prelude.{◌≡◌, map, take}
+use Rattle.machine.proofs.Common.{◌≡◌, map, take}
 use Rattle.machine.proofs.opening.configs.Given as goal
 
 abbrev pub invariant-loop-window : goal.invariant-loop-window

@@ -1,5 +1,5 @@
 use Rattle.std.proofs.Common.{rules, ◌-◌}
-use Rattle.std.proofs.lemmas.Option.{slice_get_read}
+use Rattle.machine.proofs.Common.{slice_get_read}
 use Rattle.machine.proofs.Noted.{covered_set, grow_set, with_left, with_right}
 use Rattle.machine.proofs.ranges.grow_last.Goals as goal
 

@@ -1,6 +1,5 @@
 use Rattle.std.proofs.Common.{List, ℕ, ◌≤◌, ◌∙◌, ap, length, rules, sym, subst}
-use Rattle.machine.specs.Written.{Grow, IsCovered}
-use Rattle.machine.specs.declared.ranges.Range.{Range}
+use Rattle.machine.proofs.Common.{Grow, IsCovered, Range}
 use Rattle.machine.proofs.Noted.{covered_by, covered_push, few_push, grow_push, none_covered}
 use Rattle.machine.proofs.Within.{notes_same}
 use Rattle.machine.proofs.ranges.note.Goals as goal

@@ -1,5 +1,4 @@
-use Rattle.std.specs.Prelude.{length}
-use Rattle.machine.specs.Written.{Notes}
+use Rattle.machine.proofs.Common.{length, Notes}
 use Rattle.machine.proofs.Replies.{Rest}
 use Rattle.machine.proofs.ranges.note_reply.Given as goal
 

@@ -1,5 +1,4 @@
-use Rattle.std.specs.Prelude.{◌≡◌, length, map, take}
-use Rattle.machine.specs.Written.{told_at}
+use Rattle.machine.proofs.Common.{◌≡◌, length, map, take, told_at}
 use Rattle.machine.proofs.ranges.tell_ranges.Given as goal
 
 abbrev pub invariant-loop-i : goal.invariant-loop-i

@@ -1,8 +1,5 @@
 use Rattle.std.proofs.Common.{List, Option, ap, sym, ◌∙◌}
-use Rattle.std.specs.Prelude.{slice_get}
-use Rattle.mmio_transport.specs.Job.{Job}
-use Rattle.disk.specs.OutboxDisk.{OutboxMakes, outbox_state}
-use Rattle.board.specs.State.{in_place}
+use Rattle.machine.proofs.Common.{slice_get, Job, OutboxMakes, outbox_state, in_place}
 use Rattle.machine.specs.Ending.{is_write}
 use Rattle.machine.proofs.Because.{reason_before, reason_told}
 use Rattle.machine.proofs.Ends.{all_left}

@@ -1,7 +1,6 @@
 use Rattle.std.proofs.Common.{refl}
+use Rattle.machine.proofs.Common.{Refuses, Still}
 use Rattle.board.specs.declared.step.Step.TheVariants as board_step
-use Rattle.machine.specs.Reasons.{Refuses}
-use Rattle.machine.specs.Serving.{Still}
 use Rattle.machine.proofs.Devices.{devices_same}
 use Rattle.machine.proofs.Jobs.{submit_empties}
 use Rattle.machine.proofs.Shares.{serves_step}

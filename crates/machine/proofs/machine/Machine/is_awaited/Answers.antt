@@ -1,6 +1,5 @@
 use Rattle.std.proofs.Common.{ap, ◌∙◌}
-use Rattle.disk.specs.Outbox.{is_none}
-use Rattle.machine.specs.Machine.{is_awaited}
+use Rattle.machine.proofs.Common.{is_none, is_awaited}
 use Rattle.machine.proofs.Awaited.{awaited_at_none, awaited_at_sync, awaited_at_write}
 use Rattle.machine.proofs.machine.Machine.is_awaited.Goals as goal
 

@@ -1,6 +1,6 @@
 use Rattle.std.proofs.Common.{◌≤◌, ℕ, ap, length, arith, refl, rules, subst, sym}
-use Rattle.std.proofs.lemmas.Option.{slice_get_read, slice_get_within}
-use Rattle.machine.specs.Machine.{IsServed, MachineState, TellsFault, TellsRanges}
+use Rattle.machine.proofs.Common.{slice_get_read, IsServed, MachineState, TellsFault, TellsRanges}
+use Rattle.std.proofs.lemmas.Option.{slice_get_within}
 use Rattle.machine.proofs.Told.{fault_no_guest, fault_no_room, fault_of_board, served_none, served_by, told_none, told_by}
 use Rattle.machine.proofs.machine.Machine.serve.Goals as goal
 

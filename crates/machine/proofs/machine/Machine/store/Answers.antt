@@ -1,6 +1,5 @@
 use Rattle.std.proofs.Common.{List, ap, ◌∙◌}
-use Rattle.std.specs.Prelude.{slice_set}
-use Rattle.mmio_transport.specs.Device.{DeviceState}
+use Rattle.machine.proofs.Common.{slice_set, DeviceState}
 use Rattle.host.proofs.Updates.{set-nothing}
 use Rattle.machine.proofs.machine.Machine.store.Goals as goal
 

@@ -1,38 +1,19 @@
 -- `into_box` makes the box again, of the pointer and what the handle owns.
 use Rattle.std.proofs.Common.{◌≡◌, ◌∙◌, List, [], ◌∷◌, ◌++◌, true, refl, sym, ap, subst}
+use Rattle.rpmb_host.proofs.Common.{tnil, tcons, Val, full_share, SProp, ent, emp, id⊢, ftrue, flft, WpFn, ‵, raw, ◌⊛◌, later, ◌$◌, ◌∵◌, !, qed, by, move, keep, drop, split, join, fsplit, fjoin, pick, suffices, use0, use1, await, rewrite, feq_i, of_opd, no_more, and_then, returns, enter, alloc_all, pass_all, free_all, look_at, get, sets, ◌⊑◌, ⊑_static, fact, fact_i, tables, yes, owns, types_at, plain, block_ptr, glues, nothing, only, Lasts, triple_of, Stays, stay_dropped, Goes-dropped, walk_of, fm, proved_at, leaves, Some, is_some, ghosts, dict, passed, box_out, box_in}
 use lib.Dec.{T}
-use mir.Syntax.{tnil, tcons, ty_ptr}
-use mir.Val.{Val, WT, has_ty, vptr}
-use base.Fraction.{full_share}
-use base.Logic.{SProp, ent, emp, id⊢}
-use base.Fml.{ftrue, flft}
-use prog.Wp.{WpFn}
-use types.Kit.{‵, raw, ◌⊛◌, some, later, at_ret, ◌$◌, ◌∵◌, !, qed, by, move, keep, drop, split, split3, join, fsplit, fjoin, pick, suffices, use0, use1, await, rewrite, feq_i}
-use types.Run.{stop, fld, of_opd, no_more, and_then, first, blocks, exec, returns, enter}
-use types.ByLocal.{alloc_all, pass_all, free_all, look_at, get, get_in, sets, lands_last, env}
+use mir.Syntax.{ty_ptr}
+use mir.Val.{WT, has_ty, vptr}
+use types.Kit.{some, at_ret, split3}
+use types.Run.{stop, fld, first, blocks, exec}
+use types.ByLocal.{get_in, lands_last, env}
 use types.Part.{sub, whole}
-use contract.BorrowLft.{◌⊑◌, ⊑_static}
-use contract.Monad.{fact, fact_i}
-use contract.Running.{tables}
-use denote.Exit.{yes}
-use denote.RattleType.{owns}
-use denote.Signature.{types_at, plain}
-use denote.RawPtr.{block_ptr}
-use denote.Param.NoDrop.{glues}
-use denote.Steps.{nothing, only, heard}
+use denote.Steps.{heard}
 use denote.Triple.Call.{calls_at_last}
-use denote.Triple.Clauses.{Lasts, lasts}
-use denote.Triple.Spec.{triple_of}
-use denote.Triple.Walked.{Stays, stay_dropped, Goes-dropped, walk_of}
+use denote.Triple.Clauses.{lasts}
 use Rattle.core.proofs.alloc.Calls.{handle_tells}
-use Rattle.core.proofs.atomic.Steps.{fm}
-use Rattle.std.proofs.raw_atomic.Walks.{proved_at, leaves}
-use Rattle.std.specs.Prelude.{Some, is_some}
 use Rattle.std.specs.contracts.alloc.Global as heap
-use Rattle.std.specs.contracts.impls.GlobalAllocator.TheImpl.{ghosts, dict}
-use Rattle.std.proofs.impls.GlobalAllocator.TheImpl.Met.{passed}
 use Rattle.std_alloc.proofs.BoxSteps.Form as box
-use Rattle.std_alloc.proofs.BoxSteps.Steps.{box_out, box_in}
 use Rattle.std_alloc.specs.contracts.boxed.Box.from_raw as callee
 use Rattle.std_alloc.proofs.boxed.Box.from_raw.Met.{met}
 use Rattle.rpmb_host.specs.contracts.handle.Handle as handle

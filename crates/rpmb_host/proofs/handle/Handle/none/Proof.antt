@@ -1,19 +1,8 @@
 -- A handle that holds nothing owns nothing: its pointer is the word 0.
 use Rattle.std.proofs.Common.{◌≡◌, [], ◌∷◌, refl, lit<}
-use mir.Val.{Val}
-use base.Logic.{SProp, emp}
-use types.Kit.{raw, ◌$◌, ◌∵◌, !, qed, by, keep, drop, use0}
-use types.Run.{lit, no_more, and_then, returns, enter}
-use types.ByLocal.{alloc_all, free_all, pass_all, look_at, sets}
-use types.Part.{agg}
-use contract.Monad.{fact, fact_i}
-use contract.Running.{tables}
-use denote.RawPtr.{null_ptr}
-use denote.Steps.{nothing}
+use Rattle.rpmb_host.proofs.Common.{Val, SProp, emp, raw, ◌$◌, ◌∵◌, !, qed, by, keep, drop, use0, no_more, and_then, returns, enter, alloc_all, free_all, pass_all, look_at, sets, agg, fact, fact_i, tables, null_ptr, nothing, Stays, walk_of, proved_at, leaves, Option, None}
+use types.Run.{lit}
 use denote.Triple.Entry.{on_entry}
-use denote.Triple.Walked.{Stays, walk_of}
-use Rattle.std.proofs.raw_atomic.Walks.{proved_at, leaves}
-use Rattle.std.specs.Prelude.{Option, None}
 use Rattle.rpmb_host.proofs.HandleSteps.{X, word, handle_in}
 use Rattle.rpmb_host.specs.contracts.handle.Handle.none.{ended, clauses}
 use Rattle.rpmb_host.specs.contracts.handle.Handle.none.Key.{name as #self}

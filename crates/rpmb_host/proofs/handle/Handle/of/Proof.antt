@@ -1,24 +1,13 @@
 -- `of` gives the box up for its pointer, and the handle owns what the box did.
 use Rattle.std.proofs.Common.{◌≡◌, ◌∙◌, List, [], ◌∷◌, ◌++◌, refl, sym, ap, subst}
-use mir.Syntax.{Dict, tnil, dnil, impl}
+use Rattle.rpmb_host.proofs.Common.{tnil, dnil, impl, Val, full_share, SProp, ent, emp, never, id⊢, fst∗, ftrue, flft, WpFn, sem, ‵, raw, ◌⊛◌, later, ◌$◌, ◌∵◌, !, qed, by, move, keep, drop, split, join, fsplit, fjoin, pick, suffices, use0, use1, await, feq_l, of_opd, no_more, and_then, returns, enter, alloc_all, pass_all, free_all, look_at, get, sets, agg, ◌⊑◌, ⊑_static, fact, fact_i, tables, Logic, Ura, RawPtr, yes, owns, types_at, plain, Ptr, block_ptr, null_ptr, ptr_val, in_a_block, lone, glues, nothing, only, Lasts, triple_of, Stays, stay_dropped, Goes-dropped, walk_of, fm, proved_at, leaves, Some, ghosts, dict, passed, box_out, box_in, held, may_free}
+use mir.Syntax.{Dict}
 use mir.Raw.{raw as bare}
-use mir.Val.{Val}
-use base.Fraction.{full_share}
-use base.Logic.{SProp, ent, emp, never, id⊢, fst∗}
-use base.Fml.{ftrue, flft}
-use prog.Wp.{WpFn}
-use types.Logic.{sem}
-use types.Kit.{‵, raw, ◌⊛◌, some, later, ◌$◌, ◌∵◌, !, qed, by, move, keep, drop, split, join, fsplit, fjoin, pick, suffices, use0, use1, await, feq_l}
-use types.Run.{of_opd, no_more, and_then, returns, enter}
-use types.ByLocal.{alloc_all, pass_all, free_all, look_at, get, sets, lands_as}
-use types.Part.{agg}
-use contract.BorrowLft.{◌⊑◌, ⊑_static}
-use contract.Monad.{fact, fact_i}
-use contract.Running.{Running, tables}
+use types.Kit.{some}
+use types.ByLocal.{lands_as}
+use contract.Running.{Running}
 use prog.Model.{Model}
 use prog.Wired.{Wired}
-use types.Logic.{Logic}
-use seplogic.Ra.Ura.{Ura}
 use mir.Syntax.{method, no_args}
 use base.Logic.{sep, via, emp∗, comm∗}
 use base.Fml.{fsep}
@@ -29,29 +18,12 @@ use denote.Triple.Spec.{Spec}
 use denote.Triple.Table.{run_framed, widened}
 use Rattle.rpmb_host.specs.contracts.machine++machine++Machine+Destruct.drop as letting_go
 use Rattle.rpmb_host.proofs.machine++machine++Machine+Destruct.drop.Symbol as go
-use denote.Builtin.{RawPtr}
-use denote.Exit.{yes}
-use denote.RattleType.{owns}
-use denote.Signature.{types_at, plain}
-use denote.RawPtr.{Ptr, block_ptr, null_ptr, ptr_val, in_a_block}
-use denote.Memory.{lone}
-use denote.Param.NoDrop.{glues}
-use denote.Steps.{nothing, only}
 use denote.Triple.Call.{calls_at}
-use denote.Triple.Clauses.{Lasts, lasts}
-use denote.Triple.Spec.{triple_of}
-use denote.Triple.Walked.{Stays, stay_dropped, Goes-dropped, walk_of}
-use Rattle.core.proofs.atomic.Steps.{fm}
-use Rattle.std.proofs.raw_atomic.Walks.{proved_at, leaves}
-use Rattle.std.specs.Prelude.{Some}
-use Rattle.std.specs.contracts.impls.GlobalAllocator.TheImpl.{ghosts, dict}
-use Rattle.std.proofs.impls.GlobalAllocator.TheImpl.Met.{passed}
+use denote.Triple.Clauses.{lasts}
 use Rattle.std_alloc.proofs.BoxSteps.Form as box
-use Rattle.std_alloc.proofs.BoxSteps.Steps.{box_out, box_in}
 use Rattle.std_alloc.specs.contracts.boxed.Box.into_raw as callee
 use Rattle.std_alloc.proofs.boxed.Box.into_raw.Met.{met}
 use Rattle.machine.specs.contracts.machine.Machine as thing
-use Rattle.rpmb_host.specs.Held.{held, may_free}
 use Rattle.rpmb_host.proofs.HandleSteps.{Boxed, R, R-laws, Z, Z-laws, E, heap_drop, word, handle_in}
 use Rattle.rpmb_host.proofs.Destruct++none.drop.Code as none_drop
 use Rattle.rpmb_host.proofs.machine++machine++Machine+Destruct.drop.Met as let_go
