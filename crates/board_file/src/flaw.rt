@@ -15,7 +15,7 @@ struct Range {
     is_needed: bool,
 }
 
-static RANGES: [Range; 5] = [
+const RANGES: [Range; 5] = [
     Range {
         key: "capacity",
         least: 1,
@@ -73,53 +73,58 @@ fn unknown_key<'a>(table: &'a Table, known: &[&str]) -> Option<&'a str> {
     None
 }
 
-/// What is wrong with the value of a key, where something else is wanted.
-fn flaw_of_value(
+fn flaw_of_number(
     alloc: Global,
-    key: &str,
-    wanted: &str,
-    value: &Value,
-) -> Result<String, AllocError> {
-    let got = shown(alloc, value)?;
-    format!(in alloc; "the key {key}: expected {wanted}, got {got}")
-}
-
-/// Whether the key has a number in its range, or none where it may be missing.
-fn is_in_range(table: &Table, range: &Range) -> bool {
-    let Some(value) = table.get(range.key) else {
-        return !range.is_needed;
+    table: &Table,
+    range: &Range,
+) -> Result<Option<String>, AllocError> {
+    let (key, least, most) = (range.key, range.least, range.most);
+    let Some(value) = table.get(key) else {
+        return match range.is_needed {
+            false => Ok(None),
+            true => Ok(Some(format!(in alloc;
+                "the key {key} is missing, expected a whole number from {least} to {most}"
+            )?)),
+        };
     };
     match value.as_integer() {
-        Some(number) => number >= range.least && number <= range.most,
-        None => false,
+        Some(number) if number >= least && number <= most => Ok(None),
+        _ => {
+            let got = shown(alloc, value)?;
+            Ok(Some(format!(in alloc;
+                "the key {key}: expected a whole number from {least} to {most}, got {got}"
+            )?))
+        }
     }
 }
 
-/// What is wrong with a key whose number isn't in its range.
-fn flaw_of_number(alloc: Global, table: &Table, range: &Range) -> Result<String, AllocError> {
-    let (key, least, most) = (range.key, range.least, range.most);
-    let wanted = format!(in alloc; "a whole number from {least} to {most}")?;
-    match table.get(key) {
-        Some(value) => flaw_of_value(alloc, key, &wanted, value),
-        None => format!(in alloc; "the key {key} is missing, expected {wanted}"),
+fn flaw_of_numbers(alloc: Global, table: &Table) -> Result<Option<String>, AllocError> {
+    for range in RANGES.as_slice() {
+        if let Some(flaw) = flaw_of_number(alloc, table, range)? {
+            return Ok(Some(flaw));
+        }
     }
+    Ok(None)
 }
 
 fn has_number(key: &str) -> bool {
-    RANGES.iter().any(|range| range.key == key)
+    RANGES.as_slice().iter().any(|range| range.key == key)
 }
 
-/// The first key that has to have a truth value and has another, with that: such are all keys that
-/// have no number, but for the ring.
-fn untrue_key(table: &Table) -> Option<(&'static str, &Value)> {
+/// What is wrong with the keys that have a truth value: all that have no number, but for the ring.
+fn flaw_of_truths(alloc: Global, table: &Table) -> Result<Option<String>, AllocError> {
     for key in GUEST_KEYS.as_slice() {
+        let is_truth = *key != "ring" && !has_number(key);
         if let Some(value) = table.get(*key) {
-            if *key != "ring" && !has_number(key) && value.as_bool().is_none() {
-                return Some((*key, value));
+            if is_truth && value.as_bool().is_none() {
+                let got = shown(alloc, value)?;
+                return Ok(Some(format!(in alloc;
+                    "the key {key}: expected true or false, got {got}"
+                )?));
             }
         }
     }
-    None
+    Ok(None)
 }
 
 /// The number at a key, or what stands for it where the key is missing.
@@ -142,34 +147,33 @@ fn flaw_of_ring(alloc: Global, table: &Table) -> Result<Option<String>, AllocErr
     let Ok(places) = u16::try_from(queue) else {
         return Ok(None);
     };
+    if ring == RingKind::Split && !places.is_power_of_two() {
+        return Ok(Some(format!(in alloc;
+            "the key queue: expected a power of two, as the ring is split, got {queue}"
+        )?));
+    }
     let memory = number_at(table, "memory", 1_048_576);
     let least = DriverLayout::of(ring, places).length;
-    let flaw = if ring == RingKind::Split && !places.is_power_of_two() {
-        format!(in alloc;
-            "the key queue: expected a power of two, as the ring is split, got {queue}"
-        )?
-    } else if u64::try_from(memory).unwrap_or(0) < least {
-        format!(in alloc;
+    if u64::try_from(memory).unwrap_or(0) < least {
+        return Ok(Some(format!(in alloc;
             "the key memory: expected at least {least} bytes for a queue of {queue}, got {memory}"
-        )?
-    } else {
-        return Ok(None);
-    };
-    Ok(Some(flaw))
+        )?));
+    }
+    Ok(None)
 }
 
 /// What is wrong with the table of a guest.
 fn flaw_of_guest(alloc: Global, table: &Table) -> Result<Option<String>, AllocError> {
-    let flaw = if let Some(key) = unknown_key(table, GUEST_KEYS.as_slice()) {
-        format!(in alloc; "the key {key:?} isn't known")?
-    } else if let Some(range) = RANGES.iter().find(|range| !is_in_range(table, range)) {
-        flaw_of_number(alloc, table, range)?
-    } else if let Some((key, value)) = untrue_key(table) {
-        flaw_of_value(alloc, key, "true or false", value)?
-    } else {
-        return flaw_of_ring(alloc, table);
-    };
-    Ok(Some(flaw))
+    if let Some(key) = unknown_key(table, GUEST_KEYS.as_slice()) {
+        return Ok(Some(format!(in alloc; "the key {key:?} isn't known")?));
+    }
+    if let Some(flaw) = flaw_of_numbers(alloc, table)? {
+        return Ok(Some(flaw));
+    }
+    if let Some(flaw) = flaw_of_truths(alloc, table)? {
+        return Ok(Some(flaw));
+    }
+    flaw_of_ring(alloc, table)
 }
 
 /// What is wrong with the first bad guest.
@@ -188,8 +192,17 @@ fn flaw_of_guests(alloc: Global, guests: &[Value]) -> Result<String, AllocError>
     format!(in alloc; "expected 1 to 64 tables [[guest]], got {number}")
 }
 
-/// What is wrong with the tables of the guests.
-fn flaw_of_list(alloc: Global, table: &Table) -> Result<String, AllocError> {
+/// What is wrong with the document.
+fn flaw_of_table(alloc: Global, table: &Table) -> Result<String, AllocError> {
+    if let Some(key) = unknown_key(table, ["image", "guest"].as_slice()) {
+        return format!(in alloc; "the key {key:?} isn't known, expected image and [[guest]] alone");
+    }
+    if let Some(value) = table.get("image") {
+        if value.as_str().is_none() {
+            let got = shown(alloc, value)?;
+            return format!(in alloc; "the key image: expected the text of a path, got {got}");
+        }
+    }
     let Some(value) = table.get("guest") else {
         return String::from_str(
             alloc,
@@ -198,20 +211,10 @@ fn flaw_of_list(alloc: Global, table: &Table) -> Result<String, AllocError> {
     };
     match value.as_array() {
         Some(guests) => flaw_of_guests(alloc, guests.as_slice()),
-        None => flaw_of_value(alloc, "guest", "1 to 64 tables [[guest]]", value),
-    }
-}
-
-/// What is wrong with the document.
-fn flaw_of_table(alloc: Global, table: &Table) -> Result<String, AllocError> {
-    if let Some(key) = unknown_key(table, ["image", "guest"].as_slice()) {
-        return format!(in alloc; "the key {key:?} isn't known, expected image and [[guest]] alone");
-    }
-    match table.get("image") {
-        Some(value) if value.as_str().is_none() => {
-            flaw_of_value(alloc, "image", "the text of a path", value)
+        None => {
+            let got = shown(alloc, value)?;
+            format!(in alloc; "the key guest: expected 1 to 64 tables [[guest]], got {got}")
         }
-        _ => flaw_of_list(alloc, table),
     }
 }
 
