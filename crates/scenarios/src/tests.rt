@@ -6,6 +6,7 @@ mod breaks;
 mod devices;
 mod entries;
 mod failing;
+mod groups;
 mod hostile;
 mod image;
 mod intents;

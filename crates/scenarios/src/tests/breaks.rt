@@ -1,9 +1,10 @@
 //! What a book tells after its store broke, and which marks it takes.
 
 use crate::tests::asked::Asked;
+use crate::tests::groups::OF_A_WRITE;
 use crate::tests::image::fresh_store;
 use crate::tests::limits::{hold_64, is_busy};
-use crate::tests::lines::{Line, OF_A_WRITE, fails, play, play_all};
+use crate::tests::lines::{Line, fails, play, play_all};
 use crate::tests::scene::{Scene, check, scene_of};
 use disk::CutDisk;
 use flusher::{Marks, Store};

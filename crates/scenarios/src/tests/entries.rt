@@ -1,7 +1,8 @@
 //! What the store is given, and when replies leave.
 
 use crate::tests::asked::Asked;
-use crate::tests::lines::{Group, Line, OF_A_KEY, OF_A_WRITE, play_all};
+use crate::tests::groups::{Group, OF_A_KEY, OF_A_WRITE};
+use crate::tests::lines::{Line, play_all};
 use crate::tests::scene::LIFE;
 use std::test::Fail;
 

@@ -1,8 +1,9 @@
 //! The book and the store together: what a guest was answered is on the disk when the store is idle.
 
 use crate::tests::asked::Asked;
+use crate::tests::groups::{Group, OF_A_KEY};
 use crate::tests::image::{fresh_store, opened};
-use crate::tests::lines::{Group, Line, OF_A_KEY, play};
+use crate::tests::lines::{Line, play};
 use crate::tests::scene::{KEY, board_of, check, scene_of};
 use disk::{CutDisk, Filler};
 use flusher::Store;

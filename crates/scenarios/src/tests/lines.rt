@@ -1,6 +1,7 @@
 //! Scenes as tables: what is asked of a book and its store, line by line, and what is seen then.
 
 use crate::tests::asked::{Asked, frames_of};
+use crate::tests::groups::{Group, group_of};
 use crate::tests::image::{fresh_store, keep_next, settle};
 use crate::tests::scene::{
     KEY, Scene, accepted, get_write_counter, has_tail, job_of, nonce_of, result_read, scene_of,
@@ -12,43 +13,6 @@ use intent_slots::Intent;
 use mmio_transport::{Done, Job};
 use std::alloc::Global;
 use std::test::Fail;
-
-/// What an intent has.
-#[derive(Clone, Copy, PartialEq)]
-pub struct Group {
-    pub requests: usize,
-    /// The sequence of the last of them.
-    pub sequence: u64,
-    /// The write counter before the first.
-    pub counter: u32,
-    /// The address of the first one's blocks, their length in bytes, and the first and last byte.
-    pub address: u16,
-    pub length: usize,
-    pub first: Option<u8>,
-    pub last: Option<u8>,
-}
-
-/// What the intent of a key has that is programmed first.
-pub const OF_A_KEY: Group = Group {
-    requests: 1,
-    sequence: 1,
-    counter: 0,
-    address: 0,
-    length: 0,
-    first: None,
-    last: None,
-};
-
-/// What the intent has of the first write, of a block of bytes 0xa5.
-pub const OF_A_WRITE: Group = Group {
-    requests: 1,
-    sequence: 2,
-    counter: 1,
-    address: 0,
-    length: 256,
-    first: Some(0xa5),
-    last: Some(0xa5),
-};
 
 /// A line of a scene.
 #[derive(Clone, Copy)]
@@ -206,21 +170,6 @@ fn write_all(
         }
     }
     Ok(true)
-}
-
-fn group_of(intent: &Intent) -> Group {
-    let requests = intent.entries();
-    let entry = intent.entry(0);
-    let blocks = entry.blocks();
-    Group {
-        requests,
-        sequence: intent.last_sequence(),
-        counter: intent.first_counter(),
-        address: entry.address(),
-        length: blocks.len(),
-        first: blocks.first().copied(),
-        last: blocks.last().copied(),
-    }
 }
 
 /// Whether it is the guest's intent, under the key, and this one where one is told.

@@ -2,8 +2,9 @@
 //! kept.
 
 use crate::tests::asked::Asked;
+use crate::tests::groups::{Group, OF_A_KEY, OF_A_WRITE};
 use crate::tests::limits::given_back;
-use crate::tests::lines::{Group, Line, OF_A_KEY, OF_A_WRITE, has_no_reply, play_all};
+use crate::tests::lines::{Line, has_no_reply, play_all};
 use crate::tests::receipts::is_of_nonce;
 use crate::tests::scene::{
     LIFE, Scene, accepted, check, get_write_counter, job_of, nonce_of, scene_of,
