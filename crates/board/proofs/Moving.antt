@@ -1,13 +1,11 @@
 -- What one step of a board does to its disk, and what steps one after another do.
-use Rattle.std.proofs.Common.{◌≡◌, ◌≤◌, ◌<◌, ◌⊎◌, ◌+◌, ◌^◌, inl, inr, ℕ, zero, suc, Bool, true, false, List, Option, Some, None, Result, Ok, Err, length, refl, ap, sym, subst, ◌∙◌, arith, length-set}
-use Rattle.board.proofs.Common.{slice_get, slice_set, slice_get_within, Request, Partition, GuestConfig, DiskCall, DiskState, Effect, HasRisen, Read, Still, Sync, Within, Write, within_weaker, Intent, Part, Guest, Progress, StoreFault, pending_stays, MovedBy, Round, planned, settles, guest_after_sync, mark_of, given, DeviceState, Job, state, AreOfBoard, by_test, IsLinkedBoard, IsSound, LeavesPrefixes, StaysLinked, accepted_after, answered, marks_in, BoardState, Advances, Answer, Does, Step}
+use Rattle.std.proofs.Common.{◌≡◌, ◌≤◌, ◌<◌, ◌⊎◌, ◌+◌, ◌^◌, inl, inr, ℕ, Bool, true, false, List, Option, Some, Result, length, refl, ap, sym, subst, ◌∙◌, arith, length-set}
+use Rattle.board.proofs.Common.{slice_get, slice_set, slice_get_within, Request, Partition, GuestConfig, DiskCall, DiskState, Effect, HasRisen, Still, Within, within_weaker, Intent, Part, Guest, Progress, StoreFault, pending_stays, MovedBy, Round, planned, settles, guest_after_sync, mark_of, given, DeviceState, Job, state, AreOfBoard, by_test, IsLinkedBoard, IsSound, LeavesPrefixes, StaysLinked, accepted_after, answered, marks_in, BoardState, Advances, Answer, Does, Step}
 use Rattle.std.specs.Prelude.{position}
 use Rattle.std.specs.List.{list_any}
-use Rattle.disk.specs.Disk.{Counts, is_success}
 use Rattle.disk.proofs.Ways.{within_both}
 use Rattle.flusher.specs.Round.{plan_at}
 use Rattle.flusher.specs.Pair.{guest_awaits, guest_has_write}
-use Rattle.flusher.proofs.Endings.{round_badly, round_well}
 use Rattle.rpmb_book.specs.Audit.{HasHistory}
 use Rattle.rpmb_book.specs.Sound.{IsSound as IsSoundBook}
 use Rattle.board.proofs.Linked.{drives_linked, in_book}
@@ -28,9 +26,6 @@ KeepsPrefixes shows makes old new = (config : List GuestConfig) (bases : ℕ →
 
 -- 1. One call of the disk
 
-counts_of : (a b : DiskState) (call : DiskCall) → Effect a call b → Counts (is_success call) a b
-counts_of a b call e = grind arith
-
 -- What moved of a board but for the requests of its guests.
 pub record Goes {D : Type 0} (shows : D → DiskState) (old new : BoardState D) : Type 0 where
   pub len : (shows new.store.disk).len ≡ (shows old.store.disk).len
@@ -46,13 +41,7 @@ pub record Shown (old new : DiskState) : Type 0 where
   pub faithful : new.faithful ≡ old.faithful
   pub later : old.failures ≤ new.failures
 
-shown_still : (s : DiskState) → Shown s s
-shown_still s = record { len = refl; faithful = refl; later = omega arith }
-
 module _ {D : Type 0} (shows : D → DiskState) (makes : D → DiskCall → D → Type 0) (effect : (a b : D) (call : DiskCall) → makes a call b → Effect (shows a) call (shows b)) where
-  shown_call : (a b : D) (call : DiskCall) → makes a call b → Shown (shows a) (shows b)
-  shown_call a b call made = (let c = counts_of (shows a) (shows b) call (effect a b call made) in record { len = c.len; faithful = c.faithful; later = c.later })
-
   pub shown_round : (o : Option ℕ) (w : Bool) (od : D) (old : List Guest) (result : Result Progress StoreFault) (nd : D) (new : List Guest) (broken : Bool) → Round makes (plan_at o w) od old result nd new broken → Shown (shows od) (shows nd)
   shown_round o w od old result nd new broken r = grind arith
 
@@ -62,10 +51,6 @@ module _ {D : Type 0} (shows : D → DiskState) (makes : D → DiskCall → D �
   -- 2. Each step
 
   module _ (old : BoardState D) (sound : IsSound shows old) where
-    -- it moves by its store alone
-    of_store_alone : (new to : BoardState D) → new.store ≡ to.store → Goes shows old to → Goes shows old new
-    of_store_alone new to is go = grind arith
-
     still : (new : BoardState D) → new.store ≡ old.store → Goes shows old new
     still new same = grind arith
 
@@ -158,11 +143,6 @@ lent_moves shows makes g b d = still_moves shows makes b (slice_set b.devices g 
 pub moves_none : {D : Type 0} (shows : D → DiskState) (makes : D → DiskCall → D → Type 0) (b : BoardState D) → Moves shows makes b b
 moves_none shows makes b = still_moves shows makes b b.devices b.jobs refl refl
 
-below_or_not : (a c : ℕ) → (a < c) ⊎ (c ≤ a)
-below_or_not a zero = inr (omega arith)
-below_or_not zero (suc c) = inl (omega arith)
-below_or_not (suc a) (suc c) = grind arith
-
 -- a count at its end stands at it from before, or rose
 pub ended : (most a b c : ℕ) → a ≤ b → b ≤ c → most ≤ b + 1 → (a < c) ⊎ (most ≤ a + 1)
 ended most a b c first second end = grind arith
@@ -212,12 +192,6 @@ pub sound_moved : {D : Type 0} (shows : D → DiskState) (makes : D → DiskCall
 sound_moved shows makes a b s m =
     let r = m.reaches s.config s.bases s.accepted (record { parts = s.parts; linked = s.linked }) in
     record { config = s.config; bases = s.bases; accepted = r.now; parts = r.linked.parts; linked = r.linked.linked }
-
--- a step more
-pub step_on : {D : Type 0} (shows : D → DiskState) (makes : D → DiskCall → D → Type 0) (effect : (a b : D) (call : DiskCall) → makes a call b → Effect (shows a) call (shows b)) (s : Step) (answer : Answer) (a b c : BoardState D)
-    → IsSound shows a → Moves shows makes a b → Does shows makes s answer b c → LinksBy shows s answer b c → KeepsPrefixes shows makes b c → Moves shows makes a c
-step_on shows makes effect s answer a b c sound moves does linked moments =
-    moves_twice shows makes a b c moves (step_moves shows makes effect s answer b c (sound_moved shows makes a b sound moves) does linked moments)
 
 -- all that a step of a sound board gives
 steps : {D : Type 0} (shows : D → DiskState) (makes : D → DiskCall → D → Type 0) (effect : (a b : D) (call : DiskCall) → makes a call b → Effect (shows a) call (shows b)) (s : Step) (answer : Answer) (old new : BoardState D)

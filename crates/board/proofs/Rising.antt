@@ -1,12 +1,11 @@
 -- Prefixes of requests that go on, and marks that rise.
-use Rattle.std.proofs.Common.{◌≡◌, ◌≤◌, ◌+◌, ℕ, zero, suc, Bool, true, false, List, [], ◌∷◌, ◌++◌, Option, Some, None, length, take, refl, ap, sym, ◌∙◌, arith, append_assoc, append-nil, length-append}
-use Rattle.board.proofs.Common.{if◌then◌else◌, ◌==◌, drop, slice_get, Request, Partition, sequence, GuestConfig, partition_after_all, DiskState, Group, Intent, Part, part_of, Guest, marks_of, pending_settles, entries_in, guest_after_sync, mark_of, opening_of, pending_intents, Besides, guest_settled, given, given_of, Job, GuestState, accepts, request_of, IsOfBoard, LeavesPrefixes, accepted_by, joined_when, IsLinked, IsPrefix, entries_all}
+use Rattle.std.proofs.Common.{◌≡◌, ◌≤◌, ◌+◌, ℕ, zero, suc, Bool, true, false, List, [], ◌∷◌, ◌++◌, Option, Some, None, length, refl, ap, sym, ◌∙◌, arith, append_assoc, append-nil, length-append}
+use Rattle.board.proofs.Common.{if◌then◌else◌, ◌==◌, slice_get, Request, Partition, sequence, GuestConfig, DiskState, Intent, Part, Guest, marks_of, guest_after_sync, mark_of, given, Job, GuestState, accepts, request_of, IsOfBoard, LeavesPrefixes, accepted_by, joined_when, IsLinked, IsPrefix}
 use Rattle.std.proofs.lemmas.List.{length-drop, take-append-le}
 use Rattle.flusher.specs.Marks.{mark}
-use Rattle.flusher.specs.Laws.{Settles}
 use Rattle.rpmb_book.specs.Turn.{State}
 use Rattle.board.specs.Link.{due}
-use Rattle.board.proofs.Links.{sync_links, length-entries}
+use Rattle.board.proofs.Links.{length-entries}
 use Rattle.board.specs.Moving.{GoOn}
 use Rattle.board.proofs.Linked.{same_marks}
 
@@ -65,14 +64,6 @@ marks_rise (y ∷ ys) (z ∷ zs) many each (suc g) = marks_rise ys zs (omega ari
 pub given_rise : (held : List Guest) (i : Intent) (g : ℕ) → mark (marks_of held) g ≤ mark (marks_of (given held i)) g
 unfolding given
 given_rise held i g = grind (arith, same_marks)
-
--- a sync leaves no more that isn't settled
-fewer_by : (o : Option Group) (before after : List Intent) → Settles o before after → length (entries_all after) ≤ length (entries_all before)
-fewer_by None before after is = (let same = ap (λ l. length (entries_all l)) is in omega arith)
-fewer_by (Some g) before after is = (let same = ap (λ l. length (entries_all l)) is.1 in let sum = length-append is.0.group.entries (entries_all after) in omega arith)
-
-fewer : (held : Guest) → Besides held.slot held.behind → length (entries_all (pending_intents (guest_after_sync held))) ≤ length (entries_all (pending_intents held))
-fewer held b = fewer_by (opening_of held) (pending_intents held) (pending_intents (guest_after_sync held)) (pending_settles held b).0
 
 -- what is settled, and what isn't, is all that was accepted
 counted : (n : ℕ) (base : Partition) (accepted : List Request) (part : Part) (x : GuestState) (held : Guest) (between : Option Intent) → IsLinked n base accepted part x held between
