@@ -128,10 +128,7 @@ still_moves shows makes old devices' jobs' many wide = record {
   reaches = λ config bases accepted was. record {
     now = accepted;
     more = goes_none accepted;
-    linked = record {
-      parts = was.parts;
-      linked = drives_linked shows config bases accepted was.parts old was.linked devices' jobs' (many ∙ was.linked.places.devices) (wide ∙ was.linked.places.jobs);
-    };
+    linked = grind arith;
     moments = λ known. Still old.store.disk (leaves_now shows config bases accepted was.parts old was.linked known);
   };
 }
