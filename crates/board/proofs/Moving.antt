@@ -1,13 +1,11 @@
 -- What one step of a board does to its disk, and what steps one after another do.
-use Rattle.std.proofs.Common.{◌≡◌, ◌≤◌, ◌<◌, ◌⊎◌, ◌+◌, ◌^◌, inl, inr, ℕ, zero, suc, Bool, true, false, List, Option, Some, None, Result, Ok, Err, length, refl, ap, sym, subst, ◌∙◌, arith, length-set}
-use Rattle.board.proofs.Common.{slice_get, slice_set, slice_get_within, Request, Partition, GuestConfig, DiskCall, DiskState, Effect, HasRisen, Read, Still, Sync, Within, Write, within_weaker, Intent, Part, Guest, Progress, StoreFault, pending_stays, MovedBy, Round, planned, settles, guest_after_sync, mark_of, given, DeviceState, Job, state, AreOfBoard, by_test, IsLinkedBoard, IsSound, LeavesPrefixes, StaysLinked, accepted_after, answered, marks_in, BoardState, Advances, Answer, Does, Step}
+use Rattle.std.proofs.Common.{◌≡◌, ◌≤◌, ◌<◌, ◌⊎◌, ◌+◌, ◌^◌, inl, inr, ℕ, Bool, true, false, List, Option, Some, Result, length, refl, ap, sym, subst, ◌∙◌, arith, length-set}
+use Rattle.board.proofs.Common.{slice_get, slice_set, slice_get_within, Request, Partition, GuestConfig, DiskCall, DiskState, Effect, HasRisen, Still, Within, within_weaker, Intent, Part, Guest, Progress, StoreFault, pending_stays, MovedBy, Round, planned, settles, guest_after_sync, mark_of, given, DeviceState, Job, state, AreOfBoard, by_test, IsLinkedBoard, IsSound, LeavesPrefixes, StaysLinked, accepted_after, answered, marks_in, BoardState, Advances, Answer, Does, Step}
 use Rattle.std.specs.Prelude.{position}
 use Rattle.std.specs.List.{list_any}
-use Rattle.disk.specs.Disk.{Counts, is_success}
 use Rattle.disk.proofs.Ways.{within_both}
 use Rattle.flusher.specs.Round.{plan_at}
 use Rattle.flusher.specs.Pair.{guest_awaits, guest_has_write}
-use Rattle.flusher.proofs.Endings.{round_badly, round_well}
 use Rattle.rpmb_book.specs.Audit.{HasHistory}
 use Rattle.rpmb_book.specs.Sound.{IsSound as IsSoundBook}
 use Rattle.board.proofs.Linked.{drives_linked, in_book}
@@ -28,11 +26,6 @@ KeepsPrefixes shows makes old new = (config : List GuestConfig) (bases : ℕ →
 
 -- 1. One call of the disk
 
-counts_of : (a b : DiskState) (call : DiskCall) → Effect a call b → Counts (is_success call) a b
-counts_of a b (Read ok) e = e.counts
-counts_of a b (Write at bytes ok) e = e.counts
-counts_of a b (Sync ok) e = e.counts
-
 -- What moved of a board but for the requests of its guests.
 pub record Goes {D : Type 0} (shows : D → DiskState) (old new : BoardState D) : Type 0 where
   pub len : (shows new.store.disk).len ≡ (shows old.store.disk).len
@@ -48,73 +41,35 @@ pub record Shown (old new : DiskState) : Type 0 where
   pub faithful : new.faithful ≡ old.faithful
   pub later : old.failures ≤ new.failures
 
-shown_still : (s : DiskState) → Shown s s
-shown_still s = record { len = refl; faithful = refl; later = omega arith }
-
 module _ {D : Type 0} (shows : D → DiskState) (makes : D → DiskCall → D → Type 0) (effect : (a b : D) (call : DiskCall) → makes a call b → Effect (shows a) call (shows b)) where
-  shown_call : (a b : D) (call : DiskCall) → makes a call b → Shown (shows a) (shows b)
-  shown_call a b call made = (let c = counts_of (shows a) (shows b) call (effect a b call made) in record { len = c.len; faithful = c.faithful; later = c.later })
-
   pub shown_round : (o : Option ℕ) (w : Bool) (od : D) (old : List Guest) (result : Result Progress StoreFault) (nd : D) (new : List Guest) (broken : Bool) → Round makes (plan_at o w) od old result nd new broken → Shown (shows od) (shows nd)
-  shown_round (Some g) w od old result nd new broken r = shown_call od nd (Write r.wrote.at r.wrote.bytes r.ok) r.wrote.call
-  shown_round None true od old result nd new broken r = shown_call od nd (Sync r.ok) r.synced.call
-  shown_round None false od old result nd new broken r = subst (λ d. Shown (shows od) (shows d)) (sym r.1) (shown_still (shows od))
+  shown_round o w od old result nd new broken r = grind arith
 
   pub failed_round : (p : Result Progress StoreFault) (od : D) (old : List Guest) (nd : D) (new : List Guest) (broken : Bool) → Round makes (planned old) od old p nd new broken → broken ≡ true → HasRisen (shows od).failures (shows nd).failures
-  failed_round (Ok p) od old nd new broken r is = absurd (let no = round_well makes od nd old new p broken r in cc)
-  failed_round (Err e) od old nd new broken r is =
-      let bad = (round_badly makes od nd old new e broken r).1 in
-      (counts_of (shows od) (shows nd) bad.call (effect od nd bad.call bad.made)).cause bad.failed
+  failed_round p od old nd new broken r is = grind arith
 
   -- 2. Each step
 
   module _ (old : BoardState D) (sound : IsSound shows old) where
-    -- it moves by its store alone
-    of_store_alone : (new to : BoardState D) → new.store ≡ to.store → Goes shows old to → Goes shows old new
-    of_store_alone new to is go = record {
-      len = ap (λ s. (shows s.disk).len) is ∙ go.len;
-      faithful = ap (λ s. (shows s.disk).faithful) is ∙ go.faithful;
-      later = (let count = ap (λ s. (shows s.disk).failures) is in let later = go.later in omega (arith, count, later));
-      whole = λ whole. go.whole (sym (ap (λ s. s.broken) is) ∙ whole);
-      cause = λ broken. subst (λ k. (old.store.broken ≡ true) ⊎ HasRisen (shows old.store.disk).failures k) (sym (ap (λ s. (shows s.disk).failures) is)) (go.cause (sym (ap (λ s. s.broken) is) ∙ broken));
-      marks = λ g. (let b : marks_in new g ≡ marks_in to g = ap (λ s. marks_in (record old { store = s }) g) is in let up = go.marks g in omega (arith, b, up));
-    }
-
     still : (new : BoardState D) → new.store ≡ old.store → Goes shows old new
-    still new same = of_store_alone new old same (record {
-      len = refl;
-      faithful = refl;
-      later = omega arith;
-      whole = λ whole. whole;
-      cause = λ broken. inl broken;
-      marks = λ g. omega arith;
-    })
+    still new same = grind arith
 
     moved_up : (s : Bool) (g : ℕ) (y z : Guest) → slice_get old.store.guests g ≡ Some y → MovedBy s y z → mark_of y ≤ mark_of z
     moved_up true g y z at is =
         let ok = sound.linked in
         let below = slice_get_within old.store.guests g y at in
-        let held = ok.held in
-        let x = in_book shows sound.config sound.bases sound.accepted sound.parts old ok g (omega (arith, below, held)) in
+        let x = in_book shows sound.config sound.bases sound.accepted sound.parts old ok g (omega arith) in
         let t = ok.each g x.0 x.1 in
-        let there = t.in_store in
         let same : t.stored ≡ y = cc in
         let up = sync_rises g (sound.bases g) (sound.accepted g) (sound.parts g) x.0 t.stored t.intent t.board t.link in
         let last : mark_of z ≡ mark_of (guest_after_sync t.stored) = ap mark_of is ∙ ap (λ v. mark_of (guest_after_sync v)) (sym same) in
         let first = ap mark_of same in
-        omega (arith, up, last, first)
-    moved_up false g y z at (inl is) = (let same = ap mark_of is in omega (arith, same))
-    moved_up false g y z at (inr is) = (let same : mark_of z ≡ mark_of y = ap mark_of is ∙ (pending_stays y).1 in omega (arith, same))
+        omega arith
+    moved_up false g y z at (inl is) = (let same = ap mark_of is in omega arith)
+    moved_up false g y z at (inr is) = (let same : mark_of z ≡ mark_of y = ap mark_of is ∙ (pending_stays y).1 in omega arith)
 
     given_goes : (i : Intent) (new : BoardState D) → new.store ≡ record old.store { guests = given old.store.guests i } → Goes shows old new
-    given_goes i new is = of_store_alone new (record old { store = record old.store { guests = given old.store.guests i } }) is (record {
-      len = refl;
-      faithful = refl;
-      later = omega arith;
-      whole = λ whole. whole;
-      cause = λ broken. inl broken;
-      marks = λ k. given_rise old.store.guests i k;
-    })
+    given_goes i new is = grind (arith, given_rise)
 
     called_goes : (answer : Answer) (new : BoardState D) → Advances shows makes answer old new → Goes shows old new
     called_goes answer new a = by_test old.store.broken
@@ -135,13 +90,7 @@ module _ {D : Type 0} (shows : D → DiskState) (makes : D → DiskCall → D �
             })
 
     does_goes : (s : Step) (answer : Answer) (new : BoardState D) → Does shows makes s answer old new → Goes shows old new
-    does_goes s answer new does = elim (of_store shows makes answer old new s does) [
-      | inl same ↦ still new same
-      | inr changed ↦ (elim changed [
-        | inl given ↦ given_goes given.0 new given.1
-        | inr called ↦ called_goes answer new called
-      ])
-    ]
+    does_goes s answer new does = grind (arith, called_goes, given_goes, of_store)
 
   -- 3. What a board moves by
 
@@ -179,10 +128,7 @@ still_moves shows makes old devices' jobs' many wide = record {
   reaches = λ config bases accepted was. record {
     now = accepted;
     more = goes_none accepted;
-    linked = record {
-      parts = was.parts;
-      linked = drives_linked shows config bases accepted was.parts old was.linked devices' jobs' (many ∙ was.linked.places.devices) (wide ∙ was.linked.places.jobs);
-    };
+    linked = grind arith;
     moments = λ known. Still old.store.disk (leaves_now shows config bases accepted was.parts old was.linked known);
   };
 }
@@ -194,27 +140,16 @@ lent_moves shows makes g b d = still_moves shows makes b (slice_set b.devices g 
 pub moves_none : {D : Type 0} (shows : D → DiskState) (makes : D → DiskCall → D → Type 0) (b : BoardState D) → Moves shows makes b b
 moves_none shows makes b = still_moves shows makes b b.devices b.jobs refl refl
 
-below_or_not : (a c : ℕ) → (a < c) ⊎ (c ≤ a)
-below_or_not a zero = inr (omega arith)
-below_or_not zero (suc c) = inl (omega arith)
-below_or_not (suc a) (suc c) = elim (below_or_not a c) [
-  | inl less ↦ inl (omega (arith, less))
-  | inr not ↦ inr (omega (arith, not))
-]
-
 -- a count at its end stands at it from before, or rose
 pub ended : (most a b c : ℕ) → a ≤ b → b ≤ c → most ≤ b + 1 → (a < c) ⊎ (most ≤ a + 1)
-ended most a b c first second end = elim (below_or_not a c) [
-  | inl less ↦ inl less
-  | inr not ↦ inr (omega (arith, first, second, end, not))
-]
+ended most a b c first second end = grind arith
 
 -- one after another
 pub moves_twice : {D : Type 0} (shows : D → DiskState) (makes : D → DiskCall → D → Type 0) (a b c : BoardState D) → Moves shows makes a b → Moves shows makes b c → Moves shows makes a c
 moves_twice {D = D} shows makes a b c p q = record {
   len = q.len ∙ p.len;
   faithful = q.faithful ∙ p.faithful;
-  later = (let first = p.later in let second = q.later in omega (arith, first, second));
+  later = (omega arith);
   whole = λ whole. p.whole (q.whole whole);
   cause = λ broken. from (q.cause broken);
   marks = up;
@@ -232,14 +167,14 @@ moves_twice {D = D} shows makes a b c p q = record {
 }
   where
     up : (g : ℕ) → marks_in a g ≤ marks_in c g
-    up g = (let first = p.marks g in let second = q.marks g in omega (arith, first, second))
+    up g = (let first = p.marks g in let second = q.marks g in omega arith)
 
     risen : HasRisen (shows b.store.disk).failures (shows c.store.disk).failures → HasRisen (shows a.store.disk).failures (shows c.store.disk).failures
-    risen (inl more) = inl (let first = p.later in omega (arith, more, first))
+    risen (inl more) = inl (omega arith)
     risen (inr end) = ended (2 ^ 64) (shows a.store.disk).failures (shows b.store.disk).failures (shows c.store.disk).failures p.later q.later end
 
     kept : HasRisen (shows a.store.disk).failures (shows b.store.disk).failures → HasRisen (shows a.store.disk).failures (shows c.store.disk).failures
-    kept (inl more) = inl (let second = q.later in omega (arith, more, second))
+    kept (inl more) = inl (omega arith)
     kept (inr end) = inr end
 
     from : (b.store.broken ≡ true) ⊎ HasRisen (shows b.store.disk).failures (shows c.store.disk).failures → (a.store.broken ≡ true) ⊎ HasRisen (shows a.store.disk).failures (shows c.store.disk).failures
@@ -254,12 +189,6 @@ pub sound_moved : {D : Type 0} (shows : D → DiskState) (makes : D → DiskCall
 sound_moved shows makes a b s m =
     let r = m.reaches s.config s.bases s.accepted (record { parts = s.parts; linked = s.linked }) in
     record { config = s.config; bases = s.bases; accepted = r.now; parts = r.linked.parts; linked = r.linked.linked }
-
--- a step more
-pub step_on : {D : Type 0} (shows : D → DiskState) (makes : D → DiskCall → D → Type 0) (effect : (a b : D) (call : DiskCall) → makes a call b → Effect (shows a) call (shows b)) (s : Step) (answer : Answer) (a b c : BoardState D)
-    → IsSound shows a → Moves shows makes a b → Does shows makes s answer b c → LinksBy shows s answer b c → KeepsPrefixes shows makes b c → Moves shows makes a c
-step_on shows makes effect s answer a b c sound moves does linked moments =
-    moves_twice shows makes a b c moves (step_moves shows makes effect s answer b c (sound_moved shows makes a b sound moves) does linked moments)
 
 -- all that a step of a sound board gives
 steps : {D : Type 0} (shows : D → DiskState) (makes : D → DiskCall → D → Type 0) (effect : (a b : D) (call : DiskCall) → makes a call b → Effect (shows a) call (shows b)) (s : Step) (answer : Answer) (old new : BoardState D)

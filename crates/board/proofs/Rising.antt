@@ -1,12 +1,11 @@
 -- Prefixes of requests that go on, and marks that rise.
-use Rattle.std.proofs.Common.{◌≡◌, ◌≤◌, ◌+◌, ℕ, zero, suc, Bool, true, false, List, [], ◌∷◌, ◌++◌, Option, Some, None, length, take, refl, ap, sym, ◌∙◌, arith, append_assoc, append-nil, length-append}
-use Rattle.board.proofs.Common.{if◌then◌else◌, ◌==◌, drop, slice_get, Request, Partition, sequence, GuestConfig, partition_after_all, DiskState, Group, Intent, Part, part_of, Guest, marks_of, pending_settles, entries_in, guest_after_sync, mark_of, opening_of, pending_intents, Besides, guest_settled, given, given_of, Job, GuestState, accepts, request_of, IsOfBoard, LeavesPrefixes, accepted_by, joined_when, IsLinked, IsPrefix, entries_all}
+use Rattle.std.proofs.Common.{◌≡◌, ◌≤◌, ◌+◌, ℕ, zero, suc, Bool, true, false, List, [], ◌∷◌, ◌++◌, Option, Some, None, length, refl, ap, sym, ◌∙◌, arith, append_assoc, append-nil, length-append}
+use Rattle.board.proofs.Common.{if◌then◌else◌, ◌==◌, slice_get, Request, Partition, sequence, GuestConfig, DiskState, Intent, Part, Guest, marks_of, guest_after_sync, mark_of, given, Job, GuestState, accepts, request_of, IsOfBoard, LeavesPrefixes, accepted_by, joined_when, IsLinked, IsPrefix}
 use Rattle.std.proofs.lemmas.List.{length-drop, take-append-le}
 use Rattle.flusher.specs.Marks.{mark}
-use Rattle.flusher.specs.Laws.{Settles}
 use Rattle.rpmb_book.specs.Turn.{State}
 use Rattle.board.specs.Link.{due}
-use Rattle.board.proofs.Links.{sync_links, length-entries}
+use Rattle.board.proofs.Links.{length-entries}
 use Rattle.board.specs.Moving.{GoOn}
 use Rattle.board.proofs.Linked.{same_marks}
 
@@ -40,18 +39,7 @@ accepted_goes s (Some job) accepted g = by (g == job.guest)
     by false = ([], sym (append-nil (accepted g)))
 
 longer : (base : Partition) (before now rest : List Request) (least less : ℕ) (q : Part) → now ≡ before ++ rest → less ≤ least → IsPrefix base before least q → IsPrefix base now less q
-longer base before now rest least less q is le p =
-    let within = p.within in
-    let enough = p.enough in
-    let more : take p.count now ≡ take p.count before = ap (take p.count) is ∙ take-append-le p.count before rest within in
-    let long = ap length is in
-    let sum = length-append before rest in
-    record {
-      count = p.count;
-      within = omega (arith, within, long, sum);
-      is = p.is ∙ ap (λ l. part_of (partition_after_all base l)) (sym more);
-      enough = omega (arith, enough, le);
-    }
+longer base before now rest least less q is le p = grind (arith, length-append, take-append-le)
 
 -- what leaves prefixes of some requests leaves prefixes of more of them, with less that is counted
 pub leaves_longer : (config : List GuestConfig) (bases : ℕ → Partition) (before now : ℕ → List Request) (least less : ℕ → ℕ) (s : DiskState) → GoOn before now → ((g : ℕ) → less g ≤ least g)
@@ -67,45 +55,22 @@ pub marks_rise : (old new : List Guest) → length new ≡ length old → ((g : 
     → (g : ℕ) → mark (marks_of old) g ≤ mark (marks_of new) g
 unfolding marks_of
 marks_rise [] [] many each g = omega arith
-marks_rise [] (z ∷ zs) many each g = absurd (omega (arith, many))
-marks_rise (y ∷ ys) [] many each g = absurd (omega (arith, many))
+marks_rise [] (z ∷ zs) many each g = absurd (omega arith)
+marks_rise (y ∷ ys) [] many each g = absurd (omega arith)
 marks_rise (y ∷ ys) (z ∷ zs) many each zero = each 0 y z refl refl
-marks_rise (y ∷ ys) (z ∷ zs) many each (suc g) = marks_rise ys zs (omega (arith, many)) (λ k a b at there. each (suc k) a b at there) g
+marks_rise (y ∷ ys) (z ∷ zs) many each (suc g) = marks_rise ys zs (omega arith) (λ k a b at there. each (suc k) a b at there) g
 
 -- an intent that is given moves no mark
 pub given_rise : (held : List Guest) (i : Intent) (g : ℕ) → mark (marks_of held) g ≤ mark (marks_of (given held i)) g
 unfolding given
-given_rise held i g = (let same = ap (λ l. mark l g) (by (slice_get held i.guest) refl) in omega (arith, same))
-  where
-    by : (o : Option Guest) → slice_get held i.guest ≡ o → marks_of (given_of held i o) ≡ marks_of held
-    by None at = refl
-    by (Some z) at = same_marks held i.guest z i at
-
--- a sync leaves no more that isn't settled
-fewer_by : (o : Option Group) (before after : List Intent) → Settles o before after → length (entries_all after) ≤ length (entries_all before)
-fewer_by None before after is = (let same = ap (λ l. length (entries_all l)) is in omega (arith, same))
-fewer_by (Some g) before after is = (let same = ap (λ l. length (entries_all l)) is.1 in let sum = length-append is.0.group.entries (entries_all after) in omega (arith, same, sum))
-
-fewer : (held : Guest) → Besides held.slot held.behind → length (entries_all (pending_intents (guest_after_sync held))) ≤ length (entries_all (pending_intents held))
-fewer held b = fewer_by (opening_of held) (pending_intents held) (pending_intents (guest_after_sync held)) (pending_settles held b).0
+given_rise held i g = grind (arith, same_marks)
 
 -- what is settled, and what isn't, is all that was accepted
 counted : (n : ℕ) (base : Partition) (accepted : List Request) (part : Part) (x : GuestState) (held : Guest) (between : Option Intent) → IsLinked n base accepted part x held between
     → mark_of held + length (due held between x) ≡ sequence base + length accepted
-counted n base accepted part x held between link =
-    let mark = link.mark in
-    let within = link.within in
-    let left = length-drop link.stored accepted in
-    let many = sym (length-entries (drop link.stored accepted)) ∙ ap length link.rest in
-    omega (arith, mark, within, left, many)
+counted n base accepted part x held between link = grind (arith, length-drop, length-entries)
 
 -- so a sync moves a mark only up
 pub sync_rises : (n : ℕ) (base : Partition) (accepted : List Request) (part : Part) (x : GuestState) (held : Guest) (between : Option Intent) → IsOfBoard base → IsLinked n base accepted part x held between
     → mark_of held ≤ mark_of (guest_after_sync held)
-sync_rises n base accepted part x held between board link =
-    let before = counted n base accepted part x held between link in
-    let after = counted n base accepted (guest_settled held part) x (guest_after_sync held) between (sync_links n base accepted part x held between board link) in
-    let less = fewer held link.besides in
-    let one = length-append (entries_all (pending_intents held)) (entries_in between ++ x.waiting) in
-    let two = length-append (entries_all (pending_intents (guest_after_sync held))) (entries_in between ++ x.waiting) in
-    omega (arith, before, after, less, one, two)
+sync_rises n base accepted part x held between board link = grind arith

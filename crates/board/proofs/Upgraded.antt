@@ -12,8 +12,8 @@ pub prefixes_upgraded : (config : List GuestConfig) (bases : ℕ → Partition) 
 prefixes_upgraded config bases accepted least old s known back leaves g lt c may =
     let long = length-capacities config in
     such_before (capacities_of config) (λ g q. IsPrefix (bases g) (accepted g) (least g) q) old s known back
-    (λ h below. leaves h (omega (arith, long, below))) g (omega (arith, long, lt)) c may
+    (λ h below. leaves h (omega arith)) g (omega arith) c may
 
 pub images_upgraded : (config : List GuestConfig) (old s : DiskState) → length config ≤ 64 → old.faithful ≡ true → LeavesAsBefore (capacities_of config) old s
     → ((c : Content) → MayLeave old c → IsImage (capacities_of config) old.len c) → (c : Content) → MayLeave s c → IsImage (capacities_of config) s.len c
-images_upgraded config old s few known back image = (let long = length-capacities config in image_before (capacities_of config) old s (omega (arith, long, few)) known back image)
+images_upgraded config old s few known back image = (let long = length-capacities config in image_before (capacities_of config) old s (omega arith) known back image)
