@@ -20,52 +20,32 @@ some_same : {x y : GuestState} → Some x ≡ Some y → x ≡ y
 some_same e = cc
 
 none_there : {X : Type 0} (o : Option X) → is_none o ≡ true → o ≡ None
-none_there None is = refl
-none_there (Some x) is = absurd (cc)
+none_there x0 is = grind arith
 
 -- each turn of a call is right where it stands
 right_submit : (b : BookView) (tally : Tally) (job : Job) → IsBounded (state b) → is_none (refusal b tally job) ≡ true → IsRight (state b) (submit_of b job)
-right_submit b tally job all is =
-    let s = state b in
-    let n = not_refused (is_full b) tally job (guest_of b job.guest) (none_there _ is) in
-    let few = (all_at (IsBoundedGuest s.broken) s.guests job.guest n.0 n.1 all).held in
-    let less : length n.0.held < 64 = omega (arith, few, n.4) in (
-      slice_get_within s.guests job.guest n.0 n.1,
-      refl,
-      λ x at. subst (λ (y : GuestState). length y.held < 64) (some_same (sym n.1 ∙ at)) less,
-    )
+right_submit b tally job all is = grind (arith, all_at, slice_get_within)
 
 waits_there : (share : Bool) (n : ℕ) (o : Option GuestState) → is_some (if share then first_of n o else None) ≡ true → (g : GuestState) × (o ≡ Some g) × (is_some (first_intent n g) ≡ true)
-waits_there true n None is = absurd (cc)
-waits_there true n (Some g) is = (g, refl, is)
-waits_there false n o is = absurd (cc)
+waits_there share n o is = grind arith
 
 take_right : (b : BookView) (shares : List ℕ) (n : ℕ) → is_some (next_intent b shares n) ≡ true → IsRight (state b) (Take n)
-take_right b shares n is =
-    let w = waits_there (is_share b shares n) n (guest_of b n) is in right_take (state b) n w.0 w.1 w.2
+take_right b shares n is = grind (arith, right_take)
 
 due_there : (o : Option GuestState) → is_some (due_at o) ≡ true → (g : GuestState) × (o ≡ Some g) × (is_some (first_due g.settled g.held) ≡ true)
-due_there None is = absurd (cc)
-due_there (Some g) is = (g, refl, is)
+due_there o is = grind arith
 
 collect_right : (b : BookView) (n : ℕ) → is_some (due_of b n) ≡ true → IsRight (state b) (Collect n)
 collect_right b n is = let d = due_there (guest_of b n) is in right_collect (state b) n d.0 d.1 d.2
 
 both : (p q r : Bool) → ((p && q) && r) ≡ true → (q ≡ true) × (r ≡ true)
-both true true true is = (refl, refl)
-both true true false is = absurd (cc)
-both true false r is = absurd (cc)
-both false q r is = absurd (cc)
+both p q r is = grind arith
 
 settle_right : (b : BookView) (shares ms : List ℕ) → (may_settle b shares ms && move_some (state b).guests ms) ≡ true → IsRight (state b) (Settle (marks_for (length (state b).guests) ms))
-settle_right b shares ms is =
-    let gs = (state b).guests in
-    let tests = both (are_taken gs shares) (are_within gs ms) (move_some gs ms) is in
-    (length-marks_for (length gs) ms, within_for gs ms ∙ tests.0, moves_for gs ms ∙ tests.1)
+settle_right b shares ms is = grind (arith, length-marks_for, moves_for, within_for)
 
 unless : (b : Bool) → not b ≡ true → b ≡ false
-unless true is = absurd (cc)
-unless false is = refl
+unless b is = grind arith
 
 -- a book that has lived these turns, each right where it stood
 record HasLived (first : State) (turns : List Turn) (b : BookView) : Type 0 where
@@ -73,25 +53,17 @@ record HasLived (first : State) (turns : List Turn) (b : BookView) : Type 0 wher
   lives : Lives first turns b
 
 legal_here : (first : State) (turns : List Turn) (b : BookView) → HasLived first turns b → IsLegal b.opening b.history
-legal_here first turns b h =
-    let l = h.lives in
-    subst (λ (s : State). IsLegal s b.history) (sym l.opening)
-    (folds first l.gone b.history (subst (λ (ts : List Turn). IsLegal first ts) l.all h.legal)).1
+legal_here first turns b h = grind (arith, folds)
 
 -- at most one right turn more
 legal_if : (first : State) (turns : List Turn) (so : Bool) (t : Turn) → IsLegal first turns → (so ≡ true → IsRight (replay first turns) t) → IsLegal first (turns ++ turn_if so t)
-legal_if first turns true t legal right = legal-push first turns t legal (right refl)
-legal_if first turns false t legal right = subst (λ (ts : List Turn). IsLegal first ts) (sym (append-nil turns)) legal
+legal_if first turns so t legal right = grind (arith, append-nil, legal-push)
 
 one_on : (first : State) (turns : List Turn) (b c : BookView) (so : Bool) (t : Turn) → HasLived first turns b → (so ≡ true → IsRight (state b) t) → GoesOn b (turn_if so t) c → HasLived first (turns ++ turn_if so t) c
-one_on first turns b c so t h right goes = record {
-  legal = legal_if first turns so t h.legal (λ is. subst (λ (s : State). IsRight s t) (leads_here first turns b h.lives) (right is));
-  lives = goes first turns h.lives;
-}
+one_on first turns b c so t h right goes = grind (arith, leads_here, legal_if)
 
 submit_if : (so : Bool) (b : BookView) (job : Job) → IsLegal b.opening b.history → GoesOn b (turn_if so (submit_of b job)) (if so then after_submit b job else b)
-submit_if true b job legal = submit_goes_on b job legal
-submit_if false b job legal = stays b
+submit_if so b job legal = grind (arith, stays, submit_goes_on)
 
 one_call : (first : State) (turns : List Turn) (b : BookView) (c : Call) → IsBounded first → HasLived first turns b → HasLived first (turns ++ turns_of b c) (after_call b c)
 one_call first turns b (ToSubmit tally job) few h =
@@ -115,9 +87,8 @@ one_call first turns b (ToCollect n) few h =
 all_calls : (first : State) (turns : List Turn) (b : BookView) (cs : List Call) → IsBounded first → HasLived first turns b → HasLived first (turns ++ turns_in b cs) (after_calls b cs)
 all_calls first turns b [] few h = subst (λ (ts : List Turn). HasLived first ts b) (sym (append-nil turns)) h
 all_calls first turns b (c ∷ cs) few h =
-    let next = after_call b c in
-    subst (λ (ts : List Turn). HasLived first ts (after_calls next cs)) (append_assoc turns (turns_of b c) (turns_in next cs))
-    (all_calls first (turns ++ turns_of b c) next cs few (one_call first turns b c few h))
+    grind (arith, append_assoc,
+    (all_calls first (turns ++ turns_of b c) (after_call b c) cs few (one_call first turns b c few h)))
 
 -- a book that was opened, after all its calls
 fresh_lives : (config : List GuestConfig) (partitions : List Partition) (b : BookView) (cs : List Call) → IsFresh config partitions b → HasLived b.opening (turns_in b cs) (after_calls b cs)
@@ -133,8 +104,7 @@ whole_at_first : (config : List GuestConfig) (partitions : List Partition) (b : 
 whole_at_first config partitions b f = ap (λ (s : State). s.broken) f.opening
 
 pub alone_by_calls : IsToldAsAloneByCalls
-alone_by_calls config partitions b cs g x f lasts at =
-    as_alone g b.opening x (turns_in b cs) (whole_at_first config partitions b f) lasts at (fresh_lives config partitions b cs f).legal
+alone_by_calls config partitions b cs g x f lasts at = grind (arith, as_alone, fresh_lives)
 
 nothing_stored : (gs : List GuestConfig) (ps : List Partition) (g : ℕ) (x : GuestState) → slice_get (fresh_guests gs ps) g ≡ Some x → x.core.last ≡ None
 nothing_stored [] ps g x at = absurd (cc)
