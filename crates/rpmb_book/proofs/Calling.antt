@@ -1,5 +1,5 @@
 -- Whatever is called on a book that was opened, its life goes on by turns that are right where they stand.
-use Rattle.std.proofs.Common.{◌≡◌, ◌<◌, zero, suc, Bool, true, false, List, [], ◌∷◌, ◌++◌, Option, Some, None, length, refl, ap, sym, ◌∙◌, subst, append-nil, append_assoc, arith}
+use Rattle.std.proofs.Common.{◌≡◌, ◌<◌, zero, suc, Bool, true, false, List, [], ◌∷◌, ◌++◌, Option, Some, None, length, refl, ap, sym, ◌∙◌, subst, append-nil, append_assoc, arith, rules}
 use Rattle.rpmb_book.proofs.Common.{◌&&◌, not, if◌then◌else◌, is_none, is_some, slice_get, slice_get_within, Partition, GuestConfig, Job, Tally, GuestState, first_due, first_intent, Turn, Take, Settle, Collect, Break, State, IsRight, are_within, move_some, marks_for, replay, IsLegal, fresh_guests, IsBounded, IsBoundedGuest, BookView, guest_of, is_full, refusal, submit_of, first_of, is_share, next_intent, are_taken, may_settle, due_at, due_of, after_submit, GoesOn, Lives, turn_if, IsAfter, answered_jobs, jobs_of}
 use Rattle.std.specs.Prelude.{ℕ}
 use Rattle.rpmb_book.specs.Book.{state}
@@ -67,22 +67,13 @@ submit_if so b job legal = grind (arith, stays, submit_goes_on)
 
 one_call : (first : State) (turns : List Turn) (b : BookView) (c : Call) → IsBounded first → HasLived first turns b → HasLived first (turns ++ turns_of b c) (after_call b c)
 one_call first turns b (ToSubmit tally job) few h =
-    let so = is_none (refusal b tally job) in
-    let here = subst IsBounded (sym (leads_here first turns b h.lives)) (bounded first turns few h.legal) in
-    one_on first turns b (if so then after_submit b job else b) so (submit_of b job) h (right_submit b tally job here) (submit_if so b job (legal_here first turns b h))
+    search (rules, arith, bounded, leads_here, legal_here, one_on, right_submit, submit_if, h.lives)
 one_call first turns b (ToTake shares n) few h =
-    let so = is_some (next_intent b shares n) in
-    one_on first turns b (after_call b (ToTake shares n)) so (Take n) h (take_right b shares n) (one_if_so so b (Take n))
+    search (rules, arith, one_if_so, one_on, take_right)
 one_call first turns b (ToSettle shares ms) few h =
-    let so = may_settle b shares ms && move_some (state b).guests ms in
-    let t = Settle (marks_for (length (state b).guests) ms) in
-    one_on first turns b (after_call b (ToSettle shares ms)) so t h (settle_right b shares ms) (one_if_so so b t)
-one_call first turns b ToBreakOff few h =
-    let off = (state b).broken in
-    one_on first turns b (after_call b ToBreakOff) (not off) Break h (unless off) (one_if_not off b Break)
-one_call first turns b (ToCollect n) few h =
-    let so = is_some (due_of b n) in
-    one_on first turns b (after_call b (ToCollect n)) so (Collect n) h (collect_right b n) (one_if_so so b (Collect n))
+    search (rules, arith, one_if_so, one_on, settle_right)
+one_call first turns b ToBreakOff few h = search (rules, arith, one_if_not, one_on, unless)
+one_call first turns b (ToCollect n) few h = search (rules, arith, collect_right, one_if_so, one_on)
 
 all_calls : (first : State) (turns : List Turn) (b : BookView) (cs : List Call) → IsBounded first → HasLived first turns b → HasLived first (turns ++ turns_in b cs) (after_calls b cs)
 all_calls first turns b [] few h = subst (λ (ts : List Turn). HasLived first ts b) (sym (append-nil turns)) h
@@ -107,10 +98,8 @@ pub alone_by_calls : IsToldAsAloneByCalls
 alone_by_calls config partitions b cs g x f lasts at = grind (arith, as_alone, fresh_lives)
 
 nothing_stored : (gs : List GuestConfig) (ps : List Partition) (g : ℕ) (x : GuestState) → slice_get (fresh_guests gs ps) g ≡ Some x → x.core.last ≡ None
-nothing_stored [] ps g x at = absurd (cc)
-nothing_stored (c ∷ gs) [] g x at = absurd (cc)
-nothing_stored (c ∷ gs) (p ∷ ps) zero x at = ap (λ y. y.core.last) (some_same (sym at))
 nothing_stored (c ∷ gs) (p ∷ ps) (suc g) x at = nothing_stored gs ps g x at
+nothing_stored gs ps g x at = grind arith
 
 pub outcome_by_calls : IsOutcomeByCalls
 outcome_by_calls config partitions b cs g x y f at last =
