@@ -1,13 +1,12 @@
 -- Whatever is called on a book that was opened, its life goes on by turns that are right where they stand.
-use Rattle.std.proofs.Common.{◌≡◌, ◌<◌, zero, suc, Bool, true, false, List, [], ◌∷◌, ◌++◌, Option, Some, None, length, refl, ap, sym, ◌∙◌, subst, append-nil, append_assoc, arith, rules}
-use Rattle.rpmb_book.proofs.Common.{◌&&◌, not, if◌then◌else◌, is_none, is_some, slice_get, slice_get_within, Partition, GuestConfig, Job, Tally, GuestState, first_due, first_intent, Turn, Take, Settle, Collect, Break, State, IsRight, are_within, move_some, marks_for, replay, IsLegal, fresh_guests, IsBounded, IsBoundedGuest, BookView, guest_of, is_full, refusal, submit_of, first_of, is_share, next_intent, are_taken, may_settle, due_at, due_of, after_submit, GoesOn, Lives, turn_if, IsAfter, answered_jobs, jobs_of}
+use Rattle.std.proofs.Common.{◌≡◌, suc, Bool, true, false, List, [], ◌∷◌, ◌++◌, Option, Some, None, length, ap, sym, ◌∙◌, subst, append-nil, append_assoc, arith, rules}
+use Rattle.rpmb_book.proofs.Common.{◌&&◌, not, if◌then◌else◌, is_none, is_some, slice_get, slice_get_within, Partition, GuestConfig, Job, Tally, GuestState, first_due, Turn, Take, Settle, Collect, State, IsRight, move_some, marks_for, replay, IsLegal, fresh_guests, IsBounded, BookView, guest_of, refusal, submit_of, next_intent, may_settle, due_at, due_of, after_submit, GoesOn, Lives, turn_if, IsAfter, answered_jobs, jobs_of}
 use Rattle.std.specs.Prelude.{ℕ}
 use Rattle.rpmb_book.specs.Book.{state}
 use Rattle.rpmb_book.specs.Calls.{Call, ToSubmit, ToTake, ToSettle, ToBreakOff, ToCollect, after_call, after_calls, turns_of, turns_in, IsFresh, IsLived, IsToldAsAloneByCalls, IsOutcomeByCalls, IsAfterItsJobsByCalls}
 use Rattle.rpmb_book.proofs.AskedLemmas.{after_its_jobs}
 use Rattle.rpmb_book.proofs.Bounding.{bounded}
 use Rattle.rpmb_book.proofs.IsolationLemmas.{as_alone}
-use Rattle.rpmb_book.proofs.Kept.{not_refused}
 use Rattle.rpmb_book.proofs.Living.{begins, leads_here, lived, one_if_not, one_if_so, stays, submit_goes_on}
 use Rattle.rpmb_book.proofs.Marking.{length-marks_for, moves_for, within_for}
 use Rattle.rpmb_book.proofs.OpeningLemmas.{opens}
@@ -19,15 +18,9 @@ use Rattle.rpmb_book.proofs.Taking.{right_collect, right_take}
 some_same : {x y : GuestState} → Some x ≡ Some y → x ≡ y
 some_same e = cc
 
-none_there : {X : Type 0} (o : Option X) → is_none o ≡ true → o ≡ None
-none_there x0 is = grind arith
-
 -- each turn of a call is right where it stands
 right_submit : (b : BookView) (tally : Tally) (job : Job) → IsBounded (state b) → is_none (refusal b tally job) ≡ true → IsRight (state b) (submit_of b job)
 right_submit b tally job all is = grind (arith, all_at, slice_get_within)
-
-waits_there : (share : Bool) (n : ℕ) (o : Option GuestState) → is_some (if share then first_of n o else None) ≡ true → (g : GuestState) × (o ≡ Some g) × (is_some (first_intent n g) ≡ true)
-waits_there share n o is = grind arith
 
 take_right : (b : BookView) (shares : List ℕ) (n : ℕ) → is_some (next_intent b shares n) ≡ true → IsRight (state b) (Take n)
 take_right b shares n is = grind (arith, right_take)
@@ -37,9 +30,6 @@ due_there o is = grind arith
 
 collect_right : (b : BookView) (n : ℕ) → is_some (due_of b n) ≡ true → IsRight (state b) (Collect n)
 collect_right b n is = let d = due_there (guest_of b n) is in right_collect (state b) n d.0 d.1 d.2
-
-both : (p q r : Bool) → ((p && q) && r) ≡ true → (q ≡ true) × (r ≡ true)
-both p q r is = grind arith
 
 settle_right : (b : BookView) (shares ms : List ℕ) → (may_settle b shares ms && move_some (state b).guests ms) ≡ true → IsRight (state b) (Settle (marks_for (length (state b).guests) ms))
 settle_right b shares ms is = grind (arith, length-marks_for, moves_for, within_for)

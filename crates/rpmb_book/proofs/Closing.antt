@@ -1,5 +1,5 @@
 -- Replies whose MAC is made later.
-use Rattle.std.proofs.Common.{◌≡◌, ◌≤◌, ◌*◌, ◌/◌, ℕ, List, [], ◌∷◌, Option, None, length, refl, arith}
+use Rattle.std.proofs.Common.{◌≡◌, ◌≤◌, ◌*◌, ◌/◌, ℕ, List, Option, None, length, refl, arith}
 use Rattle.rpmb_book.proofs.Common.{Job, done_of, closed, failed}
 use Rattle.rpmb_core.proofs.Closing.{length-closed}
 use Rattle.rpmb_core.proofs.Failing.{length-failure_frame}

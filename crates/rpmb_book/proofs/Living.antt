@@ -1,10 +1,9 @@
 -- A life goes on by the turns of each call, and a fold keeps it.
-use Rattle.std.proofs.Common.{◌≡◌, ℕ, ◌+◌, Bool, true, false, List, [], ◌∷◌, ◌++◌, Some, length, refl, ap, sym, ◌∙◌, subst, append-nil, append_assoc, length-append, arith}
-use Rattle.rpmb_book.proofs.Common.{◌==◌, not, if◌then◌else◌, slice_get, Job, GuestState, Turn, State, after_turn, replay, IsLegal, BookView, submits_in, submit_of, with_turn, after_submit, folded, roomy, GoesOn, Lives, turn_if}
+use Rattle.std.proofs.Common.{◌≡◌, ℕ, ◌+◌, Bool, List, [], ◌∷◌, ◌++◌, Some, length, refl, ap, sym, ◌∙◌, subst, append-nil, append_assoc, length-append, arith}
+use Rattle.rpmb_book.proofs.Common.{not, if◌then◌else◌, slice_get, Job, GuestState, Turn, State, after_turn, replay, IsLegal, BookView, submit_of, with_turn, after_submit, folded, roomy, GoesOn, Lives, turn_if}
 use Rattle.rpmb_book.specs.Book.{state}
 use Rattle.rpmb_book.specs.Life.{Begins}
-use Rattle.rpmb_book.proofs.Rolling.{chosen, longest, not_chosen}
-use Rattle.rpmb_book.proofs.Room.{by_test}
+use Rattle.rpmb_book.proofs.Rolling.{longest}
 
 -- turns after turns
 pub replay-append : (s : State) (ts us : List Turn) → replay s (ts ++ us) ≡ replay (replay s ts) us

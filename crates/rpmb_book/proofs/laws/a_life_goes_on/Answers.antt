@@ -1,6 +1,5 @@
 use Rattle.std.proofs.Common.{arith}
-use Rattle.rpmb_book.proofs.Common.{◌&&◌, is_some, due_of, may_settle, next_intent, marks_for, Break, Collect, Settle, Take, move_some}
-use Rattle.std.specs.Prelude.{length}
+use Rattle.rpmb_book.proofs.Common.{is_some, due_of, Break, Collect}
 use Rattle.rpmb_book.specs.Book.{state}
 use Rattle.rpmb_book.proofs.Living.{one_if_not, one_if_so, room_goes_on, submit_goes_on}
 use Rattle.rpmb_book.proofs.laws.a_life_goes_on.Goals as goal

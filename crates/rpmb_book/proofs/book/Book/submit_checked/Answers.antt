@@ -1,6 +1,5 @@
-use Rattle.std.proofs.Common.{◌∙◌, ◌+◌, ap, length, sym, arith}
-use Rattle.rpmb_book.proofs.Common.{slice_get, counted_in, guest_of, with_turn, submit_of, State, Submit, made_of, after_submit, roomy}
-use Rattle.rpmb_book.specs.Book.{state}
+use Rattle.std.proofs.Common.{◌∙◌, ◌+◌, ap, length, arith}
+use Rattle.rpmb_book.proofs.Common.{roomy}
 use Rattle.rpmb_book.proofs.Rolling.{count_one, rolls, named_by}
 use Rattle.rpmb_book.proofs.book.Book.submit_checked.Goals as goal
 

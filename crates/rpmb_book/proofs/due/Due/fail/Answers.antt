@@ -1,7 +1,7 @@
-use Rattle.std.proofs.Common.{◌≡◌, ◌∙◌, ap, sym, subst, List, ℕ, arith}
-use Rattle.rpmb_book.proofs.Common.{Done, done_of, room_of, closed, failed}
+use Rattle.std.proofs.Common.{◌≡◌, ◌∙◌, ap, sym, List, ℕ, arith}
+use Rattle.rpmb_book.proofs.Common.{Done, done_of, closed, failed}
 use Rattle.rpmb_book.specs.Guest.{break_code}
-use Rattle.rpmb_book.proofs.Closing.{IsWholeWithin, failed_closed, failed_within, open_done}
+use Rattle.rpmb_book.proofs.Closing.{failed_closed, failed_within, open_done}
 use Rattle.rpmb_book.proofs.due.Due.fail.Goals as goal
 
 pub invariant_of-self : goal.invariant_of-self
