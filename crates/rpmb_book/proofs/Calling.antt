@@ -1,13 +1,12 @@
 -- Whatever is called on a book that was opened, its life goes on by turns that are right where they stand.
-use Rattle.std.proofs.Common.{◌≡◌, ◌<◌, zero, suc, Bool, true, false, List, [], ◌∷◌, ◌++◌, Option, Some, None, length, refl, ap, sym, ◌∙◌, subst, append-nil, append_assoc, arith}
-use Rattle.rpmb_book.proofs.Common.{◌&&◌, not, if◌then◌else◌, is_none, is_some, slice_get, slice_get_within, Partition, GuestConfig, Job, Tally, GuestState, first_due, first_intent, Turn, Take, Settle, Collect, Break, State, IsRight, are_within, move_some, marks_for, replay, IsLegal, fresh_guests, IsBounded, IsBoundedGuest, BookView, guest_of, is_full, refusal, submit_of, first_of, is_share, next_intent, are_taken, may_settle, due_at, due_of, after_submit, GoesOn, Lives, turn_if, IsAfter, answered_jobs, jobs_of}
+use Rattle.std.proofs.Common.{◌≡◌, suc, Bool, true, false, List, [], ◌∷◌, ◌++◌, Option, Some, None, length, ap, sym, ◌∙◌, subst, append-nil, append_assoc, arith, rules}
+use Rattle.rpmb_book.proofs.Common.{◌&&◌, not, if◌then◌else◌, is_none, is_some, slice_get, slice_get_within, Partition, GuestConfig, Job, Tally, GuestState, first_due, Turn, Take, Settle, Collect, State, IsRight, move_some, marks_for, replay, IsLegal, fresh_guests, IsBounded, BookView, guest_of, refusal, submit_of, next_intent, may_settle, due_at, due_of, after_submit, GoesOn, Lives, turn_if, IsAfter, answered_jobs, jobs_of}
 use Rattle.std.specs.Prelude.{ℕ}
 use Rattle.rpmb_book.specs.Book.{state}
 use Rattle.rpmb_book.specs.Calls.{Call, ToSubmit, ToTake, ToSettle, ToBreakOff, ToCollect, after_call, after_calls, turns_of, turns_in, IsFresh, IsLived, IsToldAsAloneByCalls, IsOutcomeByCalls, IsAfterItsJobsByCalls}
 use Rattle.rpmb_book.proofs.AskedLemmas.{after_its_jobs}
 use Rattle.rpmb_book.proofs.Bounding.{bounded}
 use Rattle.rpmb_book.proofs.IsolationLemmas.{as_alone}
-use Rattle.rpmb_book.proofs.Kept.{not_refused}
 use Rattle.rpmb_book.proofs.Living.{begins, leads_here, lived, one_if_not, one_if_so, stays, submit_goes_on}
 use Rattle.rpmb_book.proofs.Marking.{length-marks_for, moves_for, within_for}
 use Rattle.rpmb_book.proofs.OpeningLemmas.{opens}
@@ -19,53 +18,24 @@ use Rattle.rpmb_book.proofs.Taking.{right_collect, right_take}
 some_same : {x y : GuestState} → Some x ≡ Some y → x ≡ y
 some_same e = cc
 
-none_there : {X : Type 0} (o : Option X) → is_none o ≡ true → o ≡ None
-none_there None is = refl
-none_there (Some x) is = absurd (cc)
-
 -- each turn of a call is right where it stands
 right_submit : (b : BookView) (tally : Tally) (job : Job) → IsBounded (state b) → is_none (refusal b tally job) ≡ true → IsRight (state b) (submit_of b job)
-right_submit b tally job all is =
-    let s = state b in
-    let n = not_refused (is_full b) tally job (guest_of b job.guest) (none_there _ is) in
-    let few = (all_at (IsBoundedGuest s.broken) s.guests job.guest n.0 n.1 all).held in
-    let less : length n.0.held < 64 = omega (arith, few, n.4) in (
-      slice_get_within s.guests job.guest n.0 n.1,
-      refl,
-      λ x at. subst (λ (y : GuestState). length y.held < 64) (some_same (sym n.1 ∙ at)) less,
-    )
-
-waits_there : (share : Bool) (n : ℕ) (o : Option GuestState) → is_some (if share then first_of n o else None) ≡ true → (g : GuestState) × (o ≡ Some g) × (is_some (first_intent n g) ≡ true)
-waits_there true n None is = absurd (cc)
-waits_there true n (Some g) is = (g, refl, is)
-waits_there false n o is = absurd (cc)
+right_submit b tally job all is = grind (arith, all_at, slice_get_within)
 
 take_right : (b : BookView) (shares : List ℕ) (n : ℕ) → is_some (next_intent b shares n) ≡ true → IsRight (state b) (Take n)
-take_right b shares n is =
-    let w = waits_there (is_share b shares n) n (guest_of b n) is in right_take (state b) n w.0 w.1 w.2
+take_right b shares n is = grind (arith, right_take)
 
 due_there : (o : Option GuestState) → is_some (due_at o) ≡ true → (g : GuestState) × (o ≡ Some g) × (is_some (first_due g.settled g.held) ≡ true)
-due_there None is = absurd (cc)
-due_there (Some g) is = (g, refl, is)
+due_there o is = grind arith
 
 collect_right : (b : BookView) (n : ℕ) → is_some (due_of b n) ≡ true → IsRight (state b) (Collect n)
 collect_right b n is = let d = due_there (guest_of b n) is in right_collect (state b) n d.0 d.1 d.2
 
-both : (p q r : Bool) → ((p && q) && r) ≡ true → (q ≡ true) × (r ≡ true)
-both true true true is = (refl, refl)
-both true true false is = absurd (cc)
-both true false r is = absurd (cc)
-both false q r is = absurd (cc)
-
 settle_right : (b : BookView) (shares ms : List ℕ) → (may_settle b shares ms && move_some (state b).guests ms) ≡ true → IsRight (state b) (Settle (marks_for (length (state b).guests) ms))
-settle_right b shares ms is =
-    let gs = (state b).guests in
-    let tests = both (are_taken gs shares) (are_within gs ms) (move_some gs ms) is in
-    (length-marks_for (length gs) ms, within_for gs ms ∙ tests.0, moves_for gs ms ∙ tests.1)
+settle_right b shares ms is = grind (arith, length-marks_for, moves_for, within_for)
 
 unless : (b : Bool) → not b ≡ true → b ≡ false
-unless true is = absurd (cc)
-unless false is = refl
+unless b is = grind arith
 
 -- a book that has lived these turns, each right where it stood
 record HasLived (first : State) (turns : List Turn) (b : BookView) : Type 0 where
@@ -73,51 +43,33 @@ record HasLived (first : State) (turns : List Turn) (b : BookView) : Type 0 wher
   lives : Lives first turns b
 
 legal_here : (first : State) (turns : List Turn) (b : BookView) → HasLived first turns b → IsLegal b.opening b.history
-legal_here first turns b h =
-    let l = h.lives in
-    subst (λ (s : State). IsLegal s b.history) (sym l.opening)
-    (folds first l.gone b.history (subst (λ (ts : List Turn). IsLegal first ts) l.all h.legal)).1
+legal_here first turns b h = grind (arith, folds)
 
 -- at most one right turn more
 legal_if : (first : State) (turns : List Turn) (so : Bool) (t : Turn) → IsLegal first turns → (so ≡ true → IsRight (replay first turns) t) → IsLegal first (turns ++ turn_if so t)
-legal_if first turns true t legal right = legal-push first turns t legal (right refl)
-legal_if first turns false t legal right = subst (λ (ts : List Turn). IsLegal first ts) (sym (append-nil turns)) legal
+legal_if first turns so t legal right = grind (arith, append-nil, legal-push)
 
 one_on : (first : State) (turns : List Turn) (b c : BookView) (so : Bool) (t : Turn) → HasLived first turns b → (so ≡ true → IsRight (state b) t) → GoesOn b (turn_if so t) c → HasLived first (turns ++ turn_if so t) c
-one_on first turns b c so t h right goes = record {
-  legal = legal_if first turns so t h.legal (λ is. subst (λ (s : State). IsRight s t) (leads_here first turns b h.lives) (right is));
-  lives = goes first turns h.lives;
-}
+one_on first turns b c so t h right goes = grind (arith, leads_here, legal_if)
 
 submit_if : (so : Bool) (b : BookView) (job : Job) → IsLegal b.opening b.history → GoesOn b (turn_if so (submit_of b job)) (if so then after_submit b job else b)
-submit_if true b job legal = submit_goes_on b job legal
-submit_if false b job legal = stays b
+submit_if so b job legal = grind (arith, stays, submit_goes_on)
 
 one_call : (first : State) (turns : List Turn) (b : BookView) (c : Call) → IsBounded first → HasLived first turns b → HasLived first (turns ++ turns_of b c) (after_call b c)
 one_call first turns b (ToSubmit tally job) few h =
-    let so = is_none (refusal b tally job) in
-    let here = subst IsBounded (sym (leads_here first turns b h.lives)) (bounded first turns few h.legal) in
-    one_on first turns b (if so then after_submit b job else b) so (submit_of b job) h (right_submit b tally job here) (submit_if so b job (legal_here first turns b h))
+    search (rules, arith, bounded, leads_here, legal_here, one_on, right_submit, submit_if, h.lives)
 one_call first turns b (ToTake shares n) few h =
-    let so = is_some (next_intent b shares n) in
-    one_on first turns b (after_call b (ToTake shares n)) so (Take n) h (take_right b shares n) (one_if_so so b (Take n))
+    search (rules, arith, one_if_so, one_on, take_right)
 one_call first turns b (ToSettle shares ms) few h =
-    let so = may_settle b shares ms && move_some (state b).guests ms in
-    let t = Settle (marks_for (length (state b).guests) ms) in
-    one_on first turns b (after_call b (ToSettle shares ms)) so t h (settle_right b shares ms) (one_if_so so b t)
-one_call first turns b ToBreakOff few h =
-    let off = (state b).broken in
-    one_on first turns b (after_call b ToBreakOff) (not off) Break h (unless off) (one_if_not off b Break)
-one_call first turns b (ToCollect n) few h =
-    let so = is_some (due_of b n) in
-    one_on first turns b (after_call b (ToCollect n)) so (Collect n) h (collect_right b n) (one_if_so so b (Collect n))
+    search (rules, arith, one_if_so, one_on, settle_right)
+one_call first turns b ToBreakOff few h = search (rules, arith, one_if_not, one_on, unless)
+one_call first turns b (ToCollect n) few h = search (rules, arith, collect_right, one_if_so, one_on)
 
 all_calls : (first : State) (turns : List Turn) (b : BookView) (cs : List Call) → IsBounded first → HasLived first turns b → HasLived first (turns ++ turns_in b cs) (after_calls b cs)
 all_calls first turns b [] few h = subst (λ (ts : List Turn). HasLived first ts b) (sym (append-nil turns)) h
 all_calls first turns b (c ∷ cs) few h =
-    let next = after_call b c in
-    subst (λ (ts : List Turn). HasLived first ts (after_calls next cs)) (append_assoc turns (turns_of b c) (turns_in next cs))
-    (all_calls first (turns ++ turns_of b c) next cs few (one_call first turns b c few h))
+    grind (arith, append_assoc,
+    (all_calls first (turns ++ turns_of b c) (after_call b c) cs few (one_call first turns b c few h)))
 
 -- a book that was opened, after all its calls
 fresh_lives : (config : List GuestConfig) (partitions : List Partition) (b : BookView) (cs : List Call) → IsFresh config partitions b → HasLived b.opening (turns_in b cs) (after_calls b cs)
@@ -133,14 +85,11 @@ whole_at_first : (config : List GuestConfig) (partitions : List Partition) (b : 
 whole_at_first config partitions b f = ap (λ (s : State). s.broken) f.opening
 
 pub alone_by_calls : IsToldAsAloneByCalls
-alone_by_calls config partitions b cs g x f lasts at =
-    as_alone g b.opening x (turns_in b cs) (whole_at_first config partitions b f) lasts at (fresh_lives config partitions b cs f).legal
+alone_by_calls config partitions b cs g x f lasts at = grind (arith, as_alone, fresh_lives)
 
 nothing_stored : (gs : List GuestConfig) (ps : List Partition) (g : ℕ) (x : GuestState) → slice_get (fresh_guests gs ps) g ≡ Some x → x.core.last ≡ None
-nothing_stored [] ps g x at = absurd (cc)
-nothing_stored (c ∷ gs) [] g x at = absurd (cc)
-nothing_stored (c ∷ gs) (p ∷ ps) zero x at = ap (λ y. y.core.last) (some_same (sym at))
 nothing_stored (c ∷ gs) (p ∷ ps) (suc g) x at = nothing_stored gs ps g x at
+nothing_stored gs ps g x at = grind arith
 
 pub outcome_by_calls : IsOutcomeByCalls
 outcome_by_calls config partitions b cs g x y f at last =

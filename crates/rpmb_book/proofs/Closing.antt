@@ -1,5 +1,5 @@
 -- Replies whose MAC is made later.
-use Rattle.std.proofs.Common.{◌≡◌, ◌≤◌, ◌*◌, ◌/◌, ℕ, List, [], ◌∷◌, Option, None, length, refl, arith}
+use Rattle.std.proofs.Common.{◌≡◌, ◌≤◌, ◌*◌, ◌/◌, ℕ, List, Option, None, length, refl, arith}
 use Rattle.rpmb_book.proofs.Common.{Job, done_of, closed, failed}
 use Rattle.rpmb_core.proofs.Closing.{length-closed}
 use Rattle.rpmb_core.proofs.Failing.{length-failure_frame}
@@ -7,13 +7,7 @@ use Rattle.rpmb_core.proofs.Failing.{length-failure_frame}
 -- a failure takes the place of a reply whether its MAC was made or not
 pub failed_closed : (kind code : ℕ) (key : Option (List ℕ)) (bytes : List ℕ) → length bytes ≡ 512 * (length bytes / 512)
     → failed kind code (closed key bytes) ≡ failed kind code bytes
-failed_closed kind code key bytes whole = go bytes (closed key bytes) (length-closed key bytes whole)
-  where
-    go : (xs ys : List ℕ) → length ys ≡ length xs → failed kind code ys ≡ failed kind code xs
-    go [] [] same = refl
-    go [] (y ∷ ys) same = absurd (omega (arith, same))
-    go (x ∷ xs) [] same = absurd (omega (arith, same))
-    go (x ∷ xs) (y ∷ ys) same = refl
+failed_closed kind code key bytes whole = grind (arith, length-closed)
 
 -- and fits there
 pub record IsWholeWithin (room : ℕ) (bytes : List ℕ) : Type 0 where
@@ -21,10 +15,7 @@ pub record IsWholeWithin (room : ℕ) (bytes : List ℕ) : Type 0 where
   pub whole : length bytes ≡ 512 * (length bytes / 512)
 
 pub failed_within : (kind code room : ℕ) (bytes : List ℕ) → length bytes ≤ room → length bytes ≡ 512 * (length bytes / 512) → IsWholeWithin room (failed kind code bytes)
-failed_within kind code room [] fits whole = record { fits = omega (arith, fits); whole = refl }
-failed_within kind code room (b ∷ bs) fits whole =
-    let long = length-failure_frame kind code in
-    record { fits = omega (arith, long, fits, whole); whole = omega (arith, long) }
+failed_within kind code room bytes fits whole = grind (arith, length-failure_frame)
 
 pub open_done : (job : Job) (bytes : List ℕ) (need : ℕ) → done_of job (closed None bytes) need ≡ done_of job bytes need
 unfolding closed

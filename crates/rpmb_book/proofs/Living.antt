@@ -1,10 +1,9 @@
 -- A life goes on by the turns of each call, and a fold keeps it.
-use Rattle.std.proofs.Common.{◌≡◌, ℕ, ◌+◌, Bool, true, false, List, [], ◌∷◌, ◌++◌, Some, length, refl, ap, sym, ◌∙◌, subst, append-nil, append_assoc, length-append}
-use Rattle.rpmb_book.proofs.Common.{◌==◌, not, if◌then◌else◌, slice_get, Job, GuestState, Turn, State, after_turn, replay, IsLegal, BookView, submits_in, submit_of, with_turn, after_submit, folded, roomy, GoesOn, Lives, turn_if}
+use Rattle.std.proofs.Common.{◌≡◌, ℕ, ◌+◌, Bool, List, [], ◌∷◌, ◌++◌, Some, length, refl, ap, sym, ◌∙◌, subst, append-nil, append_assoc, length-append, arith}
+use Rattle.rpmb_book.proofs.Common.{not, if◌then◌else◌, slice_get, Job, GuestState, Turn, State, after_turn, replay, IsLegal, BookView, submit_of, with_turn, after_submit, folded, roomy, GoesOn, Lives, turn_if}
 use Rattle.rpmb_book.specs.Book.{state}
 use Rattle.rpmb_book.specs.Life.{Begins}
-use Rattle.rpmb_book.proofs.Rolling.{chosen, longest, not_chosen}
-use Rattle.rpmb_book.proofs.Room.{by_test}
+use Rattle.rpmb_book.proofs.Rolling.{longest}
 
 -- turns after turns
 pub replay-append : (s : State) (ts us : List Turn) → replay s (ts ++ us) ≡ replay (replay s ts) us
@@ -27,21 +26,13 @@ pub stays : (b : BookView) → GoesOn b [] b
 stays b first turns l = record { gone = l.gone; all = append-nil turns ∙ l.all; legal = l.legal; opening = l.opening; folded = l.folded }
 
 one_more : (b : BookView) (t : Turn) → GoesOn b (t ∷ []) (with_turn b t)
-one_more b t first turns l = record {
-  gone = l.gone;
-  all = ap (λ (ts : List Turn). ts ++ t ∷ []) l.all ∙ append_assoc l.gone b.history (t ∷ []);
-  legal = l.legal;
-  opening = l.opening;
-  folded = l.folded;
-}
+one_more b t first turns l = grind (arith, append_assoc)
 
 pub one_if_so : (so : Bool) (b : BookView) (t : Turn) → GoesOn b (turn_if so t) (if so then with_turn b t else b)
-one_if_so true b t = one_more b t
-one_if_so false b t = stays b
+one_if_so so b t = grind (arith, one_more, stays)
 
 pub one_if_not : (so : Bool) (b : BookView) (t : Turn) → GoesOn b (turn_if (not so) t) (if so then b else with_turn b t)
-one_if_not true b t = stays b
-one_if_not false b t = one_more b t
+one_if_not so b t = grind (arith, one_more, stays)
 
 -- what a fold lets go is gone then, and no turn is lost
 fold_goes_on : (b : BookView) → IsLegal b.opening b.history → GoesOn b [] (folded b)
@@ -60,9 +51,7 @@ fold_goes_on b legal first turns l =
 
 pub room_goes_on : (b : BookView) → IsLegal b.opening b.history → GoesOn b [] (roomy b)
 unfolding roomy
-room_goes_on b legal = by_test (submits_in b == 16384)
-    (λ is. subst (λ (c : BookView). GoesOn b [] c) (sym (chosen (submits_in b == 16384) (folded b) b is)) (fold_goes_on b legal))
-    (λ is. subst (λ (c : BookView). GoesOn b [] c) (sym (not_chosen (submits_in b == 16384) (folded b) b is)) (stays b))
+room_goes_on b legal = grind (arith, fold_goes_on, stays)
 
 pub submit_goes_on : (b : BookView) (job : Job) → IsLegal b.opening b.history → GoesOn b (submit_of b job ∷ []) (after_submit b job)
 submit_goes_on b job legal first turns l =
@@ -72,14 +61,10 @@ submit_goes_on b job legal first turns l =
 
 -- where a life leads
 pub leads_here : (first : State) (turns : List Turn) (b : BookView) → Lives first turns b → state b ≡ replay first turns
-leads_here first turns b l =
-    ap (λ (s : State). replay s b.history) l.opening ∙ sym (replay-append first l.gone b.history)
-    ∙ ap (λ (ts : List Turn). replay first ts) (sym l.all)
+leads_here first turns b l = grind (arith, replay-append)
 
 pub all_legal : (first : State) (turns : List Turn) (b : BookView) → Lives first turns b → IsLegal b.opening b.history → IsLegal first turns
-all_legal first turns b l legal =
-    subst (λ (ts : List Turn). IsLegal first ts) (sym l.all)
-    (legal-append first l.gone b.history l.legal (subst (λ (s : State). IsLegal s b.history) l.opening legal))
+all_legal first turns b l legal = grind (arith, legal-append)
 
 -- a guest of the book is one after its whole life
 pub lived : (g : ℕ) (first : State) (turns : List Turn) (b : BookView) (y : GuestState) → Lives first turns b → slice_get (state b).guests g ≡ Some y → slice_get (replay first turns).guests g ≡ Some y

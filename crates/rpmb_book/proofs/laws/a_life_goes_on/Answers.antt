@@ -1,5 +1,5 @@
-use Rattle.rpmb_book.proofs.Common.{◌&&◌, is_some, due_of, may_settle, next_intent, marks_for, Break, Collect, Settle, Take, move_some}
-use Rattle.std.specs.Prelude.{length}
+use Rattle.std.proofs.Common.{arith}
+use Rattle.rpmb_book.proofs.Common.{is_some, due_of, Break, Collect}
 use Rattle.rpmb_book.specs.Book.{state}
 use Rattle.rpmb_book.proofs.Living.{one_if_not, one_if_so, room_goes_on, submit_goes_on}
 use Rattle.rpmb_book.proofs.laws.a_life_goes_on.Goals as goal
@@ -8,14 +8,10 @@ pub returns-clause-submit : goal.returns-clause-submit
 returns-clause-submit c = λ job. submit_goes_on c.args.book.now job c.what_always_holds.ensures.legal
 
 pub returns-clause-take : goal.returns-clause-take
-returns-clause-take c =
-    let b = c.args.book.now in
-    λ shares n. one_if_so (is_some (next_intent b shares n)) b (Take n)
+returns-clause-take c = grind (arith, one_if_so)
 
 pub returns-clause-settle : goal.returns-clause-settle
-returns-clause-settle c =
-    let b = c.args.book.now in
-    λ shares marks. one_if_so (may_settle b shares marks && move_some (state b).guests marks) b (Settle (marks_for (length (state b).guests) marks))
+returns-clause-settle c = grind (arith, one_if_so)
 
 pub returns-clause-break_off : goal.returns-clause-break_off
 returns-clause-break_off c = one_if_not (state c.args.book.now).broken c.args.book.now Break

@@ -1,14 +1,11 @@
-use Rattle.std.proofs.Common.{◌≡◌, ◌∙◌, ap, sym, subst, List, ℕ}
-use Rattle.rpmb_book.proofs.Common.{Done, done_of, room_of, closed, failed}
+use Rattle.std.proofs.Common.{◌≡◌, ◌∙◌, ap, sym, List, ℕ, arith}
+use Rattle.rpmb_book.proofs.Common.{Done, done_of, closed, failed}
 use Rattle.rpmb_book.specs.Guest.{break_code}
-use Rattle.rpmb_book.proofs.Closing.{IsWholeWithin, failed_closed, failed_within, open_done}
+use Rattle.rpmb_book.proofs.Closing.{failed_closed, failed_within, open_done}
 use Rattle.rpmb_book.proofs.due.Due.fail.Goals as goal
 
 pub invariant_of-self : goal.invariant_of-self
-invariant_of-self c =
-    let d = c.self.inside in
-    let new : IsWholeWithin (room_of d.job) c.fail.new.reply.items = subst (IsWholeWithin (room_of d.job)) (sym c.fail.ensures) (failed_within c.args.kind c.break_code.result (room_of d.job) d.reply.items c.self.invariant.0 c.self.invariant.1) in
-    (new.fits, new.whole)
+invariant_of-self c = grind (arith, failed_within)
 
 pub returns : goal.returns
 returns c =
