@@ -1,6 +1,7 @@
 -- Whatever is called on a book that was opened, its life goes on by turns that are right where they stand.
 use Rattle.std.proofs.Common.{◌≡◌, suc, Bool, true, false, List, [], ◌∷◌, ◌++◌, Option, Some, None, length, ap, sym, ◌∙◌, subst, append-nil, append_assoc, arith, rules}
-use Rattle.rpmb_book.proofs.Common.{◌&&◌, not, if◌then◌else◌, is_none, is_some, slice_get, slice_get_within, Partition, GuestConfig, Job, Tally, GuestState, first_due, Turn, Take, Settle, Collect, State, IsRight, move_some, marks_for, replay, IsLegal, fresh_guests, IsBounded, BookView, guest_of, refusal, submit_of, next_intent, may_settle, due_at, due_of, after_submit, GoesOn, Lives, turn_if, IsAfter, answered_jobs, jobs_of}
+use Rattle.rpmb_book.proofs.Common.{◌&&◌, not, if◌then◌else◌, is_none, is_some, slice_get, slice_get_within, Partition, GuestConfig, Job, Tally, GuestState, first_due, Turn, Take, Settle, Collect, State, IsRight, move_some, marks_for, replay, IsLegal, fresh_guests, IsBounded, BookView, guest_of, refusal, submit_of, next_intent, due_of, after_submit, GoesOn, Lives, turn_if, IsAfter, answered_jobs, jobs_of}
+use Rattle.rpmb_book.specs.Book.{may_settle, due_at}
 use Rattle.std.specs.Prelude.{ℕ}
 use Rattle.rpmb_book.specs.Book.{state}
 use Rattle.rpmb_book.specs.Calls.{Call, ToSubmit, ToTake, ToSettle, ToBreakOff, ToCollect, after_call, after_calls, turns_of, turns_in, IsFresh, IsLived, IsToldAsAloneByCalls, IsOutcomeByCalls, IsAfterItsJobsByCalls}

@@ -6,7 +6,7 @@ pub use Rattle.std.proofs.lemmas.List.Edits.{map_over_more}
 pub use Rattle.std.proofs.lemmas.List.Sums.{sum_by-cons}
 pub use Rattle.std.proofs.lemmas.Option.{slice_get_cases, slice_get_within}
 pub use Rattle.std.specs.List.{AllByRecursion}
-pub use Rattle.std.specs.Prelude.{◌==◌, slice_get, not, IsSome, map, max, nat_le, if◌then◌else◌, option_map, ◌&&◌, is_none, is_some, nat_lt, count_by, unwrap_or, replicate, option_to_list, All, ◌||◌}
+pub use Rattle.std.specs.Prelude.{◌==◌, slice_get, IsSome, map, max, if◌then◌else◌, option_map, ◌&&◌, not, is_none, is_some, nat_lt, count_by, nat_le, unwrap_or, replicate, option_to_list, All}
 pub use base.Logic.{SProp, ent}
 pub use contract.Monad.{Fun}
 unfoldable pub use contract.Running.{tables_of}
@@ -35,29 +35,27 @@ pub use types.Run.{enter, returns, no_more}
 pub use Rattle.rpmb_frame.specs.Config.{IsGuest}
 pub use Rattle.rpmb_frame.specs.Limits.{Limits}
 pub use Rattle.rpmb_frame.specs.Partition.{sequence, Partition}
-unfoldable pub use Rattle.rpmb_frame.specs.Request.{command_of, request}
-pub use Rattle.rpmb_frame.specs.Request.{ProgramKey, GetWriteCounter, DataWrite, DataRead, ResultRead, Malformed, frames_of, Command}
+unfoldable pub use Rattle.rpmb_frame.specs.Request.{request}
+pub use Rattle.rpmb_frame.specs.Request.{frames_of}
 pub use Rattle.rpmb_frame.specs.declared.config.GuestConfig.{GuestConfig}
-pub use Rattle.intent_slots.specs.Home.{HomeFits}
-pub use Rattle.intent_slots.specs.Payload.{Entry, EntryFits, Programs, Stores, EntriesFit, Intent, IsWrite}
+pub use Rattle.intent_slots.specs.Payload.{Entry, EntryFits, EntriesFit, Intent, IsWrite}
 pub use Rattle.intent_slots.specs.Recovered.{part_of}
 pub use Rattle.mmio_transport.specs.Job.{Job, Done, done_of, room_of}
 pub use Rattle.rpmb_core.proofs.Sequence.{after_refused, keyed_after, sequence_accepted}
-pub use Rattle.rpmb_core.specs.Accept.{is_accepted, partition_after}
 unfoldable pub use Rattle.rpmb_core.specs.Reply.{closed}
-pub use Rattle.rpmb_core.specs.Reply.{failed, reply_length}
+pub use Rattle.rpmb_core.specs.Reply.{failed}
 unfoldable pub use Rattle.rpmb_core.specs.Verdict.{verdict}
 pub use Rattle.rpmb_book.specs.Allowed.{IsAllowed}
 pub use Rattle.rpmb_book.specs.Asked.{answered_jobs, IsAfter, answered_in}
 unfoldable pub use Rattle.rpmb_book.specs.Book.{is_full}
-pub use Rattle.rpmb_book.specs.Book.{BookView, counted_in, guest_of, refusal, submits_in, with_turn, are_taken, may_settle, submit_of, first_of, is_share, next_intent, due_at, due_of, found_by, is_taken}
+pub use Rattle.rpmb_book.specs.Book.{BookView, counted_in, refusal, submits_in, with_turn, guest_of, submit_of, next_intent, due_of, found_by, are_taken, is_taken}
 pub use Rattle.rpmb_book.specs.Bounded.{IsBounded, IsBoundedGuest}
 pub use Rattle.rpmb_book.specs.ByGuest.{broken_when}
 pub use Rattle.rpmb_book.specs.Due.{total, submits_of, due}
 unfoldable pub use Rattle.rpmb_book.specs.Fold.{folded, roomy}
 pub use Rattle.rpmb_book.specs.Fold.{after_submit, folded_from}
-pub use Rattle.rpmb_book.specs.Guest.{GuestState, submitted, took, collected, broken_off, settled_at, Held, held_when, kept_or_failed, first_due, first_intent, accepts, request_of, entry_of, joined_by, key_of, next_group, core_when, GuestCore, answer_when, blocks_in}
-pub use Rattle.rpmb_book.specs.History.{Filed, below, filed_from, filed_seen, first_has_left, of_guest, still_filed, submits_at, Rise}
+pub use Rattle.rpmb_book.specs.Guest.{GuestState, submitted, took, collected, broken_off, settled_at, Held, held_when, kept_or_failed, first_due, accepts, request_of, entry_of, joined_by, first_intent, key_of, core_when, GuestCore, answer_when}
+pub use Rattle.rpmb_book.specs.History.{Filed, below, filed_from, filed_seen, of_guest, still_filed, Rise}
 pub use Rattle.rpmb_book.specs.Isolation.{jobs_of}
 pub use Rattle.rpmb_book.specs.Job.{Tally, Submission}
 pub use Rattle.rpmb_book.specs.Kept.{IsKept, IsOpening}
@@ -67,7 +65,6 @@ pub use Rattle.rpmb_book.specs.Marks.{marks_for, settled_to, is_within, moves}
 unfoldable pub use Rattle.rpmb_book.specs.Opening.{tallies_from}
 pub use Rattle.rpmb_book.specs.Receipt.{submission_seen}
 pub use Rattle.rpmb_book.specs.Replay.{IsLegal, replay, fresh_guests}
-pub use Rattle.rpmb_book.specs.Sound.{IsSound, HasWholeFrames, IsSoundGuest, IsCoreOfBoard, IsOfBoard, IsAsked, IsStorable, AreOfBoard, IsReady, AreReady}
-pub use Rattle.rpmb_book.specs.Turn.{State, Turn, Submit, Take, Settle, Collect, Break, after_break, after_turn, update, settled_all, IsRight, are_within, move_some, is_submit, made_of}
+pub use Rattle.rpmb_book.specs.Sound.{IsSound, HasWholeFrames, IsSoundGuest, IsCoreOfBoard, IsAsked, IsStorable, AreOfBoard, IsReady}
+pub use Rattle.rpmb_book.specs.Turn.{Turn, State, Submit, Take, Settle, Collect, Break, after_break, after_turn, update, settled_all, IsRight, are_within, move_some, is_submit}
 pub use Rattle.rpmb_book.specs.declared.receipt.Receipt.{Receipt}
-pub use Rattle.rpmb_book.specs.declared.refused.Refused.TheVariants.{Foreign}
