@@ -55,7 +55,7 @@ took_guest n k x = grind arith
 
 pub take_work : {D : Type 0} (shows : D → DiskState) (g : ℕ) (x : GuestState) (o : Option (Option Intent)) (answer : Answer) (b b' : BoardState D) → IsSound shows b → slice_get (guests b) g ≡ Some x → slice_get b.intents g ≡ o
     → TakesInto g o answer b b' → IsTaken g b b'
-take_work shows g x None answer b b' sound at place takes = not_taken g b b' takes.1 (λ empty. absurd (cc))
+take_work shows g x None answer b b' sound at place takes = not_taken g b b' takes.1 (λ empty. absurd cc)
 take_work shows g x (Some (Some i)) answer b b' sound at place takes = not_taken g b b' takes.1 (λ empty. absurd (full_is_not i (sym place ∙ empty)))
 take_work {D = D} shows g x (Some None) answer b b' sound at place takes = by (next_intent b.book b.shares g) refl
   where
@@ -72,7 +72,7 @@ take_work {D = D} shows g x (Some None) answer b b' sound at place takes = by (n
         let is : b' ≡ now = takes.1 ∙ rw some refl in
         let y = also_there (guests b) (guests now) g x at (as_many b.book (Take g)) in
         let u = own b.book (Take g) g took (λ k v. refl) y.0 y.1 in
-        let same : u.0 ≡ x = (let a = u.1 in cc) in
+        let same : u.0 ≡ x = cc in
         let taken : y.0 ≡ took x = u.2 ∙ ap took same in
         let broken = ap (λ s. s.broken) (state_of b.book (Take g)) in
         let full : slice_get (slice_set b.intents g (Some i)) g ≡ Some (Some i) = get_set_same b.intents g None (Some i) place in
@@ -83,8 +83,8 @@ take_work {D = D} shows g x (Some None) answer b b' sound at place takes = by (n
         let after : waiting_calls (waiting_of (slice_get (guests now) g)) ≡ waiting_calls (drop 4 x.waiting) = ap (λ o. waiting_calls (waiting_of o)) y.1 ∙ ap (λ v. waiting_calls v.waiting) taken in
         subst (IsTaken g b) (sym is) (record {
           same = grind (arith, turned, took_guest, as_many, took_settled, runner_in, state_of, runner_update);
-          late = λ late. record { whole = broken ∙ late.whole; late = λ v there. (let v_is : v ≡ took x = (let a = y.1 in let c = taken in cc) in subst (λ q. q.settled < sequence q.core.partition) (sym v_is) (late.late x at)) };
-          work = omega (arith, one, zero_between, before, after, more);
+          late = λ late. record { whole = broken ∙ late.whole; late = λ v there. (let v_is : v ≡ took x = (let c = taken in cc) in subst (λ q. q.settled < sequence q.core.partition) (sym v_is) (late.late x at)) };
+          work = omega arith;
           rest = λ empty. absurd (full_is_not i (sym full ∙ empty));
         })
       where
@@ -99,15 +99,15 @@ take_work {D = D} shows g x (Some None) answer b b' sound at place takes = by (n
 
 empty_slot : (slot : Option Slot) → is_empty slot ≡ true → slot ≡ None
 empty_slot None is = refl
-empty_slot (Some s) is = absurd (cc)
+empty_slot (Some s) is = absurd cc
 
 -- a guest whose slots are empty has room, and one that was given an intent has a slot that isn't
 has_room_empty : (z : Guest) → is_empty z.slot ≡ true → is_empty z.behind ≡ true → has_room z ≡ true
 has_room_empty z one two = grind arith
 
 given_is_not_empty : (z : Guest) (i : Intent) (slot : Option Slot) → is_empty (given_at z i slot).slot ≡ true → ⊥
-given_is_not_empty z i None is = absurd (cc)
-given_is_not_empty z i (Some f) is = absurd (cc)
+given_is_not_empty z i None is = absurd cc
+given_is_not_empty z i (Some f) is = absurd cc
 
 -- what a Give leaves: as much to do; and where all slots are empty it had nothing to give, and nothing changed
 pub record IsGiven {D : Type 0} (g : ℕ) (b b' : BoardState D) : Type 0 where
@@ -142,7 +142,7 @@ give_work {D = D} shows g true (Some i) answer b b' sound few free place gives =
     subst (IsGiven g b) (sym gives.1) (record {
       same = stored_same b now refl (λ k y there. given_marks b.store.guests i z.0 at k y (ap (λ l. slice_get l k) (sym held) ∙ there)) refl refl refl refl refl;
       late = late_still g b now refl;
-      work = omega (arith, left, one, none);
+      work = omega arith;
       rest = λ rests. absurd (given_is_not_empty z.0 i z.0.slot (rests i.guest (with_intent z.0 i) (ap (λ l. slice_get l i.guest) held ∙ get_set_same b.store.guests i.guest z.0 (with_intent z.0 i) at)).0);
     })
   where
@@ -157,7 +157,7 @@ give_work {D = D} shows g true (Some i) answer b b' sound few free place gives =
 
 empty_entries : (rs : List Request) → entries_of rs ≡ [] → rs ≡ []
 empty_entries [] is = refl
-empty_entries (r ∷ rs) is = absurd (cc)
+empty_entries (r ∷ rs) is = absurd cc
 
 pub settled_all_at_rest : {D : Type 0} (shows : D → DiskState) (g : ℕ) (x : GuestState) (b : BoardState D) → IsSound shows b → slice_get (guests b) g ≡ Some x → AllEmpty b.store.guests
     → in_place (slice_get b.intents g) ≡ None → x.waiting ≡ [] → (z : Guest) × (slice_get b.store.guests g ≡ Some z) × (mark_of z ≡ sequence x.core.partition)
@@ -168,13 +168,11 @@ settled_all_at_rest shows g x b sound at empty place waits =
     let slot = empty_slot t.stored.slot both.0 in
     let behind = empty_slot t.stored.behind both.1 in
     let none : t.intent ≡ None = ap in_place (sym t.in_place) ∙ place in
-    let mark = l.mark in
     let all : sequence x.core.partition ≡ sequence (sound.bases g) + length (sound.accepted g) = ap sequence l.partition ∙ sequence_of_all (sound.bases g) (sound.accepted g) l.in_turn in
     let nothing : due t.stored t.intent x ≡ [] = rw (slot, behind, none, waits) refl in
     let rest = ap length (empty_entries (drop l.stored (sound.accepted g)) (l.rest ∙ nothing)) in
     let long = length-drop l.stored (sound.accepted g) in
-    let within = l.within in
-    (t.stored, t.in_store, omega (arith, mark, all, long, rest, within))
+    (t.stored, t.in_store, omega arith)
 
 -- One round of Take, Give, and a call of the store: less is left to do.
 
@@ -218,7 +216,7 @@ module _ {D : Type 0} (shows : D → DiskState) (makes : D → DiskCall → D �
           let store = ap (λ v. left_of v.store.guests) h.is in
           let intents = ap (λ v. between_calls (in_place (slice_get v.intents g))) h.is in
           let waits = ap waiting_calls waiting in
-          omega (arith, left, store, intents, waits)
+          omega arith
 
       by : (p : Result Progress StoreFault) → h.progress ≡ p → Moved b b'
       by (Ok Wrote) is = (let to = now (Ok Wrote) is in record {
@@ -268,11 +266,10 @@ module _ {D : Type 0} (shows : D → DiskState) (makes : D → DiskCall → D �
       let z = settled_all_at_rest shows g w1.guest b1 s1 w1.there (subst (λ v. AllEmpty v.store.guests) rest.0 empty) rest.1 waits in
       let marked = w1.marked late1.whole g w1.guest z.0 w1.there z.1 in
       let less = late1.late w1.guest w1.there in
-      let full = z.2 in
-      omega (arith, marked, less, full)) in
+      omega arith) in
       record {
         waits = m.waits;
-        less = work_less g b0 b3 late.whole (λ known. (let less = m.less busy known in let first = taken.work in let second = given.work in omega (arith, less, first, second)));
+        less = work_less g b0 b3 late.whole (λ known. (let less = m.less busy known in omega arith));
       }
 
 -- A look for the reply that a guest waits for.
@@ -306,16 +303,14 @@ module _ {D : Type 0} (shows : D → DiskState) (g : ℕ) (start : BoardState D)
     quiet = at_each {P = λ k. (x : GuestState) → slice_get (guests now) k ≡ Some x → IsCalmGuest (is_broken now) x} g
         (λ y at. (
         let x = own b.book (Collect g) g collected (λ k v. refl) y at in
-        let same : x.0 ≡ w.guest = (let a = x.1 in let c = w.there in cc) in
+        let same : x.0 ≡ w.guest = (let c = w.there in cc) in
         record {
           none = ap (λ v. v.held) x.2 ∙ ap (λ v. drop 1 v.held) same ∙ ap (drop 1) w.holds;
           settled = λ whole. (
               let need = w.need (sym same_broken ∙ whole) in
               let le = under w.held.done.need w.guest.settled is in
               let most = below shows b g w.guest w.sound w.there in
-              let settled = most.settled in
-              let mark = most.mark in
-              subst (λ v. v.settled ≡ sequence v.core.partition) (sym (x.2 ∙ ap collected same)) (omega (arith, le, need, settled, mark)));
+              subst (λ v. v.settled ≡ sequence v.core.partition) (sym (x.2 ∙ ap collected same)) (omega arith));
         }))
         (λ k other x at. (let c = w.others k x other (other_guest b.book (Collect g) g collected (λ m v. refl) k other x at) in
         record { none = c.none; settled = λ whole. c.settled (sym same_broken ∙ whole) }));
