@@ -1,11 +1,11 @@
 -- Steps over which a guest goes on waiting.
-use Rattle.std.proofs.Common.{◌≡◌, ◌≤◌, ◌<◌, ℕ, zero, suc, ◌+◌, Bool, true, false, ◌||◌, ◌&&◌, List, [], ◌∷◌, Some, None, length, map, max, refl, ap, ap₂, sym, subst, ◌∙◌, arith}
-use Rattle.host.proofs.Common.{if◌then◌else◌, nat_le, nat_lt, slice_get, nat_tests, length-map, slice_get_within, sequence, sequence_of_all, DiskState, Guest, marks_of, mark_of, answered_in, BookView, state, waiting_of, with_turn, GuestCore, GuestState, Held, after_turn, update, IsSound, BoardState, Marks, guests, as_many, there_is, turned, marks_at, is_broken, RunnerView, held_since, runner_of, runner_since, since, IsLate, Waits}
+use Rattle.std.proofs.Common.{◌≡◌, ◌≤◌, ◌<◌, ℕ, zero, suc, ◌+◌, Bool, true, false, ◌||◌, List, [], ◌∷◌, Some, None, length, map, max, refl, ap, ap₂, sym, subst, ◌∙◌, arith}
+use Rattle.host.proofs.Common.{nat_le, nat_lt, slice_get, nat_tests, length-map, slice_get_within, sequence, sequence_of_all, DiskState, Guest, marks_of, mark_of, answered_in, BookView, state, waiting_of, with_turn, GuestCore, GuestState, Held, after_turn, update, IsSound, BoardState, Marks, guests, as_many, there_is, turned, marks_at, is_broken, RunnerView, held_since, runner_of, runner_since, since, IsLate, Waits}
 use Rattle.flusher.specs.Store.{StoreState}
 use Rattle.rpmb_book.specs.Book.{after_settle, may_settle}
 use Rattle.rpmb_book.specs.Guest.{broken_off, failed_held, kept_or_failed, settled_at}
 use Rattle.rpmb_book.specs.Marks.{marks_for}
-use Rattle.rpmb_book.specs.Turn.{Break, Settle, Turn, move_some, settled_all}
+use Rattle.rpmb_book.specs.Turn.{Break, Turn, move_some, settled_all}
 use Rattle.rpmb_book.proofs.Replay.{replay-push}
 use Rattle.board.proofs.Stays.{may_settle_them}
 use Rattle.host.specs.Waiting.{AreMarked}
@@ -54,8 +54,7 @@ pub runner_more : (gs : List GuestState) (n : ℕ) (f : GuestState → GuestStat
 runner_more [] n f h x at core more = absurd cc
 runner_more (g ∷ gs) zero f h x at core more = ap₂ (λ c k. (let r : RunnerView = record { cores = c ∷ cores_in gs; answered = k } in r)) (core g) (omega (arith, more g))
 runner_more (g ∷ gs) (suc n) f h x at core more =
-    let rest = runner_more gs n f h x at core more in
-    ap₂ (λ c k. (let r : RunnerView = record { cores = g.core ∷ c; answered = k } in r)) (ap (λ v. v.cores) rest) (omega (arith, ap (λ v. v.answered) rest))
+    grind (arith, (runner_more gs n f h x at core more))
 
 pub runner_settled : (gs : List GuestState) (ms : List ℕ) → runner_in (settled_all gs ms) ≡ runner_in gs
 runner_settled [] ms = refl
@@ -72,17 +71,7 @@ pub record KeepsRunner (b b' : BookView) : Type 0 where
   pub runner : runner_in (state b').guests ≡ runner_in (state b).guests
 
 pub settle_keeps : (b : BookView) (shares marks : List ℕ) → KeepsRunner b (after_settle b shares marks)
-settle_keeps b shares marks = by (may_settle b shares marks && move_some (state b).guests marks)
-  where
-    of : List ℕ
-    of = marks_for (length (state b).guests) marks
-
-    by : (moves : Bool) → KeepsRunner b (if moves then with_turn b (Settle of) else b)
-    by true = record {
-      broken = ap (λ s. s.broken) (state_of b (Settle of));
-      runner = ap (λ s. runner_in s.guests) (state_of b (Settle of)) ∙ runner_settled (state b).guests of;
-    }
-    by false = record { broken = refl; runner = refl }
+settle_keeps b shares marks = grind (arith, runner_settled, state, state_of, with_turn)
 
 -- 2. Nothing changes that a waiting guest shows, but that more may be settled
 
@@ -184,14 +173,7 @@ all_marks [] = refl
 all_marks (m ∷ ms) = ap (λ l. m ∷ l) (all_marks ms)
 
 settled_guests : (b : BookView) (shares marks : List ℕ) → may_settle b shares marks ≡ true → length marks ≡ length (state b).guests → (state (after_settle b shares marks)).guests ≡ settled_all (state b).guests marks
-settled_guests b shares marks may many = by (move_some (state b).guests marks) refl
-  where
-    full : marks_for (length (state b).guests) marks ≡ marks
-    full = ap (λ n. marks_for n marks) (sym many) ∙ all_marks marks
-
-    by : (m : Bool) → move_some (state b).guests marks ≡ m → (state (after_settle b shares marks)).guests ≡ settled_all (state b).guests marks
-    by true moves = rw (may, moves, full) (ap (λ s. s.guests) (state_of b (Settle marks)))
-    by false moves = rw (may, moves) (sym (unmoved (state b).guests marks moves))
+settled_guests b shares marks may many = grind (arith, all_marks, state, state_of, unmoved)
 
 waiting_settled : (gs : List GuestState) (ms : List ℕ) (k : ℕ) → waiting_of (slice_get (settled_all gs ms) k) ≡ waiting_of (slice_get gs k)
 waiting_settled [] ms k = refl
@@ -213,11 +195,7 @@ settled_same (g ∷ gs) (n ∷ ns) (suc k) x' at = settled_same gs ns k x' at
 settled_least : (gs : List GuestState) (ms : List ℕ) (k : ℕ) (x' : GuestState) (m : ℕ) → slice_get (settled_all gs ms) k ≡ Some x' → slice_get ms k ≡ Some m → m ≤ x'.settled
 settled_least [] ms k x' m at mark = absurd cc
 settled_least (g ∷ gs) [] k x' m at mark = absurd cc
-settled_least (g ∷ gs) (n ∷ ns) zero x' m at mark =
-    let same : n ≡ m = cc in
-    let is : settled_at n g ≡ x' = cc in
-    let settled = ap (λ v. v.settled) is in
-    omega arith
+settled_least (g ∷ gs) (n ∷ ns) zero x' m at mark = grind arith
 settled_least (g ∷ gs) (n ∷ ns) (suc k) x' m at mark = settled_least gs ns k x' m at mark
 
 module _ {D : Type 0} (shows : D → DiskState) (b : BoardState D) (store : StoreState D) (told : List ℕ) (before : IsSound shows (record b { store = store; report = Some (Marks told) })) where

@@ -1,5 +1,5 @@
 -- What a Take, a Give, a call of the store and a look leave to do, until a guest's reply may leave.
-use Rattle.std.proofs.Common.{◌≡◌, ◌<◌, ◌≤◌, ℕ, ◌+◌, Bool, true, false, List, [], ◌∷◌, Option, Some, None, length, drop, refl, ap, sym, subst, ◌∙◌, arith, inl, inr, Result, Ok, Err}
+use Rattle.std.proofs.Common.{◌≡◌, ◌<◌, ◌≤◌, ℕ, ◌+◌, Bool, true, false, List, [], ◌∷◌, Option, Some, None, length, drop, refl, ap, sym, subst, ◌∙◌, arith, Result, Ok, Err}
 use Rattle.host.proofs.Common.{◌==◌, if◌then◌else◌, slice_get, slice_set, nat_le, Request, sequence, DiskState, DiskCall, Guest, left_of, called, AllEmpty, mark_of, get_set_same, get_set_other, sequence_of_all, guest_of, waiting_of, with_turn, GuestState, Held, IsSound, BoardState, guests, in_place, Marks, report_of, did_answer, as_many, at_each, own, there_is, turned, other_guest, IsLate, Waits, Leaves, work_of, slice_get_within, Progress, Synced, Idle, StoreFault, GoesBy, GoesOn, Hears, IsListened, book_heard, is_broken, IsCalmGuest, nat_tests, held_since}
 use Rattle.std.proofs.lemmas.List.{length-drop}
 use Rattle.intent_slots.specs.Payload.{Intent}
@@ -21,7 +21,6 @@ use Rattle.host.specs.Waiting.{WritesOn, Collected}
 use Rattle.host.specs.Work.{between_calls, calls_of, todo_of, waiting_calls}
 use Rattle.host.proofs.Settled.{IsSameGuest, Same, also_there, runner_in, runner_update, state_of, still, stored_same, broken_waits, same_waits, synced_same, waiting_heard, below}
 use Rattle.flusher.specs.Progress.{Wrote}
-use Rattle.flusher.proofs.Pending.{pending_stays}
 use Rattle.host.proofs.Ending.{heard_at, heard_badly, heard_idle, heard_lowers, heard_well}
 
 full_is_not : (i : Intent) → Some (Some i) ≡ Some None → ⊥
@@ -98,16 +97,14 @@ take_work {D = D} shows g x (Some None) answer b b' sound at place takes = by (n
 -- 2. Give
 
 empty_slot : (slot : Option Slot) → is_empty slot ≡ true → slot ≡ None
-empty_slot None is = refl
-empty_slot (Some s) is = absurd cc
+empty_slot slot is = grind arith
 
 -- a guest whose slots are empty has room, and one that was given an intent has a slot that isn't
 has_room_empty : (z : Guest) → is_empty z.slot ≡ true → is_empty z.behind ≡ true → has_room z ≡ true
 has_room_empty z one two = grind arith
 
 given_is_not_empty : (z : Guest) (i : Intent) (slot : Option Slot) → is_empty (given_at z i slot).slot ≡ true → ⊥
-given_is_not_empty z i None is = absurd cc
-given_is_not_empty z i (Some f) is = absurd cc
+given_is_not_empty z i slot is = grind arith
 
 -- what a Give leaves: as much to do; and where all slots are empty it had nothing to give, and nothing changed
 pub record IsGiven {D : Type 0} (g : ℕ) (b b' : BoardState D) : Type 0 where
@@ -177,8 +174,7 @@ settled_all_at_rest shows g x b sound at empty place waits =
 -- One round of Take, Give, and a call of the store: less is left to do.
 
 moved_mark : (y y' : Guest) → MovedBy false y y' → mark_of y' ≡ mark_of y
-moved_mark y y' (inl is) = ap mark_of is
-moved_mark y y' (inr is) = ap mark_of is ∙ (pending_stays y).1
+moved_mark y y' x2 = grind arith
 
 work_less : {D : Type 0} (g : ℕ) (b b' : BoardState D) → is_broken b ≡ false → (is_broken b' ≡ false → todo_of g b' < todo_of g b) → work_of g b' < work_of g b
 work_less g b b' whole less = grind arith
