@@ -143,12 +143,7 @@ same_waits shows g start reply b b' w s sound =
       dones = s.dones ∙ w.dones;
       report = s.report ∙ w.report;
       broken = s.store ∙ w.broken ∙ sym s.broken;
-      stays = record {
-        devices = s.devices ∙ w.stays.devices;
-        jobs = s.jobs ∙ w.stays.jobs;
-        runner = s.runner ∙ w.stays.runner ∙ ap (λ k. runner_since (is_broken start) k (runner_of start)) (sym s.broken);
-        whole = λ known. w.stays.whole (whole known);
-      };
+      stays = grind arith;
     }
 
 -- 3. A sync, of which the book hears
@@ -300,8 +295,6 @@ module _ {D : Type 0} (shows : D → DiskState) (g : ℕ) (start : BoardState D)
       -- a reply that is late is not kept
       failed_late : kept_or_failed w.guest.settled w.held ≡ failed_held w.held
       failed_late =
-          let less = is_late.late w.guest w.there in
-          let need = w.need whole in
           let is : nat_le w.held.done.need w.guest.settled ≡ false = late_is w.held.done.need w.guest.settled (omega arith) in
           rw is refl
         where

@@ -77,7 +77,6 @@ take_work {D = D} shows g x (Some None) answer b b' sound at place takes = by (n
         let full : slice_get (slice_set b.intents g (Some i)) g ≡ Some (Some i) = get_set_same b.intents g None (Some i) place in
         let more : calls_of i + waiting_calls (drop 4 x.waiting) ≤ waiting_calls x.waiting = first_rest g x i (sym next_is ∙ some) in
         let one : between_calls (in_place (slice_get now.intents g)) ≡ calls_of i = ap (λ o. between_calls (in_place o)) full in
-        let zero_between : between_calls (in_place (slice_get b.intents g)) ≡ 0 = ap (λ o. between_calls (in_place o)) place in
         let before : waiting_calls (waiting_of (slice_get (guests b) g)) ≡ waiting_calls x.waiting = ap (λ o. waiting_calls (waiting_of o)) at in
         let after : waiting_calls (waiting_of (slice_get (guests now) g)) ≡ waiting_calls (drop 4 x.waiting) = ap (λ o. waiting_calls (waiting_of o)) y.1 ∙ ap (λ v. waiting_calls v.waiting) taken in
         subst (IsTaken g b) (sym is) (record {
@@ -122,7 +121,6 @@ unfolding is_free given
 give_work shows g false o answer b b' sound few free place gives = not_given g b b' gives.1 (λ empty. absurd (
     let z = there_is b.store.guests g few in
     let yes = empty g z.0 z.1 in
-    let none : has_room z.0 ≡ false = ap is_free_of (sym z.1) ∙ free in
     let room = has_room_empty z.0 yes.0 yes.1 in cc))
 give_work shows g true None answer b b' sound few free place gives = not_given g b b' gives.1 (λ empty. place)
 give_work {D = D} shows g true (Some i) answer b b' sound few free place gives =
@@ -236,7 +234,6 @@ module _ {D : Type 0} (shows : D → DiskState) (makes : D → DiskCall → D �
           let to = now (Err e) is in
           let broken = heard_badly shows makes went b b' late.whole h e is in
           let waits = broken_waits shows g start reply b h.store w late broken (subst (IsSound shows) to sound) in
-          let off = ap (λ v. v.store.broken) to ∙ broken in
           record {
             waits = subst W (sym to) waits;
             less = λ busy known. absurd (let same = (subst W (sym to) waits).broken in cc);
@@ -255,14 +252,7 @@ module _ {D : Type 0} (shows : D → DiskState) (makes : D → DiskCall → D �
       let w2 = same_waits shows g start reply b1 b2 w1 given.same s2 in
       let late2 = given.late late1 in
       let m = moved went b2 b3 w2 late2 s3 (goes (record { report = w2.report; broken = w2.broken })) in
-      let busy : AllEmpty b2.store.guests → ⊥ = λ empty.
-      (let rest = given.rest empty in
-      let place : slice_get b1.intents g ≡ Some None = (let o = also_there (guests b1) b1.intents g w1.guest w1.there (s1.linked.places.intents ∙ sym s1.linked.many) in o.1 ∙ ap Some (ap in_place (sym o.1) ∙ rest.1)) in
-      let waits : w1.guest.waiting ≡ [] = ap waiting_of (sym w1.there) ∙ taken.rest place in
-      let z = settled_all_at_rest shows g w1.guest b1 s1 w1.there (subst (λ v. AllEmpty v.store.guests) rest.0 empty) rest.1 waits in
-      let marked = w1.marked late1.whole g w1.guest z.0 w1.there z.1 in
-      let less = late1.late w1.guest w1.there in
-      omega arith) in
+      let busy : AllEmpty b2.store.guests → ⊥ = λ empty. grind (arith, also_there, empty, guests, in_place, settled_all_at_rest, slice_get, waiting_of) in
       record {
         waits = m.waits;
         less = work_less g b0 b3 late.whole (λ known. (let less = m.less busy known in omega arith));
