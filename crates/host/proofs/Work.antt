@@ -10,8 +10,8 @@ use Rattle.flusher.specs.Pair.{given_at, has_room, with_intent}
 use Rattle.flusher.specs.Store.{given, given_of, is_free, is_free_of}
 use Rattle.flusher.proofs.Countdown.{given_adds}
 use Rattle.flusher.proofs.Lookups.{given_mark}
-use Rattle.rpmb_book.specs.Book.{first_of, is_share, next_intent, share_moved, due_at, due_of}
-use Rattle.rpmb_book.specs.Guest.{first_intent, took, collected, first_due}
+use Rattle.rpmb_book.specs.Book.{first_of, is_share, next_intent, share_moved}
+use Rattle.rpmb_book.specs.Guest.{first_intent, took, collected}
 use Rattle.rpmb_book.specs.Turn.{Take, Collect}
 use Rattle.board.specs.Link.{due, entries_of}
 use Rattle.board.specs.Steps.{Answer, GivesWhere, TakesInto, CollectsInto}
@@ -19,7 +19,7 @@ use Rattle.board.proofs.Doing.{full_at}
 use Rattle.board.proofs.Stays.{is_share_of, may_give_it}
 use Rattle.host.specs.Waiting.{WritesOn, Collected}
 use Rattle.host.specs.Work.{between_calls, calls_of, todo_of, waiting_calls}
-use Rattle.host.proofs.Settled.{IsSameGuest, Same, also_there, runner_in, runner_update, state_of, still, stored_same, broken_waits, same_waits, synced_same, waiting_heard, below}
+use Rattle.host.proofs.Settled.{Same, also_there, runner_in, runner_update, state_of, still, stored_same, broken_waits, same_waits, synced_same, waiting_heard, below}
 use Rattle.flusher.specs.Progress.{Wrote}
 use Rattle.host.proofs.Ending.{heard_at, heard_badly, heard_idle, heard_lowers, heard_well}
 
@@ -49,9 +49,6 @@ nothing_first g x is = grind arith
 first_rest : (g : ℕ) (x : GuestState) (i : Intent) → first_intent g x ≡ Some i → calls_of i + waiting_calls (drop 4 x.waiting) ≤ waiting_calls x.waiting
 first_rest g x i is = grind arith
 
-took_guest : (n k : ℕ) (x : GuestState) → IsSameGuest x (if n == k then took x else x)
-took_guest n k x = grind arith
-
 pub take_work : {D : Type 0} (shows : D → DiskState) (g : ℕ) (x : GuestState) (o : Option (Option Intent)) (answer : Answer) (b b' : BoardState D) → IsSound shows b → slice_get (guests b) g ≡ Some x → slice_get b.intents g ≡ o
     → TakesInto g o answer b b' → IsTaken g b b'
 take_work shows g x None answer b b' sound at place takes = not_taken g b b' takes.1 (λ empty. absurd cc)
@@ -80,7 +77,7 @@ take_work {D = D} shows g x (Some None) answer b b' sound at place takes = by (n
         let before : waiting_calls (waiting_of (slice_get (guests b) g)) ≡ waiting_calls x.waiting = ap (λ o. waiting_calls (waiting_of o)) at in
         let after : waiting_calls (waiting_of (slice_get (guests now) g)) ≡ waiting_calls (drop 4 x.waiting) = ap (λ o. waiting_calls (waiting_of o)) y.1 ∙ ap (λ v. waiting_calls v.waiting) taken in
         subst (IsTaken g b) (sym is) (record {
-          same = grind (arith, turned, took_guest, as_many, took_settled, runner_in, state_of, runner_update);
+          same = grind (arith, turned, as_many, took_settled, runner_in, state_of, runner_update);
           late = λ late. record { whole = broken ∙ late.whole; late = λ v there. (let v_is : v ≡ took x = (let c = taken in cc) in subst (λ q. q.settled < sequence q.core.partition) (sym v_is) (late.late x at)) };
           work = omega arith;
           rest = λ empty. absurd (full_is_not i (sym full ∙ empty));
@@ -264,12 +261,6 @@ module _ {D : Type 0} (shows : D → DiskState) (g : ℕ) (start : BoardState D)
   empty : slice_get b.dones g ≡ Some None
   empty = grind (arith, also_there)
 
-  due_is : due_of b.book g ≡ (if nat_le w.held.done.need w.guest.settled then Some w.held.done else None)
-  due_is = ap due_at w.there ∙ ap (first_due w.guest.settled) w.holds
-
-  due_when : (c : Bool) → nat_le w.held.done.need w.guest.settled ≡ c → due_of b.book g ≡ (if c then Some w.held.done else None)
-  due_when c is = due_is ∙ ap (λ x. if x then Some w.held.done else None) is
-
   over : (n m : ℕ) → nat_le n m ≡ false → m < n
   over n m greater = grind (arith, nat_tests)
 
@@ -314,4 +305,4 @@ module _ {D : Type 0} (shows : D → DiskState) (g : ℕ) (start : BoardState D)
       under n m least = grind (arith, nat_tests)
 
   pub collects : (did : Bool) → CollectsInto g (slice_get b.dones g) (did_answer did) b b' → IsSound shows b' → Collected did shows g start reply b b'
-  collects did into sound = grind (arith, empty, due_when, leaves, is_late)
+  collects did into sound = grind (arith, empty, leaves, is_late)
