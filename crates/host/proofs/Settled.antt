@@ -171,10 +171,8 @@ settled_guests : (b : BookView) (shares marks : List ℕ) → may_settle b share
 settled_guests b shares marks may many = grind (arith, all_marks, state, state_of, unmoved)
 
 waiting_settled : (gs : List GuestState) (ms : List ℕ) (k : ℕ) → waiting_of (slice_get (settled_all gs ms) k) ≡ waiting_of (slice_get gs k)
-waiting_settled [] ms k = refl
-waiting_settled (g ∷ gs) [] k = refl
-waiting_settled (g ∷ gs) (m ∷ ms) zero = refl
 waiting_settled (g ∷ gs) (m ∷ ms) (suc k) = waiting_settled gs ms k
+waiting_settled gs ms k = grind arith
 
 length_settled : (gs : List GuestState) (ms : List ℕ) → length (settled_all gs ms) ≡ length gs
 length_settled [] ms = refl
@@ -188,10 +186,8 @@ settled_same (g ∷ gs) (n ∷ ns) zero x' at = (let is : settled_at n g ≡ x' 
 settled_same (g ∷ gs) (n ∷ ns) (suc k) x' at = settled_same gs ns k x' at
 
 settled_least : (gs : List GuestState) (ms : List ℕ) (k : ℕ) (x' : GuestState) (m : ℕ) → slice_get (settled_all gs ms) k ≡ Some x' → slice_get ms k ≡ Some m → m ≤ x'.settled
-settled_least [] ms k x' m at mark = absurd cc
-settled_least (g ∷ gs) [] k x' m at mark = absurd cc
-settled_least (g ∷ gs) (n ∷ ns) zero x' m at mark = grind arith
 settled_least (g ∷ gs) (n ∷ ns) (suc k) x' m at mark = settled_least gs ns k x' m at mark
+settled_least gs ms k x' m at mark = grind arith
 
 module _ {D : Type 0} (shows : D → DiskState) (b : BoardState D) (store : StoreState D) (told : List ℕ) (before : IsSound shows (record b { store = store; report = Some (Marks told) })) where
   abbrev heard_of : BoardState D
