@@ -305,4 +305,4 @@ module _ {D : Type 0} (shows : D → DiskState) (g : ℕ) (start : BoardState D)
       under n m least = grind (arith, nat_tests)
 
   pub collects : (did : Bool) → CollectsInto g (slice_get b.dones g) (did_answer did) b b' → IsSound shows b' → Collected did shows g start reply b b'
-  collects did into sound = grind (arith, empty, leaves, is_late)
+  collects did into sound = grind (arith, empty, leaves)
