@@ -1,11 +1,11 @@
 -- Steps over which a guest goes on waiting.
-use Rattle.std.proofs.Common.{◌≡◌, ◌≤◌, ◌<◌, ℕ, zero, suc, ◌+◌, Bool, true, false, ◌||◌, ◌&&◌, List, [], ◌∷◌, Some, None, length, map, max, refl, ap, ap₂, sym, subst, ◌∙◌, arith}
-use Rattle.host.proofs.Common.{if◌then◌else◌, nat_le, nat_lt, slice_get, nat_tests, length-map, slice_get_within, sequence, sequence_of_all, DiskState, Guest, marks_of, mark_of, answered_in, BookView, state, waiting_of, with_turn, GuestCore, GuestState, Held, after_turn, update, IsSound, BoardState, Marks, guests, as_many, there_is, turned, marks_at, is_broken, RunnerView, held_since, runner_of, runner_since, since, IsLate, Waits}
+use Rattle.std.proofs.Common.{◌≡◌, ◌≤◌, ◌<◌, ℕ, zero, suc, ◌+◌, Bool, true, false, ◌||◌, List, [], ◌∷◌, Some, None, length, map, max, refl, ap, ap₂, sym, subst, ◌∙◌, arith}
+use Rattle.host.proofs.Common.{nat_le, nat_lt, slice_get, nat_tests, length-map, slice_get_within, sequence, sequence_of_all, DiskState, Guest, marks_of, mark_of, answered_in, BookView, state, waiting_of, with_turn, GuestCore, GuestState, Held, after_turn, update, IsSound, BoardState, Marks, guests, as_many, there_is, turned, marks_at, is_broken, RunnerView, held_since, runner_of, runner_since, since, IsLate, Waits}
 use Rattle.flusher.specs.Store.{StoreState}
 use Rattle.rpmb_book.specs.Book.{after_settle, may_settle}
 use Rattle.rpmb_book.specs.Guest.{broken_off, failed_held, kept_or_failed, settled_at}
 use Rattle.rpmb_book.specs.Marks.{marks_for}
-use Rattle.rpmb_book.specs.Turn.{Break, Settle, Turn, move_some, settled_all}
+use Rattle.rpmb_book.specs.Turn.{Break, Turn, move_some, settled_all}
 use Rattle.rpmb_book.proofs.Replay.{replay-push}
 use Rattle.board.proofs.Stays.{may_settle_them}
 use Rattle.host.specs.Waiting.{AreMarked}
@@ -13,7 +13,7 @@ use Rattle.host.proofs.Updates.{since_whole}
 
 -- where there are as many, there is one
 pub also_there : {X Y : Type 0} (xs : List X) (ys : List Y) (k : ℕ) (x : X) → slice_get xs k ≡ Some x → length ys ≡ length xs → (y : Y) × (slice_get ys k ≡ Some y)
-also_there xs ys k x at many = there_is ys k (let below = slice_get_within xs k x at in omega (arith, below, many))
+also_there xs ys k x at many = there_is ys k (let below = slice_get_within xs k x at in omega arith)
 
 -- a mark is at most the guest's sequence, and what is settled at most the mark
 pub record IsBelow {D : Type 0} (b : BoardState D) (k : ℕ) (x : GuestState) : Type 0 where
@@ -26,10 +26,8 @@ pub below : {D : Type 0} (shows : D → DiskState) (b : BoardState D) (k : ℕ) 
 below shows b k x s at =
     let t = s.linked.each k x at in
     let l = t.link in
-    let mark = l.mark in
-    let within = l.within in
     let all : sequence x.core.partition ≡ sequence (s.bases k) + length (s.accepted k) = ap sequence l.partition ∙ sequence_of_all (s.bases k) (s.accepted k) l.in_turn in
-    record { stored = t.stored; at = t.in_store; settled = l.settled; mark = omega (arith, mark, within, all) }
+    record { stored = t.stored; at = t.in_store; settled = l.settled; mark = omega arith }
 
 -- 1. What answers depend on, after a turn
 
@@ -53,11 +51,10 @@ runner_update (g ∷ gs) (suc n) f core count = ap (joined g.core g.submits) (ru
 
 pub runner_more : (gs : List GuestState) (n : ℕ) (f : GuestState → GuestState) (h : GuestCore → GuestCore) (x : GuestState) → slice_get gs n ≡ Some x → ((y : GuestState) → (f y).core ≡ h y.core) → ((y : GuestState) → (f y).submits ≡ y.submits + 1)
     → runner_in (update gs n f) ≡ record { cores = update (cores_in gs) n h; answered = answered_in gs + 1 }
-runner_more [] n f h x at core more = absurd (cc)
+runner_more [] n f h x at core more = absurd cc
 runner_more (g ∷ gs) zero f h x at core more = ap₂ (λ c k. (let r : RunnerView = record { cores = c ∷ cores_in gs; answered = k } in r)) (core g) (omega (arith, more g))
 runner_more (g ∷ gs) (suc n) f h x at core more =
-    let rest = runner_more gs n f h x at core more in
-    ap₂ (λ c k. (let r : RunnerView = record { cores = g.core ∷ c; answered = k } in r)) (ap (λ v. v.cores) rest) (omega (arith, ap (λ v. v.answered) rest))
+    grind (arith, (runner_more gs n f h x at core more))
 
 pub runner_settled : (gs : List GuestState) (ms : List ℕ) → runner_in (settled_all gs ms) ≡ runner_in gs
 runner_settled [] ms = refl
@@ -74,17 +71,7 @@ pub record KeepsRunner (b b' : BookView) : Type 0 where
   pub runner : runner_in (state b').guests ≡ runner_in (state b).guests
 
 pub settle_keeps : (b : BookView) (shares marks : List ℕ) → KeepsRunner b (after_settle b shares marks)
-settle_keeps b shares marks = by (may_settle b shares marks && move_some (state b).guests marks)
-  where
-    of : List ℕ
-    of = marks_for (length (state b).guests) marks
-
-    by : (moves : Bool) → KeepsRunner b (if moves then with_turn b (Settle of) else b)
-    by true = record {
-      broken = ap (λ s. s.broken) (state_of b (Settle of));
-      runner = ap (λ s. runner_in s.guests) (state_of b (Settle of)) ∙ runner_settled (state b).guests of;
-    }
-    by false = record { broken = refl; runner = refl }
+settle_keeps b shares marks = grind (arith, runner_settled, state, state_of, with_turn)
 
 -- 2. Nothing changes that a waiting guest shows, but that more may be settled
 
@@ -132,7 +119,7 @@ pub same_waits : {D : Type 0} (shows : D → DiskState) (g : ℕ) (start : Board
 same_waits shows g start reply b b' w s sound =
     let y = also_there (guests b) (guests b') g w.guest w.there s.count in
     let x = s.each g y.0 y.1 in
-    let is : x.0 ≡ w.guest = (let a = x.1 in let c = w.there in cc) in
+    let is : x.0 ≡ w.guest = (let c = w.there in cc) in
     let whole = λ (known : is_broken b' ≡ false). sym s.broken ∙ known in
     record {
       sound = sound;
@@ -142,29 +129,21 @@ same_waits shows g start reply b b' w s sound =
       holds = x.2.held ∙ ap (λ v. v.held) is ∙ w.holds;
       same = w.same ∙ ap (λ k. held_since (is_broken start) k reply) (sym s.broken);
       need = λ known. w.need (whole known) ∙ ap (λ c. sequence c.partition) (sym (x.2.core ∙ ap (λ v. v.core) is));
-      late = λ broken. (let le = w.late (sym s.broken ∙ broken) in let grown = x.2.settled in let settled = ap (λ v. v.settled) is in omega (arith, le, grown, settled));
+      late = λ broken. (let le = w.late (sym s.broken ∙ broken) in let settled = ap (λ v. v.settled) is in omega arith);
       others = λ k v other at. (let u = s.each k v at in let calm = w.others k u.0 other u.1 in record {
         none = u.2.held ∙ calm.none;
         settled = λ known. (
             let full = calm.settled (whole known) in
             let core = ap (λ c. sequence c.partition) u.2.core in
-            let grown = u.2.settled in
             let z = below shows b' k v sound at in
-            let most = z.settled in
-            let mark = z.mark in
-            omega (arith, full, core, grown, most, mark));
+            omega arith);
       });
       marked = λ known. s.marked (w.marked (whole known));
       replies = λ k o at. w.replies k o (ap (λ l. slice_get l k) (sym s.dones) ∙ at);
       dones = s.dones ∙ w.dones;
       report = s.report ∙ w.report;
       broken = s.store ∙ w.broken ∙ sym s.broken;
-      stays = record {
-        devices = s.devices ∙ w.stays.devices;
-        jobs = s.jobs ∙ w.stays.jobs;
-        runner = s.runner ∙ w.stays.runner ∙ ap (λ k. runner_since (is_broken start) k (runner_of start)) (sym s.broken);
-        whole = λ known. w.stays.whole (whole known);
-      };
+      stays = grind arith;
     }
 
 -- 3. A sync, of which the book hears
@@ -181,7 +160,7 @@ unmoved (g ∷ gs) (m ∷ ms) is =
     kept m n is = grind (arith, nat_tests)
 
     neither : (a b : Bool) → (a || b) ≡ false → (a ≡ false) × (b ≡ false)
-    neither true b is = absurd (cc)
+    neither true b is = absurd cc
     neither false b is = (refl, is)
 
 all_marks : (ms : List ℕ) → marks_for (length ms) ms ≡ ms
@@ -189,20 +168,11 @@ all_marks [] = refl
 all_marks (m ∷ ms) = ap (λ l. m ∷ l) (all_marks ms)
 
 settled_guests : (b : BookView) (shares marks : List ℕ) → may_settle b shares marks ≡ true → length marks ≡ length (state b).guests → (state (after_settle b shares marks)).guests ≡ settled_all (state b).guests marks
-settled_guests b shares marks may many = by (move_some (state b).guests marks) refl
-  where
-    full : marks_for (length (state b).guests) marks ≡ marks
-    full = ap (λ n. marks_for n marks) (sym many) ∙ all_marks marks
-
-    by : (m : Bool) → move_some (state b).guests marks ≡ m → (state (after_settle b shares marks)).guests ≡ settled_all (state b).guests marks
-    by true moves = rw (may, moves, full) (ap (λ s. s.guests) (state_of b (Settle marks)))
-    by false moves = rw (may, moves) (sym (unmoved (state b).guests marks moves))
+settled_guests b shares marks may many = grind (arith, all_marks, state, state_of, unmoved)
 
 waiting_settled : (gs : List GuestState) (ms : List ℕ) (k : ℕ) → waiting_of (slice_get (settled_all gs ms) k) ≡ waiting_of (slice_get gs k)
-waiting_settled [] ms k = refl
-waiting_settled (g ∷ gs) [] k = refl
-waiting_settled (g ∷ gs) (m ∷ ms) zero = refl
 waiting_settled (g ∷ gs) (m ∷ ms) (suc k) = waiting_settled gs ms k
+waiting_settled gs ms k = grind arith
 
 length_settled : (gs : List GuestState) (ms : List ℕ) → length (settled_all gs ms) ≡ length gs
 length_settled [] ms = refl
@@ -210,20 +180,14 @@ length_settled (g ∷ gs) [] = refl
 length_settled (g ∷ gs) (m ∷ ms) = ap suc (length_settled gs ms)
 
 settled_same : (gs : List GuestState) (ms : List ℕ) (k : ℕ) (x' : GuestState) → slice_get (settled_all gs ms) k ≡ Some x' → (x : GuestState) × (slice_get gs k ≡ Some x) × IsSameGuest x x'
-settled_same [] ms k x' at = absurd (cc)
+settled_same [] ms k x' at = absurd cc
 settled_same (g ∷ gs) [] k x' at = (x', at, same_guest x')
 settled_same (g ∷ gs) (n ∷ ns) zero x' at = (let is : settled_at n g ≡ x' = cc in (g, refl, subst (IsSameGuest g) is (record { held = refl; core = refl; settled = omega arith })))
 settled_same (g ∷ gs) (n ∷ ns) (suc k) x' at = settled_same gs ns k x' at
 
 settled_least : (gs : List GuestState) (ms : List ℕ) (k : ℕ) (x' : GuestState) (m : ℕ) → slice_get (settled_all gs ms) k ≡ Some x' → slice_get ms k ≡ Some m → m ≤ x'.settled
-settled_least [] ms k x' m at mark = absurd (cc)
-settled_least (g ∷ gs) [] k x' m at mark = absurd (cc)
-settled_least (g ∷ gs) (n ∷ ns) zero x' m at mark =
-    let same : n ≡ m = cc in
-    let is : settled_at n g ≡ x' = cc in
-    let settled = ap (λ v. v.settled) is in
-    omega (arith, same, settled)
 settled_least (g ∷ gs) (n ∷ ns) (suc k) x' m at mark = settled_least gs ns k x' m at mark
+settled_least gs ms k x' m at mark = grind arith
 
 module _ {D : Type 0} (shows : D → DiskState) (b : BoardState D) (store : StoreState D) (told : List ℕ) (before : IsSound shows (record b { store = store; report = Some (Marks told) })) where
   abbrev heard_of : BoardState D
@@ -246,12 +210,10 @@ module _ {D : Type 0} (shows : D → DiskState) (b : BoardState D) (store : Stor
     count = ap length known ∙ length_settled (guests b) told;
     marked = λ marked k x' y at there. (
         let z = below shows heard_of k x' sound at in
-        let other = z.at in
         let same : z.stored ≡ y = cc in
         let to = ap mark_of same in
-        let most = z.settled in
         let least = settled_least (guests b) told k x' (mark_of y) (ap (λ l. slice_get l k) (sym known) ∙ at) (ap (λ l. slice_get l k) named ∙ marks_at store.guests k y there) in
-        omega (arith, to, most, least));
+        omega arith);
     broken = kept.broken;
     store = broken;
     devices = refl;
@@ -282,7 +244,7 @@ module _ {D : Type 0} (shows : D → DiskState) (g : ℕ) (start : BoardState D)
     holds = ap (λ v. v.held) x.2 ∙ ap (λ v. map (kept_or_failed v.settled) v.held) same ∙ ap (map (kept_or_failed w.guest.settled)) w.holds;
     same = failed_late ∙ ap failed_held (w.same ∙ ap₂ (λ was now. held_since was now reply) started whole) ∙ ap₂ (λ was now. held_since was now reply) (sym started) (sym broke);
     need = λ known. absurd (unbroken known);
-    late = λ yes. (let le = kept_need w.guest.settled w.held in let settled = ap (λ v. v.settled) x.2 in let mine = ap (λ v. v.settled) same in omega (arith, le, settled, mine));
+    late = λ yes. (let le = kept_need w.guest.settled w.held in let settled = ap (λ v. v.settled) x.2 in let mine = ap (λ v. v.settled) same in omega arith);
     others = λ k v other at. (let u = each k v at in record {
       none = ap (λ q. q.held) u.2 ∙ ap (map (kept_or_failed u.0.settled)) (w.others k u.0 other u.1).none;
       settled = λ known. absurd (unbroken known);
@@ -329,9 +291,7 @@ module _ {D : Type 0} (shows : D → DiskState) (g : ℕ) (start : BoardState D)
       -- a reply that is late is not kept
       failed_late : kept_or_failed w.guest.settled w.held ≡ failed_held w.held
       failed_late =
-          let less = is_late.late w.guest w.there in
-          let need = w.need whole in
-          let is : nat_le w.held.done.need w.guest.settled ≡ false = late_is w.held.done.need w.guest.settled (omega (arith, less, need)) in
+          let is : nat_le w.held.done.need w.guest.settled ≡ false = late_is w.held.done.need w.guest.settled (omega arith) in
           rw is refl
         where
           late_is : (n m : ℕ) → m < n → nat_le n m ≡ false

@@ -12,9 +12,6 @@ module _ {D : Type 0} (shows : D → DiskState) (makes : D → DiskCall → D �
   one_share : (b : BoardState D) (s s' : Share) → ShowsShare g b s → ShowsShare g b s' → s ≡ s'
   one_share b s s' x y = grind arith
 
-  pub share_is : (b : BoardState D) (s : Share) → ShowsShare g b s → s ≡ share_of b s.device s.job
-  share_is b s x = one_share b s (share_of b s.device s.job) x (record { at = x.at; place = x.place; runner = refl; broken = refl })
-
   -- of each guest of a calm board
   pub share_there : (b : BoardState D) → IsCalm shows b → g < length b.devices → (s : Share) × ShowsShare g b s
   share_there b calm there =

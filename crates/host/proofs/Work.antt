@@ -1,5 +1,5 @@
 -- What a Take, a Give, a call of the store and a look leave to do, until a guest's reply may leave.
-use Rattle.std.proofs.Common.{◌≡◌, ◌<◌, ◌≤◌, ℕ, ◌+◌, Bool, true, false, List, [], ◌∷◌, Option, Some, None, length, drop, refl, ap, sym, subst, ◌∙◌, arith, inl, inr, Result, Ok, Err}
+use Rattle.std.proofs.Common.{◌≡◌, ◌<◌, ◌≤◌, ℕ, ◌+◌, Bool, true, false, List, [], ◌∷◌, Option, Some, None, length, drop, refl, ap, sym, subst, ◌∙◌, arith, Result, Ok, Err}
 use Rattle.host.proofs.Common.{◌==◌, if◌then◌else◌, slice_get, slice_set, nat_le, Request, sequence, DiskState, DiskCall, Guest, left_of, called, AllEmpty, mark_of, get_set_same, get_set_other, sequence_of_all, guest_of, waiting_of, with_turn, GuestState, Held, IsSound, BoardState, guests, in_place, Marks, report_of, did_answer, as_many, at_each, own, there_is, turned, other_guest, IsLate, Waits, Leaves, work_of, slice_get_within, Progress, Synced, Idle, StoreFault, GoesBy, GoesOn, Hears, IsListened, book_heard, is_broken, IsCalmGuest, nat_tests, held_since}
 use Rattle.std.proofs.lemmas.List.{length-drop}
 use Rattle.intent_slots.specs.Payload.{Intent}
@@ -10,8 +10,8 @@ use Rattle.flusher.specs.Pair.{given_at, has_room, with_intent}
 use Rattle.flusher.specs.Store.{given, given_of, is_free, is_free_of}
 use Rattle.flusher.proofs.Countdown.{given_adds}
 use Rattle.flusher.proofs.Lookups.{given_mark}
-use Rattle.rpmb_book.specs.Book.{first_of, is_share, next_intent, share_moved, due_at, due_of}
-use Rattle.rpmb_book.specs.Guest.{first_intent, took, collected, first_due}
+use Rattle.rpmb_book.specs.Book.{first_of, is_share, next_intent, share_moved}
+use Rattle.rpmb_book.specs.Guest.{first_intent, took, collected}
 use Rattle.rpmb_book.specs.Turn.{Take, Collect}
 use Rattle.board.specs.Link.{due, entries_of}
 use Rattle.board.specs.Steps.{Answer, GivesWhere, TakesInto, CollectsInto}
@@ -19,9 +19,8 @@ use Rattle.board.proofs.Doing.{full_at}
 use Rattle.board.proofs.Stays.{is_share_of, may_give_it}
 use Rattle.host.specs.Waiting.{WritesOn, Collected}
 use Rattle.host.specs.Work.{between_calls, calls_of, todo_of, waiting_calls}
-use Rattle.host.proofs.Settled.{IsSameGuest, Same, also_there, runner_in, runner_update, state_of, still, stored_same, broken_waits, same_waits, synced_same, waiting_heard, below}
+use Rattle.host.proofs.Settled.{Same, also_there, runner_in, runner_update, state_of, still, stored_same, broken_waits, same_waits, synced_same, waiting_heard, below}
 use Rattle.flusher.specs.Progress.{Wrote}
-use Rattle.flusher.proofs.Pending.{pending_stays}
 use Rattle.host.proofs.Ending.{heard_at, heard_badly, heard_idle, heard_lowers, heard_well}
 
 full_is_not : (i : Intent) → Some (Some i) ≡ Some None → ⊥
@@ -50,12 +49,9 @@ nothing_first g x is = grind arith
 first_rest : (g : ℕ) (x : GuestState) (i : Intent) → first_intent g x ≡ Some i → calls_of i + waiting_calls (drop 4 x.waiting) ≤ waiting_calls x.waiting
 first_rest g x i is = grind arith
 
-took_guest : (n k : ℕ) (x : GuestState) → IsSameGuest x (if n == k then took x else x)
-took_guest n k x = grind arith
-
 pub take_work : {D : Type 0} (shows : D → DiskState) (g : ℕ) (x : GuestState) (o : Option (Option Intent)) (answer : Answer) (b b' : BoardState D) → IsSound shows b → slice_get (guests b) g ≡ Some x → slice_get b.intents g ≡ o
     → TakesInto g o answer b b' → IsTaken g b b'
-take_work shows g x None answer b b' sound at place takes = not_taken g b b' takes.1 (λ empty. absurd (cc))
+take_work shows g x None answer b b' sound at place takes = not_taken g b b' takes.1 (λ empty. absurd cc)
 take_work shows g x (Some (Some i)) answer b b' sound at place takes = not_taken g b b' takes.1 (λ empty. absurd (full_is_not i (sym place ∙ empty)))
 take_work {D = D} shows g x (Some None) answer b b' sound at place takes = by (next_intent b.book b.shares g) refl
   where
@@ -72,19 +68,18 @@ take_work {D = D} shows g x (Some None) answer b b' sound at place takes = by (n
         let is : b' ≡ now = takes.1 ∙ rw some refl in
         let y = also_there (guests b) (guests now) g x at (as_many b.book (Take g)) in
         let u = own b.book (Take g) g took (λ k v. refl) y.0 y.1 in
-        let same : u.0 ≡ x = (let a = u.1 in cc) in
+        let same : u.0 ≡ x = cc in
         let taken : y.0 ≡ took x = u.2 ∙ ap took same in
         let broken = ap (λ s. s.broken) (state_of b.book (Take g)) in
         let full : slice_get (slice_set b.intents g (Some i)) g ≡ Some (Some i) = get_set_same b.intents g None (Some i) place in
         let more : calls_of i + waiting_calls (drop 4 x.waiting) ≤ waiting_calls x.waiting = first_rest g x i (sym next_is ∙ some) in
         let one : between_calls (in_place (slice_get now.intents g)) ≡ calls_of i = ap (λ o. between_calls (in_place o)) full in
-        let zero_between : between_calls (in_place (slice_get b.intents g)) ≡ 0 = ap (λ o. between_calls (in_place o)) place in
         let before : waiting_calls (waiting_of (slice_get (guests b) g)) ≡ waiting_calls x.waiting = ap (λ o. waiting_calls (waiting_of o)) at in
         let after : waiting_calls (waiting_of (slice_get (guests now) g)) ≡ waiting_calls (drop 4 x.waiting) = ap (λ o. waiting_calls (waiting_of o)) y.1 ∙ ap (λ v. waiting_calls v.waiting) taken in
         subst (IsTaken g b) (sym is) (record {
-          same = grind (arith, turned, took_guest, as_many, took_settled, runner_in, state_of, runner_update);
-          late = λ late. record { whole = broken ∙ late.whole; late = λ v there. (let v_is : v ≡ took x = (let a = y.1 in let c = taken in cc) in subst (λ q. q.settled < sequence q.core.partition) (sym v_is) (late.late x at)) };
-          work = omega (arith, one, zero_between, before, after, more);
+          same = grind (arith, turned, as_many, took_settled, runner_in, state_of, runner_update);
+          late = λ late. record { whole = broken ∙ late.whole; late = λ v there. (let v_is : v ≡ took x = (let c = taken in cc) in subst (λ q. q.settled < sequence q.core.partition) (sym v_is) (late.late x at)) };
+          work = omega arith;
           rest = λ empty. absurd (full_is_not i (sym full ∙ empty));
         })
       where
@@ -98,16 +93,14 @@ take_work {D = D} shows g x (Some None) answer b b' sound at place takes = by (n
 -- 2. Give
 
 empty_slot : (slot : Option Slot) → is_empty slot ≡ true → slot ≡ None
-empty_slot None is = refl
-empty_slot (Some s) is = absurd (cc)
+empty_slot slot is = grind arith
 
 -- a guest whose slots are empty has room, and one that was given an intent has a slot that isn't
 has_room_empty : (z : Guest) → is_empty z.slot ≡ true → is_empty z.behind ≡ true → has_room z ≡ true
 has_room_empty z one two = grind arith
 
 given_is_not_empty : (z : Guest) (i : Intent) (slot : Option Slot) → is_empty (given_at z i slot).slot ≡ true → ⊥
-given_is_not_empty z i None is = absurd (cc)
-given_is_not_empty z i (Some f) is = absurd (cc)
+given_is_not_empty z i slot is = grind arith
 
 -- what a Give leaves: as much to do; and where all slots are empty it had nothing to give, and nothing changed
 pub record IsGiven {D : Type 0} (g : ℕ) (b b' : BoardState D) : Type 0 where
@@ -125,7 +118,6 @@ unfolding is_free given
 give_work shows g false o answer b b' sound few free place gives = not_given g b b' gives.1 (λ empty. absurd (
     let z = there_is b.store.guests g few in
     let yes = empty g z.0 z.1 in
-    let none : has_room z.0 ≡ false = ap is_free_of (sym z.1) ∙ free in
     let room = has_room_empty z.0 yes.0 yes.1 in cc))
 give_work shows g true None answer b b' sound few free place gives = not_given g b b' gives.1 (λ empty. place)
 give_work {D = D} shows g true (Some i) answer b b' sound few free place gives =
@@ -142,7 +134,7 @@ give_work {D = D} shows g true (Some i) answer b b' sound few free place gives =
     subst (IsGiven g b) (sym gives.1) (record {
       same = stored_same b now refl (λ k y there. given_marks b.store.guests i z.0 at k y (ap (λ l. slice_get l k) (sym held) ∙ there)) refl refl refl refl refl;
       late = late_still g b now refl;
-      work = omega (arith, left, one, none);
+      work = omega arith;
       rest = λ rests. absurd (given_is_not_empty z.0 i z.0.slot (rests i.guest (with_intent z.0 i) (ap (λ l. slice_get l i.guest) held ∙ get_set_same b.store.guests i.guest z.0 (with_intent z.0 i) at)).0);
     })
   where
@@ -157,7 +149,7 @@ give_work {D = D} shows g true (Some i) answer b b' sound few free place gives =
 
 empty_entries : (rs : List Request) → entries_of rs ≡ [] → rs ≡ []
 empty_entries [] is = refl
-empty_entries (r ∷ rs) is = absurd (cc)
+empty_entries (r ∷ rs) is = absurd cc
 
 pub settled_all_at_rest : {D : Type 0} (shows : D → DiskState) (g : ℕ) (x : GuestState) (b : BoardState D) → IsSound shows b → slice_get (guests b) g ≡ Some x → AllEmpty b.store.guests
     → in_place (slice_get b.intents g) ≡ None → x.waiting ≡ [] → (z : Guest) × (slice_get b.store.guests g ≡ Some z) × (mark_of z ≡ sequence x.core.partition)
@@ -168,19 +160,16 @@ settled_all_at_rest shows g x b sound at empty place waits =
     let slot = empty_slot t.stored.slot both.0 in
     let behind = empty_slot t.stored.behind both.1 in
     let none : t.intent ≡ None = ap in_place (sym t.in_place) ∙ place in
-    let mark = l.mark in
     let all : sequence x.core.partition ≡ sequence (sound.bases g) + length (sound.accepted g) = ap sequence l.partition ∙ sequence_of_all (sound.bases g) (sound.accepted g) l.in_turn in
     let nothing : due t.stored t.intent x ≡ [] = rw (slot, behind, none, waits) refl in
     let rest = ap length (empty_entries (drop l.stored (sound.accepted g)) (l.rest ∙ nothing)) in
     let long = length-drop l.stored (sound.accepted g) in
-    let within = l.within in
-    (t.stored, t.in_store, omega (arith, mark, all, long, rest, within))
+    (t.stored, t.in_store, omega arith)
 
 -- One round of Take, Give, and a call of the store: less is left to do.
 
 moved_mark : (y y' : Guest) → MovedBy false y y' → mark_of y' ≡ mark_of y
-moved_mark y y' (inl is) = ap mark_of is
-moved_mark y y' (inr is) = ap mark_of is ∙ (pending_stays y).1
+moved_mark y y' x2 = grind arith
 
 work_less : {D : Type 0} (g : ℕ) (b b' : BoardState D) → is_broken b ≡ false → (is_broken b' ≡ false → todo_of g b' < todo_of g b) → work_of g b' < work_of g b
 work_less g b b' whole less = grind arith
@@ -218,7 +207,7 @@ module _ {D : Type 0} (shows : D → DiskState) (makes : D → DiskCall → D �
           let store = ap (λ v. left_of v.store.guests) h.is in
           let intents = ap (λ v. between_calls (in_place (slice_get v.intents g))) h.is in
           let waits = ap waiting_calls waiting in
-          omega (arith, left, store, intents, waits)
+          omega arith
 
       by : (p : Result Progress StoreFault) → h.progress ≡ p → Moved b b'
       by (Ok Wrote) is = (let to = now (Ok Wrote) is in record {
@@ -242,7 +231,6 @@ module _ {D : Type 0} (shows : D → DiskState) (makes : D → DiskCall → D �
           let to = now (Err e) is in
           let broken = heard_badly shows makes went b b' late.whole h e is in
           let waits = broken_waits shows g start reply b h.store w late broken (subst (IsSound shows) to sound) in
-          let off = ap (λ v. v.store.broken) to ∙ broken in
           record {
             waits = subst W (sym to) waits;
             less = λ busy known. absurd (let same = (subst W (sym to) waits).broken in cc);
@@ -261,18 +249,10 @@ module _ {D : Type 0} (shows : D → DiskState) (makes : D → DiskCall → D �
       let w2 = same_waits shows g start reply b1 b2 w1 given.same s2 in
       let late2 = given.late late1 in
       let m = moved went b2 b3 w2 late2 s3 (goes (record { report = w2.report; broken = w2.broken })) in
-      let busy : AllEmpty b2.store.guests → ⊥ = λ empty.
-      (let rest = given.rest empty in
-      let place : slice_get b1.intents g ≡ Some None = (let o = also_there (guests b1) b1.intents g w1.guest w1.there (s1.linked.places.intents ∙ sym s1.linked.many) in o.1 ∙ ap Some (ap in_place (sym o.1) ∙ rest.1)) in
-      let waits : w1.guest.waiting ≡ [] = ap waiting_of (sym w1.there) ∙ taken.rest place in
-      let z = settled_all_at_rest shows g w1.guest b1 s1 w1.there (subst (λ v. AllEmpty v.store.guests) rest.0 empty) rest.1 waits in
-      let marked = w1.marked late1.whole g w1.guest z.0 w1.there z.1 in
-      let less = late1.late w1.guest w1.there in
-      let full = z.2 in
-      omega (arith, marked, less, full)) in
+      let busy : AllEmpty b2.store.guests → ⊥ = λ empty. grind (arith, also_there, empty, guests, in_place, settled_all_at_rest, slice_get, waiting_of) in
       record {
         waits = m.waits;
-        less = work_less g b0 b3 late.whole (λ known. (let less = m.less busy known in let first = taken.work in let second = given.work in omega (arith, less, first, second)));
+        less = work_less g b0 b3 late.whole (λ known. (let less = m.less busy known in omega arith));
       }
 
 -- A look for the reply that a guest waits for.
@@ -280,12 +260,6 @@ module _ {D : Type 0} (shows : D → DiskState) (makes : D → DiskCall → D �
 module _ {D : Type 0} (shows : D → DiskState) (g : ℕ) (start : BoardState D) (reply : Held) (b b' : BoardState D) (w : Waits shows g start reply b) where
   empty : slice_get b.dones g ≡ Some None
   empty = grind (arith, also_there)
-
-  due_is : due_of b.book g ≡ (if nat_le w.held.done.need w.guest.settled then Some w.held.done else None)
-  due_is = ap due_at w.there ∙ ap (first_due w.guest.settled) w.holds
-
-  due_when : (c : Bool) → nat_le w.held.done.need w.guest.settled ≡ c → due_of b.book g ≡ (if c then Some w.held.done else None)
-  due_when c is = due_is ∙ ap (λ x. if x then Some w.held.done else None) is
 
   over : (n m : ℕ) → nat_le n m ≡ false → m < n
   over n m greater = grind (arith, nat_tests)
@@ -306,16 +280,14 @@ module _ {D : Type 0} (shows : D → DiskState) (g : ℕ) (start : BoardState D)
     quiet = at_each {P = λ k. (x : GuestState) → slice_get (guests now) k ≡ Some x → IsCalmGuest (is_broken now) x} g
         (λ y at. (
         let x = own b.book (Collect g) g collected (λ k v. refl) y at in
-        let same : x.0 ≡ w.guest = (let a = x.1 in let c = w.there in cc) in
+        let same : x.0 ≡ w.guest = (let c = w.there in cc) in
         record {
           none = ap (λ v. v.held) x.2 ∙ ap (λ v. drop 1 v.held) same ∙ ap (drop 1) w.holds;
           settled = λ whole. (
               let need = w.need (sym same_broken ∙ whole) in
               let le = under w.held.done.need w.guest.settled is in
               let most = below shows b g w.guest w.sound w.there in
-              let settled = most.settled in
-              let mark = most.mark in
-              subst (λ v. v.settled ≡ sequence v.core.partition) (sym (x.2 ∙ ap collected same)) (omega (arith, le, need, settled, mark)));
+              subst (λ v. v.settled ≡ sequence v.core.partition) (sym (x.2 ∙ ap collected same)) (omega arith));
         }))
         (λ k other x at. (let c = w.others k x other (other_guest b.book (Collect g) g collected (λ m v. refl) k other x at) in
         record { none = c.none; settled = λ whole. c.settled (sym same_broken ∙ whole) }));
@@ -333,4 +305,4 @@ module _ {D : Type 0} (shows : D → DiskState) (g : ℕ) (start : BoardState D)
       under n m least = grind (arith, nat_tests)
 
   pub collects : (did : Bool) → CollectsInto g (slice_get b.dones g) (did_answer did) b b' → IsSound shows b' → Collected did shows g start reply b b'
-  collects did into sound = grind (arith, empty, due_when, leaves, is_late)
+  collects did into sound = grind (arith, empty, leaves)
