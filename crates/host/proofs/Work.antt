@@ -1,6 +1,6 @@
 -- What a Take, a Give, a call of the store and a look leave to do, until a guest's reply may leave.
 use Rattle.std.proofs.Common.{◌≡◌, ◌<◌, ◌≤◌, ℕ, ◌+◌, Bool, true, false, List, [], ◌∷◌, Option, Some, None, length, drop, refl, ap, sym, subst, ◌∙◌, arith, Result, Ok, Err}
-use Rattle.host.proofs.Common.{◌==◌, if◌then◌else◌, slice_get, slice_set, nat_le, Request, sequence, DiskState, DiskCall, Guest, left_of, called, AllEmpty, mark_of, get_set_same, get_set_other, sequence_of_all, guest_of, waiting_of, with_turn, GuestState, Held, IsSound, BoardState, guests, in_place, Marks, report_of, did_answer, as_many, at_each, own, there_is, turned, other_guest, IsLate, Waits, Leaves, work_of, slice_get_within, Progress, Synced, Idle, StoreFault, GoesBy, GoesOn, Hears, IsListened, book_heard, is_broken, IsCalmGuest, nat_tests, held_since}
+use Rattle.host.proofs.Common.{◌==◌, if◌then◌else◌, slice_get, slice_set, nat_le, Request, sequence, DiskState, DiskCall, Guest, left_of, called, AllEmpty, mark_of, get_set_same, get_set_other, sequence_of_all, guest_of, waiting_of, with_turn, GuestState, Held, IsSound, BoardState, guests, in_place, Marks, report_of, did_answer, as_many, at_each, own, there_is, turned, other_guest, IsLate, Waits, Leaves, work_of, slice_get_within, Progress, Synced, Idle, StoreFault, GoesBy, GoesOn, Hears, IsListened, book_heard, is_broken, IsCalmGuest, nat_tests, held_since, Wrote}
 use Rattle.std.proofs.lemmas.List.{length-drop}
 use Rattle.intent_slots.specs.Payload.{Intent}
 use Rattle.flusher.specs.declared.slot.Slot.{Slot}
@@ -20,7 +20,6 @@ use Rattle.board.proofs.Stays.{is_share_of, may_give_it}
 use Rattle.host.specs.Waiting.{WritesOn, Collected}
 use Rattle.host.specs.Work.{between_calls, calls_of, todo_of, waiting_calls}
 use Rattle.host.proofs.Settled.{Same, also_there, runner_in, runner_update, state_of, still, stored_same, broken_waits, same_waits, synced_same, waiting_heard, below}
-use Rattle.flusher.specs.Progress.{Wrote}
 use Rattle.host.proofs.Ending.{heard_at, heard_badly, heard_idle, heard_lowers, heard_well}
 
 full_is_not : (i : Intent) → Some (Some i) ≡ Some None → ⊥
