@@ -8,7 +8,7 @@ use Rattle.flusher.specs.Round.{plan_at}
 use Rattle.flusher.specs.Pair.{guest_awaits, guest_has_write}
 use Rattle.rpmb_book.specs.Audit.{HasHistory}
 use Rattle.rpmb_book.specs.Sound.{IsSound as IsSoundBook}
-use Rattle.board.proofs.Linked.{drives_linked, in_book}
+use Rattle.board.proofs.Linked.{in_book}
 use Rattle.board.proofs.Prefixes.{does_moments, leaves_now}
 use Rattle.board.proofs.Stays.{does_stay}
 use Rattle.board.proofs.Stores.{of_store}

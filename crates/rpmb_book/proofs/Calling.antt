@@ -69,8 +69,11 @@ one_call first turns b (ToCollect n) few h = search (rules, arith, collect_right
 all_calls : (first : State) (turns : List Turn) (b : BookView) (cs : List Call) → IsBounded first → HasLived first turns b → HasLived first (turns ++ turns_in b cs) (after_calls b cs)
 all_calls first turns b [] few h = subst (λ (ts : List Turn). HasLived first ts b) (sym (append-nil turns)) h
 all_calls first turns b (c ∷ cs) few h =
-    grind (arith, append_assoc,
-    (all_calls first (turns ++ turns_of b c) (after_call b c) cs few (one_call first turns b c few h)))
+    grind (
+      arith,
+      append_assoc,
+      (all_calls first (turns ++ turns_of b c) (after_call b c) cs few (one_call first turns b c few h)),
+    )
 
 -- a book that was opened, after all its calls
 fresh_lives : (config : List GuestConfig) (partitions : List Partition) (b : BookView) (cs : List Call) → IsFresh config partitions b → HasLived b.opening (turns_in b cs) (after_calls b cs)

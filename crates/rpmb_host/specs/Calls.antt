@@ -1,5 +1,5 @@
 -- What the calls answer, and what they leave of the machine in a handle (own).
-use Rattle.std.specs.Prelude.{◌≡◌, ◌≤◌, ◌-◌, ◌%◌, ℕ, true, false, List, Option, Some, None, IfSome}
+use Rattle.std.specs.Prelude.{◌≡◌, ◌-◌, ℕ, true, false, List, Option, Some, None, IfSome}
 use Rattle.std.specs.Prelude.{length, slice_get}
 use Rattle.guest_memory.specs.Memory.{bytes_at, with_bytes}
 use Rattle.disk.specs.Outbox.{first_of}
