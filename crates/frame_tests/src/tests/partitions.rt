@@ -33,7 +33,7 @@ struct Left {
 
 const KEYED: Option<[u8; 32]> = Some([0x11; 32]);
 
-fn left(partition: &Partition) -> Left {
+fn state_of(partition: &Partition) -> Left {
     let mut firsts = [0; 5];
     for (i, address) in [0, 7, 22, 511, 512].iter().enumerate() {
         let block = partition.block(*address);
@@ -50,7 +50,7 @@ fn left(partition: &Partition) -> Left {
 /// Whether a partition of so many units, and its copy, have this state.
 fn is_left(alloc: Global, partition: &Partition, capacity: u8, state: &Left) -> Result<bool, Fail> {
     let copy = partition.copy(alloc)?;
-    Ok(left(partition) == *state && left(&copy) == *state && copy.capacity() == capacity)
+    Ok(state_of(partition) == *state && state_of(&copy) == *state && copy.capacity() == capacity)
 }
 
 /// What a scenario leaves.
@@ -185,7 +185,7 @@ fn copy_at_the_last_counter(rt: HostRuntime) -> Result<(), Fail> {
     take_steps(&mut partition, limits_of(alloc, (16, 16))?, &LAST_COUNTER)?;
     let end = partition.copy(alloc)?;
     assert!(rt;
-        left(&near)
+        state_of(&near)
             == Left {
                 key: KEYED,
                 counter: 0xFFFF_FFFE,
@@ -194,7 +194,7 @@ fn copy_at_the_last_counter(rt: HostRuntime) -> Result<(), Fail> {
             }
     );
     assert!(rt;
-        left(&end)
+        state_of(&end)
             == Left {
                 key: KEYED,
                 counter: 0xFFFF_FFFF,
