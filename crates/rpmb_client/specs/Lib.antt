@@ -6,5 +6,6 @@ pub mod Seen
 pub mod Lines
 pub mod Laws
 pub mod Values
+pub mod Options
 pub mod Blocks
 pub mod Keys

@@ -1,5 +1,5 @@
 -- The values that the words of a client's options say.
-use Rattle.std.specs.Prelude.{ℕ, ◌≡◌, ◌≢◌, ◌-◌, ◌==◌, ⊤, nat_le, not, if◌then◌else◌, List, [], ◌∷◌}
+use Rattle.std.specs.Prelude.{ℕ, ◌≡◌, ◌≢◌, ◌-◌, ◌==◌, ◌&&◌, ⊤, nat_le, not, if◌then◌else◌, List, [], ◌∷◌}
 use Rattle.std.specs.Prelude.{length, slice_index, slice_range, Option, Some, None, option_and_then}
 use Rattle.std.specs.Prelude.{Ok, Err}
 use Rattle.std.specs.Result.{result_ok}
@@ -11,13 +11,14 @@ use Rattle.rpmb_client.specs.declared.values.ValueFault.TheVariants as fault
 use Rattle.rpmb_client.specs.declared.values.KeyFault.{KeyFault}
 use Rattle.rpmb_client.specs.declared.values.KeyFault.TheVariants as key_fault
 
--- a number of at most `most`
-abbrev pub at_most : ℕ → Option ℕ → Option ℕ
-at_most most number = option_and_then (λ n. if nat_le n most then Some n else None) number
+-- a number from `least` to `most`
+abbrev pub within : ℕ → ℕ → Option ℕ → Option ℕ
+within least most number =
+    option_and_then (λ n. if nat_le least n && nat_le n most then Some n else None) number
 
 -- decimal digits, also with zeros in front
-abbrev pub number_said : List ℕ → ℕ → Option ℕ
-number_said word most = at_most most (number_of word)
+abbrev pub number_said : List ℕ → ℕ → ℕ → Option ℕ
+number_said word least most = within least most (number_of word)
 
 -- two hex digits for each byte
 abbrev pub bytes_said : List ℕ → Option (List ℕ)

@@ -12,6 +12,8 @@ mod keys;
 pub mod laws;
 mod lines;
 mod making;
+mod options;
+mod refusal;
 mod texts;
 mod values;
 
@@ -27,6 +29,10 @@ pub use lines::{
     Writer, write_all, write_program_key, write_read, write_read_counter, write_result,
 };
 pub use making::{ask_for_result, join, program_key, read_blocks, read_counter, write_blocks};
+pub use options::{
+    key_of_file, key_of_raw_file, key_of_word, option_bytes, option_nonce, option_number,
+};
+pub use refusal::{Number, OptionRefusal};
 pub use values::{
     KeyFault, ValueFault, array_of, bytes_of, digits_of, key_in_file, number_of, sized,
 };

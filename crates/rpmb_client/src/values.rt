@@ -35,13 +35,14 @@ pub enum KeyFault {
     BadDigits(ValueFault),
 }
 
-/// The number of at most `most` that a word of decimal digits writes; leading zeros are allowed.
-pub fn number_of(word: &str, most: u64) -> Option<u64>
-    ensures said { result ≡ number_said word.now most }
-    ensures bound { IfSome result (λ number. number ≤ most) }
+/// The number from `least` to `most` that a word of decimal digits writes; leading zeros are
+/// allowed.
+pub fn number_of(word: &str, least: u64, most: u64) -> Option<u64>
+    ensures said { result ≡ number_said word.now least most }
+    ensures bound { IfSome result (λ number. (least ≤ number) × (number ≤ most)) }
 {
     match read_number(word) {
-        Some(number) if number <= most => Some(number),
+        Some(number) if least <= number && number <= most => Some(number),
         _ => None,
     }
 }

@@ -3,6 +3,7 @@ use crate::refusal::Refusal;
 use crate::source::{Source, text_of};
 use crate::words::Words;
 use board_file::{BoardVerdict, judge_board};
+use rpmb_client::OptionRefusal;
 use script::{ScriptVerdict, judge_script};
 use std::alloc::Global;
 use std::io::Write;
@@ -57,7 +58,7 @@ pub fn check<'a, S: Source, W: Write>(
     out: &mut W,
 ) -> Result<(), Refusal<'a>> {
     let Some(board) = words.board else {
-        return Err(Refusal::Incomplete);
+        return Err(OptionRefusal::Incomplete.into());
     };
     let guests = check_board(alloc, source, board)?;
     if let Some(script) = words.script {

@@ -1,9 +1,9 @@
 //! The keys that answers are judged by.
-use crate::reading::{key, number};
-use crate::refusal::{Number, Refusal};
+use crate::reading::key;
+use crate::refusal::Refusal;
 use crate::source::Source;
 use crate::words::Words;
-use rpmb_client::{GuestKey, Keys, key_at};
+use rpmb_client::{GuestKey, Keys, Number, key_at, option_number};
 use std::alloc::Global;
 
 /// The guest of a word `G=KEY`, and the key's word; none where the key is for all other guests.
@@ -21,7 +21,7 @@ fn add_own<'a, S: Source>(
     guest: &'a str,
     word: &'a str,
 ) -> Result<(), Refusal<'a>> {
-    let guest = number(Some(guest), 63, Number::Guest)?;
+    let guest = option_number(Some(guest), 0, 63, Number::Guest)?;
     if key_at(keys.own.as_slice(), guest).is_some() {
         return Err(Refusal::SecondKey(guest));
     }

@@ -15,6 +15,6 @@ mod telling;
 mod words;
 
 pub use performing::{perform, report};
-pub use refusal::{Number, Refusal};
+pub use refusal::Refusal;
 pub use source::{Source, SourceError, read_file};
 pub use words::{Words, WordsError, read_words};

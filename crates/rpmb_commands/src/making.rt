@@ -1,13 +1,13 @@
 //! The commands that make the lines of requests.
 ghost use Rattle.std.specs.Prelude.{◌≤◌, IfOk};
 
-use crate::reading::{bytes, key, nonce, number};
-use crate::refusal::{Number, Refusal};
+use crate::reading::key;
+use crate::refusal::Refusal;
 use crate::source::{Source, content_of};
 use crate::words::Words;
 use rpmb_client::{
-    ClientFault, Writer, pad, write_all, write_program_key, write_read, write_read_counter,
-    write_result,
+    ClientFault, Number, Writer, option_bytes, option_nonce, option_number, pad, write_all,
+    write_program_key, write_read, write_read_counter, write_result,
 };
 use std::alloc::Global;
 use std::io::Write;
@@ -20,26 +20,22 @@ fn told<'a>(made: Result<(), ClientFault>) -> Result<(), Refusal<'a>> {
 }
 
 fn guest_of<'a>(words: &Words<'a>) -> Result<u16, Refusal<'a>> {
-    Ok(number(words.guest, 63, Number::Guest)? as u16)
+    Ok(option_number(words.guest, 0, 63, Number::Guest)? as u16)
 }
 
 fn counter_of<'a>(words: &Words<'a>) -> Result<u32, Refusal<'a>> {
-    Ok(number(words.counter, 4294967295, Number::Counter)? as u32)
+    Ok(option_number(words.counter, 0, 4294967295, Number::Counter)? as u32)
 }
 
 fn address_of<'a>(words: &Words<'a>) -> Result<u16, Refusal<'a>> {
-    Ok(number(words.address, 65535, Number::Address)? as u16)
+    Ok(option_number(words.address, 0, 65535, Number::Address)? as u16)
 }
 
 /// How many blocks are to be read.
 fn count_of<'a>(words: &Words<'a>) -> Result<u16, Refusal<'a>>
     ensures { IfOk result (λ count. (1 ≤ count) × (count ≤ 16)) }
 {
-    let count = number(words.count, 16, Number::Count)?;
-    if count == 0 {
-        return Err(Refusal::Number(Number::Count, "0"));
-    }
-    Ok(count as u16)
+    Ok(option_number(words.count, 1, 16, Number::Count)? as u16)
 }
 
 /// The first block that is to be read, and how many.
@@ -72,7 +68,7 @@ pub fn make_read_counter<'a, W: Write>(
     out: &mut W,
 ) -> Result<(), Refusal<'a>> {
     let guest = guest_of(words)?;
-    let nonce = nonce(alloc, words.nonce)?;
+    let nonce = option_nonce(alloc, words.nonce)?;
     told(write_read_counter(alloc, guest, &nonce, out))
 }
 
@@ -84,7 +80,7 @@ pub fn make_read<'a, W: Write>(
 ) -> Result<(), Refusal<'a>> {
     let guest = guest_of(words)?;
     let (address, count) = range_of(words)?;
-    let nonce = nonce(alloc, words.nonce)?;
+    let nonce = option_nonce(alloc, words.nonce)?;
     told(write_read(alloc, guest, address, count, &nonce, out))
 }
 
@@ -105,7 +101,7 @@ fn content<'a, S: Source>(
     words: &Words<'a>,
 ) -> Result<Vec<u8>, Refusal<'a>> {
     match (words.bytes, words.file) {
-        (Some(word), None) => bytes(alloc, word),
+        (Some(word), None) => Ok(option_bytes(alloc, word)?),
         (None, Some(name)) => content_of(alloc, source, name),
         (Some(_), Some(_)) => Err(Refusal::NoData("both")),
         (None, None) => Err(Refusal::NoData("neither")),
@@ -135,11 +131,7 @@ fn most_of<'a>(words: &Words<'a>) -> Result<u16, Refusal<'a>>
     if words.most.is_none() {
         return Ok(16);
     }
-    let most = number(words.most, 16, Number::MaxBlocks)?;
-    if most == 0 {
-        return Err(Refusal::Number(Number::MaxBlocks, "0"));
-    }
-    Ok(most as u16)
+    Ok(option_number(words.most, 1, 16, Number::MaxBlocks)? as u16)
 }
 
 fn writer_of<'a, S: Source>(

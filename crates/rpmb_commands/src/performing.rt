@@ -5,6 +5,7 @@ use crate::refusal::Refusal;
 use crate::source::Source;
 use crate::telling::{give_data, tell};
 use crate::words::Words;
+use rpmb_client::OptionRefusal;
 use std::alloc::Global;
 use std::io::{BufRead, Write};
 
@@ -24,7 +25,7 @@ fn perform_on<'a, S: Source, B: BufRead, W: Write>(
         "explain" => tell(alloc, source, words, input, out),
         "read-data" => give_data(alloc, source, words, input, out),
         "check" => check(alloc, source, words, out),
-        _ => Err(Refusal::Incomplete),
+        _ => Err(OptionRefusal::Incomplete.into()),
     }
 }
 

@@ -1,55 +1,19 @@
 //! Why a command of `rpmb` is refused.
-use hex::FromHexError;
-use rpmb_client::ClientFault;
+use rpmb_client::{ClientFault, OptionRefusal};
+use std::convert::From;
 use thiserror::Error;
-
-/// What an option's number is of, told as its range.
-#[derive(Clone, Copy, Debug, Error)]
-pub enum Number {
-    #[error("BadGuest: expected a number from 0 to 63")]
-    Guest,
-    #[error("BadCounter: expected a number from 0 to 4294967295")]
-    Counter,
-    #[error("BadAddress: expected a block from 0 to 65535, the last that any capacity has")]
-    Address,
-    #[error("BadCount: expected 1 to 16 blocks")]
-    Count,
-    #[error("BadMaxBlocks: expected 1 to 16 blocks for one write")]
-    MaxBlocks,
-    #[error("BadLength: expected 0 to 4096 bytes, which 16 blocks have")]
-    Length,
-}
 
 /// Why nothing more is printed. Each is told by its name, what was expected, and what stands there;
 /// of a key only how long it is.
 #[derive(Debug, Drop, Error)]
 pub enum Refusal<'a> {
-    /// The words name a command, but not what it needs.
-    #[error("Incomplete: expected another option")]
-    Incomplete,
-    #[error("{0}, got {1:?}")]
-    Number(Number, &'a str),
-    #[error("BadKey: expected 32 bytes in hex digits, @FILE of 64 hex digits, or @raw:FILE of 32 bytes, \
-         got {0} bytes in hex digits")]
-    BadKey(usize),
-    #[error("BadKey: expected 32 bytes in hex digits in the file {0:?}, got {1}")]
-    BadKeyFile(&'a str, usize),
-    /// A file of 32 bytes is no key by accident.
-    #[error("BadKey: expected 64 hex digits in the file {0:?}, got 32 bytes; \
-         if these are the key itself, say @raw:FILE")]
-    RawKey(&'a str),
-    #[error("BadKey: expected 32 bytes in the file {0:?}, got {1}")]
-    BadRawKey(&'a str, usize),
+    /// An option that the command needs gives no value.
+    #[error(transparent)]
+    Option(OptionRefusal<'a>),
     #[error("BadKey: expected one key for each guest, got a second one for guest {0}")]
     SecondKey(u64),
     #[error("BadKey: expected one key for all other guests, got a second one")]
     SecondOfOthers,
-    #[error("BadNonce: expected 16 bytes in hex digits, got {0}")]
-    BadNonce(usize),
-    #[error("BadHex: expected two hex digits for each byte, got: {0}")]
-    BadHex(FromHexError),
-    #[error("BadHex: expected two hex digits for each byte in the file {0:?}, got: {1}")]
-    BadHexFile(&'a str, FromHexError),
     #[error("NoData: expected either --data or --file, got {0}")]
     NoData(&'static str),
     #[error("BadData: expected whole blocks of 256 bytes, at least one, got {0} bytes; \
@@ -97,6 +61,15 @@ impl<'a> Refusal<'a> {
         match fault {
             ClientFault::NoMemory => Refusal::NoMemory,
             ClientFault::FileFault => Refusal::NoRoom,
+        }
+    }
+}
+
+impl<'a> From<OptionRefusal<'a>> for Refusal<'a> {
+    fn from(refusal: OptionRefusal<'a>) -> Refusal<'a> {
+        match refusal {
+            OptionRefusal::NoMemory => Refusal::NoMemory,
+            _ => Refusal::Option(refusal),
         }
     }
 }

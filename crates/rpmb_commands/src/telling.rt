@@ -1,12 +1,12 @@
 //! The commands that read the lines of `rpmbd run`.
 use crate::keys::keys_of;
-use crate::reading::{key, nonce, number};
-use crate::refusal::{Number, Refusal};
+use crate::reading::key;
+use crate::refusal::Refusal;
 use crate::source::Source;
 use crate::words::Words;
 use rpmb_client::{
-    Choice, Keys, ReadAnswer, Used, cut, explain, find_answer, is_wrong, kind_text, read_data,
-    read_used, result_text,
+    Choice, Keys, Number, ReadAnswer, Used, cut, explain, find_answer, is_wrong, kind_text,
+    option_nonce, option_number, read_data, read_used, result_text,
 };
 use std::alloc::Global;
 use std::io;
@@ -137,7 +137,7 @@ fn tell_lines<'a, B: BufRead, W: Write>(
 
 fn asked_nonce<'a>(alloc: Global, words: &Words<'a>) -> Result<Option<[u8; 16]>, Refusal<'a>> {
     match words.nonce {
-        Some(_) => Ok(Some(nonce(alloc, words.nonce)?)),
+        Some(_) => Ok(Some(option_nonce(alloc, words.nonce)?)),
         None => Ok(None),
     }
 }
@@ -197,7 +197,7 @@ fn first_bytes<'a, 'b>(words: &Words<'a>, blocks: &'b [u8]) -> Result<&'b [u8], 
     if words.length.is_none() {
         return Ok(blocks);
     }
-    let length = number(words.length, 4096, Number::Length)?;
+    let length = option_number(words.length, 0, 4096, Number::Length)?;
     match cut(blocks, length as usize) {
         Some(bytes) => Ok(bytes),
         None => Err(Refusal::TooShort(length, blocks.len())),
@@ -265,7 +265,7 @@ pub fn give_data<'a, S: Source, B: BufRead, W: Write>(
     out: &mut W,
 ) -> Result<(), Refusal<'a>> {
     let key = key(alloc, source, words.key())?;
-    let nonce = nonce(alloc, words.nonce)?;
+    let nonce = option_nonce(alloc, words.nonce)?;
     let blocks = blocks_answered(alloc, &key, &nonce, input)?;
     give_first(words, blocks.as_slice(), out)
 }

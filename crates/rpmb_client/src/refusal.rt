@@ -1,0 +1,51 @@
+//! Why the value of an option is refused.
+use hex::FromHexError;
+use thiserror::Error;
+
+/// What an option's number is of, told as its range.
+#[derive(Clone, Copy, Debug, Error)]
+pub enum Number {
+    #[error("BadGuest: expected a number from 0 to 63")]
+    Guest,
+    #[error("BadCounter: expected a number from 0 to 4294967295")]
+    Counter,
+    #[error("BadAddress: expected a block from 0 to 65535, the last that any capacity has")]
+    Address,
+    #[error("BadCount: expected 1 to 16 blocks")]
+    Count,
+    #[error("BadMaxBlocks: expected 1 to 16 blocks for one write")]
+    MaxBlocks,
+    #[error("BadLength: expected 0 to 4096 bytes, which 16 blocks have")]
+    Length,
+}
+
+/// Why an option gives no value. Each is told by its name, what was expected, and what stands there;
+/// of a key only how long it is.
+#[derive(Clone, Copy, Debug, Error)]
+pub enum OptionRefusal<'a> {
+    /// The option isn't there.
+    #[error("Incomplete: expected another option")]
+    Incomplete,
+    #[error("{0}, got {1:?}")]
+    Number(Number, &'a str),
+    #[error("BadKey: expected 32 bytes in hex digits, @FILE of 64 hex digits, or @raw:FILE of 32 bytes, \
+         got {0} bytes in hex digits")]
+    BadKey(usize),
+    #[error("BadKey: expected 32 bytes in hex digits in the file {0:?}, got {1}")]
+    BadKeyFile(&'a str, usize),
+    /// A file of 32 bytes is no key by accident.
+    #[error("BadKey: expected 64 hex digits in the file {0:?}, got 32 bytes; \
+         if these are the key itself, say @raw:FILE")]
+    RawKey(&'a str),
+    #[error("BadKey: expected 32 bytes in the file {0:?}, got {1}")]
+    BadRawKey(&'a str, usize),
+    #[error("BadNonce: expected 16 bytes in hex digits, got {0}")]
+    BadNonce(usize),
+    #[error("BadHex: expected two hex digits for each byte, got: {0}")]
+    BadHex(FromHexError),
+    #[error("BadHex: expected two hex digits for each byte in the file {0:?}, got: {1}")]
+    BadHexFile(&'a str, FromHexError),
+    /// Memory was refused.
+    #[error("NoMemory")]
+    NoMemory,
+}
