@@ -1,14 +1,11 @@
 -- Steps over which a guest goes on waiting.
 use Rattle.std.proofs.Common.{◌≡◌, ◌≤◌, ◌<◌, ℕ, zero, suc, ◌+◌, Bool, true, false, ◌||◌, List, [], ◌∷◌, Some, None, length, map, max, refl, ap, ap₂, sym, subst, ◌∙◌, arith}
-use Rattle.host.proofs.Common.{nat_le, nat_lt, slice_get, nat_tests, length-map, slice_get_within, sequence, sequence_of_all, DiskState, Guest, marks_of, mark_of, answered_in, BookView, state, waiting_of, with_turn, GuestCore, GuestState, Held, after_turn, update, IsSound, BoardState, Marks, guests, as_many, there_is, turned, marks_at, is_broken, RunnerView, held_since, runner_of, runner_since, since, IsLate, Waits}
-use Rattle.flusher.specs.Store.{StoreState}
-use Rattle.rpmb_book.specs.Book.{after_settle, may_settle}
-use Rattle.rpmb_book.specs.Guest.{broken_off, failed_held, kept_or_failed, settled_at}
-use Rattle.rpmb_book.specs.Marks.{marks_for}
-use Rattle.rpmb_book.specs.Turn.{Break, Turn, move_some, settled_all}
+use Rattle.host.proofs.Common.{option_map, Settle, nat_le, nat_lt, slice_get, nat_tests, length-map, slice_get_within, sequence, sequence_of_all, DiskState, Guest, marks_of, mark_of, answered_in, BookView, state, waiting_of, with_turn, GuestCore, GuestState, Held, after_turn, update, IsSound, BoardState, Marks, guests, as_many, there_is, turned, marks_at, is_broken, RunnerView, held_since, runner_of, runner_since, since, IsLate, Waits, StoreState, after_settle, may_settle, broken_off, failed_held, kept_or_failed, settled_at, Break, Turn, move_some, settled_all, may_settle_them, AreMarked}
+use Rattle.rpmb_book.specs.Marks.{settled_to}
+use Rattle.rpmb_book.proofs.ByGuest.{by_guest}
 use Rattle.rpmb_book.proofs.Replay.{replay-push}
-use Rattle.board.proofs.Stays.{may_settle_them}
-use Rattle.host.specs.Waiting.{AreMarked}
+use Rattle.rpmb_book.proofs.Settling.{length-settled_all}
+use Rattle.rpmb_book.proofs.Marking.{settled_for}
 use Rattle.host.proofs.Updates.{since_whole}
 
 -- where there are as many, there is one
@@ -51,10 +48,8 @@ runner_update (g ∷ gs) (suc n) f core count = ap (joined g.core g.submits) (ru
 
 pub runner_more : (gs : List GuestState) (n : ℕ) (f : GuestState → GuestState) (h : GuestCore → GuestCore) (x : GuestState) → slice_get gs n ≡ Some x → ((y : GuestState) → (f y).core ≡ h y.core) → ((y : GuestState) → (f y).submits ≡ y.submits + 1)
     → runner_in (update gs n f) ≡ record { cores = update (cores_in gs) n h; answered = answered_in gs + 1 }
-runner_more [] n f h x at core more = absurd cc
-runner_more (g ∷ gs) zero f h x at core more = ap₂ (λ c k. (let r : RunnerView = record { cores = c ∷ cores_in gs; answered = k } in r)) (core g) (omega (arith, more g))
-runner_more (g ∷ gs) (suc n) f h x at core more =
-    grind (arith, (runner_more gs n f h x at core more))
+runner_more (g ∷ gs) (suc n) f h x at core more = grind (arith, (runner_more gs n f h x at core more))
+runner_more gs n f h x at core more = grind arith
 
 pub runner_settled : (gs : List GuestState) (ms : List ℕ) → runner_in (settled_all gs ms) ≡ runner_in gs
 runner_settled [] ms = refl
@@ -150,44 +145,23 @@ same_waits shows g start reply b b' w s sound =
 
 -- where no mark moves anything, a Settle changes nothing
 unmoved : (gs : List GuestState) (ms : List ℕ) → move_some gs ms ≡ false → settled_all gs ms ≡ gs
-unmoved [] ms is = refl
-unmoved (g ∷ gs) [] is = refl
-unmoved (g ∷ gs) (m ∷ ms) is =
-    let both = neither (nat_lt g.settled m) (move_some gs ms) is in
-    rw (kept m g.settled both.0, unmoved gs ms both.1) refl
-  where
-    kept : (m n : ℕ) → nat_lt n m ≡ false → max m n ≡ n
-    kept m n is = grind (arith, nat_tests)
+unmoved (g ∷ gs) (m ∷ ms) is = grind (arith, nat_tests, (unmoved gs ms))
+unmoved gs ms is = grind arith
 
-    neither : (a b : Bool) → (a || b) ≡ false → (a ≡ false) × (b ≡ false)
-    neither true b is = absurd cc
-    neither false b is = (refl, is)
+settled_guests : (b : BookView) (shares marks : List ℕ) → may_settle b shares marks ≡ true → (state (after_settle b shares marks)).guests ≡ settled_all (state b).guests marks
+settled_guests b shares marks may = grind (arith, settled_for, state, state_of, unmoved)
 
-all_marks : (ms : List ℕ) → marks_for (length ms) ms ≡ ms
-all_marks [] = refl
-all_marks (m ∷ ms) = ap (λ l. m ∷ l) (all_marks ms)
-
-settled_guests : (b : BookView) (shares marks : List ℕ) → may_settle b shares marks ≡ true → length marks ≡ length (state b).guests → (state (after_settle b shares marks)).guests ≡ settled_all (state b).guests marks
-settled_guests b shares marks may many = grind (arith, all_marks, state, state_of, unmoved)
+settled_there : (gs : List GuestState) (ms : List ℕ) (k : ℕ) → slice_get (settled_all gs ms) k ≡ option_map (settled_to (slice_get ms k)) (slice_get gs k)
+settled_there gs ms k = by_guest (record { guests = gs; broken = false }) (Settle ms) k
 
 waiting_settled : (gs : List GuestState) (ms : List ℕ) (k : ℕ) → waiting_of (slice_get (settled_all gs ms) k) ≡ waiting_of (slice_get gs k)
-waiting_settled (g ∷ gs) (m ∷ ms) (suc k) = waiting_settled gs ms k
-waiting_settled gs ms k = grind arith
-
-length_settled : (gs : List GuestState) (ms : List ℕ) → length (settled_all gs ms) ≡ length gs
-length_settled [] ms = refl
-length_settled (g ∷ gs) [] = refl
-length_settled (g ∷ gs) (m ∷ ms) = ap suc (length_settled gs ms)
+waiting_settled gs ms k = grind (arith, settled_there)
 
 settled_same : (gs : List GuestState) (ms : List ℕ) (k : ℕ) (x' : GuestState) → slice_get (settled_all gs ms) k ≡ Some x' → (x : GuestState) × (slice_get gs k ≡ Some x) × IsSameGuest x x'
-settled_same [] ms k x' at = absurd cc
-settled_same (g ∷ gs) [] k x' at = (x', at, same_guest x')
-settled_same (g ∷ gs) (n ∷ ns) zero x' at = (let is : settled_at n g ≡ x' = cc in (g, refl, subst (IsSameGuest g) is (record { held = refl; core = refl; settled = omega arith })))
-settled_same (g ∷ gs) (n ∷ ns) (suc k) x' at = settled_same gs ns k x' at
+settled_same gs ms k x' at = grind (arith, settled_there)
 
 settled_least : (gs : List GuestState) (ms : List ℕ) (k : ℕ) (x' : GuestState) (m : ℕ) → slice_get (settled_all gs ms) k ≡ Some x' → slice_get ms k ≡ Some m → m ≤ x'.settled
-settled_least (g ∷ gs) (n ∷ ns) (suc k) x' m at mark = settled_least gs ns k x' m at mark
-settled_least gs ms k x' m at mark = grind arith
+settled_least gs ms k x' m at mark = grind (arith, settled_there)
 
 module _ {D : Type 0} (shows : D → DiskState) (b : BoardState D) (store : StoreState D) (told : List ℕ) (before : IsSound shows (record b { store = store; report = Some (Marks told) })) where
   abbrev heard_of : BoardState D
@@ -197,9 +171,7 @@ module _ {D : Type 0} (shows : D → DiskState) (b : BoardState D) (store : Stor
   named = before.linked.reported told refl
 
   known : guests heard_of ≡ settled_all (guests b) told
-  unfolding marks_of
   known = settled_guests b.book b.shares told (may_settle_them shows before.config before.bases before.accepted before.parts (record b { store = store; report = Some (Marks told) }) before.linked told refl)
-      (ap length named ∙ length-map store.guests mark_of ∙ before.linked.held ∙ sym before.linked.many)
 
   pub waiting_heard : (g : ℕ) → waiting_of (slice_get (guests heard_of) g) ≡ waiting_of (slice_get (guests b) g)
   waiting_heard g = ap (λ l. waiting_of (slice_get l g)) known ∙ waiting_settled (guests b) told g
@@ -207,7 +179,7 @@ module _ {D : Type 0} (shows : D → DiskState) (b : BoardState D) (store : Stor
   pub synced_same : b.report ≡ None → store.broken ≡ b.store.broken → IsSound shows heard_of → Same b heard_of
   synced_same report broken sound = record {
     each = λ k x' at. settled_same (guests b) told k x' (ap (λ l. slice_get l k) (sym known) ∙ at);
-    count = ap length known ∙ length_settled (guests b) told;
+    count = ap length known ∙ length-settled_all (guests b) told;
     marked = λ marked k x' y at there. (
         let z = below shows heard_of k x' sound at in
         let same : z.stored ≡ y = cc in
@@ -290,9 +262,4 @@ module _ {D : Type 0} (shows : D → DiskState) (g : ℕ) (start : BoardState D)
 
       -- a reply that is late is not kept
       failed_late : kept_or_failed w.guest.settled w.held ≡ failed_held w.held
-      failed_late =
-          let is : nat_le w.held.done.need w.guest.settled ≡ false = late_is w.held.done.need w.guest.settled (omega arith) in
-          rw is refl
-        where
-          late_is : (n m : ℕ) → m < n → nat_le n m ≡ false
-          late_is n m less = grind (arith, nat_tests)
+      failed_late = (let late : suc w.guest.settled ≤ w.held.done.need = omega arith in grind (arith, nat_tests))

@@ -1,24 +1,13 @@
 -- What a Take, a Give, a call of the store and a look leave to do, until a guest's reply may leave.
 use Rattle.std.proofs.Common.{◌≡◌, ◌<◌, ◌≤◌, ℕ, ◌+◌, Bool, true, false, List, [], ◌∷◌, Option, Some, None, length, drop, refl, ap, sym, subst, ◌∙◌, arith, Result, Ok, Err}
-use Rattle.host.proofs.Common.{◌==◌, if◌then◌else◌, slice_get, slice_set, nat_le, Request, sequence, DiskState, DiskCall, Guest, left_of, called, AllEmpty, mark_of, get_set_same, get_set_other, sequence_of_all, guest_of, waiting_of, with_turn, GuestState, Held, IsSound, BoardState, guests, in_place, Marks, report_of, did_answer, as_many, at_each, own, there_is, turned, other_guest, IsLate, Waits, Leaves, work_of, slice_get_within, Progress, Synced, Idle, StoreFault, GoesBy, GoesOn, Hears, IsListened, book_heard, is_broken, IsCalmGuest, nat_tests, held_since, Wrote}
-use Rattle.std.proofs.lemmas.List.{length-drop}
+use Rattle.host.proofs.Common.{◌==◌, if◌then◌else◌, slice_get, slice_set, nat_le, Request, sequence, DiskState, DiskCall, Guest, left_of, called, AllEmpty, mark_of, get_set_same, get_set_other, sequence_of_all, guest_of, waiting_of, with_turn, GuestState, Held, IsSound, BoardState, guests, in_place, Marks, report_of, did_answer, as_many, at_each, own, there_is, turned, other_guest, IsLate, Waits, Leaves, work_of, slice_get_within, Progress, Synced, Idle, StoreFault, GoesBy, GoesOn, Hears, IsListened, book_heard, is_broken, IsCalmGuest, nat_tests, held_since, Wrote, length-drop, MovedBy, settles, given_at, has_room, with_intent, given, given_of, is_free, is_free_of, given_adds, first_of, is_share, next_intent, share_moved, first_intent, took, collected, Take, Collect, GivesWhere, TakesInto, CollectsInto, is_share_of, may_give_it, WritesOn, Collected, between_calls, calls_of, todo_of, waiting_calls}
 use Rattle.intent_slots.specs.Payload.{Intent}
 use Rattle.flusher.specs.declared.slot.Slot.{Slot}
-use Rattle.flusher.specs.Round.{MovedBy, settles}
 use Rattle.flusher.specs.Slot.{is_empty}
-use Rattle.flusher.specs.Pair.{given_at, has_room, with_intent}
-use Rattle.flusher.specs.Store.{given, given_of, is_free, is_free_of}
-use Rattle.flusher.proofs.Countdown.{given_adds}
 use Rattle.flusher.proofs.Lookups.{given_mark}
-use Rattle.rpmb_book.specs.Book.{first_of, is_share, next_intent, share_moved}
-use Rattle.rpmb_book.specs.Guest.{first_intent, took, collected}
-use Rattle.rpmb_book.specs.Turn.{Take, Collect}
 use Rattle.board.specs.Link.{due, entries_of}
-use Rattle.board.specs.Steps.{Answer, GivesWhere, TakesInto, CollectsInto}
+use Rattle.board.specs.Steps.{Answer}
 use Rattle.board.proofs.Doing.{full_at}
-use Rattle.board.proofs.Stays.{is_share_of, may_give_it}
-use Rattle.host.specs.Waiting.{WritesOn, Collected}
-use Rattle.host.specs.Work.{between_calls, calls_of, todo_of, waiting_calls}
 use Rattle.host.proofs.Settled.{Same, also_there, runner_in, runner_update, state_of, still, stored_same, broken_waits, same_waits, synced_same, waiting_heard, below}
 use Rattle.host.proofs.Ending.{heard_at, heard_badly, heard_idle, heard_lowers, heard_well}
 
