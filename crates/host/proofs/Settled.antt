@@ -42,9 +42,8 @@ abbrev joined : GuestCore → ℕ → RunnerView → RunnerView
 joined c n v = record { cores = c ∷ v.cores; answered = n + v.answered }
 
 pub runner_update : (gs : List GuestState) (n : ℕ) (f : GuestState → GuestState) → ((x : GuestState) → (f x).core ≡ x.core) → ((x : GuestState) → (f x).submits ≡ x.submits) → runner_in (update gs n f) ≡ runner_in gs
-runner_update [] n f core count = refl
-runner_update (g ∷ gs) zero f core count = ap₂ (λ c k. joined c k (runner_in gs)) (core g) (count g)
 runner_update (g ∷ gs) (suc n) f core count = ap (joined g.core g.submits) (runner_update gs n f core count)
+runner_update gs n f core count = grind arith
 
 pub runner_more : (gs : List GuestState) (n : ℕ) (f : GuestState → GuestState) (h : GuestCore → GuestCore) (x : GuestState) → slice_get gs n ≡ Some x → ((y : GuestState) → (f y).core ≡ h y.core) → ((y : GuestState) → (f y).submits ≡ y.submits + 1)
     → runner_in (update gs n f) ≡ record { cores = update (cores_in gs) n h; answered = answered_in gs + 1 }
@@ -52,9 +51,8 @@ runner_more (g ∷ gs) (suc n) f h x at core more = grind (arith, (runner_more g
 runner_more gs n f h x at core more = grind arith
 
 pub runner_settled : (gs : List GuestState) (ms : List ℕ) → runner_in (settled_all gs ms) ≡ runner_in gs
-runner_settled [] ms = refl
-runner_settled (g ∷ gs) [] = refl
 runner_settled (g ∷ gs) (m ∷ ms) = ap (joined g.core g.submits) (runner_settled gs ms)
+runner_settled gs ms = grind arith
 
 runner_broken : (gs : List GuestState) → runner_in (map broken_off gs) ≡ runner_since false true (runner_in gs)
 runner_broken [] = refl
@@ -75,9 +73,6 @@ pub record IsSameGuest (x x' : GuestState) : Type 0 where
   pub core : x'.core ≡ x.core
   pub settled : x.settled ≤ x'.settled
 
-pub same_guest : (x : GuestState) → IsSameGuest x x
-same_guest x = record { held = refl; core = refl; settled = omega arith }
-
 pub record Same {D : Type 0} (b b' : BoardState D) : Type 0 where
   pub each : (k : ℕ) (x' : GuestState) → slice_get (guests b') k ≡ Some x' → (x : GuestState) × (slice_get (guests b) k ≡ Some x) × IsSameGuest x x'
   pub count : length (guests b') ≡ length (guests b)
@@ -94,7 +89,7 @@ pub record Same {D : Type 0} (b b' : BoardState D) : Type 0 where
 pub stored_same : {D : Type 0} (b b' : BoardState D) → b'.book ≡ b.book → ((k : ℕ) (y' : Guest) → slice_get b'.store.guests k ≡ Some y' → (y : Guest) × (slice_get b.store.guests k ≡ Some y) × (mark_of y' ≡ mark_of y)) → b'.store.broken ≡ b.store.broken
     → b'.devices ≡ b.devices → b'.jobs ≡ b.jobs → b'.dones ≡ b.dones → b'.report ≡ b.report → Same b b'
 stored_same b b' book marks broken devices jobs dones report = record {
-  each = λ k x at. (x, ap (λ v. slice_get (state v).guests k) (sym book) ∙ at, same_guest x);
+  each = λ k x at. (x, ap (λ v. slice_get (state v).guests k) (sym book) ∙ at, record { held = refl; core = refl; settled = omega arith });
   count = ap (λ v. length (state v).guests) book;
   marked = λ marked k x y' at there. (let y = marks k y' there in marked k x y.0 (ap (λ v. slice_get (state v).guests k) (sym book) ∙ at) y.1 ∙ sym y.2);
   broken = ap (λ v. (state v).broken) book;
@@ -154,9 +149,6 @@ settled_guests b shares marks may = grind (arith, settled_for, state, state_of, 
 settled_there : (gs : List GuestState) (ms : List ℕ) (k : ℕ) → slice_get (settled_all gs ms) k ≡ option_map (settled_to (slice_get ms k)) (slice_get gs k)
 settled_there gs ms k = by_guest (record { guests = gs; broken = false }) (Settle ms) k
 
-waiting_settled : (gs : List GuestState) (ms : List ℕ) (k : ℕ) → waiting_of (slice_get (settled_all gs ms) k) ≡ waiting_of (slice_get gs k)
-waiting_settled gs ms k = grind (arith, settled_there)
-
 settled_same : (gs : List GuestState) (ms : List ℕ) (k : ℕ) (x' : GuestState) → slice_get (settled_all gs ms) k ≡ Some x' → (x : GuestState) × (slice_get gs k ≡ Some x) × IsSameGuest x x'
 settled_same gs ms k x' at = grind (arith, settled_there)
 
@@ -174,7 +166,7 @@ module _ {D : Type 0} (shows : D → DiskState) (b : BoardState D) (store : Stor
   known = settled_guests b.book b.shares told (may_settle_them shows before.config before.bases before.accepted before.parts (record b { store = store; report = Some (Marks told) }) before.linked told refl)
 
   pub waiting_heard : (g : ℕ) → waiting_of (slice_get (guests heard_of) g) ≡ waiting_of (slice_get (guests b) g)
-  waiting_heard g = ap (λ l. waiting_of (slice_get l g)) known ∙ waiting_settled (guests b) told g
+  waiting_heard g = ap (λ l. waiting_of (slice_get l g)) known ∙ grind (arith, settled_there)
 
   pub synced_same : b.report ≡ None → store.broken ≡ b.store.broken → IsSound shows heard_of → Same b heard_of
   synced_same report broken sound = record {

@@ -11,13 +11,6 @@ use Rattle.board.proofs.Doing.{full_at}
 use Rattle.host.proofs.Settled.{Same, also_there, runner_in, runner_update, state_of, still, stored_same, broken_waits, same_waits, synced_same, waiting_heard, below}
 use Rattle.host.proofs.Ending.{heard_at, heard_badly, heard_idle, heard_lowers, heard_well}
 
-full_is_not : (i : Intent) → Some (Some i) ≡ Some None → ⊥
-full_is_not i is = absurd (let no : Some i ≡ None = cc in cc)
-
--- what is late stays so, where the book does
-late_still : {D : Type 0} (g : ℕ) (b b' : BoardState D) → b'.book ≡ b.book → IsLate g b → IsLate g b'
-late_still g b b' is late = grind arith
-
 -- 1. Take
 
 -- what a Take leaves: what is late stays so, no more is to do, and nothing waits where the place stays empty
@@ -40,7 +33,7 @@ first_rest g x i is = grind arith
 pub take_work : {D : Type 0} (shows : D → DiskState) (g : ℕ) (x : GuestState) (o : Option (Option Intent)) (answer : Answer) (b b' : BoardState D) → IsSound shows b → slice_get (guests b) g ≡ Some x → slice_get b.intents g ≡ o
     → TakesInto g o answer b b' → IsTaken g b b'
 take_work shows g x None answer b b' sound at place takes = not_taken g b b' takes.1 (λ empty. absurd cc)
-take_work shows g x (Some (Some i)) answer b b' sound at place takes = not_taken g b b' takes.1 (λ empty. absurd (full_is_not i (sym place ∙ empty)))
+take_work shows g x (Some (Some i)) answer b b' sound at place takes = not_taken g b b' takes.1 (λ empty. absurd (let no = sym place ∙ empty in cc))
 take_work {D = D} shows g x (Some None) answer b b' sound at place takes = by (next_intent b.book b.shares g) refl
   where
     share : is_share b.book b.shares g ≡ true
@@ -68,15 +61,11 @@ take_work {D = D} shows g x (Some None) answer b b' sound at place takes = by (n
           same = grind (arith, turned, as_many, took_settled, runner_in, state_of, runner_update);
           late = λ late. record { whole = broken ∙ late.whole; late = λ v there. (let v_is : v ≡ took x = (let c = taken in cc) in subst (λ q. q.settled < sequence q.core.partition) (sym v_is) (late.late x at)) };
           work = omega arith;
-          rest = λ empty. absurd (full_is_not i (sym full ∙ empty));
+          rest = λ empty. absurd (let no = sym full ∙ empty in cc);
         })
       where
         took_settled : (n k : ℕ) (v : GuestState) → (if n == k then took v else v).settled ≡ v.settled
-        took_settled n k v = choice (n == k)
-          where
-            choice : (c : Bool) → (if c then took v else v).settled ≡ v.settled
-            choice true = refl
-            choice false = refl
+        took_settled n k v = grind arith
 
 -- 2. Give
 
@@ -121,17 +110,14 @@ give_work {D = D} shows g true (Some i) answer b b' sound few free place gives =
     let none : between_calls (in_place (slice_get (slice_set b.intents g None) g)) ≡ 0 = ap (λ o. between_calls (in_place o)) (get_set_same b.intents g (Some i) None full) in
     subst (IsGiven g b) (sym gives.1) (record {
       same = stored_same b now refl (λ k y there. given_marks b.store.guests i z.0 at k y (ap (λ l. slice_get l k) (sym held) ∙ there)) refl refl refl refl refl;
-      late = late_still g b now refl;
+      late = λ late. record { whole = late.whole; late = late.late };
       work = omega arith;
       rest = λ rests. absurd (given_is_not_empty z.0 i z.0.slot (rests i.guest (with_intent z.0 i) (ap (λ l. slice_get l i.guest) held ∙ get_set_same b.store.guests i.guest z.0 (with_intent z.0 i) at)).0);
     })
   where
     -- an intent that is given moves no mark
     given_marks : (held : List Guest) (i : Intent) (z : Guest) → slice_get held i.guest ≡ Some z → (k : ℕ) (y' : Guest) → slice_get (slice_set held i.guest (with_intent z i)) k ≡ Some y' → (y : Guest) × (slice_get held k ≡ Some y) × (mark_of y' ≡ mark_of y)
-    given_marks held i z some k y' now =
-        at_each {P = λ m. slice_get (slice_set held i.guest (with_intent z i)) m ≡ Some y' → (y : Guest) × (slice_get held m ≡ Some y) × (mark_of y' ≡ mark_of y)} i.guest
-        (λ here. (let same : with_intent z i ≡ y' = (let a = get_set_same held i.guest z (with_intent z i) some in cc) in (z, some, ap mark_of (sym same) ∙ given_mark z i z.slot)))
-        (λ m other there. (y', sym (get_set_other held i.guest m (with_intent z i) other) ∙ there, refl)) k now
+    given_marks held i z some k y' now = grind (arith, at_each, get_set_same, given_mark, get_set_other)
 
 -- 3. Once all slots are empty and nothing waits, all is settled
 
@@ -248,9 +234,6 @@ module _ {D : Type 0} (shows : D → DiskState) (makes : D → DiskCall → D �
 module _ {D : Type 0} (shows : D → DiskState) (g : ℕ) (start : BoardState D) (reply : Held) (b b' : BoardState D) (w : Waits shows g start reply b) where
   empty : slice_get b.dones g ≡ Some None
   empty = grind (arith, also_there)
-
-  over : (n m : ℕ) → nat_le n m ≡ false → m < n
-  over n m greater = grind (arith, nat_tests)
 
   -- a reply that isn't due needs more than is settled, of a board that isn't broken
   is_late : nat_le w.held.done.need w.guest.settled ≡ false → IsLate g b
