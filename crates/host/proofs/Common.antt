@@ -25,7 +25,7 @@ unfoldable pub use Rattle.mmio_transport.specs.Popping.{is_stopped}
 pub use Rattle.mmio_transport.specs.Popping.{GivesJob, GivesFrom, live_queue}
 pub use Rattle.mmio_transport.specs.declared.done.Published.{Published}
 pub use Rattle.mmio_transport.specs.declared.fault.DeviceFault.{DeviceFault}
-pub use Rattle.mmio_transport.specs.declared.fault.DeviceFault.TheVariants.{NeedsReset}
+pub use Rattle.mmio_transport.specs.declared.fault.DeviceFault.TheVariants.{NeedsReset, NoMemory as Starved, Refused as Spoiled}
 pub use Rattle.guest_driver.specs.Access.{ButForMemory}
 pub use Rattle.guest_driver.specs.Driver.{DriverState, offer_of, Offering, Adds, first_driver, TakesBy, after_offer, in_table_order, takes_two, owner}
 unfoldable pub use Rattle.guest_driver.specs.Negotiation.{negotiated, with_areas}

@@ -1,7 +1,6 @@
 use Rattle.std.proofs.Common.{Ok, Err, max, subst, sym}
 use Rattle.host.proofs.Common.{Looks, LooksOn, OnShare, Look, Nothing, Stopped}
-use Rattle.host.proofs.Looks.{looks_found, looks_then}
-use Rattle.host.proofs.Shares.{share_none}
+use Rattle.host.proofs.Looks.{looks_found, looks_then, share_none}
 use Rattle.host.proofs.serving.look_on.Goals as goal
 
 pub loop-answered-init : goal.loop-answered-init
