@@ -120,14 +120,7 @@ same_waits shows g start reply b b' w s sound =
       same = w.same ∙ ap (λ k. held_since (is_broken start) k reply) (sym s.broken);
       need = λ known. w.need (whole known) ∙ ap (λ c. sequence c.partition) (sym (x.2.core ∙ ap (λ v. v.core) is));
       late = λ broken. (let le = w.late (sym s.broken ∙ broken) in let settled = ap (λ v. v.settled) is in omega arith);
-      others = λ k v other at. (let u = s.each k v at in let calm = w.others k u.0 other u.1 in record {
-        none = u.2.held ∙ calm.none;
-        settled = λ known. (
-            let full = calm.settled (whole known) in
-            let core = ap (λ c. sequence c.partition) u.2.core in
-            let z = below shows b' k v sound at in
-            omega arith);
-      });
+      others = λ k v other at. grind (arith, (s.each k v at), (w.others k), (below shows b' k v sound at));
       marked = λ known. s.marked (w.marked (whole known));
       replies = λ k o at. w.replies k o (ap (λ l. slice_get l k) (sym s.dones) ∙ at);
       dones = s.dones ∙ w.dones;
@@ -173,11 +166,8 @@ module _ {D : Type 0} (shows : D → DiskState) (b : BoardState D) (store : Stor
     each = λ k x' at. settled_same (guests b) told k x' (ap (λ l. slice_get l k) (sym known) ∙ at);
     count = ap length known ∙ length-settled_all (guests b) told;
     marked = λ marked k x' y at there. (
-        let z = below shows heard_of k x' sound at in
-        let same : z.stored ≡ y = cc in
-        let to = ap mark_of same in
         let least = settled_least (guests b) told k x' (mark_of y) (ap (λ l. slice_get l k) (sym known) ∙ at) (ap (λ l. slice_get l k) named ∙ marks_at store.guests k y there) in
-        omega arith);
+        grind (arith, (below shows heard_of k x' sound at)));
     broken = kept.broken;
     store = broken;
     devices = refl;

@@ -188,10 +188,10 @@ module _ {D : Type 0} (shows : D → DiskState) (makes : D → DiskCall → D �
         waits = same_waits shows g start reply b b' w (subst (Same b) (sym to) (quiet Wrote is refl)) sound;
         less = λ busy known. fewer (Ok Wrote) is refl (ap (λ v. waiting_of (slice_get (guests v) g)) to);
       })
-      by (Ok Idle) is = (let to = now (Ok Idle) is in record {
-        waits = same_waits shows g start reply b b' w (subst (Same b) (sym to) (quiet Idle is refl)) sound;
+      by (Ok Idle) is = record {
+        waits = same_waits shows g start reply b b' w (subst (Same b) (sym (now (Ok Idle) is)) (quiet Idle is refl)) sound;
         less = λ busy known. absurd (busy (heard_idle shows makes went b b' late.whole h is));
-      })
+      }
       by (Ok (Synced told)) is =
           let to = now (Ok (Synced told)) is in
           let before : IsSound shows (record b { store = h.store; report = Some (Marks told) }) = subst (λ p. IsSound shows (record b { store = h.store; report = report_of p })) is (h.between w.sound) in
@@ -249,19 +249,8 @@ module _ {D : Type 0} (shows : D → DiskState) (g : ℕ) (start : BoardState D)
     done = w.held.done;
     given = ap (λ h. h.done) (w.same ∙ ap (λ k. held_since (is_broken start) k reply) (sym same_broken));
     quiet = at_each {P = λ k. (x : GuestState) → slice_get (guests now) k ≡ Some x → IsCalmGuest (is_broken now) x} g
-        (λ y at. (
-        let x = own b.book (Collect g) g collected (λ k v. refl) y at in
-        let same : x.0 ≡ w.guest = (let c = w.there in cc) in
-        record {
-          none = ap (λ v. v.held) x.2 ∙ ap (λ v. drop 1 v.held) same ∙ ap (drop 1) w.holds;
-          settled = λ whole. (
-              let need = w.need (sym same_broken ∙ whole) in
-              let le = under w.held.done.need w.guest.settled is in
-              let most = below shows b g w.guest w.sound w.there in
-              subst (λ v. v.settled ≡ sequence v.core.partition) (sym (x.2 ∙ ap collected same)) (omega arith));
-        }))
-        (λ k other x at. (let c = w.others k x other (other_guest b.book (Collect g) g collected (λ m v. refl) k other x at) in
-        record { none = c.none; settled = λ whole. c.settled (sym same_broken ∙ whole) }));
+        (λ y at. grind (arith, (own b.book (Collect g) g collected (λ k v. refl) y at), (below shows b g w.guest w.sound w.there), (under w.held.done.need w.guest.settled is), same_broken))
+        (λ k other x at. grind (arith, (w.others k x other (other_guest b.book (Collect g) g collected (λ m v. refl) k other x at)), same_broken));
     dones = ap (λ l. slice_set l g (Some w.held.done)) w.dones;
     replies = λ k o at. w.replies k o (ap (λ l. slice_get l k) w.dones ∙ at);
     report = w.report;
