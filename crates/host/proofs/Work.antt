@@ -54,13 +54,10 @@ take_work {D = D} shows g x (Some None) answer b b' sound at place takes = by (n
         let broken = ap (λ s. s.broken) (state_of b.book (Take g)) in
         let full : slice_get (slice_set b.intents g (Some i)) g ≡ Some (Some i) = get_set_same b.intents g None (Some i) place in
         let more : calls_of i + waiting_calls (drop 4 x.waiting) ≤ waiting_calls x.waiting = first_rest g x i (sym next_is ∙ some) in
-        let one : between_calls (in_place (slice_get now.intents g)) ≡ calls_of i = ap (λ o. between_calls (in_place o)) full in
-        let before : waiting_calls (waiting_of (slice_get (guests b) g)) ≡ waiting_calls x.waiting = ap (λ o. waiting_calls (waiting_of o)) at in
-        let after : waiting_calls (waiting_of (slice_get (guests now) g)) ≡ waiting_calls (drop 4 x.waiting) = ap (λ o. waiting_calls (waiting_of o)) y.1 ∙ ap (λ v. waiting_calls v.waiting) taken in
         subst (IsTaken g b) (sym is) (record {
           same = grind (arith, turned, as_many, took_settled, runner_in, state_of, runner_update);
           late = λ late. record { whole = broken ∙ late.whole; late = λ v there. (let v_is : v ≡ took x = (let c = taken in cc) in subst (λ q. q.settled < sequence q.core.partition) (sym v_is) (late.late x at)) };
-          work = omega arith;
+          work = grind (arith, full, more, at, place, (y.1), taken);
           rest = λ empty. absurd (let no = sym full ∙ empty in cc);
         })
       where
@@ -106,12 +103,10 @@ give_work {D = D} shows g true (Some i) answer b b' sound few free place gives =
     let held : given b.store.guests i ≡ slice_set b.store.guests i.guest (with_intent z.0 i) = ap (given_of b.store.guests i) at in
     let now : BoardState D = record b { store = record b.store { guests = given b.store.guests i }; intents = slice_set b.intents g None } in
     let left : left_of (given b.store.guests i) ≡ left_of b.store.guests + calls_of i = given_adds b.store.guests i z.0 at room in
-    let one : between_calls (in_place (slice_get b.intents g)) ≡ calls_of i = ap between_calls place in
-    let none : between_calls (in_place (slice_get (slice_set b.intents g None) g)) ≡ 0 = ap (λ o. between_calls (in_place o)) (get_set_same b.intents g (Some i) None full) in
     subst (IsGiven g b) (sym gives.1) (record {
       same = stored_same b now refl (λ k y there. given_marks b.store.guests i z.0 at k y (ap (λ l. slice_get l k) (sym held) ∙ there)) refl refl refl refl refl;
       late = λ late. record { whole = late.whole; late = late.late };
-      work = omega arith;
+      work = grind (arith, left, place, (get_set_same b.intents g (Some i) None full));
       rest = λ rests. absurd (given_is_not_empty z.0 i z.0.slot (rests i.guest (with_intent z.0 i) (ap (λ l. slice_get l i.guest) held ∙ get_set_same b.store.guests i.guest z.0 (with_intent z.0 i) at)).0);
     })
   where
@@ -224,10 +219,7 @@ module _ {D : Type 0} (shows : D → DiskState) (makes : D → DiskCall → D �
       let late2 = given.late late1 in
       let m = moved went b2 b3 w2 late2 s3 (goes (record { report = w2.report; broken = w2.broken })) in
       let busy : AllEmpty b2.store.guests → ⊥ = λ empty. grind (arith, also_there, empty, guests, in_place, settled_all_at_rest, slice_get, waiting_of) in
-      record {
-        waits = m.waits;
-        less = work_less g b0 b3 late.whole (λ known. (let less = m.less busy known in omega arith));
-      }
+      record { waits = m.waits; less = work_less g b0 b3 late.whole (λ known. (let less = m.less busy known in omega arith)) }
 
 -- A look for the reply that a guest waits for.
 
