@@ -1,14 +1,11 @@
 -- Steps over which a guest goes on waiting.
 use Rattle.std.proofs.Common.{◌≡◌, ◌≤◌, ◌<◌, ℕ, zero, suc, ◌+◌, Bool, true, false, ◌||◌, List, [], ◌∷◌, Some, None, length, map, max, refl, ap, ap₂, sym, subst, ◌∙◌, arith}
-use Rattle.host.proofs.Common.{nat_le, nat_lt, slice_get, nat_tests, length-map, slice_get_within, sequence, sequence_of_all, DiskState, Guest, marks_of, mark_of, answered_in, BookView, state, waiting_of, with_turn, GuestCore, GuestState, Held, after_turn, update, IsSound, BoardState, Marks, guests, as_many, there_is, turned, marks_at, is_broken, RunnerView, held_since, runner_of, runner_since, since, IsLate, Waits}
-use Rattle.flusher.specs.Store.{StoreState}
-use Rattle.rpmb_book.specs.Book.{after_settle, may_settle}
-use Rattle.rpmb_book.specs.Guest.{broken_off, failed_held, kept_or_failed, settled_at}
-use Rattle.rpmb_book.specs.Marks.{marks_for}
-use Rattle.rpmb_book.specs.Turn.{Break, Turn, move_some, settled_all}
+use Rattle.host.proofs.Common.{option_map, Settle, nat_le, nat_lt, slice_get, nat_tests, length-map, slice_get_within, sequence, sequence_of_all, DiskState, Guest, marks_of, mark_of, answered_in, BookView, state, waiting_of, with_turn, GuestCore, GuestState, Held, after_turn, update, IsSound, BoardState, Marks, guests, as_many, there_is, turned, marks_at, is_broken, RunnerView, held_since, runner_of, runner_since, since, IsLate, Waits, StoreState, after_settle, may_settle, broken_off, failed_held, kept_or_failed, settled_at, Break, Turn, move_some, settled_all, may_settle_them, AreMarked}
+use Rattle.rpmb_book.specs.Marks.{settled_to}
+use Rattle.rpmb_book.proofs.ByGuest.{by_guest}
 use Rattle.rpmb_book.proofs.Replay.{replay-push}
-use Rattle.board.proofs.Stays.{may_settle_them}
-use Rattle.host.specs.Waiting.{AreMarked}
+use Rattle.rpmb_book.proofs.Settling.{length-settled_all}
+use Rattle.rpmb_book.proofs.Marking.{settled_for}
 use Rattle.host.proofs.Updates.{since_whole}
 
 -- where there are as many, there is one
@@ -45,21 +42,17 @@ abbrev joined : GuestCore → ℕ → RunnerView → RunnerView
 joined c n v = record { cores = c ∷ v.cores; answered = n + v.answered }
 
 pub runner_update : (gs : List GuestState) (n : ℕ) (f : GuestState → GuestState) → ((x : GuestState) → (f x).core ≡ x.core) → ((x : GuestState) → (f x).submits ≡ x.submits) → runner_in (update gs n f) ≡ runner_in gs
-runner_update [] n f core count = refl
-runner_update (g ∷ gs) zero f core count = ap₂ (λ c k. joined c k (runner_in gs)) (core g) (count g)
 runner_update (g ∷ gs) (suc n) f core count = ap (joined g.core g.submits) (runner_update gs n f core count)
+runner_update gs n f core count = grind arith
 
 pub runner_more : (gs : List GuestState) (n : ℕ) (f : GuestState → GuestState) (h : GuestCore → GuestCore) (x : GuestState) → slice_get gs n ≡ Some x → ((y : GuestState) → (f y).core ≡ h y.core) → ((y : GuestState) → (f y).submits ≡ y.submits + 1)
     → runner_in (update gs n f) ≡ record { cores = update (cores_in gs) n h; answered = answered_in gs + 1 }
-runner_more [] n f h x at core more = absurd cc
-runner_more (g ∷ gs) zero f h x at core more = ap₂ (λ c k. (let r : RunnerView = record { cores = c ∷ cores_in gs; answered = k } in r)) (core g) (omega (arith, more g))
-runner_more (g ∷ gs) (suc n) f h x at core more =
-    grind (arith, (runner_more gs n f h x at core more))
+runner_more (g ∷ gs) (suc n) f h x at core more = grind (arith, (runner_more gs n f h x at core more))
+runner_more gs n f h x at core more = grind arith
 
 pub runner_settled : (gs : List GuestState) (ms : List ℕ) → runner_in (settled_all gs ms) ≡ runner_in gs
-runner_settled [] ms = refl
-runner_settled (g ∷ gs) [] = refl
 runner_settled (g ∷ gs) (m ∷ ms) = ap (joined g.core g.submits) (runner_settled gs ms)
+runner_settled gs ms = grind arith
 
 runner_broken : (gs : List GuestState) → runner_in (map broken_off gs) ≡ runner_since false true (runner_in gs)
 runner_broken [] = refl
@@ -80,9 +73,6 @@ pub record IsSameGuest (x x' : GuestState) : Type 0 where
   pub core : x'.core ≡ x.core
   pub settled : x.settled ≤ x'.settled
 
-pub same_guest : (x : GuestState) → IsSameGuest x x
-same_guest x = record { held = refl; core = refl; settled = omega arith }
-
 pub record Same {D : Type 0} (b b' : BoardState D) : Type 0 where
   pub each : (k : ℕ) (x' : GuestState) → slice_get (guests b') k ≡ Some x' → (x : GuestState) × (slice_get (guests b) k ≡ Some x) × IsSameGuest x x'
   pub count : length (guests b') ≡ length (guests b)
@@ -99,7 +89,7 @@ pub record Same {D : Type 0} (b b' : BoardState D) : Type 0 where
 pub stored_same : {D : Type 0} (b b' : BoardState D) → b'.book ≡ b.book → ((k : ℕ) (y' : Guest) → slice_get b'.store.guests k ≡ Some y' → (y : Guest) × (slice_get b.store.guests k ≡ Some y) × (mark_of y' ≡ mark_of y)) → b'.store.broken ≡ b.store.broken
     → b'.devices ≡ b.devices → b'.jobs ≡ b.jobs → b'.dones ≡ b.dones → b'.report ≡ b.report → Same b b'
 stored_same b b' book marks broken devices jobs dones report = record {
-  each = λ k x at. (x, ap (λ v. slice_get (state v).guests k) (sym book) ∙ at, same_guest x);
+  each = λ k x at. (x, ap (λ v. slice_get (state v).guests k) (sym book) ∙ at, record { held = refl; core = refl; settled = omega arith });
   count = ap (λ v. length (state v).guests) book;
   marked = λ marked k x y' at there. (let y = marks k y' there in marked k x y.0 (ap (λ v. slice_get (state v).guests k) (sym book) ∙ at) y.1 ∙ sym y.2);
   broken = ap (λ v. (state v).broken) book;
@@ -130,14 +120,7 @@ same_waits shows g start reply b b' w s sound =
       same = w.same ∙ ap (λ k. held_since (is_broken start) k reply) (sym s.broken);
       need = λ known. w.need (whole known) ∙ ap (λ c. sequence c.partition) (sym (x.2.core ∙ ap (λ v. v.core) is));
       late = λ broken. (let le = w.late (sym s.broken ∙ broken) in let settled = ap (λ v. v.settled) is in omega arith);
-      others = λ k v other at. (let u = s.each k v at in let calm = w.others k u.0 other u.1 in record {
-        none = u.2.held ∙ calm.none;
-        settled = λ known. (
-            let full = calm.settled (whole known) in
-            let core = ap (λ c. sequence c.partition) u.2.core in
-            let z = below shows b' k v sound at in
-            omega arith);
-      });
+      others = λ k v other at. grind (arith, (s.each k v at), (w.others k), (below shows b' k v sound at));
       marked = λ known. s.marked (w.marked (whole known));
       replies = λ k o at. w.replies k o (ap (λ l. slice_get l k) (sym s.dones) ∙ at);
       dones = s.dones ∙ w.dones;
@@ -150,44 +133,20 @@ same_waits shows g start reply b b' w s sound =
 
 -- where no mark moves anything, a Settle changes nothing
 unmoved : (gs : List GuestState) (ms : List ℕ) → move_some gs ms ≡ false → settled_all gs ms ≡ gs
-unmoved [] ms is = refl
-unmoved (g ∷ gs) [] is = refl
-unmoved (g ∷ gs) (m ∷ ms) is =
-    let both = neither (nat_lt g.settled m) (move_some gs ms) is in
-    rw (kept m g.settled both.0, unmoved gs ms both.1) refl
-  where
-    kept : (m n : ℕ) → nat_lt n m ≡ false → max m n ≡ n
-    kept m n is = grind (arith, nat_tests)
+unmoved (g ∷ gs) (m ∷ ms) is = grind (arith, nat_tests, (unmoved gs ms))
+unmoved gs ms is = grind arith
 
-    neither : (a b : Bool) → (a || b) ≡ false → (a ≡ false) × (b ≡ false)
-    neither true b is = absurd cc
-    neither false b is = (refl, is)
+settled_guests : (b : BookView) (shares marks : List ℕ) → may_settle b shares marks ≡ true → (state (after_settle b shares marks)).guests ≡ settled_all (state b).guests marks
+settled_guests b shares marks may = grind (arith, settled_for, state, state_of, unmoved)
 
-all_marks : (ms : List ℕ) → marks_for (length ms) ms ≡ ms
-all_marks [] = refl
-all_marks (m ∷ ms) = ap (λ l. m ∷ l) (all_marks ms)
-
-settled_guests : (b : BookView) (shares marks : List ℕ) → may_settle b shares marks ≡ true → length marks ≡ length (state b).guests → (state (after_settle b shares marks)).guests ≡ settled_all (state b).guests marks
-settled_guests b shares marks may many = grind (arith, all_marks, state, state_of, unmoved)
-
-waiting_settled : (gs : List GuestState) (ms : List ℕ) (k : ℕ) → waiting_of (slice_get (settled_all gs ms) k) ≡ waiting_of (slice_get gs k)
-waiting_settled (g ∷ gs) (m ∷ ms) (suc k) = waiting_settled gs ms k
-waiting_settled gs ms k = grind arith
-
-length_settled : (gs : List GuestState) (ms : List ℕ) → length (settled_all gs ms) ≡ length gs
-length_settled [] ms = refl
-length_settled (g ∷ gs) [] = refl
-length_settled (g ∷ gs) (m ∷ ms) = ap suc (length_settled gs ms)
+settled_there : (gs : List GuestState) (ms : List ℕ) (k : ℕ) → slice_get (settled_all gs ms) k ≡ option_map (settled_to (slice_get ms k)) (slice_get gs k)
+settled_there gs ms k = by_guest (record { guests = gs; broken = false }) (Settle ms) k
 
 settled_same : (gs : List GuestState) (ms : List ℕ) (k : ℕ) (x' : GuestState) → slice_get (settled_all gs ms) k ≡ Some x' → (x : GuestState) × (slice_get gs k ≡ Some x) × IsSameGuest x x'
-settled_same [] ms k x' at = absurd cc
-settled_same (g ∷ gs) [] k x' at = (x', at, same_guest x')
-settled_same (g ∷ gs) (n ∷ ns) zero x' at = (let is : settled_at n g ≡ x' = cc in (g, refl, subst (IsSameGuest g) is (record { held = refl; core = refl; settled = omega arith })))
-settled_same (g ∷ gs) (n ∷ ns) (suc k) x' at = settled_same gs ns k x' at
+settled_same gs ms k x' at = grind (arith, settled_there)
 
 settled_least : (gs : List GuestState) (ms : List ℕ) (k : ℕ) (x' : GuestState) (m : ℕ) → slice_get (settled_all gs ms) k ≡ Some x' → slice_get ms k ≡ Some m → m ≤ x'.settled
-settled_least (g ∷ gs) (n ∷ ns) (suc k) x' m at mark = settled_least gs ns k x' m at mark
-settled_least gs ms k x' m at mark = grind arith
+settled_least gs ms k x' m at mark = grind (arith, settled_there)
 
 module _ {D : Type 0} (shows : D → DiskState) (b : BoardState D) (store : StoreState D) (told : List ℕ) (before : IsSound shows (record b { store = store; report = Some (Marks told) })) where
   abbrev heard_of : BoardState D
@@ -197,23 +156,18 @@ module _ {D : Type 0} (shows : D → DiskState) (b : BoardState D) (store : Stor
   named = before.linked.reported told refl
 
   known : guests heard_of ≡ settled_all (guests b) told
-  unfolding marks_of
   known = settled_guests b.book b.shares told (may_settle_them shows before.config before.bases before.accepted before.parts (record b { store = store; report = Some (Marks told) }) before.linked told refl)
-      (ap length named ∙ length-map store.guests mark_of ∙ before.linked.held ∙ sym before.linked.many)
 
   pub waiting_heard : (g : ℕ) → waiting_of (slice_get (guests heard_of) g) ≡ waiting_of (slice_get (guests b) g)
-  waiting_heard g = ap (λ l. waiting_of (slice_get l g)) known ∙ waiting_settled (guests b) told g
+  waiting_heard g = ap (λ l. waiting_of (slice_get l g)) known ∙ grind (arith, settled_there)
 
   pub synced_same : b.report ≡ None → store.broken ≡ b.store.broken → IsSound shows heard_of → Same b heard_of
   synced_same report broken sound = record {
     each = λ k x' at. settled_same (guests b) told k x' (ap (λ l. slice_get l k) (sym known) ∙ at);
-    count = ap length known ∙ length_settled (guests b) told;
+    count = ap length known ∙ length-settled_all (guests b) told;
     marked = λ marked k x' y at there. (
-        let z = below shows heard_of k x' sound at in
-        let same : z.stored ≡ y = cc in
-        let to = ap mark_of same in
         let least = settled_least (guests b) told k x' (mark_of y) (ap (λ l. slice_get l k) (sym known) ∙ at) (ap (λ l. slice_get l k) named ∙ marks_at store.guests k y there) in
-        omega arith);
+        grind (arith, (below shows heard_of k x' sound at)));
     broken = kept.broken;
     store = broken;
     devices = refl;
@@ -290,9 +244,4 @@ module _ {D : Type 0} (shows : D → DiskState) (g : ℕ) (start : BoardState D)
 
       -- a reply that is late is not kept
       failed_late : kept_or_failed w.guest.settled w.held ≡ failed_held w.held
-      failed_late =
-          let is : nat_le w.held.done.need w.guest.settled ≡ false = late_is w.held.done.need w.guest.settled (omega arith) in
-          rw is refl
-        where
-          late_is : (n m : ℕ) → m < n → nat_le n m ≡ false
-          late_is n m less = grind (arith, nat_tests)
+      failed_late = (let late : suc w.guest.settled ≤ w.held.done.need = omega arith in grind (arith, nat_tests))

@@ -1,33 +1,15 @@
 -- What a Take, a Give, a call of the store and a look leave to do, until a guest's reply may leave.
 use Rattle.std.proofs.Common.{◌≡◌, ◌<◌, ◌≤◌, ℕ, ◌+◌, Bool, true, false, List, [], ◌∷◌, Option, Some, None, length, drop, refl, ap, sym, subst, ◌∙◌, arith, Result, Ok, Err}
-use Rattle.host.proofs.Common.{◌==◌, if◌then◌else◌, slice_get, slice_set, nat_le, Request, sequence, DiskState, DiskCall, Guest, left_of, called, AllEmpty, mark_of, get_set_same, get_set_other, sequence_of_all, guest_of, waiting_of, with_turn, GuestState, Held, IsSound, BoardState, guests, in_place, Marks, report_of, did_answer, as_many, at_each, own, there_is, turned, other_guest, IsLate, Waits, Leaves, work_of, slice_get_within, Progress, Synced, Idle, StoreFault, GoesBy, GoesOn, Hears, IsListened, book_heard, is_broken, IsCalmGuest, nat_tests, held_since, Wrote}
-use Rattle.std.proofs.lemmas.List.{length-drop}
+use Rattle.host.proofs.Common.{◌==◌, if◌then◌else◌, slice_get, slice_set, nat_le, Request, sequence, DiskState, DiskCall, Guest, left_of, called, AllEmpty, mark_of, get_set_same, get_set_other, sequence_of_all, guest_of, waiting_of, with_turn, GuestState, Held, IsSound, BoardState, guests, in_place, Marks, report_of, did_answer, as_many, at_each, own, there_is, turned, other_guest, IsLate, Waits, Leaves, work_of, slice_get_within, Progress, Synced, Idle, StoreFault, GoesBy, GoesOn, Hears, IsListened, book_heard, is_broken, IsCalmGuest, nat_tests, held_since, Wrote, length-drop, MovedBy, settles, given_at, has_room, with_intent, given, given_of, is_free, is_free_of, given_adds, first_of, is_share, next_intent, share_moved, first_intent, took, collected, Take, Collect, GivesWhere, TakesInto, CollectsInto, is_share_of, may_give_it, WritesOn, Collected, between_calls, calls_of, todo_of, waiting_calls}
 use Rattle.intent_slots.specs.Payload.{Intent}
 use Rattle.flusher.specs.declared.slot.Slot.{Slot}
-use Rattle.flusher.specs.Round.{MovedBy, settles}
 use Rattle.flusher.specs.Slot.{is_empty}
-use Rattle.flusher.specs.Pair.{given_at, has_room, with_intent}
-use Rattle.flusher.specs.Store.{given, given_of, is_free, is_free_of}
-use Rattle.flusher.proofs.Countdown.{given_adds}
 use Rattle.flusher.proofs.Lookups.{given_mark}
-use Rattle.rpmb_book.specs.Book.{first_of, is_share, next_intent, share_moved}
-use Rattle.rpmb_book.specs.Guest.{first_intent, took, collected}
-use Rattle.rpmb_book.specs.Turn.{Take, Collect}
 use Rattle.board.specs.Link.{due, entries_of}
-use Rattle.board.specs.Steps.{Answer, GivesWhere, TakesInto, CollectsInto}
+use Rattle.board.specs.Steps.{Answer}
 use Rattle.board.proofs.Doing.{full_at}
-use Rattle.board.proofs.Stays.{is_share_of, may_give_it}
-use Rattle.host.specs.Waiting.{WritesOn, Collected}
-use Rattle.host.specs.Work.{between_calls, calls_of, todo_of, waiting_calls}
 use Rattle.host.proofs.Settled.{Same, also_there, runner_in, runner_update, state_of, still, stored_same, broken_waits, same_waits, synced_same, waiting_heard, below}
 use Rattle.host.proofs.Ending.{heard_at, heard_badly, heard_idle, heard_lowers, heard_well}
-
-full_is_not : (i : Intent) → Some (Some i) ≡ Some None → ⊥
-full_is_not i is = absurd (let no : Some i ≡ None = cc in cc)
-
--- what is late stays so, where the book does
-late_still : {D : Type 0} (g : ℕ) (b b' : BoardState D) → b'.book ≡ b.book → IsLate g b → IsLate g b'
-late_still g b b' is late = grind arith
 
 -- 1. Take
 
@@ -51,7 +33,7 @@ first_rest g x i is = grind arith
 pub take_work : {D : Type 0} (shows : D → DiskState) (g : ℕ) (x : GuestState) (o : Option (Option Intent)) (answer : Answer) (b b' : BoardState D) → IsSound shows b → slice_get (guests b) g ≡ Some x → slice_get b.intents g ≡ o
     → TakesInto g o answer b b' → IsTaken g b b'
 take_work shows g x None answer b b' sound at place takes = not_taken g b b' takes.1 (λ empty. absurd cc)
-take_work shows g x (Some (Some i)) answer b b' sound at place takes = not_taken g b b' takes.1 (λ empty. absurd (full_is_not i (sym place ∙ empty)))
+take_work shows g x (Some (Some i)) answer b b' sound at place takes = not_taken g b b' takes.1 (λ empty. absurd (let no = sym place ∙ empty in cc))
 take_work {D = D} shows g x (Some None) answer b b' sound at place takes = by (next_intent b.book b.shares g) refl
   where
     share : is_share b.book b.shares g ≡ true
@@ -72,22 +54,15 @@ take_work {D = D} shows g x (Some None) answer b b' sound at place takes = by (n
         let broken = ap (λ s. s.broken) (state_of b.book (Take g)) in
         let full : slice_get (slice_set b.intents g (Some i)) g ≡ Some (Some i) = get_set_same b.intents g None (Some i) place in
         let more : calls_of i + waiting_calls (drop 4 x.waiting) ≤ waiting_calls x.waiting = first_rest g x i (sym next_is ∙ some) in
-        let one : between_calls (in_place (slice_get now.intents g)) ≡ calls_of i = ap (λ o. between_calls (in_place o)) full in
-        let before : waiting_calls (waiting_of (slice_get (guests b) g)) ≡ waiting_calls x.waiting = ap (λ o. waiting_calls (waiting_of o)) at in
-        let after : waiting_calls (waiting_of (slice_get (guests now) g)) ≡ waiting_calls (drop 4 x.waiting) = ap (λ o. waiting_calls (waiting_of o)) y.1 ∙ ap (λ v. waiting_calls v.waiting) taken in
         subst (IsTaken g b) (sym is) (record {
           same = grind (arith, turned, as_many, took_settled, runner_in, state_of, runner_update);
           late = λ late. record { whole = broken ∙ late.whole; late = λ v there. (let v_is : v ≡ took x = (let c = taken in cc) in subst (λ q. q.settled < sequence q.core.partition) (sym v_is) (late.late x at)) };
-          work = omega arith;
-          rest = λ empty. absurd (full_is_not i (sym full ∙ empty));
+          work = grind (arith, full, more, at, place, (y.1), taken);
+          rest = λ empty. absurd (let no = sym full ∙ empty in cc);
         })
       where
         took_settled : (n k : ℕ) (v : GuestState) → (if n == k then took v else v).settled ≡ v.settled
-        took_settled n k v = choice (n == k)
-          where
-            choice : (c : Bool) → (if c then took v else v).settled ≡ v.settled
-            choice true = refl
-            choice false = refl
+        took_settled n k v = grind arith
 
 -- 2. Give
 
@@ -128,21 +103,16 @@ give_work {D = D} shows g true (Some i) answer b b' sound few free place gives =
     let held : given b.store.guests i ≡ slice_set b.store.guests i.guest (with_intent z.0 i) = ap (given_of b.store.guests i) at in
     let now : BoardState D = record b { store = record b.store { guests = given b.store.guests i }; intents = slice_set b.intents g None } in
     let left : left_of (given b.store.guests i) ≡ left_of b.store.guests + calls_of i = given_adds b.store.guests i z.0 at room in
-    let one : between_calls (in_place (slice_get b.intents g)) ≡ calls_of i = ap between_calls place in
-    let none : between_calls (in_place (slice_get (slice_set b.intents g None) g)) ≡ 0 = ap (λ o. between_calls (in_place o)) (get_set_same b.intents g (Some i) None full) in
     subst (IsGiven g b) (sym gives.1) (record {
       same = stored_same b now refl (λ k y there. given_marks b.store.guests i z.0 at k y (ap (λ l. slice_get l k) (sym held) ∙ there)) refl refl refl refl refl;
-      late = late_still g b now refl;
-      work = omega arith;
+      late = λ late. record { whole = late.whole; late = late.late };
+      work = grind (arith, left, place, (get_set_same b.intents g (Some i) None full));
       rest = λ rests. absurd (given_is_not_empty z.0 i z.0.slot (rests i.guest (with_intent z.0 i) (ap (λ l. slice_get l i.guest) held ∙ get_set_same b.store.guests i.guest z.0 (with_intent z.0 i) at)).0);
     })
   where
     -- an intent that is given moves no mark
     given_marks : (held : List Guest) (i : Intent) (z : Guest) → slice_get held i.guest ≡ Some z → (k : ℕ) (y' : Guest) → slice_get (slice_set held i.guest (with_intent z i)) k ≡ Some y' → (y : Guest) × (slice_get held k ≡ Some y) × (mark_of y' ≡ mark_of y)
-    given_marks held i z some k y' now =
-        at_each {P = λ m. slice_get (slice_set held i.guest (with_intent z i)) m ≡ Some y' → (y : Guest) × (slice_get held m ≡ Some y) × (mark_of y' ≡ mark_of y)} i.guest
-        (λ here. (let same : with_intent z i ≡ y' = (let a = get_set_same held i.guest z (with_intent z i) some in cc) in (z, some, ap mark_of (sym same) ∙ given_mark z i z.slot)))
-        (λ m other there. (y', sym (get_set_other held i.guest m (with_intent z i) other) ∙ there, refl)) k now
+    given_marks held i z some k y' now = grind (arith, at_each, get_set_same, given_mark, get_set_other)
 
 -- 3. Once all slots are empty and nothing waits, all is settled
 
@@ -213,10 +183,10 @@ module _ {D : Type 0} (shows : D → DiskState) (makes : D → DiskCall → D �
         waits = same_waits shows g start reply b b' w (subst (Same b) (sym to) (quiet Wrote is refl)) sound;
         less = λ busy known. fewer (Ok Wrote) is refl (ap (λ v. waiting_of (slice_get (guests v) g)) to);
       })
-      by (Ok Idle) is = (let to = now (Ok Idle) is in record {
-        waits = same_waits shows g start reply b b' w (subst (Same b) (sym to) (quiet Idle is refl)) sound;
+      by (Ok Idle) is = record {
+        waits = same_waits shows g start reply b b' w (subst (Same b) (sym (now (Ok Idle) is)) (quiet Idle is refl)) sound;
         less = λ busy known. absurd (busy (heard_idle shows makes went b b' late.whole h is));
-      })
+      }
       by (Ok (Synced told)) is =
           let to = now (Ok (Synced told)) is in
           let before : IsSound shows (record b { store = h.store; report = Some (Marks told) }) = subst (λ p. IsSound shows (record b { store = h.store; report = report_of p })) is (h.between w.sound) in
@@ -249,19 +219,13 @@ module _ {D : Type 0} (shows : D → DiskState) (makes : D → DiskCall → D �
       let late2 = given.late late1 in
       let m = moved went b2 b3 w2 late2 s3 (goes (record { report = w2.report; broken = w2.broken })) in
       let busy : AllEmpty b2.store.guests → ⊥ = λ empty. grind (arith, also_there, empty, guests, in_place, settled_all_at_rest, slice_get, waiting_of) in
-      record {
-        waits = m.waits;
-        less = work_less g b0 b3 late.whole (λ known. (let less = m.less busy known in omega arith));
-      }
+      record { waits = m.waits; less = work_less g b0 b3 late.whole (λ known. (let less = m.less busy known in omega arith)) }
 
 -- A look for the reply that a guest waits for.
 
 module _ {D : Type 0} (shows : D → DiskState) (g : ℕ) (start : BoardState D) (reply : Held) (b b' : BoardState D) (w : Waits shows g start reply b) where
   empty : slice_get b.dones g ≡ Some None
   empty = grind (arith, also_there)
-
-  over : (n m : ℕ) → nat_le n m ≡ false → m < n
-  over n m greater = grind (arith, nat_tests)
 
   -- a reply that isn't due needs more than is settled, of a board that isn't broken
   is_late : nat_le w.held.done.need w.guest.settled ≡ false → IsLate g b
@@ -277,19 +241,8 @@ module _ {D : Type 0} (shows : D → DiskState) (g : ℕ) (start : BoardState D)
     done = w.held.done;
     given = ap (λ h. h.done) (w.same ∙ ap (λ k. held_since (is_broken start) k reply) (sym same_broken));
     quiet = at_each {P = λ k. (x : GuestState) → slice_get (guests now) k ≡ Some x → IsCalmGuest (is_broken now) x} g
-        (λ y at. (
-        let x = own b.book (Collect g) g collected (λ k v. refl) y at in
-        let same : x.0 ≡ w.guest = (let c = w.there in cc) in
-        record {
-          none = ap (λ v. v.held) x.2 ∙ ap (λ v. drop 1 v.held) same ∙ ap (drop 1) w.holds;
-          settled = λ whole. (
-              let need = w.need (sym same_broken ∙ whole) in
-              let le = under w.held.done.need w.guest.settled is in
-              let most = below shows b g w.guest w.sound w.there in
-              subst (λ v. v.settled ≡ sequence v.core.partition) (sym (x.2 ∙ ap collected same)) (omega arith));
-        }))
-        (λ k other x at. (let c = w.others k x other (other_guest b.book (Collect g) g collected (λ m v. refl) k other x at) in
-        record { none = c.none; settled = λ whole. c.settled (sym same_broken ∙ whole) }));
+        (λ y at. grind (arith, (own b.book (Collect g) g collected (λ k v. refl) y at), (below shows b g w.guest w.sound w.there), (under w.held.done.need w.guest.settled is), same_broken))
+        (λ k other x at. grind (arith, (w.others k x other (other_guest b.book (Collect g) g collected (λ m v. refl) k other x at)), same_broken));
     dones = ap (λ l. slice_set l g (Some w.held.done)) w.dones;
     replies = λ k o at. w.replies k o (ap (λ l. slice_get l k) w.dones ∙ at);
     report = w.report;

@@ -1,14 +1,10 @@
-use Rattle.std.proofs.Common.{Ok, Err, max, subst, sym, arith}
+use Rattle.std.proofs.Common.{Ok, Err, max, subst, sym}
 use Rattle.host.proofs.Common.{Looks, LooksOn, OnShare, Look, Nothing, Stopped}
-use Rattle.host.proofs.Looks.{all_more, looks_all, looks_found, looks_then}
-use Rattle.host.proofs.Shares.{share_none, share_then}
+use Rattle.host.proofs.Looks.{looks_found, looks_then, share_none}
 use Rattle.host.proofs.serving.look_on.Goals as goal
 
 pub loop-answered-init : goal.loop-answered-init
 loop-answered-init g c = share_none g.D.Disk.state g.D.Disk.makes c.args.guest c.args.board.now c.requires.calm c.requires.there
-
-pub loop-answered-preserved : goal.loop-answered-preserved
-loop-answered-preserved g c = grind (arith, share_then, all_more)
 
 pub returns-in-Ok-Nothing : goal.returns-in-Ok-Nothing
 returns-in-Ok-Nothing g c =
@@ -32,6 +28,3 @@ returns-in-Err g c =
     let n = c.args.guest in
     looks_then g.D.Disk.state g.D.Disk.makes n c.args.board.now c.loop-answered.board c.look_once.new.board c.loop-answered.answered c.args.times c.max-answered-end.result c.max-answered-end.ensures c.loop-answered.invariant
     (Err c.in-Err.fault) (Err c.in-Err.fault) c.loop-answered-test.true c.in-Err.ensures (λ s s' l. l)
-
-pub returns : goal.returns
-returns g c = grind (arith, looks_all)

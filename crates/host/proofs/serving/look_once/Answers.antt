@@ -1,7 +1,5 @@
 use Rattle.std.proofs.Common.{Ok, Err, inl, inr, refl, subst, sym, ap, ◌∙◌}
-use Rattle.host.proofs.Common.{NeedsReset, Looks, OnShare, HostFault, NoMemory, Stopped}
-use Rattle.mmio_transport.specs.declared.fault.DeviceFault.TheVariants.{NoMemory as Starved, Refused as Spoiled}
-use Rattle.board.specs.Steps.{publish_answer}
+use Rattle.host.proofs.Common.{Starved, Spoiled, NeedsReset, Looks, OnShare, HostFault, NoMemory, Stopped, publish_answer}
 use Rattle.host.proofs.Looks.{look_answered, look_failed, look_nothing, look_refused, look_waits}
 use Rattle.host.proofs.serving.look_once.Goals as goal
 
