@@ -3,7 +3,7 @@
 ghost use Rattle.std.specs.Prelude.{IfOk};
 ghost use Rattle.host.specs.Opening.{IsJustOpened};
 
-use crate::looks::{Sum, Trouble, check};
+use crate::looks::{Sum, Trouble};
 use crate::queues::{Bus, guest_of, offer, set_up};
 use crate::requests::Asked;
 use board::{Board, Seen, Step, StepFault};
@@ -46,10 +46,6 @@ pub fn blank(alloc: Global, config: &BoardConfig) -> Result<Vec<u8>, Trouble> {
 
 /// Makes a fresh image on a disk of its length.
 pub fn make_image<D: Disk>(disk: &mut D, config: &BoardConfig) -> Result<(), Trouble> {
-    check(
-        disk.len() == Layout::of(config).length(),
-        "a disk of another length",
-    )?;
     if disk.len() != Layout::of(config).length() {
         return Err(Trouble::Differs("a disk of another length"));
     }

@@ -142,16 +142,12 @@ fn submitted<A: Asks>(rt: &HostRuntime, desk: &mut A, asked: Asked) -> Result<Re
                 "Book::submit: a refused job changed the book",
             )?;
             check(is_of(&job, asked), "Book::submit: another job came back")?;
-            submitted_again(rt.alloc(), desk, job)
+            match desk.ask(rt.alloc(), job) {
+                Ok(receipt) => Ok(receipt),
+                Err(_) => Err(Trouble::Differs("Book::submit: refused again")),
+            }
         }
         Err(_) => Err(Trouble::Differs("Book::submit: another refusal")),
-    }
-}
-
-fn submitted_again<A: Asks>(alloc: Global, desk: &mut A, job: Job) -> Result<Receipt, Trouble> {
-    match desk.ask(alloc, job) {
-        Ok(receipt) => Ok(receipt),
-        Err(_) => Err(Trouble::Differs("Book::submit: refused again")),
     }
 }
 

@@ -61,20 +61,14 @@ impl Popping for Device {
 
 /// A device; where memory was refused, by the second call.
 fn made(rt: &HostRuntime, ring: RingKind) -> Result<Device, Trouble> {
-    match Device::new(rt.alloc(), 0, &guest_of(ring)) {
-        Ok(device) => Ok(device),
-        Err(_) => {
-            tell_refused(rt, "Device::new");
-            again(rt, ring)
+    let guest = guest_of(ring);
+    for _ in 0..2 {
+        match Device::new(rt.alloc(), 0, &guest) {
+            Ok(device) => return Ok(device),
+            Err(_) => tell_refused(rt, "Device::new"),
         }
     }
-}
-
-fn again(rt: &HostRuntime, ring: RingKind) -> Result<Device, Trouble> {
-    match Device::new(rt.alloc(), 0, &guest_of(ring)) {
-        Ok(device) => Ok(device),
-        Err(_) => Err(Trouble::Differs("Device::new: refused again")),
-    }
+    Err(Trouble::Differs("Device::new: refused again"))
 }
 
 /// The next job; where memory was refused the device is as it was, and the second pop gives the job.
@@ -88,16 +82,12 @@ fn popped<P: Popping>(rt: &HostRuntime, device: &mut P) -> Result<Option<Job>, T
                 device.look() == before,
                 "Device::pop: a refused pop changed the device",
             )?;
-            popped_again(device)
+            match device.next() {
+                Ok(job) => Ok(job),
+                Err(_) => Err(Trouble::Differs("Device::pop: refused again")),
+            }
         }
         Err(_) => Err(Trouble::Differs("Device::pop: another fault")),
-    }
-}
-
-fn popped_again<P: Popping>(device: &mut P) -> Result<Option<Job>, Trouble> {
-    match device.next() {
-        Ok(job) => Ok(job),
-        Err(_) => Err(Trouble::Differs("Device::pop: refused again")),
     }
 }
 

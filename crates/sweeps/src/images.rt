@@ -1,13 +1,13 @@
 //! Openings of an image that a stop left with three open gates, each over a group of four writes, by `recovery`
 //! and by a board; and the making of a fresh image.
-use crate::boards::{GUESTS, blank, board_of, gated_disk, sum_of, sum_of_all};
+use crate::boards::{GUESTS, blank, board_of, gated_disk, make_image, sum_of, sum_of_all};
 use crate::looks::{Sum, Trouble, check, tell_end, tell_refused};
 use board::Board;
 use disk::MemDisk;
-use intent_slots::Layout;
-use recovery::{OpenFault, format, open};
+use recovery::{OpenFault, open};
 use rpmb_core::Partition;
 use rpmb_frame::BoardConfig;
+use std::alloc::Global;
 
 /// The sum of all bytes of a disk.
 fn sum_of_disk(disk: &MemDisk) -> Sum {
@@ -26,6 +26,18 @@ fn sum_of_four(partitions: &[Partition]) -> Result<Sum, Trouble> {
     Ok(sum_of_all(partitions, Sum::new()))
 }
 
+/// The partitions of an image; or its disk, and why it isn't opened.
+fn partitions_in(
+    alloc: Global,
+    config: &BoardConfig,
+    disk: MemDisk,
+) -> Result<Vec<Partition>, (MemDisk, OpenFault)> {
+    match open(alloc, disk, config) {
+        Ok((_, partitions)) => Ok(partitions),
+        Err(refused) => Err(refused),
+    }
+}
+
 /// What an opening gives; where memory was refused, the disk comes back as it was, and is opened again.
 fn partitions_of(
     rt: &HostRuntime,
@@ -33,28 +45,20 @@ fn partitions_of(
     disk: MemDisk,
 ) -> Result<Vec<Partition>, Trouble> {
     let before = sum_of_disk(&disk);
-    match open(rt.alloc(), disk, config) {
-        Ok((_, partitions)) => Ok(partitions),
+    match partitions_in(rt.alloc(), config, disk) {
+        Ok(partitions) => Ok(partitions),
         Err((disk, OpenFault::NoMemory)) => {
             tell_refused(rt, "recovery::open");
             check(
                 sum_of_disk(&disk) == before,
                 "recovery::open: another disk came back",
             )?;
-            partitions_again(rt, config, disk)
+            match partitions_in(rt.alloc(), config, disk) {
+                Ok(partitions) => Ok(partitions),
+                Err(_) => Err(Trouble::Differs("recovery::open: refused again")),
+            }
         }
         Err(_) => Err(Trouble::Differs("recovery::open: another fault")),
-    }
-}
-
-fn partitions_again(
-    rt: &HostRuntime,
-    config: &BoardConfig,
-    disk: MemDisk,
-) -> Result<Vec<Partition>, Trouble> {
-    match open(rt.alloc(), disk, config) {
-        Ok((_, partitions)) => Ok(partitions),
-        Err(_) => Err(Trouble::Differs("recovery::open: refused again")),
     }
 }
 
@@ -69,6 +73,15 @@ pub fn sweep_open(rt: &HostRuntime) -> Result<(), Trouble> {
     )
 }
 
+/// The board over an image, in its second life; or its disk, and why it isn't opened.
+fn board_in(
+    alloc: Global,
+    config: &BoardConfig,
+    disk: MemDisk,
+) -> Result<Board<MemDisk>, (MemDisk, OpenFault)> {
+    Board::open(alloc, disk, 2, config)
+}
+
 /// The board over an image; where memory was refused, the disk comes back as it was, and is opened again.
 fn board_over(
     rt: &HostRuntime,
@@ -76,7 +89,7 @@ fn board_over(
     disk: MemDisk,
 ) -> Result<Board<MemDisk>, Trouble> {
     let before = sum_of_disk(&disk);
-    match Board::open(rt.alloc(), disk, 2, config) {
+    match board_in(rt.alloc(), config, disk) {
         Ok(board) => Ok(board),
         Err((disk, OpenFault::NoMemory)) => {
             tell_refused(rt, "Board::open");
@@ -84,20 +97,12 @@ fn board_over(
                 sum_of_disk(&disk) == before,
                 "Board::open: another disk came back",
             )?;
-            board_again(rt, config, disk)
+            match board_in(rt.alloc(), config, disk) {
+                Ok(board) => Ok(board),
+                Err(_) => Err(Trouble::Differs("Board::open: refused again")),
+            }
         }
         Err(_) => Err(Trouble::Differs("Board::open: another fault")),
-    }
-}
-
-fn board_again(
-    rt: &HostRuntime,
-    config: &BoardConfig,
-    disk: MemDisk,
-) -> Result<Board<MemDisk>, Trouble> {
-    match Board::open(rt.alloc(), disk, 2, config) {
-        Ok(board) => Ok(board),
-        Err(_) => Err(Trouble::Differs("Board::open: refused again")),
     }
 }
 
@@ -122,27 +127,13 @@ pub fn sweep_board(rt: &HostRuntime) -> Result<(), Trouble> {
 
 /// Makes a fresh image; where memory was refused, once more.
 fn formatted(rt: &HostRuntime, config: &BoardConfig, disk: &mut MemDisk) -> Result<(), Trouble> {
-    if disk.content().len() as u64 != Layout::of(config).length() {
-        return Err(Trouble::Differs("a disk of another length"));
-    }
-    match format(disk, config) {
-        Ok(()) => Ok(()),
-        Err(OpenFault::NoMemory) => {
-            tell_refused(rt, "recovery::format");
-            formatted_again(config, disk)
+    for _ in 0..2 {
+        match make_image(disk, config) {
+            Err(Trouble::NoMemory) => tell_refused(rt, "recovery::format"),
+            made => return made,
         }
-        Err(_) => Err(Trouble::Differs("recovery::format: another fault")),
     }
-}
-
-fn formatted_again(config: &BoardConfig, disk: &mut MemDisk) -> Result<(), Trouble> {
-    if disk.content().len() as u64 != Layout::of(config).length() {
-        return Err(Trouble::Differs("a disk of another length"));
-    }
-    match format(disk, config) {
-        Ok(()) => Ok(()),
-        Err(_) => Err(Trouble::Differs("recovery::format: refused again")),
-    }
+    Err(Trouble::Differs("recovery::format: refused again"))
 }
 
 /// Formats a disk on which there was no zero.

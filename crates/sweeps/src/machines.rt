@@ -38,23 +38,20 @@ fn windows() -> [Window; 3] {
     ]
 }
 
-/// A machine; where memory was refused, by the second call.
-fn opened(rt: &HostRuntime, image: &[u8]) -> Result<Machine, Trouble> {
-    match Machine::open(rt.alloc(), &windows(), image) {
-        Ok(machine) => Ok(machine),
-        Err(MachineFault::NoMemory) => {
-            tell_refused(rt, "Machine::open");
-            opened_again(rt, image)
-        }
-        Err(_) => Err(Trouble::Differs("Machine::open: another fault")),
-    }
+fn machine_in(alloc: Global, image: &[u8]) -> Result<Machine, MachineFault> {
+    Machine::open(alloc, &windows(), image)
 }
 
-fn opened_again(rt: &HostRuntime, image: &[u8]) -> Result<Machine, Trouble> {
-    match Machine::open(rt.alloc(), &windows(), image) {
-        Ok(machine) => Ok(machine),
-        Err(_) => Err(Trouble::Differs("Machine::open: refused again")),
+/// A machine; where memory was refused, by the second call.
+fn opened(rt: &HostRuntime, image: &[u8]) -> Result<Machine, Trouble> {
+    for _ in 0..2 {
+        match machine_in(rt.alloc(), image) {
+            Ok(machine) => return Ok(machine),
+            Err(MachineFault::NoMemory) => tell_refused(rt, "Machine::open"),
+            Err(_) => return Err(Trouble::Differs("Machine::open: another fault")),
+        }
     }
+    Err(Trouble::Differs("Machine::open: refused again"))
 }
 
 /// What a serve came to.
@@ -263,6 +260,17 @@ fn serve_all<M: Monitor>(rt: &HostRuntime, rig: &mut Rig<M>) -> Result<Sum, Trou
     Ok(sum_of_replies(&rig.machine))
 }
 
+/// The sum of the replies of a machine that serves all, and the image that is left.
+fn left_by<M: Monitor>(
+    rt: &HostRuntime,
+    machine: M,
+    image: Vec<u8>,
+) -> Result<(Sum, Vec<u8>), Trouble> {
+    let mut rig = rig_of(rt.alloc(), machine, image)?;
+    let sum = serve_all(rt, &mut rig)?;
+    Ok((sum, rig.image))
+}
+
 /// The image's bytes.
 fn image_of(alloc: Global) -> Result<Vec<u8>, Trouble> {
     let config = board_of(alloc)?;
@@ -273,8 +281,7 @@ fn image_of(alloc: Global) -> Result<Vec<u8>, Trouble> {
 pub fn sweep(rt: &HostRuntime) -> Result<(), Trouble> {
     let image = image_of(rt.alloc())?;
     let machine = opened(rt, &image)?;
-    let mut rig = rig_of(rt.alloc(), machine, image)?;
-    let sum = serve_all(rt, &mut rig)?;
-    let sum = sum_of_image(rt.alloc(), rig.image, sum)?;
+    let (sum, image) = left_by(rt, machine, image)?;
+    let sum = sum_of_image(rt.alloc(), image, sum)?;
     tell_end(rt, "Machine::serve: counter 8", sum)
 }

@@ -9,21 +9,14 @@ const PAGE: u64 = 4_096;
 
 /// A memory, where memory was refused by the second call.
 fn made(rt: &HostRuntime) -> Result<Memory, Trouble> {
-    match Memory::new(rt.alloc(), SIZE) {
-        Ok(memory) => Ok(memory),
-        Err(MemFault::NoMemory) => {
-            tell_refused(rt, "Memory::new");
-            again(rt)
+    for _ in 0..2 {
+        match Memory::new(rt.alloc(), SIZE) {
+            Ok(memory) => return Ok(memory),
+            Err(MemFault::NoMemory) => tell_refused(rt, "Memory::new"),
+            Err(_) => return Err(Trouble::Differs("Memory::new: another fault")),
         }
-        Err(_) => Err(Trouble::Differs("Memory::new: another fault")),
     }
-}
-
-fn again(rt: &HostRuntime) -> Result<Memory, Trouble> {
-    match Memory::new(rt.alloc(), SIZE) {
-        Ok(memory) => Ok(memory),
-        Err(_) => Err(Trouble::Differs("Memory::new: refused again")),
-    }
+    Err(Trouble::Differs("Memory::new: refused again"))
 }
 
 /// Whether all bytes are zeros.

@@ -18,25 +18,29 @@ use workers::{Chain, DriverEnd, Ended, Open, Order, Script, parts_of, serve};
 /// How often the system is asked for the threads of this process: one that was joined may be counted for a moment.
 const LOOKS: u32 = 100_000;
 
-/// The chain of a request, with room for one frame.
-fn chain(alloc: Global, asked: Asked) -> Result<Order, Trouble> {
+/// Puts the chain of a request behind others, with room for one frame.
+fn push_chain(alloc: Global, orders: &mut Vec<Order>, asked: Asked) -> Result<(), Trouble> {
     let frames = asked.frames();
     let request = asked.request(&frames).to_vec(alloc)?;
     if request.is_empty() || request.len() > 8_704 {
         return Err(Trouble::Differs("no chain has this length"));
     }
-    Ok(Order::Chain(Chain::new(request, 512)))
+    Ok(orders.push(Order::Chain(Chain::new(request, 512)))?)
 }
 
 /// A guest programs its key, writes three times, resets its device, and asks for its counter.
-fn script(alloc: Global) -> Result<Script, Trouble> {
-    let mut orders = Vec::new(alloc);
-    orders.push(chain(alloc, Asked::Key)?)?;
+fn push_orders(alloc: Global, orders: &mut Vec<Order>) -> Result<(), Trouble> {
+    push_chain(alloc, orders, Asked::Key)?;
     for counter in 0..3_u8 {
-        orders.push(chain(alloc, Asked::Write(counter))?)?;
+        push_chain(alloc, orders, Asked::Write(counter))?;
     }
     orders.push(Order::Reset)?;
-    orders.push(chain(alloc, Asked::Counter(9))?)?;
+    push_chain(alloc, orders, Asked::Counter(9))
+}
+
+fn script(alloc: Global) -> Result<Script, Trouble> {
+    let mut orders = Vec::new(alloc);
+    push_orders(alloc, &mut orders)?;
     Ok(Script::new(orders))
 }
 
@@ -107,10 +111,10 @@ fn run<D: Disk + Send + Drop, R: Threads + Wait + Sync>(
 fn served<R: Threads + Wait + Sync>(threads: &R, alloc: Global) -> Result<Option<Sum>, Trouble> {
     let config = board_of(alloc)?;
     let scripts = scripts(alloc)?;
-    let board = opened(alloc, fresh_disk(alloc, &config)?, &config)?;
     if scripts.len() != config.guests().len() {
         return Err(Trouble::Differs("another number of guests"));
     }
+    let board = opened(alloc, fresh_disk(alloc, &config)?, &config)?;
     run(threads, alloc, &config, &scripts, board)
 }
 
@@ -134,21 +138,14 @@ fn check_alone(rt: &HostRuntime) -> Result<(), Trouble> {
 
 /// What the guests are told; where memory was refused, by a second run on a board of its own.
 fn told<R: Threads + Wait + Sync>(rt: &HostRuntime, threads: &R) -> Result<Sum, Trouble> {
-    match served(threads, rt.alloc())? {
-        Some(sum) => Ok(sum),
-        None => {
-            tell_refused(rt, "workers::serve");
-            check_alone(rt)?;
-            told_again(threads, rt.alloc())
+    for _ in 0..2 {
+        if let Some(sum) = served(threads, rt.alloc())? {
+            return Ok(sum);
         }
+        tell_refused(rt, "workers::serve");
+        check_alone(rt)?;
     }
-}
-
-fn told_again<R: Threads + Wait + Sync>(threads: &R, alloc: Global) -> Result<Sum, Trouble> {
-    match served(threads, alloc)? {
-        Some(sum) => Ok(sum),
-        None => Err(Trouble::Differs("workers::serve: refused again")),
-    }
+    Err(Trouble::Differs("workers::serve: refused again"))
 }
 
 pub fn sweep<R: Threads + Wait + Sync>(rt: &HostRuntime, threads: &R) -> Result<(), Trouble> {

@@ -42,17 +42,21 @@ impl Stage for Acts {
     }
 }
 
+fn act_all(acts: &mut Acts) -> Result<(), Trouble> {
+    acts.events.push(Event::Open)?;
+    key_all(acts)?;
+    write_all(acts)?;
+    advance(acts, 48)?;
+    reply_all(acts)
+}
+
 /// All that happens.
 fn acts_of(alloc: Global) -> Result<Acts, Trouble> {
     let mut acts = Acts {
         alloc,
         events: Vec::new(alloc),
     };
-    acts.events.push(Event::Open)?;
-    key_all(&mut acts)?;
-    write_all(&mut acts)?;
-    advance(&mut acts, 48)?;
-    reply_all(&mut acts)?;
+    act_all(&mut acts)?;
     Ok(acts)
 }
 
@@ -132,16 +136,12 @@ fn happens<L: Lived>(rt: &HostRuntime, world: &mut L, event: &Event) -> Result<(
                 world.look(8) == before,
                 "World::run: a refused event changed the world",
             )?;
-            happens_again(world, event)
+            check(
+                world.happen(slice::from_ref(event)).is_none(),
+                "World::run: refused again",
+            )
         }
     }
-}
-
-fn happens_again<L: Lived>(world: &mut L, event: &Event) -> Result<(), Trouble> {
-    check(
-        world.happen(slice::from_ref(event)).is_none(),
-        "World::run: refused again",
-    )
 }
 
 fn happen_all<L: Lived>(rt: &HostRuntime, world: &mut L, events: &[Event]) -> Result<Sum, Trouble> {
