@@ -4,7 +4,7 @@ use Rattle.commands.proofs.Common.{slice_get, append-nil, length-append, slice_g
 use Rattle.std.specs.Prelude.{option_map}
 use Rattle.std.proofs.lemmas.List.{nil_from_length}
 use Rattle.std.proofs.lemmas.Option.{slice_get-map}
-use Rattle.host.specs.Runner.{since}
+use Rattle.queue_looks.specs.Runner.{since}
 use Rattle.commands.specs.Moments.{AcceptsOwn, NextAccepts}
 
 pub guest_at : (xs : List GuestState) (g : ℕ) → g < length xs → (x : GuestState) × (slice_get xs g ≡ Some x)

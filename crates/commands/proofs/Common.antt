@@ -29,13 +29,13 @@ pub use Rattle.board.specs.Moving.{GoOn, Moves}
 pub use Rattle.board.specs.Opening.{bases_of, Begins}
 pub use Rattle.board.specs.State.{BoardState, guests}
 pub use Rattle.host.specs.Call.{ChainCall}
-pub use Rattle.host.specs.Calm.{is_broken}
+pub use Rattle.queue_looks.specs.Calm.{is_broken}
 pub use Rattle.host.specs.Guest.{GuestView}
 pub use Rattle.host.specs.Host.{HostState, HostView, ResetsAt, StoresAt, seen, ChainsAt}
 pub use Rattle.host.specs.Ready.{job_of}
-unfoldable pub use Rattle.host.specs.Runner.{cores_when, reply_when}
-pub use Rattle.host.specs.Runner.{runner_of, RunnerView}
-pub use Rattle.host.specs.declared.fault.HostFault.{HostFault}
+unfoldable pub use Rattle.queue_looks.specs.Runner.{cores_when, reply_when}
+pub use Rattle.queue_looks.specs.Runner.{runner_of, RunnerView}
+pub use Rattle.queue_looks.specs.declared.fault.HostFault.{HostFault}
 pub use Rattle.host.specs.declared.front.Answer.{Answer}
 pub use Rattle.host.specs.declared.front.Answer.TheVariants.{Used, Stuck}
 pub use Rattle.workers.specs.Orders.{HaveAll, chain_orders, chains_in}

@@ -5,7 +5,7 @@ use Rattle.std.proofs.lemmas.List.{get_or-map}
 use Rattle.std.specs.Prelude.{vec_len}
 use Rattle.script.specs.Line.{said}
 use Rattle.recovery.specs.declared.fault.OpenFault.TheVariants as image
-use Rattle.host.specs.declared.fault.HostFault.TheVariants as host
+use Rattle.queue_looks.specs.declared.fault.HostFault.TheVariants as host
 use Rattle.workers.specs.declared.driver.DriverEnd.{DriverEnd}
 use Rattle.commands.specs.Ending.{IsServable}
 use Rattle.commands.specs.Serving.{IsUnservedAt, ServePrints, ServedPrint}

@@ -2,7 +2,7 @@
 use Rattle.std.proofs.Common.{◌≡◌, ◌<◌, ◌+◌, ℕ, Bool, false, List, [], ◌∷◌, Option, Some, None, Result, Ok, Err, ap, arith, get_or, length, refl, subst, sym, ◌∙◌}
 use Rattle.commands.proofs.Common.{slice_get, slice_get-get_or, Appends-kept, Appends-nil, Appends, Keeps, GuestConfig, Said, nothing, chain, reset, store, last_count, ChainCall, is_broken, GuestView, RunnerView, cores_when, reply_when, job_of, ChainsAt, HostState, HostView, seen, HostFault, Answer, Used, Stuck, ChainFault, LineDone, LineFails, NextFails, IsOfWriting, LineEnds, NextEnds, fault_of, IsAt, answer_line, StoresNothing, Told, used_line, Fault}
 use Rattle.host.specs.Ready.{FailsBy}
-use Rattle.host.specs.declared.fault.HostFault.TheVariants as host
+use Rattle.queue_looks.specs.declared.fault.HostFault.TheVariants as host
 use Rattle.host.proofs.Hosts.{all_later}
 use Rattle.commands.proofs.Cases.{line_cases}
 use Rattle.commands.proofs.Until.{Breaks, RunsSince, breaks_chain, breaks_none}

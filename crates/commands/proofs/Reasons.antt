@@ -16,7 +16,7 @@ use Rattle.guest_driver.specs.Negotiation.{form_of}
 use Rattle.host.specs.Guest.{StoresInto}
 use Rattle.host.specs.Host.{HostChains, HostResetsGuest, HostStores, StuckBy}
 use Rattle.host.specs.Reasons.{ChainReason, IsAtRest, IsLevel, HostExplains, HostKeeps, IsGuestOf, ReasonAt}
-use Rattle.host.specs.declared.fault.HostFault.TheVariants as host
+use Rattle.queue_looks.specs.declared.fault.HostFault.TheVariants as host
 use Rattle.host.specs.declared.front.Stuck.{Stuck}
 use Rattle.commands.specs.Reasons.{IsHostOf, IsInside, IsOutside, StoresInside}
 use Rattle.commands.specs.declared.fault.Fault.TheVariants as fault

@@ -2,7 +2,7 @@
 use Rattle.std.proofs.Common.{◌≡◌, ℕ, zero, suc, ◌+◌, ◌<◌, Bool, true, false, List, [], ◌∷◌, ◌++◌, Option, Some, None, get_or, length, refl, ap, sym, ◌∙◌, arith}
 use Rattle.commands.proofs.Common.{append_assoc, append-nil, slice_get, Appends, last_count, GuestCore, Said, nothing, chain, store, reset, HostView, job_of, cores_when, reply_when, IsFailedIn, text_when, told_when, IsAt, StoresNothing, Told, printed_by, told_after, told_by, transcript, used_line}
 use Rattle.mmio_transport.specs.Job.{Job}
-use Rattle.host.specs.Runner.{answer_at, answer_since_at, reply_of}
+use Rattle.queue_looks.specs.Runner.{answer_at, answer_since_at, reply_of}
 use Rattle.commands.specs.Failing.{IsChainAt, failures, printed_since, told_broken, told_since, told_until, transcript_until}
 use Rattle.commands.specs.Running.{IsChain, answered_by, answered_in}
 use Rattle.commands.proofs.Printing.{told_after-append, transcript-append}

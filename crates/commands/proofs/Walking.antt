@@ -7,8 +7,8 @@ use Rattle.flusher.specs.Marks.{marks_of}
 use Rattle.script.specs.Line.{said}
 use Rattle.board.specs.Board.{marks_in}
 use Rattle.board.proofs.Stays.{marks_at}
-use Rattle.host.specs.Calm.{IsCalm}
-use Rattle.host.proofs.Settled.{below}
+use Rattle.queue_looks.specs.Calm.{IsCalm}
+use Rattle.queue_looks.proofs.Settled.{below}
 use Rattle.commands.specs.Moments.{IsDone, Leads, LinesCome, Stopped}
 use Rattle.commands.specs.declared.fault.Fault.TheVariants as fault
 use Rattle.commands.proofs.Accepting.{accepts_own, guest_at, next_own, none_more, partition_in}

@@ -4,10 +4,10 @@ use Rattle.std.specs.Io.KnownBytes.{Appends, Keeps}
 use Rattle.script.specs.Line.{Said, nothing, chain, store, reset}
 use Rattle.disk.specs.Disk.{DiskCall, DiskState}
 use Rattle.host.specs.Call.{ChainCall, ResetCall, StoreCall}
-use Rattle.host.specs.Calm.{IsCalm, is_broken}
+use Rattle.queue_looks.specs.Calm.{IsCalm, is_broken}
 use Rattle.host.specs.Host.{HostState}
 use Rattle.board.specs.Moving.{Moves}
-use Rattle.host.specs.declared.fault.HostFault.{HostFault}
+use Rattle.queue_looks.specs.declared.fault.HostFault.{HostFault}
 use Rattle.host.specs.declared.front.Answer.{Answer}
 use Rattle.commands.specs.Ending.{IsOfWriting, KeepsUnless}
 use Rattle.commands.specs.Fault.{fault_of}

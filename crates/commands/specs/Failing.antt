@@ -6,7 +6,7 @@ use Rattle.script.specs.Line.{Said, nothing, chain, store, reset}
 use Rattle.host.specs.Host.{sessions_after}
 use Rattle.host.specs.Ready.{job_of}
 use Rattle.commands.specs.Running.{IsChain}
-use Rattle.host.specs.Runner.{cores_when, reply_when}
+use Rattle.queue_looks.specs.Runner.{cores_when, reply_when}
 use Rattle.commands.specs.Transcript.{Told, printed_by, told_by, transcript, told_after, used_line}
 
 -- 1. The text

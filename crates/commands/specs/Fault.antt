@@ -3,8 +3,8 @@ use Rattle.std.specs.Prelude.{ℕ, List, [], ◌∷◌, ◌++◌, codes}
 use Rattle.std.specs.Fmt.{decimal}
 use Rattle.recovery.specs.declared.fault.OpenFault.{OpenFault}
 use Rattle.recovery.specs.declared.fault.OpenFault.TheVariants as image
-use Rattle.host.specs.declared.fault.HostFault.{HostFault}
-use Rattle.host.specs.declared.fault.HostFault.TheVariants as host
+use Rattle.queue_looks.specs.declared.fault.HostFault.{HostFault}
+use Rattle.queue_looks.specs.declared.fault.HostFault.TheVariants as host
 use Rattle.commands.specs.declared.fault.Fault.{Fault}
 use Rattle.commands.specs.declared.fault.Fault.TheVariants as fault
 

@@ -12,7 +12,7 @@ use Rattle.script.specs.Line.{Said}
 use Rattle.board.specs.Board.{StaysLinked}
 use Rattle.board.specs.Opening.{bases_of}
 use Rattle.host.specs.Host.{HostState, seen}
-use Rattle.host.specs.Runner.{runner_of}
+use Rattle.queue_looks.specs.Runner.{runner_of}
 use Rattle.commands.specs.Listing.{AreHeld}
 use Rattle.commands.specs.Reasons.{IsHostOf}
 use Rattle.commands.specs.Running.{IsAt}

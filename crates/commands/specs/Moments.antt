@@ -16,10 +16,10 @@ use Rattle.script.specs.declared.line.Line.{Line}
 use Rattle.board.specs.Board.{LeavesPrefixes, StaysLinked, marks_in}
 use Rattle.board.specs.Opening.{bases_of}
 use Rattle.board.specs.State.{BoardState}
-use Rattle.host.specs.Calm.{IsCalm}
+use Rattle.queue_looks.specs.Calm.{IsCalm}
 use Rattle.host.specs.Host.{HostState, seen}
 use Rattle.board.specs.Moving.{GoOn, Moves}
-use Rattle.host.specs.Runner.{runner_of}
+use Rattle.queue_looks.specs.Runner.{runner_of}
 use Rattle.commands.specs.Calling.{LineDone, NextFails}
 use Rattle.commands.specs.Ending.{KeepsUnless, NextEnds, OpeningEnds}
 use Rattle.commands.specs.Failing.{IsFailedIn, text_when, told_when}

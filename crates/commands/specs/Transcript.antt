@@ -8,7 +8,7 @@ use Rattle.script.specs.Words.{shown}
 use Rattle.rpmb_book.specs.Guest.{GuestCore}
 use Rattle.rpmb_frame.specs.Limits.{limits_of}
 use Rattle.rpmb_frame.specs.Partition.{Partition}
-use Rattle.host.specs.Runner.{cores_after, reply_of}
+use Rattle.queue_looks.specs.Runner.{cores_after, reply_of}
 use Rattle.host.specs.Ready.{job_of}
 use Rattle.host.specs.Host.{sessions_after}
 use Rattle.host.specs.declared.front.Stuck.{Stuck}

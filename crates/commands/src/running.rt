@@ -7,7 +7,7 @@ ghost use Rattle.intent_slots.specs.Layout.{capacities_of};
 ghost use Rattle.recovery.specs.Opening.{Untouched};
 ghost use Rattle.script.specs.Line.{Said, chain, line_of, said};
 ghost use Rattle.script.specs.Script.{lines_of};
-ghost use Rattle.host.specs.Calm.{IsCalm};
+ghost use Rattle.queue_looks.specs.Calm.{IsCalm};
 ghost use Rattle.board.specs.Moving.{Moves};
 ghost use Rattle.commands.specs.Calling.{LineRuns};
 ghost use Rattle.commands.specs.Ending.{Ends, IsOfReading, OpeningEnds, RunPrints, running};

@@ -1,11 +1,11 @@
 -- What the calls of a host do.
 use Rattle.std.specs.Prelude.{◌≡◌, ℕ, List, Result, slice_get}
-use Rattle.host.specs.Calm.{is_broken}
+use Rattle.queue_looks.specs.Calm.{is_broken}
 use Rattle.host.specs.Host.{HostAnswers, HostChains, HostResets, HostResetsGuest, HostState}
 use Rattle.host.specs.Host.{HostStores, seen}
 use Rattle.host.specs.Reasons.{HostExplains, HostKeeps}
 use Rattle.host.specs.Spares.{Spares, most_at}
-use Rattle.host.specs.declared.fault.HostFault.{HostFault}
+use Rattle.queue_looks.specs.declared.fault.HostFault.{HostFault}
 use Rattle.host.specs.declared.front.Answer.{Answer}
 
 -- what the host's call for a chain does, and what it says

@@ -8,16 +8,16 @@ use Rattle.guest_driver.specs.declared.fault.DriverFault.{DriverFault}
 use Rattle.guest_driver.specs.declared.fault.DriverFault.TheVariants as driver
 use Rattle.guest_driver.specs.declared.reaping.Reaped.{Reaped}
 use Rattle.host.specs.Guest.{stuck_by}
-use Rattle.host.specs.Looks.{LooksOn, Share}
-use Rattle.host.specs.declared.fault.HostFault.{HostFault}
-use Rattle.host.specs.declared.fault.HostFault.TheVariants as host
+use Rattle.queue_looks.specs.Looks.{LooksOn, Share}
+use Rattle.queue_looks.specs.declared.fault.HostFault.{HostFault}
+use Rattle.queue_looks.specs.declared.fault.HostFault.TheVariants as host
 use Rattle.host.specs.declared.front.Answer.{Answer}
 use Rattle.host.specs.declared.front.Answer.TheVariants as answer
 use Rattle.host.specs.declared.front.Front.{Front}
 use Rattle.host.specs.declared.front.Stuck.{Stuck}
 use Rattle.host.specs.declared.front.Stuck.TheVariants as stuck
-use Rattle.host.specs.declared.serving.Look.{Look}
-use Rattle.host.specs.declared.serving.Look.TheVariants.{Answered, Nothing, Stopped}
+use Rattle.queue_looks.specs.declared.looking.Look.{Look}
+use Rattle.queue_looks.specs.declared.looking.Look.TheVariants.{Answered, Nothing, Stopped}
 
 -- 1. The driver's side
 

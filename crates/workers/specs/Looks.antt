@@ -7,8 +7,8 @@ use Rattle.guest_driver.specs.declared.reaping.Reaped.{Reaped}
 use Rattle.mmio_transport.specs.Job.{Job}
 use Rattle.mmio_transport.specs.declared.fault.DeviceFault.{DeviceFault}
 use Rattle.mmio_transport.specs.declared.fault.DeviceFault.TheVariants as device
-use Rattle.host.specs.declared.fault.HostFault.{HostFault}
-use Rattle.host.specs.declared.fault.HostFault.TheVariants as host
+use Rattle.queue_looks.specs.declared.fault.HostFault.{HostFault}
+use Rattle.queue_looks.specs.declared.fault.HostFault.TheVariants as host
 use Rattle.host.specs.declared.front.Stuck.TheVariants.{NeedsReset, BadUsed}
 use Rattle.workers.specs.declared.seat.News.{News}
 use Rattle.workers.specs.declared.seat.News.TheVariants as news

@@ -1,0 +1,7 @@
+pub mod Common
+pub mod Updates
+pub mod Settled
+pub mod Ending
+pub mod Work
+pub mod Serves
+pub mod Looks

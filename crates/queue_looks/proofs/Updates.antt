@@ -1,0 +1,73 @@
+-- One place of a list is changed; and what answers depend on is.
+use Rattle.std.proofs.Common.{◌≡◌, ◌≢◌, ℕ, zero, suc, List, [], ◌∷◌, Some, set, map, refl, ap, Bool, true, false, ap₂, arith, sym, ◌∙◌}
+use Rattle.queue_looks.proofs.Common.{slice_get, get_or_from_slice_get, set-get_or, update, GuestCore, Job, RunnerView, after_when, cores_when, runner_since, since, cores_after, reply_when, stored, room_of}
+use Rattle.rpmb_frame.specs.Request.{request}
+use Rattle.rpmb_core.specs.Verdict.{verdict}
+use Rattle.rpmb_core.specs.Accept.{partition_after}
+use Rattle.rpmb_core.specs.Outcome.{outcome_of}
+
+pub update-other : {X : Type 0} (xs : List X) (n : ℕ) (f : X → X) (k : ℕ) → k ≢ n → slice_get (update xs n f) k ≡ slice_get xs k
+update-other (x ∷ xs) (suc n) f (suc k) other = update-other xs n f k (λ is. other (ap suc is))
+update-other xs n f k other = grind arith
+
+pub update-nothing : {X : Type 0} (xs : List X) (n : ℕ) (f : X → X) (x : X) → slice_get xs n ≡ Some x → f x ≡ x → update xs n f ≡ xs
+update-nothing (y ∷ xs) (suc n) f x e same = ap (λ ys. y ∷ ys) (update-nothing xs n f x e same)
+update-nothing xs n f x e same = grind arith
+
+-- a place that is written with what stands there
+pub set-nothing : {X : Type 0} (xs : List X) (n : ℕ) (x : X) → slice_get xs n ≡ Some x → set xs n x ≡ xs
+set-nothing xs n x e = ap (set xs n) (sym (get_or_from_slice_get xs n x x e)) ∙ set-get_or xs n x
+
+pub set-twice : {X : Type 0} (xs : List X) (n : ℕ) (x y : X) → set (set xs n x) n y ≡ set xs n y
+set-twice (z ∷ xs) (suc n) x y = ap (λ ys. z ∷ ys) (set-twice xs n x y)
+set-twice xs n x y = grind arith
+
+-- What answers depend on, before and after a break, or none.
+
+since_none : (was : Bool) (c : GuestCore) → since was was c ≡ c
+since_none was c = grind arith
+
+each_same : (f : GuestCore → GuestCore) → ((c : GuestCore) → f c ≡ c) → (cs : List GuestCore) → map f cs ≡ cs
+each_same f same [] = refl
+each_same f same (c ∷ cs) = ap₂ (λ x xs. x ∷ xs) (same c) (each_same f same cs)
+
+-- nothing broke
+pub since_still : (was : Bool) (v : RunnerView) → runner_since was was v ≡ v
+since_still was v = ap (λ cs. record v { cores = cs }) (each_same (since was was) (since_none was) v.cores)
+
+pub since_whole : (was now : Bool) (v : RunnerView) → now ≡ false → runner_since was now v ≡ v
+since_whole was now v whole = grind (arith, each_same)
+
+-- after a job, and a break or none since
+pub since_after : (was now : Bool) (v : RunnerView) (job : Job) → runner_since was now (after_when was was v job) ≡ after_when was now v job
+unfolding after_when cores_when
+since_after was now v job = grind (arith, each_same)
+
+-- A reply depends on four things of its job: the guest, the session, the bytes and the room; also where a call of the
+-- disk failed.
+
+-- the core after a request of these bytes in a session, and the reply to it
+core_for : List ℕ → ℕ → ℕ → GuestCore → GuestCore
+core_for bytes room session c =
+    let r = request bytes room c.limits in
+    let p = partition_after c.partition r in
+    record { limits = c.limits; partition = p; last = stored c.last session (outcome_of r.command (verdict c.partition r) p.counter) }
+
+-- the four things are the same
+pub record IsAlike (j k : Job) : Type 0 where
+  pub guest : j.guest ≡ k.guest
+  pub session : j.session ≡ k.session
+  pub request : j.request ≡ k.request
+  pub room : room_of j ≡ room_of k
+
+pub same_reply : (was now : Bool) (cores : List GuestCore) (j k : Job) → IsAlike j k → reply_when was now cores j ≡ reply_when was now cores k
+unfolding reply_when
+same_reply was now cores j k is = grind arith
+
+alike_after : (cores : List GuestCore) (j k : Job) → IsAlike j k → cores_after cores j ≡ cores_after cores k
+unfolding cores_after core_for
+alike_after cores j k is = λ i. update cores (is.guest i) (core_for (is.request i) (is.room i) (is.session i))
+
+pub same_cores : (was now : Bool) (cores : List GuestCore) (j k : Job) → IsAlike j k → cores_when was now cores j ≡ cores_when was now cores k
+unfolding cores_when
+same_cores was now cores j k is = grind (arith, alike_after)

@@ -1,0 +1,35 @@
+-- The calls that a store still has before it, made to their end.
+use Rattle.std.specs.Prelude.{ℕ, ◌≡◌, true, false, List, Some, slice_get}
+use Rattle.rpmb_frame.specs.Request.{Request}
+use Rattle.rpmb_frame.specs.Partition.{Partition}
+use Rattle.rpmb_frame.specs.declared.config.GuestConfig.{GuestConfig}
+use Rattle.disk.specs.Content.{Content}
+use Rattle.disk.specs.Disk.{DiskState, MayLeave}
+use Rattle.intent_slots.specs.Layout.{capacities_of, region_at}
+use Rattle.intent_slots.specs.Recovered.{Stands, part_of}
+use Rattle.flusher.specs.Round.{AllEmpty}
+use Rattle.rpmb_book.specs.Guest.{GuestState}
+use Rattle.board.specs.Board.{StaysLinked}
+use Rattle.board.specs.State.{BoardState, guests}
+use Rattle.queue_looks.specs.Advancing.{IsListened}
+use Rattle.queue_looks.specs.Calm.{is_broken}
+use Rattle.queue_looks.specs.Runner.{runner_of}
+
+-- what the answers to all guests depend on stays, unless the store broke
+pub record Rests {D : Type 0} (b b' : BoardState D) : Type 0 where
+  pub listened : IsListened b'
+  pub whole : is_broken b' ≡ false → is_broken b ≡ false
+  pub runner : is_broken b' ≡ false → runner_of b' ≡ runner_of b
+
+-- no call is left, unless the store broke
+pub record Finished {D : Type 0} (b b' : BoardState D) : Type 0 where
+  pub rests : Rests b b'
+  pub idle : is_broken b' ≡ false → AllEmpty b'.store.guests
+
+-- Whatever a stop leaves of the board's disk stands, for each guest, for its partition as the book has it.
+abbrev pub LeavesAll : {D : Type 0} → (D → DiskState) → BoardState D → Type 0
+LeavesAll shows b = (config : List GuestConfig) (bases : ℕ → Partition)
+    (accepted : ℕ → List Request) → StaysLinked shows config bases accepted b
+    → (shows b.store.disk).faithful ≡ true
+    → (g : ℕ) (x : GuestState) → slice_get (guests b) g ≡ Some x → (c : Content) → MayLeave (shows b.store.disk) c
+    → Stands (region_at (capacities_of config) g) c (part_of x.core.partition)
