@@ -248,8 +248,8 @@ module _ {D : Type 0} (shows : D → DiskState) (makes : D → DiskCall → D �
 
 -- 6. Looks one after another
 
-pub all_more : (g n : ℕ) (s s1 s' : Share) → AnswerAll g n s s1 → Looks g s1 (Ok look.Answered) s' → AnswerAll g (n + 1) s s'
-all_more g n s s1 s' all one = grind arith
+pub add_one : (g n : ℕ) (s s1 s' : Share) → AnswerAll g n s s1 → Looks g s1 (Ok look.Answered) s' → AnswerAll g (n + 1) s s'
+add_one g n s s1 s' all one = grind arith
 
 module _ {D : Type 0} (shows : D → DiskState) (makes : D → DiskCall → D → Type 0) (g : ℕ) (b b1 b2 : BoardState D) (n times most : ℕ) (is : most ≡ max times 1) (before : OnShare shows makes g (λ s s'. AnswerAll g n s s') b b1) where
   pub looks_all : most ≤ n → n ≤ most → OnShare shows makes g (λ s s'. LooksOn g (max 1 times) s (Ok look.Answered) s') b b1
