@@ -75,7 +75,7 @@ pub rests_on : {D : Type 0} (a b c : BoardState D) → Rests a b → Rests b c �
 rests_on a b c p q = grind arith
 
 pub rests_still : {D : Type 0} (b : BoardState D) → IsListened b → Rests b b
-rests_still b listened = record { listened = listened; whole = λ yes. yes; runner = λ yes. refl }
+rests_still b listened = record { listened = listened; others = refl; whole = λ yes. yes; runner = λ yes. refl }
 
 pub rested : {D : Type 0} (shows : D → DiskState) (makes : D → DiskCall → D → Type 0) (went : Bool) (b b' : BoardState D) → IsListened b → GoesOn shows makes went b b' → Rested went b b'
 rested shows makes went b b' listened goes_on = from (is_broken b) refl goes_on

@@ -1,5 +1,5 @@
 pub mod Common
-pub mod Updates
+pub mod Since
 pub mod Settled
 pub mod Ending
 pub mod Work

@@ -2,7 +2,8 @@
 use Rattle.std.proofs.Common.{◌≡◌, ◌<◌, ℕ, false, Option, Some, length, refl, ap, sym, subst, ◌∙◌, length-set, max, None, Result, Ok, Err, arith, ◌≤◌, inl, ◌+◌, Bool, true, [], unwrap_or, ap₂}
 use Rattle.queue_looks.proofs.Common.{slice_get, slice_set, DiskCall, DiskState, get_set_same, get_set_other, DeviceState, Job, Moves, BoardState, there_is, lent_moves, moves_none, moves_twice, sound_moved, IsCalm, is_broken, with_device, ShowsShare, OnShare, Share, share_of, LooksOn, HostFault, Look, Answered, ◌==◌, nat_lt, nat_tests, length-map, slice_get_within, done_of, GivesJob, DeviceFault, guest_of, refusal, Held, Tally, Refused, guests, in_place, IsSound, PopsInto, PublishesFrom, PublishesReply, SubmitsFrom, told_of, AnswerAll, EndLooks, IsOnlyPopped, Looks, FindsJob, after_when, held_since, refusal_of, reply_when, runner_of, runner_since, Leaves, Waits, Steps, answer_by, fault_of, found_by}
 use Rattle.queue_looks.proofs.Settled.{also_there, cores_in}
-use Rattle.queue_looks.proofs.Updates.{set-nothing, since_after, set-twice}
+use Rattle.queue_looks.proofs.Since.{since_after}
+use Rattle.rpmb_book.proofs.Places.{set-nothing, set-twice}
 use Rattle.rpmb_book.specs.Audit.{HasHistory}
 use Rattle.rpmb_book.proofs.Calm.{room_when_calm}
 use Rattle.board.specs.Steps.{Answer as BoardAnswer}

@@ -8,7 +8,8 @@ use Rattle.board.specs.Steps.{Answer, job_of}
 use Rattle.board.specs.declared.step.Seen.TheVariants.{Nothing}
 use Rattle.board.specs.declared.step.StepFault.TheVariants as fault
 use Rattle.queue_looks.proofs.Settled.{also_there, below, cores_in, runner_in, runner_more, state_of}
-use Rattle.queue_looks.proofs.Updates.{since_still, set-nothing, update-nothing}
+use Rattle.queue_looks.proofs.Since.{since_still}
+use Rattle.rpmb_book.proofs.Places.{set-nothing, update-nothing}
 
 -- 1. Pop
 

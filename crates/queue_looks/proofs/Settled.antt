@@ -6,7 +6,7 @@ use Rattle.rpmb_book.proofs.ByGuest.{by_guest}
 use Rattle.rpmb_book.proofs.Replay.{replay-push}
 use Rattle.rpmb_book.proofs.Settling.{length-settled_all}
 use Rattle.rpmb_book.proofs.Marking.{settled_for}
-use Rattle.queue_looks.proofs.Updates.{since_whole}
+use Rattle.queue_looks.proofs.Since.{since_whole}
 
 -- where there are as many, there is one
 pub also_there : {X Y : Type 0} (xs : List X) (ys : List Y) (k : ℕ) (x : X) → slice_get xs k ≡ Some x → length ys ≡ length xs → (y : Y) × (slice_get ys k ≡ Some y)

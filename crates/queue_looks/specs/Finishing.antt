@@ -15,9 +15,11 @@ use Rattle.queue_looks.specs.Advancing.{IsListened}
 use Rattle.queue_looks.specs.Calm.{is_broken}
 use Rattle.queue_looks.specs.Runner.{runner_of}
 
--- what the answers to all guests depend on stays, unless the store broke
+-- What the answers to all guests depend on stays, unless the store broke. Nothing moves but the store, and what the
+-- book hears of it.
 pub record Rests {D : Type 0} (b b' : BoardState D) : Type 0 where
   pub listened : IsListened b'
+  pub others : b' ≡ record b { store = b'.store; report = b'.report; book = b'.book }
   pub whole : is_broken b' ≡ false → is_broken b ≡ false
   pub runner : is_broken b' ≡ false → runner_of b' ≡ runner_of b
 

@@ -1,12 +1,7 @@
-use Rattle.std.proofs.Common.{◌≡◌, ℕ, List, Some, set, slice_get, ap, sym, ◌∙◌}
-use Rattle.std.proofs.lemmas.List.{set-get_or}
-use Rattle.std.proofs.lemmas.Option.{get_or_from_slice_get}
+use Rattle.std.proofs.Common.{List, ap, ◌∙◌}
+use Rattle.rpmb_book.proofs.Places.{set-nothing}
 use Rattle.machine.proofs.Common.{slice_set, DeviceState}
 use Rattle.machine.proofs.machine.Machine.store.Goals as goal
-
--- a place that is written with what stands there
-set-nothing : {X : Type 0} (xs : List X) (n : ℕ) (x : X) → slice_get xs n ≡ Some x → set xs n x ≡ xs
-set-nothing xs n x e = ap (set xs n) (sym (get_or_from_slice_get xs n x x e)) ∙ set-get_or xs n x
 
 pub returns-in-Err-clause-unchanged : goal.returns-in-Err-clause-unchanged
 returns-in-Err-clause-unchanged c =

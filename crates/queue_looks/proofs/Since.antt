@@ -1,28 +1,10 @@
--- One place of a list is changed; and what answers depend on is.
-use Rattle.std.proofs.Common.{◌≡◌, ◌≢◌, ℕ, zero, suc, List, [], ◌∷◌, Some, set, map, refl, ap, Bool, true, false, ap₂, arith, sym, ◌∙◌}
-use Rattle.queue_looks.proofs.Common.{slice_get, get_or_from_slice_get, set-get_or, update, GuestCore, Job, RunnerView, after_when, cores_when, runner_since, since, cores_after, reply_when, stored, room_of}
+-- What answers depend on, before and after a job or a break.
+use Rattle.std.proofs.Common.{◌≡◌, ℕ, List, [], ◌∷◌, map, refl, ap, Bool, false, ap₂, arith}
+use Rattle.queue_looks.proofs.Common.{update, GuestCore, Job, RunnerView, after_when, cores_when, runner_since, since, cores_after, reply_when, stored, room_of}
 use Rattle.rpmb_frame.specs.Request.{request}
 use Rattle.rpmb_core.specs.Verdict.{verdict}
 use Rattle.rpmb_core.specs.Accept.{partition_after}
 use Rattle.rpmb_core.specs.Outcome.{outcome_of}
-
-pub update-other : {X : Type 0} (xs : List X) (n : ℕ) (f : X → X) (k : ℕ) → k ≢ n → slice_get (update xs n f) k ≡ slice_get xs k
-update-other (x ∷ xs) (suc n) f (suc k) other = update-other xs n f k (λ is. other (ap suc is))
-update-other xs n f k other = grind arith
-
-pub update-nothing : {X : Type 0} (xs : List X) (n : ℕ) (f : X → X) (x : X) → slice_get xs n ≡ Some x → f x ≡ x → update xs n f ≡ xs
-update-nothing (y ∷ xs) (suc n) f x e same = ap (λ ys. y ∷ ys) (update-nothing xs n f x e same)
-update-nothing xs n f x e same = grind arith
-
--- a place that is written with what stands there
-pub set-nothing : {X : Type 0} (xs : List X) (n : ℕ) (x : X) → slice_get xs n ≡ Some x → set xs n x ≡ xs
-set-nothing xs n x e = ap (set xs n) (sym (get_or_from_slice_get xs n x x e)) ∙ set-get_or xs n x
-
-pub set-twice : {X : Type 0} (xs : List X) (n : ℕ) (x y : X) → set (set xs n x) n y ≡ set xs n y
-set-twice (z ∷ xs) (suc n) x y = ap (λ ys. z ∷ ys) (set-twice xs n x y)
-set-twice xs n x y = grind arith
-
--- What answers depend on, before and after a break, or none.
 
 since_none : (was : Bool) (c : GuestCore) → since was was c ≡ c
 since_none was c = grind arith
