@@ -13,12 +13,12 @@ pub use Rattle.chains.specs.Range.{bytes_of, AreInside}
 pub use Rattle.chains.specs.Reads.{ReadCount}
 pub use Rattle.chains.specs.Ring.{is_chain, Ascend, IsFree}
 unfoldable pub use Rattle.chains.specs.Walk.{walk}
-pub use Rattle.chains.specs.Walk.{Link, fault_of, ◌or_else◌, is_writable, reads_of, Here, links, chain_at, with_table, first_fault, is_bad_table, most_table_bytes, is_readable, readable, writable, range_of, last_id, Found}
-pub use Rattle.chains.specs.declared.descriptor.Area.{Area}
+pub use Rattle.chains.specs.Walk.{Member, fault_of, ◌or_else◌, is_writable, reads_of, Here, members_in, chain_at, with_table, first_fault, is_bad_table, most_table_bytes, is_readable, readable, writable, range_of, last_id, Found}
+pub use Rattle.chains.specs.declared.descriptor.Descriptors.{Descriptors}
 pub use Rattle.chains.specs.declared.descriptor.Descriptor.{Descriptor}
 pub use Rattle.chains.specs.declared.fault.ChainFault.{ChainFault}
 pub use Rattle.chains.specs.declared.fault.ChainFault.TheVariants.{TooLong, BadRange, Order, BadTable}
 pub use Rattle.chains.specs.declared.fault.RingFault.{RingFault}
 pub use Rattle.chains.specs.declared.fault.RingFault.TheVariants.{NoMemory, Refused, OldNumber}
-pub use Rattle.chains.specs.declared.places.Outstanding.{Outstanding}
+pub use Rattle.chains.specs.declared.popped.Outstanding.{Outstanding}
 pub use Rattle.chains.specs.declared.range.Range.{Range}

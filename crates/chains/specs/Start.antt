@@ -1,13 +1,13 @@
 -- What stands where a ring's next chain begins.
 use Rattle.std.specs.Prelude.{ℕ, List, [], Option, Some, None, Result, Ok, Err}
-use Rattle.chains.specs.declared.descriptor.Area.{Area}
+use Rattle.chains.specs.declared.descriptor.Descriptors.{Descriptors}
 use Rattle.chains.specs.declared.descriptor.Shape.{Shape}
 use Rattle.chains.specs.declared.fault.ChainFault.{ChainFault}
-use Rattle.chains.specs.Walk.{Found, Link, chain_at, walk}
+use Rattle.chains.specs.Walk.{Found, Member, chain_at, walk}
 use Rattle.chains.specs.Ring.{RingState}
 
 -- the descriptors of a ring, in this shape
-abbrev pub descriptors_of : Shape → RingState → Area
+abbrev pub descriptors_of : Shape → RingState → Descriptors
 descriptors_of shape ring =
     record {
       shape = shape;
@@ -21,13 +21,13 @@ some_found (Ok found) = Ok (Some found)
 some_found (Err fault) = Err fault
 
 -- the chain from a place on, where one begins
-abbrev pub found_from : List ℕ → Area → Result (Option ℕ) ChainFault → Result (Option Found) ChainFault
+abbrev pub found_from : List ℕ → Descriptors → Result (Option ℕ) ChainFault → Result (Option Found) ChainFault
 found_from memory area (Ok None) = Ok None
 found_from memory area (Ok (Some start)) = some_found (walk memory area start)
 found_from memory area (Err fault) = Err fault
 
 -- the members of that chain, of which none is read where none begins
-abbrev pub members_from : List ℕ → Area → Result (Option ℕ) ChainFault → List Link
+abbrev pub members_from : List ℕ → Descriptors → Result (Option ℕ) ChainFault → List Member
 members_from memory area (Ok None) = []
 members_from memory area (Ok (Some start)) = chain_at memory area start
 members_from memory area (Err fault) = []

@@ -4,9 +4,10 @@ ghost use Rattle.chains.specs.Ring.{first_state, after_pop, after_publish, is_ch
 ghost use Rattle.chains.specs.Ring.{MayBeUsed, IsFree, Ascend};
 ghost use Rattle.chains.specs.Start.{descriptors_of};
 
-use crate::descriptor::{Area, Shape};
+use crate::descriptor::{Descriptors, Shape};
 use crate::fault::RingFault;
-use crate::places::{Outstanding, Places};
+use crate::places::Places;
+use crate::popped::Outstanding;
 use std::alloc::Global;
 use std::marker::Model;
 
@@ -95,10 +96,10 @@ impl Counts {
     }
 
     /// The ring's descriptors, laid out in this shape.
-    pub fn descriptors(&self, shape: Shape) -> Area
+    pub fn descriptors(&self, shape: Shape) -> Descriptors
         ensures { result ≡ descriptors_of shape self.now }
     {
-        Area {
+        Descriptors {
             shape,
             base: self.places.descriptors,
             limit: self.size as u64,

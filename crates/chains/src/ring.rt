@@ -5,7 +5,8 @@ ghost use Rattle.chains.specs.Ring.{first_state, MayBeUsed, IsFree, Stays, Finds
 
 use crate::counts::Counts;
 use crate::fault::{ChainFault, RingFault};
-use crate::places::{Places, Popped, Used};
+use crate::places::Places;
+use crate::popped::{Popped, Used};
 use crate::reads::Reads;
 use crate::rules::Rules;
 use crate::walks::walk;

@@ -3,14 +3,15 @@ ghost use Rattle.guest_memory.specs.Memory.{IsInside};
 ghost use Rattle.chains.specs.declared.places.Places.{Places};
 ghost use Rattle.chains.specs.declared.descriptor.Shape.{Shape};
 ghost use Rattle.chains.specs.declared.fault.ChainFault.{ChainFault};
-ghost use Rattle.chains.specs.Walk.{Found, Link};
+ghost use Rattle.chains.specs.Walk.{Found, Member};
 ghost use Rattle.chains.specs.Ring.{RingState};
 ghost use Rattle.chains.specs.Start.{descriptors_of, found_from, members_from};
 
 use crate::counts::Counts;
-use crate::descriptor::{Area, Shape};
+use crate::descriptor::{Descriptors, Shape};
 use crate::fault::ChainFault;
-use crate::places::{Places, Used};
+use crate::places::Places;
+use crate::popped::Used;
 use guest_memory::Memory;
 
 /// What sets one kind of ring apart from the other: its sizes and areas, where its next chain begins,
@@ -34,7 +35,7 @@ pub trait Rules: Drop {
     ghost shape: { Shape };
 
     /// The ring's descriptors.
-    fn descriptors(ring: &Counts, memory: &Memory) -> Area
+    fn descriptors(ring: &Counts, memory: &Memory) -> Descriptors
         requires sound { is_ring ring.now.places ring.now.size }
         requires areas { areas (length memory.now) ring.now }
         ensures value { result ≡ descriptors_of shape ring.now }
@@ -49,7 +50,7 @@ pub trait Rules: Drop {
     ghost next: { List ℕ → RingState → Result (Option Found) ChainFault };
 
     /// The members of that chain.
-    ghost members: { List ℕ → RingState → List Link };
+    ghost members: { List ℕ → RingState → List Member };
 
     /// Where the chain at the place after those popped begins; `None` where that place isn't available.
     fn start(ring: &Counts, memory: &Memory) -> Result<Option<u16>, ChainFault>

@@ -17,10 +17,10 @@ pub use Rattle.chains.specs.Law.{IsList}
 pub use Rattle.chains.specs.Range.{bytes_of, most_gathered, scattered}
 pub use Rattle.chains.specs.Ring.{RingState, first_state, after_pop, after_publish, is_chain}
 pub use Rattle.chains.specs.Walk.{Found, buffer_of, walk}
-pub use Rattle.chains.specs.declared.descriptor.Area.{Area}
+pub use Rattle.chains.specs.declared.descriptor.Descriptors.{Descriptors}
 pub use Rattle.chains.specs.declared.descriptor.Descriptor.{Descriptor}
 pub use Rattle.chains.specs.declared.fault.ChainFault.{ChainFault}
-pub use Rattle.chains.specs.declared.places.Outstanding.{Outstanding}
+pub use Rattle.chains.specs.declared.popped.Outstanding.{Outstanding}
 pub use Rattle.packed_ring.specs.Layout.{index, wrap}
 pub use Rattle.mmio_transport.proofs.Next.{none_grows}
 unfoldable pub use Rattle.mmio_transport.specs.Device.{first_queue, after_write}

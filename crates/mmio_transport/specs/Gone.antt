@@ -2,7 +2,7 @@
 use Rattle.std.specs.Prelude.{◌≡◌, ◌≢◌, ℕ, ◌<◌, ◌≤◌, ◌⊎◌, Bool, true, false, List, [], ◌∷◌, length, Option, Some, None}
 use Rattle.std.specs.Prelude.{Result, Ok}
 use Rattle.guest_memory.specs.Memory.{IsInside, with_bytes}
-use Rattle.chains.specs.declared.places.Outstanding.{Outstanding}
+use Rattle.chains.specs.declared.popped.Outstanding.{Outstanding}
 use Rattle.chains.specs.Range.{AreInside}
 use Rattle.chains.specs.Ring.{is_chain, IsOutstanding, IsOldest}
 use Rattle.mmio_transport.specs.declared.fault.DeviceFault.{DeviceFault}

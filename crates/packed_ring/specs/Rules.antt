@@ -1,19 +1,19 @@
 -- The chain at the next place is that which begins there; and the areas stay where they are.
 use Rattle.std.specs.Prelude.{◌≡◌, ℕ, Bool, true, false, if◌then◌else◌, refl, List, [], Some, None, Ok}
-use Rattle.chains.specs.declared.descriptor.Area.{Area}
+use Rattle.chains.specs.declared.descriptor.Descriptors.{Descriptors}
 use Rattle.chains.specs.Walk.{chain_at, walk}
 use Rattle.chains.specs.Ring.{RingState}
 use Rattle.chains.specs.Start.{some_found, found_from, members_from}
 use Rattle.packed_ring.specs.Layout.{index, descriptor_ring, AreasInside}
 use Rattle.packed_ring.specs.Available.{is_next, next_start, next, members}
 
-next_by : (m : List ℕ) (area : Area) (start : ℕ) (available : Bool)
+next_by : (m : List ℕ) (area : Descriptors) (start : ℕ) (available : Bool)
     → (if available then some_found (walk m area start) else Ok None)
     ≡ found_from m area (Ok (if available then Some start else None))
 next_by m area start true = refl
 next_by m area start false = refl
 
-members_by : (m : List ℕ) (area : Area) (start : ℕ) (available : Bool)
+members_by : (m : List ℕ) (area : Descriptors) (start : ℕ) (available : Bool)
     → (if available then chain_at m area start else [])
     ≡ members_from m area (Ok (if available then Some start else None))
 members_by m area start true = refl
