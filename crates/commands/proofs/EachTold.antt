@@ -1,6 +1,6 @@
 -- Lines of guests that are written one after another, and what a script whose guests are served comes to.
 use Rattle.std.proofs.Common.{◌≡◌, ◌∙◌, ℕ, zero, suc, ◌+◌, ◌<◌, List, [], ◌∷◌, ◌++◌, Option, Some, Result, Ok, Err, take, length, map, get_or, refl, ap, subst, sym, arith, inr}
-use Rattle.commands.proofs.Common.{Appends-nil, Appends-trans, Keeps-refl, append_assoc, append-nil, length-map, slice_get_read, Appends, IfErr, slice_get, slice_index_or, true, GuestConfig, DiskState, capacities_of, Said, served_line_of, lines_of, Line, AnswersFault, OpenFault, HostFault, Answer, HaveAll, chain_orders, Order, Ends, IsOfReading, IsOfTelling, serving, fault_of, fault_of_image, PrintsEach, answer_line, answer_lines, chains_of, guests_lines, Fault}
+use Rattle.commands.proofs.Common.{Appends-nil, Appends-trans, Keeps-refl, append_assoc, append-nil, length-map, slice_get_read, Appends, IfErr, slice_get, slice_index_or, true, GuestConfig, DiskState, capacities_of, Said, served_line_of, lines_of, Line, AnswersFault, OpenFault, HostFault, Answer, HaveAll, chain_orders, Order, Ends, IsOfReading, IsOfTelling, serving, fault_of, fault_of_image, PrintsEach, answer_line, answer_lines, asked_of, asks, chains_of, guests_lines, Fault}
 use Rattle.std.proofs.lemmas.List.{get_or-map}
 use Rattle.std.specs.Prelude.{vec_len}
 use Rattle.script.specs.Line.{said}
@@ -11,6 +11,7 @@ use Rattle.commands.specs.Ending.{IsServable}
 use Rattle.commands.specs.Serving.{IsUnservedAt, ServePrints, ServedPrint}
 use Rattle.commands.specs.declared.fault.Fault.TheVariants as fault
 use Rattle.commands.proofs.Cases.{reading_cases, telling_cases}
+use Rattle.commands.proofs.Handed.{as_many_chains}
 use Rattle.commands.proofs.Printing.{says_same}
 
 answers_take : (guest : ℕ) (xs : List Answer) (i : ℕ) (x : Answer) → slice_get xs i ≡ Some x
@@ -66,7 +67,7 @@ take_all (x ∷ xs) (suc n) is = ap (λ t. x ∷ t) (take_all xs n (omega (arith
 
 -- What guests have answers to is what the lines offer of each.
 pub told_each : (drivers : List DriverEnd) (scripts : List (List Order)) (lines : List Said) (n : ℕ) → length drivers ≡ n → length scripts ≡ n → HaveAll drivers scripts
-    → ((g : ℕ) → g < n → chain_orders (slice_index_or scripts g []) ≡ chains_of g lines)
+    → ((g : ℕ) → g < n → map (asks g) (slice_index_or scripts g []) ≡ asked_of g lines)
     → (g : ℕ) → g < n → length (get_or (map (λ e. e.answers.items) drivers) g []) ≡ chains_of g lines
 told_each [] scripts lines n many as_many all each g below = absurd (omega (arith, many, below))
 told_each (d ∷ drivers) scripts lines n many as_many all each g below =
@@ -75,12 +76,12 @@ told_each (d ∷ drivers) scripts lines n many as_many all each g below =
     let answered : vec_len here.answers ≡ chain_orders (slice_index_or scripts g []) = all g d (omega (arith, as_many, below)) in
     let shown : length (get_or (map (λ e. e.answers.items) (d ∷ drivers)) g []) ≡ length here.answers.items = ap length (get_or-map (λ (e : DriverEnd). e.answers.items) (d ∷ drivers) g d [] inside) in
     let long = here.answers.ok in
-    let offers = each g below in
+    let offers = as_many_chains g (slice_index_or scripts g []) lines (each g below) in
     omega (arith, answered, shown, long, offers)
 
 -- what they print where they end well
 pub prints_each : (drivers : List DriverEnd) (scripts : List (List Order)) (lines : List Said) (n : ℕ) (start now : Option (List ℕ)) → length drivers ≡ n → length scripts ≡ n → HaveAll drivers scripts
-    → ((g : ℕ) → g < n → chain_orders (slice_index_or scripts g []) ≡ chains_of g lines)
+    → ((g : ℕ) → g < n → map (asks g) (slice_index_or scripts g []) ≡ asked_of g lines)
     → Appends start now (guests_lines 0 (map (λ e. e.answers.items) drivers)) → PrintsEach n lines start now
 prints_each drivers scripts lines n start now many as_many all each printed = record {
   answers = map (λ e. e.answers.items) drivers;

@@ -1,30 +1,42 @@
 -- Orders that are handed out to guests, one after another.
-use Rattle.std.proofs.Common.{◌≡◌, ◌≢◌, ⊎_elim, ◌∙◌, ◌+◌, ◌<◌, ◌==◌, ◌++◌, ◌∷◌, ℕ, suc, List, [], true, false, if◌then◌else◌, length, refl, ap, sym, arith}
-use Rattle.commands.proofs.Common.{cases_eq, All, slice_index_or, slice_set, chain_orders, chains_in, Order}
-use Rattle.std.proofs.lemmas.List.{get_or-set_other, get_or-set_same}
+use Rattle.std.proofs.Common.{◌≡◌, ◌≢◌, ⊎_elim, ◌∙◌, ◌+◌, ◌<◌, ◌==◌, ◌++◌, ◌∷◌, ℕ, suc, List, [], true, false, if◌then◌else◌, length, map, refl, ap, sym, arith}
+use Rattle.commands.proofs.Common.{cases_eq, append-nil, All, slice_index_or, slice_set, chain_orders, Order, Said, chains_of, asks, asked_of}
+use Rattle.std.proofs.lemmas.List.{get_or-set_other, get_or-set_same, map-append}
+use Rattle.workers.specs.declared.order.Order.TheVariants as order
 
-chain_orders_more : (xs : List Order) (o : Order) → chain_orders (xs ++ o ∷ []) ≡ chain_orders xs + chains_in o
-chain_orders_more [] o = omega arith
-chain_orders_more (x ∷ xs) o = omega (arith, chain_orders_more xs o)
+if_same : {X : Type 0} (g guest : ℕ) (n m : X) → g ≡ guest → (if g == guest then n else m) ≡ n
+if_same g guest n m is = let yes : g == guest ≡ true = grind (arith, is) in rw yes refl
 
-if_same : (g guest n : ℕ) → g ≡ guest → (if g == guest then n else 0) ≡ n
-if_same g guest n is = let yes : g == guest ≡ true = grind (arith, is) in rw yes refl
-
-if_other : (g guest n : ℕ) → g ≢ guest → (if g == guest then n else 0) ≡ 0
-if_other g guest n is_not = let no : g == guest ≡ false = grind (arith, is_not) in rw no refl
+if_other : {X : Type 0} (g guest : ℕ) (n m : X) → g ≢ guest → (if g == guest then n else m) ≡ m
+if_other g guest n m is_not = let no : g == guest ≡ false = grind (arith, is_not) in rw no refl
 
 -- one guest has an order more
 pub one_given : (scripts : List (List Order)) (guest : ℕ) (now : List Order) (o : Order) → guest < length scripts → now ≡ slice_index_or scripts guest [] ++ o ∷ []
-    → (g : ℕ) → chain_orders (slice_index_or (slice_set scripts guest now) g []) ≡ chain_orders (slice_index_or scripts g []) + (if g == guest then chains_in o else 0)
+    → (g : ℕ) → map (asks g) (slice_index_or (slice_set scripts guest now) g []) ≡ map (asks g) (slice_index_or scripts g []) ++ (if g == guest then asks g o ∷ [] else [])
 one_given scripts guest now o below is g = ⊎_elim
     (λ same.
-    let here : chain_orders (slice_index_or (slice_set scripts guest now) g []) ≡ chain_orders now = ap chain_orders (ap (λ n. slice_index_or (slice_set scripts guest now) n []) same ∙ get_or-set_same scripts guest now [] below) in
-    let more : chain_orders now ≡ chain_orders (slice_index_or scripts g []) + chains_in o = ap chain_orders is ∙ chain_orders_more (slice_index_or scripts guest []) o ∙ ap (λ n. chain_orders (slice_index_or scripts n []) + chains_in o) (sym same) in
-    here ∙ more ∙ ap (λ n. chain_orders (slice_index_or scripts g []) + n) (sym (if_same g guest (chains_in o) same)))
+    let here : slice_index_or (slice_set scripts guest now) g [] ≡ now = ap (λ n. slice_index_or (slice_set scripts guest now) n []) same ∙ get_or-set_same scripts guest now [] below in
+    ap (map (asks g)) (here ∙ is) ∙ map-append (asks g) (slice_index_or scripts guest []) (o ∷ []) ∙ ap (λ n. map (asks g) (slice_index_or scripts n []) ++ asks g o ∷ []) (sym same)
+    ∙ ap (λ more. map (asks g) (slice_index_or scripts g []) ++ more) (sym (if_same g guest (asks g o ∷ []) [] same)))
     (λ other.
-    let here : chain_orders (slice_index_or (slice_set scripts guest now) g []) ≡ chain_orders (slice_index_or scripts g []) = ap chain_orders (get_or-set_other scripts guest g now [] other) in
-    let none = if_other g guest (chains_in o) other in omega (arith, here, none))
+    let here : slice_index_or (slice_set scripts guest now) g [] ≡ slice_index_or scripts g [] = get_or-set_other scripts guest g now [] other in
+    ap (map (asks g)) here ∙ sym (append-nil (map (asks g) (slice_index_or scripts g [])))
+    ∙ ap (λ more. map (asks g) (slice_index_or scripts g []) ++ more) (sym (if_other g guest (asks g o ∷ []) [] other)))
     (cases_eq g guest)
 
 pub rest_all : {X : Type 0} (P : X → Type 0) (x : X) (xs : List X) → All P (x ∷ xs) → All P xs
 rest_all P x xs all k d below = all (suc k) d (omega (arith, below))
+
+-- How many chains there are among the orders of a guest, and among the lines that ask for them.
+
+orders_count : (g : ℕ) (os : List Order) → chains_of g (map (asks g) os) ≡ chain_orders os
+orders_count g [] = refl
+orders_count g (order.Chain c ∷ os) = let one = if_same {X = ℕ} g g 1 0 refl in let rest = orders_count g os in omega (arith, one, rest)
+orders_count g (order.Reset ∷ os) = omega (arith, orders_count g os)
+
+asked_count : (g : ℕ) (ls : List Said) → chains_of g (asked_of g ls) ≡ chains_of g ls
+asked_count g [] = refl
+asked_count g (l ∷ ls) = grind (arith, (asked_count g ls))
+
+pub as_many_chains : (g : ℕ) (os : List Order) (ls : List Said) → map (asks g) os ≡ asked_of g ls → chain_orders os ≡ chains_of g ls
+as_many_chains g os ls is = sym (orders_count g os) ∙ ap (chains_of g) is ∙ asked_count g ls

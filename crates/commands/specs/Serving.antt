@@ -7,8 +7,10 @@ use Rattle.rpmb_frame.specs.declared.config.GuestConfig.{GuestConfig}
 use Rattle.disk.specs.Disk.{DiskCall, DiskState, Within}
 use Rattle.recovery.specs.Opening.{Untouched}
 use Rattle.script.specs.declared.line.Line.{Line}
-use Rattle.script.specs.Line.{IsServed, IsWithin, Said, chain, said, served_line_of}
+use Rattle.script.specs.Line.{IsServed, IsWithin, Said, chain, reset, said, served_line_of}
 use Rattle.script.specs.Script.{first_unserved, lines_of}
+use Rattle.workers.specs.declared.order.Order.{Order}
+use Rattle.workers.specs.declared.order.Order.TheVariants as order
 use Rattle.host.specs.declared.front.Answer.{Answer}
 use Rattle.host.specs.declared.front.Answer.TheVariants as answer
 use Rattle.commands.specs.Transcript.{stuck_line, used_line}
@@ -38,6 +40,22 @@ chains_by g line = 0
 abbrev pub chains_of : ℕ → List Said → ℕ
 chains_of g [] = 0
 chains_of g (line ∷ lines) = chains_by g line + chains_of g lines
+
+-- what an order asks for of this guest
+abbrev pub asks : ℕ → Order → Said
+asks g (order.Chain c) = chain g c.readable.items c.writable
+asks g order.Reset = reset g
+
+-- what a line asks for of this guest: its chain or its reset
+abbrev pub asked_by : ℕ → Said → List Said
+asked_by g (chain guest readable writable) = if g == guest then chain g readable writable ∷ [] else []
+asked_by g (reset guest) = if g == guest then reset g ∷ [] else []
+asked_by g line = []
+
+-- and all lines, in their order
+abbrev pub asked_of : ℕ → List Said → List Said
+asked_of g [] = []
+asked_of g (line ∷ lines) = asked_by g line ++ asked_of g lines
 
 -- the line of what a guest's chain came to
 abbrev pub answer_line : ℕ → Answer → List ℕ

@@ -1,12 +1,11 @@
 //! A script that is served, by guest.
-ghost use Rattle.std.specs.Prelude.{◌≡◌, ◌+◌, ◌<◌, ◌==◌, ◌++◌, ◌∷◌, ℕ, All, [], Err, IfErr, IfOk};
+ghost use Rattle.std.specs.Prelude.{◌≡◌, ◌<◌, ◌==◌, ◌++◌, ◌∷◌, ℕ, All, [], Err, IfErr, IfOk};
 ghost use Rattle.std.specs.Prelude.{OnOk, Some, if◌then◌else◌, length, map, slice_index_or};
 ghost use Rattle.std.specs.Prelude.{vec_len};
 ghost use Rattle.script.specs.Line.{IsServed, IsWithin, said, served_line_of};
 ghost use Rattle.script.specs.Script.{lines_of};
-ghost use Rattle.workers.specs.Orders.{chain_orders, chains_in};
 ghost use Rattle.commands.specs.Ending.{IsOfReading};
-ghost use Rattle.commands.specs.Serving.{AreServable, IsUnservedAt, chains_by, chains_of};
+ghost use Rattle.commands.specs.Serving.{AreServable, IsUnservedAt, asked_by, asked_of, asks};
 
 use crate::fault::Fault;
 use rpmb_frame::BoardConfig;
@@ -38,9 +37,9 @@ fn give(scripts: &mut Vec<Script>, guest: u16, order: Order) -> Result<(), Fault
     requires { guest < vec_len scripts.old }
     ensures many { vec_len scripts.new ≡ vec_len scripts.old }
     ensures each { OnOk result ((g : ℕ) → g < vec_len scripts.old
-        → chain_orders (slice_index_or scripts.new.items g [])
-        ≡ chain_orders (slice_index_or scripts.old.items g []) + (if g == guest
-        then chains_in order else 0)) }
+        → map (asks g) (slice_index_or scripts.new.items g [])
+        ≡ map (asks g) (slice_index_or scripts.old.items g []) ++ (if g == guest
+        then asks g order ∷ [] else [])) }
     ensures memory { IfErr result (λ fault. fault ≡ Fault.NoMemory) }
 {
     match scripts[usize::from(guest)].push(order) {
@@ -55,8 +54,8 @@ fn hand_out(scripts: &mut Vec<Script>, line: Line) -> Result<(), Fault>
     requires served { IsServed (said line) }
     ensures many { vec_len scripts.new ≡ vec_len scripts.old }
     ensures each { OnOk result ((g : ℕ) → g < vec_len scripts.old
-        → chain_orders (slice_index_or scripts.new.items g [])
-        ≡ chain_orders (slice_index_or scripts.old.items g []) + chains_by g (said line)) }
+        → map (asks g) (slice_index_or scripts.new.items g [])
+        ≡ map (asks g) (slice_index_or scripts.old.items g []) ++ asked_by g (said line)) }
     ensures memory { IfErr result (λ fault. fault ≡ Fault.NoMemory) }
 {
     match line {
@@ -92,7 +91,7 @@ pub(crate) fn part(alloc: Global, lines: Vec<Line>, guests: usize) -> Result<Vec
     requires served { All (λ line. IsServed (said line)) lines.items }
     ensures many { IfOk result (λ scripts. vec_len scripts ≡ guests) }
     ensures each { IfOk result (λ scripts. (g : ℕ) → g < guests
-        → chain_orders (slice_index_or scripts.items g []) ≡ chains_of g (map said lines.items)) }
+        → map (asks g) (slice_index_or scripts.items g []) ≡ asked_of g (map said lines.items)) }
     ensures memory { IfErr result (λ fault. fault ≡ Fault.NoMemory) }
 {
     let mut scripts = no_orders(alloc, guests)?;
