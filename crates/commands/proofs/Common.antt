@@ -53,7 +53,7 @@ pub use Rattle.commands.specs.Listing.{block_shown, listing}
 pub use Rattle.commands.specs.Moments.{MayEnd, Moment, StopsAt, broken_at, AnyMoment, Begun, IsTold, Trail, Went, MovesTo, Starts, Walked, moment_of}
 pub use Rattle.commands.specs.Running.{IsAt, AreWithin, IsSized}
 unfoldable pub use Rattle.commands.specs.Serving.{answer_lines, guests_lines}
-pub use Rattle.commands.specs.Serving.{PrintsEach, answer_line, asked_by, asked_of, asks, chains_of}
+pub use Rattle.commands.specs.Serving.{PrintsEach, answer_line, asked_by, asked_of, asks, chains_of, is_chain}
 unfoldable pub use Rattle.commands.specs.Transcript.{told_after, transcript}
 pub use Rattle.commands.specs.Transcript.{StoresNothing, first_told, Told, used_line, printed_by, told_by}
 pub use Rattle.commands.specs.declared.fault.Fault.{Fault}

@@ -1,6 +1,6 @@
 -- Orders that are handed out to guests, one after another.
-use Rattle.std.proofs.Common.{◌≡◌, ◌≢◌, ⊎_elim, ◌∙◌, ◌+◌, ◌<◌, ◌==◌, ◌++◌, ◌∷◌, ℕ, suc, List, [], true, false, if◌then◌else◌, length, map, refl, ap, sym, arith}
-use Rattle.commands.proofs.Common.{cases_eq, append-nil, All, slice_index_or, slice_set, chain_orders, Order, Said, chains_of, asks, asked_of}
+use Rattle.std.proofs.Common.{◌≡◌, ◌≢◌, ⊎_elim, ◌∙◌, ◌+◌, ◌<◌, ◌==◌, ◌++◌, ◌∷◌, ℕ, suc, List, [], true, false, if◌then◌else◌, filter, length, map, refl, ap, sym, arith}
+use Rattle.commands.proofs.Common.{cases_eq, append-nil, All, slice_index_or, slice_set, chain_orders, Order, Said, chains_of, is_chain, asks, asked_of}
 use Rattle.std.proofs.lemmas.List.{get_or-set_other, get_or-set_same, map-append}
 use Rattle.workers.specs.declared.order.Order.TheVariants as order
 
@@ -27,16 +27,12 @@ one_given scripts guest now o below is g = ⊎_elim
 pub rest_all : {X : Type 0} (P : X → Type 0) (x : X) (xs : List X) → All P (x ∷ xs) → All P xs
 rest_all P x xs all k d below = all (suc k) d (omega (arith, below))
 
--- How many chains there are among the orders of a guest, and among the lines that ask for them.
+-- How many chains there are among the orders of a guest, and so among the lines that ask for them.
 
-orders_count : (g : ℕ) (os : List Order) → chains_of g (map (asks g) os) ≡ chain_orders os
+orders_count : (g : ℕ) (os : List Order) → length (filter is_chain (map (asks g) os)) ≡ chain_orders os
 orders_count g [] = refl
-orders_count g (order.Chain c ∷ os) = let one = if_same {X = ℕ} g g 1 0 refl in let rest = orders_count g os in omega (arith, one, rest)
+orders_count g (order.Chain c ∷ os) = omega (arith, orders_count g os)
 orders_count g (order.Reset ∷ os) = omega (arith, orders_count g os)
 
-asked_count : (g : ℕ) (ls : List Said) → chains_of g (asked_of g ls) ≡ chains_of g ls
-asked_count g [] = refl
-asked_count g (l ∷ ls) = grind (arith, (asked_count g ls))
-
 pub as_many_chains : (g : ℕ) (os : List Order) (ls : List Said) → map (asks g) os ≡ asked_of g ls → chain_orders os ≡ chains_of g ls
-as_many_chains g os ls is = sym (orders_count g os) ∙ ap (chains_of g) is ∙ asked_count g ls
+as_many_chains g os ls is = sym (orders_count g os) ∙ ap (λ v. length (filter is_chain v)) is

@@ -1,6 +1,6 @@
 -- What a script prints whose guests are served at once, and why that ends with a fault.
-use Rattle.std.specs.Prelude.{◌≡◌, ◌⊎◌, ◌<◌, ◌+◌, ◌==◌, ℕ, if◌then◌else◌, List, [], ◌∷◌, ◌++◌}
-use Rattle.std.specs.Prelude.{All, Option, Some, None, get_or, length, map}
+use Rattle.std.specs.Prelude.{◌≡◌, ◌⊎◌, ◌<◌, ◌+◌, ◌==◌, ℕ, Bool, true, false, if◌then◌else◌, List, [], ◌∷◌, ◌++◌}
+use Rattle.std.specs.Prelude.{All, Option, Some, None, filter, flat_map, get_or, length, map}
 use Rattle.std.specs.Io.KnownBytes.{Appends, Keeps}
 use Rattle.rpmb_frame.specs.Config.{IsBoard}
 use Rattle.rpmb_frame.specs.declared.config.GuestConfig.{GuestConfig}
@@ -31,16 +31,6 @@ pub record AreServable (board : List GuestConfig) (lines : List Line) : Type 0 w
 abbrev pub IsUnservedAt : List GuestConfig → List ℕ → ℕ → Type 0
 IsUnservedAt board script n = first_unserved (length board) (lines_of script) ≡ Some n
 
--- how many chains of a guest a line offers
-abbrev pub chains_by : ℕ → Said → ℕ
-chains_by g (chain guest readable writable) = if g == guest then 1 else 0
-chains_by g line = 0
-
--- and all lines
-abbrev pub chains_of : ℕ → List Said → ℕ
-chains_of g [] = 0
-chains_of g (line ∷ lines) = chains_by g line + chains_of g lines
-
 -- what an order asks for of this guest
 abbrev pub asks : ℕ → Order → Said
 asks g (order.Chain c) = chain g c.readable.items c.writable
@@ -54,8 +44,15 @@ asked_by g line = []
 
 -- and all lines, in their order
 abbrev pub asked_of : ℕ → List Said → List Said
-asked_of g [] = []
-asked_of g (line ∷ lines) = asked_by g line ++ asked_of g lines
+asked_of g lines = flat_map (asked_by g) lines
+
+abbrev pub is_chain : Said → Bool
+is_chain (chain guest readable writable) = true
+is_chain line = false
+
+-- how many chains of a guest they offer
+abbrev pub chains_of : ℕ → List Said → ℕ
+chains_of g lines = length (filter is_chain (asked_of g lines))
 
 -- the line of what a guest's chain came to
 abbrev pub answer_line : ℕ → Answer → List ℕ

@@ -109,10 +109,8 @@ fn write_guest<W: Write>(guest: u16, partition: &Partition, out: &mut W) -> Resu
     ensures whole { IsWhole partition.now }
     ensures only { (fault : Fault) → result ≡ Err fault → fault ≡ Fault.FileFault }
 {
-    match write_guest_line(guest, partition, out) {
-        Ok(()) => write_blocks(guest, partition, out),
-        Err(fault) => Err(fault),
-    }
+    write_guest_line(guest, partition, out)?;
+    write_blocks(guest, partition, out)
 }
 
 /// Writes all guests, one after another.

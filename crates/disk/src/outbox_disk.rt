@@ -159,13 +159,9 @@ impl Disk for OutboxDisk {
         ensures unchanged { OnErr result (out.new ≡ out.old) }
     {
         let there = out.len() <= self.image.len() && at as usize <= self.image.len() - out.len();
-        match ended(there, &mut self.failed, &mut self.failures) {
-            Ok(()) => {
-                copy_out(&self.image, at, out);
-                Ok(())
-            }
-            Err(fault) => Err(fault),
-        }
+        ended(there, &mut self.failed, &mut self.failures)?;
+        copy_out(&self.image, at, out);
+        Ok(())
     }
 
     fn write_at(&mut self, at: u64, bytes: &[u8]) -> Result<(), DiskFault>
@@ -174,14 +170,10 @@ impl Disk for OutboxDisk {
         ensures succeeds { is_ok result ≡ write_succeeds (length bytes.now) self.old }
     {
         let fits = self.outbox.has_room(bytes.len());
-        match ended(fits, &mut self.failed, &mut self.failures) {
-            Ok(()) => {
-                self.outbox.put(at, bytes);
-                self.synced = false;
-                Ok(())
-            }
-            Err(fault) => Err(fault),
-        }
+        ended(fits, &mut self.failed, &mut self.failures)?;
+        self.outbox.put(at, bytes);
+        self.synced = false;
+        Ok(())
     }
 
     fn sync(&mut self) -> Result<(), DiskFault>

@@ -139,11 +139,7 @@ pub(crate) fn sync_round<D: Disk>(disk: &mut D, guests: &mut [Guest]) -> Result<
     ensures room { (D.state disk.new).len ≡ (D.state disk.old).len }
     ensures synced { SyncedAll D.makes disk.old guests.old (is_ok result) disk.new guests.new }
 {
-    match disk.sync() {
-        Err(fault) => Err(fault),
-        Ok(()) => {
-            sync_all(guests);
-            Ok(())
-        }
-    }
+    disk.sync()?;
+    sync_all(guests);
+    Ok(())
 }

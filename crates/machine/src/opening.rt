@@ -71,10 +71,7 @@ pub fn image_length(alloc: Global, windows: &[Window]) -> Result<u64, MachineFau
     ensures monitored { OnOk result (IsMonitored windows.now) }
     ensures bad { result ≡ Err MachineFault.BadBoard → ¬ IsMonitored windows.now }
 {
-    match board_of(alloc, windows) {
-        Ok(board) => Ok(Layout::of(&board).length()),
-        Err(fault) => Err(fault),
-    }
+    Ok(Layout::of(&board_of(alloc, windows)?).length())
 }
 
 /// Makes a fresh image of these guests of all of `image`: each partition is empty, without a key.

@@ -15,8 +15,8 @@ use Rattle.queue_looks.specs.Advancing.{IsListened}
 use Rattle.queue_looks.specs.Calm.{is_broken}
 use Rattle.queue_looks.specs.Runner.{runner_of}
 
--- What the answers to all guests depend on stays, unless the store broke. Nothing moves but the store, and what the
--- book hears of it.
+-- What the answers to all guests depend on stays, unless the store broke. But for the store, its report and the book,
+-- which hears of it, nothing moves.
 pub record Rests {D : Type 0} (b b' : BoardState D) : Type 0 where
   pub listened : IsListened b'
   pub others : b' ≡ record b { store = b'.store; report = b'.report; book = b'.book }

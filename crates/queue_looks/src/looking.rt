@@ -69,11 +69,10 @@ pub fn look_on<D: Disk>(board: &mut Board<D>, guest: u16, times: u16) -> Result<
     ensures { OnShare D.state D.makes guest (λ s s'. LooksOn guest (max 1 times) s result s') board.old board.new }
 {
     for answered in 0..times.max(1) {
-        match look_once(board, guest) {
-            Ok(Look::Answered) => {}
-            Ok(Look::Nothing) => return Ok(found_after(answered)),
-            Ok(Look::Stopped) => return Ok(Look::Stopped),
-            Err(fault) => return Err(fault),
+        match look_once(board, guest)? {
+            Look::Answered => {}
+            Look::Nothing => return Ok(found_after(answered)),
+            Look::Stopped => return Ok(Look::Stopped),
         }
     }
     Ok(Look::Answered)

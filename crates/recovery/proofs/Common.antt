@@ -2,6 +2,7 @@
 pub use Rattle.std.proofs.lemmas.Bool.{cases_lt, cases_eq}
 pub use Rattle.std.proofs.lemmas.Bool.Decides.{nat_tests}
 pub use Rattle.std.proofs.lemmas.List.{get_or_past}
+pub use Rattle.std.proofs.lemmas.Result.{err_from_is_err_and}
 pub use Rattle.std.proofs.lemmas.Option.{slice_get_within}
 pub use Rattle.std.specs.Prelude.{◌||◌, Result, Ok, Err, is_ok, slice_index, ◌==◌, OnOk, slice_get, ℕ}
 pub use Rattle.rpmb_frame.specs.Partition.{Partition, sequence_of}

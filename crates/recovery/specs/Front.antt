@@ -9,6 +9,13 @@ use Rattle.flusher.specs.Store.{OnlyReads}
 use Rattle.recovery.specs.Opening.{HasFront, IsOther}
 use Rattle.recovery.specs.declared.fault.OpenFault.{OpenFault}
 use Rattle.recovery.specs.declared.fault.OpenFault.TheVariants as fault
+use Rattle.intent_slots.specs.declared.header.HeaderFault.{HeaderFault}
+use Rattle.intent_slots.specs.declared.header.HeaderFault.TheVariants as header
+
+-- the fault of a header that isn't the board's
+abbrev pub fault_of_header : HeaderFault → OpenFault
+fault_of_header header.NotFormatted = fault.NotFormatted
+fault_of_header header.OtherConfig = fault.OtherConfig
 
 -- this board's header, on a disk of its image's length
 pub record HasHeader (capacities : List ℕ) (len : ℕ) (c : Content) : Type 0 where

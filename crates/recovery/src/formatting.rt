@@ -39,10 +39,7 @@ fn write_all_zeros<D: Disk>(disk: &mut D) -> Result<(), DiskFault>
     let len = disk.len();
     let whole = len / CHUNK_LENGTH;
     for chunk in 0..whole {
-        match write_zeros(disk, CHUNK_LENGTH * chunk, CHUNK_LENGTH as usize) {
-            Ok(()) => {}
-            Err(fault) => return Err(fault),
-        }
+        write_zeros(disk, CHUNK_LENGTH * chunk, CHUNK_LENGTH as usize)?;
     }
     write_zeros(disk, CHUNK_LENGTH * whole, (len % CHUNK_LENGTH) as usize)
 }
@@ -58,14 +55,8 @@ fn write_guest<D: Disk>(disk: &mut D, layout: &Layout, guest: u16) -> Result<(),
     ensures calls { WritesZeros D.makes disk.old disk.new }
 {
     let extent = layout.extent(guest);
-    match write_zeros(disk, extent.home(), HOME_LENGTH) {
-        Ok(()) => {}
-        Err(fault) => return Err(fault),
-    }
-    match write_zeros(disk, extent.gate(Side::A), 1) {
-        Ok(()) => {}
-        Err(fault) => return Err(fault),
-    }
+    write_zeros(disk, extent.home(), HOME_LENGTH)?;
+    write_zeros(disk, extent.gate(Side::A), 1)?;
     write_zeros(disk, extent.gate(Side::B), 1)
 }
 
@@ -79,10 +70,7 @@ fn write_guests<D: Disk>(disk: &mut D, layout: &Layout) -> Result<(), DiskFault>
     ensures calls { WritesZeros D.makes disk.old disk.new }
 {
     for guest in 0..layout.guests() {
-        match write_guest(disk, layout, guest as u16) {
-            Ok(()) => {}
-            Err(fault) => return Err(fault),
-        }
+        write_guest(disk, layout, guest as u16)?;
     }
     Ok(())
 }
@@ -96,10 +84,7 @@ fn write_header<D: Disk>(disk: &mut D, layout: &Layout, version: u8) -> Result<(
         → Holds (formatted version layout.now) (D.state disk.old).len (D.state disk.new).seen) }
     ensures empty { IsBlank layout.now (D.state disk.old) → StaysEmpty D.state D.makes layout.now disk.old disk.new }
 {
-    match disk.write_at(0, layout.header().as_slice()) {
-        Ok(()) => {}
-        Err(fault) => return Err(fault),
-    }
+    disk.write_at(0, layout.header().as_slice())?;
     disk.write_at(VERSION_OFFSET, &[version])
 }
 
@@ -134,10 +119,7 @@ pub fn format<D: Disk>(disk: &mut D, board: &BoardConfig) -> Result<(), OpenFaul
     // empty partitions.
     ensures order { ClearsFirst D.state D.makes (capacities_of board.now) disk.old disk.new }
 {
-    match write_image(disk, &Layout::of(board), version_of(false)) {
-        Ok(()) => Ok(()),
-        Err(_) => Err(OpenFault::DiskFault),
-    }
+    Ok(write_image(disk, &Layout::of(board), version_of(false))?)
 }
 
 /// Makes a fresh image of version 2, in which both slots of each partition are in use: as `format`, with
@@ -156,10 +138,7 @@ pub fn format2<D: Disk>(disk: &mut D, board: &BoardConfig) -> Result<(), OpenFau
     // empty partitions.
     ensures order { ClearsFirst D.state D.makes (capacities_of board.now) disk.old disk.new }
 {
-    match write_image(disk, &Layout::of(board), version_of(true)) {
-        Ok(()) => Ok(()),
-        Err(_) => Err(OpenFault::DiskFault),
-    }
+    Ok(write_image(disk, &Layout::of(board), version_of(true))?)
 }
 
 /// The version byte of an image, in which both slots of each partition are in use, or one alone.
@@ -177,14 +156,8 @@ fn write_image<D: Disk>(disk: &mut D, layout: &Layout, version: u8) -> Result<()
         → IsFormatted version layout.now (D.state disk.new)) }
     ensures order { ClearsFirst D.state D.makes layout.now disk.old disk.new }
 {
-    match clear(disk, layout) {
-        Ok(()) => {}
-        Err(fault) => return Err(fault),
-    }
-    match write_header(disk, layout, version) {
-        Ok(()) => {}
-        Err(fault) => return Err(fault),
-    }
+    clear(disk, layout)?;
+    write_header(disk, layout, version)?;
     sync(disk)
 }
 
@@ -199,14 +172,8 @@ fn clear<D: Disk>(disk: &mut D, layout: &Layout) -> Result<(), DiskFault>
     ensures cleared { OnOk result (SyncsZeros D.makes true disk.old disk.new) }
     ensures refused { OnErr result (ClearsFirst D.state D.makes layout.now disk.old disk.new) }
 {
-    match write_all_zeros(disk) {
-        Ok(()) => {}
-        Err(fault) => return Err(fault),
-    }
-    match write_guests(disk, layout) {
-        Ok(()) => {}
-        Err(fault) => return Err(fault),
-    }
+    write_all_zeros(disk)?;
+    write_guests(disk, layout)?;
     sync(disk)
 }
 

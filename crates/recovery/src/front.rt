@@ -8,7 +8,7 @@ ghost use Rattle.recovery.specs.Reading.{Opens, Passes, Tells, TellsHeader, is_d
 use crate::fault::OpenFault;
 use crate::reading::read;
 use disk::{Disk, DiskFault};
-use intent_slots::{HEADER_LENGTH, HeaderFault, Layout, VERSION_OFFSET};
+use intent_slots::{HEADER_LENGTH, Layout, VERSION_OFFSET};
 
 /// Whether the front of the image is the header of this layout.
 fn read_header<D: Disk>(disk: &mut D, layout: &Layout) -> Result<(), OpenFault>
@@ -21,15 +21,8 @@ fn read_header<D: Disk>(disk: &mut D, layout: &Layout) -> Result<(), OpenFault>
         return Err(OpenFault::NotFormatted);
     }
     let mut front = [0; 74];
-    match read(disk, 0, &mut front) {
-        Ok(()) => {}
-        Err(_) => return Err(OpenFault::DiskFault),
-    }
-    match layout.check_header(&front) {
-        Ok(()) => Ok(()),
-        Err(HeaderFault::NotFormatted) => Err(OpenFault::NotFormatted),
-        Err(HeaderFault::OtherConfig) => Err(OpenFault::OtherConfig),
-    }
+    read(disk, 0, &mut front)?;
+    Ok(layout.check_header(&front)?)
 }
 
 /// Whether the image is of version 2.
@@ -39,10 +32,8 @@ fn read_version<D: Disk>(disk: &mut D) -> Result<bool, DiskFault>
     ensures tells { IfOk result (λ paired. Tells (D.state disk.old) (λ c. paired ≡ is_paired c)) }
 {
     let mut version = [0; 1];
-    match read(disk, VERSION_OFFSET, &mut version) {
-        Ok(()) => Ok(version[0] == 2),
-        Err(fault) => Err(fault),
-    }
+    read(disk, VERSION_OFFSET, &mut version)?;
+    Ok(version[0] == 2)
 }
 
 /// Whether the image is of version 2, after a sync: header, length and version byte are looked at, and
@@ -57,20 +48,10 @@ pub(crate) fn check<D: Disk>(disk: &mut D, layout: &Layout) -> Result<bool, Open
     ensures tells { Tells (D.state disk.old) (λ c. TellsVersion layout.now (D.state disk.old).len c result) }
 {
     let _guests = layout.guests();
-    match disk.sync() {
-        Ok(()) => {}
-        Err(_) => return Err(OpenFault::DiskFault),
-    }
-    match read_header(disk, layout) {
-        Ok(()) => {}
-        Err(fault) => return Err(fault),
-    }
+    disk.sync()?;
+    read_header(disk, layout)?;
     if disk.len() != layout.length() {
         return Err(OpenFault::NotFormatted);
     }
-    let paired = match read_version(disk) {
-        Ok(paired) => paired,
-        Err(_) => return Err(OpenFault::DiskFault),
-    };
-    Ok(paired)
+    Ok(read_version(disk)?)
 }

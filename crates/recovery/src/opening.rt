@@ -41,13 +41,9 @@ fn read_guests<D: Disk>(
     let mut spaces = spaces;
     for number in 0..layout.guests() {
         let space = spaces.remove(0);
-        match read_guest(disk, layout, number as u16, paired, space, buffer) {
-            Ok((guest, partition)) => {
-                guests.push_reserved(guest);
-                partitions.push_reserved(partition);
-            }
-            Err(fault) => return Err(fault),
-        }
+        let (guest, partition) = read_guest(disk, layout, number as u16, paired, space, buffer)?;
+        guests.push_reserved(guest);
+        partitions.push_reserved(partition);
     }
     Ok(())
 }
@@ -70,10 +66,7 @@ fn read_image<D: Disk>(
     ensures answers { Tells (D.state disk.old)
         (λ c. Answers layout.now (D.state disk.old).len c result) }
 {
-    let paired = match check(disk, layout) {
-        Ok(paired) => paired,
-        Err(fault) => return Err(fault),
-    };
+    let paired = check(disk, layout)?;
     read_guests(disk, layout, paired, spaces, buffer, guests, partitions)
 }
 

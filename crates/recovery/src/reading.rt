@@ -72,10 +72,8 @@ fn read_gate<D: Disk>(
         (GateIs wide (slot_at layout.now number side))) }
 {
     let mut gate = [0; 1];
-    match read(disk, layout.extent(number).gate(side), &mut gate) {
-        Ok(()) => Ok(gate[0] == OPEN_GATE),
-        Err(fault) => Err(fault),
-    }
+    read(disk, layout.extent(number).gate(side), &mut gate)?;
+    Ok(gate[0] == OPEN_GATE)
 }
 
 /// Which gates are open; in an image of version 1 only slot A's is looked at.
@@ -92,17 +90,12 @@ fn read_gates<D: Disk>(
     ensures tells { IfOk result (λ gates. Tells (D.state disk.old)
         (GatesAre paired (region_at layout.now number) gates)) }
 {
-    let first = match read_gate(disk, layout, number, Side::A) {
-        Ok(open) => open,
-        Err(fault) => return Err(fault),
-    };
+    let first = read_gate(disk, layout, number, Side::A)?;
     if !paired {
         return Ok(gates_of(first, false));
     }
-    match read_gate(disk, layout, number, Side::B) {
-        Ok(second) => Ok(gates_of(first, second)),
-        Err(fault) => Err(fault),
-    }
+    let second = read_gate(disk, layout, number, Side::B)?;
+    Ok(gates_of(first, second))
 }
 
 /// Which gates these are.
@@ -136,10 +129,7 @@ fn read_payload<D: Disk>(
         (λ c. FindsPayload (region_at layout.now number) side c result) }
 {
     let extent = layout.extent(number);
-    match read(disk, extent.payload(side), buffer) {
-        Ok(()) => {}
-        Err(_) => return Err(OpenFault::DiskFault),
-    }
+    read(disk, extent.payload(side), buffer)?;
     match Intent::decode(number, &extent, buffer, room) {
         Some(intent) => Ok(intent),
         None => Err(OpenFault::NotFormatted),
@@ -163,18 +153,12 @@ fn read_shut<D: Disk>(
 {
     let extent = layout.extent(number);
     let mut record = [0; HOME_LENGTH];
-    match read(disk, extent.home(), &mut record) {
-        Ok(()) => {}
-        Err(_) => return Err(OpenFault::DiskFault),
-    }
+    read(disk, extent.home(), &mut record)?;
     let Some(home) = Home::decode(&record) else {
         return Err(OpenFault::NotFormatted);
     };
     let mut blocks = blocks;
-    match read_blocks(disk, extent.blocks(), &mut blocks) {
-        Ok(()) => {}
-        Err(_) => return Err(OpenFault::DiskFault),
-    }
+    read_blocks(disk, extent.blocks(), &mut blocks)?;
     let capacity = layout.capacity(number);
     let partition = Partition::of(capacity, home.key(), home.counter(), blocks);
     Ok((Guest::settled(paired, extent, home.sequence()), partition))
@@ -200,10 +184,7 @@ fn read_one<D: Disk>(
 {
     let extent = layout.extent(intent.guest());
     let mut blocks = blocks;
-    match read_blocks(disk, extent.blocks(), &mut blocks) {
-        Ok(()) => {}
-        Err(_) => return Err(OpenFault::DiskFault),
-    }
+    read_blocks(disk, extent.blocks(), &mut blocks)?;
     redo(&mut blocks, &intent);
     let capacity = layout.capacity(intent.guest());
     let partition = Partition::of(capacity, Some(*intent.key()), intent.last_counter(), blocks);
@@ -229,10 +210,7 @@ fn read_two<D: Disk>(
 {
     let extent = layout.extent(first.guest());
     let mut blocks = blocks;
-    match read_blocks(disk, extent.blocks(), &mut blocks) {
-        Ok(()) => {}
-        Err(_) => return Err(OpenFault::DiskFault),
-    }
+    read_blocks(disk, extent.blocks(), &mut blocks)?;
     redo(&mut blocks, &first);
     redo(&mut blocks, &second);
     let capacity = layout.capacity(first.guest());
@@ -259,10 +237,8 @@ fn read_open<D: Disk>(
     ensures finds { Tells (D.state disk.old)
         (FindsBehind paired (Gates.One side) layout.now number result) }
 {
-    match read_payload(disk, layout, number, side, space.room, buffer) {
-        Ok(intent) => read_one(disk, layout, paired, side, intent, space.blocks),
-        Err(fault) => Err(fault),
-    }
+    let intent = read_payload(disk, layout, number, side, space.room, buffer)?;
+    read_one(disk, layout, paired, side, intent, space.blocks)
 }
 
 /// The guest behind two open gates: the payload of lower sequence comes first.
@@ -281,14 +257,8 @@ fn read_both<D: Disk>(
     ensures finds { Tells (D.state disk.old)
         (FindsBehind true Gates.Both layout.now number result) }
 {
-    let a = match read_payload(disk, layout, number, Side::A, space.room, buffer) {
-        Ok(intent) => intent,
-        Err(fault) => return Err(fault),
-    };
-    let b = match read_payload(disk, layout, number, Side::B, space.second, buffer) {
-        Ok(intent) => intent,
-        Err(fault) => return Err(fault),
-    };
+    let a = read_payload(disk, layout, number, Side::A, space.room, buffer)?;
+    let b = read_payload(disk, layout, number, Side::B, space.second, buffer)?;
     if b.comes_after(&a) {
         read_two(disk, layout, Side::A, a, b, space.blocks)
     } else if a.comes_after(&b) {
@@ -314,10 +284,9 @@ pub(crate) fn read_guest<D: Disk>(
     ensures memory { ¬ result ≡ Err OpenFault.NoMemory }
     ensures finds { Tells (D.state disk.old) (FindsIn paired layout.now number result) }
 {
-    match read_gates(disk, layout, number, paired) {
-        Err(_) => Err(OpenFault::DiskFault),
-        Ok(Gates::Shut) => read_shut(disk, layout, number, paired, space.blocks),
-        Ok(Gates::One(side)) => read_open(disk, layout, number, paired, side, space, buffer),
-        Ok(Gates::Both) => read_both(disk, layout, number, space, buffer),
+    match read_gates(disk, layout, number, paired)? {
+        Gates::Shut => read_shut(disk, layout, number, paired, space.blocks),
+        Gates::One(side) => read_open(disk, layout, number, paired, side, space, buffer),
+        Gates::Both => read_both(disk, layout, number, space, buffer),
     }
 }

@@ -103,14 +103,13 @@ impl<'a> Driver<'a> {
         if let Some(stuck) = self.stuck {
             return self.answer(Answer::Stuck(stuck));
         }
-        match guest.look().told() {
-            Ok(News::Reply(bytes)) => self.answer(Answer::Used(bytes)),
-            Ok(News::NoReply(stuck)) => {
+        match guest.look().told()? {
+            News::Reply(bytes) => self.answer(Answer::Used(bytes)),
+            News::NoReply(stuck) => {
                 self.stick(stuck);
                 Ok(true)
             }
-            Ok(News::Nothing) => Ok(false),
-            Err(fault) => Err(fault),
+            News::Nothing => Ok(false),
         }
     }
 
