@@ -194,19 +194,6 @@ fn few_chains(rt: &HostRuntime) -> Result<u64, Stop> {
     Ok(popped.sum ^ copied.sum)
 }
 
-/// Two requests of each kind of 64 guests, chains and copies, and two whole requests of each kind.
-fn few_requests(rt: &HostRuntime, board: &BoardConfig) -> Result<[u64; 4], Stop> {
-    let counted = time_books(rt, board, Kind::Counter, 2)?;
-    let written = time_books(rt, board, Kind::Write, 2)?;
-    Ok([counted.sum, written.sum, few_chains(rt)?, few_whole(rt)?])
-}
-
-/// The calls and syncs of 64 keys, and of 64 writes, of a store.
-fn few_calls(rt: &HostRuntime, board: &BoardConfig) -> Result<[u32; 4], Stop> {
-    let store = new_store(rt.alloc(), board, 1)?;
-    calls_of(rt, store, GUESTS)
-}
-
 /// Prints numbers, each with what stands behind it.
 fn print_numbers(rt: &HostRuntime, numbers: &[(u64, &str)]) -> Result<(), Stop> {
     for (number, behind) in numbers {
@@ -216,6 +203,64 @@ fn print_numbers(rt: &HostRuntime, numbers: &[(u64, &str)]) -> Result<(), Stop> 
     Ok(())
 }
 
+/// Three MACs and four of a key, two requests of each kind of 64 guests, chains and copies, and two whole requests
+/// of each kind.
+fn print_requests(rt: &HostRuntime, board: &BoardConfig) -> Result<(), Stop> {
+    let macs = plain_macs(3) ^ keyed_macs(4, 1);
+    let counted = time_books(rt, board, Kind::Counter, 2)?;
+    let written = time_books(rt, board, Kind::Write, 2)?;
+    let numbers = [
+        (u64::from(macs), " "),
+        (counted.sum, " "),
+        (written.sum, " "),
+        (few_chains(rt)?, " "),
+        (few_whole(rt)?, "\n"),
+    ];
+    print_numbers(rt, &numbers)
+}
+
+/// The calls and syncs of 64 keys, and of 64 writes, of a store.
+fn print_calls(rt: &HostRuntime, board: &BoardConfig) -> Result<(), Stop> {
+    let store = new_store(rt.alloc(), board, 1)?;
+    let [key_calls, key_syncs, calls, syncs] = calls_of(rt, store, GUESTS)?;
+    let numbers = [
+        (u64::from(key_calls), " "),
+        (u64::from(key_syncs), ", "),
+        (u64::from(calls), " "),
+        (u64::from(syncs), "\n"),
+    ];
+    print_numbers(rt, &numbers)
+}
+
+/// Writes by steps, by a book and by a store.
+fn print_ways(rt: &HostRuntime, board: &BoardConfig) -> Result<(), Stop> {
+    let ways = time_ways(rt, board, 2)?;
+    let numbers = [
+        (ways.steps.sum, " "),
+        (ways.books.sum, " "),
+        (ways.store.sum, "\n"),
+    ];
+    print_numbers(rt, &numbers)
+}
+
+/// A script, then what threads and a monitor came to, and what two locks count.
+fn print_runs<R: AllocGlobal + Threads + Wait + Sync>(
+    rt: &HostRuntime,
+    threads: &R,
+    single: &BoardConfig,
+) -> Result<(), Stop> {
+    let script = time_script(rt, threads, single, 2)?;
+    let run = few_served(rt, threads)?;
+    let numbers = [
+        (script.sum, "\n"),
+        (run.turns, " "),
+        (u64::from(run.answers), " "),
+        (few_monitored(rt)?, " "),
+        (few_locked(rt)?, "\n"),
+    ];
+    print_numbers(rt, &numbers)
+}
+
 /// What the gate runs: a few of each, with no times, of a board of 64 guests and of one of a single guest.
 fn checksums<R: AllocGlobal + Threads + Wait + Sync>(
     rt: &HostRuntime,
@@ -223,32 +268,10 @@ fn checksums<R: AllocGlobal + Threads + Wait + Sync>(
     board: &BoardConfig,
     single: &BoardConfig,
 ) -> Result<(), Stop> {
-    let macs = plain_macs(3) ^ keyed_macs(4, 1);
-    let [counted, written, popped, whole] = few_requests(rt, board)?;
-    let [key_calls, key_syncs, calls, syncs] = few_calls(rt, board)?;
-    let ways = time_ways(rt, board, 2)?;
-    let script = time_script(rt, threads, single, 2)?;
-    let run = few_served(rt, threads)?;
-    let numbers = [
-        (u64::from(macs), " "),
-        (counted, " "),
-        (written, " "),
-        (popped, " "),
-        (whole, "\n"),
-        (u64::from(key_calls), " "),
-        (u64::from(key_syncs), ", "),
-        (u64::from(calls), " "),
-        (u64::from(syncs), "\n"),
-        (ways.steps.sum, " "),
-        (ways.books.sum, " "),
-        (ways.store.sum, "\n"),
-        (script.sum, "\n"),
-        (run.turns, " "),
-        (u64::from(run.answers), " "),
-        (few_monitored(rt)?, " "),
-        (few_locked(rt)?, "\n"),
-    ];
-    print_numbers(rt, &numbers)?;
+    print_requests(rt, board)?;
+    print_calls(rt, board)?;
+    print_ways(rt, board)?;
+    print_runs(rt, threads, single)?;
     print_counts(rt, board)?;
     print_streams(rt, board)?;
     print_upgrade(rt, board)

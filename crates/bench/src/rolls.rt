@@ -100,7 +100,7 @@ fn print_pages(rt: &HostRuntime, first: Pages, last: Pages) -> Result<(), Stop> 
     printed.ok().ok_or("no output")
 }
 
-/// Times so many requests of 64 guests, one after another.
+/// Times a request for each place, of 64 guests in turn, one after another.
 fn time_all(rt: &HostRuntime, books: &mut Books, times: &mut [u32]) -> Result<(), Stop> {
     let (begin, rest) = times.split_at_mut(FIRST.min(times.len()));
     time_each(rt, books, begin)?;
@@ -110,14 +110,19 @@ fn time_all(rt: &HostRuntime, books: &mut Books, times: &mut [u32]) -> Result<()
     print_pages(rt, first, last)
 }
 
+/// The same, by a new book, once the guests have their keys.
+fn time_new(rt: &HostRuntime, board: &BoardConfig, times: &mut [u32]) -> Result<(), Stop> {
+    let books = new_books(rt.alloc(), board)?;
+    let mut books = keyed(rt, books, guests_of(board))?;
+    time_all(rt, &mut books, times)
+}
+
 /// Times each of so many requests of 64 guests, which have their keys, by their book, past where its history rolls.
 pub fn time_rolls(rt: &HostRuntime, board: &BoardConfig, count: u32) -> Result<(), Stop> {
     let Ok(mut times) = vec![in rt.alloc(); 1u32; count as usize] else {
         return Err(NO_MEMORY);
     };
-    let books = new_books(rt.alloc(), board)?;
-    let mut books = keyed(rt, books, guests_of(board))?;
-    time_all(rt, &mut books, &mut times)?;
+    time_new(rt, board, &mut times)?;
     let folds = folds_of(&times);
     times.sort_unstable();
     print_times(rt, &times, folds)

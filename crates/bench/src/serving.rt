@@ -1,5 +1,5 @@
 //! A load that is served at once by threads, and one chain after another on one thread.
-ghost use Rattle.std.specs.Prelude.{◌≡◌, length};
+ghost use Rattle.std.specs.Prelude.{◌≡◌, IfOk, length};
 ghost use Rattle.host.specs.Opening.{IsJustOpened};
 
 use crate::clock::{NO_MEMORY, Stop};
@@ -11,6 +11,7 @@ use crate::watching::Watch;
 use board::Board;
 use disk::Disk;
 use host::{Answer, Host};
+use rpmb_frame::BoardConfig;
 use std::alloc::Global;
 use std::sync::Wait;
 use std::thread::Threads;
@@ -78,6 +79,15 @@ fn run_scripts<D: Disk + Send + Drop, R: Threads + Wait + Sync>(
     }
 }
 
+/// A board that was just opened, over a fresh image on a disk of its length.
+fn fresh_board<D: Disk>(alloc: Global, disk: D, config: &BoardConfig) -> Result<Board<D>, Stop>
+    ensures { IfOk result (λ b. IsJustOpened D.state config.now b) }
+{
+    let mut disk = disk;
+    make_image(&mut disk, config)?;
+    opened_board(alloc, disk, config)
+}
+
 /// Serves the guests at once, on a fresh image.
 pub fn served<D: Disk + Send + Drop, R: Threads + Wait + Sync>(
     rt: &HostRuntime,
@@ -85,14 +95,12 @@ pub fn served<D: Disk + Send + Drop, R: Threads + Wait + Sync>(
     load: &Load,
     disk: D,
 ) -> Result<Run, Stop> {
-    let mut disk = disk;
     let scripts = load.scripts(rt.alloc())?;
-    make_image(&mut disk, &load.config)?;
-    let board = opened_board(rt.alloc(), disk, &load.config)?;
     if scripts.len() != load.config.guests().len() {
         return Err("another number of guests");
     }
     let watch = Watch::new(rt, load)?;
+    let board = fresh_board(rt.alloc(), disk, &load.config)?;
     run_scripts(rt, threads, load, &scripts, board, &watch)
 }
 
@@ -196,10 +204,8 @@ fn no_answers(alloc: Global, guests: u16) -> Result<Vec<Vec<Answer>>, Stop> {
 
 /// Takes the same chains to their end on one thread, one guest's after another's, on a fresh image.
 pub fn alone<D: Disk>(rt: &HostRuntime, load: &Load, disk: D) -> Result<OneThread, Stop> {
-    let mut disk = disk;
-    make_image(&mut disk, &load.config)?;
-    let board = opened_board(rt.alloc(), disk, &load.config)?;
     let mut answers = no_answers(rt.alloc(), load.guests())?;
+    let board = fresh_board(rt.alloc(), disk, &load.config)?;
     Ok(OneThread {
         cost: take_all(rt, board, load, &mut answers)?,
         answers,

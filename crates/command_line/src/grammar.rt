@@ -1,6 +1,6 @@
 //! The commands as `clap` reads them, with the texts of their help.
 ghost use Rattle.std.specs.Prelude.{◌≡◌, IfOk, false};
-ghost use Rattle.clap.specs.Words.{App, app_of, rule_of, with_subcommand};
+ghost use Rattle.clap.specs.Words.{app_of, rule_of, with_subcommand};
 ghost use Rattle.clap.specs.declared.builder.command.Command.TheViews.{out-Command as fields_of};
 ghost use Rattle.command_line.specs.Program.{bare, on_board, on_script, program, required};
 
@@ -61,58 +61,71 @@ fn bare<'a>(alloc: Global) -> Command<'a>
         .subcommand_required(true)
 }
 
-/// `program` with one command more, if there was memory to make that.
-fn with_command<'a>(
+/// `program` with one command more, which takes a board file.
+fn with_board<'a>(
+    alloc: Global,
     program: Command<'a>,
-    command: Result<Command<'a>, AllocError>,
+    name: &'a str,
+    about: &'a str,
+    more: &'a str,
 ) -> Result<Command<'a>, AllocError>
-    requires local { IfOk command (λ c. (fields_of c).has_globals ≡ false) }
-    ensures { (shape : App) → IfOk command.entry (λ c. app_of c ≡ shape)
-        → IfOk result (λ c. app_of c ≡ with_subcommand (app_of program.entry) shape.top) }
+    ensures { IfOk result (λ c.
+        app_of c ≡ with_subcommand (app_of program.entry) (on_board name.entry.now).top) }
 {
-    match command {
-        Ok(command) => program.subcommand(command),
-        Err(error) => Err(error),
-    }
+    program.subcommand(on_board(alloc, name, about, more)?)
+}
+
+/// `program` with one command more, which takes a board file and a script.
+fn with_script<'a>(
+    alloc: Global,
+    program: Command<'a>,
+    name: &'a str,
+    about: &'a str,
+    more: &'a str,
+) -> Result<Command<'a>, AllocError>
+    ensures { IfOk result (λ c.
+        app_of c ≡ with_subcommand (app_of program.entry) (on_script name.entry.now).top) }
+{
+    program.subcommand(on_script(alloc, name, about, more)?)
 }
 
 /// The program with all its commands.
 pub fn program<'a>(alloc: Global) -> Result<Command<'a>, AllocError>
     ensures { IfOk result (λ c. app_of c ≡ program) }
 {
-    let format = on_board(
+    let program = with_board(
         alloc,
+        bare(alloc),
         "format",
         "Makes a fresh image of the board, over what its file holds",
         help::FORMAT,
-    );
-    let program = with_command(bare(alloc), format)?;
-    let show = on_board(
+    )?;
+    let program = with_board(
         alloc,
+        program,
         "show",
         "Prints what the image of the board holds",
         help::SHOW,
-    );
-    let program = with_command(program, show)?;
-    let upgrade = on_board(
+    )?;
+    let program = with_board(
         alloc,
+        program,
         "upgrade",
         "Makes the image of the board one of version 2, in place",
         help::UPGRADE,
-    );
-    let program = with_command(program, upgrade)?;
-    let run = on_script(
+    )?;
+    let program = with_script(
         alloc,
+        program,
         "run",
         "Performs a script, line by line, and prints a line for each chain",
         help::RUN,
-    );
-    let program = with_command(program, run)?;
-    let serve = on_script(
+    )?;
+    with_script(
         alloc,
+        program,
         "serve",
         "Performs a script, all guests at once, and prints each guest's lines",
         help::SERVE,
-    );
-    with_command(program, serve)
+    )
 }

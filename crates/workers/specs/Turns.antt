@@ -9,7 +9,11 @@ use Rattle.mmio_transport.specs.declared.done.Published.{Published}
 use Rattle.mmio_transport.specs.Device.{DeviceState}
 use Rattle.mmio_transport.specs.Publishing.{Publishes}
 use Rattle.guest_driver.specs.Driver.{DriverState, Offering}
+use Rattle.guest_driver.specs.Reap as reap
 use Rattle.guest_driver.specs.declared.fault.DriverFault.{DriverFault}
+use Rattle.guest_driver.specs.declared.reaping.Reaped.{Reaped}
+use Rattle.host.specs.declared.front.Answer.{Answer}
+use Rattle.host.specs.declared.front.Answer.TheVariants.{Used}
 use Rattle.rpmb_book.specs.Book.{BookView, due_of, after_collect}
 use Rattle.workers.specs.declared.backlog.Handed.{Handed}
 use Rattle.workers.specs.declared.backlog.Handed.TheVariants.{Answered, Nothing, Busy, Full}
@@ -79,6 +83,17 @@ pub record Works (next : Next) (count : ℕ) (jobs : List Job) (dones : List Don
 abbrev pub Reaps : ℕ → Bool → ℕ → Type 0
 Reaps answers true answers' = (answers ≤ answers') × (answers' ≤ answers + 1)
 Reaps answers false answers' = answers' ≡ answers
+
+-- what a driver keeps of what it reaped: a reply lies behind its other answers
+abbrev pub KeepsReply : Result (Option Reaped) DriverFault → List Answer → List Answer → Type 0
+KeepsReply (Ok (Some reaped)) old new = new ≡ old ++ Used reaped.bytes ∷ []
+KeepsReply (Ok None) old new = new ≡ old
+KeepsReply (Err fault) old new = new ≡ old
+
+-- a driver reaped once, and kept the reply that came
+abbrev pub IsKept : List ℕ → DriverState → List Answer → DriverState → List Answer → Type 0
+IsKept memory driver old driver' new = (reaped : Result (Option Reaped) DriverFault)
+    × reap.Reaps memory driver reaped driver' × KeepsReply reaped old new
 
 -- one look at the script
 abbrev pub Offers : ℕ → Bool → ℕ → Type 0

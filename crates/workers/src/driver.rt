@@ -3,7 +3,7 @@ ghost use Rattle.std.specs.Prelude.{◌≡◌, ◌+◌, ◌≤◌, ◌<◌, true
 ghost use Rattle.std.specs.Prelude.{◌++◌, ◌∷◌, [], if◌then◌else◌, None, Ok, OnOk};
 ghost use Rattle.std.specs.Option.{option_copied};
 ghost use Rattle.workers.specs.Orders.{LeavesAll, chain_orders, chains_in};
-ghost use Rattle.workers.specs.Turns.{Drives, GoesOn, IsOffered, Offers, Reaps};
+ghost use Rattle.workers.specs.Turns.{Drives, GoesOn, IsKept, IsOffered, Offers, Reaps};
 
 use crate::bell::{Actor, Bell, Rest};
 use crate::order::{Chain, Order};
@@ -96,6 +96,9 @@ impl<'a> Driver<'a> {
     fn reap(&mut self, guest: &mut Guest) -> Result<bool, HostFault>
         ensures script { (self.new.script ≡ self.old.script) × (self.new.next ≡ self.old.next) }
         ensures answers { IfOk result (λ moved. Reaps (vec_len self.old.answers) moved (vec_len self.new.answers)) }
+        ensures reply { 0 < self.old.outstanding → self.old.stuck ≡ None → IfOk result (λ moved.
+            IsKept guest.old.device.memory guest.old.driver self.old.answers.items
+            guest.new.driver self.new.answers.items) }
     {
         if self.outstanding == 0 {
             return Ok(false);

@@ -134,30 +134,33 @@ const FLIPPED: [(usize, u8, &str); 5] = [
     (1536, 0xa5, "rpmbd: 12 NotFormatted\n"),
 ];
 
+/// Whether a command ended well, and printed this and nothing else.
+fn prints(told: Result<(u8, Vec<u8>, Vec<u8>), Fail>, printed: &[u8]) -> Result<bool, Fail> {
+    let (status, out, err) = told?;
+    Ok(status == 0 && err.is_empty() && out.as_slice() == printed)
+}
+
+/// Whether a file is formatted, whatever it holds, and shown then.
+fn formats<R: AllocGlobal + Threads + Wait + Sync>(
+    rt: &HostRuntime,
+    threads: &R,
+    path: &str,
+) -> Result<bool, Fail> {
+    let made = formatted(rt, threads, path);
+    let is_made = prints(made, b"formatted 167424\n")?;
+    let is_fresh = fs::read(rt, path)?.as_slice() == fresh(rt.alloc())?.as_slice();
+    let shown = performed(rt, threads, SHOW, path, ONE);
+    Ok(prints(shown, FRESH.as_bytes())? && is_made && is_fresh)
+}
+
 #[test]
 fn formats_a_file_and_shows_it(rt: HostRuntime) -> Result<(), Fail> {
     let path = "formatted.img";
-    // A file that isn't there, one that is longer, and one that is shorter.
-    for length in [0, 200_000, 5] {
-        if length > 0 {
-            fs::write(&rt, path, vec![in rt.alloc(); 0xee; length]?.as_slice())?;
-        }
-        let (status, out, err) = formatted(&rt, &rt, path)?;
-        assert_eq!(rt; (status, err.len()), (0, 0), "at {length}");
-        assert_eq!(rt;
-            out.as_slice(),
-            b"formatted 167424\n".as_slice(),
-            "at {length}"
-        );
-        let wanted = fresh(rt.alloc())?;
-        assert!(rt;
-            fs::read(&rt, path)?.as_slice() == wanted.as_slice(),
-            "at {length}"
-        );
-        let (status, out, err) = performed(&rt, &rt, SHOW, path, ONE)?;
-        assert_eq!(rt; (status, err.len()), (0, 0), "at {length}");
-        assert_eq!(rt; out.as_slice(), FRESH.as_bytes(), "at {length}");
-    }
+    assert!(rt; formats(&rt, &rt, path)?, "a file that isn't there");
+    fs::write(&rt, path, vec![in rt.alloc(); 0xee; 200_000]?.as_slice())?;
+    assert!(rt; formats(&rt, &rt, path)?, "a longer one");
+    fs::write(&rt, path, b"short".as_slice())?;
+    assert!(rt; formats(&rt, &rt, path)?, "a shorter one");
     fs::remove_file(&rt, path)?;
     Ok(())
 }
@@ -190,24 +193,20 @@ fn refuses_images(rt: HostRuntime) -> Result<(), Fail> {
     Ok(())
 }
 
+/// The length and the mode of a file, once an image of 1,024 bytes is made in it.
+fn made(rt: &HostRuntime, path: &str) -> Result<(u64, u32), Fail> {
+    let made = create_image(rt, path, "no board", 1024)?;
+    let mode = fs::metadata(rt, path)?.permissions().mode();
+    Ok((made.len(), mode & 0o7777))
+}
+
 #[test]
 fn makes_images_for_their_owner_alone(rt: HostRuntime) -> Result<(), Fail> {
     let path = "mode.img";
-    let made = create_image(&rt, path, "no board", 1024)?;
-    assert_eq!(rt; made.len(), 1024);
-    assert_eq!(rt;
-        fs::metadata(&rt, path)?.permissions().mode() & 0o7777,
-        0o600
-    );
-    drop(made);
+    assert_eq!(rt; made(&rt, path)?, (1024, 0o600));
     // A file that is there keeps its mode.
     fs::set_permissions(&rt, path, fs::Permissions::from_mode(0o640))?;
-    let made = create_image(&rt, path, "no board", 1024)?;
-    assert_eq!(rt; made.len(), 1024);
-    assert_eq!(rt;
-        fs::metadata(&rt, path)?.permissions().mode() & 0o7777,
-        0o640
-    );
+    assert_eq!(rt; made(&rt, path)?, (1024, 0o640));
     fs::remove_file(&rt, path)?;
     Ok(())
 }
@@ -232,23 +231,54 @@ fn refuses_files(rt: HostRuntime) -> Result<(), Fail> {
     Ok(())
 }
 
+/// Why a board file of this content names no image.
+fn refused_for(rt: &HostRuntime, path: &str, content: &[u8]) -> Result<Option<Fault>, Fail> {
+    fs::write(rt, path, content)?;
+    let fault = read_image_board(rt, path).err();
+    fs::remove_file(rt, path)?;
+    Ok(fault)
+}
+
 #[test]
-fn reads_boards_from_files(rt: HostRuntime) -> Result<(), Fail> {
+fn refuses_board_files(rt: HostRuntime) -> Result<(), Fail> {
+    let path = "refused_board.toml";
+    let unnamed = refused_for(&rt, path, ONE.as_bytes())?;
+    assert!(rt; unnamed == Some(Fault::BadBoard));
+    let no_text = refused_for(&rt, path, b"\xff".as_slice())?;
+    assert!(rt; no_text == Some(Fault::FileFault));
+    assert!(rt;
+        read_image_board(&rt, path).err() == Some(Fault::FileFault),
+        "it is gone"
+    );
+    Ok(())
+}
+
+#[test]
+fn refuses_bytes_that_are_no_text(rt: HostRuntime) -> Result<(), Fail> {
+    let path = "no_text.txt";
+    fs::write(&rt, path, b"\xff".as_slice())?;
+    assert!(rt; read_text(&rt, path).err() == Some(Fault::FileFault));
+    fs::remove_file(&rt, path)?;
+    Ok(())
+}
+
+#[test]
+fn reads_a_board_file(rt: HostRuntime) -> Result<(), Fail> {
     let path = "read_board.toml";
     fs::write(&rt, path, ONE.as_bytes())?;
     let (board, image) = read_board_file(&rt, path)?;
     assert_eq!(rt; (board.guests().len(), image.is_none()), (1, true));
-    assert!(rt; read_image_board(&rt, path).err() == Some(Fault::BadBoard));
-    fs::write(
-        &rt,
-        path,
-        b"image = \"a b.img\"\n[[guest]]\ncapacity = 1\n".as_slice(),
-    )?;
+    fs::remove_file(&rt, path)?;
+    Ok(())
+}
+
+#[test]
+fn reads_the_image_that_a_board_file_names(rt: HostRuntime) -> Result<(), Fail> {
+    let path = "named_image.toml";
+    let text = "image = \"a b.img\"\n[[guest]]\ncapacity = 1\n";
+    fs::write(&rt, path, text.as_bytes())?;
     let (_, image) = read_image_board(&rt, path)?;
     assert_eq!(rt; image.as_str(), "a b.img");
-    fs::write(&rt, path, b"\xff".as_slice())?;
-    assert!(rt; read_text(&rt, path).err() == Some(Fault::FileFault));
     fs::remove_file(&rt, path)?;
-    assert!(rt; read_image_board(&rt, path).err() == Some(Fault::FileFault));
     Ok(())
 }

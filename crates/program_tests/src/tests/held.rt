@@ -74,48 +74,66 @@ fn statuses<R: AllocGlobal + Threads + Wait + Sync>(
     second: &[String],
 ) -> Result<(u8, u8), Fail> {
     let image = "held.img";
-    match first {
+    let written = match first {
         0 => {
             let disk = create_image(rt, image, PATH, 167_424)?;
-            both(rt, threads, Command::Format { board: PATH }, disk, second)
+            return both(rt, threads, Command::Format { board: PATH }, disk, second);
         }
         1 => {
             let disk = open_shown(rt, image)?;
-            both(rt, threads, Command::Show { board: PATH }, disk, second)
+            return both(rt, threads, Command::Show { board: PATH }, disk, second);
         }
-        2 => {
-            let disk = open_image(rt, image)?;
-            both(rt, threads, Command::Upgrade { board: PATH }, disk, second)
-        }
-        3 => both(rt, threads, RUN, open_image(rt, image)?, second),
-        _ => both(rt, threads, SERVE, open_image(rt, image)?, second),
+        2 => Command::Upgrade { board: PATH },
+        3 => RUN,
+        _ => SERVE,
+    };
+    both(rt, threads, written, open_image(rt, image)?, second)
+}
+
+/// The two statuses over an image that holds this, and whether the first program leaves that in it.
+fn ends_beside<R: AllocGlobal + Threads + Wait + Sync>(
+    rt: &HostRuntime,
+    threads: &R,
+    first: usize,
+    second: &str,
+    holds: &[u8],
+    leaves: &[u8],
+) -> Result<((u8, u8), bool), Fail> {
+    let words = words_of(rt.alloc(), second)?;
+    fs::write(rt, "held.img", holds)?;
+    let ended = statuses(rt, threads, first, words.as_slice())?;
+    let left = fs::read(rt, "held.img")?;
+    Ok((ended, left.as_slice() == leaves))
+}
+
+/// A fresh image in `held.img`, beside the files of its words.
+fn held_image<R: AllocGlobal + Threads + Wait + Sync>(
+    rt: &HostRuntime,
+    threads: &R,
+) -> Result<Vec<u8>, Fail> {
+    fs::write(rt, "held.toml", BOARD.as_bytes())?;
+    fs::write(rt, "held.txt", SCRIPT.as_bytes())?;
+    let words = words_of(rt.alloc(), "format held.toml")?;
+    if status_of(rt, threads, words.as_slice()) != 0 {
+        return Err("no image").map_err(Fail::from);
     }
+    Ok(fs::read(rt, "held.img")?)
 }
 
 #[test]
 fn one_program_holds_an_image(rt: HostRuntime) -> Result<(), Fail> {
-    fs::write(&rt, "held.toml", BOARD.as_bytes())?;
-    fs::write(&rt, "held.txt", SCRIPT.as_bytes())?;
-    let words = words_of(rt.alloc(), "format held.toml")?;
-    assert_eq!(rt; status_of(&rt, &rt, words.as_slice()), 0);
-    let image = fs::read(&rt, "held.img")?;
+    let image = held_image(&rt, &rt)?;
     // The script's request is malformed, so each command but an upgrade leaves the fresh image.
     let mut upgraded = image.as_slice().to_vec(rt.alloc())?;
     if let Some(version) = upgraded.get_mut(512) {
         *version = 2;
     }
     for (first, (line, looks)) in WORDS.iter().enumerate() {
+        let leaves = if first == 2 { &upgraded } else { &image };
         for (other, beside) in &WORDS {
-            let words = words_of(rt.alloc(), *other)?;
-            fs::write(&rt, "held.img", image.as_slice())?;
-            let ended = statuses(&rt, &rt, first, words.as_slice())?;
             let refused = if *looks && *beside { 0 } else { 1 };
-            assert_eq!(rt; ended, (0, refused), "{line} and {other}");
-            let left = if first == 2 { &upgraded } else { &image };
-            assert!(rt;
-                fs::read(&rt, "held.img")?.as_slice() == left.as_slice(),
-                "{line}"
-            );
+            let ended = ends_beside(&rt, &rt, first, *other, &image, leaves)?;
+            assert_eq!(rt; ended, ((0, refused), true), "{line} and {other}");
         }
     }
     for path in ["held.toml", "held.txt", "held.img"] {
@@ -126,21 +144,30 @@ fn one_program_holds_an_image(rt: HostRuntime) -> Result<(), Fail> {
 
 #[test]
 fn an_image_that_is_held_is_refused(rt: HostRuntime) -> Result<(), Fail> {
-    let held = create_image(&rt, "kept.img", "kept.toml", 1024)?;
+    let path = "kept.img";
+    let held = create_image(&rt, path, "kept.toml", 1024)?;
     assert_eq!(rt; held.len(), 1024);
-    assert!(rt; open_image(&rt, "kept.img").err() == Some(Fault::FileFault));
-    assert!(rt; open_shown(&rt, "kept.img").err() == Some(Fault::FileFault));
-    let again = create_image(&rt, "kept.img", "kept.toml", 2048);
+    assert!(rt; open_image(&rt, path).err() == Some(Fault::FileFault));
+    assert!(rt; open_shown(&rt, path).err() == Some(Fault::FileFault));
+    let again = create_image(&rt, path, "kept.toml", 2048);
     assert!(rt; again.err() == Some(Fault::FileFault));
-    assert_eq!(rt; fs::metadata(&rt, "kept.img")?.len(), 1024);
+    assert_eq!(rt; fs::metadata(&rt, path)?.len(), 1024);
     drop(held);
-    // Two may look at it, and then nobody may write.
-    let shown = open_shown(&rt, "kept.img")?;
-    assert_eq!(rt; open_shown(&rt, "kept.img")?.len(), 1024);
-    assert!(rt; open_image(&rt, "kept.img").err() == Some(Fault::FileFault));
+    assert_eq!(rt; open_image(&rt, path)?.len(), 1024);
+    fs::remove_file(&rt, path)?;
+    Ok(())
+}
+
+#[test]
+fn several_may_look_at_an_image_and_then_nobody_may_write(rt: HostRuntime) -> Result<(), Fail> {
+    let path = "looked_at.img";
+    fs::write(&rt, path, vec![in rt.alloc(); 0; 1024]?.as_slice())?;
+    let shown = open_shown(&rt, path)?;
+    assert_eq!(rt; open_shown(&rt, path)?.len(), 1024);
+    assert!(rt; open_image(&rt, path).err() == Some(Fault::FileFault));
     drop(shown);
-    assert_eq!(rt; open_image(&rt, "kept.img")?.len(), 1024);
-    fs::remove_file(&rt, "kept.img")?;
+    assert_eq!(rt; open_image(&rt, path)?.len(), 1024);
+    fs::remove_file(&rt, path)?;
     Ok(())
 }
 

@@ -3,7 +3,9 @@
 use commands::status_of;
 use std::alloc::Global;
 use std::fs;
+use std::sync::Wait;
 use std::test::Fail;
+use std::thread::Threads;
 
 const BOARD: &str = "[[guest]]\ncapacity = 1\n";
 
@@ -87,14 +89,23 @@ fn words_of(alloc: Global, line: &str) -> Result<Vec<String>, Fail> {
     Ok(words)
 }
 
+/// The status of the words of a line.
+fn status_of_line<R: AllocGlobal + Threads + Wait + Sync>(
+    rt: &HostRuntime,
+    threads: &R,
+    line: &str,
+) -> Result<u8, Fail> {
+    let words = words_of(rt.alloc(), line)?;
+    Ok(status_of(rt, threads, words.as_slice()))
+}
+
 #[test]
 fn words_end_with_their_status(rt: HostRuntime) -> Result<(), Fail> {
     for (name, text) in &FILES {
         fs::write(&rt, *name, text.as_bytes())?;
     }
     for (line, status) in &WORDS {
-        let words = words_of(rt.alloc(), *line)?;
-        assert_eq!(rt; status_of(&rt, &rt, words.as_slice()), *status, "{line}");
+        assert_eq!(rt; status_of_line(&rt, &rt, *line)?, *status, "{line}");
     }
     // What was refused made no image, and what was made has its length.
     assert_eq!(rt; fs::metadata(&rt, "statuses.img")?.len(), 167_424);

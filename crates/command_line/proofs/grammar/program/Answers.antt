@@ -10,9 +10,9 @@ with_command command a = with_subcommand a command.top
 pub returns : goal.returns
 unfolding program
 returns c =
-    let formats = c.in_ok-program.ensures _ c.on_board-format.ensures.shape ∙ ap (with_command (on_board (codes "format"))) c.bare.ensures in
-    let shows = c.in_ok-program-2.ensures _ c.on_board-show.ensures.shape ∙ ap (with_command (on_board (codes "show"))) formats in
-    let upgrades = c.in_ok-program-3.ensures _ c.on_board-upgrade.ensures.shape ∙ ap (with_command (on_board (codes "upgrade"))) shows in
-    let runs = c.in_ok-program-4.ensures _ c.on_script-run.ensures.shape ∙ ap (with_command (on_script (codes "run"))) upgrades in
-    subst (λ (a : App). IfOk c.with_command-5.result (λ p. app_of p ≡ with_command (on_script (codes "serve")) a)) runs
-    (c.with_command-5.ensures _ c.on_script-serve.ensures.shape)
+    let formats = c.in_ok-program.ensures ∙ ap (with_command (on_board (codes "format"))) c.bare.ensures in
+    let shows = c.in_ok-program-2.ensures ∙ ap (with_command (on_board (codes "show"))) formats in
+    let upgrades = c.in_ok-program-3.ensures ∙ ap (with_command (on_board (codes "upgrade"))) shows in
+    let runs = c.in_ok-program-4.ensures ∙ ap (with_command (on_script (codes "run"))) upgrades in
+    subst (λ (a : App). IfOk c.with_script-2.result (λ p. app_of p ≡ with_command (on_script (codes "serve")) a)) runs
+    c.with_script-2.ensures
