@@ -1,5 +1,5 @@
-//! The book of a board and its store over a disk in memory, with nothing between them and their caller:
-//! what a board's steps are measured against.
+//! The book of a board and its store over a disk in memory, with nothing between them and their
+//! caller: what a board's steps are measured against.
 use crate::clock::{NO_MEMORY, Row, Stop};
 use crate::counted::{CountedDisk, Counts};
 use crate::images::{Version, guests_of, new_disk_of, opened_board};
@@ -22,13 +22,14 @@ pub struct Books {
     alloc: Global,
     parts: Parts<CountedDisk<MemDisk>>,
     jobs: VecDeque<Job>,
-    /// The replies that were collected, which are kept until the clock has stopped, as a board keeps them for
-    /// its devices.
+    /// The replies that were collected, which are kept until the clock has stopped, as a board
+    /// keeps them for its devices.
     replies: VecDeque<Done>,
     sum: u32,
 }
 
-/// The book and the store over a fresh image of a board and of version 1, of which nothing was asked.
+/// The book and the store over a fresh image of a board and of version 1, of which nothing was
+/// asked.
 pub fn new_books(alloc: Global, config: &BoardConfig) -> Result<Books, Stop> {
     new_books_on(alloc, config, Version::One)
 }
@@ -168,7 +169,8 @@ impl Books {
         }
     }
 
-    /// One request of a guest, which has its key, for its counter, from the making of its job to the end of its reply.
+    /// One request of a guest, which has its key, for its counter, from the making of its job to
+    /// the end of its reply.
     pub fn ask(&mut self, guest: u16) -> Result<(), Stop> {
         push_job(self.alloc, &mut self.jobs, guest, Kind::Counter, 0)?;
         self.submit()?;

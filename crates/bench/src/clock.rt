@@ -47,8 +47,8 @@ fn rate(row: &Row) -> u128 {
     per(u128::from(row.count) * 1_000_000_000, row.took.as_nanos())
 }
 
-/// Prints a row: nanoseconds for each, how many a second, and hundredths of a percent of the base's time for
-/// each.
+/// Prints a row: nanoseconds for each, how many a second, and hundredths of a percent of the base's
+/// time for each.
 fn print_row(rt: &HostRuntime, row: &Row, base: &Row) -> Result<(), Stop> {
     let share = per(each(row).saturating_mul(10_000), each(base));
     let printed = println!(rt;

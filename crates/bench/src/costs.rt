@@ -5,7 +5,8 @@ use std::fs;
 use std::fs::DirEntry;
 use std::time::{CpuClock, Duration, Instant};
 
-/// The microseconds of a clock tick, in which the system tells user and system time (proc_pid_stat(5)).
+/// The microseconds of a clock tick, in which the system tells user and system time
+/// (proc_pid_stat(5)).
 const TICK: u64 = 10_000;
 
 /// What a process has used until now, by all its threads.
@@ -65,7 +66,8 @@ fn switches_at(rt: &HostRuntime, thread: &DirEntry) -> Result<u64, Stop> {
     }
 }
 
-/// The context switches of all threads that run now: the system keeps no sum that has those of others.
+/// The context switches of all threads that run now: the system keeps no sum that has those of
+/// others.
 fn switches_now(rt: &HostRuntime) -> Result<u64, Stop> {
     let Ok(threads) = fs::read_dir(rt, "/proc/self/task") else {
         return Err("no /proc/self/task");
@@ -125,8 +127,8 @@ impl Cost {
         }
     }
 
-    /// Hundredths for each request: of microseconds of processor time, in user mode and in the system, of page
-    /// faults, and of context switches.
+    /// Hundredths for each request: of microseconds of processor time, in user mode and in the
+    /// system, of page faults, and of context switches.
     fn hundredths(&self) -> [u128; 5] {
         let all = [
             self.cpu.as_nanos() / 1_000,

@@ -3,8 +3,8 @@ ghost use Rattle.std.specs.Prelude.{◌≡◌};
 
 use disk::{Disk, DiskFault};
 
-/// How many calls were made to a disk to keep something, how many of them were syncs, and how many bytes were
-/// written.
+/// How many calls were made to a disk to keep something, how many of them were syncs, and how many
+/// bytes were written.
 #[derive(Clone, Copy)]
 pub struct Counts {
     pub calls: u32,

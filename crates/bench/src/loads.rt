@@ -79,8 +79,8 @@ fn reply_of(answer: Option<&Answer>) -> &[u8] {
     }
 }
 
-/// What was mixed before, and the first byte of the MAC of a good reply to a request of this kind. A MAC stands
-/// 316 bytes before the end of the last frame.
+/// What was mixed before, and the first byte of the MAC of a good reply to a request of this kind.
+/// A MAC stands 316 bytes before the end of the last frame.
 pub fn mixed_mac(kind: Kind, answer: &Answer, before: u32) -> Result<u32, Stop> {
     let reply = reply_of(Some(answer));
     if !reply.ends_with(&kind.end()) {
@@ -118,7 +118,8 @@ impl Load {
         [key, warm, timed]
     }
 
-    /// The order to offer a request, with room for its reply: that to a key is as long as that to a write.
+    /// The order to offer a request, with room for its reply: that to a key is as long as that to a
+    /// write.
     fn order_of(&self, alloc: Global, request: &[u8], kind: Kind) -> Result<Order, Stop> {
         if request.len() > LONGEST {
             return Err("too long a request");
@@ -150,8 +151,8 @@ impl Load {
         Ok(scripts)
     }
 
-    /// The last bytes of the last reply to each guest: its write counter, address 0, one block, the result
-    /// 0x0000 and its type.
+    /// The last bytes of the last reply to each guest: its write counter, address 0, one block, the
+    /// result 0x0000 and its type.
     fn tail(&self) -> [u8; 12] {
         let (counter, blocks) = match self.asked.kind {
             Kind::Write => (self.asked.count(), 1),
@@ -163,8 +164,8 @@ impl Load {
         [a, b, c, d, 0, 0, 0, blocks, e, f, g, h]
     }
 
-    /// What a guest was told, mixed: each byte of its answers, in their order. It has an answer to each
-    /// request, and the last one is as it has to be.
+    /// What a guest was told, mixed: each byte of its answers, in their order. It has an answer to
+    /// each request, and the last one is as it has to be.
     pub fn told(&self, answers: &[Answer], before: u32) -> Result<u32, Stop> {
         if answers.len() != self.requests.len()
             || !reply_of(answers.last()).ends_with(&self.tail())

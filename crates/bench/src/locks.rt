@@ -1,5 +1,6 @@
-//! How long a worker's calls of the book take, which it makes under the book's lock: a Submit and a Collect for each
-//! request, once with MACs and memory made before and behind the lock, and once with all of it under the lock.
+//! How long a worker's calls of the book take, which it makes under the book's lock: a Submit and a
+//! Collect for each request, once with MACs and memory made before and behind the lock, and once
+//! with all of it under the lock.
 use crate::books::new_books;
 use crate::clock::{Stop, now, since};
 use crate::costs::print_hundredths;
@@ -11,7 +12,8 @@ use crate::ways::{Call, Turn, Way, keyed};
 use crate::whole::WARM;
 use std::time::Duration;
 
-/// So many requests are made before the clock runs for them: as many as a worker takes under one lock.
+/// So many requests are made before the clock runs for them: as many as a worker takes under one
+/// lock.
 const BATCH: u32 = 8;
 
 /// So many intents a batch of writes makes, of at most four each.
@@ -57,8 +59,8 @@ fn settle<W: Way>(way: &mut W) -> Result<(), Stop> {
     Ok(())
 }
 
-/// Takes a batch of requests, the first under this write counter, to their replies; answers the time of the Submits
-/// and the Collects.
+/// Takes a batch of requests, the first under this write counter, to their replies; answers the
+/// time of the Submits and the Collects.
 fn take_batch<W: Way>(
     rt: &HostRuntime,
     way: &mut W,
@@ -129,8 +131,8 @@ fn time_held<W: Way>(rt: &HostRuntime, way: W, asked: Asked) -> Result<Held, Sto
     time_rounds(rt, &mut way, asked)
 }
 
-/// The time with MACs and memory made outside of the calls, and the time with all within them; both are answered
-/// alike.
+/// The time with MACs and memory made outside of the calls, and the time with all within them; both
+/// are answered alike.
 fn time_both(rt: &HostRuntime, asked: Asked) -> Result<[Held; 2], Stop> {
     let config = board_of(rt.alloc(), 1)?;
     let parted = time_held(rt, new_parted(rt.alloc(), &config)?, asked)?;
@@ -151,7 +153,8 @@ fn print_held(rt: &HostRuntime, kind: Kind, both: [Held; 2]) -> Result<(), Stop>
     println!(rt; "").ok().ok_or("no output")
 }
 
-/// Prints how long the lock is held for a request of each kind: so many requests behind those that warm the book.
+/// Prints how long the lock is held for a request of each kind: so many requests behind those that
+/// warm the book.
 pub fn time_locks(rt: &HostRuntime, count: u32) -> Result<(), Stop> {
     let printed = println!(rt;
         "lock, us a request (best of {ROUNDS}): MACs and memory outside of it, and under it"

@@ -1,5 +1,5 @@
-//! A machine as a monitor drives it: the driver of its one guest writes registers and bytes, and what its outbox
-//! gives is written and synced at once, on no disk.
+//! A machine as a monitor drives it: the driver of its one guest writes registers and bytes, and
+//! what its outbox gives is written and synced at once, on no disk.
 use crate::clock::{NO_MEMORY, Row, Stop};
 use crate::requests::{Kind, mixed};
 use crate::steps::{DESCRIPTORS, SETUP, new_steps};
@@ -15,8 +15,8 @@ const LARGEST_WRITE: usize = 16_648;
 /// More writes than an outbox holds.
 const WRITES: u32 = 257;
 
-/// What a monitor does for its one guest. Its methods promise nothing, so that what stands above them is proved
-/// without the contracts of a machine.
+/// What a monitor does for its one guest. Its methods promise nothing, so that what stands above
+/// them is proved without the contracts of a machine.
 pub trait Monitor: Drop {
     /// The guest writes a register.
     fn act(&mut self, offset: u32, value: u32);
@@ -121,7 +121,8 @@ fn in_service<M: Monitor>(alloc: Global, monitor: M, waiting: u16) -> Result<Mon
     Ok(monitored)
 }
 
-/// The descriptors of one of up to eight chains: a request of 1,024 bytes, and room for a reply of 512.
+/// The descriptors of one of up to eight chains: a request of 1,024 bytes, and room for a reply of
+/// 512.
 fn descriptors_of(chain: u16) -> [u8; 32] {
     let chain = (chain % 8) as u8;
     let mut bytes = DESCRIPTORS;
@@ -221,8 +222,8 @@ const ONE: Shape = Shape {
     waiting: 1,
 };
 
-/// Times so many kicks of one guest by a machine's calls, each of so many requests, at most eight. The sum is of
-/// the bytes of the last reply to the first of them.
+/// Times so many kicks of one guest by a machine's calls, each of so many requests, at most eight.
+/// The sum is of the bytes of the last reply to the first of them.
 fn time_kicks(
     rt: &HostRuntime,
     name: &'static str,
@@ -255,7 +256,8 @@ pub fn time_four(rt: &HostRuntime, count: u32) -> Result<Row, Stop> {
     )
 }
 
-/// Times as many by a board's steps. A serve pops and publishes too, which is outside of the time of the steps.
+/// Times as many by a board's steps. A serve pops and publishes too, which is outside of the time
+/// of the steps.
 pub fn time_stepped(
     rt: &HostRuntime,
     single: &BoardConfig,

@@ -5,7 +5,8 @@ use crate::clock::{Row, Stop, now, since};
 use crate::requests::KEY;
 use hmac256::{MacKey, mac_of};
 
-/// So many MACs of one frame, each with the pads hashed anew; the answer is their first bytes, mixed.
+/// So many MACs of one frame, each with the pads hashed anew; the answer is their first bytes,
+/// mixed.
 pub fn plain_macs(count: u32) -> u8 {
     let mut frame = [0x5au8; 512];
     let mut all = 0u8;
@@ -16,7 +17,8 @@ pub fn plain_macs(count: u32) -> u8 {
     all
 }
 
-/// So many MACs of this many frames, with the pads hashed once; the answer is their first bytes, mixed.
+/// So many MACs of this many frames, with the pads hashed once; the answer is their first bytes,
+/// mixed.
 pub fn keyed_macs(count: u32, frames: usize) -> u8
     requires { frames ≤ 16 }
 {

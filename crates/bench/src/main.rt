@@ -1,45 +1,52 @@
-//! Times work of one kind, `bench WORK COUNT`; without arguments it prints checksums alone. COUNT is
+//! Times work of one kind, `bench WORK COUNT`; without arguments it prints checksums alone. COUNT
+//! is
 //!
 //! - of `macs`: of MACs;
-//! - of `requests`: of requests for each of 64 guests, all of which have their keys; and of as many requests for
-//!   the counter one after another, past where the history rolls, the median, the 99.99th percentile and the
-//!   slowest of their times, what those took at which it rolled, and what memory the process has after the first
-//!   20,000 and at the end;
+//! - of `requests`: of requests for each of 64 guests, all of which have their keys; and of as many
+//!   requests for the counter one after another, past where the history rolls, the median, the
+//!   99.99th percentile and the slowest of their times, what those took at which it rolled, and
+//!   what memory the process has after the first 20,000 and at the end;
 //! - of `rings`: of chains of 8,704 bytes, through queues of each form;
-//! - of `device`: of whole requests of each kind, of one guest, each from its offer to its reap, through queues of
-//!   each form, against the MACs that they need. The guest has asked for its key and 20,000 requests of the kind
-//!   before, so that the history has rolled once. The requests are made before the clock runs, 256 at a time, and
-//!   each answer is tested and let go while it runs; their MACs are timed after each 256. A line of its own tells
-//!   how many pages were touched that had to be fetched or cleared first, for 1,000 of these requests;
-//! - of `store`: of writes of each of 64 guests, also where 2 and 4 of a guest go as one, with the calls and
-//!   bytes that each way needs, and of guests that write on without a pause, on images of both versions, also
-//!   how many syncs come before a record may begin;
+//! - of `device`: of whole requests of each kind, of one guest, each from its offer to its reap,
+//!   through queues of each form, against the MACs that they need. The guest has asked for its key
+//!   and 20,000 requests of the kind before, so that the history has rolled once. The requests are
+//!   made before the clock runs, 256 at a time, and each answer is tested and let go while it runs;
+//!   their MACs are timed after each 256. A line of its own tells how many pages were touched that
+//!   had to be fetched or cleared first, for 1,000 of these requests;
+//! - of `store`: of writes of each of 64 guests, also where 2 and 4 of a guest go as one, with the
+//!   calls and bytes that each way needs, and of guests that write on without a pause, on images of
+//!   both versions, also how many syncs come before a record may begin;
 //! - of `open`: of upgrades of an image, and of openings, with the writes and syncs of an upgrade;
-//! - of `board`: of writes of each of 64 guests, which a board's steps settle, its book and store, and its
-//!   store alone;
-//! - of `machine`: of requests for the counter and writes of one guest, by the calls of a machine that a monitor
-//!   embeds, whose outbox is emptied and told to be synced at once, and by a board's steps;
+//! - of `board`: of writes of each of 64 guests, which a board's steps settle, its book and store,
+//!   and its store alone;
+//! - of `machine`: of requests for the counter and writes of one guest, by the calls of a machine
+//!   that a monitor embeds, whose outbox is emptied and told to be synced at once, and by a board's
+//!   steps;
 //! - of `run`: of writes of one guest by a script, which its store alone settles, too;
-//! - of `lock`: of requests of one guest for a book that has rolled: the time of a Submit and a Collect, with the
-//!   MACs and the memory of the answer made outside of these calls, and within them;
-//! - of `serve`: of requests of each of 1, 2 and 4 guests with queues of 16 and of 64 places, which threads serve
-//!   at once, and one thread one after another: for the counter, and writes and reads that are settled on a disk
-//!   in memory, and writes in a file; of reads and in a file an eighth of COUNT. A row has how many requests there
-//!   were a second, and for each its processor time, that in user mode and that in the system, in microseconds,
-//!   page faults, and context switches. After that come the lines of `lock`.
+//! - of `lock`: of requests of one guest for a book that has rolled: the time of a Submit and a
+//!   Collect, with the MACs and the memory of the answer made outside of these calls, and within
+//!   them;
+//! - of `serve`: of requests of each of 1, 2 and 4 guests with queues of 16 and of 64 places, which
+//!   threads serve at once, and one thread one after another: for the counter, and writes and reads
+//!   that are settled on a disk in memory, and writes in a file; of reads and in a file an eighth
+//!   of COUNT. A row has how many requests there were a second, and for each its processor time,
+//!   that in user mode and that in the system, in microseconds, page faults, and context switches.
+//!   After that come the lines of `lock`.
 //!
-//! Where `serve` counts, a guest has asked for its key and all guests together 20,000 requests of the kind, so that
-//! the history has rolled once. At once it counts till the first guest has asked all, when all threads still run:
-//! the system keeps no sum of the context switches of threads that have ended. Times in user mode and in the system
-//! come in hundredths of a second: a row is to last about a second, as most do from a COUNT of 100,000 on, which
-//! takes 1 GB of memory and ten minutes. What drivers are answered is kept, and so are the receipts: its pages are
-//! among the page faults.
+//! Where `serve` counts, a guest has asked for its key and all guests together 20,000 requests of
+//! the kind, so that the history has rolled once. At once it counts till the first guest has asked
+//! all, when all threads still run: the system keeps no sum of the context switches of threads that
+//! have ended. Times in user mode and in the system come in hundredths of a second: a row is to
+//! last about a second, as most do from a COUNT of 100,000 on, which takes 1 GB of memory and ten
+//! minutes. What drivers are answered is kept, and so are the receipts: its pages are among the
+//! page faults.
 //!
-//! Each line of other works is of one way to do it: nanoseconds for each, how many a second, what percentage that is
-//! of the time of the last line's way, and a number that shows that it was done.
+//! Each line of other works is of one way to do it: nanoseconds for each, how many a second, what
+//! percentage that is of the time of the last line's way, and a number that shows that it was done.
 //!
-//! Where a book answers (`requests`, `device`, `serve`), the reply to a write leaves once its store has settled it on
-//! a disk in memory: the times have the calls of that store in them, and no sync of a real disk.
+//! Where a book answers (`requests`, `device`, `serve`), the reply to a write leaves once its store
+//! has settled it on a disk in memory: the times have the calls of that store in them, and no sync
+//! of a real disk.
 #![tactic(auto)]
 
 mod books;
@@ -109,7 +116,8 @@ fn time_part(rt: &HostRuntime, board: &BoardConfig, part: u32) -> Result<(), Sto
 fn time_requests(rt: &HostRuntime, board: &BoardConfig, count: u32) -> Result<(), Stop> {
     // First what holds no more than it needs: the parts keep all their requests ready.
     time_rolls(rt, board, count.saturating_mul(u32::from(GUESTS)))?;
-    // Half the load before the whole: where time grows with the requests alone, each takes as long in both.
+    // Half the load before the whole: where time grows with the requests alone, each takes as long
+    // in both.
     time_part(rt, board, count / 2)?;
     time_part(rt, board, count)
 }
@@ -172,7 +180,8 @@ fn time_fours(rt: &HostRuntime, count: u32) -> Result<(), Stop> {
     print_rows(rt, &[four, one])
 }
 
-/// Beside a run the calls of its store, and the two MACs of each write: of its frame, and of its reply.
+/// Beside a run the calls of its store, and the two MACs of each write: of its frame, and of its
+/// reply.
 fn time_run<R: AllocGlobal + Threads + Wait + Sync>(
     rt: &HostRuntime,
     threads: &R,
@@ -203,8 +212,8 @@ fn print_numbers(rt: &HostRuntime, numbers: &[(u64, &str)]) -> Result<(), Stop> 
     Ok(())
 }
 
-/// Three MACs and four of a key, two requests of each kind of 64 guests, chains and copies, and two whole requests
-/// of each kind.
+/// Three MACs and four of a key, two requests of each kind of 64 guests, chains and copies, and two
+/// whole requests of each kind.
 fn print_requests(rt: &HostRuntime, board: &BoardConfig) -> Result<(), Stop> {
     let macs = plain_macs(3) ^ keyed_macs(4, 1);
     let counted = time_books(rt, board, Kind::Counter, 2)?;
@@ -261,7 +270,8 @@ fn print_runs<R: AllocGlobal + Threads + Wait + Sync>(
     print_numbers(rt, &numbers)
 }
 
-/// What the gate runs: a few of each, with no times, of a board of 64 guests and of one of a single guest.
+/// What the gate runs: a few of each, with no times, of a board of 64 guests and of one of a single
+/// guest.
 fn checksums<R: AllocGlobal + Threads + Wait + Sync>(
     rt: &HostRuntime,
     threads: &R,

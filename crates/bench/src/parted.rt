@@ -1,5 +1,5 @@
-//! The book of a board and its store over a disk in memory, whose caller makes the MACs and the memory of answers
-//! before and behind the book's calls, as who locks the book may.
+//! The book of a board and its store over a disk in memory, whose caller makes the MACs and the
+//! memory of answers before and behind the book's calls, as who locks the book may.
 use crate::books::{advance, hand_over, job_of, mixed_reply, settled};
 use crate::clock::{NO_MEMORY, Stop};
 use crate::counted::CountedDisk;

@@ -94,7 +94,8 @@ impl Kind {
         if self.is_stored() { 1024 } else { 512 }
     }
 
-    /// Puts a request under a write counter behind others: its frame, and the one that asks for its result.
+    /// Puts a request under a write counter behind others: its frame, and the one that asks for its
+    /// result.
     pub fn put(self, requests: &mut Vec<u8>, counter: u32) -> Result<(), Stop> {
         put_frame(requests, &self.frame(counter))?;
         if self.is_stored() {

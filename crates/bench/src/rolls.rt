@@ -15,7 +15,8 @@ const SUBMITS: usize = 16_384;
 /// How many of them are for the guests' keys.
 const KEYS: usize = 64;
 
-/// The nanoseconds of one request for the counter, from the making of its job to the end of its reply.
+/// The nanoseconds of one request for the counter, from the making of its job to the end of its
+/// reply.
 fn time_one(rt: &HostRuntime, books: &mut Books, guest: u16) -> Result<u32, Stop> {
     let start = now(rt);
     books.ask(guest)?;
@@ -44,8 +45,8 @@ struct Folds {
     slowest: u32,
 }
 
-/// Whether the request of this number finds 16,384 in the history. Each was answered and left before the next,
-/// so a fold leaves none; the first of all were the 64 for the keys.
+/// Whether the request of this number finds 16,384 in the history. Each was answered and left
+/// before the next, so a fold leaves none; the first of all were the 64 for the keys.
 fn rolls(number: usize) -> bool {
     number % SUBMITS == SUBMITS - KEYS
 }
@@ -69,8 +70,8 @@ fn folds_of(times: &[u32]) -> Folds {
     folds
 }
 
-/// Prints the median, the 99.99th percentile and the slowest of times that are in order, and what those took at
-/// which the history rolled.
+/// Prints the median, the 99.99th percentile and the slowest of times that are in order, and what
+/// those took at which the history rolled.
 fn print_times(rt: &HostRuntime, times: &[u32], folds: Folds) -> Result<(), Stop> {
     let last = times.len().saturating_sub(1);
     let printed = println!(rt;
@@ -87,8 +88,8 @@ fn print_times(rt: &HostRuntime, times: &[u32], folds: Folds) -> Result<(), Stop
     printed.ok().ok_or("no output")
 }
 
-/// Prints what the process has of memory after the first requests and at the end, and how many pages the
-/// requests between touched for the first time.
+/// Prints what the process has of memory after the first requests and at the end, and how many
+/// pages the requests between touched for the first time.
 fn print_pages(rt: &HostRuntime, first: Pages, last: Pages) -> Result<(), Stop> {
     let printed = println!(rt;
         "resident after {}: {} KiB, at the end: {} KiB; page faults between: {}",
@@ -117,7 +118,8 @@ fn time_new(rt: &HostRuntime, board: &BoardConfig, times: &mut [u32]) -> Result<
     time_all(rt, &mut books, times)
 }
 
-/// Times each of so many requests of 64 guests, which have their keys, by their book, past where its history rolls.
+/// Times each of so many requests of 64 guests, which have their keys, by their book, past where
+/// its history rolls.
 pub fn time_rolls(rt: &HostRuntime, board: &BoardConfig, count: u32) -> Result<(), Stop> {
     let Ok(mut times) = vec![in rt.alloc(); 1u32; count as usize] else {
         return Err(NO_MEMORY);

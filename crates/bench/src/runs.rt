@@ -1,4 +1,5 @@
-//! Writes of one guest by `run`: each goes through its line, its driver, the device, the board and the store.
+//! Writes of one guest by `run`: each goes through its line, its driver, the device, the board and
+//! the store.
 use crate::clock::{NO_MEMORY, Row, Stop, now, since};
 use crate::images::new_disk;
 use crate::requests::Kind;

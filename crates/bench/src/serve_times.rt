@@ -1,5 +1,5 @@
-//! Guests that are served at once, against one chain after another: what a request costs of time, of the
-//! processors, and of the system, once the book is warm.
+//! Guests that are served at once, against one chain after another: what a request costs of time,
+//! of the processors, and of the system, once the book is warm.
 use crate::clock::Stop;
 use crate::costs::{Cost, print_cost, print_heads};
 use crate::images::{blank_disk, board_of, board_of_places};
@@ -33,8 +33,8 @@ enum Medium {
     File,
 }
 
-/// What is asked, where it is settled, and by what the number of requests is divided, so that the dearer ones take
-/// no longer than others.
+/// What is asked, where it is settled, and by what the number of requests is divided, so that the
+/// dearer ones take no longer than others.
 #[derive(Clone, Copy)]
 struct Case {
     kind: Kind,
@@ -90,8 +90,8 @@ const FILE: &str = "bench-serve.img";
 
 const NO_FILE: Stop = "no file bench-serve.img, or one that was there before";
 
-/// Serves a load at once over one disk and one chain after another over the other; each guest has to be told
-/// the same. Answers the run, and what the requests cost on one thread.
+/// Serves a load at once over one disk and one chain after another over the other; each guest has
+/// to be told the same. Answers the run, and what the requests cost on one thread.
 fn both<D: Disk + Send + Drop, R: Threads + Wait + Sync>(
     rt: &HostRuntime,
     threads: &R,
@@ -251,8 +251,8 @@ fn time_cases<R: Threads + Wait + Sync>(
     Ok(())
 }
 
-/// Times so many requests of each guest, of each kind, with short queues and long ones; and the calls under the
-/// book's lock.
+/// Times so many requests of each guest, of each kind, with short queues and long ones; and the
+/// calls under the book's lock.
 pub fn time_serve<R: Threads + Wait + Sync>(
     rt: &HostRuntime,
     threads: &R,

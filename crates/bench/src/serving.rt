@@ -46,8 +46,8 @@ fn told_drivers(load: &Load, drivers: &[DriverEnd]) -> Result<u32, Stop> {
     Ok(all)
 }
 
-/// What a run left, where it is whole: each request is counted, by the book and by a tally, and no call of
-/// the disk has failed.
+/// What a run left, where it is whole: each request is counted, by the book and by a tally, and no
+/// call of the disk has failed.
 fn run_of<D: Disk>(load: &Load, ended: &Ended<D>, cost: Result<Cost, Stop>) -> Result<Run, Stop> {
     let turns = ended.book.submit_turns();
     if ended.broken || turns != load.all() || tallies_of(&ended.served) != turns {
@@ -111,8 +111,8 @@ pub struct OneThread {
     pub answers: Vec<Vec<Answer>>,
 }
 
-/// What takes chains to their end. Its method promises nothing, so that what stands above it is proved without a
-/// host's contract.
+/// What takes chains to their end. Its method promises nothing, so that what stands above it is
+/// proved without a host's contract.
 pub trait Chains {
     fn end_of(&mut self, guest: u16, request: &[u8], kind: Kind) -> Result<Answer, Stop>;
 }
@@ -173,8 +173,8 @@ fn take_load<C: Chains>(
     Ok(first.until(&last, load.all().saturating_sub(load.warm())))
 }
 
-/// Brings the devices into service, takes one chain after another to its end, and makes the calls of the disk
-/// that are left.
+/// Brings the devices into service, takes one chain after another to its end, and makes the calls
+/// of the disk that are left.
 fn take_all<D: Disk>(
     rt: &HostRuntime,
     board: Board<D>,

@@ -9,9 +9,9 @@ use mmio_transport::register as reg;
 use rpmb_frame::BoardConfig;
 use std::alloc::Global;
 
-/// What a driver writes into the registers: VIRTIO_F_VERSION_1 alone, a queue of 16 with its descriptors
-/// at 0x1000, its available ring at 0x2000 and its used ring at 0x3000, and DRIVER_OK (VIRTIO 1.2, 3.1.1
-/// and 4.2.3.2).
+/// What a driver writes into the registers: VIRTIO_F_VERSION_1 alone, a queue of 16 with its
+/// descriptors at 0x1000, its available ring at 0x2000 and its used ring at 0x3000, and DRIVER_OK
+/// (VIRTIO 1.2, 3.1.1 and 4.2.3.2).
 pub static SETUP: [(u32, u32); 13] = [
     (reg::STATUS, 3),
     (reg::DRIVER_FEATURES_SEL, 0),
@@ -28,14 +28,15 @@ pub static SETUP: [(u32, u32); 13] = [
     (reg::STATUS, 15),
 ];
 
-/// Two descriptors (VIRTIO 1.2, 2.7.5): a request of 1,024 bytes at 0x4000, and room for 512 at 0x8000.
+/// Two descriptors (VIRTIO 1.2, 2.7.5): a request of 1,024 bytes at 0x4000, and room for 512 at
+/// 0x8000.
 pub static DESCRIPTORS: [u8; 32] = [
     0, 0x40, 0, 0, 0, 0, 0, 0, 0, 4, 0, 0, 1, 0, 1, 0, //
     0, 0x80, 0, 0, 0, 0, 0, 0, 0, 2, 0, 0, 2, 0, 0, 0,
 ];
 
-/// Makes steps. Its methods promise nothing, so that what stands above them is proved without the contract of a
-/// board's step.
+/// Makes steps. Its methods promise nothing, so that what stands above them is proved without the
+/// contract of a board's step.
 pub trait Stepper: Drop {
     /// Whether the step found something to do.
     fn make(&mut self, step: Step) -> Result<bool, Stop>;

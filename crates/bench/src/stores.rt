@@ -1,4 +1,5 @@
-//! The store of many guests over a disk in memory, and the calls that it makes, made to the disk itself.
+//! The store of many guests over a disk in memory, and the calls that it makes, made to the disk
+//! itself.
 ghost use Rattle.std.specs.Prelude.{◌<◌, ◌+◌, ◌^◌, length};
 
 use crate::clock::{NO_MEMORY, Row, Stop, now, since};
@@ -107,7 +108,8 @@ impl Way for Stored {
     }
 }
 
-/// Times so many rounds of writes of each guest of a board by its store alone, which is given so many as one.
+/// Times so many rounds of writes of each guest of a board by its store alone, which is given so
+/// many as one.
 pub fn time_waiting(
     rt: &HostRuntime,
     name: &'static str,
@@ -163,7 +165,8 @@ fn put_each(disk: &mut MemDisk, puts: &[(u64, usize)]) -> Result<(), Stop> {
     Ok(())
 }
 
-/// The same calls for each guest of a board; four syncs go with them, whatever the number of guests.
+/// The same calls for each guest of a board; four syncs go with them, whatever the number of
+/// guests.
 fn put_writes(disk: &mut MemDisk, layout: &Layout) -> Result<(), Stop> {
     for guest in 0..layout.guests() {
         put_each(disk, &puts_of(layout, guest as u16))?;

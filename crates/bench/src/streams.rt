@@ -1,5 +1,5 @@
-//! Guests that write on without a pause, over images of both versions: the calls of their store, and how soon a
-//! record of theirs may begin.
+//! Guests that write on without a pause, over images of both versions: the calls of their store,
+//! and how soon a record of theirs may begin.
 use crate::books::{Books, new_books_on};
 use crate::clock::Stop;
 use crate::counted::Counts;
@@ -66,7 +66,8 @@ impl Writers {
         Ok(())
     }
 
-    /// The same for each slot that a guest may have, and of guest 0 how many syncs were made until then.
+    /// The same for each slot that a guest may have, and of guest 0 how many syncs were made until
+    /// then.
     fn give(&mut self) -> Result<(), Stop> {
         let was_free = self.books.is_free(0);
         self.give_each()?;
@@ -123,7 +124,8 @@ impl Writers {
         Ok(())
     }
 
-    /// Writes of each guest from their Submit to their replies, behind as many that were made before.
+    /// Writes of each guest from their Submit to their replies, behind as many that were made
+    /// before.
     fn round(&mut self, alloc: Global, before: u32) -> Result<(), Stop> {
         self.submit(alloc, before)?;
         self.settle(u64::from(before.saturating_add(self.waiting)))?;
@@ -189,7 +191,8 @@ fn print_stream(
     let Figures { counts, syncs } = streamed(rt, board, version, waiting, rounds)?;
     let counts = counts.since(keys);
     let printed = println!(rt;
-        "version {}, {waiting} waiting: {} calls, {} syncs, {} bytes; begins after {} syncs, the next after {}",
+        "version {}, {waiting} waiting: {} calls, {} syncs, {} bytes; \
+         begins after {} syncs, the next after {}",
         number_of(version),
         counts.calls,
         counts.syncs,
@@ -208,9 +211,10 @@ fn print_version(rt: &HostRuntime, board: &BoardConfig, version: Version) -> Res
     Ok(())
 }
 
-/// Prints what eight writes of each guest of a board need that write on without a pause, where 1, 2, 4 or 8 of
-/// a guest wait at once: of the last of them how many syncs came between the guest's Submit and its record, and
-/// between that Submit and the moment at which the next record might begin.
+/// Prints what eight writes of each guest of a board need that write on without a pause, where 1,
+/// 2, 4 or 8 of a guest wait at once: of the last of them how many syncs came between the guest's
+/// Submit and its record, and between that Submit and the moment at which the next record might
+/// begin.
 pub fn print_streams(rt: &HostRuntime, board: &BoardConfig) -> Result<(), Stop> {
     print_version(rt, board, Version::One)?;
     print_version(rt, board, Version::Two)

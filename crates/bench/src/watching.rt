@@ -1,4 +1,5 @@
-//! What looks at a run of threads from within: at where it is warm, and at where its first guest has asked all.
+//! What looks at a run of threads from within: at where it is warm, and at where its first guest
+//! has asked all.
 use crate::clock::{NO_MEMORY, Stop};
 use crate::costs::{Cost, Used, used_now};
 use crate::loads::Load;
@@ -14,8 +15,9 @@ struct Look {
     used: Result<Used, Stop>,
 }
 
-/// A gate that counts the requests which the book answers. Both of its looks are made while all threads run, so
-/// that nothing is lost of what only threads that run tell of: what a guest was answered last isn't yet published.
+/// A gate that counts the requests which the book answers. Both of its looks are made while all
+/// threads run, so that nothing is lost of what only threads that run tell of: what a guest was
+/// answered last isn't yet published.
 #[derive(Drop)]
 pub struct Watch<'a> {
     rt: &'a HostRuntime,

@@ -1,7 +1,7 @@
-//! The same requests of each guest settled in three ways, over images that are alike: by the steps of a board,
-//! by its book and its store, and by its store alone. All ways take the same turns. The clock runs from the
-//! first Submit to the last Collect, over jobs that devices have given. The last two ways test each intent
-//! before they give it (`Store::takes`), which a board needn't.
+//! The same requests of each guest settled in three ways, over images that are alike: by the steps
+//! of a board, by its book and its store, and by its store alone. All ways take the same turns. The
+//! clock runs from the first Submit to the last Collect, over jobs that devices have given. The
+//! last two ways test each intent before they give it (`Store::takes`), which a board needn't.
 use crate::books::new_books;
 use crate::clock::{Row, Stop, now, since};
 use crate::images::guests_of;
@@ -39,8 +39,8 @@ pub enum Turn {
     Publish,
 }
 
-/// A way to settle what guests ask for. Its methods promise nothing, so that what stands above them is proved
-/// without the contracts of boards, books and stores.
+/// A way to settle what guests ask for. Its methods promise nothing, so that what stands above them
+/// is proved without the contracts of boards, books and stores.
 pub trait Way: Drop {
     /// Puts a guest's request, the one of this number, before its Submit.
     fn offer(
@@ -193,7 +193,8 @@ fn time_asked<W: Way>(
     Ok(row)
 }
 
-/// Times so many rounds of requests of a kind from each guest, by one way. The sum is of the bytes of the replies.
+/// Times so many rounds of requests of a kind from each guest, by one way. The sum is of the bytes
+/// of the replies.
 pub fn time_way<W: Way>(
     rt: &HostRuntime,
     name: &'static str,
@@ -261,8 +262,8 @@ fn rows_of<A: Way, B: Way, C: Way>(
     }
 }
 
-/// Settles so many writes in each of three ways, which take turns, so that what else the machine does falls on
-/// all of them.
+/// Settles so many writes in each of three ways, which take turns, so that what else the machine
+/// does falls on all of them.
 fn ask_in_turn<A: Way, B: Way, C: Way>(
     rt: &HostRuntime,
     first: &mut Asked<A>,
@@ -297,7 +298,8 @@ fn take_turns<A: Way, B: Way, C: Way>(
     Ok(rows_of(first, second, third, count, took))
 }
 
-/// Beside a board's steps and its store its book and store. Each function here holds one way, and lends it.
+/// Beside a board's steps and its store its book and store. Each function here holds one way, and
+/// lends it.
 fn time_beside<A: Way, B: Way>(
     rt: &HostRuntime,
     config: &BoardConfig,

@@ -1,5 +1,5 @@
-//! Whole requests of one guest, each from its offer to its reap, once the guest has asked for so long that what
-//! its host keeps no longer grows.
+//! Whole requests of one guest, each from its offer to its reap, once the guest has asked for so
+//! long that what its host keeps no longer grows.
 ghost use Rattle.host.specs.Opening.{IsJustOpened};
 
 use crate::clock::{NO_MEMORY, Row, Stop, now, print_rows, since};
@@ -16,8 +16,8 @@ use host::Host;
 use rpmb_frame::BoardConfig;
 use std::time::Duration;
 
-/// So many requests are made before the clock runs for them: making a write costs a MAC, which is not to be in
-/// its time.
+/// So many requests are made before the clock runs for them: making a write costs a MAC, which is
+/// not to be in its time.
 const BATCH: u32 = 256;
 
 /// After so many requests the history, which holds 16,384, has rolled once.
@@ -29,7 +29,8 @@ static KINDS: [Kind; 3] = [Kind::Counter, Kind::Write, Kind::Read];
 #[derive(Clone, Copy)]
 struct Told {
     took: Duration,
-    /// The time of the MACs, which are made batch by batch too, since a machine's clock isn't steady.
+    /// The time of the MACs, which are made batch by batch too, since a machine's clock isn't
+    /// steady.
     macs: Duration,
     /// How many pages were touched that had to be fetched or cleared first, while the clock ran.
     faults: u64,
@@ -50,7 +51,8 @@ fn told_none() -> Told {
     }
 }
 
-/// Makes so many requests of a kind in place of those that were there, the first under this write counter.
+/// Makes so many requests of a kind in place of those that were there, the first under this write
+/// counter.
 fn make_batch(batch: &mut Vec<u8>, kind: Kind, first: u32, count: u32) -> Result<(), Stop> {
     batch.clear();
     for number in 0..count {
@@ -59,7 +61,8 @@ fn make_batch(batch: &mut Vec<u8>, kind: Kind, first: u32, count: u32) -> Result
     Ok(())
 }
 
-/// Takes the chains of a batch to their ends, one after another. Each answer is tested, and let go at once.
+/// Takes the chains of a batch to their ends, one after another. Each answer is tested, and let go
+/// at once.
 fn take_batch<C: Chains>(host: &mut C, kind: Kind, batch: &[u8], before: u32) -> Result<u32, Stop> {
     let mut all = before;
     for request in batch.chunks(kind.length()) {
@@ -121,8 +124,8 @@ fn time_batches<C: Chains>(
     Ok(told)
 }
 
-/// Takes the request for the key to its end, those that aren't timed, and those that are: all in the memory of
-/// one batch.
+/// Takes the request for the key to its end, those that aren't timed, and those that are: all in
+/// the memory of one batch.
 fn take_asked<C: Chains>(rt: &HostRuntime, host: &mut C, asked: Asked) -> Result<Told, Stop> {
     let mut batch = Vec::new(rt.alloc());
     make_batch(&mut batch, Kind::Key, 0, 1)?;
@@ -131,7 +134,8 @@ fn take_asked<C: Chains>(rt: &HostRuntime, host: &mut C, asked: Asked) -> Result
     time_batches(rt, host, asked.kind, &mut batch, asked.warm, asked.timed)
 }
 
-/// Brings the device into service, takes what is asked to its end, and makes the calls of the disk that are left.
+/// Brings the device into service, takes what is asked to its end, and makes the calls of the disk
+/// that are left.
 fn take_all<D: Disk>(
     rt: &HostRuntime,
     board: Board<D>,

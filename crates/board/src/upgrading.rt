@@ -6,8 +6,8 @@ use disk::{CutDisk, Disk, Filler};
 use recovery::upgrade;
 use rpmb_frame::BoardConfig;
 
-/// An upgrade, as far as it comes. What it answers isn't told: an opening follows, which tells what the disk
-/// holds.
+/// An upgrade, as far as it comes. What it answers isn't told: an opening follows, which tells what
+/// the disk holds.
 fn upgrade_whole(disk: &mut CutDisk, board: &BoardConfig)
     ensures { UpgradesDisk board.now disk.old disk.new }
 {

@@ -21,7 +21,8 @@ some_found (Ok found) = Ok (Some found)
 some_found (Err fault) = Err fault
 
 -- the chain from a place on, where one begins
-abbrev pub found_from : List ℕ → Descriptors → Result (Option ℕ) ChainFault → Result (Option Found) ChainFault
+abbrev pub found_from : List ℕ → Descriptors → Result (Option ℕ) ChainFault
+    → Result (Option Found) ChainFault
 found_from memory area (Ok None) = Ok None
 found_from memory area (Ok (Some start)) = some_found (walk memory area start)
 found_from memory area (Err fault) = Err fault

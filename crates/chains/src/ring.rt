@@ -1,7 +1,9 @@
-ghost use Rattle.std.specs.Prelude.{◌≡◌, ◌≤◌, ◌<◌, ◌+◌, ◌↔◌, IsTrue, false, IsOk, IfOk, IfSome, OnErr, length, Err};
+ghost use Rattle.std.specs.Prelude.{◌≡◌, ◌≤◌, ◌<◌, ◌+◌, ◌↔◌, IsTrue, false, IsOk, IfOk, IfSome};
+ghost use Rattle.std.specs.Prelude.{OnErr, length, Err};
 ghost use Rattle.chains.specs.Range.{AreInside};
 ghost use Rattle.chains.specs.Walk.{reads_of};
-ghost use Rattle.chains.specs.Ring.{first_state, MayBeUsed, IsFree, Stays, Finds, Pops, CountsReads, Publishes};
+ghost use Rattle.chains.specs.Ring.{first_state, MayBeUsed, IsFree, Stays, Finds, Pops};
+ghost use Rattle.chains.specs.Ring.{CountsReads, Publishes};
 
 use crate::counts::Counts;
 use crate::fault::{ChainFault, RingFault};
@@ -73,16 +75,16 @@ impl<R: Rules> Ring<R> {
         self.counts.last()
     }
 
-    /// Whether the chain of this number, of this id and so many places, may be used: it was popped and not
-    /// yet used, and with `VIRTIO_F_IN_ORDER` so was none before it.
+    /// Whether the chain of this number, of this id and so many places, may be used: it was popped
+    /// and not yet used, and with `VIRTIO_F_IN_ORDER` so was none before it.
     pub fn may_be_used(&self, number: u64, id: u16, places: u16) -> bool
         ensures { IsTrue result ↔ MayBeUsed self.now number id places }
     {
         self.counts.may_be_used(number, id, places)
     }
 
-    /// The chain at the place after those popped, with the bytes that it has to be read; `None` where that place
-    /// isn't available. It counts `reads` anew.
+    /// The chain at the place after those popped, with the bytes that it has to be read; `None`
+    /// where that place isn't available. It counts `reads` anew.
     fn find(
         &self,
         alloc: Global,
@@ -90,7 +92,8 @@ impl<R: Rules> Ring<R> {
         reads: &mut Reads,
     ) -> Result<Option<Popped>, RingFault>
         requires areas { R.areas (length memory.now) self.now }
-        ensures finds { Finds (R.next memory.now self.now) (R.members memory.now self.now) memory.now result }
+        ensures finds { Finds (R.next memory.now self.now)
+            (R.members memory.now self.now) memory.now result }
         ensures inside { IfOk result (λ popped.
             IfSome popped (λ popped. AreInside (length memory.now) popped.chain.writable)) }
         ensures reads { CountsReads result reads.old reads.new
@@ -115,11 +118,11 @@ impl<R: Rules> Ring<R> {
     }
 
     /// Pops the chain at the place after those popped, or answers `None` where that place isn't
-    /// available. Both write for the driver what the ring's kind has them write, and nothing else. The
-    /// chain is known by `number` from then on.
+    /// available. Both write for the driver what the ring's kind has them write, and nothing else.
+    /// The chain is known by `number` from then on.
     ///
-    /// It counts `reads` anew, and reads each descriptor once, up to the first that fails a test: at
-    /// most the queue size and 1,024.
+    /// It counts `reads` anew, and reads each descriptor once, up to the first that fails a test:
+    /// at most the queue size and 1,024.
     ///
     /// Answers a fault for what the driver made available against the rules, `NoMemory`, and
     /// `OldNumber` exactly where the number isn't above those of the chains popped before; then the
@@ -132,7 +135,8 @@ impl<R: Rules> Ring<R> {
         number: u64,
     ) -> Result<Option<Popped>, RingFault>
         requires areas { R.areas (length memory.old) self.old }
-        ensures pops { Pops R.next R.members R.event memory.old self.old number result memory.new self.new }
+        ensures pops { Pops R.next R.members R.event memory.old self.old number result memory.new
+            self.new }
         ensures stays { Stays R.areas memory.old memory.new self.new }
         ensures old_number { number ≤ self.old.last → result ≡ Err RingFault.OldNumber }
         ensures inside { IfOk result (λ popped.
@@ -154,9 +158,9 @@ impl<R: Rules> Ring<R> {
         Ok(Some(popped))
     }
 
-    /// Publishes a chain as used: writes its used element or descriptor, and nothing else. `len` is the
-    /// length in bytes of the reply, which was scattered before. Answers whether the driver is to be
-    /// notified, which the memory after these writes decides.
+    /// Publishes a chain as used: writes its used element or descriptor, and nothing else. `len` is
+    /// the length in bytes of the reply, which was scattered before. Answers whether the driver is
+    /// to be notified, which the memory after these writes decides.
     ///
     /// The chain of this number is outstanding no more, whatever other chains have its id. It takes
     /// no memory.

@@ -1,4 +1,5 @@
-ghost use Rattle.std.specs.Prelude.{◌≡◌, ◌≤◌, ◌<◌, ◌+◌, ◌*◌, ◌^◌, ◌↔◌, ℕ, Bool, IsTrue, List, Option, Result, length};
+ghost use Rattle.std.specs.Prelude.{◌≡◌, ◌≤◌, ◌<◌, ◌+◌, ◌*◌, ◌^◌, ◌↔◌, ℕ, Bool, IsTrue, List};
+ghost use Rattle.std.specs.Prelude.{Option, Result, length};
 ghost use Rattle.guest_memory.specs.Memory.{IsInside};
 ghost use Rattle.chains.specs.declared.places.Places.{Places};
 ghost use Rattle.chains.specs.declared.descriptor.Shape.{Shape};
@@ -14,8 +15,8 @@ use crate::places::Places;
 use crate::popped::Used;
 use guest_memory::Memory;
 
-/// What sets one kind of ring apart from the other: its sizes and areas, where its next chain begins,
-/// and what its device writes for the driver.
+/// What sets one kind of ring apart from the other: its sizes and areas, where its next chain
+/// begins, and what its device writes for the driver.
 pub trait Rules: Drop {
     /// A ring may stand here, and have so many entries.
     ghost is_ring: { Places → ℕ → Type 0 };
@@ -52,7 +53,8 @@ pub trait Rules: Drop {
     /// The members of that chain.
     ghost members: { List ℕ → RingState → List Member };
 
-    /// Where the chain at the place after those popped begins; `None` where that place isn't available.
+    /// Where the chain at the place after those popped begins; `None` where that place isn't
+    /// available.
     fn start(ring: &Counts, memory: &Memory) -> Result<Option<u16>, ChainFault>
         requires sound { is_ring ring.now.places ring.now.size }
         requires areas { areas (length memory.now) ring.now }
@@ -67,8 +69,8 @@ pub trait Rules: Drop {
         ensures value { memory.new ≡ event memory.old ring.now }
         ensures size { length memory.new ≡ length memory.old };
 
-    /// The memory with what says that a chain of this id and so many places was used, of which so many bytes
-    /// were written.
+    /// The memory with what says that a chain of this id and so many places was used, of which so
+    /// many bytes were written.
     ghost used_written: { List ℕ → RingState → ℕ → ℕ → ℕ → List ℕ };
 
     /// Writes that a chain was used, at the first place that isn't.
@@ -76,7 +78,8 @@ pub trait Rules: Drop {
         requires sound { is_ring ring.now.places ring.now.size }
         requires areas { areas (length memory.old) ring.now }
         requires fits { ring.now.used < 2 ^ 80 }
-        ensures value { memory.new ≡ used_written memory.old ring.now chain.id chain.places chain.len }
+        ensures value { memory.new
+            ≡ used_written memory.old ring.now chain.id chain.places chain.len }
         ensures size { length memory.new ≡ length memory.old };
 
     /// What is to be answered on whether the driver is notified that so many places were used.

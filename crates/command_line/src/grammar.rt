@@ -55,7 +55,8 @@ fn bare<'a>(alloc: Global) -> Command<'a>
 {
     Command::new(alloc, "rpmbd")
         .about(
-            "Performs scripts on virtio RPMB devices, and makes and shows images of their partitions",
+            "Performs scripts on virtio RPMB devices, \
+             and makes and shows images of their partitions",
         )
         .after_help(help::PROGRAM)
         .subcommand_required(true)

@@ -24,10 +24,13 @@ pub record ChainDone {D : Type 0} (h : HostState D) (guest : ℕ) (readable : Li
   pub printed : Appends start now (answer_line guest answer)
 
 -- The other lines print nothing, and one that says nothing makes no call.
-abbrev pub LineDone : {D : Type 0} → Said → HostState D → Option (List ℕ) → Option (List ℕ) → HostState D → Type 0
+abbrev pub LineDone : {D : Type 0} → Said → HostState D → Option (List ℕ) → Option (List ℕ)
+    → HostState D → Type 0
 LineDone nothing h start now h' = (h' ≡ h) × Keeps start now
-LineDone (chain guest readable writable) h start now h' = ChainDone h guest readable writable start now h'
-LineDone (store guest at bytes) h start now h' = StoreCall h guest at bytes (Ok tt) h' × Keeps start now
+LineDone (chain guest readable writable) h start now h' =
+    ChainDone h guest readable writable start now h'
+LineDone (store guest at bytes) h start now h' =
+    StoreCall h guest at bytes (Ok tt) h' × Keeps start now
 LineDone (reset guest) h start now h' = ResetCall h guest (Ok tt) h' × Keeps start now
 
 -- 2. A line that ended the run
@@ -48,7 +51,8 @@ LineFails nothing h f h' = ⊥
 LineFails (chain guest readable writable) h f h' = ChainFails h guest readable writable f h'
 LineFails (store guest at bytes) h f h' =
     (fault : HostFault) × StoreCall h guest at bytes (Err fault) h' × (f ≡ fault_of fault)
-LineFails (reset guest) h f h' = (fault : HostFault) × ResetCall h guest (Err fault) h' × (f ≡ fault_of fault)
+LineFails (reset guest) h f h' =
+    (fault : HostFault) × ResetCall h guest (Err fault) h' × (f ≡ fault_of fault)
 
 -- the next of the lines left is such a line
 abbrev pub NextFails : {D : Type 0} → List Said → HostState D → Fault → HostState D → Type 0
@@ -58,7 +62,8 @@ NextFails (line ∷ rest) h f h' = LineFails line h f h'
 -- 3. What a line does
 
 -- it is done; or it ended the run, and printed nothing unless standard output took no more
-abbrev pub LineEnded : {D : Type 0} → Said → HostState D → Option (List ℕ) → Result (Unit {0}) Fault → Option (List ℕ)
+abbrev pub LineEnded : {D : Type 0} → Said → HostState D → Option (List ℕ) → Result (Unit {0}) Fault
+    → Option (List ℕ)
     → HostState D → Type 0
 LineEnded line h start (Ok done) now h' = LineDone line h start now h'
 LineEnded line h start (Err f) now h' = LineFails line h f h' × KeepsUnless f start now

@@ -1,6 +1,7 @@
--- What each command has done, by how it ended. A field says what the clause of the same name says of the command's own
--- function.
-use Rattle.std.specs.Prelude.{◌≡◌, ℕ, List, Option, None, Some, Result, Ok, Err, IfErr, IsErr, IsSome, OnOk, true}
+-- What each command has done, by how it ended. A field says what the clause of the same name says
+-- of the command's own function.
+use Rattle.std.specs.Prelude.{◌≡◌, ℕ, List, Option, None, Some, Result, Ok, Err, IfErr, IsErr}
+use Rattle.std.specs.Prelude.{IsSome, OnOk, true}
 use Rattle.std.specs.Io.KnownBytes.{Appends, Keeps}
 use Rattle.command_line.specs.declared.command.Command.{Command}
 use Rattle.command_line.specs.declared.command.Command.TheVariants as command
@@ -11,7 +12,8 @@ use Rattle.recovery.specs.Format.{ClearsFirst, IsFormatted}
 use Rattle.recovery.specs.Opening.{IsImage, Untouched}
 use Rattle.recovery.specs.Upgrade.{IsNamed, StandsThroughout}
 use Rattle.script.specs.Line.{Said}
-use Rattle.commands.specs.Ending.{Ends, IsReadAlone, KeepsUnless, RunPrints, Takes, formatting, running, serving}
+use Rattle.commands.specs.Ending.{Ends, IsReadAlone, KeepsUnless, RunPrints, Takes, formatting}
+use Rattle.commands.specs.Ending.{running, serving}
 use Rattle.commands.specs.Ending.{showing, upgrading}
 use Rattle.commands.specs.Fault.{fault_line}
 use Rattle.commands.specs.Image.{Ran}
@@ -26,7 +28,8 @@ use Rattle.commands.specs.declared.fault.Fault.{Fault}
 pub record FormatDoes {D : Type 0} (shows : D → DiskState) (makes : D → DiskCall → D → Type 0)
     (board : List GuestConfig) (old : D) (start : Option (List ℕ)) (ended : Result (Unit {0}) Fault)
     (new : D) (now : Option (List ℕ)) : Type 0 where
-  pub formatted : OnOk ended ((shows old).faithful ≡ true → IsFormatted 1 (capacities_of board) (shows new))
+  pub formatted : OnOk ended
+      ((shows old).faithful ≡ true → IsFormatted 1 (capacities_of board) (shows new))
   pub printed : OnOk ended (Appends start now (formatted_line (image_length (capacities_of board))))
   pub ends : IfErr ended (Ends formatting board (shows old) (shows new))
   pub silent : IfErr ended (λ f. KeepsUnless f start now)
@@ -73,7 +76,8 @@ pub record ServeDoes {D : Type 0} (shows : D → DiskState) (makes : D → DiskC
   pub prints : IfErr ended (λ f. ServePrints board script f start now)
   pub leaves : IfErr ended (λ f. ServeLeaves shows makes old f given)
   pub keeps : ServeKeeps shows makes board old ended given
-  pub bad : (n : ℕ) → IsUnservedAt board script n → IsErr ended × Keeps start now × (given ≡ Some old)
+  pub bad : (n : ℕ) → IsUnservedAt board script n → IsErr ended × Keeps start now
+      × (given ≡ Some old)
 
 abbrev pub IsFormat : Command → Type 0
 IsFormat (command.Format b) = Unit {0}
@@ -85,7 +89,8 @@ GivesBack P None = ⊥
 GivesBack P (Some d) = P d
 
 -- What a command has done, on this board, with the text of this script.
-abbrev pub Does : {D : Type 0} → (D → DiskState) → (D → DiskCall → D → Type 0) → Command → List GuestConfig → List ℕ
+abbrev pub Does : {D : Type 0} → (D → DiskState) → (D → DiskCall → D → Type 0) → Command
+    → List GuestConfig → List ℕ
     → D → Option (List ℕ) → Result (Unit {0}) Fault → Option D → Option (List ℕ) → Type 0
 Does shows makes (command.Format b) board script old start ended back now =
     GivesBack (λ new. FormatDoes shows makes board old start ended new now) back
@@ -98,8 +103,8 @@ Does shows makes (command.Run b s) board script old start ended back now =
 Does shows makes (command.Serve b s) board script old start ended back now =
     ServeDoes shows makes board script old start ended back now
 
--- The status that tells of an end, and what standard error has taken: nothing, or the line of the fault, as far as that
--- went out.
+-- The status that tells of an end, and what standard error has taken: nothing, or the line of the
+-- fault, as far as that went out.
 abbrev pub TellsEnd : Result (Unit {0}) Fault → ℕ → Option (List ℕ) → Option (List ℕ) → Type 0
 TellsEnd (Ok done) status start now = (status ≡ 0) × Keeps start now
 TellsEnd (Err f) status start now = (status ≡ 1) × Takes start now (fault_line f)

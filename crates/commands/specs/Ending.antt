@@ -38,9 +38,10 @@ IsReadable board script = first_bad (length board) (lines_of script) ≡ None
 abbrev pub IsServable : List GuestConfig → List ℕ → Type 0
 IsServable board script = first_unserved (length board) (lines_of script) ≡ None
 
--- Which faults a line of a run may come to, once so many requests of the run are answered: a chain, for want of memory,
--- since one life has 2^64 - 1 requests, or since standard output took no more; a store, since its bytes don't lie in
--- the guest's memory. A guest never has too little memory for its driver, and no queue too few descriptors.
+-- Which faults a line of a run may come to, once so many requests of the run are answered: a chain,
+-- for want of memory, since one life has 2^64 - 1 requests, or since standard output took no more;
+-- a store, since its bytes don't lie in the guest's memory. A guest never has too little memory for
+-- its driver, and no queue too few descriptors.
 abbrev pub LineEnds : List GuestConfig → ℕ → Fault → Said → Type 0
 LineEnds board answered fault.FileFault line = IsChain line
 LineEnds board answered fault.NoMemory line = IsChain line
@@ -56,7 +57,8 @@ NextEnds board answered f (line ∷ rest) = LineEnds board answered f line
 -- one of these lines may
 abbrev pub OneEnds : List GuestConfig → Fault → List Said → Type 0
 OneEnds board f [] = ⊥
-OneEnds board f (line ∷ rest) = ((answered : ℕ) × LineEnds board answered f line) ⊎ OneEnds board f rest
+OneEnds board f (line ∷ rest) =
+    ((answered : ℕ) × LineEnds board answered f line) ⊎ OneEnds board f rest
 
 -- and a line of this script
 abbrev pub EndsInLine : List GuestConfig → List ℕ → Fault → Type 0
@@ -66,29 +68,36 @@ EndsInLine board script f = (lines : List Said) → Says board script lines → 
 abbrev pub OpeningEnds : List ℕ → DiskState → DiskState → Fault → Type 0
 OpeningEnds capacities old new fault.NoMemory = Unit {0}
 OpeningEnds capacities old new fault.DiskFault = HasRisen old.failures new.failures
-OpeningEnds capacities old new fault.NotFormatted = old.faithful ≡ true → IsUnformatted capacities old.len old.seen
-OpeningEnds capacities old new fault.OtherConfig = old.faithful ≡ true → IsOther capacities old.len old.seen
+OpeningEnds capacities old new fault.NotFormatted =
+    old.faithful ≡ true → IsUnformatted capacities old.len old.seen
+OpeningEnds capacities old new fault.OtherConfig =
+    old.faithful ≡ true → IsOther capacities old.len old.seen
 OpeningEnds capacities old new f = ⊥
 
 -- Which faults may end a command, by what it was asked, with the disk before and after it.
 abbrev pub Ends : Asked → List GuestConfig → DiskState → DiskState → Fault → Type 0
 -- a call of the disk failed, or the image is made and standard output took no more
 Ends formatting board old new fault.DiskFault = HasRisen old.failures new.failures
-Ends formatting board old new fault.FileFault = old.faithful ≡ true → IsFormatted 1 (capacities_of board) new
+Ends formatting board old new fault.FileFault =
+    old.faithful ≡ true → IsFormatted 1 (capacities_of board) new
 Ends formatting board old new f = ⊥
--- the image wasn't opened, memory being refused before any call; or it was, and standard output took no more
+-- the image wasn't opened, memory being refused before any call; or it was, and standard output
+-- took no more
 Ends showing board old new fault.NoMemory = new ≡ old
-Ends showing board old new fault.FileFault = old.faithful ≡ true → IsImage (capacities_of board) old.len old.seen
+Ends showing board old new fault.FileFault =
+    old.faithful ≡ true → IsImage (capacities_of board) old.len old.seen
 Ends showing board old new f = OpeningEnds (capacities_of board) old new f
--- the disk has no header of this board, a call failed, or the image is of version 2 and standard output took no more
+-- the disk has no header of this board, a call failed, or the image is of version 2 and standard
+-- output took no more
 Ends upgrading board old new fault.DiskFault = HasRisen old.failures new.failures
 Ends upgrading board old new fault.FileFault = old.faithful ≡ true → IsNamed new
 Ends upgrading board old new fault.NotFormatted =
     old.faithful ≡ true → HasNoHeader (capacities_of board) old.len old.seen
-Ends upgrading board old new fault.OtherConfig = old.faithful ≡ true → IsOther (capacities_of board) old.len old.seen
+Ends upgrading board old new fault.OtherConfig =
+    old.faithful ≡ true → IsOther (capacities_of board) old.len old.seen
 Ends upgrading board old new f = ⊥
--- The first bad line; want of memory; and, where all lines are read, what one of them may come to, why the image isn't
--- opened, or a call of the disk that failed.
+-- The first bad line; want of memory; and, where all lines are read, what one of them may come to,
+-- why the image isn't opened, or a call of the disk that failed.
 Ends (running script) board old new (fault.BadScript line) = IsBadAt board script line
 Ends (running script) board old new fault.NoMemory = Unit {0}
 Ends (running script) board old new fault.FileFault = IsReadable board script
@@ -96,9 +105,10 @@ Ends (running script) board old new fault.HistoryFull =
     IsReadable board script × EndsInLine board script fault.HistoryFull
 Ends (running script) board old new fault.OutOfRange =
     IsReadable board script × EndsInLine board script fault.OutOfRange
-Ends (running script) board old new f = IsReadable board script × OpeningEnds (capacities_of board) old new f
--- The first line that may not be served; want of memory; and then why the image isn't opened, what the threads come to,
--- a call of the disk that failed, or standard output.
+Ends (running script) board old new f =
+    IsReadable board script × OpeningEnds (capacities_of board) old new f
+-- The first line that may not be served; want of memory; and then why the image isn't opened, what
+-- the threads come to, a call of the disk that failed, or standard output.
 Ends (serving script) board old new (fault.BadScript line) = IsUnservedAt board script line
 Ends (serving script) board old new fault.NoMemory = Unit {0}
 Ends (serving script) board old new fault.BadBoard = ⊥
@@ -138,8 +148,10 @@ pub data IsReadAlone {D : Type 0} (makes : D → DiskCall → D → Type 0) (old
 abbrev pub KeepsUnless : Fault → Option (List ℕ) → Option (List ℕ) → Type 0
 KeepsUnless f start now = f ≢ fault.FileFault → Keeps start now
 
--- What the first of these lines print was printed, and no more; the next is what the run stopped for.
-pub record PrintsFirst (board : List GuestConfig) (f : Fault) (text : List Said → List ℕ) (lines : List Said)
+-- What the first of these lines print was printed, and no more; the next is what the run stopped
+-- for.
+pub record PrintsFirst (board : List GuestConfig) (f : Fault) (text : List Said → List ℕ)
+    (lines : List Said)
     (start now : Option (List ℕ)) : Type 0 where
   pub first : List Said
   pub rest : List Said
@@ -148,9 +160,11 @@ pub record PrintsFirst (board : List GuestConfig) (f : Fault) (text : List Said 
   pub reason : NextEnds board (answered_in first) f rest
 
 -- the same, unless standard output took no more
-abbrev pub PrintsFirstUnless : List GuestConfig → Fault → (List Said → List ℕ) → List Said → Option (List ℕ)
+abbrev pub PrintsFirstUnless : List GuestConfig → Fault → (List Said → List ℕ) → List Said
+    → Option (List ℕ)
     → Option (List ℕ) → Type 0
-PrintsFirstUnless board f text lines start now = f ≢ fault.FileFault → PrintsFirst board f text lines start now
+PrintsFirstUnless board f text lines start now =
+    f ≢ fault.FileFault → PrintsFirst board f text lines start now
 
 -- all lines have printed what they print
 pub record PrintsAllOn (board : List GuestConfig) (old new : DiskState) (lines : List Said)
@@ -168,18 +182,22 @@ pub record PrintsFirstOn (board : List GuestConfig) (old new : DiskState) (f : F
   pub of_image : AreOf board old partitions
   pub failed : Option ℕ
   pub has_failed : HasFailed failed lines old new
-  pub prints : PrintsFirstUnless board f (text_when failed (first_told board partitions)) lines start now
+  pub prints : PrintsFirstUnless board f
+      (text_when failed (first_told board partitions)) lines start now
 
 -- What a script has printed where each of its lines came to its end, whether a call of the disk
 -- failed or not: all of it.
-abbrev pub PrintsWhole : List GuestConfig → List ℕ → DiskState → DiskState → Option (List ℕ) → Option (List ℕ) → Type 0
-PrintsWhole board script old new start now = (lines : List Said) → Says board script lines → StoresNothing lines
+abbrev pub PrintsWhole : List GuestConfig → List ℕ → DiskState → DiskState → Option (List ℕ)
+    → Option (List ℕ) → Type 0
+PrintsWhole board script old new start now =
+    (lines : List Said) → Says board script lines → StoresNothing lines
     → PrintsAllOn board old new lines start now
 
 -- And where one of them ended the run: a front of the same text.
 abbrev pub PrintsFront : List GuestConfig → List ℕ → DiskState → DiskState → Fault → Option (List ℕ)
     → Option (List ℕ) → Type 0
-PrintsFront board script old new f start now = (lines : List Said) → Says board script lines → StoresNothing lines
+PrintsFront board script old new f start now =
+    (lines : List Said) → Says board script lines → StoresNothing lines
     → PrintsFirstOn board old new f lines start now
 
 -- What a run that ends with a fault has printed: nothing, where a line is bad or the image isn't
@@ -190,7 +208,8 @@ abbrev pub RunPrints : List GuestConfig → List ℕ → DiskState → DiskState
 RunPrints board script old new (fault.BadScript line) start now = Keeps start now
 RunPrints board script old new fault.NotFormatted start now = Keeps start now
 RunPrints board script old new fault.OtherConfig start now = Keeps start now
-RunPrints board script old new fault.DiskFault start now = Keeps start now ⊎ PrintsWhole board script old new start now
+RunPrints board script old new fault.DiskFault start now =
+    Keeps start now ⊎ PrintsWhole board script old new start now
 RunPrints board script old new fault.NoMemory start now =
     Keeps start now ⊎ PrintsFront board script old new fault.NoMemory start now
 RunPrints board script old new f start now = PrintsFront board script old new f start now

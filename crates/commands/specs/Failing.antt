@@ -11,7 +11,8 @@ use Rattle.commands.specs.Transcript.{Told, printed_by, told_by, transcript, tol
 
 -- 1. The text
 
--- what a line prints, by whether a call of the disk had failed before it, and whether one has by its end
+-- what a line prints, by whether a call of the disk had failed before it, and whether one has by
+-- its end
 abbrev pub printed_since : Bool → Bool → Told → Said → List ℕ
 printed_since was broke t nothing = []
 printed_since was broke t (chain guest readable writable) =
@@ -34,20 +35,22 @@ told_since was broke t (reset guest) = record t { sessions = sessions_after t.se
 -- what lines print over a store that is broken
 unfoldable pub failures : Told → List Said → List ℕ
 failures t [] = []
-failures t (line ∷ lines) = printed_since true true t line ++ failures (told_since true true t line) lines
+failures t (line ∷ lines) =
+    printed_since true true t line ++ failures (told_since true true t line) lines
 
 -- and what they make of the guests
 unfoldable pub told_broken : Told → List Said → Told
 told_broken t [] = t
 told_broken t (line ∷ lines) = told_broken (told_since true true t line) lines
 
--- What lines print where a call fails first in line n, counted from 0: those before it as if none failed, and those
--- after it over a broken store.
+-- What lines print where a call fails first in line n, counted from 0: those before it as if none
+-- failed, and those after it over a broken store.
 unfoldable pub transcript_until : ℕ → Told → List Said → List ℕ
 transcript_until n t [] = []
 transcript_until zero t (line ∷ lines) =
     printed_since false true t line ++ failures (told_since false true t line) lines
-transcript_until (suc n) t (line ∷ lines) = printed_by t line ++ transcript_until n (told_by t line) lines
+transcript_until (suc n) t (line ∷ lines) =
+    printed_by t line ++ transcript_until n (told_by t line) lines
 
 unfoldable pub told_until : ℕ → Told → List Said → Told
 told_until n t [] = t

@@ -19,14 +19,15 @@ use Rattle.commands.specs.Running.{IsAt}
 use Rattle.commands.specs.Transcript.{first_cores, first_told, output_of, partitions_after}
 
 -- The partitions of a board's image, as a disk shows it.
-pub record AreOf (board : List GuestConfig) (s : DiskState) (partitions : List Partition) : Type 0 where
+pub record AreOf (board : List GuestConfig) (s : DiskState)
+    (partitions : List Partition) : Type 0 where
   pub count : length partitions ≡ length board
   -- what a disk gives is known only where it is faithful
   pub image : s.faithful ≡ true → IsImage (capacities_of board) s.len s.seen
   pub held : s.faithful ≡ true → AreHeld (capacities_of board) s.seen partitions
 
--- A run that reached its end has printed the replies to its lines on the partitions of the image; and whatever a stop
--- leaves of the disk then holds the partitions after them.
+-- A run that reached its end has printed the replies to its lines on the partitions of the image;
+-- and whatever a stop leaves of the disk then holds the partitions after them.
 pub record Ran (board : List GuestConfig) (old new : DiskState) (lines : List Said)
     (start now : Option (List ℕ)) : Type 0 where
   pub partitions : List Partition

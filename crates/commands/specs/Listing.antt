@@ -35,12 +35,14 @@ block_line guest address block = codes "block " ++ decimal guest ++ codes " " ++
 
 -- a block of zeros has no line
 abbrev pub block_shown : ℕ → ℕ → List ℕ → List ℕ
-block_shown guest address block = if bytes_eq block (replicate 256 0) then [] else block_line guest address block
+block_shown guest address block =
+    if bytes_eq block (replicate 256 0) then [] else block_line guest address block
 
 -- a partition's blocks below an address, in ascending order
 unfoldable pub blocks_below : ℕ → ℕ → Partition → List ℕ
 blocks_below zero guest p = []
-blocks_below (suc address) guest p = blocks_below address guest p ++ block_shown guest address (block_of p address)
+blocks_below (suc address) guest p =
+    blocks_below address guest p ++ block_shown guest address (block_of p address)
 
 -- a guest's line, and then its blocks
 abbrev pub guest_listing : ℕ → Partition → List ℕ
@@ -53,7 +55,8 @@ listing_at guest (Some p) = guest_listing guest p
 -- the guests below a number, one after another
 unfoldable pub listing_below : ℕ → List Partition → List ℕ
 listing_below zero partitions = []
-listing_below (suc guest) partitions = listing_below guest partitions ++ listing_at guest (slice_get partitions guest)
+listing_below (suc guest) partitions =
+    listing_below guest partitions ++ listing_at guest (slice_get partitions guest)
 
 -- all guests
 abbrev pub listing : List Partition → List ℕ

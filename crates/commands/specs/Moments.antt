@@ -1,6 +1,7 @@
 -- What a run leaves at each moment: what its lines had accepted, what of it no stop loses any more,
 -- and what they printed.
-use Rattle.std.specs.Prelude.{◌≡◌, ◌≢◌, ◌⊎◌, ◌≤◌, ◌<◌, ◌+◌, ℕ, Bool, true, false, not, is_ok, List, []}
+use Rattle.std.specs.Prelude.{◌≡◌, ◌≢◌, ◌⊎◌, ◌≤◌, ◌<◌, ◌+◌, ℕ, Bool, true, false, not, is_ok, List}
+use Rattle.std.specs.Prelude.{[]}
 use Rattle.std.specs.Prelude.{◌∷◌, ◌++◌, Option, Some, Result, Ok, Err, length, map, slice_get}
 use Rattle.std.specs.Io.KnownBytes.{Appends, Keeps}
 use Rattle.rpmb_frame.specs.Partition.{Partition, sequence}
@@ -62,8 +63,9 @@ AcceptsOwn board (chain guest readable writable) before now =
 AcceptsOwn board (store guest at bytes) before now = AcceptNoMore board before now
 AcceptsOwn board (reset guest) before now = AcceptNoMore board before now
 
--- From one moment to a later one: what was accepted goes on, and at each moment between the two every stop leaves, for
--- each guest, the partition after a prefix of it, with all that no stop loses since the first.
+-- From one moment to a later one: what was accepted goes on, and at each moment between the two
+-- every stop leaves, for each guest, the partition after a prefix of it, with all that no stop
+-- loses since the first.
 pub record Leads {D : Type 0} (shows : D → DiskState) (makes : D → DiskCall → D → Type 0)
     (board : List GuestConfig) (partitions : List Partition) (m n : Moment D) : Type 0 where
   pub more : GoOn m.accepted n.accepted
@@ -76,8 +78,8 @@ pub record Leads {D : Type 0} (shows : D → DiskState) (makes : D → DiskCall 
   pub cause : broken_at n ≡ true
       → (broken_at m ≡ true) ⊎ HasRisen (shows (disk_at m)).failures (shows (disk_at n)).failures
 
--- What the lines done have printed, and what the accepted requests make of each partition, are what the script says, by
--- the line in which a call of the disk failed first. Each guest is ready then.
+-- What the lines done have printed, and what the accepted requests make of each partition, are what
+-- the script says, by the line in which a call of the disk failed first. Each guest is ready then.
 pub record IsTold {D : Type 0} (board : List GuestConfig) (partitions : List Partition)
     (start : Option (List ℕ)) (done : List Said) (m : Moment D) : Type 0 where
   pub failed : Option ℕ
@@ -120,7 +122,8 @@ pub data Trail {D : Type 0} (shows : D → DiskState) (makes : D → DiskCall �
       → Trail shows makes board partitions start first (done ++ line ∷ []) n
 
 -- of which guest the next of the lines left had requests accepted
-abbrev pub NextAccepts : List GuestConfig → List Said → (ℕ → List Request) → (ℕ → List Request) → Type 0
+abbrev pub NextAccepts : List GuestConfig → List Said → (ℕ → List Request) → (ℕ → List Request)
+    → Type 0
 NextAccepts board [] before now = ⊥
 NextAccepts board (line ∷ rest) before now = AcceptsOwn board line before now
 
@@ -143,11 +146,12 @@ MayEnd board (Ok done) rest last after now =
 MayEnd board (Err fault.DiskFault) rest last after now =
     (rest ≡ []) × Keeps last.printed now × (broken_at after ≡ true)
 MayEnd board (Err fault.FileFault) rest last after now =
-    ((rest ≡ []) × AcceptNoMore board last.accepted after.accepted) ⊎ ((f : Fault) × StopsAt board f rest last after)
+    ((rest ≡ []) × AcceptNoMore board last.accepted after.accepted)
+    ⊎ ((f : Fault) × StopsAt board f rest last after)
 MayEnd board (Err f) rest last after now = StopsAt board f rest last after × Keeps last.printed now
 
--- The moments of a run over an image: those of its opening, which leaves all as it was; those of its lines; and those
--- after the last line that was done.
+-- The moments of a run over an image: those of its opening, which leaves all as it was; those of
+-- its lines; and those after the last line that was done.
 pub record WholeRun {D : Type 0} (shows : D → DiskState) (makes : D → DiskCall → D → Type 0)
     (board : List GuestConfig) (all : List Said) (old : D) (start : Option (List ℕ))
     (ended : Result (Unit {0}) Fault) (new : D) (now : Option (List ℕ)) : Type 0 where
@@ -176,7 +180,8 @@ pub record WholeRun {D : Type 0} (shows : D → DiskState) (makes : D → DiskCa
 
 -- what an image that isn't opened leaves
 pub record IsRefused {D : Type 0} (shows : D → DiskState) (makes : D → DiskCall → D → Type 0)
-    (board : List GuestConfig) (old : D) (start : Option (List ℕ)) (ended : Result (Unit {0}) Fault) (new : D)
+    (board : List GuestConfig) (old : D) (start : Option (List ℕ)) (ended : Result (Unit {0}) Fault)
+    (new : D)
     (now : Option (List ℕ)) : Type 0 where
   pub fault : Fault
   pub is : ended ≡ Err fault
@@ -189,7 +194,8 @@ abbrev pub AnyMoment : {D : Type 0} → (D → DiskState) → (D → DiskCall �
     → List GuestConfig → List Said → D → Option (List ℕ) → Result (Unit {0}) Fault → D
     → Option (List ℕ) → Type 0
 AnyMoment shows makes board all old start ended new now =
-    IsRefused shows makes board old start ended new now ⊎ WholeRun shows makes board all old start ended new now
+    IsRefused shows makes board old start ended new now
+    ⊎ WholeRun shows makes board all old start ended new now
 
 -- 1. Within a run
 
@@ -241,14 +247,16 @@ Comes shows makes board partitions all start first (Err f) h now =
     Stopped shows makes board partitions all start first f h now
 
 abbrev pub LinesCome : {D : Type 0} → (D → DiskState) → (D → DiskCall → D → Type 0) → List Line
-    → HostState D → Option (List ℕ) → Result (Unit {0}) Fault → HostState D → Option (List ℕ) → Type 0
+    → HostState D → Option (List ℕ) → Result (Unit {0}) Fault → HostState D → Option (List ℕ)
+    → Type 0
 LinesCome shows makes read old start ended new now =
     (board : List GuestConfig) (partitions : List Partition) → Starts shows board partitions old
     → AreWithin (length board) read
-    → Comes shows makes board partitions (map said read) start (moment_of (λ g. []) old start) ended new now
+    → Comes shows makes board partitions (map said read) start
+    (moment_of (λ g. []) old start) ended new now
 
--- A host's last board, and its disk. The calls went well exactly where none has failed, and are told so; then what
--- its answers depend on stayed.
+-- A host's last board, and its disk. The calls went well exactly where none has failed, and are
+-- told so; then what its answers depend on stayed.
 pub record MovesTo {D : Type 0} (shows : D → DiskState) (makes : D → DiskCall → D → Type 0)
     (old : BoardState D) (ended : Result (Unit {0}) Fault) (back : D) : Type 0 where
   pub last : BoardState D

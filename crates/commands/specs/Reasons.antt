@@ -6,7 +6,8 @@ use Rattle.script.specs.Line.{Said, store}
 use Rattle.host.specs.Host.{HostView}
 use Rattle.host.specs.Reasons.{AreClear, AreGuestsOf}
 
--- the guests are those of the board, and between two lines no chain is in flight, but of guests that are stuck
+-- the guests are those of the board, and between two lines no chain is in flight, but of guests
+-- that are stuck
 pub record IsHostOf (board : List GuestConfig) (h : HostView) : Type 0 where
   pub in_range : IsBoard board
   pub own : AreGuestsOf board h.guests

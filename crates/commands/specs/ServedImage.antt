@@ -1,5 +1,6 @@
 -- What the threads of a serve leave of the image, at each moment.
-use Rattle.std.specs.Prelude.{◌≡◌, ◌⊎◌, ◌<◌, ◌≤◌, ℕ, Bool, true, false, List, Option, Result, Ok, Err, IfSome, length}
+use Rattle.std.specs.Prelude.{◌≡◌, ◌⊎◌, ◌<◌, ◌≤◌, ℕ, Bool, true, false, List, Option, Result, Ok}
+use Rattle.std.specs.Prelude.{Err, IfSome, length}
 use Rattle.rpmb_frame.specs.Partition.{Partition, sequence}
 use Rattle.rpmb_frame.specs.declared.config.GuestConfig.{GuestConfig}
 use Rattle.disk.specs.Content.{Content}
@@ -16,7 +17,8 @@ use Rattle.commands.specs.Image.{AreOf}
 use Rattle.commands.specs.declared.fault.Fault.{Fault}
 use Rattle.commands.specs.declared.fault.Fault.TheVariants as fault
 
--- the partition that was there once intents are done, one after another and each whole; none of a lower sequence
+-- the partition that was there once intents are done, one after another and each whole; none of a
+-- lower sequence
 pub record IsOnFrom (base : Partition) (q : Part) : Type 0 where
   pub intents : List Intent
   pub is : q ≡ after_all (part_of base) intents
@@ -25,7 +27,8 @@ pub record IsOnFrom (base : Partition) (q : Part) : Type 0 where
 -- Whatever a stop leaves stands, for each guest, for such a partition.
 abbrev pub LeavesOnFrom : List GuestConfig → List Partition → DiskState → Type 0
 LeavesOnFrom board partitions s = (g : ℕ) → g < length board → (c : Content) → MayLeave s c
-    → (q : Part) × Stands (region_at (capacities_of board) g) c q × IsOnFrom (bases_of partitions g) q
+    → (q : Part) × Stands (region_at (capacities_of board) g) c q
+    × IsOnFrom (bases_of partitions g) q
 
 -- and for one alone, whatever the stop
 pub record LeavesOne (board : List GuestConfig) (partitions : List Partition) (s : DiskState)
@@ -34,9 +37,9 @@ pub record LeavesOne (board : List GuestConfig) (partitions : List Partition) (s
   pub is : IsOnFrom (bases_of partitions g) part
   pub stands : (c : Content) → MayLeave s c → Stands (region_at (capacities_of board) g) c part
 
--- The image was opened, which left it as it was, and then the flusher alone made calls of the disk: its length and
--- header stay, and at each moment every stop leaves partitions as above. Without a failed call nothing is under way
--- at the end.
+-- The image was opened, which left it as it was, and then the flusher alone made calls of the disk:
+-- its length and header stay, and at each moment every stop leaves partitions as above. Without a
+-- failed call nothing is under way at the end.
 pub record ServesImage {D : Type 0} (shows : D → DiskState) (makes : D → DiskCall → D → Type 0)
     (board : List GuestConfig) (disk : D) (failed : Bool) (back : D) : Type 0 where
   pub partitions : List Partition
@@ -54,7 +57,8 @@ pub record ServesImage {D : Type 0} (shows : D → DiskState) (makes : D → Dis
       → LeavesOne board partitions (shows back) g
 
 -- The image wasn't opened, and is as it was, or it was and guests were served.
-abbrev pub MayServe : {D : Type 0} → (D → DiskState) → (D → DiskCall → D → Type 0) → List GuestConfig
+abbrev pub MayServe : {D : Type 0} → (D → DiskState) → (D → DiskCall → D → Type 0)
+    → List GuestConfig
     → D → (Bool → Type 0) → D → Type 0
 MayServe shows makes board disk Is back = Within shows makes (Untouched (shows disk)) disk back
     ⊎ ((failed : Bool) × Is failed × ServesImage shows makes board disk failed back)
@@ -71,5 +75,6 @@ ServeMoments shows makes board disk f back = MayServe shows makes board disk (Te
 -- and one that ended either way
 abbrev pub ServeKeeps : {D : Type 0} → (D → DiskState) → (D → DiskCall → D → Type 0)
     → List GuestConfig → D → Result (Unit {0}) Fault → Option D → Type 0
-ServeKeeps shows makes board disk (Ok done) back = IfSome back (ServesImage shows makes board disk false)
+ServeKeeps shows makes board disk (Ok done) back =
+    IfSome back (ServesImage shows makes board disk false)
 ServeKeeps shows makes board disk (Err f) back = IfSome back (ServeMoments shows makes board disk f)

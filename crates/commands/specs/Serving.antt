@@ -1,5 +1,6 @@
 -- What a script prints whose guests are served at once, and why that ends with a fault.
-use Rattle.std.specs.Prelude.{◌≡◌, ◌⊎◌, ◌<◌, ◌+◌, ◌==◌, ℕ, Bool, true, false, if◌then◌else◌, List, [], ◌∷◌, ◌++◌}
+use Rattle.std.specs.Prelude.{◌≡◌, ◌⊎◌, ◌<◌, ◌+◌, ◌==◌, ℕ, Bool, true, false, if◌then◌else◌, List}
+use Rattle.std.specs.Prelude.{[], ◌∷◌, ◌++◌}
 use Rattle.std.specs.Prelude.{All, Option, Some, None, filter, flat_map, get_or, length, map}
 use Rattle.std.specs.Io.KnownBytes.{Appends, Keeps}
 use Rattle.rpmb_frame.specs.Config.{IsBoard}
@@ -19,7 +20,8 @@ use Rattle.commands.specs.declared.fault.Fault.TheVariants as fault
 
 -- the script says these lines to the board, none of which stores
 abbrev pub SaysServed : List GuestConfig → List ℕ → List Said → Type 0
-SaysServed board script lines = map Some lines ≡ map (served_line_of (length board)) (lines_of script)
+SaysServed board script lines =
+    map Some lines ≡ map (served_line_of (length board)) (lines_of script)
 
 -- lines that were read for a board: each names a guest of it, and none stores
 pub record AreServable (board : List GuestConfig) (lines : List Line) : Type 0 where
@@ -38,7 +40,8 @@ asks g order.Reset = reset g
 
 -- what a line asks for of this guest: its chain or its reset
 abbrev pub asked_by : ℕ → Said → List Said
-asked_by g (chain guest readable writable) = if g == guest then chain g readable writable ∷ [] else []
+asked_by g (chain guest readable writable) =
+    if g == guest then chain g readable writable ∷ [] else []
 asked_by g (reset guest) = if g == guest then reset g ∷ [] else []
 asked_by g line = []
 
@@ -69,7 +72,8 @@ unfoldable pub guests_lines : ℕ → List (List Answer) → List ℕ
 guests_lines guest [] = []
 guests_lines guest (answers ∷ rest) = answer_lines guest answers ++ guests_lines (guest + 1) rest
 
--- What lines print whose guests are served at once: guest by guest, a line for each chain that they offer of it.
+-- What lines print whose guests are served at once: guest by guest, a line for each chain that they
+-- offer of it.
 pub record PrintsEach (guests : ℕ) (lines : List Said) (start now : Option (List ℕ)) : Type 0 where
   pub answers : List (List Answer)
   pub many : length answers ≡ guests
@@ -86,21 +90,26 @@ ServesAll board script start now = (lines : List Said) → SaysServed board scri
 abbrev pub ServedPrint : ℕ → List Said → Fault → Option (List ℕ) → Option (List ℕ) → Type 0
 ServedPrint guests lines fault.FileFault start now = Unit {0}
 ServedPrint guests lines fault.NoMemory start now = Unit {0}
-ServedPrint guests lines fault.DiskFault start now = Keeps start now ⊎ PrintsEach guests lines start now
+ServedPrint guests lines fault.DiskFault start now =
+    Keeps start now ⊎ PrintsEach guests lines start now
 ServedPrint guests lines f start now = Keeps start now
 
 -- and what a script has
-abbrev pub ServePrints : List GuestConfig → List ℕ → Fault → Option (List ℕ) → Option (List ℕ) → Type 0
+abbrev pub ServePrints : List GuestConfig → List ℕ → Fault → Option (List ℕ) → Option (List ℕ)
+    → Type 0
 ServePrints board script f start now = (lines : List Said) → SaysServed board script lines
     → ServedPrint (length board) lines f start now
 
 -- the disk comes back, of which no moment has left another content
-abbrev pub ComesBack : {D : Type 0} → (D → DiskState) → (D → DiskCall → D → Type 0) → D → Option D → Type 0
+abbrev pub ComesBack : {D : Type 0} → (D → DiskState) → (D → DiskCall → D → Type 0) → D → Option D
+    → Type 0
 ComesBack shows makes disk None = ⊥
 ComesBack shows makes disk (Some back) = Within shows makes (Untouched (shows disk)) disk back
 
--- And of the disk: it wasn't called where a line is bad, and is as it was where it holds no image of the board.
-abbrev pub ServeLeaves : {D : Type 0} → (D → DiskState) → (D → DiskCall → D → Type 0) → D → Fault → Option D → Type 0
+-- And of the disk: it wasn't called where a line is bad, and is as it was where it holds no image
+-- of the board.
+abbrev pub ServeLeaves : {D : Type 0} → (D → DiskState) → (D → DiskCall → D → Type 0) → D → Fault
+    → Option D → Type 0
 ServeLeaves shows makes disk (fault.BadScript line) back = back ≡ Some disk
 ServeLeaves shows makes disk fault.NotFormatted back = ComesBack shows makes disk back
 ServeLeaves shows makes disk fault.OtherConfig back = ComesBack shows makes disk back

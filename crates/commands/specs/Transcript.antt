@@ -1,5 +1,6 @@
 -- What a script prints.
-use Rattle.std.specs.Prelude.{ℕ, ◌≡◌, List, [], ◌∷◌, ◌++◌, Some, None, codes, get_or, length, map, replicate}
+use Rattle.std.specs.Prelude.{ℕ, ◌≡◌, List, [], ◌∷◌, ◌++◌, Some, None, codes, get_or, length, map}
+use Rattle.std.specs.Prelude.{replicate}
 use Rattle.std.specs.Fmt.{decimal}
 use Rattle.rpmb_frame.specs.declared.config.GuestConfig.{GuestConfig}
 use Rattle.script.specs.Line.{Said, nothing, chain, store, reset, line_of}
@@ -35,7 +36,8 @@ pub record Told : Type 0 where
 
 -- the reply to a chain of a guest
 abbrev pub reply_to : Told → ℕ → List ℕ → ℕ → List ℕ
-reply_to t guest readable writable = reply_of t.cores (job_of guest (get_or t.sessions guest 0) readable writable)
+reply_to t guest readable writable =
+    reply_of t.cores (job_of guest (get_or t.sessions guest 0) readable writable)
 
 -- what one line prints, where no line stored into guest memory
 abbrev pub printed_by : Told → Said → List ℕ
@@ -44,8 +46,8 @@ printed_by t (chain guest readable writable) = used_line guest (reply_to t guest
 printed_by t (store guest at bytes) = []
 printed_by t (reset guest) = []
 
--- and what it makes of the guests: a chain changes what its guest's answers depend on, a reset begins
--- its guest's next session
+-- and what it makes of the guests: a chain changes what its guest's answers depend on, a reset
+-- begins its guest's next session
 abbrev pub told_by : Told → Said → Told
 told_by t nothing = t
 told_by t (chain guest readable writable) =
@@ -83,7 +85,8 @@ first_cores (g ∷ board) (p ∷ partitions) =
 
 -- each in its first session
 abbrev pub first_told : List GuestConfig → List Partition → Told
-first_told board partitions = record { cores = first_cores board partitions; sessions = replicate (length board) 1 }
+first_told board partitions =
+    record { cores = first_cores board partitions; sessions = replicate (length board) 1 }
 
 -- what lines print on the partitions of a board
 abbrev pub output_of : List GuestConfig → List Partition → List Said → List ℕ
@@ -91,7 +94,8 @@ output_of board partitions lines = transcript (first_told board partitions) line
 
 -- the partitions after them
 abbrev pub partitions_after : List GuestConfig → List Partition → List Said → List Partition
-partitions_after board partitions lines = map (λ c. c.partition) (told_after (first_told board partitions) lines).cores
+partitions_after board partitions lines =
+    map (λ c. c.partition) (told_after (first_told board partitions) lines).cores
 
 -- the script says these lines to the board
 abbrev pub Says : List GuestConfig → List ℕ → List Said → Type 0

@@ -11,8 +11,10 @@ unfoldable pub upgraded_line : Upgraded → List ℕ
 upgraded_line upgraded.Already = codes "already 2" ++ 10 ∷ []
 upgraded_line upgraded.Wrote = codes "upgraded" ++ 10 ∷ []
 
--- The line of what was done was printed. It was done to an image of this board: nothing where its version was 2.
-pub record PrintsUpgrade (capacities : List ℕ) (old : DiskState) (start now : Option (List ℕ)) : Type 0 where
+-- The line of what was done was printed. It was done to an image of this board: nothing where its
+-- version was 2.
+pub record PrintsUpgrade (capacities : List ℕ) (old : DiskState)
+    (start now : Option (List ℕ)) : Type 0 where
   pub done : Upgraded
   pub answers : old.faithful ≡ true → AnswersUpgrade capacities old.len old.seen (Ok done)
   pub printed : Appends start now (upgraded_line done)

@@ -54,10 +54,10 @@ fn obey<R: AllocGlobal + Threads + Wait + Sync, D: Disk + Send + Drop, W: Write>
     }
 }
 
-/// Performs the command, and gives the status that the program ends with, and the disk: 0, or 1 after the
-/// line of a fault on standard error. All work on the disk's content, `run` and `serve` with the text of a script.
-/// What was printed is flushed before the status is decided. The disk is lost where the threads of `serve` came to a
-/// fault.
+/// Performs the command, and gives the status that the program ends with, and the disk: 0, or 1
+/// after the line of a fault on standard error. All work on the disk's content, `run` and `serve`
+/// with the text of a script. What was printed is flushed before the status is decided. The disk is
+/// lost where the threads of `serve` came to a fault.
 pub fn perform<R: AllocGlobal + Threads + Wait + Sync, D: Disk + Send + Drop, W: Write, E: Write>(
     rt: &R,
     command: Command<'_>,

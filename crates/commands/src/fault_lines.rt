@@ -13,8 +13,8 @@ use std::io::Write;
 /// Room for the longest line of a fault, which has 46 bytes.
 const LINE_LENGTH: usize = 64;
 
-/// Writes the text as far as the writer takes it. Only a writer that is interrupted again and again makes
-/// many turns.
+/// Writes the text as far as the writer takes it. Only a writer that is interrupted again and again
+/// makes many turns.
 fn write_front<E: Write>(text: &[u8], err: &mut E)
     ensures { Takes (E.contents err.old) (E.contents err.new) text.now }
 {
@@ -35,8 +35,8 @@ fn write_front<E: Write>(text: &[u8], err: &mut E)
     }
 }
 
-/// Writes the fault's line, as far as standard error takes it, and gives the status that the program
-/// ends with.
+/// Writes the fault's line, as far as standard error takes it, and gives the status that the
+/// program ends with.
 pub fn report<E: Write>(fault: Fault, err: &mut E) -> u8
     ensures status { result ≡ 1 }
     ensures told { Takes (E.contents err.old) (E.contents err.new) (fault_line fault) }
@@ -50,7 +50,8 @@ pub fn report<E: Write>(fault: Fault, err: &mut E) -> u8
     1
 }
 
-/// Gives the status that tells how a command ended, and writes the line of the fault that ended it, if there is one.
+/// Gives the status that tells how a command ended, and writes the line of the fault that ended it,
+/// if there is one.
 pub(crate) fn status_after<E: Write>(ended: Result<(), Fault>, err: &mut E) -> u8
     ensures { TellsEnd ended result (E.contents err.old) (E.contents err.new) }
 {

@@ -31,8 +31,8 @@ pub fn read_text<R: Files + AllocGlobal>(rt: &R, path: &str) -> Result<String, F
     }
 }
 
-/// The board of a file, and the path of its image, where it names one. Refused as by `read_text`, and with
-/// `BadBoard` where the text is no board.
+/// The board of a file, and the path of its image, where it names one. Refused as by `read_text`,
+/// and with `BadBoard` where the text is no board.
 pub fn read_board_file<R: Files + AllocGlobal>(
     rt: &R,
     path: &str,
@@ -41,8 +41,8 @@ pub fn read_board_file<R: Files + AllocGlobal>(
     board_of(rt.alloc(), text.as_str())
 }
 
-/// The board of a file, and the path of the image that it has to name. Refused as by `read_board_file`, and
-/// with `BadBoard` where it names none.
+/// The board of a file, and the path of the image that it has to name. Refused as by
+/// `read_board_file`, and with `BadBoard` where it names none.
 pub fn read_image_board<R: Files + AllocGlobal>(
     rt: &R,
     path: &str,

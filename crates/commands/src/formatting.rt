@@ -16,7 +16,8 @@ use std::io::Write;
 /// Writes the line of an image of this length, and all that is still held back.
 #[tactic(auto, unfolding(crate::specs::Listing::formatted_line))]
 fn write_length<W: Write>(length: u64, out: &mut W) -> Result<(), Fault>
-    ensures printed { OnOk result (Appends (W.contents out.old) (W.contents out.new) (formatted_line length)) }
+    ensures printed { OnOk result
+        (Appends (W.contents out.old) (W.contents out.new) (formatted_line length)) }
     ensures only { (fault : Fault) → result ≡ Err fault → fault ≡ Fault.FileFault }
 {
     if writeln!(out, "formatted {length}").is_err() {
@@ -28,13 +29,14 @@ fn write_length<W: Write>(length: u64, out: &mut W) -> Result<(), Fault>
     }
 }
 
-/// Makes a fresh image of the board over all that the disk holds, which has the image's length in bytes, and prints
-/// that length. After a fault it has written zeros alone, until a sync succeeded; from then on every stop leaves empty
-/// partitions.
+/// Makes a fresh image of the board over all that the disk holds, which has the image's length in
+/// bytes, and prints that length. After a fault it has written zeros alone, until a sync succeeded;
+/// from then on every stop leaves empty partitions.
 ///
 /// # Errors
 ///
-/// `DiskFault` where a call of the disk failed; `FileFault` where the image is made and standard output took no more.
+/// `DiskFault` where a call of the disk failed; `FileFault` where the image is made and standard
+/// output took no more.
 pub fn format<D: Disk, W: Write>(
     board: &BoardConfig,
     disk: &mut D,
@@ -46,7 +48,8 @@ pub fn format<D: Disk, W: Write>(
     ensures printed { OnOk result (Appends (W.contents out.old) (W.contents out.new)
         (formatted_line (image_length (capacities_of board.now)))) }
     ensures ends { IfErr result (Ends formatting board.now (D.state disk.old) (D.state disk.new)) }
-    ensures silent { IfErr result (λ fault. KeepsUnless fault (W.contents out.old) (W.contents out.new)) }
+    ensures silent { IfErr result
+        (λ fault. KeepsUnless fault (W.contents out.old) (W.contents out.new)) }
     ensures order { ClearsFirst D.state D.makes (capacities_of board.now) disk.old disk.new }
 {
     match recovery::format(disk, board) {

@@ -13,7 +13,8 @@ use std::alloc::Global;
 
 /// A fresh image of the board on a disk in memory. `NoMemory` where memory is refused for it.
 pub(crate) fn fresh_disk(alloc: Global, board: &BoardConfig) -> Result<MemDisk, Fault>
-    ensures formatted { IfOk result (λ disk. IsFormatted 1 (capacities_of board.now) (mem_state disk)) }
+    ensures formatted { IfOk result
+        (λ disk. IsFormatted 1 (capacities_of board.now) (mem_state disk)) }
     ensures only { IfErr result (λ fault. fault ≡ Fault.NoMemory) }
 {
     let length = Layout::of(board).length();

@@ -13,9 +13,9 @@ use std::{fs, io};
 /// Where a path leads to what standard output writes into.
 const OUTPUT: &str = "/dev/stdout";
 
-/// Opens the file of an image. Where standard output or error is closed, its number goes to the next file that
-/// is opened, and what is printed would be written into that file. So the file is kept under a number above
-/// theirs.
+/// Opens the file of an image. Where standard output or error is closed, its number goes to the
+/// next file that is opened, and what is printed would be written into that file. So the file is
+/// kept under a number above theirs.
 fn open_above_streams(rt: &HostRuntime, path: &str, options: &OpenOptions) -> io::Result<File> {
     let file = options.open(rt, path)?;
     file.try_clone()
@@ -28,8 +28,8 @@ fn open_there(rt: &HostRuntime, path: &str, writable: bool) -> io::Result<File> 
     open_above_streams(rt, path, &options)
 }
 
-/// Opens a file, and says whether it was made for that: for its owner alone, since keys will stand in it. A
-/// file that is there keeps its mode.
+/// Opens a file, and says whether it was made for that: for its owner alone, since keys will stand
+/// in it. A file that is there keeps its mode.
 fn open_or_make(rt: &HostRuntime, path: &str) -> io::Result<(File, bool)> {
     let mut options = File::options();
     options.read(true).write(true).create_new(true).mode(0o600);
@@ -50,9 +50,9 @@ fn leads_to(rt: &HostRuntime, path: &str, file: &Metadata) -> bool {
     }
 }
 
-/// Takes the lock of the file for as long as it is open: alone, or beside others that only look at it.
-/// `FileFault` where another program has it, which isn't waited for, or where what is printed would go into
-/// the file.
+/// Takes the lock of the file for as long as it is open: alone, or beside others that only look at
+/// it. `FileFault` where another program has it, which isn't waited for, or where what is printed
+/// would go into the file.
 fn hold(rt: &HostRuntime, file: File, alone: bool) -> Result<(File, Metadata), Fault> {
     let locked = if alone {
         file.try_lock()
@@ -84,11 +84,12 @@ fn sync_folder(rt: &HostRuntime, path: &str) -> io::Result<()> {
     File::open(rt, folder)?.sync_all()
 }
 
-/// The file of an image that is to be made, cut or made longer to `len` bytes, and no other program's until it
-/// is closed. It is made where it isn't there, for its owner alone, and the folder is synced then; a file that
-/// is there keeps its mode. `FileFault` where it can't be opened for reading and writing, where another
-/// program holds it, where it is the board file, whose path is `board`, or what standard output writes into:
-/// then its bytes stay; or where the folder can't be synced, or the length can't be set.
+/// The file of an image that is to be made, cut or made longer to `len` bytes, and no other
+/// program's until it is closed. It is made where it isn't there, for its owner alone, and the
+/// folder is synced then; a file that is there keeps its mode. `FileFault` where it can't be opened
+/// for reading and writing, where another program holds it, where it is the board file, whose path
+/// is `board`, or what standard output writes into: then its bytes stay; or where the folder can't
+/// be synced, or the length can't be set.
 pub fn create_image(rt: &HostRuntime, path: &str, board: &str, len: u64) -> Result<FileDisk, Fault>
     ensures { IfOk result (λ disk. disk.len ≡ len) }
 {
@@ -109,9 +110,9 @@ pub fn create_image(rt: &HostRuntime, path: &str, board: &str, len: u64) -> Resu
     }
 }
 
-/// The file of an image that is there, and no other program's until it is closed. `FileFault` where it can't
-/// be opened for reading and writing, where another program holds it or looks at it, or where standard output
-/// writes into it.
+/// The file of an image that is there, and no other program's until it is closed. `FileFault` where
+/// it can't be opened for reading and writing, where another program holds it or looks at it, or
+/// where standard output writes into it.
 pub fn open_image(rt: &HostRuntime, path: &str) -> Result<FileDisk, Fault> {
     let file = match open_there(rt, path, true) {
         Ok(file) => file,
@@ -121,7 +122,8 @@ pub fn open_image(rt: &HostRuntime, path: &str) -> Result<FileDisk, Fault> {
     Ok(FileDisk::new(file, metadata.len()))
 }
 
-/// Opens a file to look at it, and says whether it may be synced: it may not where writing is refused.
+/// Opens a file to look at it, and says whether it may be synced: it may not where writing is
+/// refused.
 fn open_to_look(rt: &HostRuntime, path: &str) -> io::Result<(File, bool)> {
     match open_there(rt, path, true) {
         Ok(file) => Ok((file, true)),
@@ -134,9 +136,10 @@ fn open_to_look(rt: &HostRuntime, path: &str) -> io::Result<(File, bool)> {
     }
 }
 
-/// The file of an image that is to be shown, beside other programs that show it and no others. Where writing is
-/// refused it is opened for reading alone, and isn't synced then. `FileFault` where it can't be opened for
-/// reading, where another program holds it, or where standard output writes into it.
+/// The file of an image that is to be shown, beside other programs that show it and no others.
+/// Where writing is refused it is opened for reading alone, and isn't synced then. `FileFault`
+/// where it can't be opened for reading, where another program holds it, or where standard output
+/// writes into it.
 pub fn open_shown(rt: &HostRuntime, path: &str) -> Result<FileDisk<ShownFile>, Fault> {
     let (file, may_be_synced) = match open_to_look(rt, path) {
         Ok(opened) => opened,

@@ -1,6 +1,6 @@
-//! What each command of `rpmbd` does: over any disk, and any two writers for standard output and standard error,
-//! once its files are read. The program's faults, how it tells them, and the way from its words and files to its
-//! status stand here too.
+//! What each command of `rpmbd` does: over any disk, and any two writers for standard output and
+//! standard error, once its files are read. The program's faults, how it tells them, and the way
+//! from its words and files to its status stand here too.
 #![tactic(auto)]
 
 mod command;

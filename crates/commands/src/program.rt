@@ -21,8 +21,8 @@ use std::thread::Threads;
 /// The status of a command line that is refused.
 pub const REFUSED: u8 = 2;
 
-/// Performs a command on what its files hold. Files and streams are the runtime's, and `threads` starts
-/// threads.
+/// Performs a command on what its files hold. Files and streams are the runtime's, and `threads`
+/// starts threads.
 fn perform_on<R: AllocGlobal + Threads + Wait + Sync, D: Disk + Send + Drop, W: Write>(
     rt: &HostRuntime,
     threads: &R,
@@ -95,8 +95,8 @@ fn perform_on_files<R: AllocGlobal + Threads + Wait + Sync, W: Write>(
     }
 }
 
-/// Performs the command with what it prints held back: to the end of each line where a person reads it at a
-/// terminal, else until there is much of it. All room is taken before a file is looked at.
+/// Performs the command with what it prints held back: to the end of each line where a person reads
+/// it at a terminal, else until there is much of it. All room is taken before a file is looked at.
 fn perform_with_output<R: AllocGlobal + Threads + Wait + Sync>(
     rt: &HostRuntime,
     threads: &R,
@@ -135,9 +135,9 @@ fn refuse(rt: &HostRuntime, error: WordsError) -> u8 {
     }
 }
 
-/// Performs what the words of a command line ask for, of which the first is the program's own name, and gives the
-/// program's status: 2 for words that are refused, 1 for a fault, else 0. Files and streams are those of `rt`,
-/// and `threads` starts threads.
+/// Performs what the words of a command line ask for, of which the first is the program's own name,
+/// and gives the program's status: 2 for words that are refused, 1 for a fault, else 0. Files and
+/// streams are those of `rt`, and `threads` starts threads.
 pub fn status_of<R: AllocGlobal + Threads + Wait + Sync>(
     rt: &HostRuntime,
     threads: &R,

@@ -1,5 +1,6 @@
 //! What `run` does: a script on the partitions of an image.
-ghost use Rattle.std.specs.Prelude.{◌≡◌, ℕ, All, List, Err, IfErr, IfOk, IsErr, OnOk, Some, length, map};
+ghost use Rattle.std.specs.Prelude.{◌≡◌, ℕ, All, List, Err, IfErr, IfOk, IsErr, OnOk, Some, length};
+ghost use Rattle.std.specs.Prelude.{map};
 ghost use Rattle.std.specs.Io.KnownBytes.{Keeps};
 ghost use Rattle.rpmb_frame.specs.Config.{IsBoard};
 ghost use Rattle.disk.specs.Disk.{Within};
@@ -103,7 +104,8 @@ fn run_lines<D: Disk, W: Write>(
 ) -> Result<(), Fault>
     requires { All (λ line. IsSized (said line)) lines.items }
     ensures moves { Moves D.state D.makes host.old.board host.new.board }
-    ensures moments { LinesCome D.state D.makes lines.items host.old (W.contents out.old) result host.new
+    ensures moments { LinesCome D.state D.makes lines.items host.old
+        (W.contents out.old) result host.new
         (W.contents out.new) }
 {
     for line in lines {
@@ -116,8 +118,10 @@ fn run_lines<D: Disk, W: Write>(
 fn open_host<D: Disk>(alloc: Global, disk: D, board: &BoardConfig) -> Result<Host<D>, (D, Fault)>
     ensures opened { IfOk result (IsOpened D.state D.makes board.now disk) }
     ensures calm { IfOk result (λ h. IsCalm D.state h.board) }
-    ensures ends { IfErr result (λ e. OpeningEnds (capacities_of board.now) (D.state disk) (D.state e.0) e.1) }
-    ensures untouched { IfErr result (λ e. Within D.state D.makes (Untouched (D.state disk)) disk e.0) }
+    ensures ends { IfErr result
+        (λ e. OpeningEnds (capacities_of board.now) (D.state disk) (D.state e.0) e.1) }
+    ensures untouched { IfErr result
+        (λ e. Within D.state D.makes (Untouched (D.state disk)) disk e.0) }
 {
     match Board::open(alloc, disk, LIFE, board) {
         Ok(opened) => match Host::new(alloc, opened, board) {
@@ -157,7 +161,8 @@ fn run_on<D: Disk, W: Write>(
         Err((disk, fault)) => return (Err(fault), disk),
     };
     let ran = run_lines(alloc, &mut host, lines, out);
-    // The lines so far are printed also where the next one ended the run; that they aren't is told first.
+    // The lines so far are printed also where the next one ended the run; that they aren't is told
+    // first.
     if out.flush().is_err() {
         return (Err(Fault::FileFault), host.into_disk());
     }
@@ -167,15 +172,16 @@ fn run_on<D: Disk, W: Write>(
     }
 }
 
-/// Performs a script on the partitions of an image, its lines one after another, and tells of each once it is settled.
-/// All lines are read before the image is opened.
+/// Performs a script on the partitions of an image, its lines one after another, and tells of each
+/// once it is settled. All lines are read before the image is opened.
 ///
 /// # Errors
 ///
-/// `BadScript` of the first line that says nothing that a script may say, before the disk is called; `NotFormatted` and
-/// `OtherConfig` where the disk holds no image, or another board's; `DiskFault` where a call of the disk failed, at the
-/// opening or, once all lines are at their end, since then; `NoMemory`; at a chain `HistoryFull`, where 2^64 - 1 chains
-/// were answered; at a store `OutOfRange`, where its bytes don't all lie in the guest's memory; `FileFault` where
+/// `BadScript` of the first line that says nothing that a script may say, before the disk is
+/// called; `NotFormatted` and `OtherConfig` where the disk holds no image, or another board's;
+/// `DiskFault` where a call of the disk failed, at the opening or, once all lines are at their end,
+/// since then; `NoMemory`; at a chain `HistoryFull`, where 2^64 - 1 chains were answered; at a
+/// store `OutOfRange`, where its bytes don't all lie in the guest's memory; `FileFault` where
 /// standard output took no more.
 pub fn run<D: Disk, W: Write>(
     alloc: Global,
@@ -184,22 +190,28 @@ pub fn run<D: Disk, W: Write>(
     disk: D,
     out: &mut W,
 ) -> (Result<(), Fault>, D)
-    // At its end it has printed the reply to each chain on the partitions of the image, and nothing else, where no line
-    // stored into guest memory; and every stop leaves the partitions after them.
-    ensures ran { OnOk result.0 ((lines : List Said) → Says board.now script.now lines → StoresNothing lines
-        → Ran board.now (D.state disk) (D.state result.1) lines (W.contents out.old) (W.contents out.new)) }
+    // At its end it has printed the reply to each chain on the partitions of the image, and nothing
+    // else, where no line stored into guest memory; and every stop leaves the partitions after
+    // them.
+    ensures ran { OnOk result.0
+        ((lines : List Said) → Says board.now script.now lines → StoresNothing lines
+        → Ran board.now (D.state disk) (D.state result.1) lines (W.contents out.old)
+        (W.contents out.new)) }
     // Of a script with a bad line nothing is printed, and the disk isn't called.
     ensures bad { (n : ℕ) → IsBadAt board.now script.now n
         → IsErr result.0 × Keeps (W.contents out.old) (W.contents out.new) × (result.1 ≡ disk) }
-    ensures ends { IfErr result.0 (Ends (running script.now) board.now (D.state disk) (D.state result.1)) }
-    // At each moment every stop leaves, for each guest, the partition after a prefix of what its lines so far had
-    // accepted, with all that was accepted up to the last line that printed, until a call of the disk fails; from then
-    // on with all that no stop could lose before. Each line, also one that stores into guest memory, made the call of
-    // the host that it says, and a chain printed what the host answered.
+    ensures ends { IfErr result.0
+        (Ends (running script.now) board.now (D.state disk) (D.state result.1)) }
+    // At each moment every stop leaves, for each guest, the partition after a prefix of what its
+    // lines so far had accepted, with all that was accepted up to the last line that printed, until
+    // a call of the disk fails; from then on with all that no stop could lose before. Each line,
+    // also one that stores into guest memory, made the call of the host that it says, and a chain
+    // printed what the host answered.
     ensures moments { (lines : List Said) → Says board.now script.now lines
-        → AnyMoment D.state D.makes board.now lines disk (W.contents out.old) result.0 result.1 (W.contents out.new) }
-    // With a fault it has printed what a front of its lines prints, unless standard output took no more; where a call
-    // of the disk failed, all that they print, with failures from then on.
+        → AnyMoment D.state D.makes board.now lines disk (W.contents out.old) result.0 result.1
+        (W.contents out.new) }
+    // With a fault it has printed what a front of its lines prints, unless standard output took no
+    // more; where a call of the disk failed, all that they print, with failures from then on.
     ensures stopped { IfErr result.0 (λ fault.
         RunPrints board.now script.now (D.state disk) (D.state result.1) fault (W.contents out.old)
         (W.contents out.new)) }

@@ -1,12 +1,14 @@
 //! What `serve` does: a script on the partitions of an image, its guests at once.
-ghost use Rattle.std.specs.Prelude.{◌≡◌, ◌≤◌, ℕ, List, Err, IfErr, IsErr, IsSome, OnOk, Some, false, true};
+ghost use Rattle.std.specs.Prelude.{◌≡◌, ◌≤◌, ℕ, List, Err, IfErr, IsErr, IsSome, OnOk, Some};
+ghost use Rattle.std.specs.Prelude.{false, true};
 ghost use Rattle.std.specs.Prelude.{length, map, vec_len};
 ghost use Rattle.std.specs.Io.KnownBytes.{Appends, Keeps};
 ghost use Rattle.script.specs.Line.{said};
 ghost use Rattle.disk.specs.Disk.{DiskState};
 ghost use Rattle.intent_slots.specs.Layout.{capacities_of};
 ghost use Rattle.commands.specs.Ending.{Ends, IsOfTelling, IsOfWriting, IsServable, serving};
-ghost use Rattle.commands.specs.Serving.{AreServable, IsUnservedAt, PrintsEach, ServeLeaves, ServePrints};
+ghost use Rattle.commands.specs.Serving.{AreServable, IsUnservedAt, PrintsEach, ServeLeaves};
+ghost use Rattle.commands.specs.Serving.{ServePrints};
 ghost use Rattle.commands.specs.Serving.{ServedPrint, ServesAll};
 ghost use Rattle.commands.specs.Serving.{answer_lines, guests_lines};
 ghost use Rattle.commands.specs.ServedImage.{ServeKeeps};
@@ -35,7 +37,8 @@ fn write_answers<W: Write>(
     answers: &[Answer],
     out: &mut W,
 ) -> Result<(), Fault>
-    ensures printed { OnOk result (Appends (W.contents out.old) (W.contents out.new) (answer_lines guest answers.now)) }
+    ensures printed { OnOk result
+        (Appends (W.contents out.old) (W.contents out.new) (answer_lines guest answers.now)) }
     ensures ends { IfErr result IsOfWriting }
 {
     for i in 0..answers.len() {
@@ -106,7 +109,8 @@ fn serve_on<D: Disk + Send + Drop, W: Write, R: Threads + Wait + Sync>(
     ensures printed { OnOk result.0 (PrintsEach (length board.now) (map said lines.items)
         (W.contents out.old) (W.contents out.new)) }
     ensures back { OnOk result.0 (IsSome result.1) }
-    ensures ends { IfErr result.0 (λ fault. (script : List ℕ) (new : DiskState) → IsServable board.now script
+    ensures ends { IfErr result.0
+        (λ fault. (script : List ℕ) (new : DiskState) → IsServable board.now script
         → Ends (serving script) board.now (D.state disk) new fault) }
     ensures prints { IfErr result.0 (λ fault.
         ServedPrint (length board.now) (map said lines.items) fault (W.contents out.old)
@@ -129,17 +133,18 @@ fn serve_on<D: Disk + Send + Drop, W: Write, R: Threads + Wait + Sync>(
     }
 }
 
-/// Performs a script on the partitions of an image, all guests at once: each guest's lines in their order,
-/// but beside the lines of the others. At the end it writes guest 0's lines, then guest 1's, and so on. All
-/// lines are read before the image is opened, and none of them may store. The disk is lost where the threads came to a
-/// fault.
+/// Performs a script on the partitions of an image, all guests at once: each guest's lines in their
+/// order, but beside the lines of the others. At the end it writes guest 0's lines, then guest 1's,
+/// and so on. All lines are read before the image is opened, and none of them may store. The disk
+/// is lost where the threads came to a fault.
 ///
 /// # Errors
 ///
-/// `BadScript` of the first line that stores, or says nothing that a script may say, before the disk is called;
-/// `NotFormatted` and `OtherConfig` where the disk holds no image, or another board's; `DiskFault` where a call of the
-/// disk failed, at the opening or, once all lines are printed, since then; `NoMemory`, and what a host may tell of a
-/// chain; `FileFault` where standard output took no more.
+/// `BadScript` of the first line that stores, or says nothing that a script may say, before the
+/// disk is called; `NotFormatted` and `OtherConfig` where the disk holds no image, or another
+/// board's; `DiskFault` where a call of the disk failed, at the opening or, once all lines are
+/// printed, since then; `NoMemory`, and what a host may tell of a chain; `FileFault` where standard
+/// output took no more.
 pub fn serve<R: AllocGlobal + Threads + Wait + Sync, D: Disk + Send + Drop, W: Write>(
     rt: &R,
     board: &BoardConfig,
@@ -148,7 +153,8 @@ pub fn serve<R: AllocGlobal + Threads + Wait + Sync, D: Disk + Send + Drop, W: W
     out: &mut W,
 ) -> (Result<(), Fault>, Option<D>)
     // A line for each chain, guest by guest.
-    ensures printed { OnOk result.0 (ServesAll board.now script.now (W.contents out.old) (W.contents out.new)) }
+    ensures printed { OnOk result.0
+        (ServesAll board.now script.now (W.contents out.old) (W.contents out.new)) }
     ensures back { OnOk result.0 (IsSome result.1) }
     // The disk may be lost.
     ensures ends { IfErr result.0 (λ fault. (new : DiskState)
@@ -156,12 +162,14 @@ pub fn serve<R: AllocGlobal + Threads + Wait + Sync, D: Disk + Send + Drop, W: W
     ensures prints { IfErr result.0 (λ fault.
         ServePrints board.now script.now fault (W.contents out.old) (W.contents out.new)) }
     ensures leaves { IfErr result.0 (λ fault. ServeLeaves D.state D.makes disk fault result.1) }
-    // The threads alone called the disk once the image was opened, and at each moment every stop leaves each partition
-    // as it was, with whole intents after it, one after another; with no fault nothing is under way at the end.
+    // The threads alone called the disk once the image was opened, and at each moment every stop
+    // leaves each partition as it was, with whole intents after it, one after another; with no
+    // fault nothing is under way at the end.
     ensures keeps { ServeKeeps D.state D.makes board.now disk result.0 result.1 }
     // Of a script with such a line nothing is printed, and the disk isn't called.
     ensures bad { (n : ℕ) → IsUnservedAt board.now script.now n
-        → IsErr result.0 × Keeps (W.contents out.old) (W.contents out.new) × (result.1 ≡ Some disk) }
+        → IsErr result.0 × Keeps (W.contents out.old) (W.contents out.new)
+        × (result.1 ≡ Some disk) }
 {
     let alloc = rt.alloc();
     match read_served(alloc, script, board) {

@@ -1,5 +1,6 @@
 //! What `show` does: an image is opened, and its partitions are listed.
-ghost use Rattle.std.specs.Prelude.{◌≡◌, ◌≤◌, ◌*◌, true, All, Err, IfErr, OnOk, length, replicate, string_bytes};
+ghost use Rattle.std.specs.Prelude.{◌≡◌, ◌≤◌, ◌*◌, true, All, Err, IfErr, OnOk, length, replicate};
+ghost use Rattle.std.specs.Prelude.{string_bytes};
 ghost use Rattle.std.specs.Io.KnownBytes.{Appends};
 ghost use Rattle.std.specs.Str.{bytes_eq};
 ghost use Rattle.disk.specs.Disk.{DiskState, Within};
@@ -21,7 +22,8 @@ use std::io::Write;
 /// Writes the line of a guest: its capacity, whether it has a key, and its write counter.
 #[tactic(auto, unfolding(crate::specs::Listing::guest_line))]
 fn write_guest_line<W: Write>(guest: u16, partition: &Partition, out: &mut W) -> Result<(), Fault>
-    ensures printed { OnOk result (Appends (W.contents out.old) (W.contents out.new) (guest_line guest partition.now)) }
+    ensures printed { OnOk result
+        (Appends (W.contents out.old) (W.contents out.new) (guest_line guest partition.now)) }
     ensures whole { IsWhole partition.now }
     ensures only { (fault : Fault) → result ≡ Err fault → fault ≡ Fault.FileFault }
 {
@@ -117,7 +119,8 @@ fn write_guest<W: Write>(guest: u16, partition: &Partition, out: &mut W) -> Resu
 fn write_guests<W: Write>(partitions: &[Partition], out: &mut W) -> Result<(), Fault>
     requires few { length partitions.now ≤ 64 }
     requires small { All (λ p. p.capacity ≤ 128) partitions.now }
-    ensures printed { OnOk result (Appends (W.contents out.old) (W.contents out.new) (listing partitions.now)) }
+    ensures printed { OnOk result
+        (Appends (W.contents out.old) (W.contents out.new) (listing partitions.now)) }
     ensures whole { OnOk result (All IsWhole partitions.now) }
     ensures only { (fault : Fault) → result ≡ Err fault → fault ≡ Fault.FileFault }
 {
@@ -131,7 +134,8 @@ fn write_guests<W: Write>(partitions: &[Partition], out: &mut W) -> Result<(), F
 fn write_listing<W: Write>(partitions: &[Partition], out: &mut W) -> Result<(), Fault>
     requires few { length partitions.now ≤ 64 }
     requires small { All (λ p. p.capacity ≤ 128) partitions.now }
-    ensures printed { OnOk result (Appends (W.contents out.old) (W.contents out.new) (listing partitions.now)) }
+    ensures printed { OnOk result
+        (Appends (W.contents out.old) (W.contents out.new) (listing partitions.now)) }
     ensures whole { OnOk result (All IsWhole partitions.now) }
     ensures only { (fault : Fault) → result ≡ Err fault → fault ≡ Fault.FileFault }
 {
@@ -142,13 +146,14 @@ fn write_listing<W: Write>(partitions: &[Partition], out: &mut W) -> Result<(), 
     }
 }
 
-/// Opens the image of the board, and lists its partitions. It gives the disk back, which it has only synced and read.
+/// Opens the image of the board, and lists its partitions. It gives the disk back, which it has
+/// only synced and read.
 ///
 /// # Errors
 ///
-/// `NoMemory` where memory was refused, before any call; `DiskFault` where a call of the disk failed; `NotFormatted`
-/// and `OtherConfig` where the disk holds no image, or another board's; `FileFault` where the image was opened and
-/// standard output took no more.
+/// `NoMemory` where memory was refused, before any call; `DiskFault` where a call of the disk
+/// failed; `NotFormatted` and `OtherConfig` where the disk holds no image, or another board's;
+/// `FileFault` where the image was opened and standard output took no more.
 pub fn show<D: Disk, W: Write>(
     alloc: Global,
     board: &BoardConfig,
@@ -160,7 +165,8 @@ pub fn show<D: Disk, W: Write>(
     ensures image { OnOk result.0 ((D.state disk).faithful ≡ true
         → IsImage (capacities_of board.now) (D.state disk).len (D.state disk).seen) }
     ensures ends { IfErr result.0 (Ends showing board.now (D.state disk) (D.state result.1)) }
-    ensures silent { IfErr result.0 (λ fault. KeepsUnless fault (W.contents out.old) (W.contents out.new)) }
+    ensures silent { IfErr result.0
+        (λ fault. KeepsUnless fault (W.contents out.old) (W.contents out.new)) }
     ensures any_moment { Within D.state D.makes (Untouched (D.state disk)) disk result.1 }
     ensures calls { IsReadAlone D.makes disk result.1 }
 {

@@ -4,9 +4,10 @@ use disk::PositionedFile;
 use std::fs::File;
 use std::io;
 
-/// A file that is read, and synced before that where it may be: what an earlier program wrote and didn't sync
-/// is so read only once no stop can lose it. Where writing to it was refused, a sync makes no call: then what
-/// is read may be lost by a stop of the machine that comes soon after an earlier program's.
+/// A file that is read, and synced before that where it may be: what an earlier program wrote and
+/// didn't sync is so read only once no stop can lose it. Where writing to it was refused, a sync
+/// makes no call: then what is read may be lost by a stop of the machine that comes soon after an
+/// earlier program's.
 ///
 /// Writes are refused, since none is made to show an image.
 #[derive(Drop)]

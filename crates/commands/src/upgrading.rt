@@ -1,4 +1,5 @@
-//! What `upgrade` does: an image of version 1 becomes one of version 2, and a line says whether it did.
+//! What `upgrade` does: an image of version 1 becomes one of version 2, and a line says whether it
+//! did.
 ghost use Rattle.std.specs.Prelude.{◌≡◌, true, Err, IfErr, OnOk};
 ghost use Rattle.std.specs.Io.KnownBytes.{Appends};
 ghost use Rattle.disk.specs.Disk.{DiskState};
@@ -16,7 +17,8 @@ use std::io::Write;
 /// Writes the line of an upgrade, and all that is still held back.
 #[tactic(auto, unfolding(crate::specs::Upgrading::upgraded_line))]
 fn write_done<W: Write>(done: Upgraded, out: &mut W) -> Result<(), Fault>
-    ensures printed { OnOk result (Appends (W.contents out.old) (W.contents out.new) (upgraded_line done)) }
+    ensures printed { OnOk result
+        (Appends (W.contents out.old) (W.contents out.new) (upgraded_line done)) }
     ensures only { (fault : Fault) → result ≡ Err fault → fault ≡ Fault.FileFault }
 {
     let written = match done {
@@ -32,13 +34,14 @@ fn write_done<W: Write>(done: Upgraded, out: &mut W) -> Result<(), Fault>
     }
 }
 
-/// Makes the image of the board one of version 2, and prints whether it did. At each moment every stop leaves
-/// what stands for the partitions that stood before.
+/// Makes the image of the board one of version 2, and prints whether it did. At each moment every
+/// stop leaves what stands for the partitions that stood before.
 ///
 /// # Errors
 ///
-/// `DiskFault` where a call of the disk failed; `NotFormatted` and `OtherConfig` where the disk holds no header of an
-/// image, or another board's; `FileFault` where the image is of version 2 and standard output took no more.
+/// `DiskFault` where a call of the disk failed; `NotFormatted` and `OtherConfig` where the disk
+/// holds no header of an image, or another board's; `FileFault` where the image is of version 2 and
+/// standard output took no more.
 pub fn upgrade<D: Disk, W: Write>(
     board: &BoardConfig,
     disk: &mut D,
@@ -49,7 +52,8 @@ pub fn upgrade<D: Disk, W: Write>(
     ensures printed { OnOk result (PrintsUpgrade (capacities_of board.now) (D.state disk.old)
         (W.contents out.old) (W.contents out.new)) }
     ensures ends { IfErr result (Ends upgrading board.now (D.state disk.old) (D.state disk.new)) }
-    ensures silent { IfErr result (λ fault. KeepsUnless fault (W.contents out.old) (W.contents out.new)) }
+    ensures silent { IfErr result
+        (λ fault. KeepsUnless fault (W.contents out.old) (W.contents out.new)) }
 {
     match recovery::upgrade(disk, board) {
         Ok(done) => write_done(done, out),

@@ -19,9 +19,11 @@ pub(crate) fn write_reply<W: Write>(
     reply: &[u8],
     out: &mut W,
 ) -> Result<(), Fault>
-    ensures printed { OnOk result (Appends (W.contents out.old) (W.contents out.new) (used_line guest reply.now)) }
+    ensures printed { OnOk result
+        (Appends (W.contents out.old) (W.contents out.new) (used_line guest reply.now)) }
     ensures ends { IfErr result IsOfWriting }
-    ensures silent { IfErr result (λ fault. KeepsUnless fault (W.contents out.old) (W.contents out.new)) }
+    ensures silent { IfErr result
+        (λ fault. KeepsUnless fault (W.contents out.old) (W.contents out.new)) }
 {
     let text = match shown_bytes(alloc, reply) {
         Ok(text) => text,
@@ -36,9 +38,11 @@ pub(crate) fn write_reply<W: Write>(
 /// Writes the line of a guest that is stuck: the text and the guest's number.
 #[tactic(auto, unfolding(crate::specs::Transcript::stuck_line))]
 pub(crate) fn write_stuck<W: Write>(guest: u16, stuck: Stuck, out: &mut W) -> Result<(), Fault>
-    ensures printed { OnOk result (Appends (W.contents out.old) (W.contents out.new) (stuck_line guest stuck)) }
+    ensures printed { OnOk result
+        (Appends (W.contents out.old) (W.contents out.new) (stuck_line guest stuck)) }
     ensures ends { IfErr result IsOfWriting }
-    ensures silent { IfErr result (λ fault. KeepsUnless fault (W.contents out.old) (W.contents out.new)) }
+    ensures silent { IfErr result
+        (λ fault. KeepsUnless fault (W.contents out.old) (W.contents out.new)) }
 {
     let text = match stuck {
         Stuck::NeedsReset => "needs-reset",
@@ -58,9 +62,11 @@ pub(crate) fn write_answer<W: Write>(
     answer: &Answer,
     out: &mut W,
 ) -> Result<(), Fault>
-    ensures printed { OnOk result (Appends (W.contents out.old) (W.contents out.new) (answer_line guest answer.now)) }
+    ensures printed { OnOk result
+        (Appends (W.contents out.old) (W.contents out.new) (answer_line guest answer.now)) }
     ensures ends { IfErr result IsOfWriting }
-    ensures silent { IfErr result (λ fault. KeepsUnless fault (W.contents out.old) (W.contents out.new)) }
+    ensures silent { IfErr result
+        (λ fault. KeepsUnless fault (W.contents out.old) (W.contents out.new)) }
 {
     match answer {
         Answer::Used(reply) => write_reply(alloc, guest, reply.as_slice(), out),

@@ -42,7 +42,8 @@ fresh content = record {
 
 -- 1. Calls
 
--- whether the next call succeeds: it is not the chosen one, and its failure could be counted in 64 bits
+-- whether the next call succeeds: it is not the chosen one, and its failure could be counted in 64
+-- bits
 unfoldable pub goes_on : (chosen failures : ℕ) → Bool
 goes_on chosen failures = nat_lt failures (2 ^ 64 - 1) && not (chosen == 1)
 
@@ -61,7 +62,10 @@ succeeds d = goes_on d.chosen d.failures
 
 -- the disk after its next call, but for what this call itself does
 unfoldable pub counted : CutState → CutState
-counted d = record d { chosen = next_chosen d.chosen d.failures; failures = next_failures d.chosen d.failures }
+counted d = record d {
+  chosen = next_chosen d.chosen d.failures;
+  failures = next_failures d.chosen d.failures;
+}
 
 -- the disk after a write: the range counts as unsynced also where the write fails
 unfoldable pub after_write : ℕ → List ℕ → CutState → CutState
@@ -106,8 +110,8 @@ unfoldable pub filled : List ℕ → List Bool → List ℕ → Content
 filled bytes flags seen k =
     if get_or flags k false then filling bytes (unsynced_below flags k) else slice_index seen k
 
--- what a stop with this filler leaves at each place, by what reads give, what the last sync left and
--- what is unsynced
+-- what a stop with this filler leaves at each place, by what reads give, what the last sync left
+-- and what is unsynced
 unfoldable pub left_by : Filler → (seen synced : List ℕ) → List Bool → Content
 left_by Old seen synced flags = content_of synced
 left_by New seen synced flags = content_of seen
@@ -128,4 +132,5 @@ pub record Stops (filler : Filler) (old new : CutState) : Type 0 where
 pub record IsCutDisk (d : CutState) : Type 0 where
   pub same_len : length d.synced ≡ length d.seen
   pub flag_each : length d.unsynced ≡ length d.seen
-  pub agree : (k : ℕ) → get_or d.unsynced k false ≡ false → slice_index d.synced k ≡ slice_index d.seen k
+  pub agree : (k : ℕ) → get_or d.unsynced k false ≡ false
+      → slice_index d.synced k ≡ slice_index d.seen k

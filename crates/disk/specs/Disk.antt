@@ -1,5 +1,6 @@
 -- A disk: what it shows, what one call does to it, and what a stop may leave.
-use Rattle.std.specs.Prelude.{◌≡◌, ◌⊎◌, ℕ, ◌+◌, ◌^◌, ◌<◌, ◌≤◌, Bool, true, false, List, length, slice_index, ◌||◌}
+use Rattle.std.specs.Prelude.{◌≡◌, ◌⊎◌, ℕ, ◌+◌, ◌^◌, ◌<◌, ◌≤◌, Bool, true, false, List, length}
+use Rattle.std.specs.Prelude.{slice_index, ◌||◌}
 use Rattle.disk.specs.Content.{Content, IsOutside, in_range}
 
 -- what a disk shows
@@ -78,7 +79,8 @@ Effect old (Sync ok) new = Syncs ok old new
 -- While a call is under way: a write may have reached any place of its range.
 abbrev pub during : DiskState → DiskCall → DiskState
 during s (Read ok) = s
-during s (Write at bytes ok) = record s { unsynced = λ k. in_range at (length bytes) k || s.unsynced k }
+during s (Write at bytes ok) =
+    record s { unsynced = λ k. in_range at (length bytes) k || s.unsynced k }
 during s (Sync ok) = s
 
 -- By calls the disk went from one value to the other, and at each moment of the way, also within a

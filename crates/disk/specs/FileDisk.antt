@@ -1,5 +1,6 @@
 -- The disk over a file. No contract can say what a file gives and keeps, so it is not known to be
--- faithful: what it shows is its length, its count of failures, and which calls of the file it made.
+-- faithful: what it shows is its length, its count of failures, and which calls of the file it
+-- made.
 use Rattle.std.specs.Prelude.{◌≡◌, ◌↔◌, ◌+◌, ◌^◌, ◌<◌, ◌≤◌, ℕ, Bool, true, false, List, length}
 use Rattle.std.specs.Prelude.{Option, Some, None, Result, Ok, Err, IsTrue}
 use Rattle.disk.specs.Content.{zeros}
@@ -31,24 +32,33 @@ pub record FileState (F : Type 0) : Type 0 where
 
 -- A stop may leave anything; the zeros are nobody's promise.
 abbrev pub file_state : {F : Type 0} → FileState F → DiskState
-file_state f = record { len = f.len; seen = zeros; unsynced = λ k. true; failures = f.failures; faithful = false }
+file_state f =
+    record {
+      len = f.len;
+      seen = zeros;
+      unsynced = λ k. true;
+      failures = f.failures;
+      faithful = false;
+    }
 
 -- a call leads from this disk to that one: each failure raises the count by one, up to 2^64 - 1
-pub record FileMakes {F : Type 0} (old : FileState F) (call : DiskCall) (new : FileState F) : Type 0 where
+pub record FileMakes {F : Type 0} (old : FileState F) (call : DiskCall)
+    (new : FileState F) : Type 0 where
   pub effect : Effect (file_state old) call (file_state new)
   pub len : new.len ≡ old.len
   pub unfailed : is_success call ≡ true → new.failures ≡ old.failures
   pub failed : is_success call ≡ false → old.failures + 1 < 2 ^ 64 → new.failures ≡ old.failures + 1
 
--- The file was read once, there and into all of this, and the read succeeded exactly where it was whole.
+-- The file was read once, there and into all of this, and the read succeeded exactly where it was
+-- whole.
 pub record ReadsOnce {F : Type 0} (made : F → FileCall → F → Type 0) (at : ℕ) (out : List ℕ)
     (old : F) (ok : Bool) (new : F) : Type 0 where
   pub count : Option ℕ
   pub call : made old (ReadAt at out count) new
   pub whole : IsTrue ok ↔ (count ≡ Some (length out))
 
--- The file was written once, there and all of these bytes, and the write succeeded exactly where it was
--- whole.
+-- The file was written once, there and all of these bytes, and the write succeeded exactly where it
+-- was whole.
 pub record WritesOnce {F : Type 0} (made : F → FileCall → F → Type 0) (at : ℕ) (bytes : List ℕ)
     (old : F) (ok : Bool) (new : F) : Type 0 where
   pub count : Option ℕ

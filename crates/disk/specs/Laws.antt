@@ -1,5 +1,6 @@
 -- What follows of disks, in the words of their user.
-use Rattle.std.specs.Prelude.{◌≡◌, ◌<◌, ◌+◌, ◌==◌, ◌^◌, ℕ, true, not, List, [], ◌∷◌, length, slice_index}
+use Rattle.std.specs.Prelude.{◌≡◌, ◌<◌, ◌+◌, ◌==◌, ◌^◌, ℕ, true, not, List, [], ◌∷◌, length}
+use Rattle.std.specs.Prelude.{slice_index}
 use Rattle.disk.specs.Content.{Content}
 use Rattle.disk.specs.Disk.{DiskState, DiskCall, Write, Sync, Effect, MayLeave, during}
 use Rattle.disk.specs.CutDisk.{CutState, cut_state, cut_after, succeeds, filled}

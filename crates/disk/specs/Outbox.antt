@@ -65,7 +65,8 @@ bytes_in [] = 0
 bytes_in (h ∷ hs) = h.len + bytes_in hs
 
 abbrev pub view_of : List Head → List ℕ → ℕ → OutboxView
-view_of heads kept from = record { writes = writes_of heads (drop from kept); room = all_room - length kept }
+view_of heads kept from =
+    record { writes = writes_of heads (drop from kept); room = all_room - length kept }
 
 -- the bytes before `from` were taken
 pub record IsOutbox (heads : List Head) (kept : List ℕ) (from places capacity : ℕ) : Type 0 where

@@ -1,5 +1,6 @@
--- The disk whose writes somebody else makes: each one that it takes waits in its outbox, and a sync answers what its
--- owner was told. No contract can say what becomes of the writes that leave it, so it isn't known to be faithful.
+-- The disk whose writes somebody else makes: each one that it takes waits in its outbox, and a sync
+-- answers what its owner was told. No contract can say what becomes of the writes that leave it, so
+-- it isn't known to be faithful.
 use Rattle.std.specs.Prelude.{◌≡◌, ℕ, ◌+◌, ◌-◌, ◌^◌, Bool, true, false, not, ◌&&◌, nat_lt, nat_le}
 use Rattle.std.specs.Prelude.{if◌then◌else◌, List, [], length}
 use Rattle.disk.specs.Content.{zeros}
@@ -33,7 +34,14 @@ first_disk image = record {
 
 -- A stop may leave anything; the zeros are nobody's promise.
 abbrev pub outbox_state : OutboxState → DiskState
-outbox_state d = record { len = d.len; seen = zeros; unsynced = λ k. true; failures = d.failures; faithful = false }
+outbox_state d =
+    record {
+      len = d.len;
+      seen = zeros;
+      unsynced = λ k. true;
+      failures = d.failures;
+      faithful = false;
+    }
 
 -- 1. When a call succeeds
 
@@ -56,7 +64,8 @@ sync_succeeds d = ends (d.synced && is_none d.outbox.writes) d.failed d.failures
 
 -- the count after a call that ended so
 unfoldable pub failures_after : Bool → ℕ → ℕ
-failures_after ok failures = if not ok && nat_lt failures (2 ^ 64 - 1) then failures + 1 else failures
+failures_after ok failures =
+    if not ok && nat_lt failures (2 ^ 64 - 1) then failures + 1 else failures
 
 -- a failure that was told is of one call
 unfoldable pub counted : Bool → OutboxState → OutboxState
@@ -64,7 +73,8 @@ counted ok d = record d { failed = false; failures = failures_after ok d.failure
 
 -- A write that succeeds waits behind all others; a sync that was told of before isn't of it.
 unfoldable pub after_write : ℕ → List ℕ → Bool → OutboxState → OutboxState
-after_write at bytes true d = record (counted true d) { outbox = put_in at bytes d.outbox; synced = false }
+after_write at bytes true d =
+    record (counted true d) { outbox = put_in at bytes d.outbox; synced = false }
 after_write at bytes false d = counted false d
 
 -- what was told of a sync is of one sync

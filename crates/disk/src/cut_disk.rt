@@ -127,7 +127,8 @@ impl Disk for CutDisk {
     fn read_at(&mut self, at: u64, out: &mut [u8]) -> Result<(), DiskFault>
         requires { at + length out.old ≤ length self.old.seen }
         ensures call { CutMakes self.old (Read (is_ok result)) self.new }
-        ensures ok { OnOk result (out.new ≡ bytes_at (content_of self.old.seen) at (length out.old)) }
+        ensures ok { OnOk result
+            (out.new ≡ bytes_at (content_of self.old.seen) at (length out.old)) }
         ensures succeeds { is_ok result ≡ succeeds self.old }
         ensures counted { self.new ≡ counted self.old }
         ensures unchanged { OnErr result (out.new ≡ out.old) }

@@ -1,4 +1,5 @@
-ghost use Rattle.std.specs.Prelude.{◌≡◌, ◌↔◌, ◌+◌, ◌-◌, ◌≤◌, ◌<◌, ◌^◌, true, false, length, is_ok, IfOk, IsTrue, Some};
+ghost use Rattle.std.specs.Prelude.{◌≡◌, ◌↔◌, ◌+◌, ◌-◌, ◌≤◌, ◌<◌, ◌^◌, true, false, length, is_ok};
+ghost use Rattle.std.specs.Prelude.{IfOk, IsTrue, Some};
 ghost use Rattle.disk.specs.Disk.{DiskState, DiskCall, Read, Write, Sync, Effect, HasRisen};
 ghost use Rattle.disk.specs.FileDisk.{file_state, FileMakes, SyncAll, ReadsOnce, WritesOnce};
 ghost use Rattle.disk.specs.FileDisk.{IsEnded, Touches, count_of};
@@ -11,10 +12,10 @@ use std::marker::Model;
 
 /// A disk over an open file: positioned reads and writes, and `sync_all`.
 ///
-/// Each call makes one call of the file, at the same offset and of the same bytes, and succeeds exactly
-/// where that one did all. One that ends short is a `DiskFault`, just as one that fails; nothing is tried
-/// again, a sync that failed neither. On Linux a read or write of more than 2,147,479,552 bytes ends short.
-/// Once 2^64 - 1 calls have failed, none is made any more.
+/// Each call makes one call of the file, at the same offset and of the same bytes, and succeeds
+/// exactly where that one did all. One that ends short is a `DiskFault`, just as one that fails;
+/// nothing is tried again, a sync that failed neither. On Linux a read or write of more than
+/// 2,147,479,552 bytes ends short. Once 2^64 - 1 calls have failed, none is made any more.
 ///
 /// No contract can say what a file gives and keeps. That it behaves as a disk is a premise, and so
 /// is that a sync which succeeds has stored what an earlier one failed to store.
@@ -97,7 +98,8 @@ impl<F: PositionedFile> Disk for FileDisk<F> {
     fn read_at(&mut self, at: u64, out: &mut [u8]) -> Result<(), DiskFault>
         requires { at + length out.old ≤ self.old.len }
         ensures call { FileMakes self.old (Read (is_ok result)) self.new }
-        ensures once { Touches self.old (ReadsOnce F.made at out.new self.old.file (is_ok result) self.new.file) }
+        ensures once { Touches self.old
+            (ReadsOnce F.made at out.new self.old.file (is_ok result) self.new.file) }
         ensures ended { IsEnded self.old (is_ok result) self.new }
     {
         if self.failures == u64::MAX {
@@ -111,7 +113,8 @@ impl<F: PositionedFile> Disk for FileDisk<F> {
     fn write_at(&mut self, at: u64, bytes: &[u8]) -> Result<(), DiskFault>
         requires { at + length bytes.now ≤ self.old.len }
         ensures call { FileMakes self.old (Write at bytes.now (is_ok result)) self.new }
-        ensures once { Touches self.old (WritesOnce F.made at bytes.now self.old.file (is_ok result) self.new.file) }
+        ensures once { Touches self.old
+            (WritesOnce F.made at bytes.now self.old.file (is_ok result) self.new.file) }
         ensures ended { IsEnded self.old (is_ok result) self.new }
     {
         if self.failures == u64::MAX {
@@ -123,7 +126,8 @@ impl<F: PositionedFile> Disk for FileDisk<F> {
 
     fn sync(&mut self) -> Result<(), DiskFault>
         ensures call { FileMakes self.old (Sync (is_ok result)) self.new }
-        ensures once { Touches self.old (F.made self.old.file (SyncAll (is_ok result)) self.new.file) }
+        ensures once { Touches self.old
+            (F.made self.old.file (SyncAll (is_ok result)) self.new.file) }
         ensures ended { IsEnded self.old (is_ok result) self.new }
     {
         if self.failures == u64::MAX {

@@ -9,8 +9,8 @@ pub trait Hook: Drop {
     fn before_sync(&self);
 }
 
-/// A disk that tells its hook before each sync, and is that disk in all else. It is there for tests that
-/// look at what other threads do while a sync is under way.
+/// A disk that tells its hook before each sync, and is that disk in all else. It is there for tests
+/// that look at what other threads do while a sync is under way.
 ///
 /// A contract sees the disk.
 #[derive(Drop)]

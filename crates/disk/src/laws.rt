@@ -13,8 +13,8 @@ pub fn stops_within_cover()
     ensures before { StopsBeforeAreCovered }
 {}
 
-/// After `fail(k)` the k-th call on a `CutDisk` fails, and that one alone, while fewer than 2^64 - 2
-/// calls have failed.
+/// After `fail(k)` the k-th call on a `CutDisk` fails, and that one alone, while fewer than 2^64 -
+/// 2 calls have failed.
 pub fn chosen_call_fails_alone()
     ensures { ChosenCallFailsAlone }
 {}

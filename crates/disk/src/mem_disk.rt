@@ -7,7 +7,8 @@ use crate::bytes::{copy_out, put};
 use crate::disk::{Disk, DiskFault};
 use std::marker::Model;
 
-/// A disk in memory that never fails. Each write is on it at once, so a stop leaves what reads give.
+/// A disk in memory that never fails. Each write is on it at once, so a stop leaves what reads
+/// give.
 ///
 /// A contract sees it as the list of its bytes.
 #[derive(Drop)]

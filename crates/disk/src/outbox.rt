@@ -1,6 +1,7 @@
 //! Writes that wait for somebody to make them.
 ghost use Rattle.std.specs.Prelude.{◌≡◌, true, length, IfOk, option_map};
-ghost use Rattle.disk.specs.Outbox.{empty_outbox, first_of, has_room, is_none, put_in, taken_from, write_seen};
+ghost use Rattle.disk.specs.Outbox.{empty_outbox, first_of, has_room, is_none, put_in, taken_from};
+ghost use Rattle.disk.specs.Outbox.{write_seen};
 
 use crate::disk::NoMemory;
 use std::alloc::Global;

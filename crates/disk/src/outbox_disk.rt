@@ -1,4 +1,5 @@
-ghost use Rattle.std.specs.Prelude.{◌≡◌, ◌+◌, ◌≤◌, false, length, is_ok, IfOk, OnOk, OnErr, option_map};
+ghost use Rattle.std.specs.Prelude.{◌≡◌, ◌+◌, ◌≤◌, false, length, is_ok, IfOk, OnOk, OnErr};
+ghost use Rattle.std.specs.Prelude.{option_map};
 ghost use Rattle.disk.specs.Content.{bytes_at, content_of};
 ghost use Rattle.disk.specs.Disk.{DiskState, DiskCall, Read, Write, Sync, Effect};
 ghost use Rattle.disk.specs.Outbox.{first_of, has_room, is_none, write_seen};
@@ -17,7 +18,8 @@ use std::marker::Model;
 pub enum Told {
     /// The oldest write was taken.
     Taken,
-    /// Every write that was taken was made, and a sync after them succeeded: the next sync succeeds.
+    /// Every write that was taken was made, and a sync after them succeeded: the next sync
+    /// succeeds.
     Synced,
     /// A write or a sync failed: the next call fails.
     Failed,
@@ -25,14 +27,15 @@ pub enum Told {
     Opened,
 }
 
-/// A disk whose writes and syncs somebody else makes: its owner, who may stand outside of the program.
+/// A disk whose writes and syncs somebody else makes: its owner, who may stand outside of the
+/// program.
 ///
-/// Each write waits in the outbox, which has room for 256 of them and 65,536 bytes, until its owner takes
-/// it. A sync succeeds where the owner told that one did, and no write waits. Reads give the bytes with
-/// which it was made, until those are freed; a write doesn't show in them.
+/// Each write waits in the outbox, which has room for 256 of them and 65,536 bytes, until its owner
+/// takes it. A sync succeeds where the owner told that one did, and no write waits. Reads give the
+/// bytes with which it was made, until those are freed; a write doesn't show in them.
 ///
-/// That a write which was taken is made before the sync that is told, and that a sync which is told keeps
-/// it, is a premise: no contract says what becomes of bytes that leave.
+/// That a write which was taken is made before the sync that is told, and that a sync which is told
+/// keeps it, is a premise: no contract says what becomes of bytes that leave.
 #[derive(Drop)]
 pub struct OutboxDisk {
     alloc: Global,
@@ -79,8 +82,8 @@ fn ended(may: bool, failed: &mut bool, failures: &mut u64) -> Result<(), DiskFau
 
 #[tactic(auto, unfolding(crate::specs::OutboxDisk::after_told))]
 impl OutboxDisk {
-    /// The disk over the bytes of a file, which its owner had synced before it read them. It takes memory
-    /// for the outbox.
+    /// The disk over the bytes of a file, which its owner had synced before it read them. It takes
+    /// memory for the outbox.
     pub fn new(alloc: Global, image: Vec<u8>) -> Result<OutboxDisk, NoMemory>
         ensures { IfOk result (λ disk. disk ≡ first_disk image.items) }
     {
@@ -155,7 +158,8 @@ impl Disk for OutboxDisk {
         requires { at + length out.old ≤ self.old.len }
         ensures call { OutboxMakes self.old (Read (is_ok result)) self.new }
         ensures succeeds { is_ok result ≡ read_succeeds at (length out.old) self.old }
-        ensures value { OnOk result (out.new ≡ bytes_at (content_of self.old.image) at (length out.old)) }
+        ensures value { OnOk result
+            (out.new ≡ bytes_at (content_of self.old.image) at (length out.old)) }
         ensures unchanged { OnErr result (out.new ≡ out.old) }
     {
         let there = out.len() <= self.image.len() && at as usize <= self.image.len() - out.len();

@@ -8,14 +8,14 @@ use std::os::unix::fs::FileExt;
 
 /// A file that is read and written at offsets in bytes from its start, and synced.
 ///
-/// What a file holds is in no contract. What is in one: which call was made, at which offset, of which
-/// bytes, and how many of them it says it moved.
+/// What a file holds is in no contract. What is in one: which call was made, at which offset, of
+/// which bytes, and how many of them it says it moved.
 pub trait PositionedFile: Drop {
     /// One call leads from one value to the other. Only by making the call can a caller show it.
     ghost made: { Self → FileCall → Self → Type 0 };
 
-    /// Reads from the offset `at` on into the front of `out`, and says how many bytes it read: fewer
-    /// than `out` has where the file ends before, or the system stops early.
+    /// Reads from the offset `at` on into the front of `out`, and says how many bytes it read:
+    /// fewer than `out` has where the file ends before, or the system stops early.
     fn read_at(&mut self, at: u64, out: &mut [u8]) -> io::Result<usize>
         ensures { made self.old (ReadAt at out.new (count_of result)) self.new };
 
@@ -23,7 +23,8 @@ pub trait PositionedFile: Drop {
     fn write_at(&mut self, at: u64, bytes: &[u8]) -> io::Result<usize>
         ensures { made self.old (WriteAt at bytes.now (count_of result)) self.new };
 
-    /// Puts all that was written, and the file's length, where no stop of the machine takes it away.
+    /// Puts all that was written, and the file's length, where no stop of the machine takes it
+    /// away.
     fn sync_all(&mut self) -> io::Result<()>
         ensures { made self.old (SyncAll (is_done result)) self.new };
 }
@@ -36,8 +37,8 @@ fn is_interrupted(outcome: &io::Result<usize>) -> bool {
     }
 }
 
-/// One call of the system each, which is made again where a signal interrupted it before it did anything
-/// (EINTR). No contract says what such a file did.
+/// One call of the system each, which is made again where a signal interrupted it before it did
+/// anything (EINTR). No contract says what such a file did.
 impl PositionedFile for File {
     ghost made = { λ old call new. Unit {0} };
 

@@ -1,13 +1,13 @@
-//! Performs the examples that its words name, each a folder, and prints of each whether it wrote what the
-//! folder expects. Each is performed on a disk in memory.
+//! Performs the examples that its words name, each a folder, and prints of each whether it wrote
+//! what the folder expects. Each is performed on a disk in memory.
 //!
-//! A folder with a `script.txt` is run on a fresh image: `expected.txt` on standard output, and `fault.txt`,
-//! where there is one, on standard error; where there is a `boards.txt`, so it is on each board whose file a
-//! line of that names. One with a `story.txt` has a command in each line of it, `format`,
-//! `show`, `run SCRIPT` or `serve SCRIPT`, and behind ` > ` the file of what it prints; all of them on one disk.
-//! One with a `session.txt` is a session of a shell (`shell.rt`). Where there is a `words.txt`, the script that
-//! `rpmb` makes of it is the folder's (`words.rt`). One with a `random.txt` has random requests, from the seed
-//! that this gives (`random.rt`).
+//! A folder with a `script.txt` is run on a fresh image: `expected.txt` on standard output, and
+//! `fault.txt`, where there is one, on standard error; where there is a `boards.txt`, so it is on
+//! each board whose file a line of that names. One with a `story.txt` has a command in each line of
+//! it, `format`, `show`, `run SCRIPT` or `serve SCRIPT`, and behind ` > ` the file of what it
+//! prints; all of them on one disk. One with a `session.txt` is a session of a shell (`shell.rt`).
+//! Where there is a `words.txt`, the script that `rpmb` makes of it is the folder's (`words.rt`).
+//! One with a `random.txt` has random requests, from the seed that this gives (`random.rt`).
 #![tactic(auto)]
 
 mod folder;
@@ -44,8 +44,8 @@ fn runs<R: Files + AllocGlobal + Threads + Wait + Sync>(
     Ok(is_told && (ended.status == 0) == fault.is_empty())
 }
 
-/// A script of a folder. Where there are words for it, they have to make it, byte for byte: `words.txt` those of
-/// `script.txt`, `words_of_NAME` those of another script.
+/// A script of a folder. Where there are words for it, they have to make it, byte for byte:
+/// `words.txt` those of `script.txt`, `words_of_NAME` those of another script.
 fn checked_script<R: Files + AllocGlobal>(rt: &R, name: &str, file: &str) -> Result<String> {
     let script = text(rt, name, file)?;
     let words = match file {

@@ -1,6 +1,6 @@
-//! Random requests of all guests of a board, made by `rpmb` and run by `rpmbd`: each answer is explained as what
-//! its request comes to, without one doubt, and of a flipped bit `rpmb explain` tells. The generator begins
-//! with the folder's seed, so each run makes the same requests.
+//! Random requests of all guests of a board, made by `rpmb` and run by `rpmbd`: each answer is
+//! explained as what its request comes to, without one doubt, and of a flipped bit `rpmb explain`
+//! tells. The generator begins with the folder's seed, so each run makes the same requests.
 use crate::folder::Folder;
 use crate::performing::{FORMAT, RUN, blank, board_of, perform_on};
 use crate::words::made_by;
@@ -120,7 +120,8 @@ fn read(
     })
 }
 
-/// What a write comes to: verdicts ask for the address first, then for the MAC, then for the counter.
+/// What a write comes to: verdicts ask for the address first, then for the MAC, then for the
+/// counter.
 fn written(is_inside: bool, is_forged: bool, is_stale: bool) -> &'static str {
     match (is_inside, is_forged, is_stale) {
         (false, _, _) => "ADDR_FAILURE 0x0004",
@@ -160,7 +161,8 @@ fn write(
     }
     Ok(Asked {
         words: format!(in alloc;
-            "rpmb write --guest {guest} --key {key} --counter {counter} --address {address} --data {data}{rest}"
+            "rpmb write --guest {guest} --key {key} --counter {counter} --address {address} \
+             --data {data}{rest}"
         )?,
         explain: explain_of(alloc, client)?,
         expected: format!(in alloc; "response DATA_WRITE 0x0300, result {code}")?,
@@ -317,7 +319,8 @@ fn are_doubted<R: Files + AllocGlobal>(
     Ok(true)
 }
 
-/// Whether an answer is explained rightly, and so is what it is with other bits: each, or a random one.
+/// Whether an answer is explained rightly, and so is what it is with other bits: each, or a random
+/// one.
 fn is_told<R: Files + AllocGlobal>(
     folder: &Folder<'_, R>,
     rng: &mut Xoshiro256PlusPlus,
@@ -360,8 +363,8 @@ fn answers<R: Files + AllocGlobal + Threads + Wait + Sync>(
     Ok(String::from_utf8(ended.out)?)
 }
 
-/// Whether all answers are explained rightly, and each bit of the first of them is told where it is flipped, and
-/// one random bit of each other.
+/// Whether all answers are explained rightly, and each bit of the first of them is told where it is
+/// flipped, and one random bit of each other.
 pub fn are_told<R: Files + AllocGlobal + Threads + Wait + Sync>(
     rt: &R,
     path: &str,

@@ -1,8 +1,9 @@
-//! Sessions of a shell. A line that begins with `$ ` has commands of `rpmbd`, `rpmb` and `cat`, joined by ` | `,
-//! and ` > FILE` or ` >> FILE` behind them where their output goes into a file. The lines up to the next such
-//! line are what they write: standard output, then standard error, then `status N` where the last one ends with
-//! a status N that isn't 0. A line that begins with `#` is a note. A shell in that folder writes the same, but
-//! for the status, which it keeps in `$?`.
+//! Sessions of a shell. A line that begins with `$ ` has commands of `rpmbd`, `rpmb` and `cat`,
+//! joined by ` | `, and ` > FILE` or ` >> FILE` behind them where their output goes into a file.
+//! The lines up to the next such line are what they write: standard output, then standard error,
+//! then `status N` where the last one ends with a status N that isn't 0. A line that begins with
+//! `#` is a note. A shell in that folder writes the same, but for the status, which it keeps in
+//! `$?`.
 use crate::folder::Folder;
 use crate::performing::{Ended, FORMAT, blank, perform_on};
 use anyhow::{Result, bail};
@@ -194,8 +195,8 @@ fn performed<R: Files + AllocGlobal + Threads + Wait + Sync>(
     }
 }
 
-/// Performs commands, each of which reads what the one before writes. What they write on standard error is
-/// put together.
+/// Performs commands, each of which reads what the one before writes. What they write on standard
+/// error is put together.
 fn piped<R: Files + AllocGlobal + Threads + Wait + Sync>(
     folder: &mut Folder<'_, R>,
     commands: &str,
@@ -264,8 +265,8 @@ fn step<R: Files + AllocGlobal + Threads + Wait + Sync>(
     Ok(())
 }
 
-/// The session that the commands of a session give: its lines of commands and notes, and behind each of them
-/// what it writes.
+/// The session that the commands of a session give: its lines of commands and notes, and behind
+/// each of them what it writes.
 pub fn written_by<R: Files + AllocGlobal + Threads + Wait + Sync>(
     rt: &R,
     path: &str,

@@ -1,5 +1,5 @@
-//! Scripts that `rpmb` makes: a line that begins with `rpmb ` stands for the lines that these words write, and
-//! each other line for itself.
+//! Scripts that `rpmb` makes: a line that begins with `rpmb ` stands for the lines that these words
+//! write, and each other line for itself.
 use crate::folder::Folder;
 use anyhow::{Result, bail};
 use rpmb_commands::{perform, read_words};

@@ -15,7 +15,8 @@ use Rattle.flusher.specs.SlotInvariant.{Besides, IsHeld, EachStop}
 use Rattle.flusher.specs.Store.{given}
 use Rattle.flusher.specs.CallsLeft.{left_of, called}
 
--- where each guest's settled partition is held, every stop leaves it, or in Opening it with its intent
+-- where each guest's settled partition is held, every stop leaves it, or in Opening it with its
+-- intent
 abbrev pub HeldIsLeft : Type 0
 HeldIsLeft = (parts : ℕ → Part) (guests : List Guest) (broken : Bool) (s : DiskState)
     → IsHeld parts guests broken s → EachStop parts guests s
@@ -43,7 +44,8 @@ CallsLower {D = D} makes = (old_disk : D) (old : List Guest) (result : Result Pr
 
 -- an intent that is given to a guest with room adds a call for each entry, and eight
 abbrev pub GivenAdds : Type 0
-GivenAdds = (guests : List Guest) (i : Intent) (x : Guest) → slice_get guests i.guest ≡ Some x → has_room x ≡ true
+GivenAdds = (guests : List Guest) (i : Intent) (x : Guest) → slice_get guests i.guest ≡ Some x
+    → has_room x ≡ true
     → left_of (given guests i) ≡ left_of guests + (length i.group.entries + 8)
 
 -- no call is left exactly where all slots are empty and nothing is given
@@ -59,7 +61,8 @@ PendingStays = (x : Guest)
 -- an intent that is given comes last;
 abbrev pub PendingGrows : Type 0
 PendingGrows = (x : Guest) (i : Intent) → has_room x ≡ true → Besides x.slot x.behind
-    → (pending_intents (with_intent x i) ≡ pending_intents x ++ i ∷ []) × (mark_of (with_intent x i) ≡ mark_of x)
+    → (pending_intents (with_intent x i) ≡ pending_intents x ++ i ∷ [])
+    × (mark_of (with_intent x i) ≡ mark_of x)
 
 -- and a sync settles none of it, or the first of it, whose group is the one in Opening.
 abbrev pub Settles : Option Group → List Intent → List Intent → Type 0

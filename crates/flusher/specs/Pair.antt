@@ -16,8 +16,8 @@ use Rattle.flusher.specs.Phase.{has_write, skipped, is_closing}
 use Rattle.flusher.specs.Slot.{is_empty, pending_of, slot_writes, slot_awaits, slot_write}
 use Rattle.flusher.specs.Slot.{after_write, after_sync, opening_in, spelled}
 
--- A guest: its partition's region, its mark, and its slots. `slot` has the lower sequence, at `side`;
--- `behind` is the other one, which is in use only beside it, and in version 1 never.
+-- A guest: its partition's region, its mark, and its slots. `slot` has the lower sequence, at
+-- `side`; `behind` is the other one, which is in use only beside it, and in version 1 never.
 
 abbrev pub region_of : Guest → Region
 region_of x = x.extent
@@ -45,8 +45,8 @@ listed (Some i) = i ∷ []
 abbrev pub pending_intents : Guest → List Intent
 pending_intents x = listed (pending_of x.slot) ++ listed (pending_of x.behind)
 
--- What the slot behind may write: its payload at any time; its gate opens once the first one's is written
--- shut; all else waits until the first is empty.
+-- What the slot behind may write: its payload at any time; its gate opens once the first one's is
+-- written shut; all else waits until the first is empty.
 abbrev pub is_let_beside : Phase → Phase → Bool
 is_let_beside first Given = true
 is_let_beside first Written = false
@@ -149,7 +149,8 @@ moved_up x n None (Some behind) =
       slot = Some behind;
       behind = None;
     }
-moved_up x n None None = record { extent = x.extent; mark = n; paired = x.paired; side = A; slot = None; behind = None }
+moved_up x n None None =
+    record { extent = x.extent; mark = n; paired = x.paired; side = A; slot = None; behind = None }
 
 abbrev pub guest_after_sync : Guest → Guest
 guest_after_sync x = moved_up x (marked x) (after_sync x.slot) (after_sync x.behind)
@@ -171,7 +172,8 @@ with_intent x i = given_at x i x.slot
 
 -- a guest with nothing in its slots
 abbrev pub resting : Bool → Region → ℕ → Guest
-resting paired region n = record { extent = region; mark = n; paired = paired; side = A; slot = None; behind = None }
+resting paired region n =
+    record { extent = region; mark = n; paired = paired; side = A; slot = None; behind = None }
 
 -- an intent behind an open gate, with no write of it done
 abbrev pub opened_slot : Intent → Slot

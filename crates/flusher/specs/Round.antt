@@ -13,7 +13,8 @@ use Rattle.flusher.specs.declared.progress.StoreFault.{StoreFault}
 use Rattle.flusher.specs.declared.progress.StoreFault.TheVariants.{DiskFault}
 use Rattle.intent_slots.specs.Recovered.{Part}
 use Rattle.flusher.specs.Slot.{is_empty}
-use Rattle.flusher.specs.Pair.{guest_write, guest_has_write, guest_awaits, guest_after_write, guest_after_sync}
+use Rattle.flusher.specs.Pair.{guest_write, guest_has_write, guest_awaits, guest_after_write}
+use Rattle.flusher.specs.Pair.{guest_after_sync}
 use Rattle.flusher.specs.SlotInvariant.{guest_settled, settled_by}
 use Rattle.flusher.specs.Marks.{marks_of}
 use Rattle.flusher.specs.Progress.{Progress, Wrote, Synced, Idle}
@@ -25,7 +26,8 @@ plan_at (Some g) waits = WriteOf g
 plan_at None true = SyncAll
 plan_at None false = Nothing
 
--- The write of the lowest-numbered guest that has one; else a sync, where a slot awaits one; else none.
+-- The write of the lowest-numbered guest that has one; else a sync, where a slot awaits one; else
+-- none.
 abbrev pub planned : List Guest → Plan
 planned guests = plan_at (position guest_has_write guests) (list_any guest_awaits guests)
 
@@ -82,7 +84,8 @@ abbrev pub Round : {D : Type 0} → (D → DiskCall → D → Type 0) → Plan �
     → Result Progress StoreFault → D → List Guest → Bool → Type 0
 Round makes (WriteOf g) old_disk old result new_disk new broken =
     WriteRound makes g old_disk old result new_disk new broken
-Round makes SyncAll old_disk old result new_disk new broken = SyncRound makes old_disk old result new_disk new broken
+Round makes SyncAll old_disk old result new_disk new broken =
+    SyncRound makes old_disk old result new_disk new broken
 Round makes Nothing old_disk old result new_disk new broken =
     (result ≡ Ok Idle) × (new_disk ≡ old_disk) × (new ≡ old) × (broken ≡ false)
 
@@ -107,7 +110,8 @@ MovedBy false old new = (new ≡ old) ⊎ (new ≡ guest_after_write old)
 -- What an advance that ended so made of the guests.
 pub record Moves (result : Result Progress StoreFault) (old new : List Guest) : Type 0 where
   pub count : length new ≡ length old
-  pub each : (g : ℕ) (x y : Guest) → slice_get old g ≡ Some x → slice_get new g ≡ Some y → MovedBy (settles result) x y
+  pub each : (g : ℕ) (x y : Guest) → slice_get old g ≡ Some x → slice_get new g ≡ Some y
+      → MovedBy (settles result) x y
   pub idle : result ≡ Ok Idle → new ≡ old
   pub marks : (told : List ℕ) → result ≡ Ok (Synced told) → told ≡ marks_of new
 
@@ -128,4 +132,5 @@ under_way guests = under_way_by (planned guests) guests
 
 -- The header is as it was: reads give the same there, and a stop leaves nothing more.
 abbrev pub FrontStays : DiskState → DiskState → Type 0
-FrontStays old new = (k : ℕ) → k < 1024 → (new.seen k ≡ old.seen k) × (old.unsynced k ≡ false → new.unsynced k ≡ false)
+FrontStays old new = (k : ℕ) → k < 1024 → (new.seen k ≡ old.seen k)
+    × (old.unsynced k ≡ false → new.unsynced k ≡ false)

@@ -1,5 +1,6 @@
 -- A guest's slot (own): empty, or an intent with its phase.
-use Rattle.std.specs.Prelude.{ℕ, ◌+◌, ◌*◌, Bool, true, false, not, List, [], ◌∷◌, if◌then◌else◌, Option, Some, None}
+use Rattle.std.specs.Prelude.{ℕ, ◌+◌, ◌*◌, Bool, true, false, not, List, [], ◌∷◌, if◌then◌else◌}
+use Rattle.std.specs.Prelude.{Option, Some, None}
 use Rattle.intent_slots.specs.Layout.{Region, SlotRegion, blocks_at}
 use Rattle.intent_slots.specs.Payload.{Group, Intent, last_of, payload_bytes}
 use Rattle.intent_slots.specs.Home.{home_bytes}

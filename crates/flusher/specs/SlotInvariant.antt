@@ -7,7 +7,8 @@ use Rattle.disk.specs.Disk.{DiskState, MayLeave}
 use Rattle.intent_slots.specs.declared.layout.Side.TheVariants.{A}
 use Rattle.intent_slots.specs.Layout.{Region, SlotRegion, AreApart, end_of}
 use Rattle.intent_slots.specs.Payload.{Group, GroupFits, Intent, last_of}
-use Rattle.intent_slots.specs.Recovered.{Part, HoldsHome, HasPayload, redone, redo, blocks_of, after, is_paired, Stands}
+use Rattle.intent_slots.specs.Recovered.{Part, HoldsHome, HasPayload, redone, redo, blocks_of}
+use Rattle.intent_slots.specs.Recovered.{after, is_paired, Stands}
 use Rattle.flusher.specs.declared.phase.Phase.{Phase}
 use Rattle.flusher.specs.declared.phase.Phase.TheVariants.{Given, Written, Ready, Opening, Open}
 use Rattle.flusher.specs.declared.phase.Phase.TheVariants.{Applying, Applied, Closing}
@@ -31,18 +32,21 @@ PhaseRow region side p Given i c = IsShut side c × HoldsHome region c p × Grou
 PhaseRow region side p Written i c = IsShut side c × HoldsHome region c p × GroupFits region.size i
 PhaseRow region side p Ready i c = IsShut side c × HoldsHome region c p × HasPayload region side i c
 PhaseRow region side p Opening i c = HoldsHome region c p × HasPayload region side i c
-PhaseRow region side p (Open k) i c = IsWideOpen side c × (redone region c i ≡ p) × HasPayload region side i c
-PhaseRow region side p Applying i c = IsWideOpen side c × (redone region c i ≡ p) × HasPayload region side i c
+PhaseRow region side p (Open k) i c =
+    IsWideOpen side c × (redone region c i ≡ p) × HasPayload region side i c
+PhaseRow region side p Applying i c =
+    IsWideOpen side c × (redone region c i ≡ p) × HasPayload region side i c
 PhaseRow region side p Applied i c =
     IsWideOpen side c × (redone region c i ≡ p) × HasPayload region side i c × HoldsHome region c p
-PhaseRow region side p Closing i c = (redone region c i ≡ p) × HasPayload region side i c × HoldsHome region c p
+PhaseRow region side p Closing i c =
+    (redone region c i ≡ p) × HasPayload region side i c × HoldsHome region c p
 
 abbrev pub Row : Region → SlotRegion → Part → Option Slot → Content → Type 0
 Row region side p None c = IsShut side c × HoldsHome region c p
 Row region side p (Some s) c = PhaseRow region side p s.phase s.intent.group c
 
--- What reads give besides, as long as no call has failed. In Open the entries that remain lead to the
--- partition's blocks.
+-- What reads give besides, as long as no call has failed. In Open the entries that remain lead to
+-- the partition's blocks.
 abbrev pub PhaseSeen : Region → SlotRegion → Part → Phase → Group → Content → Type 0
 PhaseSeen region side p Given i c = Unit {0}
 PhaseSeen region side p Written i c = HasPayload region side i c
@@ -74,14 +78,15 @@ BeforeOrAfter p (Some i) q = (q ≡ p) ⊎ (q ≡ after p i)
 abbrev pub MayStand : Part → Guest → Part → Type 0
 MayStand p x q = BeforeOrAfter p (opening_of x) q
 
--- What every stop leaves of the slot behind the first: its gate and its payload. Of the home record and the
--- blocks the row of the first one speaks.
+-- What every stop leaves of the slot behind the first: its gate and its payload. Of the home record
+-- and the blocks the row of the first one speaks.
 abbrev pub BehindRow : Region → SlotRegion → Phase → Group → Content → Type 0
 BehindRow region side Given i c = IsShut side c × GroupFits region.size i
 BehindRow region side Written i c = IsShut side c × GroupFits region.size i
 BehindRow region side Ready i c = IsShut side c × HasPayload region side i c
 BehindRow region side Opening i c = HasPayload region side i c
-BehindRow region side (Open k) i c = IsWideOpen side c × HasPayload region side i c × (k ≡ skipped i.entries)
+BehindRow region side (Open k) i c =
+    IsWideOpen side c × HasPayload region side i c × (k ≡ skipped i.entries)
 BehindRow region side Applying i c = ⊥
 BehindRow region side Applied i c = ⊥
 BehindRow region side Closing i c = ⊥
@@ -107,8 +112,8 @@ abbrev pub BehindSeen : Region → SlotRegion → Option Slot → Content → Ty
 BehindSeen region side None c = Unit {0}
 BehindSeen region side (Some s) c = BehindPhaseSeen region side s.phase s.intent.group c
 
--- The settled partition, from the one that the first slot leads to: where both intents are settled, as an
--- opening may find them, that with the second one.
+-- The settled partition, from the one that the first slot leads to: where both intents are settled,
+-- as an opening may find them, that with the second one.
 abbrev pub LeadsBy : Bool → Part → Group → Part → Type 0
 LeadsBy true between i p = after between i ≡ p
 LeadsBy false between i p = between ≡ p
@@ -131,8 +136,8 @@ Chained None j = Unit {0}
 Chained (Some i) None = Unit {0}
 Chained (Some i) (Some j) = (j.group.first ≡ last_of i.group + 1) × (j.group.key ≡ i.group.key)
 
--- How far the slot behind may be: its gate opens only while the first one's is being shut, and is known to be
--- open only behind one that is settled.
+-- How far the slot behind may be: its gate opens only while the first one's is being shut, and is
+-- known to be open only behind one that is settled.
 abbrev pub PhaseBesides : Phase → Phase → Type 0
 PhaseBesides first Given = Unit {0}
 PhaseBesides first Written = Unit {0}
@@ -164,7 +169,8 @@ pub record IsOrdered (x : Guest) : Type 0 where
 pub record IsMarked (p : Part) (x : Guest) : Type 0 where
   pub mark : x.mark ≡ sequence_of_part p
   pub follows : Follows x.mark (pending_of x.slot)
-  pub next_follows : Follows (x.mark + length (entries_in (pending_of x.slot))) (pending_of x.behind)
+  pub next_follows : Follows (x.mark + length (entries_in (pending_of x.slot)))
+      (pending_of x.behind)
   pub ordered : IsOrdered x
 
 -- Each guest's settled partition is held by every stop. X is what the store holds for one guest.
@@ -174,11 +180,13 @@ pub record IsHeldBy {X : Type 0} (region : X → Region) (row seen : Part → X 
   pub fits : (g : ℕ) (x : X) → slice_get guests g ≡ Some x → end_of (region x) ≤ s.len
   pub apart : (g h : ℕ) (x y : X) → g ≢ h → slice_get guests g ≡ Some x
       → slice_get guests h ≡ Some y → AreApart (region x) (region y)
-  pub rows : (g : ℕ) (x : X) → slice_get guests g ≡ Some x → (c : Content) → MayLeave s c → row (parts g) x c
-  pub seen_rows : broken ≡ false → (g : ℕ) (x : X) → slice_get guests g ≡ Some x → seen (parts g) x s.seen
+  pub rows : (g : ℕ) (x : X) → slice_get guests g ≡ Some x → (c : Content) → MayLeave s c
+      → row (parts g) x c
+  pub seen_rows : broken ≡ false → (g : ℕ) (x : X) → slice_get guests g ≡ Some x
+      → seen (parts g) x s.seen
 
--- What every stop leaves of a guest's partition, where p is the settled one: what the first slot's row says
--- of the partition that it leads to, and the gate and payload of the one behind.
+-- What every stop leaves of a guest's partition, where p is the settled one: what the first slot's
+-- row says of the partition that it leads to, and the gate and payload of the one behind.
 pub record PairRow (p : Part) (x : Guest) (c : Content) : Type 0 where
   pub between : Part
   pub leads : LeadsTo between x.behind p
@@ -208,8 +216,8 @@ guest_seen p x c = PairSeen p x c
 abbrev pub IsHeld : (ℕ → Part) → List Guest → Bool → DiskState → Type 0
 IsHeld = IsHeldBy region_of guest_row guest_seen
 
--- A content stands for the guest's settled partition, or in Opening for that with its intent, and never
--- for one below the mark.
+-- A content stands for the guest's settled partition, or in Opening for that with its intent, and
+-- never for one below the mark.
 pub record IsKept (p : Part) (x : Guest) (c : Content) : Type 0 where
   pub part : Part
   pub stands : Stands (region_of x) c part

@@ -1,6 +1,7 @@
 -- The store of all guests (own).
 use Rattle.std.specs.Prelude.{◌≡◌, ◌≢◌, ℕ, ◌+◌, ◌^◌, ◌≤◌, Bool, true, false, List, length}
-use Rattle.std.specs.Prelude.{slice_get, slice_set, Option, Some, None, Result, Ok, Err, is_err, ◌↔◌}
+use Rattle.std.specs.Prelude.{slice_get, slice_set, Option, Some, None, Result, Ok, Err, is_err}
+use Rattle.std.specs.Prelude.{◌↔◌}
 use Rattle.disk.specs.Disk.{DiskState, DiskCall, Read, Sync, HasRisen}
 use Rattle.intent_slots.specs.Layout.{end_of}
 use Rattle.intent_slots.specs.Payload.{Intent, GroupFits}
@@ -37,8 +38,8 @@ abbrev pub IsOf : ℕ → Option Intent → Type 0
 IsOf g None = Unit {0}
 IsOf g (Some i) = i.guest ≡ g
 
--- Guest g: its partition lies behind the header on a disk of so many bytes, its mark is a sequence of a
--- 32-bit counter, and its second slot is as far as the first one lets it be.
+-- Guest g: its partition lies behind the header on a disk of so many bytes, its mark is a sequence
+-- of a 32-bit counter, and its second slot is as far as the first one lets it be.
 pub record GuestFits (len g : ℕ) (x : Guest) : Type 0 where
   pub behind : 1024 ≤ (region_of x).base
   pub room : end_of (region_of x) ≤ len
@@ -57,7 +58,8 @@ pub record AllFit (len : ℕ) (guests : List Guest) : Type 0 where
 -- Reads alone led from one value of the disk to the other.
 pub data OnlyReads {D : Type 0} (makes : D → DiskCall → D → Type 0) : D → D → Type 0 where
   NoRead : (d : D) → OnlyReads makes d d
-  OneRead : (a b c : D) (ok : Bool) → OnlyReads makes a b → makes b (Read ok) c → OnlyReads makes a c
+  OneRead : (a b c : D) (ok : Bool) → OnlyReads makes a b → makes b (Read ok) c
+      → OnlyReads makes a c
 
 -- A sync has succeeded, and since then the disk was only read.
 pub record IsSynced {D : Type 0} (makes : D → DiskCall → D → Type 0) (disk : D) : Type 0 where
@@ -132,10 +134,12 @@ pub record MayGive (guests : List Guest) (i : Intent) : Type 0 where
   pub fits : Fits guests i
   pub next : i.group.first + 1 ≡ next_sequence guests i.guest
 
--- What giving an intent makes of the guests: it is in a slot of its guest, and nothing else has changed.
+-- What giving an intent makes of the guests: it is in a slot of its guest, and nothing else has
+-- changed.
 pub record Gives (i : Intent) (old new : List Guest) : Type 0 where
   pub count : length new ≡ length old
-  pub its_own : (x : Guest) → slice_get old i.guest ≡ Some x → slice_get new i.guest ≡ Some (with_intent x i)
+  pub its_own : (x : Guest) → slice_get old i.guest ≡ Some x
+      → slice_get new i.guest ≡ Some (with_intent x i)
   pub others : (g : ℕ) → g ≢ i.guest → slice_get new g ≡ slice_get old g
   pub marks : marks_of new ≡ marks_of old
 

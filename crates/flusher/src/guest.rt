@@ -1,5 +1,6 @@
 ghost use Rattle.std.specs.Prelude.{◌≡◌, ◌≤◌, ◌↔◌, ◌+◌, IsTrue, length};
-ghost use Rattle.flusher.specs.Slot.{intent_of, pending_of, opening_in, slot_writes, slot_awaits, after_write};
+ghost use Rattle.flusher.specs.Slot.{intent_of, pending_of, opening_in, slot_writes, slot_awaits};
+ghost use Rattle.flusher.specs.Slot.{after_write};
 ghost use Rattle.flusher.specs.Pair.{has_room, entries_in, mark_after, is_let, behind_writes};
 ghost use Rattle.flusher.specs.Pair.{turn_of, has_turn, marked, moved_up, guest_has_write};
 ghost use Rattle.flusher.specs.Pair.{guest_awaits, guest_after_write, guest_after_sync};
@@ -107,7 +108,8 @@ fn move_written(slot: &mut Option<Slot>)
 }
 
 impl Guest {
-    /// A guest behind shut gates, whose partition has this sequence, in an image of version 2 or not.
+    /// A guest behind shut gates, whose partition has this sequence, in an image of version 2 or
+    /// not.
     pub fn settled(paired: bool, extent: Extent, sequence: u64) -> Guest
         ensures { result ≡ resting paired extent sequence }
     {
@@ -121,8 +123,8 @@ impl Guest {
         }
     }
 
-    /// A guest behind whose one open gate this intent stands: it is settled, and all its blocks and the
-    /// home record are to be written.
+    /// A guest behind whose one open gate this intent stands: it is settled, and all its blocks and
+    /// the home record are to be written.
     pub fn open(paired: bool, extent: Extent, side: Side, intent: Intent) -> Guest
         ensures { result ≡ redoing paired extent side intent }
     {
@@ -273,8 +275,8 @@ impl Guest {
         }
     }
 
-    /// Moves the slots and the mark as a sync does: once the first slot is empty, the one behind it is the
-    /// first.
+    /// Moves the slots and the mark as a sync does: once the first slot is empty, the one behind it
+    /// is the first.
     pub(crate) fn move_synced(&mut self)
         ensures { self.new ≡ guest_after_sync self.old }
     {

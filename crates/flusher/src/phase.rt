@@ -49,7 +49,8 @@ impl Phase {
         matches!(self, Phase::Closing)
     }
 
-    /// Whether the write of this phase may be made while another slot, of lower sequence, is in that one.
+    /// Whether the write of this phase may be made while another slot, of lower sequence, is in
+    /// that one.
     pub(crate) fn is_let_beside(self, first: Phase) -> bool
         ensures { result ≡ is_let_beside first self }
     {

@@ -1,5 +1,6 @@
 //! The calls that a store makes to its disk.
-ghost use Rattle.std.specs.Prelude.{◌≡◌, ◌+◌, ◌≤◌, length, is_ok, position, IsTrue, slice_get, Some, MatchOption};
+ghost use Rattle.std.specs.Prelude.{◌≡◌, ◌+◌, ◌≤◌, length, is_ok, position, IsTrue, slice_get};
+ghost use Rattle.std.specs.Prelude.{Some, MatchOption};
 ghost use Rattle.disk.specs.Disk.{Write};
 ghost use Rattle.intent_slots.specs.Payload.{GroupFits};
 ghost use Rattle.intent_slots.specs.Layout.{end_of, slot_region};

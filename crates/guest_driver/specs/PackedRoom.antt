@@ -1,5 +1,7 @@
--- The places that the chains of a packed ring take, as its driver counts them: while a place is free, so is an id.
-use Rattle.std.specs.Prelude.{◌≡◌, ◌≢◌, ◌↔◌, ℕ, ◌+◌, ◌<◌, ◌≤◌, Bool, List, [], ◌∷◌, length, get_or, Option, Some, None}
+-- The places that the chains of a packed ring take, as its driver counts them: while a place is
+-- free, so is an id.
+use Rattle.std.specs.Prelude.{◌≡◌, ◌≢◌, ◌↔◌, ℕ, ◌+◌, ◌<◌, ◌≤◌, Bool, List, [], ◌∷◌, length, get_or}
+use Rattle.std.specs.Prelude.{Option, Some, None}
 use Rattle.std.specs.Prelude.{Result}
 use Rattle.rpmb_frame.specs.declared.config.RingKind.TheVariants.{Packed}
 use Rattle.guest_driver.specs.declared.flight.Flight.{Flight}
@@ -9,7 +11,8 @@ use Rattle.guest_driver.specs.declared.reaping.Reaped.{Reaped}
 use Rattle.guest_driver.specs.Kinds.{places_of}
 use Rattle.guest_driver.specs.PackedHeld.{free_places}
 use Rattle.guest_driver.specs.PackedUsed.{mark_of}
-use Rattle.guest_driver.specs.Driver.{DriverState, first_driver, no_flight, owner, offer_of, Offering, IsFull}
+use Rattle.guest_driver.specs.Driver.{DriverState, first_driver, no_flight, owner, offer_of}
+use Rattle.guest_driver.specs.Driver.{Offering, IsFull}
 use Rattle.guest_driver.specs.Reap.{Reaps}
 
 -- how many places the chains in flight take, one chain an id that isn't free
@@ -19,19 +22,22 @@ places_taken (own ∷ owners) [] = 0
 places_taken (None ∷ owners) (flight ∷ flights) = places_taken owners flights
 places_taken (Some head ∷ owners) (flight ∷ flights) = flight.places + places_taken owners flights
 
--- What the driver of a packed ring keeps: each id that isn't free is that of one chain, which takes a
--- place at least, and from the place used next to the one offered at next there are as many as the
--- chains in flight take.
+-- What the driver of a packed ring keeps: each id that isn't free is that of one chain, which takes
+-- a place at least, and from the place used next to the one offered at next there are as many as
+-- the chains in flight take.
 pub record IsCounted (driver : DriverState) : Type 0 where
   pub kind : driver.form.kind ≡ Packed
   pub owned : length driver.owners ≡ driver.size
   pub flown : length driver.flights ≡ driver.size
-  pub alone : (id : ℕ) → owner driver.owners id ≢ None → (get_or driver.flights id no_flight).last ≡ id
-  pub each : (id : ℕ) → owner driver.owners id ≢ None → 0 < (get_or driver.flights id no_flight).places
+  pub alone : (id : ℕ) → owner driver.owners id ≢ None
+      → (get_or driver.flights id no_flight).last ≡ id
+  pub each : (id : ℕ) → owner driver.owners id ≢ None
+      → 0 < (get_or driver.flights id no_flight).places
   -- how many places were used and taken back
   pub reaped : ℕ
   pub used : driver.used ≡ mark_of driver.size reaped
-  pub offered : driver.offered ≡ mark_of driver.size (reaped + places_taken driver.owners driver.flights)
+  pub offered : driver.offered
+      ≡ mark_of driver.size (reaped + places_taken driver.owners driver.flights)
   pub room : places_taken driver.owners driver.flights ≤ driver.size
 
 -- so a driver begins, and each call keeps it
@@ -55,4 +61,5 @@ abbrev pub APackedRingIsFullByItsPlaces : Type 0
 APackedRingIsFullByItsPlaces = (driver : DriverState) (readable : List ℕ) (writable : ℕ)
     → 0 < length readable + writable → IsCounted driver
     → IsFull driver readable writable
-    ↔ (free_places driver.size driver.offered driver.used < places_of driver.form (offer_of readable writable 0 0))
+    ↔ (free_places driver.size driver.offered driver.used
+    < places_of driver.form (offer_of readable writable 0 0))

@@ -1,12 +1,13 @@
--- What a driver keeps. With VIRTIO_F_IN_ORDER the descriptors of a split ring that aren't free are one stretch of its
--- table, round and round, since chains come back in the order in which they were offered (2.7.9). Section numbers are
--- those of VIRTIO 1.2.
+-- What a driver keeps. With VIRTIO_F_IN_ORDER the descriptors of a split ring that aren't free are
+-- one stretch of its table, round and round, since chains come back in the order in which they were
+-- offered (2.7.9). Section numbers are those of VIRTIO 1.2.
 use Rattle.std.specs.Prelude.{◌≡◌, ◌≢◌, ◌⊎◌, ℕ, ◌+◌, ◌-◌, ◌%◌, ◌<◌, ◌≤◌, Bool, true, List, length}
 use Rattle.std.specs.Prelude.{get_or, Option, Some, None}
 use Rattle.guest_driver.specs.declared.flight.Flight.{Flight}
 use Rattle.guest_driver.specs.Driver.{no_flight, owner, following}
 
--- The turn of a chain that was offered at a place of this mark: how many chains in flight were offered before it.
+-- The turn of a chain that was offered at a place of this mark: how many chains in flight were
+-- offered before it.
 unfoldable pub turn : ℕ → ℕ → ℕ
 turn used mark = (mark + 65536 - used) % 65536
 
@@ -36,21 +37,25 @@ behind size flights d = following size (get_or flights d no_flight).last
 abbrev pub turn_of : ℕ → List Flight → ℕ → ℕ
 turn_of used flights d = turn used (get_or flights d no_flight).place
 
--- A chain in flight has one descriptor or the two from its head on, and the chain whose turn is next begins behind it.
+-- A chain in flight has one descriptor or the two from its head on, and the chain whose turn is
+-- next begins behind it.
 pub record IsInTurn (size offered used next : ℕ) (owners : List (Option ℕ)) (flights : List Flight)
     (d : ℕ) : Type 0 where
   pub one : (get_or flights d no_flight).places ≡ 1
   pub low : (get_or flights d no_flight).place < 65536
   pub before : turn_of used flights d < turn used offered
-  pub spans : ((get_or flights d no_flight).last ≡ d) ⊎ ((get_or flights d no_flight).last ≡ following size d)
+  pub spans : ((get_or flights d no_flight).last ≡ d)
+      ⊎ ((get_or flights d no_flight).last ≡ following size d)
   pub owned : owner owners (get_or flights d no_flight).last ≡ Some d
   pub older : turn_of used flights d + 1 < turn used offered
       → IsHead owners (behind size flights d)
       × (turn_of used flights (behind size flights d) ≡ turn_of used flights d + 1)
   pub newest : turn_of used flights d + 1 ≡ turn used offered → behind size flights d ≡ next
 
--- The descriptors that aren't free are so many from the first one on, up to the one at which the next chain begins.
-pub record IsStretch (size offered used next : ℕ) (owners : List (Option ℕ)) (flights : List Flight) : Type 0 where
+-- The descriptors that aren't free are so many from the first one on, up to the one at which the
+-- next chain begins.
+pub record IsStretch (size offered used next : ℕ) (owners : List (Option ℕ))
+    (flights : List Flight) : Type 0 where
   pub first : ℕ
   pub many : ℕ
   pub first_low : first < size

@@ -4,7 +4,8 @@ ghost use Rattle.guest_driver.specs.Driver.{no_flight};
 /// A chain in flight, which is known by its head.
 #[derive(Clone, Copy)]
 pub struct Flight {
-    /// Its last descriptor in the ring, which is the head where it has one there; in a packed ring its id.
+    /// Its last descriptor in the ring, which is the head where it has one there; in a packed ring
+    /// its id.
     pub last: u16,
     /// How many places of the ring it takes.
     pub places: u16,

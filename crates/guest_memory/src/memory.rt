@@ -1,4 +1,5 @@
-ghost use Rattle.std.specs.Prelude.{◌≡◌, ◌≤◌, ◌+◌, ◌↔◌, IsTrue, IsOk, IfOk, OnOk, OnErr, IsErrOf, length, replicate};
+ghost use Rattle.std.specs.Prelude.{◌≡◌, ◌≤◌, ◌+◌, ◌↔◌, IsTrue, IsOk, IfOk, OnOk, OnErr, IsErrOf};
+ghost use Rattle.std.specs.Prelude.{length, replicate};
 ghost use Rattle.guest_memory.specs.Memory.{bytes_at, with_bytes, IsInside, Wrote};
 
 use crate::fault::MemFault;
@@ -88,7 +89,8 @@ impl Memory {
         self.bytes[start..start + bytes.len()].copy_from_slice(bytes);
     }
 
-    /// Puts `bytes` in place of those from the address `at` on, where that range lies in the memory.
+    /// Puts `bytes` in place of those from the address `at` on, where that range lies in the
+    /// memory.
     ///
     /// Answers `OutOfRange`, and leaves the memory as it was, where it does not.
     pub fn write(&mut self, at: u64, bytes: &[u8]) -> Result<(), MemFault>

@@ -22,7 +22,8 @@ xored bytes pad = map (λ byte. bit_xor byte pad) bytes
 
 -- H((K0 xor opad) ++ H((K0 xor ipad) ++ text))
 unfoldable pub hmac_of : List ℕ → List ℕ → List ℕ
-hmac_of key text = sha256 (xored (padded_key key) opad ++ sha256 (xored (padded_key key) ipad ++ text))
+hmac_of key text =
+    sha256 (xored (padded_key key) opad ++ sha256 (xored (padded_key key) ipad ++ text))
 
 -- the MAC of frames: the HMAC of their bodies, one after another
 unfoldable pub mac : List ℕ → List (List ℕ) → List ℕ

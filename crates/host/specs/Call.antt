@@ -12,9 +12,11 @@ use Rattle.host.specs.declared.front.Answer.{Answer}
 pub record ChainCall {D : Type 0} (h : HostState D) (guest : ℕ) (readable : List ℕ)
     (writable : ℕ) (told : Result Answer HostFault) (h' : HostState D) : Type 0 where
   -- where all guests are ready
-  pub answer : HostAnswers (is_broken h.board) (is_broken h'.board) (seen h) guest readable writable told (seen h')
+  pub answer : HostAnswers (is_broken h.board) (is_broken h'.board)
+      (seen h) guest readable writable told (seen h')
   -- where this one is, or is stuck
-  pub own : HostChains (is_broken h.board) (is_broken h'.board) (seen h) guest readable writable told (seen h')
+  pub own : HostChains (is_broken h.board) (is_broken h'.board)
+      (seen h) guest readable writable told (seen h')
   -- whatever its rings hold
   pub reason : HostExplains (seen h) guest readable writable told (seen h')
   -- and what it leaves of the others; a board that broke stays so

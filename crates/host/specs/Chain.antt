@@ -31,14 +31,16 @@ told_by (Err driver.OutOfRange) = Err host.OutOfRange
 told_by (Err driver.NoRoom) = Err host.NoRoom
 
 -- it reaped once from this memory
-pub record ReapsOnce (memory : List ℕ) (d : DriverState) (told : Result Answer HostFault) (d' : DriverState)
+pub record ReapsOnce (memory : List ℕ) (d : DriverState) (told : Result Answer HostFault)
+    (d' : DriverState)
     : Type 0 where
   pub reaped : Result (Option Reaped) DriverFault
   pub reaps : Reaps memory d reaped d'
   pub tells : told ≡ told_by reaped
 
 -- by what the looks came to; it reaps where a job was answered
-abbrev pub EndsChain : Result Look HostFault → List ℕ → DriverState → Result Answer HostFault → DriverState → Type 0
+abbrev pub EndsChain : Result Look HostFault → List ℕ → DriverState → Result Answer HostFault
+    → DriverState → Type 0
 EndsChain (Ok Nothing) memory d told d' = (told ≡ Ok (answer.Stuck stuck.NoAnswer)) × (d' ≡ d)
 EndsChain (Ok Stopped) memory d told d' = (told ≡ Ok (answer.Stuck stuck.NeedsReset)) × (d' ≡ d)
 EndsChain (Ok Answered) memory d told d' = ReapsOnce memory d told d'
@@ -47,18 +49,22 @@ EndsChain (Err fault) memory d told d' = (told ≡ Err fault) × (d' ≡ d)
 -- 2. The chain
 
 -- looks, and a reap after them
-pub record LooksAndReaps (guest times : ℕ) (d : DriverState) (s : Share) (told : Result Answer HostFault)
+pub record LooksAndReaps (guest times : ℕ) (d : DriverState) (s : Share)
+    (told : Result Answer HostFault)
     (d' : DriverState) (s' : Share) : Type 0 where
   pub answer : Result Look HostFault
   pub looks : LooksOn guest times s answer s'
   pub ends : EndsChain answer s'.device.memory d told d'
 
 -- by what the offer came to; the guest is served where its chain was taken
-abbrev pub FollowsOffer : ℕ → ℕ → Result ℕ DriverFault → DriverState → Share → Result Answer HostFault
+abbrev pub FollowsOffer : ℕ → ℕ → Result ℕ DriverFault → DriverState → Share
+    → Result Answer HostFault
     → DriverState → Share → Type 0
 FollowsOffer guest times (Ok head) d s told d' s' = LooksAndReaps guest times d s told d' s'
-FollowsOffer guest times (Err driver.NoRoom) d s told d' s' = (told ≡ Err host.NoRoom) × (d' ≡ d) × (s' ≡ s)
-FollowsOffer guest times (Err driver.OutOfRange) d s told d' s' = (told ≡ Err host.OutOfRange) × (d' ≡ d) × (s' ≡ s)
+FollowsOffer guest times (Err driver.NoRoom) d s told d' s' =
+    (told ≡ Err host.NoRoom) × (d' ≡ d) × (s' ≡ s)
+FollowsOffer guest times (Err driver.OutOfRange) d s told d' s' =
+    (told ≡ Err host.OutOfRange) × (d' ≡ d) × (s' ≡ s)
 FollowsOffer guest times (Err driver.NoMemory) d s told d' s' = ⊥
 FollowsOffer guest times (Err driver.BadUsed) d s told d' s' = ⊥
 
@@ -70,12 +76,14 @@ pub record ChainDoes (guest : ℕ) (front : Front) (s : Share) (readable : List 
   pub lent : DeviceState
   pub offering : Offering s.device.memory front.driver readable writable offered lent.memory driver
   pub rest : ButForMemory s.device lent
-  pub serves : FollowsOffer guest (max 1 front.places) offered driver (record s { device = lent }) told d' s'
+  pub serves : FollowsOffer guest (max 1 front.places) offered driver
+      (record s { device = lent }) told d' s'
 
 -- 3. The front
 
 -- a guest that is stuck is told why, and nothing changes
-pub record IsStill (why : Stuck) (f : Front) (s : Share) (told : Result Answer HostFault) (f' : Front) (s' : Share)
+pub record IsStill (why : Stuck) (f : Front) (s : Share) (told : Result Answer HostFault)
+    (f' : Front) (s' : Share)
     : Type 0 where
   pub tells : told ≡ Ok (answer.Stuck why)
   pub front : f' ≡ f
@@ -88,10 +96,14 @@ pub record IsChained (guest : ℕ) (f : Front) (s : Share) (readable : List ℕ)
   pub does : ChainDoes guest f s readable writable told driver s'
   pub front : f' ≡ record f { driver = driver; stuck = stuck_by told }
 
-abbrev pub ChainsFrom : Option Stuck → ℕ → Front → Share → List ℕ → ℕ → Result Answer HostFault → Front
+abbrev pub ChainsFrom : Option Stuck → ℕ → Front → Share → List ℕ → ℕ → Result Answer HostFault
+    → Front
     → Share → Type 0
-ChainsFrom None guest f s readable writable told f' s' = IsChained guest f s readable writable told f' s'
+ChainsFrom None guest f s readable writable told f' s' =
+    IsChained guest f s readable writable told f' s'
 ChainsFrom (Some why) guest f s readable writable told f' s' = IsStill why f s told f' s'
 
-abbrev pub Chains : ℕ → Front → Share → List ℕ → ℕ → Result Answer HostFault → Front → Share → Type 0
-Chains guest f s readable writable told f' s' = ChainsFrom f.stuck guest f s readable writable told f' s'
+abbrev pub Chains : ℕ → Front → Share → List ℕ → ℕ → Result Answer HostFault → Front → Share
+    → Type 0
+Chains guest f s readable writable told f' s' =
+    ChainsFrom f.stuck guest f s readable writable told f' s'

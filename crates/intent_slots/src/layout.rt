@@ -15,8 +15,8 @@ pub const OPEN_GATE: u8 = 0xA5;
 /// The byte that shuts a gate.
 pub const SHUT_GATE: u8 = 0x00;
 
-/// The offset of the version byte in an image: 2 there means that both slots of each partition are in
-/// use, any other byte slot A alone.
+/// The offset of the version byte in an image: 2 there means that both slots of each partition are
+/// in use, any other byte slot A alone.
 pub const VERSION_OFFSET: u64 = 512;
 
 /// The length of the header in bytes: what stands before partition 0.
@@ -167,8 +167,8 @@ pub fn partitions_lie_inside()
     ensures { AllInside }
 {}
 
-/// The parts of a partition have no offset in common, and lie in it; a slot's gate and payload stand
-/// between the home record and the blocks.
+/// The parts of a partition have no offset in common, and lie in it; a slot's gate and payload
+/// stand between the home record and the blocks.
 pub fn parts_never_overlap()
     ensures apart { PartsNeverOverlap }
     ensures inside { PartsInside }

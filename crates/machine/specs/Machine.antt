@@ -71,20 +71,24 @@ pub record IsServed (guest : ℕ) (old new : MachineState) : Type 0 where
 
 -- So many ranges stand at the front of those, and each byte of the guest's window stays whose
 -- address lies in none of them.
-pub record TellsRanges (guest count : ℕ) (ranges : List Range) (old new : MachineState) : Type 0 where
+pub record TellsRanges (guest count : ℕ) (ranges : List Range)
+    (old new : MachineState) : Type 0 where
   pub fit : count ≤ length ranges
   pub keeps : KeepsUntold (slice_get old.windows guest) (take count ranges)
       (memory_in old.board guest) (memory_in new.board guest)
 
--- why a serve tells a fault: there is no such guest, or no room for a range, or a reason of the board
+-- why a serve tells a fault: there is no such guest, or no room for a range, or a reason of the
+-- board
 pub data HasFault (guest room : ℕ) (f : MachineFault) (old new : MachineState) : Type 0 where
   NoSuchGuest : f ≡ NoGuest → new ≡ old → HasFault guest room f old new
   NoRoom : f ≡ OutOfRange → room ≡ 0 → new ≡ old → HasFault guest room f old new
-  OfBoard : HasReason outbox_state OutboxMakes guest f old.board new.board → HasFault guest room f old new
+  OfBoard : HasReason outbox_state OutboxMakes guest f old.board new.board
+      → HasFault guest room f old new
 
 -- A guest that there isn't is refused, and there and without room for a range nothing changes. Each
 -- fault has its reason.
-pub record TellsFault (guest room : ℕ) (told : Option MachineFault) (old new : MachineState) : Type 0 where
+pub record TellsFault (guest room : ℕ) (told : Option MachineFault)
+    (old new : MachineState) : Type 0 where
   pub no_guest : slice_get old.windows guest ≡ None → (told ≡ Some NoGuest) × (new ≡ old)
   pub no_room : room ≡ 0 → new ≡ old
   pub reason : (f : MachineFault) → told ≡ Some f → HasFault guest room f old new

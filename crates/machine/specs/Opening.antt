@@ -30,7 +30,8 @@ length_of windows = image_length (capacities_of (configs_of windows))
 -- the bytes of a fresh image of it: the header, the version byte, and zeros
 pub record IsFresh (windows : List Window) (image : List ℕ) : Type 0 where
   pub long : length image ≡ length_of windows
-  pub bytes : Holds (formatted 1 (capacities_of (configs_of windows))) (length_of windows) (content_of image)
+  pub bytes : Holds (formatted 1 (capacities_of (configs_of windows))) (length_of windows)
+      (content_of image)
 
 -- A machine that was opened over these bytes: its devices are fresh, the book has answered nothing,
 -- and nothing lies between two steps. The first call of the disk was a sync, the others were reads.

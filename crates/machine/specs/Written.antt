@@ -84,7 +84,8 @@ abbrev pub memory_in : {D : Type 0} → BoardState D → ℕ → List ℕ
 memory_in b guest = memory_of (slice_get b.devices guest)
 
 -- Ranges are noted, and the guest's window stays outside of all that are.
-pub record Writes {D : Type 0} (guest room : ℕ) (rs rs' : List Range) (old new : BoardState D) : Type 0 where
+pub record Writes {D : Type 0} (guest room : ℕ) (rs rs' : List Range)
+    (old new : BoardState D) : Type 0 where
   pub notes : Notes room rs rs'
   pub within : StaysOutside rs' (memory_in old guest) (memory_in new guest)
 

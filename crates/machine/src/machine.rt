@@ -1,5 +1,6 @@
 //! A board for a monitor.
-ghost use Rattle.std.specs.Prelude.{◌≡◌, ◌↔◌, ◌≤◌, ◌-◌, true, false, Some, None, Err, IsOk, IfSome, OnOk, OnErr};
+ghost use Rattle.std.specs.Prelude.{◌≡◌, ◌↔◌, ◌≤◌, ◌-◌, true, false, Some, None, Err, IsOk, IfSome};
+ghost use Rattle.std.specs.Prelude.{OnOk, OnErr};
 ghost use Rattle.std.specs.Prelude.{length, slice_get};
 ghost use Rattle.guest_memory.specs.Memory.{IsInside, bytes_at};
 ghost use Rattle.mmio_transport.specs.Device.{after_write, kick_of};
@@ -7,7 +8,8 @@ ghost use Rattle.mmio_transport.specs.Registers.{interrupt_number};
 ghost use Rattle.rpmb_book.specs.Book.{state};
 ghost use Rattle.board.specs.Telling.{telling};
 ghost use Rattle.disk.specs.Outbox.{first_of};
-ghost use Rattle.machine.specs.Machine.{Completes, Copies, IsInWindow, IsServed, TellsFault, TellsRanges};
+ghost use Rattle.machine.specs.Machine.{Completes, Copies, IsInWindow, IsServed, TellsFault};
+ghost use Rattle.machine.specs.Machine.{TellsRanges};
 ghost use Rattle.machine.specs.Machine.{WhereGuest, is_awaited, shown_in, stored, waits_for_sync};
 ghost use Rattle.machine.specs.Machine.{with_device, writes_in};
 ghost use Rattle.board.specs.State.{HasNoJob};
@@ -262,7 +264,8 @@ impl Machine {
 fn load_from(device: &Device, base: u64, at: u64, out: &mut [u8]) -> Result<(), MachineFault>
     ensures succeeds { IsOk result
         ↔ ((base ≤ at) × IsInside device.now.memory (at - base) (length out.old)) }
-    ensures bytes { OnOk result (out.new ≡ bytes_at device.now.memory (at - base) (length out.old)) }
+    ensures bytes { OnOk result
+        (out.new ≡ bytes_at device.now.memory (at - base) (length out.old)) }
     ensures unchanged { OnErr result (out.new ≡ out.old) }
 {
     if at < base {

@@ -1,5 +1,6 @@
 //! Which bytes of a guest's window a call wrote.
-ghost use Rattle.std.specs.Prelude.{◌≡◌, ◌≤◌, ◌<◌, ◌++◌, ◌∷◌, [], true, false, min, max, length, map, take};
+ghost use Rattle.std.specs.Prelude.{◌≡◌, ◌≤◌, ◌<◌, ◌++◌, ◌∷◌, [], true, false, min, max, length};
+ghost use Rattle.std.specs.Prelude.{map, take};
 ghost use Rattle.machine.specs.Written.{Grow, IsCovered, IsReplyNoted, Notes, end_of, lies_in_one};
 ghost use Rattle.machine.specs.Written.{range_of, told_at};
 

@@ -46,13 +46,16 @@ pub record Hears {D : Type 0} (shows : D → DiskState) (makes : D → DiskCall 
     (went : Bool) (old new : BoardState D) : Type 0 where
   pub progress : Result Progress StoreFault
   pub store : StoreState D
-  pub round : Round makes (planned old.store.guests) old.store.disk old.store.guests progress store.disk
+  pub round : Round makes
+      (planned old.store.guests) old.store.disk old.store.guests progress store.disk
       store.guests store.broken
   pub moves : Moves progress old.store.guests store.guests
   pub told : went ≡ called progress
   -- the board before the book heard
-  pub between : IsSound shows old → IsSound shows (record old { store = store; report = report_of progress })
-  pub is : new ≡ record old { store = store; report = None; book = book_heard old.book old.shares progress }
+  pub between : IsSound shows old
+      → IsSound shows (record old { store = store; report = report_of progress })
+  pub is : new
+      ≡ record old { store = store; report = None; book = book_heard old.book old.shares progress }
 
 -- a store that broke makes no call
 abbrev pub GoesBy : {D : Type 0} → (D → DiskState) → (D → DiskCall → D → Type 0) → Bool → Bool

@@ -12,8 +12,8 @@ fault_of refused.Busy = host.Busy
 fault_of refused.HistoryFull = host.HistoryFull
 fault_of refused.NoMemory = host.NoMemory
 
--- what a host says of a job that wasn't answered: why the book refuses it whatever memory there is, else
--- want of memory
+-- what a host says of a job that wasn't answered: why the book refuses it whatever memory there is,
+-- else want of memory
 abbrev pub told_of : Option Refused → HostFault
 told_of None = host.NoMemory
 told_of (Some refused) = fault_of refused

@@ -15,8 +15,8 @@ use Rattle.queue_looks.specs.Advancing.{IsListened}
 use Rattle.queue_looks.specs.Calm.{is_broken}
 use Rattle.queue_looks.specs.Runner.{runner_of}
 
--- What the answers to all guests depend on stays, unless the store broke. But for the store, its report and the book,
--- which hears of it, nothing moves.
+-- What the answers to all guests depend on stays, unless the store broke. But for the store, its
+-- report and the book, which hears of it, nothing moves.
 pub record Rests {D : Type 0} (b b' : BoardState D) : Type 0 where
   pub listened : IsListened b'
   pub others : b' ≡ record b { store = b'.store; report = b'.report; book = b'.book }
@@ -28,10 +28,12 @@ pub record Finished {D : Type 0} (b b' : BoardState D) : Type 0 where
   pub rests : Rests b b'
   pub idle : is_broken b' ≡ false → AllEmpty b'.store.guests
 
--- Whatever a stop leaves of the board's disk stands, for each guest, for its partition as the book has it.
+-- Whatever a stop leaves of the board's disk stands, for each guest, for its partition as the book
+-- has it.
 abbrev pub LeavesAll : {D : Type 0} → (D → DiskState) → BoardState D → Type 0
 LeavesAll shows b = (config : List GuestConfig) (bases : ℕ → Partition)
     (accepted : ℕ → List Request) → StaysLinked shows config bases accepted b
     → (shows b.store.disk).faithful ≡ true
-    → (g : ℕ) (x : GuestState) → slice_get (guests b) g ≡ Some x → (c : Content) → MayLeave (shows b.store.disk) c
+    → (g : ℕ) (x : GuestState) → slice_get (guests b) g ≡ Some x → (c : Content)
+    → MayLeave (shows b.store.disk) c
     → Stands (region_at (capacities_of config) g) c (part_of x.core.partition)

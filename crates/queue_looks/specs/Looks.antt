@@ -1,6 +1,8 @@
--- What looks at a guest's queue do, whatever its rings hold: a look is a pop, or takes the job that lay in the guest's
--- place; where that gives a job, it is answered, what it needs is settled, and its reply is published.
-use Rattle.std.specs.Prelude.{◌≡◌, ◌≢◌, ◌≤◌, ◌<◌, ◌⊎◌, ℕ, zero, suc, ◌==◌, if◌then◌else◌, Bool, false}
+-- What looks at a guest's queue do, whatever its rings hold: a look is a pop, or takes the job that
+-- lay in the guest's place; where that gives a job, it is answered, what it needs is settled, and
+-- its reply is published.
+use Rattle.std.specs.Prelude.{◌≡◌, ◌≢◌, ◌≤◌, ◌<◌, ◌⊎◌, ℕ, zero, suc, ◌==◌, if◌then◌else◌, Bool}
+use Rattle.std.specs.Prelude.{false}
 use Rattle.std.specs.Prelude.{Option, Some, None, Result, Ok, Err, length, slice_get, slice_set}
 use Rattle.disk.specs.Disk.{DiskCall, DiskState}
 use Rattle.chains.specs.declared.fault.ChainFault.{ChainFault}
@@ -36,7 +38,8 @@ pub record Share : Type 0 where
   pub broken : Bool
 
 abbrev pub share_of : {D : Type 0} → BoardState D → DeviceState → Option Job → Share
-share_of b device job = record { device = device; job = job; runner = runner_of b; broken = is_broken b }
+share_of b device job =
+    record { device = device; job = job; runner = runner_of b; broken = is_broken b }
 
 pub record ShowsShare {D : Type 0} (guest : ℕ) (b : BoardState D) (s : Share) : Type 0 where
   pub at : slice_get b.devices guest ≡ Some s.device
@@ -44,9 +47,10 @@ pub record ShowsShare {D : Type 0} (guest : ℕ) (b : BoardState D) (s : Share) 
   pub runner : s.runner ≡ runner_of b
   pub broken : s.broken ≡ is_broken b
 
--- What one guest's share in a board leaves: the board is calm, the other guests' devices and jobs stay, and a board
--- that broke stays so.
-pub record Touches {D : Type 0} (shows : D → DiskState) (guest : ℕ) (b b' : BoardState D) : Type 0 where
+-- What one guest's share in a board leaves: the board is calm, the other guests' devices and jobs
+-- stay, and a board that broke stays so.
+pub record Touches {D : Type 0} (shows : D → DiskState) (guest : ℕ)
+    (b b' : BoardState D) : Type 0 where
   pub calm : IsCalm shows b'
   pub devices : (k : ℕ) → k ≢ guest → slice_get b'.devices k ≡ slice_get b.devices k
   pub jobs : (k : ℕ) → k ≢ guest → slice_get b'.jobs k ≡ slice_get b.jobs k
@@ -54,8 +58,10 @@ pub record Touches {D : Type 0} (shows : D → DiskState) (guest : ℕ) (b b' : 
   pub wide : length b'.jobs ≡ length b.jobs
   pub whole : is_broken b' ≡ false → is_broken b ≡ false
 
--- P says what became of one guest's share; all else of the board stays, but what its steps did to the disk.
-pub record OnShare {D : Type 0} (shows : D → DiskState) (makes : D → DiskCall → D → Type 0) (guest : ℕ)
+-- P says what became of one guest's share; all else of the board stays, but what its steps did to
+-- the disk.
+pub record OnShare {D : Type 0} (shows : D → DiskState) (makes : D → DiskCall → D → Type 0)
+    (guest : ℕ)
     (P : Share → Share → Type 0) (b b' : BoardState D) : Type 0 where
   pub old : Share
   pub new : Share
@@ -95,14 +101,16 @@ pub record IsRefused (guest : ℕ) (fault : HostFault) (s s' : Share) : Type 0 w
   pub cause : job.guest ≡ guest → fault ≡ told_of (refusal_of s.runner job)
   pub rest : s' ≡ record s { device = s'.device; job = Some job }
 
--- nothing lay there, and the device alone is another: it gave nothing, it stopped, or memory was refused to it
+-- nothing lay there, and the device alone is another: it gave nothing, it stopped, or memory was
+-- refused to it
 pub record IsOnlyPopped (gives : DeviceState → DeviceState → Type 0) (s s' : Share) : Type 0 where
   pub empty : s.job ≡ None
   pub gave : gives s.device s'.device
   pub rest : s' ≡ record s { device = s'.device }
 
 abbrev pub Stops : DeviceState → DeviceState → Type 0
-Stops d d' = GivesJob d (Err device.NeedsReset) d' ⊎ ((why : ChainFault) × GivesJob d (Err (device.Refused why)) d')
+Stops d d' = GivesJob d (Err device.NeedsReset) d'
+    ⊎ ((why : ChainFault) × GivesJob d (Err (device.Refused why)) d')
 
 abbrev pub Looks : ℕ → Share → Result Look HostFault → Share → Type 0
 Looks guest s (Ok Nothing) s' = IsOnlyPopped (λ d d'. GivesJob d (Ok None) d') s s'
@@ -131,7 +139,8 @@ EndLooks guest times count s (Ok Stopped) s' = Looks guest s (Ok Stopped) s'
 EndLooks guest times count s (Err fault) s' = Looks guest s (Err fault) s'
 
 -- looks until one gives no job, so many at most
-pub record LooksOn (guest times : ℕ) (s : Share) (answer : Result Look HostFault) (s' : Share) : Type 0 where
+pub record LooksOn (guest times : ℕ) (s : Share) (answer : Result Look HostFault)
+    (s' : Share) : Type 0 where
   pub count : ℕ
   pub few : count ≤ times
   pub last : Share

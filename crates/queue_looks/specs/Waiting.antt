@@ -13,8 +13,8 @@ use Rattle.queue_looks.specs.Calm.{IsCalmGuest, is_broken}
 use Rattle.queue_looks.specs.Runner.{held_since, runner_of, runner_since}
 use Rattle.queue_looks.specs.Work.{work_of}
 
--- what stays of a board while a reply of it is on its way: the devices, the jobs, and all that the answers depend on,
--- but what a break makes of it
+-- what stays of a board while a reply of it is on its way: the devices, the jobs, and all that the
+-- answers depend on, but what a break makes of it
 pub record Stays {D : Type 0} (start b : BoardState D) : Type 0 where
   pub devices : b.devices ≡ start.devices
   pub jobs : b.jobs ≡ start.jobs
@@ -26,8 +26,8 @@ abbrev pub AreMarked : {D : Type 0} → BoardState D → Type 0
 AreMarked b = (k : ℕ) (x : GuestState) (y : Guest) → slice_get (guests b) k ≡ Some x
     → slice_get b.store.guests k ≡ Some y → x.settled ≡ mark_of y
 
--- guest g holds one reply, which needs all that was accepted: this one, or the failure in its place once the store
--- breaks; the others are calm
+-- guest g holds one reply, which needs all that was accepted: this one, or the failure in its place
+-- once the store breaks; the others are calm
 pub record Waits {D : Type 0} (shows : D → DiskState) (g : ℕ) (start : BoardState D) (reply : Held)
     (b : BoardState D) : Type 0 where
   pub sound : IsSound shows b
@@ -38,7 +38,8 @@ pub record Waits {D : Type 0} (shows : D → DiskState) (g : ℕ) (start : Board
   pub same : held ≡ held_since (is_broken start) (is_broken b) reply
   pub need : is_broken b ≡ false → held.done.need ≡ sequence guest.core.partition
   pub late : is_broken b ≡ true → held.done.need ≤ guest.settled
-  pub others : (k : ℕ) (x : GuestState) → k ≢ g → slice_get (guests b) k ≡ Some x → IsCalmGuest (is_broken b) x
+  pub others : (k : ℕ) (x : GuestState) → k ≢ g → slice_get (guests b) k ≡ Some x
+      → IsCalmGuest (is_broken b) x
   pub marked : is_broken b ≡ false → AreMarked b
   pub replies : (k : ℕ) (o : Option Done) → slice_get b.dones k ≡ Some o → o ≡ None
   pub dones : b.dones ≡ start.dones
@@ -52,7 +53,8 @@ pub record Leaves {D : Type 0} (shows : D → DiskState) (g : ℕ) (start : Boar
   pub sound : IsSound shows b
   pub done : Done
   pub given : done ≡ (held_since (is_broken start) (is_broken b) reply).done
-  pub quiet : (k : ℕ) (x : GuestState) → slice_get (guests b) k ≡ Some x → IsCalmGuest (is_broken b) x
+  pub quiet : (k : ℕ) (x : GuestState) → slice_get (guests b) k ≡ Some x
+      → IsCalmGuest (is_broken b) x
   pub dones : b.dones ≡ slice_set start.dones g (Some done)
   pub replies : (k : ℕ) (o : Option Done) → slice_get start.dones k ≡ Some o → o ≡ None
   pub report : b.report ≡ None
@@ -60,7 +62,8 @@ pub record Leaves {D : Type 0} (shows : D → DiskState) (g : ℕ) (start : Boar
   pub stays : Stays start b
 
 -- a guest waits for some reply
-pub record WaitsForSome {D : Type 0} (shows : D → DiskState) (g : ℕ) (b : BoardState D) : Type 0 where
+pub record WaitsForSome {D : Type 0} (shows : D → DiskState) (g : ℕ)
+    (b : BoardState D) : Type 0 where
   pub start : BoardState D
   pub reply : Held
   pub waits : Waits shows g start reply b
@@ -68,7 +71,8 @@ pub record WaitsForSome {D : Type 0} (shows : D → DiskState) (g : ℕ) (b : Bo
 -- the guest's reply needs more than is settled
 pub record IsLate {D : Type 0} (g : ℕ) (b : BoardState D) : Type 0 where
   pub whole : is_broken b ≡ false
-  pub late : (x : GuestState) → slice_get (guests b) g ≡ Some x → x.settled < sequence x.core.partition
+  pub late : (x : GuestState) → slice_get (guests b) g ≡ Some x
+      → x.settled < sequence x.core.partition
 
 -- what a look for the reply comes to
 abbrev pub Collected : {D : Type 0} → Bool → (D → DiskState) → ℕ → BoardState D → Held

@@ -1,5 +1,6 @@
 -- What is left to do until a guest's reply may leave.
-use Rattle.std.specs.Prelude.{ℕ, suc, ◌+◌, ◌*◌, if◌then◌else◌, List, Option, Some, None, length, slice_get}
+use Rattle.std.specs.Prelude.{ℕ, suc, ◌+◌, ◌*◌, if◌then◌else◌, List, Option, Some, None, length}
+use Rattle.std.specs.Prelude.{slice_get}
 use Rattle.intent_slots.specs.Payload.{Entry, Intent}
 use Rattle.flusher.specs.CallsLeft.{left_of}
 use Rattle.rpmb_book.specs.Book.{waiting_of}

@@ -5,8 +5,8 @@ ghost use Rattle.queue_looks.specs.Advancing.{AdvancesBy, GoesOn, IsListened};
 use board::Board;
 use disk::Disk;
 
-/// Makes the store's next call, unless the book has something to hear first. Whether there was one, and it
-/// succeeded.
+/// Makes the store's next call, unless the book has something to hear first. Whether there was one,
+/// and it succeeded.
 fn advance<D: Disk>(board: &mut Board<D>) -> bool
     ensures advances { AdvancesBy D.state D.makes result board.old board.new }
     ensures moves { Moves D.state D.makes board.old board.new }

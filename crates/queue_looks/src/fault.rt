@@ -16,7 +16,8 @@ pub enum HostFault {
     /// A guest has 64 replies that have not left.
     #[error("Busy")]
     Busy,
-    /// The history holds 16,384 requests, of which the first hasn't left; or 2^64 - 1 were answered.
+    /// The history holds 16,384 requests, of which the first hasn't left; or 2^64 - 1 were
+    /// answered.
     #[error("HistoryFull")]
     HistoryFull,
     /// The guest's driver has too few free descriptors.

@@ -7,7 +7,8 @@ use crate::advancing::go_on;
 use board::Board;
 use disk::Disk;
 
-/// Makes the store's calls until it has none, or one fails. Whether one failed, `Board::is_broken` tells.
+/// Makes the store's calls until it has none, or one fails. Whether one failed, `Board::is_broken`
+/// tells.
 #[tactic(auto, using(crate::proofs::Ending::rested))]
 pub fn finish_calls<D: Disk>(board: &mut Board<D>)
     requires listened { IsListened board.old }

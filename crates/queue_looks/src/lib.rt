@@ -1,5 +1,6 @@
-//! The device's side of a board, one guest after another: looks at a guest's queue, of which each takes a
-//! chain to its publication, and the calls of the disk that are left at the end. It knows no driver.
+//! The device's side of a board, one guest after another: looks at a guest's queue, of which each
+//! takes a chain to its publication, and the calls of the disk that are left at the end. It knows
+//! no driver.
 #![tactic(auto)]
 
 mod advancing;

@@ -21,7 +21,8 @@ pub enum Look {
     Answered,
 }
 
-/// Looks once: pops, and takes the job to its publication. A job that was refused before is taken first.
+/// Looks once: pops, and takes the job to its publication. A job that was refused before is taken
+/// first.
 fn look_once<D: Disk>(board: &mut Board<D>, guest: u16) -> Result<Look, HostFault>
     requires calm { IsCalm D.state board.old }
     requires there { guest < length board.old.devices }
@@ -55,18 +56,19 @@ fn found_after(answered: u16) -> Look
     }
 }
 
-/// Looks until no chain is available: once at least, and `times` times at most. What each look took was
-/// published before the next one.
+/// Looks until no chain is available: once at least, and `times` times at most. What each look took
+/// was published before the next one.
 ///
 /// # Errors
 ///
-/// `NoMemory` where memory was refused; `HistoryFull` where 2^64 - 1 jobs were answered. A job that the
-/// book refused stays in the guest's place, and the next look takes it first.
+/// `NoMemory` where memory was refused; `HistoryFull` where 2^64 - 1 jobs were answered. A job that
+/// the book refused stays in the guest's place, and the next look takes it first.
 #[tactic(auto, using(crate::proofs::Looks::share_then, crate::proofs::Looks::add_one, crate::proofs::Looks::looks_all))]
 pub fn look_on<D: Disk>(board: &mut Board<D>, guest: u16, times: u16) -> Result<Look, HostFault>
     requires calm { IsCalm D.state board.old }
     requires there { guest < length board.old.devices }
-    ensures { OnShare D.state D.makes guest (λ s s'. LooksOn guest (max 1 times) s result s') board.old board.new }
+    ensures { OnShare D.state D.makes guest
+        (λ s s'. LooksOn guest (max 1 times) s result s') board.old board.new }
 {
     for answered in 0..times.max(1) {
         match look_once(board, guest)? {

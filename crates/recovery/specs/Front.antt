@@ -41,7 +41,8 @@ TellsVersion capacities len c (Ok paired) = HasHeader capacities len c × (is_pa
 TellsVersion capacities len c (Err f) = TellsVersionFault capacities len c f
 
 -- a sync, and then reads alone
-pub record SyncsAndReads {D : Type 0} (makes : D → DiskCall → D → Type 0) (old new : D) : Type 0 where
+pub record SyncsAndReads {D : Type 0} (makes : D → DiskCall → D → Type 0)
+    (old new : D) : Type 0 where
   pub synced : D
   pub sync : makes old (Sync true) synced
   pub reads : OnlyReads makes synced new

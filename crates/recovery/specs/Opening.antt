@@ -31,7 +31,8 @@ pub record Untouched (old new : DiskState) : Type 0 where
 -- The first call was a sync. Only where it succeeded further calls were made, all of them reads.
 pub data SyncsFirst {D : Type 0} (makes : D → DiskCall → D → Type 0) (old new : D) : Type 0 where
   SyncFailed : makes old (Sync false) new → SyncsFirst makes old new
-  SyncWent : (synced : D) → makes old (Sync true) synced → OnlyReads makes synced new → SyncsFirst makes old new
+  SyncWent : (synced : D) → makes old (Sync true) synced → OnlyReads makes synced new
+      → SyncsFirst makes old new
 
 -- 1. What a content is
 
@@ -68,7 +69,8 @@ pub record IsOther (capacities : List ℕ) (len : ℕ) (c : Content) : Type 0 wh
 -- no image; or this board's, of another length, or with a partition that isn't well formed
 pub data IsUnformatted (capacities : List ℕ) (len : ℕ) (c : Content) : Type 0 where
   NoFront : ¬ HasFront len c → IsUnformatted capacities len c
-  NoParts : HasFront len c → HasCapacities capacities c → ¬ HasParts capacities len c → IsUnformatted capacities len c
+  NoParts : HasFront len c → HasCapacities capacities c → ¬ HasParts capacities len c
+      → IsUnformatted capacities len c
 
 abbrev pub AnswersFault : List ℕ → ℕ → Content → OpenFault → Type 0
 AnswersFault capacities len c fault.NotFormatted = IsUnformatted capacities len c
@@ -76,7 +78,8 @@ AnswersFault capacities len c fault.OtherConfig = IsOther capacities len c
 AnswersFault capacities len c fault.DiskFault = Unit {0}
 AnswersFault capacities len c fault.NoMemory = Unit {0}
 
--- Which content leads to which outcome: no content is two of image, other board's image and no image.
+-- Which content leads to which outcome: no content is two of image, other board's image and no
+-- image.
 abbrev pub Answers : {X : Type 0} → List ℕ → ℕ → Content → Result X OpenFault → Type 0
 Answers capacities len c (Ok opened) = IsImage capacities len c
 Answers capacities len c (Err f) = AnswersFault capacities len c f
@@ -114,7 +117,8 @@ EachBegun capacities guests partitions = (g : ℕ) (x : Guest) (p : Partition)
     → slice_get guests g ≡ Some x → slice_get partitions g ≡ Some p → IsBegun capacities g x p
 
 -- each guest of the board in its region
-pub record AllBegun (capacities : List ℕ) (guests : List Guest) (partitions : List Partition) : Type 0 where
+pub record AllBegun (capacities : List ℕ) (guests : List Guest)
+    (partitions : List Partition) : Type 0 where
   pub all_guests : length guests ≡ length capacities
   pub all_partitions : length partitions ≡ length capacities
   pub each : EachBegun capacities guests partitions
@@ -145,9 +149,9 @@ part_or (Some p) = part_of p
 abbrev pub parts_of : List Partition → ℕ → Part
 parts_of partitions g = part_or (slice_get partitions g)
 
--- What an opening that succeeded gives, where the disk was old before it. Where that is known to be faithful,
--- each partition is what reads gave, nothing is unsynced, and every stop leaves an image of the board, which
--- stands for these partitions.
+-- What an opening that succeeded gives, where the disk was old before it. Where that is known to be
+-- faithful, each partition is what reads gave, nothing is unsynced, and every stop leaves an image
+-- of the board, which stands for these partitions.
 pub record Opened {D : Type 0} (state : D → DiskState) (capacities : List ℕ) (old : DiskState)
     (store : StoreState D) (partitions : List Partition) : Type 0 where
   pub begun : AllBegun capacities store.guests partitions
@@ -156,7 +160,8 @@ pub record Opened {D : Type 0} (state : D → DiskState) (capacities : List ℕ)
   pub fits : AllFit (state store.disk).len store.guests
   pub stand : old.faithful ≡ true → AllStand old.seen store.guests partitions
   pub rest : old.faithful ≡ true → IsAtRest capacities (state store.disk)
-  pub held : old.faithful ≡ true → IsHeld (parts_of partitions) store.guests store.broken (state store.disk)
+  pub held : old.faithful ≡ true
+      → IsHeld (parts_of partitions) store.guests store.broken (state store.disk)
 
 -- 3. The exits of an opening
 
@@ -166,7 +171,8 @@ disk_after (Ok opened) = opened.0.disk
 disk_after (Err refused) = refused.0
 
 -- The calls of an opening. Without memory it makes none.
-abbrev pub CallsFault : {D : Type 0} → (makes : D → DiskCall → D → Type 0) → D → D → OpenFault → Type 0
+abbrev pub CallsFault : {D : Type 0} → (makes : D → DiskCall → D → Type 0) → D → D → OpenFault
+    → Type 0
 CallsFault makes old new fault.NoMemory = new ≡ old
 CallsFault makes old new fault.DiskFault = SyncsFirst makes old new
 CallsFault makes old new fault.NotFormatted = SyncsFirst makes old new
@@ -178,6 +184,7 @@ Calls makes old (Ok opened) = SyncsFirst makes old opened.0.disk
 Calls makes old (Err refused) = CallsFault makes old refused.0 refused.1
 
 -- how it ended
-abbrev pub outcome_of : {D P : Type 0} → Result (StoreState D × P) (D × OpenFault) → Result (StoreState D × P) OpenFault
+abbrev pub outcome_of : {D P : Type 0} → Result (StoreState D × P) (D × OpenFault)
+    → Result (StoreState D × P) OpenFault
 outcome_of (Ok opened) = Ok opened
 outcome_of (Err refused) = Err refused.1

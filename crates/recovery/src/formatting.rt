@@ -82,7 +82,8 @@ fn write_header<D: Disk>(disk: &mut D, layout: &Layout, version: u8) -> Result<(
     ensures header { OnOk result ((D.state disk.old).faithful ≡ true
         → Holds zeros (D.state disk.old).len (D.state disk.old).seen
         → Holds (formatted version layout.now) (D.state disk.old).len (D.state disk.new).seen) }
-    ensures empty { IsBlank layout.now (D.state disk.old) → StaysEmpty D.state D.makes layout.now disk.old disk.new }
+    ensures empty { IsBlank layout.now (D.state disk.old)
+        → StaysEmpty D.state D.makes layout.now disk.old disk.new }
 {
     disk.write_at(0, layout.header().as_slice())?;
     disk.write_at(VERSION_OFFSET, &[version])
@@ -100,11 +101,11 @@ fn sync<D: Disk>(disk: &mut D) -> Result<(), DiskFault>
     disk.sync()
 }
 
-/// Makes a fresh image: the header, the version byte 1 at offset 512, and zeros, so that each partition
-/// is empty. It writes zeros over the whole disk, and for each guest a home record without a key and
-/// both gates shut, makes a sync, writes the header and the version byte, and makes a sync. So no stop
-/// leaves the new header over what stood there before. It takes no memory. The disk has just the length
-/// of the board's image.
+/// Makes a fresh image: the header, the version byte 1 at offset 512, and zeros, so that each
+/// partition is empty. It writes zeros over the whole disk, and for each guest a home record
+/// without a key and both gates shut, makes a sync, writes the header and the version byte, and
+/// makes a sync. So no stop leaves the new header over what stood there before. It takes no memory.
+/// The disk has just the length of the board's image.
 ///
 /// Answers `DiskFault` where a call failed. Other faults never come.
 pub fn format<D: Disk>(disk: &mut D, board: &BoardConfig) -> Result<(), OpenFault>
@@ -112,18 +113,19 @@ pub fn format<D: Disk>(disk: &mut D, board: &BoardConfig) -> Result<(), OpenFaul
     ensures formatted { OnOk result ((D.state disk.old).faithful ≡ true
         → IsFormatted 1 (capacities_of board.now) (D.state disk.new)) }
     ensures only { (fault : OpenFault) → result ≡ Err fault → fault ≡ OpenFault.DiskFault }
-    ensures cause { OnErr result (HasRisen (D.state disk.old).failures (D.state disk.new).failures) }
+    ensures cause { OnErr result
+        (HasRisen (D.state disk.old).failures (D.state disk.new).failures) }
     ensures unfailed { OnOk result ((D.state disk.new).failures ≡ (D.state disk.old).failures) }
 
-    // However it ends: until a sync succeeds it writes zeros alone, and from then on every stop leaves
-    // empty partitions.
+    // However it ends: until a sync succeeds it writes zeros alone, and from then on every stop
+    // leaves empty partitions.
     ensures order { ClearsFirst D.state D.makes (capacities_of board.now) disk.old disk.new }
 {
     Ok(write_image(disk, &Layout::of(board), version_of(false))?)
 }
 
-/// Makes a fresh image of version 2, in which both slots of each partition are in use: as `format`, with
-/// the version byte 2.
+/// Makes a fresh image of version 2, in which both slots of each partition are in use: as `format`,
+/// with the version byte 2.
 ///
 /// Answers `DiskFault` where a call failed. Other faults never come.
 pub fn format2<D: Disk>(disk: &mut D, board: &BoardConfig) -> Result<(), OpenFault>
@@ -131,11 +133,12 @@ pub fn format2<D: Disk>(disk: &mut D, board: &BoardConfig) -> Result<(), OpenFau
     ensures formatted { OnOk result ((D.state disk.old).faithful ≡ true
         → IsFormatted 2 (capacities_of board.now) (D.state disk.new)) }
     ensures only { (fault : OpenFault) → result ≡ Err fault → fault ≡ OpenFault.DiskFault }
-    ensures cause { OnErr result (HasRisen (D.state disk.old).failures (D.state disk.new).failures) }
+    ensures cause { OnErr result
+        (HasRisen (D.state disk.old).failures (D.state disk.new).failures) }
     ensures unfailed { OnOk result ((D.state disk.new).failures ≡ (D.state disk.old).failures) }
 
-    // However it ends: until a sync succeeds it writes zeros alone, and from then on every stop leaves
-    // empty partitions.
+    // However it ends: until a sync succeeds it writes zeros alone, and from then on every stop
+    // leaves empty partitions.
     ensures order { ClearsFirst D.state D.makes (capacities_of board.now) disk.old disk.new }
 {
     Ok(write_image(disk, &Layout::of(board), version_of(true))?)

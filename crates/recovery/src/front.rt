@@ -15,7 +15,8 @@ fn read_header<D: Disk>(disk: &mut D, layout: &Layout) -> Result<(), OpenFault>
     requires { length layout.now ≤ 64 }
     ensures passes { Passes D.state D.makes disk.old disk.new (is_disk_fault result) }
     ensures memory { ¬ result ≡ Err OpenFault.NoMemory }
-    ensures tells { Tells (D.state disk.old) (λ c. TellsHeader layout.now (D.state disk.old).len c result) }
+    ensures tells { Tells (D.state disk.old)
+        (λ c. TellsHeader layout.now (D.state disk.old).len c result) }
 {
     if disk.len() < HEADER_LENGTH {
         return Err(OpenFault::NotFormatted);
@@ -36,8 +37,8 @@ fn read_version<D: Disk>(disk: &mut D) -> Result<bool, DiskFault>
     Ok(version[0] == 2)
 }
 
-/// Whether the image is of version 2, after a sync: header, length and version byte are looked at, and
-/// nothing else.
+/// Whether the image is of version 2, after a sync: header, length and version byte are looked at,
+/// and nothing else.
 pub(crate) fn check<D: Disk>(disk: &mut D, layout: &Layout) -> Result<bool, OpenFault>
     ensures opens { Opens D.state D.makes disk.old disk.new (is_disk_fault result) }
     ensures memory { ¬ result ≡ Err OpenFault.NoMemory }
@@ -45,7 +46,8 @@ pub(crate) fn check<D: Disk>(disk: &mut D, layout: &Layout) -> Result<bool, Open
     ensures long { OnOk result ((D.state disk.new).len ≡ image_length layout.now) }
     ensures synced { OnOk result ((D.state disk.old).faithful ≡ true → (k : ℕ)
         → (D.state disk.new).unsynced k ≡ false) }
-    ensures tells { Tells (D.state disk.old) (λ c. TellsVersion layout.now (D.state disk.old).len c result) }
+    ensures tells { Tells (D.state disk.old)
+        (λ c. TellsVersion layout.now (D.state disk.old).len c result) }
 {
     let _guests = layout.guests();
     disk.sync()?;

@@ -31,7 +31,8 @@ fn read_guests<D: Disk>(
 ) -> Result<(), OpenFault>
     requires room { image_length layout.now ≤ (D.state disk.old).len }
     requires supplied { AreSupplied layout.now spaces.items (length buffer.old)
-        guests.old.items (vec_capacity guests.old) partitions.old.items (vec_capacity partitions.old) }
+        guests.old.items (vec_capacity guests.old) partitions.old.items
+        (vec_capacity partitions.old) }
     ensures passes { Passes D.state D.makes disk.old disk.new (is_disk_fault result) }
     ensures memory { ¬ result ≡ Err OpenFault.NoMemory }
     ensures begun { OnOk result (AllBegun layout.now guests.new.items partitions.new.items) }
@@ -58,7 +59,8 @@ fn read_image<D: Disk>(
     partitions: &mut Vec<Partition>,
 ) -> Result<(), OpenFault>
     requires supplied { AreSupplied layout.now spaces.items (length buffer.old)
-        guests.old.items (vec_capacity guests.old) partitions.old.items (vec_capacity partitions.old) }
+        guests.old.items (vec_capacity guests.old) partitions.old.items
+        (vec_capacity partitions.old) }
     ensures opens { Opens D.state D.makes disk.old disk.new (is_disk_fault result) }
     ensures memory { ¬ result ≡ Err OpenFault.NoMemory }
     ensures read { OnOk result (IsRead D.state D.makes layout.now disk.old disk.new
@@ -70,27 +72,29 @@ fn read_image<D: Disk>(
     read_guests(disk, layout, paired, spaces, buffer, guests, partitions)
 }
 
-/// Opens an image that a stop may have left: the store over it, and the partition of each guest of the
-/// board. It takes all its memory first, then makes a sync, and only after its success it reads.
-/// Nothing is written. Where a gate is open, the slot is `Open` with none of its blocks written, so that
-/// the store's `advance` writes them again. An image of version 2 has a second slot for each guest.
+/// Opens an image that a stop may have left: the store over it, and the partition of each guest of
+/// the board. It takes all its memory first, then makes a sync, and only after its success it
+/// reads. Nothing is written. Where a gate is open, the slot is `Open` with none of its blocks
+/// written, so that the store's `advance` writes them again. An image of version 2 has a second
+/// slot for each guest.
 ///
-/// It takes for each guest its blocks and room for two intents of 16 KiB each, whatever the version,
-/// since that is read after all memory is taken, and one buffer of 16,648 bytes. Room that holds no
-/// intent is given back at the end.
+/// It takes for each guest its blocks and room for two intents of 16 KiB each, whatever the
+/// version, since that is read after all memory is taken, and one buffer of 16,648 bytes. Room that
+/// holds no intent is given back at the end.
 ///
-/// Answers `NoMemory` before any call, and `DiskFault` where a call failed. Else it answers, in this
-/// order, `NotFormatted` where the disk is shorter than 1,024 bytes or has another magic;
-/// `OtherConfig` where the header has another number of guests, or for a guest another capacity than
-/// the board; and `NotFormatted` where the disk hasn't the length of the board's image, the home
-/// behind shut gates or the payload behind an open gate (0xA5) isn't well formed, or of two open
-/// payloads neither comes next after the other under the same key.
+/// Answers `NoMemory` before any call, and `DiskFault` where a call failed. Else it answers, in
+/// this order, `NotFormatted` where the disk is shorter than 1,024 bytes or has another magic;
+/// `OtherConfig` where the header has another number of guests, or for a guest another capacity
+/// than the board; and `NotFormatted` where the disk hasn't the length of the board's image, the
+/// home behind shut gates or the payload behind an open gate (0xA5) isn't well formed, or of two
+/// open payloads neither comes next after the other under the same key.
 pub fn open<D: Disk>(
     alloc: Global,
     disk: D,
     board: &BoardConfig,
 ) -> Result<(Store<D>, Vec<Partition>), (D, OpenFault)>
-    ensures opened { IfOk result (λ r. Opened D.state (capacities_of board.now) (D.state disk) r.0 r.1.items) }
+    ensures opened { IfOk result
+        (λ r. Opened D.state (capacities_of board.now) (D.state disk) r.0 r.1.items) }
     ensures answers { (D.state disk).faithful ≡ true
         → Answers (capacities_of board.now)
         (D.state disk).len (D.state disk).seen (outcome_of result) }
@@ -104,7 +108,8 @@ pub fn open<D: Disk>(
     ensures calls { Calls D.makes disk result }
 
     // At each moment a stop leaves only what it could leave before the call.
-    ensures any_moment { Within D.state D.makes (Untouched (D.state disk)) disk (disk_after result) }
+    ensures any_moment { Within D.state D.makes (Untouched (D.state disk)) disk
+        (disk_after result) }
 {
     let mut disk = disk;
     let layout = Layout::of(board);

@@ -22,7 +22,8 @@ use rpmb_core::Partition;
 pub(crate) fn read<D: Disk>(disk: &mut D, at: u64, out: &mut [u8]) -> Result<(), DiskFault>
     requires { at + length out.old ≤ (D.state disk.old).len }
     ensures passes { Passes D.state D.makes disk.old disk.new (not (is_ok result)) }
-    ensures bytes { OnOk result (Tells (D.state disk.old) (λ c. out.new ≡ bytes_at c at (length out.old))) }
+    ensures bytes { OnOk result
+        (Tells (D.state disk.old) (λ c. out.new ≡ bytes_at c at (length out.old))) }
 {
     disk.read_at(at, out)
 }
@@ -41,7 +42,8 @@ fn read_blocks<D: Disk>(disk: &mut D, at: u64, blocks: &mut Vec<u8>) -> Result<(
 /// Puts the blocks of an intent's requests over the blocks of its partition, in their order.
 fn redo(blocks: &mut Vec<u8>, intent: &Intent)
     requires { GroupFits (length blocks.old.items) intent.now.group }
-    ensures content { content_of blocks.new.items ≡ redo intent.now.group.entries (content_of blocks.old.items) }
+    ensures content { content_of blocks.new.items
+        ≡ redo intent.now.group.entries (content_of blocks.old.items) }
     ensures len { length blocks.new.items ≡ length blocks.old.items }
 {
     intent.redo(blocks.as_mut_slice());
@@ -164,8 +166,8 @@ fn read_shut<D: Disk>(
     Ok((Guest::settled(paired, extent, home.sequence()), partition))
 }
 
-/// The guest behind one open gate, whose payload is known: its blocks with those of the payload over
-/// them. Its home isn't looked at.
+/// The guest behind one open gate, whose payload is known: its blocks with those of the payload
+/// over them. Its home isn't looked at.
 fn read_one<D: Disk>(
     disk: &mut D,
     layout: &Layout,
@@ -174,7 +176,8 @@ fn read_one<D: Disk>(
     intent: Intent,
     blocks: Vec<u8>,
 ) -> Result<(Guest, Partition), OpenFault>
-    requires place { IsReadable layout.now (D.state disk.old).len intent.guest (length blocks.items) }
+    requires place { IsReadable layout.now (D.state disk.old).len intent.guest
+        (length blocks.items) }
     requires fits { GroupFits (region_at layout.now intent.guest).size intent.group }
     requires side { paired ≡ false → side ≡ A }
     ensures passes { Passes D.state D.makes disk.old disk.new (is_disk_fault result) }
@@ -191,8 +194,8 @@ fn read_one<D: Disk>(
     Ok((Guest::open(paired, extent, side, intent), partition))
 }
 
-/// The guest behind two open gates, whose payloads are known: its blocks with those of both over them,
-/// in their order.
+/// The guest behind two open gates, whose payloads are known: its blocks with those of both over
+/// them, in their order.
 fn read_two<D: Disk>(
     disk: &mut D,
     layout: &Layout,
@@ -201,7 +204,8 @@ fn read_two<D: Disk>(
     second: Intent,
     blocks: Vec<u8>,
 ) -> Result<(Guest, Partition), OpenFault>
-    requires place { IsReadable layout.now (D.state disk.old).len first.guest (length blocks.items) }
+    requires place { IsReadable layout.now (D.state disk.old).len first.guest
+        (length blocks.items) }
     requires two { AreTwo layout.now first second }
     ensures passes { Passes D.state D.makes disk.old disk.new (is_disk_fault result) }
     ensures begun { IfOk result (λ r. IsBegun layout.now first.guest r.0 r.1) }
@@ -228,7 +232,8 @@ fn read_open<D: Disk>(
     space: Space,
     buffer: &mut [u8],
 ) -> Result<(Guest, Partition), OpenFault>
-    requires place { IsReadable layout.now (D.state disk.old).len number (length space.blocks.items) }
+    requires place { IsReadable layout.now (D.state disk.old).len number
+        (length space.blocks.items) }
     requires buffer { length buffer.old ≡ 16648 }
     requires side { paired ≡ false → side ≡ A }
     ensures passes { Passes D.state D.makes disk.old disk.new (is_disk_fault result) }
@@ -249,7 +254,8 @@ fn read_both<D: Disk>(
     space: Space,
     buffer: &mut [u8],
 ) -> Result<(Guest, Partition), OpenFault>
-    requires place { IsReadable layout.now (D.state disk.old).len number (length space.blocks.items) }
+    requires place { IsReadable layout.now (D.state disk.old).len number
+        (length space.blocks.items) }
     requires buffer { length buffer.old ≡ 16648 }
     ensures passes { Passes D.state D.makes disk.old disk.new (is_disk_fault result) }
     ensures begun { IfOk result (λ r. IsBegun layout.now number r.0 r.1) }
@@ -277,7 +283,8 @@ pub(crate) fn read_guest<D: Disk>(
     space: Space,
     buffer: &mut [u8],
 ) -> Result<(Guest, Partition), OpenFault>
-    requires place { IsReadable layout.now (D.state disk.old).len number (length space.blocks.items) }
+    requires place { IsReadable layout.now (D.state disk.old).len number
+        (length space.blocks.items) }
     requires buffer { length buffer.old ≡ 16648 }
     ensures passes { Passes D.state D.makes disk.old disk.new (is_disk_fault result) }
     ensures begun { IfOk result (λ r. IsBegun layout.now number r.0 r.1) }

@@ -1,5 +1,6 @@
 -- Whatever is called on a book, one call after another.
-use Rattle.std.specs.Prelude.{ℕ, ◌≡◌, ◌++◌, if◌then◌else◌, false, is_none, Some, List, [], ◌∷◌, slice_get}
+use Rattle.std.specs.Prelude.{ℕ, ◌≡◌, ◌++◌, if◌then◌else◌, false, is_none, Some, List, [], ◌∷◌}
+use Rattle.std.specs.Prelude.{slice_get}
 use Rattle.rpmb_frame.specs.Partition.{Partition}
 use Rattle.rpmb_frame.specs.declared.config.GuestConfig.{GuestConfig}
 use Rattle.mmio_transport.specs.Job.{Job}

@@ -65,14 +65,15 @@ impl Book {
     }
 
     /// Answers a job: the partition, the stored outcome and what waits for the store change as its
-    /// request says, and its reply is held until its need is settled. A broken book accepts nothing: the
-    /// reply is a failure, which may leave at once, and nothing else changes. Where 16,384 Submits stand,
-    /// the history rolls first: the opening becomes the state after the longest beginning in which every
-    /// Submit was collected, and that beginning goes. A refusal gives the job back and changes nothing. It
-    /// is the first of these that applies: `Foreign` where the book lacks the job's guest, or the tally
-    /// isn't of that guest, or not its count of Submits; `Busy` where the guest has 64 held replies;
-    /// `HistoryFull` where 16,384 Submits stand and the first of them wasn't collected, or where 2^64 - 1
-    /// were counted in this life; `NoMemory`.
+    /// request says, and its reply is held until its need is settled. A broken book accepts
+    /// nothing: the reply is a failure, which may leave at once, and nothing else changes. Where
+    /// 16,384 Submits stand, the history rolls first: the opening becomes the state after the
+    /// longest beginning in which every Submit was collected, and that beginning goes. A refusal
+    /// gives the job back and changes nothing. It is the first of these that applies: `Foreign`
+    /// where the book lacks the job's guest, or the tally isn't of that guest, or not its count of
+    /// Submits; `Busy` where the guest has 64 held replies; `HistoryFull` where 16,384 Submits
+    /// stand and the first of them wasn't collected, or where 2^64 - 1 were counted in this life;
+    /// `NoMemory`.
     pub fn submit(
         &mut self,
         alloc: Global,
@@ -80,7 +81,8 @@ impl Book {
         job: Job,
     ) -> Result<Receipt, (Job, Refused)>
         ensures made { OnOk result (self.new ≡ after_submit self.old job) }
-        ensures counted { OnOk result (tally.new ≡ record tally.old { count = tally.old.count + 1 }) }
+        ensures counted { OnOk result
+            (tally.new ≡ record tally.old { count = tally.old.count + 1 }) }
         ensures total { OnOk result (counted_in self.new ≡ counted_in self.old + 1) }
         ensures named { IfOk result (λ r. r
             ≡ record {
@@ -89,7 +91,8 @@ impl Book {
               number = self.old.folded + length self.old.history;
             }) }
         ensures allowed { OnOk result (refusal self.old tally.old job ≡ None) }
-        ensures refused { IfErr result (λ e. e.1 ≡ unwrap_or (refusal self.old tally.old job) Refused.NoMemory) }
+        ensures refused { IfErr result
+            (λ e. e.1 ≡ unwrap_or (refusal self.old tally.old job) Refused.NoMemory) }
         ensures given_back { IfErr result (λ e. e.0 ≡ job) }
         ensures unchanged { OnErr result ((self.new ≡ self.old) × (tally.new ≡ tally.old)) }
     {
@@ -99,8 +102,9 @@ impl Book {
         }
     }
 
-    /// Does what `submit` does, with what was made of the job before: where that fits, neither a MAC of the
-    /// request nor memory is made here. Beside the receipt it gives memory that is left, for the next job.
+    /// Does what `submit` does, with what was made of the job before: where that fits, neither a
+    /// MAC of the request nor memory is made here. Beside the receipt it gives memory that is left,
+    /// for the next job.
     pub fn submit_checked(
         &mut self,
         alloc: Global,
@@ -108,7 +112,8 @@ impl Book {
         checked: Checked,
     ) -> Result<(Receipt, Rooms), (Checked, Refused)>
         ensures made { OnOk result (self.new ≡ after_submit self.old checked) }
-        ensures counted { OnOk result (tally.new ≡ record tally.old { count = tally.old.count + 1 }) }
+        ensures counted { OnOk result
+            (tally.new ≡ record tally.old { count = tally.old.count + 1 }) }
         ensures total { OnOk result (counted_in self.new ≡ counted_in self.old + 1) }
         ensures named { IfOk result (λ r. r.0
             ≡ record {
@@ -133,8 +138,8 @@ impl Book {
         Ok((self.answer(alloc, tally, job, plan), left))
     }
 
-    /// Makes all the memory that the answer to a job takes, where neither the rooms serve nor what a Submit
-    /// that has gone held, and says what is left of the two.
+    /// Makes all the memory that the answer to a job takes, where neither the rooms serve nor what
+    /// a Submit that has gone held, and says what is left of the two.
     fn plan(
         &mut self,
         alloc: Global,
@@ -209,8 +214,8 @@ impl Book {
         receipt
     }
 
-    /// Makes the opening the state after the longest beginning of the history in which every Submit was
-    /// collected, and lets that beginning go. The state stays. It takes no memory.
+    /// Makes the opening the state after the longest beginning of the history in which every Submit
+    /// was collected, and lets that beginning go. The state stays. It takes no memory.
     fn fold(&mut self)
         ensures folded { self.new ≡ folded self.old }
         ensures stays { state self.new ≡ state self.old }

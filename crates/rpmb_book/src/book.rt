@@ -32,8 +32,8 @@ use std::alloc::Global;
 use std::marker::Model;
 
 /// What all guests asked and were answered. Contracts see its life, how many turns were folded, the
-/// opening after those, and the history since; the state is the replay of the history on the opening.
-/// In memory are the state, and of the history its Submits, which `find` tells.
+/// opening after those, and the history since; the state is the replay of the history on the
+/// opening. In memory are the state, and of the history its Submits, which `find` tells.
 #[derive(Drop)]
 pub struct Book {
     pub(crate) told: Told,
@@ -58,12 +58,13 @@ impl Model for Book {
 
     ghost view = { λ b. b.told.book };
 
-    ghost invariant = { λ b. IsKept b.told.book b.life b.guests.items b.broken b.turns b.counted b.history };
+    ghost invariant = { λ b. IsKept b.told.book b.life b.guests.items b.broken b.turns b.counted
+        b.history };
 }
 
 impl Book {
-    /// A book of this life on these partitions, with an empty history; a tally for each guest; and the
-    /// shares, which stand at the partitions' sequences. All room for the history is made here.
+    /// A book of this life on these partitions, with an empty history; a tally for each guest; and
+    /// the shares, which stand at the partitions' sequences. All room for the history is made here.
     pub fn open(
         alloc: Global,
         life: u64,
@@ -112,14 +113,15 @@ impl Book {
         }
     }
 
-    /// Gives the guest's oldest accepted requests that were not taken, as many as there are and at most
-    /// four, as one intent, and moves its share to the last one's sequence; None where none waits. They
-    /// are moved out, with the blocks that `submit` copied. `Foreign` exactly where the book lacks the
-    /// guest or the share isn't its taken sequence. It takes no memory.
+    /// Gives the guest's oldest accepted requests that were not taken, as many as there are and at
+    /// most four, as one intent, and moves its share to the last one's sequence; None where none
+    /// waits. They are moved out, with the blocks that `submit` copied. `Foreign` exactly where the
+    /// book lacks the guest or the share isn't its taken sequence. It takes no memory.
     pub fn take(&mut self, shares: &mut Shares, guest: u16) -> Result<Option<Intent>, Refused>
         ensures answer { result ≡ take_answer self.old shares.old guest }
         ensures book { self.new ≡ after_take self.old shares.old guest }
-        ensures shares { shares.new ≡ share_moved shares.old guest (next_intent self.old shares.old guest) }
+        ensures shares { shares.new
+            ≡ share_moved shares.old guest (next_intent self.old shares.old guest) }
     {
         if !self.is_share(shares, guest) {
             return Err(Refused::Foreign);
@@ -137,10 +139,10 @@ impl Book {
         }
     }
 
-    /// Settles what a store has, by the marks of a sync. `Foreign` exactly where the share of some guest
-    /// isn't its taken sequence, or a mark is above it; then nothing changes. A mark below what is
-    /// settled moves nothing, and marks of guests that the book lacks aren't looked at. It takes no
-    /// memory.
+    /// Settles what a store has, by the marks of a sync. `Foreign` exactly where the share of some
+    /// guest isn't its taken sequence, or a mark is above it; then nothing changes. A mark below
+    /// what is settled moves nothing, and marks of guests that the book lacks aren't looked at. It
+    /// takes no memory.
     pub fn settle(&mut self, shares: &Shares, marks: Marks) -> Result<(), Refused>
         ensures answer { result ≡ settle_answer self.old shares.now marks }
         ensures book { self.new ≡ after_settle self.old shares.now marks }
@@ -157,9 +159,9 @@ impl Book {
         Ok(())
     }
 
-    /// Tells the book that its store broke. From then on held replies that are settled leave as they
-    /// are, the others are failures, and nothing more is accepted. A second one changes nothing. It
-    /// takes no memory.
+    /// Tells the book that its store broke. From then on held replies that are settled leave as
+    /// they are, the others are failures, and nothing more is accepted. A second one changes
+    /// nothing. It takes no memory.
     pub fn break_off(&mut self)
         ensures { self.new ≡ after_break_off self.old }
     {
@@ -179,8 +181,8 @@ impl Book {
         self.broken
     }
 
-    /// Gives the guest's oldest held reply, where its need is settled; None where it isn't, where none
-    /// is held, and for a guest that the book lacks. It takes no memory.
+    /// Gives the guest's oldest held reply, where its need is settled; None where it isn't, where
+    /// none is held, and for a guest that the book lacks. It takes no memory.
     pub fn collect(&mut self, guest: u16) -> Option<Done>
         ensures done { result ≡ due_of self.old guest }
         ensures book { self.new ≡ after_collect self.old guest }
@@ -191,8 +193,8 @@ impl Book {
         }
     }
 
-    /// A guest's key, for who makes its MACs beside the book; None where it has none, and for a guest
-    /// that the book lacks. Once there, a key never changes. It takes no memory.
+    /// A guest's key, for who makes its MACs beside the book; None where it has none, and for a
+    /// guest that the book lacks. Once there, a key never changes. It takes no memory.
     pub fn mac_key_of(&self, guest: u16) -> Option<MacKey>
         ensures { result ≡ mac_key_of self.now guest }
     {
@@ -240,7 +242,8 @@ impl Book {
     /// The request and the reply of the job that a receipt names, as both were then; None where the
     /// receipt is of another life, names no Submit of that guest, or names one that was folded.
     pub fn find(&self, receipt: &Receipt) -> Option<TurnView<'_>>
-        ensures seen { option_map turn_seen result ≡ option_map submission_seen (found_by self.now receipt.now) }
+        ensures seen { option_map turn_seen result
+            ≡ option_map submission_seen (found_by self.now receipt.now) }
         ensures whole { ForSome result HasFrames }
     {
         if receipt.life != self.life {
@@ -266,7 +269,8 @@ impl Book {
 
     /// A guest's partition, after all its requests; None for a guest that the book lacks.
     pub fn partition(&self, guest: u16) -> Option<&Partition>
-        ensures { option_copied result ≡ option_map (λ g. g.core.partition) (guest_of self.now guest) }
+        ensures { option_copied result
+            ≡ option_map (λ g. g.core.partition) (guest_of self.now guest) }
     {
         match self.guests.get(usize::from(guest)) {
             Some(known) => Some(known.partition()),
@@ -284,8 +288,8 @@ impl Book {
         }
     }
 
-    /// The sequence of a guest that is settled: no stop can lose what it and those before it did. None
-    /// for a guest that the book lacks.
+    /// The sequence of a guest that is settled: no stop can lose what it and those before it did.
+    /// None for a guest that the book lacks.
     pub fn settled(&self, guest: u16) -> Option<u64>
         ensures { result ≡ option_map (λ g. g.settled) (guest_of self.now guest) }
     {

@@ -10,8 +10,8 @@ use rpmb_frame::{Limits, Request};
 use std::alloc::Global;
 use std::marker::Model;
 
-/// A job on its way to a book, with what may be made of it before that is locked: what the check of its
-/// MAC came to, and memory for its answer. Contracts see the job.
+/// A job on its way to a book, with what may be made of it before that is locked: what the check of
+/// its MAC came to, and memory for its answer. Contracts see the job.
 #[derive(Drop)]
 pub struct Checked {
     job: Job,
@@ -33,7 +33,8 @@ impl Model for Checked {
 }
 
 impl Checked {
-    /// A job of which nothing was made yet: the book makes its MAC and takes its memory. It takes none.
+    /// A job of which nothing was made yet: the book makes its MAC and takes its memory. It takes
+    /// none.
     pub fn plain(alloc: Global, job: Job) -> Checked
         ensures { result ≡ job }
     {
@@ -45,10 +46,10 @@ impl Checked {
         }
     }
 
-    /// Checks the MAC of a write under this key, and makes memory for the answer, of what is spare where
-    /// that fits. The limits say how long the answer may be. Whatever is handed in, the book's answer
-    /// stays: with another key or other limits it makes MAC or memory itself, and where memory is refused
-    /// here, it asks for it. A second call makes nothing.
+    /// Checks the MAC of a write under this key, and makes memory for the answer, of what is spare
+    /// where that fits. The limits say how long the answer may be. Whatever is handed in, the
+    /// book's answer stays: with another key or other limits it makes MAC or memory itself, and
+    /// where memory is refused here, it asks for it. A second call makes nothing.
     pub fn prepare(&mut self, alloc: Global, limits: Limits, key: Option<&MacKey>, spare: Rooms)
         ensures { self.new ≡ self.old }
     {

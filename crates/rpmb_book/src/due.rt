@@ -37,8 +37,8 @@ impl Model for Due {
 }
 
 impl Due {
-    /// The reply to a job, of whole frames, which may leave once the guest's sequence `need` is settled.
-    /// Into the last frame goes the MAC under this key, where there is one.
+    /// The reply to a job, of whole frames, which may leave once the guest's sequence `need` is
+    /// settled. Into the last frame goes the MAC under this key, where there is one.
     pub(crate) fn of(job: Job, reply: Vec<u8>, need: u64, key: Option<[u8; 32]>) -> Due
         requires room { length reply.items ≤ room_of job }
         requires whole { length reply.items ≡ 512 * (length reply.items / 512) }
@@ -71,8 +71,8 @@ impl Due {
         self.need = 0;
     }
 
-    /// Makes the MAC, where it isn't made yet. Where the caller has the key with its pads hashed, that
-    /// saves two compressions; any other key isn't looked at. It takes no memory.
+    /// Makes the MAC, where it isn't made yet. Where the caller has the key with its pads hashed,
+    /// that saves two compressions; any other key isn't looked at. It takes no memory.
     #[tactic(auto, unfolding(rpmb_core::specs::Reply::closed))]
     pub fn close(&mut self, known: Option<&MacKey>)
         ensures { self.new ≡ self.old }
@@ -82,7 +82,8 @@ impl Due {
         }
     }
 
-    /// The reply with its MAC, which `close` makes where that wasn't done before. It takes no memory.
+    /// The reply with its MAC, which `close` makes where that wasn't done before. It takes no
+    /// memory.
     #[tactic(auto, unfolding(rpmb_core::specs::Reply::closed))]
     pub fn done(self, known: Option<&MacKey>) -> Done
         ensures { result ≡ self }
@@ -112,7 +113,8 @@ fn close_under(key: &[u8; 32], known: Option<&MacKey>, reply: &mut [u8])
     }
 }
 
-/// The result of a failure reply of this type, to a request that was answered before the store broke.
+/// The result of a failure reply of this type, to a request that was answered before the store
+/// broke.
 fn break_code(kind: u16) -> u16
     ensures { result ≡ break_code kind }
 {

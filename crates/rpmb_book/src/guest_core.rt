@@ -1,4 +1,5 @@
-ghost use Rattle.std.specs.Prelude.{◌≡◌, ◌≤◌, ◌<◌, ◌^◌, ◌*◌, ◌/◌, if◌then◌else◌, IfOk, [], None, Some};
+ghost use Rattle.std.specs.Prelude.{◌≡◌, ◌≤◌, ◌<◌, ◌^◌, ◌*◌, ◌/◌, if◌then◌else◌, IfOk, [], None};
+ghost use Rattle.std.specs.Prelude.{Some};
 ghost use Rattle.std.specs.Prelude.{length, true, vec_capacity};
 ghost use Rattle.mmio_transport.specs.Job.{room_of};
 ghost use Rattle.rpmb_frame.specs.Partition.{Partition};
@@ -55,9 +56,9 @@ pub struct Plan {
     pub blocks: Vec<u8>,
 }
 
-/// The answer to a job: its reply twice, without the MAC, and the key that this is made under; what has
-/// to be settled before the reply may leave, the type of the failure reply to its request, and what an
-/// accepted one is to make of the partition.
+/// The answer to a job: its reply twice, without the MAC, and the key that this is made under; what
+/// has to be settled before the reply may leave, the type of the failure reply to its request, and
+/// what an accepted one is to make of the partition.
 #[derive(Drop)]
 pub struct Answer {
     pub reply: Vec<u8>,
@@ -109,8 +110,8 @@ impl GuestCore {
         }
     }
 
-    /// Finds the verdict on a job, by what the check of its MAC came to, and makes all the memory that its
-    /// answer takes, of these rooms where they fit.
+    /// Finds the verdict on a job, by what the check of its MAC came to, and makes all the memory
+    /// that its answer takes, of these rooms where they fit.
     pub fn plan(
         &self,
         alloc: Global,
@@ -186,9 +187,11 @@ impl GuestCore {
     ) -> Result<Failure, NoMemory>
         ensures reply { IfOk result (λ f. f.reply.items ≡ answer_when true self.now job.now) }
         ensures fits { IfOk result (λ f. length f.reply.items ≤ room_of job.now) }
-        ensures whole { IfOk result (λ f. length f.reply.items ≡ 512 * (length f.reply.items / 512)) }
+        ensures whole { IfOk result
+            (λ f. length f.reply.items ≡ 512 * (length f.reply.items / 512)) }
         ensures copy { IfOk result (λ f. f.copy.items ≡ answer_when true self.now job.now) }
-        ensures kind { IfOk result (λ f. f.kind ≡ failure_kind (request_of self.now job.now).command) }
+        ensures kind { IfOk result
+            (λ f. f.kind ≡ failure_kind (request_of self.now job.now).command) }
     {
         let request = Request::classify(job.request(), job.writable(), self.limits);
         let len = Partition::failure(&request, GENERAL_FAILURE, out);
@@ -283,7 +286,8 @@ fn blocks_of(
     accepted: bool,
     room: Vec<u8>,
 ) -> Result<Vec<u8>, NoMemory>
-    ensures { IfOk result (λ blocks. accepted ≡ true → blocks.items ≡ blocks_in request.now.command) }
+    ensures { IfOk result
+        (λ blocks. accepted ≡ true → blocks.items ≡ blocks_in request.now.command) }
 {
     match request.command {
         Command::DataWrite { frames, .. } if accepted => data_of(alloc, frames, room),

@@ -78,7 +78,8 @@ pub struct Said {
 }
 
 impl GuestState {
-    /// A guest of whom nothing was asked yet, with places for all replies and entries that it may have.
+    /// A guest of whom nothing was asked yet, with places for all replies and entries that it may
+    /// have.
     pub fn fresh(
         alloc: Global,
         limits: Limits,
@@ -142,9 +143,9 @@ impl GuestState {
         self.submits.saturating_sub(self.held.len() as u64)
     }
 
-    /// Makes all the memory that the answer to a job takes, of a book that is broken, or isn't. Of one that
-    /// isn't, what the check of the job's MAC came to counts, and the rooms serve where they fit. A failure
-    /// reply is built in `out`.
+    /// Makes all the memory that the answer to a job takes, of a book that is broken, or isn't. Of
+    /// one that isn't, what the check of the job's MAC came to counts, and the rooms serve where
+    /// they fit. A failure reply is built in `out`.
     pub fn plan(
         &self,
         alloc: Global,
@@ -167,13 +168,14 @@ impl GuestState {
         }
     }
 
-    /// Answers a job as planned; the reply is built in `out`. It takes no memory: the job goes along
-    /// with its reply, and its request to the history.
+    /// Answers a job as planned; the reply is built in `out`. It takes no memory: the job goes
+    /// along with its reply, and its request to the history.
     pub fn submit(&mut self, alloc: Global, job: Job, plan: GuestPlan, out: &mut [u8; 8192]) -> Said
         requires plan { IsGuestPlanned job self.old plan }
         requires places { HasPlaces (is_failure plan) self.old }
         ensures request { result.request.items ≡ job.request }
-        ensures reply { closed result.key result.reply.items ≡ answer_when (is_failure plan) self.old.core job }
+        ensures reply { closed result.key result.reply.items
+            ≡ answer_when (is_failure plan) self.old.core job }
         ensures whole { length result.reply.items ≡ 512 * (length result.reply.items / 512) }
         ensures state { self.new ≡ submitted (is_failure plan) job self.old }
     {
@@ -237,8 +239,8 @@ impl GuestState {
         }
     }
 
-    /// Gives the requests that come next for the store, at most four, as an intent of the guest with
-    /// this number. They are moved, so it takes no memory.
+    /// Gives the requests that come next for the store, at most four, as an intent of the guest
+    /// with this number. They are moved, so it takes no memory.
     pub fn take(&mut self, guest: u16) -> Option<Intent>
         requires ready { EntriesFit (2 ^ 24) self.old.taken self.old.waiting }
         requires counters { self.old.taken + length self.old.waiting ≤ 2 ^ 32 }

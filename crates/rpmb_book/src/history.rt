@@ -1,4 +1,5 @@
-ghost use Rattle.std.specs.Prelude.{◌≡◌, ◌<◌, ◌≤◌, ◌++◌, ◌∷◌, [], IfOk, Some, option_map, length, slice_get};
+ghost use Rattle.std.specs.Prelude.{◌≡◌, ◌<◌, ◌≤◌, ◌++◌, ◌∷◌, [], IfOk, Some, option_map, length};
+ghost use Rattle.std.specs.Prelude.{slice_get};
 ghost use Rattle.std.specs.Option.{ForSome, option_copied};
 ghost use Rattle.rpmb_book.specs.History.{below, filed_seen, first_has_left, found_in, has_left};
 ghost use Rattle.rpmb_book.specs.History.{has_left_of, of_guest, still_filed, Rise};
@@ -51,7 +52,8 @@ impl Model for Filed {
 impl Filed {
     /// What was asked and answered, where it is the guest's.
     pub fn seen_by(&self, guest: u16) -> Option<TurnView<'_>>
-        ensures seen { option_map turn_seen result ≡ option_map filed_seen (of_guest guest (Some self.now)) }
+        ensures seen { option_map turn_seen result
+            ≡ option_map filed_seen (of_guest guest (Some self.now)) }
         ensures whole { ForSome result HasFrames }
     {
         if self.guest != guest {
@@ -85,8 +87,9 @@ fn has_left_of(guest: Option<&GuestState>, place: u64) -> bool
 
 /// The Submits of a history, of which contracts see the list, with room for all that may stand.
 ///
-/// Those that go stay in memory, in front of those that stand, until their places are needed: so each
-/// Submit that comes gives back what one held, just before it needs as much, and no call gives back all.
+/// Those that go stay in memory, in front of those that stand, until their places are needed: so
+/// each Submit that comes gives back what one held, just before it needs as much, and no call gives
+/// back all.
 #[derive(Drop)]
 pub struct History {
     filed: VecDeque<Filed>,
@@ -133,8 +136,8 @@ impl History {
         &self.filed[self.gone + place]
     }
 
-    /// What a Submit that has gone held, for the answer to one that comes; no memory where none has gone, or
-    /// places are left. What stands stays.
+    /// What a Submit that has gone held, for the answer to one that comes; no memory where none has
+    /// gone, or places are left. What stands stays.
     pub fn spare(&mut self, alloc: Global) -> Rooms
         ensures { self.new ≡ self.old }
     {

@@ -1,5 +1,5 @@
-//! The book: what every guest asked and was answered, which replies may leave, and what the store is
-//! still to keep. Its history is exact: replayed from the opening, it gives the state.
+//! The book: what every guest asked and was answered, which replies may leave, and what the store
+//! is still to keep. Its history is exact: replayed from the opening, it gives the state.
 #![tactic(auto)]
 
 mod answering;

@@ -8,8 +8,8 @@ use std::alloc::Global;
 /// How many blocks a request may write or read at most.
 const BLOCKS: usize = 16;
 
-/// Memory for the answer to a job: of its reply, of the history's copy of that, and of the blocks that it
-/// writes. A list of it may have any room or none, and what stands in it doesn't count.
+/// Memory for the answer to a job: of its reply, of the history's copy of that, and of the blocks
+/// that it writes. A list of it may have any room or none, and what stands in it doesn't count.
 #[derive(Drop)]
 pub struct Rooms {
     pub(crate) reply: Vec<u8>,
@@ -27,8 +27,8 @@ impl Rooms {
         }
     }
 
-    /// What the answer to a request takes at most, of what is spare where that fits; none, where memory is
-    /// refused.
+    /// What the answer to a request takes at most, of what is spare where that fits; none, where
+    /// memory is refused.
     pub(crate) fn of(alloc: Global, request: &Request<'_>, spare: Rooms) -> Rooms {
         let reply = Partition::reply_len(request, OK).min(512 * BLOCKS);
         let blocks = match request.command {
@@ -52,8 +52,8 @@ impl Rooms {
     }
 }
 
-/// Room for so many bytes: the spare one, where it is enough and at most twice as large, so that a small
-/// reply doesn't keep the room of a large one.
+/// Room for so many bytes: the spare one, where it is enough and at most twice as large, so that a
+/// small reply doesn't keep the room of a large one.
 pub fn room_for(alloc: Global, mut spare: Vec<u8>, len: usize) -> Result<Vec<u8>, NoMemory>
     ensures { IfOk result (HasRoom len) }
 {

@@ -6,7 +6,8 @@ use Rattle.std.specs.Str.{bytes_eq}
 use Rattle.script.specs.Words.{bytes_of, number_of, words_of}
 use Rattle.rpmb_frame.specs.Codes.{res_ok, resp_data_read}
 use Rattle.rpmb_frame.specs.Table.{first_row}
-use Rattle.rpmb_frame.specs.Frame.{block_data_of, key_mac_of, nonce_of, req_resp_of, result_of, last_of}
+use Rattle.rpmb_frame.specs.Frame.{block_data_of, key_mac_of, nonce_of, req_resp_of, result_of}
+use Rattle.rpmb_frame.specs.Frame.{last_of}
 use Rattle.rpmb_frame.specs.Request.{frames_of}
 use Rattle.hmac256.specs.Hmac.{mac}
 
@@ -17,7 +18,8 @@ pub record Used : Type 0 where
 
 -- the bytes, where they are as many as the line says
 abbrev pub as_long : ℕ → ℕ → List ℕ → Option Used
-as_long guest len bytes = if length bytes == len then Some (record { guest = guest; reply = bytes }) else None
+as_long guest len bytes =
+    if length bytes == len then Some (record { guest = guest; reply = bytes }) else None
 
 -- the words G, LEN and HEX after the word `used`
 abbrev pub used_words : List ℕ → List ℕ → List ℕ → Option Used
@@ -76,7 +78,8 @@ is_asked nonce reply = is_whole reply && is_nonce_right nonce (last_of (frames_o
 
 abbrev pub reply_of : Option (List ℕ) → List ℕ → Option Used
 reply_of None line = used_of line
-reply_of (Some nonce) line = option_and_then (λ used. if_asked (is_asked nonce used.reply) used) (used_of line)
+reply_of (Some nonce) line =
+    option_and_then (λ used. if_asked (is_asked nonce used.reply) used) (used_of line)
 
 abbrev pub and_then : Option Used → List Used → List Used
 and_then None rest = rest

@@ -82,14 +82,16 @@ abbrev pub mac_text : Bool → Option (List ℕ) → List (List ℕ) → List �
 mac_text false key frames frame =
     if is_zeros (key_mac_of frame) 32 then codes "in the last frame" else codes "out of place"
 mac_text true None frames frame = codes "not looked at"
-mac_text true (Some key) frames frame = if is_mac_right key frames then codes "right" else codes "wrong"
+mac_text true (Some key) frames frame =
+    if is_mac_right key frames then codes "right" else codes "wrong"
 
 -- a block, which only reads give: nothing is said of one of zeros
 abbrev pub data_name : List ℕ → List ℕ
 data_name frame = if is_zeros (block_data_of frame) 256 then [] else codes ", data "
 
 abbrev pub data_digits : List ℕ → List ℕ
-data_digits frame = if is_zeros (block_data_of frame) 256 then [] else encode_lower (block_data_of frame)
+data_digits frame =
+    if is_zeros (block_data_of frame) 256 then [] else encode_lower (block_data_of frame)
 
 -- what no MAC covers
 abbrev pub stuff_text : List ℕ → List ℕ
@@ -98,7 +100,8 @@ stuff_text frame = if is_zeros (slice_range frame 0 196) 196 then [] else codes 
 -- a frame at a place of n, counted from 1, of a reply to a guest
 unfoldable pub place_text : ℕ → ℕ → ℕ → List ℕ
 place_text guest place n =
-    codes "guest " ++ decimal guest ++ codes ", frame " ++ decimal place ++ codes " of " ++ decimal n ++ codes ": "
+    codes "guest " ++ decimal guest ++ codes ", frame " ++ decimal place ++ codes " of "
+    ++ decimal n ++ codes ": "
 
 unfoldable pub front_text : List ℕ → List ℕ
 front_text frame =
@@ -111,11 +114,13 @@ has_counter kind = not (kind == resp_data_read) && not (kind == 0)
 
 unfoldable pub counter_text : List ℕ → List ℕ
 counter_text frame =
-    if has_counter (req_resp_of frame) then codes ", counter " ++ decimal (write_counter_of frame) else []
+    if has_counter (req_resp_of frame) then codes ", counter " ++ decimal (write_counter_of frame)
+    else []
 
 unfoldable pub fields_text : List ℕ → List ℕ
 fields_text frame =
-    codes ", address " ++ decimal (address_of frame) ++ codes ", blocks " ++ decimal (block_count_of frame)
+    codes ", address " ++ decimal (address_of frame) ++ codes ", blocks "
+    ++ decimal (block_count_of frame)
 
 -- printable ASCII, from a space to a tilde
 abbrev pub is_printable : ℕ → Bool
@@ -141,14 +146,16 @@ block_text bytes =
 unfoldable pub checks_text : ℕ → List (List ℕ) → Option (List ℕ) → Option (List ℕ) → List ℕ
 checks_text i frames key asked =
     let frame = get_or frames i [] in
-    codes ", nonce " ++ nonce_text asked frame ++ codes ", MAC " ++ mac_text (i + 1 == length frames) key frames frame
+    codes ", nonce " ++ nonce_text asked frame ++ codes ", MAC "
+    ++ mac_text (i + 1 == length frames) key frames frame
     ++ data_name frame ++ data_digits frame ++ stuff_text frame
 
 -- the line of frame i, counted from 0, under a key and a nonce where they are given
 unfoldable pub frame_line : ℕ → ℕ → List (List ℕ) → Option (List ℕ) → Option (List ℕ) → List ℕ
 frame_line guest i frames key asked =
     let frame = get_or frames i [] in
-    place_text guest (i + 1) (length frames) ++ (front_text frame ++ (counter_text frame ++ (fields_text frame
+    place_text guest (i + 1) (length frames)
+    ++ (front_text frame ++ (counter_text frame ++ (fields_text frame
     ++ (checks_text i frames key asked ++ block_text (block_data_of frame)))))
 
 -- the lines of the first i frames
@@ -165,4 +172,5 @@ no_frames_line guest n = codes "guest " ++ decimal guest ++ codes ", " ++ decima
 unfoldable pub reply_lines : ℕ → List ℕ → Option (List ℕ) → Option (List ℕ) → List ℕ
 reply_lines guest reply key asked =
     let frames = frames_of reply in
-    if is_whole reply then frame_lines guest (length frames) frames key asked else no_frames_line guest (length reply)
+    if is_whole reply then frame_lines guest (length frames) frames key asked
+    else no_frames_line guest (length reply)

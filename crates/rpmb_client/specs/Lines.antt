@@ -3,7 +3,8 @@ use Rattle.std.specs.Prelude.{ℕ, zero, suc, ◌+◌, ◌-◌, ◌*◌, ◌/◌
 use Rattle.std.specs.Prelude.{◌++◌, length, min, slice_range}
 use Rattle.rpmb_core.specs.Reply.{joined}
 use Rattle.rpmb_client.specs.Chain.{chain_text}
-use Rattle.rpmb_client.specs.Made.{asking, counter_frame, key_frames, read_frame, result_frame, write_frames}
+use Rattle.rpmb_client.specs.Made.{asking, counter_frame, key_frames, read_frame, result_frame}
+use Rattle.rpmb_client.specs.Made.{write_frames}
 
 -- frames, and the room for the frames of the reply
 unfoldable pub request_line : ℕ → List (List ℕ) → ℕ → List ℕ
@@ -24,7 +25,8 @@ result_line guest = request_line guest (result_frame ∷ []) 1
 
 unfoldable pub write_line : ℕ → List ℕ → ℕ → ℕ → List (List ℕ) → Bool → List ℕ
 write_line guest key counter address blocks asks =
-    request_line guest (asking asks (write_frames key counter address blocks)) (if asks then 1 else 0)
+    request_line guest (asking asks (write_frames key counter address blocks))
+    (if asks then 1 else 0)
 
 -- the blocks of write k, where one writes at most `most`
 abbrev pub part_of : ℕ → ℕ → List (List ℕ) → List (List ℕ)

@@ -1,4 +1,5 @@
--- The frames of the requests that a client makes (VIRTIO 1.2, 5.12.6). Fields that aren't named are zeros.
+-- The frames of the requests that a client makes (VIRTIO 1.2, 5.12.6). Fields that aren't named are
+-- zeros.
 use Rattle.std.specs.Prelude.{ℕ, Bool, if◌then◌else◌, Some, List, [], ◌∷◌, ◌++◌, length, map}
 use Rattle.rpmb_frame.specs.Codes.{req_program_key, req_get_write_counter, req_data_write}
 use Rattle.rpmb_frame.specs.Codes.{req_data_read, req_result_read}
@@ -20,16 +21,19 @@ abbrev pub key_frames : List ℕ → List (List ℕ)
 key_frames key = key_frame key ∷ result_frame ∷ []
 
 unfoldable pub counter_frame : List ℕ → List ℕ
-counter_frame nonce = with_req_resp req_get_write_counter (with_block_count 1 (with_nonce nonce zero_frame))
+counter_frame nonce =
+    with_req_resp req_get_write_counter (with_block_count 1 (with_nonce nonce zero_frame))
 
 unfoldable pub read_frame : ℕ → ℕ → List ℕ → List ℕ
 read_frame address count nonce =
-    with_req_resp req_data_read (with_block_count count (with_address address (with_nonce nonce zero_frame)))
+    with_req_resp req_data_read
+    (with_block_count count (with_address address (with_nonce nonce zero_frame)))
 
 -- what the frames of a write have in common: type, block count, address and write counter
 unfoldable pub write_header : ℕ → ℕ → ℕ → List ℕ
 write_header counter address count =
-    with_req_resp req_data_write (with_block_count count (with_address address (with_write_counter counter zero_frame)))
+    with_req_resp req_data_write
+    (with_block_count count (with_address address (with_write_counter counter zero_frame)))
 
 -- a frame like `header` for each block
 unfoldable pub frames_like : List ℕ → List (List ℕ) → List (List ℕ)

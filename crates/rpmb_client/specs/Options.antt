@@ -56,7 +56,8 @@ IsWhyNoNonce (Some word) told =
     (why : ValueFault) × (told ≡ refusal_of_nonce why) × values.IsWhyNot 16 word why
 
 abbrev pub IsWhyNoDigits : List ℕ → OptionRefusal → Type 0
-IsWhyNoDigits word told = (why : ValueFault) × (told ≡ refusal_of_digits why) × values.IsWhyNot 32 word why
+IsWhyNoDigits word told =
+    (why : ValueFault) × (told ≡ refusal_of_digits why) × values.IsWhyNot 32 word why
 
 abbrev pub IsWhyNoKey : Bor (List ℕ) → List ℕ → OptionRefusal → Type 0
 IsWhyNoKey file content told =

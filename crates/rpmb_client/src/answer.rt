@@ -1,5 +1,6 @@
 //! The lines that give replies, and what can be judged of a reply.
-ghost use Rattle.std.specs.Prelude.{◌≡◌, ◌<◌, ◌≤◌, ℕ, IfOk, None, Option, Some, length, map, option_map, take};
+ghost use Rattle.std.specs.Prelude.{◌≡◌, ◌<◌, ◌≤◌, ℕ, IfOk, None, Option, Some, length, map};
+ghost use Rattle.std.specs.Prelude.{option_map, take};
 ghost use Rattle.std.specs.List.{flat_map};
 ghost use Rattle.rpmb_frame.specs.Frame.{block_data_of};
 ghost use Rattle.rpmb_client.specs.Answer.{Used as UsedModel, as_long, is_mac_right};
@@ -44,7 +45,8 @@ fn read_used_words(
     len: &str,
     hex: &str,
 ) -> Result<Option<Used>, AllocError>
-    ensures { IfOk result (λ read. option_map used_seen read ≡ used_words guest.now len.now hex.now) }
+    ensures { IfOk result
+        (λ read. option_map used_seen read ≡ used_words guest.now len.now hex.now) }
 {
     let Some(guest) = read_number(guest) else {
         return Ok(None);
@@ -62,7 +64,8 @@ fn read_used_words(
 }
 
 fn read_words(alloc: Global, words: &[&str]) -> Result<Option<Used>, AllocError>
-    ensures { IfOk result (λ read. option_map used_seen read ≡ used_of_words (map (λ w. w.now) words.now)) }
+    ensures { IfOk result
+        (λ read. option_map used_seen read ≡ used_of_words (map (λ w. w.now) words.now)) }
 {
     match words {
         [command, guest, len, hex] => {
@@ -120,8 +123,8 @@ fn blocks_of(alloc: Global, frames: &[[u8; 512]]) -> Result<Vec<u8>, AllocError>
     Ok(bytes)
 }
 
-/// The blocks of a reply to a read, where its MAC is right under the key and its nonce is the one that was
-/// asked with; else why not. The MAC is looked at before all other fields.
+/// The blocks of a reply to a read, where its MAC is right under the key and its nonce is the one
+/// that was asked with; else why not. The MAC is looked at before all other fields.
 #[tactic(auto, unfolding(crate::specs::Answer::read_of))]
 pub fn read_data(
     alloc: Global,

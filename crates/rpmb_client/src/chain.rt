@@ -8,8 +8,8 @@ use script::shown_bytes;
 use std::alloc::Global;
 use std::io::Write;
 
-/// Writes the line in which a guest offers a chain of these readable bytes and of so many writable ones:
-/// `chain G HEX W`.
+/// Writes the line in which a guest offers a chain of these readable bytes and of so many writable
+/// ones: `chain G HEX W`.
 ///
 /// # Errors
 ///

@@ -1,5 +1,6 @@
 //! What is said of a reply, a line for each of its frames.
-ghost use Rattle.std.specs.Prelude.{◌≡◌, ◌<◌, ◌≤◌, ◌+◌, ◌++◌, ◌∷◌, ◌==◌, IfOk, OnOk, [], get_or, length, string_bytes};
+ghost use Rattle.std.specs.Prelude.{◌≡◌, ◌<◌, ◌≤◌, ◌+◌, ◌++◌, ◌∷◌, ◌==◌, IfOk, OnOk, [], get_or};
+ghost use Rattle.std.specs.Prelude.{length, string_bytes};
 ghost use Rattle.std.specs.Io.KnownBytes.{Appends};
 ghost use Rattle.rpmb_client.specs.Explained.{checks_text, data_digits, data_name, counter_text};
 ghost use Rattle.rpmb_client.specs.Explained.{fields_text, front_text, frame_line, frame_lines};
@@ -139,7 +140,8 @@ fn stuff_text(bytes: &[u8; 512]) -> &'static str
 /// Writes whose frame it is, and at which place of how many.
 #[tactic(auto, unfolding(crate::specs::Explained::place_text))]
 fn write_place<W: Write>(guest: u64, place: usize, n: usize, out: &mut W) -> Result<(), ClientFault>
-    ensures { OnOk result (Appends (W.contents out.old) (W.contents out.new) (place_text guest place n)) }
+    ensures { OnOk result
+        (Appends (W.contents out.old) (W.contents out.new) (place_text guest place n)) }
 {
     write!(out, "guest {guest}, frame {place} of {n}: ")?;
     Ok(())
@@ -148,7 +150,8 @@ fn write_place<W: Write>(guest: u64, place: usize, n: usize, out: &mut W) -> Res
 /// Writes the type and the result of a frame.
 #[tactic(auto, unfolding(crate::specs::Explained::front_text))]
 fn write_front<W: Write>(alloc: Global, bytes: &[u8; 512], out: &mut W) -> Result<(), ClientFault>
-    ensures { OnOk result (Appends (W.contents out.old) (W.contents out.new) (front_text bytes.now)) }
+    ensures { OnOk result
+        (Appends (W.contents out.old) (W.contents out.new) (front_text bytes.now)) }
 {
     let frame = Frame::from_bytes(bytes);
     let kind = kind_text(frame.req_resp());
@@ -179,7 +182,8 @@ fn write_counter<W: Write>(bytes: &[u8; 512], out: &mut W) -> Result<(), ClientF
 /// Writes the numbers that each frame has.
 #[tactic(auto, unfolding(crate::specs::Explained::fields_text))]
 fn write_fields<W: Write>(bytes: &[u8; 512], out: &mut W) -> Result<(), ClientFault>
-    ensures { OnOk result (Appends (W.contents out.old) (W.contents out.new) (fields_text bytes.now)) }
+    ensures { OnOk result
+        (Appends (W.contents out.old) (W.contents out.new) (fields_text bytes.now)) }
 {
     let frame = Frame::from_bytes(bytes);
     let address = frame.address();
@@ -199,7 +203,8 @@ fn write_checks<W: Write>(
     out: &mut W,
 ) -> Result<(), ClientFault>
     requires { i < length frames.now }
-    ensures { OnOk result (Appends (W.contents out.old) (W.contents out.new) (checks_text i frames.now key nonce)) }
+    ensures { OnOk result
+        (Appends (W.contents out.old) (W.contents out.new) (checks_text i frames.now key nonce)) }
 {
     let bytes = &frames[i];
     let nonce = nonce_text(alloc, nonce, bytes)?;
@@ -253,14 +258,16 @@ fn write_frames<W: Write>(
 
 #[tactic(auto, unfolding(crate::specs::Explained::no_frames_line))]
 fn write_no_frames<W: Write>(guest: u64, count: usize, out: &mut W) -> Result<(), ClientFault>
-    ensures { OnOk result (Appends (W.contents out.old) (W.contents out.new) (no_frames_line guest count)) }
+    ensures { OnOk result
+        (Appends (W.contents out.old) (W.contents out.new) (no_frames_line guest count)) }
 {
     writeln!(out, "guest {guest}, {count} bytes are no frames")?;
     Ok(())
 }
 
-/// Writes what a reply says: a line for each frame, with every field by its name, the result in words, and
-/// whether the MAC under the key and the nonce are right, where a key or a nonce is given.
+/// Writes what a reply says: a line for each frame, with every field by its name, the result in
+/// words, and whether the MAC under the key and the nonce are right, where a key or a nonce is
+/// given.
 #[tactic(auto, unfolding(crate::specs::Explained::reply_lines))]
 pub fn explain<W: Write>(
     alloc: Global,

@@ -1,7 +1,8 @@
 //! Whether an answer is told to be wrong.
 ghost use Rattle.std.specs.Prelude.{◌≡◌, ◌<◌, length};
 ghost use Rattle.std.specs.List.{list_any};
-ghost use Rattle.rpmb_client.specs.Explained.{has_wrong_mac, has_wrong_nonce, is_nonce_wrong, is_wrong};
+ghost use Rattle.rpmb_client.specs.Explained.{has_wrong_mac, has_wrong_nonce, is_nonce_wrong};
+ghost use Rattle.rpmb_client.specs.Explained.{is_wrong};
 
 use crate::answer::{Used, has_nonce, has_right_mac, is_whole};
 use crate::explaining::lacks_nonce;

@@ -1,21 +1,23 @@
 //! Laws of what is made: what it is to `rpmbd`, and to a partition.
 ghost use Rattle.std.specs.Prelude.{◌≡◌, ◌≤◌, ℕ, List, length};
 ghost use Rattle.rpmb_frame.specs.Limits.{Limits};
-ghost use Rattle.rpmb_client.specs.Laws.{LinesAreRead, MadeCounter, MadeReads, MadeResult, MadeWrites, ProgramsKey};
+ghost use Rattle.rpmb_client.specs.Laws.{LinesAreRead, MadeCounter, MadeReads, MadeResult};
+ghost use Rattle.rpmb_client.specs.Laws.{MadeWrites, ProgramsKey};
 
 /// A line that was made reads, in a script for a board with that guest, as exactly that chain.
 pub fn made_lines_are_read()
     ensures { LinesAreRead }
 {}
 
-/// The made request for a key is a PROGRAM_KEY with its RESULT_READ. A partition without a key accepts it, and
-/// has that key then.
+/// The made request for a key is a PROGRAM_KEY with its RESULT_READ. A partition without a key
+/// accepts it, and has that key then.
 pub fn made_keys_are_programmed()
-    ensures { (key : List ℕ) (limits : Limits) → length key ≡ 32 → 1 ≤ limits.max_wr_cnt → ProgramsKey key limits }
+    ensures { (key : List ℕ) (limits : Limits) → length key ≡ 32 → 1 ≤ limits.max_wr_cnt
+        → ProgramsKey key limits }
 {}
 
-/// Made writes are classified as DATA_WRITE of their frames, and a partition with that key, that write counter
-/// and that room accepts them, unless the counter is at its end.
+/// Made writes are classified as DATA_WRITE of their frames, and a partition with that key, that
+/// write counter and that room accepts them, unless the counter is at its end.
 pub fn made_writes_are_accepted()
     ensures { MadeWrites }
 {}

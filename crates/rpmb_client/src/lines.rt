@@ -19,7 +19,8 @@ fn write_request<W: Write>(
     replied: u16,
     out: &mut W,
 ) -> Result<(), ClientFault>
-    ensures { OnOk result (Appends (W.contents out.old) (W.contents out.new) (request_line guest frames.now replied)) }
+    ensures { OnOk result (Appends (W.contents out.old) (W.contents out.new)
+        (request_line guest frames.now replied)) }
 {
     match join(alloc, frames) {
         Ok(bytes) => write_chain(
@@ -40,7 +41,8 @@ pub fn write_program_key<W: Write>(
     key: &[u8; 32],
     out: &mut W,
 ) -> Result<(), ClientFault>
-    ensures { OnOk result (Appends (W.contents out.old) (W.contents out.new) (key_line guest key.now)) }
+    ensures { OnOk result
+        (Appends (W.contents out.old) (W.contents out.new) (key_line guest key.now)) }
 {
     write_request(alloc, guest, &program_key(key), 1, out)
 }
@@ -52,7 +54,8 @@ pub fn write_read_counter<W: Write>(
     nonce: &[u8; 16],
     out: &mut W,
 ) -> Result<(), ClientFault>
-    ensures { OnOk result (Appends (W.contents out.old) (W.contents out.new) (counter_line guest nonce.now)) }
+    ensures { OnOk result
+        (Appends (W.contents out.old) (W.contents out.new) (counter_line guest nonce.now)) }
 {
     write_request(alloc, guest, &[read_counter(nonce)], 1, out)
 }
@@ -133,8 +136,8 @@ fn write_one<W: Write>(
     }
 }
 
-/// Writes the lines that write blocks from an address on, each line at most `most` of them, under write
-/// counters that ascend by one a line.
+/// Writes the lines that write blocks from an address on, each line at most `most` of them, under
+/// write counters that ascend by one a line.
 pub fn write_all<W: Write>(
     alloc: Global,
     writer: Writer,

@@ -99,8 +99,8 @@ fn seal(key: &[u8; 32], frames: &mut [[u8; 512]])
     frames[last] = frame.with_key_mac(&mac).to_bytes();
 }
 
-/// The frames that write blocks from an address on, under the key and its write counter, and behind them
-/// the one that asks for the result of that, where it is asked for.
+/// The frames that write blocks from an address on, under the key and its write counter, and behind
+/// them the one that asks for the result of that, where it is asked for.
 #[tactic(auto, unfolding(crate::specs::Made::write_frames))]
 pub fn write_blocks(
     alloc: Global,

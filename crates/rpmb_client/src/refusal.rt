@@ -19,8 +19,8 @@ pub enum Number {
     Length,
 }
 
-/// Why an option gives no value. Each is told by its name, what was expected, and what stands there;
-/// of a key only how long it is.
+/// Why an option gives no value. Each is told by its name, what was expected, and what stands
+/// there; of a key only how long it is.
 #[derive(Clone, Copy, Debug, Error)]
 pub enum OptionRefusal<'a> {
     /// The option isn't there.
@@ -28,8 +28,8 @@ pub enum OptionRefusal<'a> {
     Incomplete,
     #[error("{0}, got {1:?}")]
     Number(Number, &'a str),
-    #[error("BadKey: expected 32 bytes in hex digits, @FILE of 64 hex digits, or @raw:FILE of 32 bytes, \
-         got {0} bytes in hex digits")]
+    #[error("BadKey: expected 32 bytes in hex digits, @FILE of 64 hex digits, \
+         or @raw:FILE of 32 bytes, got {0} bytes in hex digits")]
     BadKey(usize),
     #[error("BadKey: expected 32 bytes in hex digits in the file {0:?}, got {1}")]
     BadKeyFile(&'a str, usize),

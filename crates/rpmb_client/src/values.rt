@@ -51,7 +51,8 @@ pub fn number_of(word: &str, least: u64, most: u64) -> Option<u64>
 pub fn bytes_of(alloc: Global, digits: &[u8]) -> Result<Vec<u8>, ValueFault>
     ensures ok { IfOk result (λ bytes. bytes_said digits.now ≡ Some bytes.items) }
     ensures err { IfErr result (λ fault. (fault ≡ ValueFault.NoMemory)
-        ⊎ ((why : FromHexError) × (fault ≡ ValueFault.BadHex why) × (decode_of digits.now ≡ Err why))) }
+        ⊎ ((why : FromHexError) × (fault ≡ ValueFault.BadHex why)
+        × (decode_of digits.now ≡ Err why))) }
 {
     match hex::decode(alloc, digits) {
         Ok(bytes) => Ok(bytes),

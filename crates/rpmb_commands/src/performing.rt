@@ -35,8 +35,8 @@ pub fn report<E: Write>(refusal: Refusal<'_>, err: &mut E) -> u8 {
     1
 }
 
-/// Performs a command, and gives the status that it ends with: 0, or 1 with one line on standard error.
-/// `source` gives the files that its words name, and `input` the lines of `rpmbd run`.
+/// Performs a command, and gives the status that it ends with: 0, or 1 with one line on standard
+/// error. `source` gives the files that its words name, and `input` the lines of `rpmbd run`.
 pub fn perform<S: Source, B: BufRead, W: Write, E: Write>(
     alloc: Global,
     source: &S,

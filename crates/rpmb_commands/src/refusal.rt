@@ -33,7 +33,8 @@ pub enum Refusal<'a> {
     NoRoom,
     #[error("NoMemory")]
     NoMemory,
-    #[error("NoAnswer: expected one line `used G LEN HEX`, or just one with the nonce, got {0} lines, {1} with it")]
+    #[error("NoAnswer: expected one line `used G LEN HEX`, or just one with the nonce, \
+        got {0} lines, {1} with it")]
     NoAnswer(usize, usize),
     #[error("NoFrames: expected a reply of whole frames of 512 bytes, got {0} bytes")]
     NoFrames(usize),
@@ -48,7 +49,8 @@ pub enum Refusal<'a> {
     Refused(&'static str),
     #[error("TooShort: expected blocks of at least {0} bytes, got {1}")]
     TooShort(u64, usize),
-    #[error("WrongAnswer: expected a right MAC and nonce in each of {0} replies, got {1} with a wrong one")]
+    #[error("WrongAnswer: expected a right MAC and nonce in each of {0} replies, \
+        got {1} with a wrong one")]
     WrongAnswer(u64, u64),
     #[error("BadBoard: the board file {0:?}: {1}")]
     BadBoard(&'a str, String),

@@ -38,8 +38,8 @@ impl<'a> Words<'a> {
 /// Why words give no command.
 #[derive(Debug, Drop)]
 pub enum WordsError {
-    /// They are wrong, or ask for help. The error has the text, and says by `use_stderr` to which stream it
-    /// goes and by `exit_code` the status: 0 for help, else 2.
+    /// They are wrong, or ask for help. The error has the text, and says by `use_stderr` to which
+    /// stream it goes and by `exit_code` the status: 0 for help, else 2.
     Refused(clap::Error),
     /// Memory was refused.
     NoMemory,
@@ -91,8 +91,8 @@ fn refused(error: clap::Error) -> WordsError {
 ///
 /// # Errors
 ///
-/// `Refused` where `clap` takes the words for none of the commands, or they ask for help; `NoMemory` where
-/// memory is refused.
+/// `Refused` where `clap` takes the words for none of the commands, or they ask for help;
+/// `NoMemory` where memory is refused.
 pub fn read_words<'a, S: AsStr>(alloc: Global, words: &'a [S]) -> Result<Words<'a>, WordsError> {
     let Ok(command) = program(alloc) else {
         return Err(WordsError::NoMemory);

@@ -1,4 +1,5 @@
--- What the check of a write's MAC came to, made of bytes and a key before the partition is looked at.
+-- What the check of a write's MAC came to, made of bytes and a key before the partition is looked
+-- at.
 use Rattle.std.specs.Prelude.{◌≡◌, ◌<◌, ℕ, Bool, List, length, take}
 use Rattle.rpmb_frame.specs.Limits.{Limits}
 use Rattle.rpmb_frame.specs.Request.{Request, Command, DataWrite, command_of}

@@ -21,7 +21,14 @@ zero_nonce = replicate 16 0
 -- what a lone RESULT_READ answers
 abbrev pub stored_response : Option Outcome → Response
 stored_response None =
-    record { nonce = zero_nonce; write_counter = 0; address = 0; block_count = 0; code = res_general_failure; kind = 0 }
+    record {
+      nonce = zero_nonce;
+      write_counter = 0;
+      address = 0;
+      block_count = 0;
+      code = res_general_failure;
+      kind = 0;
+    }
 stored_response (Some o) =
     record {
       nonce = zero_nonce;
@@ -82,7 +89,8 @@ frame_of r =
     with_req_resp r.kind (with_result r.code (with_block_count r.block_count (with_address r.address
     (with_write_counter r.write_counter (with_nonce r.nonce zero_frame)))))
 
--- a PROGRAM_KEY or DATA_WRITE takes a frame when it is combined, any other request where there is room for one
+-- a PROGRAM_KEY or DATA_WRITE takes a frame when it is combined, any other request where there is
+-- room for one
 abbrev pub is_answered : Command → ℕ → Bool
 is_answered (ProgramKey frame combined) writable = combined
 is_answered (DataWrite frames combined) writable = combined
@@ -105,7 +113,8 @@ GivesBlocks _ code = ⊥
 -- the frames that give the blocks of a DATA_READ
 abbrev pub block_frames : Partition → List ℕ → List (List ℕ)
 block_frames p frame =
-    read_frames (frame_of (read_response frame res_ok)) (blocks_from p (address_of frame) (block_count_of frame))
+    read_frames (frame_of (read_response frame res_ok))
+    (blocks_from p (address_of frame) (block_count_of frame))
 
 -- the only frame of a reply that gives no blocks, and none where no frame is due
 abbrev pub one_frame : Partition → Command → ℕ → ℕ → Option Outcome → List (List ℕ)
@@ -121,7 +130,8 @@ frames_on p command writable code last = one_frame p command writable code last
 -- the frames with the MAC of all of them in the last one, where there is a key
 unfoldable pub sealed : Option (List ℕ) → List (List ℕ) → List (List ℕ)
 sealed None frames = frames
-sealed (Some key) frames = slice_set frames (length frames - 1) (with_key_mac (mac key frames) (last_of frames))
+sealed (Some key) frames =
+    slice_set frames (length frames - 1) (with_key_mac (mac key frames) (last_of frames))
 
 abbrev pub joined : List (List ℕ) → List ℕ
 joined frames = flat_map (λ frame. frame) frames
@@ -130,8 +140,8 @@ joined frames = flat_map (λ frame. frame) frames
 unfoldable pub reply : Partition → Request → ℕ → Option Outcome → List ℕ
 reply p r code last = joined (sealed p.key (frames_on p r.command r.writable code last))
 
--- The bytes of the reply before the MAC, and what closes them: under a key the MAC of their frames goes into the last
--- of them, and where there is no key they are the reply already.
+-- The bytes of the reply before the MAC, and what closes them: under a key the MAC of their frames
+-- goes into the last of them, and where there is no key they are the reply already.
 unfoldable pub open_reply : Partition → Request → ℕ → Option Outcome → List ℕ
 open_reply p r code last = joined (frames_on p r.command r.writable code last)
 
@@ -142,10 +152,12 @@ closed (Some key) bytes = joined (sealed (Some key) (frames_of bytes))
 -- how many bytes the reply has
 abbrev pub reply_length : Command → ℕ → ℕ → ℕ
 reply_length (DataRead frame) writable code =
-    if code == res_ok then 512 * block_count_of frame else if is_answered (DataRead frame) writable then 512 else 0
+    if code == res_ok then 512 * block_count_of frame else if is_answered (DataRead frame) writable
+    then 512 else 0
 reply_length command writable code = if is_answered command writable then 512 else 0
 
--- the type of a failure reply: that of the response, and 0 where a RESULT_READ stands alone or nothing is asked
+-- the type of a failure reply: that of the response, and 0 where a RESULT_READ stands alone or
+-- nothing is asked
 abbrev pub failure_kind : Command → ℕ
 failure_kind (ProgramKey frame combined) = resp_program_key
 failure_kind (GetWriteCounter frame) = resp_get_counter
@@ -159,9 +171,11 @@ failure_frame kind code = with_req_resp kind (with_result code zero_frame)
 
 -- the reply of a store that broke: that frame, and nothing where no frame was due
 unfoldable pub failure : Request → ℕ → List ℕ
-failure r code = if is_answered r.command r.writable then failure_frame (failure_kind r.command) code else []
+failure r code =
+    if is_answered r.command r.writable then failure_frame (failure_kind r.command) code else []
 
--- what becomes of a reply that was made when the store breaks: nothing of nothing, else the frame of a failure
+-- what becomes of a reply that was made when the store breaks: nothing of nothing, else the frame
+-- of a failure
 abbrev pub failed : ℕ → ℕ → List ℕ → List ℕ
 failed kind code [] = []
 failed kind code (byte ∷ bytes) = failure_frame kind code

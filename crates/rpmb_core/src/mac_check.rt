@@ -7,10 +7,10 @@ use crate::verdict::are_equal;
 use hmac256::MacKey;
 use rpmb_frame::{DATA_WRITE, Frame, RESULT_READ};
 
-/// What the check of a write's MAC came to: whether the MAC in the last of so many frames is that of
-/// them all under this key (VIRTIO 1.2, 5.12.6). It is made of bytes and a key alone, so no partition
-/// has to be locked meanwhile. A verdict looks at it where it is of as many frames as the write has,
-/// and under the key that the partition then has.
+/// What the check of a write's MAC came to: whether the MAC in the last of so many frames is that
+/// of them all under this key (VIRTIO 1.2, 5.12.6). It is made of bytes and a key alone, so no
+/// partition has to be locked meanwhile. A verdict looks at it where it is of as many frames as the
+/// write has, and under the key that the partition then has.
 #[derive(Clone, Copy)]
 pub struct MacCheck {
     count: usize,
@@ -31,10 +31,10 @@ impl MacCheck {
         }
     }
 
-    /// The check of the write that these bytes, the readable ones of a chain, may ask for; that of no
-    /// frames, where there is none or the first one's type isn't DATA_WRITE. A frame behind them that
-    /// asks for the result isn't one of the write's. A frame has 512 bytes, and a rest behind the last
-    /// whole one isn't looked at.
+    /// The check of the write that these bytes, the readable ones of a chain, may ask for; that of
+    /// no frames, where there is none or the first one's type isn't DATA_WRITE. A frame behind them
+    /// that asks for the result isn't one of the write's. A frame has 512 bytes, and a rest behind
+    /// the last whole one isn't looked at.
     pub fn of_bytes(bytes: &[u8], key: &MacKey) -> MacCheck
         ensures says { Says (frames_of bytes.now) result }
         ensures covers { Covers bytes.now key.now result }
@@ -67,8 +67,8 @@ impl MacCheck {
         }
     }
 
-    /// Whether the last of these frames has the MAC of them all under this key. No MAC is made where the
-    /// check was of as many frames and under the same key.
+    /// Whether the last of these frames has the MAC of them all under this key. No MAC is made
+    /// where the check was of as many frames and under the same key.
     #[tactic(auto, unfolding(crate::specs::MacCheck::SaysOfWrite))]
     pub(crate) fn is_right_of(&self, frames: &[[u8; 512]], key: &MacKey) -> bool
         requires some { 0 < length frames.now }

@@ -1,7 +1,8 @@
 ghost use Rattle.std.specs.Prelude.{◌≡◌, ◌≤◌, ◌+◌, ◌*◌, ◌++◌, ℕ, List, None, true, is_none, IfOk};
 ghost use Rattle.std.specs.Prelude.{length, drop, vec_len};
 ghost use Rattle.std.specs.Option.{option_copied};
-ghost use Rattle.rpmb_frame.specs.Partition.{IsWhole, block_of, overwritten, sequence, empty_partition};
+ghost use Rattle.rpmb_frame.specs.Partition.{IsWhole, block_of, overwritten, sequence};
+ghost use Rattle.rpmb_frame.specs.Partition.{empty_partition};
 ghost use Rattle.rpmb_core.specs.Accept.{is_accepted, partition_after, data_of};
 
 use hmac256::MacKey;
@@ -33,9 +34,15 @@ impl Model for Partition {
 
     ghost Value = { model.Partition };
 
-    ghost view = { λ p. record { capacity = p.capacity; key = p.key; counter = p.counter; blocks = p.blocks.items } };
+    ghost view = { λ p. record {
+      capacity = p.capacity;
+      key = p.key;
+      counter = p.counter;
+      blocks = p.blocks.items;
+    } };
 
-    ghost invariant = { λ p. (length p.blocks.items ≡ 131072 * p.capacity) × (is_none p.key ≡ true → p.counter ≡ 0) };
+    ghost invariant = { λ p. (length p.blocks.items ≡ 131072 * p.capacity)
+        × (is_none p.key ≡ true → p.counter ≡ 0) };
 }
 
 impl Partition {
@@ -57,7 +64,8 @@ impl Partition {
     pub fn of(capacity: u8, key: Option<[u8; 32]>, counter: u32, blocks: Vec<u8>) -> Partition
         requires blocks { length blocks.items ≡ 131072 * capacity }
         requires counter { is_none key ≡ true → counter ≡ 0 }
-        ensures { result ≡ record { capacity = capacity; key = key; counter = counter; blocks = blocks.items } }
+        ensures { result
+            ≡ record { capacity = capacity; key = key; counter = counter; blocks = blocks.items } }
     {
         let key = match key {
             Some(key) => Some(MacKey::new(&key)),
@@ -162,8 +170,8 @@ impl Partition {
         self.key.as_ref()
     }
 
-    /// Makes the change of an accepted request: sets the key, or overwrites the blocks and raises the
-    /// counter by one.
+    /// Makes the change of an accepted request: sets the key, or overwrites the blocks and raises
+    /// the counter by one.
     #[tactic(auto, unfolding(crate::specs::Accept::is_accepted, crate::specs::Accept::partition_after))]
     pub fn accept(&mut self, request: &Request<'_>)
         requires { is_accepted self.old request.now ≡ true }

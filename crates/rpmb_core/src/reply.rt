@@ -21,10 +21,10 @@ const KEY_MAC: usize = 196;
 const DATA: usize = 228;
 
 impl Partition {
-    /// Writes the reply to a request that had this result to the front of `out`, and says its length in
-    /// bytes: 0, 512, or 512 for each block of a DATA_READ. The partition is the one after the request,
-    /// `last` the stored outcome, this request's included. The last frame has the MAC of the whole
-    /// reply, where the partition has a key.
+    /// Writes the reply to a request that had this result to the front of `out`, and says its
+    /// length in bytes: 0, 512, or 512 for each block of a DATA_READ. The partition is the one
+    /// after the request, `last` the stored outcome, this request's included. The last frame has
+    /// the MAC of the whole reply, where the partition has a key.
     pub fn reply(
         &self,
         request: &Request<'_>,
@@ -42,7 +42,8 @@ impl Partition {
         len
     }
 
-    /// Writes the reply as `reply` does, but for its MAC: `close` under the partition's key puts that in.
+    /// Writes the reply as `reply` does, but for its MAC: `close` under the partition's key puts
+    /// that in.
     #[tactic(auto, unfolding(crate::specs::Reply::open_reply, crate::specs::Reply::reply))]
     pub fn open_reply(
         &self,
@@ -82,7 +83,8 @@ impl Partition {
         last: Option<Outcome>,
         out: &mut [u8; 8192],
     ) -> usize
-        ensures size { result ≡ (if is_answered request.now.command request.now.writable then 512 else 0) }
+        ensures size { result
+            ≡ (if is_answered request.now.command request.now.writable then 512 else 0) }
         ensures len { result ≡ length
             (joined (one_frame self.now request.now.command request.now.writable code last)) }
         ensures bytes { out.new
@@ -175,8 +177,8 @@ impl Partition {
     }
 }
 
-/// Puts the MAC of a reply's frames, 32 bytes, into the last of them, which closes the reply. A reply
-/// without frames gets none.
+/// Puts the MAC of a reply's frames, 32 bytes, into the last of them, which closes the reply. A
+/// reply without frames gets none.
 #[tactic(auto, unfolding(crate::specs::Reply::closed))]
 pub fn close(key: &MacKey, reply: &mut [u8])
     requires whole { length reply.old ≡ 512 * (length reply.old / 512) }

@@ -9,7 +9,8 @@ use Rattle.mmio_transport.specs.Device.{DeviceState, after_write, kick_of}
 use Rattle.mmio_transport.specs.Registers.{interrupt_number}
 use Rattle.machine.specs.Ending.{HasNoMore}
 use Rattle.machine.specs.Machine.{Completes, Copies, IsInWindow, IsServed, MachineState}
-use Rattle.machine.specs.Machine.{TellsFault, TellsRanges, is_awaited, shown_by, waits_for_sync, with_device}
+use Rattle.machine.specs.Machine.{TellsFault, TellsRanges, is_awaited, shown_by, waits_for_sync}
+use Rattle.machine.specs.Machine.{with_device}
 use Rattle.board.specs.State.{HasNoJob}
 use Rattle.machine.specs.Settings.{is_plain, value_taken}
 use Rattle.machine.specs.Opening.{IsMonitored, length_of}

@@ -24,12 +24,14 @@ said (line.Reset guest) = reset guest
 
 -- the number of a guest of the board
 abbrev pub guest_of : ℕ → List ℕ → Option ℕ
-guest_of guests word = option_and_then (λ g. if nat_lt g guests then Some g else None) (number_of word)
+guest_of guests word =
+    option_and_then (λ g. if nat_lt g guests then Some g else None) (number_of word)
 
 -- the bytes of a readable part, and the length of a writable one
 abbrev pub readable_of : List ℕ → Option (List ℕ)
 readable_of word =
-    option_and_then (λ bytes. if nat_le (length bytes) 8704 then Some bytes else None) (bytes_of word)
+    option_and_then (λ bytes. if nat_le (length bytes) 8704 then Some bytes else None)
+    (bytes_of word)
 
 abbrev pub writable_of : List ℕ → Option ℕ
 writable_of word = option_and_then (λ w. if nat_le w 8192 then Some w else None) (number_of word)
@@ -85,7 +87,8 @@ IsWithin guests (chain g bytes w) =
 IsWithin guests (store g address bytes) = (g < guests) × (address < 2 ^ 64) × (0 < length bytes)
 IsWithin guests (reset g) = g < guests
 
--- what a script may say whose guests are served at once: all but a store, since a guest's memory is its driver's then
+-- what a script may say whose guests are served at once: all but a store, since a guest's memory is
+-- its driver's then
 abbrev pub IsServed : Said → Type 0
 IsServed nothing = ⊤
 IsServed (chain g bytes w) = ⊤

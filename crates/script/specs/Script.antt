@@ -1,5 +1,6 @@
 -- What a script says.
-use Rattle.std.specs.Prelude.{ℕ, ◌+◌, ◌==◌, List, [], ◌∷◌, Option, Some, None, if◌then◌else◌, is_some, option_map}
+use Rattle.std.specs.Prelude.{ℕ, ◌+◌, ◌==◌, List, [], ◌∷◌, Option, Some, None, if◌then◌else◌}
+use Rattle.std.specs.Prelude.{is_some, option_map}
 use Rattle.std.specs.List.{slice_split}
 use Rattle.script.specs.Line.{Said, line_of, served_line_of}
 
@@ -14,7 +15,8 @@ first_none reads (line ∷ lines) =
     if is_some (reads line) then option_map (λ n. n + 1) (first_none reads lines)
     else Some 1
 
--- of the first that says nothing a script may say, and of the first that says nothing a script may say that is served
+-- of the first that says nothing a script may say, and of the first that says nothing a script may
+-- say that is served
 abbrev pub first_bad : ℕ → List (List ℕ) → Option ℕ
 first_bad guests lines = first_none (line_of guests) lines
 

@@ -3,8 +3,8 @@
 //! A line is empty, a comment (it begins with `#`), or one of these:
 //!
 //! - `chain G HEX W`: guest G offers a chain of the bytes HEX and of W bytes for the reply.
-//! - `store G ADDR HEX`: the bytes HEX go into the memory of guest G at the address ADDR. A script whose
-//!   guests are served at once has no such line.
+//! - `store G ADDR HEX`: the bytes HEX go into the memory of guest G at the address ADDR. A script
+//!   whose guests are served at once has no such line.
 //! - `reset G`: the device of guest G is reset and negotiated with again.
 //!
 //! `docs/FORMATS.md` has the whole format.

@@ -1,7 +1,9 @@
 //! One line of a script.
 ghost use Rattle.std.specs.Prelude.{◌≡◌, IfOk, Err, None, Ok, Some, map, option_map, true};
-ghost use Rattle.script.specs.Line.{IsWithin, chain_line, guest_of, is_skipped, line_of, line_of_words};
-ghost use Rattle.script.specs.Line.{readable_of, reset_line, said, store_line, stored_of, writable_of};
+ghost use Rattle.script.specs.Line.{IsWithin, chain_line, guest_of, is_skipped, line_of};
+ghost use Rattle.script.specs.Line.{line_of_words};
+ghost use Rattle.script.specs.Line.{readable_of, reset_line, said, store_line, stored_of};
+ghost use Rattle.script.specs.Line.{writable_of};
 
 use crate::fault::LineError;
 use crate::word::{first_words, read_bytes, read_number};

@@ -30,7 +30,8 @@ fn read_lines(
     ensures ok { IfOk result (λ lines. map (λ line. Some (said line)) lines.items
         ≡ map (line_when served guests) (lines_of script.now)) }
     ensures within { IfOk result (λ lines. All (λ line. IsWithin guests (said line)) lines.items) }
-    ensures served { served ≡ true → IfOk result (λ lines. All (λ line. IsServed (said line)) lines.items) }
+    ensures served { served ≡ true
+        → IfOk result (λ lines. All (λ line. IsServed (said line)) lines.items) }
     ensures bad { (n : ℕ) → result ≡ Err (ScriptError.BadScript n)
         → first_none (line_when served guests) (lines_of script.now) ≡ Some n }
 {
@@ -72,13 +73,13 @@ pub fn read_script(alloc: Global, script: &str, guests: u16) -> Result<Vec<Line>
     read_lines(alloc, false, script, guests)
 }
 
-/// Reads a script whose guests are served at once: as `read_script`, but a `store` line is one that a
-/// script may not say, since a guest's memory is its driver's while the others go on.
+/// Reads a script whose guests are served at once: as `read_script`, but a `store` line is one that
+/// a script may not say, since a guest's memory is its driver's while the others go on.
 ///
 /// # Errors
 ///
-/// `BadScript` with the number of the first line, counted from 1, that `read_line` refuses or that is a
-/// `store` line; `NoMemory` where memory is refused.
+/// `BadScript` with the number of the first line, counted from 1, that `read_line` refuses or that
+/// is a `store` line; `NoMemory` where memory is refused.
 pub fn read_served_script(
     alloc: Global,
     script: &str,

@@ -1,5 +1,5 @@
-//! Boards of three guests, and what their guests do: each programs its key, and then writes four times before the
-//! store has any of it.
+//! Boards of three guests, and what their guests do: each programs its key, and then writes four
+//! times before the store has any of it.
 ghost use Rattle.std.specs.Prelude.{IfOk};
 ghost use Rattle.host.specs.Opening.{IsJustOpened};
 
@@ -74,8 +74,8 @@ pub fn opened<D: Disk>(alloc: Global, disk: D, config: &BoardConfig) -> Result<B
     }
 }
 
-/// Where guests act and steps are made. Its method promises nothing, so that what stands above it is proved
-/// without the contract of a board's step.
+/// Where guests act and steps are made. Its method promises nothing, so that what stands above it
+/// is proved without the contract of a board's step.
 pub trait Stage: Bus {
     fn step(&mut self, step: Step) -> Result<(), Trouble>;
 }

@@ -24,12 +24,13 @@ struct Desk {
     shares: Shares,
 }
 
-/// What is done with a book. Its methods promise nothing, so that what stands above them is proved without the
-/// book's contracts.
+/// What is done with a book. Its methods promise nothing, so that what stands above them is proved
+/// without the book's contracts.
 trait Asks: Drop {
     fn ask(&mut self, alloc: Global, job: Job) -> Result<Receipt, (Job, Refused)>;
 
-    /// The sum of all that is told of the book but its history: its counts, and each guest's partition.
+    /// The sum of all that is told of the book but its history: its counts, and each guest's
+    /// partition.
     fn look(&self) -> Sum;
 
     /// Whether the guest's next intent is of one request.
@@ -128,8 +129,8 @@ fn is_of(job: &Job, asked: Asked) -> bool {
         && ticket.places == 3
 }
 
-/// The receipt of a job; where memory was refused, the job comes back and the book is as it was, and the same job
-/// is answered then.
+/// The receipt of a job; where memory was refused, the job comes back and the book is as it was,
+/// and the same job is answered then.
 fn submitted<A: Asks>(rt: &HostRuntime, desk: &mut A, asked: Asked) -> Result<Receipt, Trouble> {
     let job = job_of(rt.alloc(), asked)?;
     let before = desk.look();
@@ -159,7 +160,8 @@ fn ask_all<A: Asks>(rt: &HostRuntime, desk: &mut A) -> Result<Receipt, Trouble> 
     submitted(rt, desk, Asked::Key)
 }
 
-/// The nonces of the 63 replies come back in their order; the reply to the key is held until it is settled.
+/// The nonces of the 63 replies come back in their order; the reply to the key is held until it is
+/// settled.
 fn collect_all<A: Asks>(desk: &mut A, sum: Sum) -> Result<Sum, Trouble> {
     let mut sum = sum;
     for nonce in 0..63_u8 {

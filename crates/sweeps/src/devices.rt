@@ -5,8 +5,8 @@ use crate::requests::Asked;
 use mmio_transport::{Device, DeviceFault, Job};
 use rpmb_frame::RingKind;
 
-/// A device as the sweep sees it. Its methods promise nothing, so that what stands above them is proved without
-/// the device's contracts.
+/// A device as the sweep sees it. Its methods promise nothing, so that what stands above them is
+/// proved without the device's contracts.
 trait Popping: Bus {
     fn next(&mut self) -> Result<Option<Job>, DeviceFault>;
 
@@ -71,7 +71,8 @@ fn made(rt: &HostRuntime, ring: RingKind) -> Result<Device, Trouble> {
     Err(Trouble::Differs("Device::new: refused again"))
 }
 
-/// The next job; where memory was refused the device is as it was, and the second pop gives the job.
+/// The next job; where memory was refused the device is as it was, and the second pop gives the
+/// job.
 fn popped<P: Popping>(rt: &HostRuntime, device: &mut P) -> Result<Option<Job>, Trouble> {
     let before = device.look();
     match device.next() {

@@ -1,5 +1,5 @@
-//! Openings of an image that a stop left with three open gates, each over a group of four writes, by `recovery`
-//! and by a board; and the making of a fresh image.
+//! Openings of an image that a stop left with three open gates, each over a group of four writes,
+//! by `recovery` and by a board; and the making of a fresh image.
 use crate::boards::{GUESTS, blank, board_of, gated_disk, make_image, sum_of, sum_of_all};
 use crate::looks::{Sum, Trouble, check, tell_end, tell_refused};
 use board::Board;
@@ -38,7 +38,8 @@ fn partitions_in(
     }
 }
 
-/// What an opening gives; where memory was refused, the disk comes back as it was, and is opened again.
+/// What an opening gives; where memory was refused, the disk comes back as it was, and is opened
+/// again.
 fn partitions_of(
     rt: &HostRuntime,
     config: &BoardConfig,
@@ -82,7 +83,8 @@ fn board_in(
     Board::open(alloc, disk, 2, config)
 }
 
-/// The board over an image; where memory was refused, the disk comes back as it was, and is opened again.
+/// The board over an image; where memory was refused, the disk comes back as it was, and is opened
+/// again.
 fn board_over(
     rt: &HostRuntime,
     config: &BoardConfig,

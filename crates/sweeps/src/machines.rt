@@ -1,5 +1,6 @@
-//! A machine over an image that a stop left with three open gates: it is opened, and serves a guest that asks for
-//! its counter and writes. The monitor makes what the outbox gives on its own copy of the image.
+//! A machine over an image that a stop left with three open gates: it is opened, and serves a guest
+//! that asks for its counter and writes. The monitor makes what the outbox gives on its own copy of
+//! the image.
 use crate::boards::{board_of, gated_disk, ring_of, sum_of_all};
 use crate::looks::{Sum, Trouble, check, tell_end, tell_refused};
 use crate::queues::{Bus, REPLIES, guest_of, offer, set_up};
@@ -62,8 +63,8 @@ struct Served {
     again: bool,
 }
 
-/// What a monitor does. Its methods promise nothing, so that what stands above them is proved without the
-/// machine's contracts.
+/// What a monitor does. Its methods promise nothing, so that what stands above them is proved
+/// without the machine's contracts.
 trait Monitor: Bus + Drop {
     fn serve_guest(&mut self) -> Served;
 
@@ -140,8 +141,8 @@ fn sum_of_replies<M: Monitor>(machine: &M) -> Sum {
     sum
 }
 
-/// The partitions of the image that is left. (How many writes went to the store as one isn't in them, and that
-/// depends on where a serve ended.)
+/// The partitions of the image that is left. (How many writes went to the store as one isn't in
+/// them, and that depends on where a serve ended.)
 fn sum_of_image(alloc: Global, image: Vec<u8>, sum: Sum) -> Result<Sum, Trouble> {
     let config = board_of(alloc)?;
     match open(alloc, MemDisk::new(image), &config) {
@@ -204,7 +205,8 @@ impl<M: Monitor> Rig<M> {
         Ok(served.again)
     }
 
-    /// Serves the guest, makes what the outbox gives, and tells each sync that is awaited, until nothing is left.
+    /// Serves the guest, makes what the outbox gives, and tells each sync that is awaited, until
+    /// nothing is left.
     fn settle(&mut self, rt: &HostRuntime) -> Result<(), Trouble> {
         for _ in 0..TURNS {
             let again = self.serve(rt)?;

@@ -1,7 +1,7 @@
-//! Makes calls that take memory, in settings that aren't small, and says of each what it gave. Where one of
-//! them is refused memory, all that can be seen has to be as it was before, and the same call has to succeed
-//! then; so whichever single allocation fails, the program prints the same, and ends with status 0. What
-//! isn't so is named on standard error, and the status is 1.
+//! Makes calls that take memory, in settings that aren't small, and says of each what it gave.
+//! Where one of them is refused memory, all that can be seen has to be as it was before, and the
+//! same call has to succeed then; so whichever single allocation fails, the program prints the
+//! same, and ends with status 0. What isn't so is named on standard error, and the status is 1.
 #![tactic(auto)]
 
 mod boards;
@@ -68,8 +68,8 @@ fn sweep<R: Threads + Wait + Sync>(
     }
 }
 
-/// One sweep. Where memory was refused outside the call that it is about, it is made once more: a second refusal
-/// is one too many.
+/// One sweep. Where memory was refused outside the call that it is about, it is made once more: a
+/// second refusal is one too many.
 fn sweep_twice<R: Threads + Wait + Sync>(
     rt: &HostRuntime,
     threads: &R,

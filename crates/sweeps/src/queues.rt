@@ -1,5 +1,5 @@
-//! The driver's half of a queue: it brings a device into service and offers chains, of which each is a table of
-//! eight ranges to be read and eight to be written.
+//! The driver's half of a queue: it brings a device into service and offers chains, of which each
+//! is a table of eight ranges to be read and eight to be written.
 use crate::looks::Trouble;
 use crate::requests::Asked;
 use mmio_transport::{feature, register as reg};
@@ -33,8 +33,9 @@ fn high_features(ring: RingKind) -> u32 {
     }
 }
 
-/// What a driver writes into the registers: tables and event indexes, a queue of 16 with its descriptors at
-/// 0x1000, its driver area at 0x2000 and its device area at 0x3000, and DRIVER_OK (VIRTIO 1.2, 3.1.1 and 4.2.3.2).
+/// What a driver writes into the registers: tables and event indexes, a queue of 16 with its
+/// descriptors at 0x1000, its driver area at 0x2000 and its device area at 0x3000, and DRIVER_OK
+/// (VIRTIO 1.2, 3.1.1 and 4.2.3.2).
 fn setup_of(ring: RingKind) -> [(u32, u32); 13] {
     [
         (reg::STATUS, 3),
@@ -61,7 +62,8 @@ pub fn set_up<B: Bus>(bus: &mut B, guest: u16, ring: RingKind) -> Result<(), Tro
     Ok(())
 }
 
-/// Where the n-th chain of a guest, n below 8, has its table, its request and the room for its reply.
+/// Where the n-th chain of a guest, n below 8, has its table, its request and the room for its
+/// reply.
 const TABLES: u16 = 0x4000;
 
 const REQUESTS: u16 = 0x8000;

@@ -15,7 +15,8 @@ use std::sync::Wait;
 use std::thread::Threads;
 use workers::{Chain, DriverEnd, Ended, Open, Order, Script, parts_of, serve};
 
-/// How often the system is asked for the threads of this process: one that was joined may be counted for a moment.
+/// How often the system is asked for the threads of this process: one that was joined may be
+/// counted for a moment.
 const LOOKS: u32 = 100_000;
 
 /// Puts the chain of a request behind others, with room for one frame.

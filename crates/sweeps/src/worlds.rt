@@ -1,4 +1,5 @@
-//! A world of three guests: it is opened, each programs its key and writes four times, and the replies leave.
+//! A world of three guests: it is opened, each programs its key and writes four times, and the
+//! replies leave.
 use crate::boards::{
     GUESTS, Stage, advance, blank, board_of, key_all, make_image, reply_all, sum_of, write_all,
 };
@@ -60,8 +61,8 @@ fn acts_of(alloc: Global) -> Result<Acts, Trouble> {
     Ok(acts)
 }
 
-/// A world as the sweep sees it. Its methods promise nothing, so that what stands above them is proved without
-/// the world's contracts.
+/// A world as the sweep sees it. Its methods promise nothing, so that what stands above them is
+/// proved without the world's contracts.
 trait Lived: Drop {
     fn happen(&mut self, events: &[Event]) -> Option<Refusal>;
 
@@ -123,8 +124,8 @@ fn is_no_memory(refusal: Refusal) -> bool {
     )
 }
 
-/// One event; where memory was refused nothing has changed, and the same event happens then. (A world that isn't
-/// opened tells what a closed one does, and that is what it was.)
+/// One event; where memory was refused nothing has changed, and the same event happens then. (A
+/// world that isn't opened tells what a closed one does, and that is what it was.)
 fn happens<L: Lived>(rt: &HostRuntime, world: &mut L, event: &Event) -> Result<(), Trouble> {
     let before = world.look(8);
     match world.happen(slice::from_ref(event)) {

@@ -17,7 +17,8 @@ last_given x = last_in (mark_of x) (pending_intents x)
 
 -- each guest's share is the sequence of the last request that the store was given of it
 abbrev pub Follow : List ℕ → List Guest → Type 0
-Follow shares guests = (g : ℕ) (x : Guest) → slice_get guests g ≡ Some x → slice_get shares g ≡ Some (last_given x)
+Follow shares guests =
+    (g : ℕ) (x : Guest) → slice_get guests g ≡ Some x → slice_get shares g ≡ Some (last_given x)
 
 -- no call of the disk is left, also where one has failed
 abbrev pub IsAtRest : Bool → List Guest → Type 0

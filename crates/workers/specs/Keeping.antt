@@ -1,4 +1,5 @@
--- What the flusher's calls leave of the partitions at each moment: whole intents, one after another.
+-- What the flusher's calls leave of the partitions at each moment: whole intents, one after
+-- another.
 use Rattle.std.specs.Prelude.{◌≡◌, ◌⊎◌, ℕ, ◌≤◌, Bool, true, List, [], ◌∷◌, ◌++◌, length, take, drop}
 use Rattle.std.specs.Prelude.{Some, slice_get}
 use Rattle.disk.specs.Content.{Content}
@@ -27,15 +28,17 @@ pub record IsAfterSome (p : Part) (intents : List Intent) (least : ℕ) (q : Par
 abbrev pub to_keep : Guest → List Intent → List Intent
 to_keep x given = pending_intents x ++ given
 
--- Whatever a stop leaves stands, for each guest, for its partition after some of what it is to keep, and for none
--- below its mark.
+-- Whatever a stop leaves stands, for each guest, for its partition after some of what it is to
+-- keep, and for none below its mark.
 abbrev pub LeavesWhole : List Guest → (ℕ → Part) → (ℕ → List Intent) → DiskState → Type 0
 LeavesWhole guests parts given s = (g : ℕ) (x : Guest) → slice_get guests g ≡ Some x
     → (c : Content) → MayLeave s c
-    → (q : Part) × Stands (region_of x) c q × IsAfterSome (parts g) (to_keep x (given g)) (mark_of x) q
+    → (q : Part) × Stands (region_of x) c q
+    × IsAfterSome (parts g) (to_keep x (given g)) (mark_of x) q
 
 -- Of one guest: so much of what it is to keep is settled, and its slots hold the rest.
-pub record IsAhead (p : Part) (x : Guest) (given : List Intent) (settled : Part) (y : Guest) : Type 0 where
+pub record IsAhead (p : Part) (x : Guest) (given : List Intent) (settled : Part)
+    (y : Guest) : Type 0 where
   pub count : ℕ
   pub within : count ≤ length (to_keep x given)
   pub is : settled ≡ after_all p (take count (to_keep x given))
@@ -43,19 +46,20 @@ pub record IsAhead (p : Part) (x : Guest) (given : List Intent) (settled : Part)
   pub region : region_of y ≡ region_of x
   pub marks : mark_of x ≤ mark_of y
 
--- By its calls a store that held these partitions came to hold others: those after some of what it was given, and at
--- each moment between a stop leaves such ones.
+-- By its calls a store that held these partitions came to hold others: those after some of what it
+-- was given, and at each moment between a stop leaves such ones.
 pub record Reaches {D : Type 0} (shows : D → DiskState) (makes : D → DiskCall → D → Type 0)
     (parts : ℕ → Part) (old new : StoreState D) : Type 0 where
   pub given : ℕ → List Intent
   pub settled : ℕ → Part
   pub held : IsHeld settled new.guests new.broken (shows new.disk)
-  pub ahead : (g : ℕ) (x y : Guest) → slice_get old.guests g ≡ Some x → slice_get new.guests g ≡ Some y
+  pub ahead : (g : ℕ) (x y : Guest) → slice_get old.guests g ≡ Some x
+      → slice_get new.guests g ≡ Some y
       → IsAhead (parts g) x (given g) (settled g) y
   pub moments : Within shows makes (LeavesWhole old.guests parts given) old.disk new.disk
 
--- The store's own calls led from one to the other, and intents that were given between: the image's length stays, and
--- its header; it breaks only where a call of the disk failed.
+-- The store's own calls led from one to the other, and intents that were given between: the image's
+-- length stays, and its header; it breaks only where a call of the disk failed.
 pub record Keeps {D : Type 0} (shows : D → DiskState) (makes : D → DiskCall → D → Type 0)
     (old new : StoreState D) : Type 0 where
   pub many : length new.guests ≡ length old.guests
@@ -72,7 +76,8 @@ pub record Keeps {D : Type 0} (shows : D → DiskState) (makes : D → DiskCall 
 -- whatever store it began with
 abbrev pub KeepsOn : {D : Type 0} → (D → DiskState) → (D → DiskCall → D → Type 0)
     → StoreState D → StoreState D → Type 0
-KeepsOn shows makes old new = (first : StoreState _) → Keeps shows makes first old → Keeps shows makes first new
+KeepsOn shows makes old new =
+    (first : StoreState _) → Keeps shows makes first old → Keeps shows makes first new
 
 -- a flag that said whether the store had broken says so still
 abbrev pub IsHeard : {D : Type 0} → StoreState D → Bool → StoreState D → Bool → Type 0
@@ -81,4 +86,5 @@ IsHeard old told new now_told = old.broken ≡ told → new.broken ≡ now_told
 -- what a flusher leaves: the store keeps what it kept, and the flag says whether it broke
 abbrev pub LeftBy : {D : Type 0} → (D → DiskState) → (D → DiskCall → D → Type 0)
     → StoreState D → Bool → StoreState D → Bool → Type 0
-LeftBy shows makes old told new now_told = KeepsOn shows makes old new × IsHeard old told new now_told
+LeftBy shows makes old told new now_told =
+    KeepsOn shows makes old new × IsHeard old told new now_told

@@ -20,8 +20,9 @@ fault_of driver.OutOfRange = host.OutOfRange
 fault_of driver.NoMemory = host.NoMemory
 fault_of driver.BadUsed = host.OutOfRange
 
--- A reply that is there is taken, also where the device stopped since; a used element that the driver can't take, or a
--- device that stopped, leaves the chain without a reply until the next reset.
+-- A reply that is there is taken, also where the device stopped since; a used element that the
+-- driver can't take, or a device that stopped, leaves the chain without a reply until the next
+-- reset.
 abbrev pub told : Result (Option Reaped) DriverFault → Bool → Result News HostFault
 told (Ok (Some reaped)) stopped = Ok (news.Reply reaped.bytes)
 told (Ok None) true = Ok (news.NoReply NeedsReset)

@@ -1,5 +1,6 @@
 -- A guest's script, and what its driver leaves of it.
-use Rattle.std.specs.Prelude.{◌≡◌, ℕ, Bool, true, List, [], ◌∷◌, ◌+◌, ◌<◌, length, slice_index_or, vec_len}
+use Rattle.std.specs.Prelude.{◌≡◌, ℕ, Bool, true, List, [], ◌∷◌, ◌+◌, ◌<◌, length, slice_index_or}
+use Rattle.std.specs.Prelude.{vec_len}
 use Rattle.workers.specs.declared.driver.DriverEnd.{DriverEnd}
 use Rattle.workers.specs.declared.order.Order.{Order}
 use Rattle.workers.specs.declared.order.Order.TheVariants.{Chain, Reset}

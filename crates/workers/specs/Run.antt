@@ -22,9 +22,9 @@ pub record AreJoined {L D : Type 0} {disk : Ghosts D} (crew : Crew L D disk)
   pub drivers : vec_len crew.drivers ≡ length scripts
   pub left : Left crew.drivers.items scripts
 
--- What a run leaves of the guests of these numbers and their scripts: an entry for each; the book's Submit turns are
--- as many as the tallies' sum; each driver has an answer to each chain; and the book knows whether a call of the disk
--- failed.
+-- What a run leaves of the guests of these numbers and their scripts: an entry for each; the book's
+-- Submit turns are as many as the tallies' sum; each driver has an answer to each chain; and the
+-- book knows whether a call of the disk failed.
 pub record Leaves {D : Type 0} {disk : Ghosts D} (numbers : List ℕ) (scripts : List (List Order))
     (ended : Ended D disk) : Type 0 where
   pub served : vec_len ended.served ≡ length scripts

@@ -4,7 +4,8 @@ use Rattle.std.specs.Prelude.{Option, Some, None, is_some, Result, Ok, Err}
 use Rattle.std.specs.Option.{option_to_list}
 use Rattle.mmio_transport.specs.Job.{Job, Done}
 use Rattle.mmio_transport.specs.declared.fault.DeviceFault.{DeviceFault}
-use Rattle.mmio_transport.specs.declared.fault.DeviceFault.TheVariants.{Refused, NoMemory, NeedsReset}
+use Rattle.mmio_transport.specs.declared.fault.DeviceFault.TheVariants.{Refused, NoMemory}
+use Rattle.mmio_transport.specs.declared.fault.DeviceFault.TheVariants.{NeedsReset}
 use Rattle.mmio_transport.specs.declared.done.Published.{Published}
 use Rattle.mmio_transport.specs.Device.{DeviceState}
 use Rattle.mmio_transport.specs.Publishing.{Publishes}
@@ -21,8 +22,8 @@ use Rattle.workers.specs.declared.order.Chain.{Chain}
 use Rattle.workers.specs.declared.seat.Next.{Next}
 use Rattle.workers.specs.declared.seat.Next.TheVariants.{Again, Rest, End}
 
--- A line of jobs, or of replies: what lay there, and so many that came behind it, are so many that went from its
--- front, and what lies there now.
+-- A line of jobs, or of replies: what lay there, and so many that came behind it, are so many that
+-- went from its front, and what lies there now.
 pub record Flows {A : Type 0} (old : List A) (came went : ℕ) (new : List A) : Type 0 where
   pub added : List A
   pub gone : List A
@@ -30,8 +31,8 @@ pub record Flows {A : Type 0} (old : List A) (came went : ℕ) (new : List A) : 
   pub as_many_came : length added ≡ came
   pub as_many_went : length gone ≡ went
 
--- What a worker takes of the answer to a pop: the job waits behind the others. That the device stopped is the
--- driver's to tell, and a want of memory is a fault.
+-- What a worker takes of the answer to a pop: the job waits behind the others. That the device
+-- stopped is the driver's to tell, and a want of memory is a fault.
 abbrev pub Takes : List Job → Result (Option Job) DeviceFault → Bool → List Job → Type 0
 Takes old (Ok (Some job)) popped new = (popped ≡ true) × (new ≡ old ++ job ∷ [])
 Takes old (Ok None) popped new = (popped ≡ false) × (new ≡ old)
@@ -42,7 +43,8 @@ Takes old (Err NoMemory) popped new = ⊥
 -- The first reply of a line is handed to the device, where there is one.
 abbrev pub HandsOver : List Done → DeviceState → Bool → DeviceState → Type 0
 HandsOver [] d handed d' = (handed ≡ false) × (d' ≡ d)
-HandsOver (done ∷ dones) d handed d' = (handed ≡ true) × ((result : Published) × Publishes d done result d')
+HandsOver (done ∷ dones) d handed d' =
+    (handed ≡ true) × ((result : Published) × Publishes d done result d')
 
 -- how many jobs the book answered then
 abbrev pub answered_of : Handed → ℕ
@@ -66,8 +68,9 @@ IsNext Rest popped answered collected published jobs dones =
 IsNext End popped answered collected published jobs dones =
     (popped ≡ 0) × (answered ≡ 0) × (collected ≡ 0) × (published ≡ 0) × (jobs ≡ []) × (dones ≡ [])
 
--- One turn of a worker. No job is lost: each that it had or popped was answered, the oldest first, or lies there
--- still. No reply is: each that it had or collected was handed to its device, the oldest first, or lies there still.
+-- One turn of a worker. No job is lost: each that it had or popped was answered, the oldest first,
+-- or lies there still. No reply is: each that it had or collected was handed to its device, the
+-- oldest first, or lies there still.
 pub record Works (next : Next) (count : ℕ) (jobs : List Job) (dones : List Done)
     (count' : ℕ) (jobs' : List Job) (dones' : List Done) : Type 0 where
   pub popped : ℕ
@@ -105,7 +108,8 @@ abbrev pub IsOffered : DeviceState → DriverState → Chain → DeviceState →
 IsOffered d driver chain d' driver' = (answer : Result ℕ DriverFault)
     × Offering d.memory driver chain.readable.items chain.writable answer d'.memory driver'
 
--- A driver that went on has one answer more at most, and one order; one that rests or ends has neither.
+-- A driver that went on has one answer more at most, and one order; one that rests or ends has
+-- neither.
 abbrev pub Drives : ℕ → ℕ → Next → ℕ → ℕ → Type 0
 Drives answers next Again answers' next' =
     (answers ≤ answers') × (answers' ≤ answers + 1) × (next ≤ next') × (next' ≤ next + 1)

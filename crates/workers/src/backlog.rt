@@ -1,5 +1,6 @@
 //! What lies between a guest's device and the book: jobs and replies that are on their way.
-ghost use Rattle.std.specs.Prelude.{◌≡◌, ◌+◌, ◌<◌, ◌⊎◌, [], All, IfErr, IfOk, Ok, Some, true, false};
+ghost use Rattle.std.specs.Prelude.{◌≡◌, ◌+◌, ◌<◌, ◌⊎◌, [], All, IfErr, IfOk, Ok, Some, true};
+ghost use Rattle.std.specs.Prelude.{false};
 ghost use Rattle.std.specs.Prelude.{if◌then◌else◌, slice_get, length, vec_len};
 ghost use Rattle.rpmb_book.specs.Fold.{after_submit};
 ghost use Rattle.workers.specs.Turns.{Collects, Flows, HandsOver, Takes, answered_of};
@@ -31,8 +32,9 @@ pub(crate) enum Handed {
     Full,
 }
 
-/// What a worker keeps to itself: its guest's tally, a share of the ledger that counts the same, a receipt
-/// for each job that the book answered, jobs that it hasn't answered, and replies that left it.
+/// What a worker keeps to itself: its guest's tally, a share of the ledger that counts the same, a
+/// receipt for each job that the book answered, jobs that it hasn't answered, and replies that left
+/// it.
 #[derive(Drop)]
 pub(crate) struct Backlog<L: Ledger> {
     tally: Tally,
@@ -94,7 +96,8 @@ impl<L: Ledger> Backlog<L> {
         popped: Result<Option<Job>, DeviceFault>,
     ) -> Result<bool, HostFault>
         ensures rest { (self.new.tally ≡ self.old.tally) × (self.new.dones ≡ self.old.dones) }
-        ensures takes { IfOk result (λ is. Takes self.old.jobs.items popped is self.new.jobs.items) }
+        ensures takes { IfOk result
+            (λ is. Takes self.old.jobs.items popped is self.new.jobs.items) }
     {
         match popped {
             Ok(Some(job)) => {
@@ -114,7 +117,8 @@ impl<L: Ledger> Backlog<L> {
     /// Pops a job. Whether there was one.
     fn pop(&mut self, alloc: Global, guest: &mut Guest) -> Result<bool, HostFault>
         ensures rest { (self.new.tally ≡ self.old.tally) × (self.new.dones ≡ self.old.dones) }
-        ensures jobs { IfOk result (λ is. Flows self.old.jobs.items (if is then 1 else 0) 0 self.new.jobs.items) }
+        ensures jobs { IfOk result
+            (λ is. Flows self.old.jobs.items (if is then 1 else 0) 0 self.new.jobs.items) }
     {
         // Room first: a job that was popped is the worker's to keep.
         if self.jobs.try_reserve(1).is_err() {
@@ -141,7 +145,8 @@ impl<L: Ledger> Backlog<L> {
     /// Hands the oldest reply to the device. Whether there was one.
     fn publish(&mut self, guest: &mut Guest) -> bool
         ensures rest { (self.new.tally ≡ self.old.tally) × (self.new.jobs ≡ self.old.jobs) }
-        ensures replies { Flows self.old.dones.items 0 (if result then 1 else 0) self.new.dones.items }
+        ensures replies { Flows self.old.dones.items 0
+            (if result then 1 else 0) self.new.dones.items }
         ensures device { HandsOver self.old.dones.items guest.old.device result guest.new.device }
     {
         match self.dones.pop_front() {
@@ -167,15 +172,19 @@ impl<L: Ledger> Backlog<L> {
         BATCH
     }
 
-    /// Submits the oldest job; room for its receipt is made before. Where the guest is busy, or the history
-    /// waits for its first reply to leave, the job stays.
+    /// Submits the oldest job; room for its receipt is made before. Where the guest is busy, or the
+    /// history waits for its first reply to leave, the job stays.
     fn submit(&mut self, desk: &mut Desk<L>, alloc: Global) -> Result<Handed, HostFault>
-        ensures rest { (self.new.tally.guest ≡ self.old.tally.guest) × (self.new.dones ≡ self.old.dones) }
-        ensures count { IfOk result (λ h. self.new.tally.count ≡ self.old.tally.count + answered_of h) }
-        ensures jobs { IfOk result (λ h. Flows self.old.jobs.items 0 (answered_of h) self.new.jobs.items) }
+        ensures rest { (self.new.tally.guest ≡ self.old.tally.guest)
+            × (self.new.dones ≡ self.old.dones) }
+        ensures count { IfOk result
+            (λ h. self.new.tally.count ≡ self.old.tally.count + answered_of h) }
+        ensures jobs { IfOk result
+            (λ h. Flows self.old.jobs.items 0 (answered_of h) self.new.jobs.items) }
         ensures book { (job : Job) → slice_get self.old.jobs.items 0 ≡ Some job
             → result ≡ Ok Handed.Answered → desk.new ≡ after_submit desk.old job }
-        ensures receipt { (r : Receipt) → slice_get self.new.receipts.items self.old.tally.count ≡ Some r
+        ensures receipt { (r : Receipt)
+            → slice_get self.new.receipts.items self.old.tally.count ≡ Some r
             → result ≡ Ok Handed.Answered
             → (r.life ≡ desk.old.life) × (r.number ≡ desk.old.folded + length desk.old.history) }
         ensures fault { IfErr result (λ f. (f ≡ HostFault.NoMemory) ⊎ (f ≡ HostFault.Foreign)) }
@@ -238,14 +247,15 @@ impl<L: Ledger> Backlog<L> {
         }
     }
 
-    /// Submits the jobs, the oldest first, until one stays. How many the book answered, and whether one
-    /// waits for room in the history.
+    /// Submits the jobs, the oldest first, until one stays. How many the book answered, and whether
+    /// one waits for room in the history.
     pub fn submit_all(
         &mut self,
         desk: &mut Desk<L>,
         alloc: Global,
     ) -> Result<(usize, bool), HostFault>
-        ensures rest { (self.new.tally.guest ≡ self.old.tally.guest) × (self.new.dones ≡ self.old.dones) }
+        ensures rest { (self.new.tally.guest ≡ self.old.tally.guest)
+            × (self.new.dones ≡ self.old.dones) }
         ensures count { IfOk result (λ r. self.new.tally.count ≡ self.old.tally.count + r.0) }
         ensures jobs { IfOk result (λ r. Flows self.old.jobs.items 0 r.0 self.new.jobs.items) }
     {
@@ -264,7 +274,8 @@ impl<L: Ledger> Backlog<L> {
     fn collect(&mut self, desk: &mut Desk<L>) -> Result<bool, HostFault>
         ensures rest { (self.new.tally ≡ self.old.tally) × (self.new.jobs ≡ self.old.jobs) }
         ensures collects { IfOk result (λ is.
-            Collects desk.old self.old.tally.guest self.old.dones.items is desk.new self.new.dones.items) }
+            Collects desk.old self.old.tally.guest self.old.dones.items is desk.new
+            self.new.dones.items) }
     {
         if self.dones.try_reserve(1).is_err() {
             return Err(HostFault::NoMemory);
@@ -298,8 +309,8 @@ impl<L: Ledger> Backlog<L> {
         !self.jobs.is_empty() || self.collected != self.tally.count()
     }
 
-    /// Whether nothing lies between the device and the book, and all replies have left it: as long as one
-    /// is held, the history can't roll over it.
+    /// Whether nothing lies between the device and the book, and all replies have left it: as long
+    /// as one is held, the history can't roll over it.
     pub fn is_empty(&self) -> bool
         ensures { result ≡ true → (self.now.jobs.items ≡ []) × (self.now.dones.items ≡ [])
             × (self.now.collected ≡ self.now.tally.count) }

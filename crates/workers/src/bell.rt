@@ -10,11 +10,12 @@ const GUESTS: usize = 64;
 /// A line for each of two threads a guest, and one for the flusher.
 const LINES: usize = 129;
 
-/// How often a thread that finds no work looks again at once: a wake costs as much as several looks.
+/// How often a thread that finds no work looks again at once: a wake costs as much as several
+/// looks.
 const LOOKS: u32 = 8;
 
-/// How often it lets others run after that, before it waits. Beside other load each time may cost the
-/// rest of a time slice.
+/// How often it lets others run after that, before it waits. Beside other load each time may cost
+/// the rest of a time slice.
 const YIELDS: u32 = 4;
 
 /// After so many looks that found work a thread looks at the bell, whether all are to end.
@@ -88,8 +89,8 @@ struct Rings {
     lines: [Line; LINES],
     stopped: bool,
     workers_ended: usize,
-    /// Whether a worker has found no room in the history since the workers were last told that there
-    /// may be some.
+    /// Whether a worker has found no room in the history since the workers were last told that
+    /// there may be some.
     wants_room: bool,
 }
 
@@ -114,8 +115,8 @@ impl Rings {
         tell_each(&mut self.lines[GUESTS..2 * GUESTS])
     }
 
-    /// Replies have left the book: there is something for this driver, and room for each worker that
-    /// asked for it.
+    /// Replies have left the book: there is something for this driver, and room for each worker
+    /// that asked for it.
     fn tell_left(&mut self, driver: Actor) -> bool {
         let waits = self.tell(driver);
         if !self.wants_room {
@@ -169,9 +170,9 @@ fn tell_moved(lines: &mut [Line], before: &[u64], now: &[u64]) -> bool {
     waits
 }
 
-/// What threads wait on, and ring for each other where they changed something that another may wait for.
-/// A thread reads how often it was rung for before it looks for work, and then waits while that stands,
-/// so no ring is lost. Whom nobody waits for isn't woken, and who wakes holds no lock.
+/// What threads wait on, and ring for each other where they changed something that another may wait
+/// for. A thread reads how often it was rung for before it looks for work, and then waits while
+/// that stands, so no ring is lost. Whom nobody waits for isn't woken, and who wakes holds no lock.
 #[derive(Drop)]
 pub(crate) struct Bell {
     rings: Mutex<Rings>,
@@ -213,15 +214,15 @@ impl Bell {
         self.wake(waits);
     }
 
-    /// Tells this driver that its device has replies for it, or stopped, and each worker that asked for
-    /// it that there may be room in the history.
+    /// Tells this driver that its device has replies for it, or stopped, and each worker that asked
+    /// for it that there may be room in the history.
     pub fn ring_left(&self, rt: &impl Wait, driver: Actor) {
         let waits = self.rings.lock(rt).tell_left(driver);
         self.wake(waits);
     }
 
-    /// Asks for a ring once there may be room in the history. Who asks looks once more before it waits:
-    /// the reply that made room may have left before.
+    /// Asks for a ring once there may be room in the history. Who asks looks once more before it
+    /// waits: the reply that made room may have left before.
     pub fn want_room(&self, rt: &impl Wait) {
         let mut rings = self.rings.lock(rt);
         rings.wants_room = true;
@@ -308,8 +309,8 @@ impl Rest {
         }
     }
 
-    /// The thread found no work. At first it looks at the bell; then it tries again some times, at once
-    /// and after others ran; and then it waits until it was rung for since that look.
+    /// The thread found no work. At first it looks at the bell; then it tries again some times, at
+    /// once and after others ran; and then it waits until it was rung for since that look.
     pub fn rest(&mut self, rt: &impl Wait, bell: &Bell) {
         let tries = self.tries;
         self.tries = tries.saturating_add(1);

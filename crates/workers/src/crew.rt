@@ -22,8 +22,8 @@ use std::sync::{Mutex, Wait};
 use std::thread;
 use std::thread::{Promise, PromisedHandle, Scope, Threads};
 
-/// What all threads share: a lock a guest, one for the book, and one for the bell. No thread holds two of
-/// them at once, nor one over a call of the disk.
+/// What all threads share: a lock a guest, one for the book, and one for the bell. No thread holds
+/// two of them at once, nor one over a call of the disk.
 #[derive(Drop)]
 pub(crate) struct Hall<L: Ledger> {
     pub guests: Vec<Mutex<Guest>>,
@@ -66,7 +66,8 @@ impl Promise<DriverEnd> for OfChains {
 pub(crate) struct OfFlusher<D: Disk>(Snapshot<Flusher<D>>);
 
 impl<D: Disk> Promise<FlusherEnd<D>> for OfFlusher<D> {
-    ghost kept_by = { λ p e. LeftBy D.state D.makes p.0.value.store p.0.value.broken e.store e.broken };
+    ghost kept_by = { λ p e. LeftBy D.state D.makes p.0.value.store p.0.value.broken
+        e.store e.broken };
 }
 
 /// What the threads have left.
@@ -104,8 +105,8 @@ fn start_worker<'s, E, L: Ledger + Send + Sync, G: Gate + Sync, R: Wait + Sync>(
     }
 }
 
-/// Starts a driver. What the thread borrows is captured as plain references: of a captured struct of
-/// references the checker would lose what the closure ensures.
+/// Starts a driver. What the thread borrows is captured as plain references: of a captured struct
+/// of references the checker would lose what the closure ensures.
 fn start_driver<'s, E, L: Ledger + Send + Sync, R: Wait + Sync>(
     scope: &'s Scope<'s, E>,
     rt: &'s R,

@@ -1,7 +1,9 @@
 //! What lies under the book's lock.
-ghost use Rattle.std.specs.Prelude.{◌≡◌, ◌+◌, ◌<◌, IfErr, IfOk, OnErr, OnOk, None, length, option_map, unwrap_or};
+ghost use Rattle.std.specs.Prelude.{◌≡◌, ◌+◌, ◌<◌, IfErr, IfOk, OnErr, OnOk, None, length};
+ghost use Rattle.std.specs.Prelude.{option_map, unwrap_or};
 ghost use Rattle.rpmb_book.specs.Book.{BookView, after_break_off, after_collect, after_settle};
-ghost use Rattle.rpmb_book.specs.Book.{after_take, due_of, found_by, next_intent, refusal, guest_of, mac_key_of};
+ghost use Rattle.rpmb_book.specs.Book.{after_take, due_of, found_by, next_intent, refusal};
+ghost use Rattle.rpmb_book.specs.Book.{guest_of, mac_key_of};
 ghost use Rattle.rpmb_book.specs.Book.{settle_answer, share_moved, state, counted_in, take_answer};
 ghost use Rattle.rpmb_book.specs.Fold.{after_submit};
 ghost use Rattle.rpmb_book.specs.Receipt.{submission_seen, turn_seen, HasFrames};
@@ -51,8 +53,8 @@ impl<L: Ledger> Desk<L> {
         Desk { book, submits }
     }
 
-    /// `Book::submit_checked`, counted in the caller's share of the ledger where it succeeds. The memory
-    /// that is left goes to the caller's spare.
+    /// `Book::submit_checked`, counted in the caller's share of the ledger where it succeeds. The
+    /// memory that is left goes to the caller's spare.
     pub fn submit(
         &mut self,
         alloc: Global,
@@ -72,7 +74,8 @@ impl<L: Ledger> Desk<L> {
               number = self.old.folded + length self.old.history;
             }) }
         ensures allowed { OnOk result (refusal self.old tally.old job ≡ None) }
-        ensures refused { IfErr result (λ e. e.1 ≡ unwrap_or (refusal self.old tally.old job) Refused.NoMemory) }
+        ensures refused { IfErr result
+            (λ e. e.1 ≡ unwrap_or (refusal self.old tally.old job) Refused.NoMemory) }
         ensures given_back { IfErr result (λ e. e.0 ≡ job) }
         ensures unchanged { OnErr result ((self.new ≡ self.old) × (tally.new ≡ tally.old)
             × (share.new.amount ≡ share.old.amount)) }
@@ -88,7 +91,8 @@ impl<L: Ledger> Desk<L> {
     pub fn take(&mut self, shares: &mut Shares, guest: u16) -> Result<Option<Intent>, Refused>
         ensures answer { result ≡ take_answer self.old shares.old guest }
         ensures book { self.new ≡ after_take self.old shares.old guest }
-        ensures shares { shares.new ≡ share_moved shares.old guest (next_intent self.old shares.old guest) }
+        ensures shares { shares.new
+            ≡ share_moved shares.old guest (next_intent self.old shares.old guest) }
     {
         self.book.take(shares, guest)
     }
@@ -137,7 +141,8 @@ impl<L: Ledger> Desk<L> {
         self.book.is_broken()
     }
 
-    /// Whether an accepted request of the guest waits for the store. It says whom to wake, and no more.
+    /// Whether an accepted request of the guest waits for the store. It says whom to wake, and no
+    /// more.
     pub(crate) fn has_waiting(&self, guest: u16) -> bool {
         match (self.book.partition(guest), self.book.taken(guest)) {
             (Some(partition), Some(taken)) => partition.sequence() > taken,
@@ -147,7 +152,8 @@ impl<L: Ledger> Desk<L> {
 
     /// `Book::find`.
     pub fn find(&self, receipt: &Receipt) -> Option<TurnView<'_>>
-        ensures seen { option_map turn_seen result ≡ option_map submission_seen (found_by self.now receipt.now) }
+        ensures seen { option_map turn_seen result
+            ≡ option_map submission_seen (found_by self.now receipt.now) }
         ensures whole { ForSome result HasFrames }
     {
         self.book.find(receipt)
@@ -157,7 +163,8 @@ impl<L: Ledger> Desk<L> {
     pub fn audit(&mut self, all: &mut Share<L>)
         requires { all.old.parts ≡ L.parts }
         ensures total { counted_in self.old ≡ all.old.amount }
-        ensures same { (self.new ≡ self.old) × (all.new.amount ≡ all.old.amount) × (all.new.parts ≡ all.old.parts) }
+        ensures same { (self.new ≡ self.old) × (all.new.amount ≡ all.old.amount)
+            × (all.new.parts ≡ all.old.parts) }
     {
         self.submits.audit(all);
     }

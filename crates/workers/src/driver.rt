@@ -1,5 +1,6 @@
 //! A guest's driver: it offers the chains of a script, and keeps an answer to each.
-ghost use Rattle.std.specs.Prelude.{◌≡◌, ◌+◌, ◌≤◌, ◌<◌, true, length, take, vec_len, IfOk, IsTrue, Some, slice_get};
+ghost use Rattle.std.specs.Prelude.{◌≡◌, ◌+◌, ◌≤◌, ◌<◌, true, length, take, vec_len, IfOk, IsTrue};
+ghost use Rattle.std.specs.Prelude.{Some, slice_get};
 ghost use Rattle.std.specs.Prelude.{◌++◌, ◌∷◌, [], if◌then◌else◌, None, Ok, OnOk};
 ghost use Rattle.std.specs.Option.{option_copied};
 ghost use Rattle.workers.specs.Orders.{LeavesAll, chain_orders, chains_in};
@@ -16,8 +17,8 @@ use std::sync::{Mutex, Wait};
 /// How many chains may be under way: a queue has at most 256 places.
 const PLACES: usize = 256;
 
-/// What a guest's driver keeps to itself: how far it is in its script, how many of its chains have no
-/// answer yet, and the answers to the others, in the order of the script.
+/// What a guest's driver keeps to itself: how far it is in its script, how many of its chains have
+/// no answer yet, and the answers to the others, in the order of the script.
 #[derive(Drop)]
 pub(crate) struct Driver<'a> {
     script: &'a [Order],
@@ -81,8 +82,10 @@ impl<'a> Driver<'a> {
     fn answer(&mut self, answer: Answer) -> Result<bool, HostFault>
         requires { 0 < self.old.outstanding }
         ensures script { (self.new.script ≡ self.old.script) × (self.new.next ≡ self.old.next) }
-        ensures answers { IfOk result (λ moved. Reaps (vec_len self.old.answers) moved (vec_len self.new.answers)) }
-        ensures last { OnOk result (self.new.answers.items ≡ self.old.answers.items ++ answer ∷ []) }
+        ensures answers { IfOk result
+            (λ moved. Reaps (vec_len self.old.answers) moved (vec_len self.new.answers)) }
+        ensures last { OnOk result
+            (self.new.answers.items ≡ self.old.answers.items ++ answer ∷ []) }
     {
         if self.answers.reserve(1).is_err() {
             return Err(HostFault::NoMemory);
@@ -95,7 +98,8 @@ impl<'a> Driver<'a> {
     /// Looks for the answer to the oldest chain that has none. Whether something came of it.
     fn reap(&mut self, guest: &mut Guest) -> Result<bool, HostFault>
         ensures script { (self.new.script ≡ self.old.script) × (self.new.next ≡ self.old.next) }
-        ensures answers { IfOk result (λ moved. Reaps (vec_len self.old.answers) moved (vec_len self.new.answers)) }
+        ensures answers { IfOk result
+            (λ moved. Reaps (vec_len self.old.answers) moved (vec_len self.new.answers)) }
         ensures reply { 0 < self.old.outstanding → self.old.stuck ≡ None → IfOk result (λ moved.
             IsKept guest.old.device.memory guest.old.driver self.old.answers.items
             guest.new.driver self.new.answers.items) }
@@ -116,9 +120,11 @@ impl<'a> Driver<'a> {
         }
     }
 
-    /// Goes on in the script, where the queue has room; before a reset each chain has to have its answer.
+    /// Goes on in the script, where the queue has room; before a reset each chain has to have its
+    /// answer.
     fn offer(&mut self, guest: &mut Guest) -> Result<bool, HostFault>
-        ensures script { (self.new.script ≡ self.old.script) × (self.new.answers ≡ self.old.answers) }
+        ensures script { (self.new.script ≡ self.old.script)
+            × (self.new.answers ≡ self.old.answers) }
         ensures next { IfOk result (λ moved. Offers self.old.next moved self.new.next) }
         ensures waits { (order : Order) → slice_get self.old.script.now self.old.next ≡ Some order
             → chains_in order ≡ 0 → result ≡ Ok true → self.old.outstanding ≡ 0 }
@@ -140,7 +146,8 @@ impl<'a> Driver<'a> {
         }
     }
 
-    /// Offers a chain whole, where the queue has room. Whether it did: out of service it only counts.
+    /// Offers a chain whole, where the queue has room. Whether it did: out of service it only
+    /// counts.
     fn offer_chain(
         &mut self,
         guest: &mut Guest,
@@ -149,10 +156,12 @@ impl<'a> Driver<'a> {
     ) -> Result<bool, HostFault>
         requires here { slice_get self.old.script.now self.old.next ≡ Some order.now }
         requires chain { chains_in order.now ≡ 1 }
-        ensures script { (self.new.script ≡ self.old.script) × (self.new.answers ≡ self.old.answers) }
+        ensures script { (self.new.script ≡ self.old.script)
+            × (self.new.answers ≡ self.old.answers) }
         ensures next { IfOk result (λ moved. Offers self.old.next moved self.new.next) }
         ensures offered { self.old.stuck ≡ None → self.old.outstanding < 256
-            → IsOffered guest.old.device guest.old.driver chain.now guest.new.device guest.new.driver }
+            → IsOffered guest.old.device guest.old.driver chain.now guest.new.device
+            guest.new.driver }
     {
         if self.outstanding >= PLACES {
             return Ok(false);
@@ -181,7 +190,8 @@ impl<'a> Driver<'a> {
         requires here { slice_get self.old.script.now self.old.next ≡ Some order.now }
         requires chain { chains_in order.now ≡ 1 }
         requires room { self.old.outstanding < 256 }
-        ensures script { (self.new.script ≡ self.old.script) × (self.new.answers ≡ self.old.answers) }
+        ensures script { (self.new.script ≡ self.old.script)
+            × (self.new.answers ≡ self.old.answers) }
         ensures next { self.new.next ≡ self.old.next + 1 }
     {
         self.outstanding += 1;
@@ -193,7 +203,8 @@ impl<'a> Driver<'a> {
     fn count_reset(&mut self, order: &Order)
         requires here { slice_get self.old.script.now self.old.next ≡ Some order.now }
         requires reset { chains_in order.now ≡ 0 }
-        ensures script { (self.new.script ≡ self.old.script) × (self.new.answers ≡ self.old.answers) }
+        ensures script { (self.new.script ≡ self.old.script)
+            × (self.new.answers ≡ self.old.answers) }
         ensures next { self.new.next ≡ self.old.next + 1 }
     {
         let _ = order;
@@ -214,7 +225,8 @@ impl<'a> Driver<'a> {
         ensures drives { IfOk result (λ next.
             Drives (vec_len self.old.answers) self.old.next next (vec_len self.new.answers)
             self.new.next) }
-        ensures complete { result ≡ Ok Next.End → vec_len self.new.answers ≡ chain_orders self.new.script.now }
+        ensures complete { result ≡ Ok Next.End
+            → vec_len self.new.answers ≡ chain_orders self.new.script.now }
     {
         let reaped = self.reap(guest)?;
         let offered = self.offer(guest)?;
@@ -234,7 +246,8 @@ impl<'a> Driver<'a> {
         ensures goes_on { IfOk result (λ next.
             GoesOn (vec_len self.old.answers) self.old.next next (vec_len self.new.answers)
             self.new.next) }
-        ensures complete { result ≡ Ok Next.End → vec_len self.new.answers ≡ chain_orders self.new.script.now }
+        ensures complete { result ≡ Ok Next.End
+            → vec_len self.new.answers ≡ chain_orders self.new.script.now }
     {
         let mut held = guest.lock(rt);
         for i in 0..PLACES {
@@ -254,7 +267,8 @@ impl<'a> Driver<'a> {
     }
 
     fn into_end(self) -> DriverEnd
-        ensures { LeavesAll result.complete (vec_len result.answers) (chain_orders self.entry.script.now) }
+        ensures { LeavesAll result.complete (vec_len result.answers)
+            (chain_orders self.entry.script.now) }
     {
         let complete = self.is_complete();
         let Driver {
@@ -281,7 +295,8 @@ impl<'a> Driver<'a> {
         me: Actor,
         worker: Actor,
     ) -> DriverEnd
-        ensures { LeavesAll result.complete (vec_len result.answers) (chain_orders self.entry.script.now) }
+        ensures { LeavesAll result.complete (vec_len result.answers)
+            (chain_orders self.entry.script.now) }
     {
         let in_service = guest.lock(rt).begin();
         self.renew(in_service);

@@ -1,4 +1,5 @@
-//! The flusher: it takes what the book accepted, gives it to the store, and tells the book what is settled.
+//! The flusher: it takes what the book accepted, gives it to the store, and tells the book what is
+//! settled.
 ghost use Rattle.std.specs.Prelude.{◌≡◌, None, Ok, OnOk, true};
 ghost use Rattle.workers.specs.Following.{Follow, IsAtRest};
 ghost use Rattle.workers.specs.Keeping.{IsHeard, KeepsOn};
@@ -14,8 +15,8 @@ use rpmb_book::Shares;
 use std::sync::ledger::Ledger;
 use std::sync::{Mutex, Wait};
 
-/// What the flusher keeps to itself: the store, and what it has taken of each guest, which is what it last
-/// gave to the store.
+/// What the flusher keeps to itself: the store, and what it has taken of each guest, which is what
+/// it last gave to the store.
 #[derive(Drop)]
 pub(crate) struct Flusher<D: Disk> {
     store: Store<D>,
@@ -54,7 +55,8 @@ impl<D: Disk> Flusher<D> {
         }
     }
 
-    /// Takes what waits for one guest, and gives it to the store where a slot of it is free. Whether it did.
+    /// Takes what waits for one guest, and gives it to the store where a slot of it is free.
+    /// Whether it did.
     #[tactic(auto, using(crate::proofs::Following::follow_given))]
     fn take<L: Ledger>(&mut self, desk: &mut Desk<L>, guest: u16) -> Result<bool, HostFault>
         requires { Follow self.old.shares self.old.store.guests }
@@ -107,8 +109,8 @@ impl<D: Disk> Flusher<D> {
         made
     }
 
-    /// Makes the next call of the disk, and tells the book what came of it. It rings for the workers whose
-    /// replies may leave since.
+    /// Makes the next call of the disk, and tells the book what came of it. It rings for the
+    /// workers whose replies may leave since.
     fn advance<L: Ledger, G: Gate>(
         &mut self,
         rt: &impl Wait,
@@ -153,7 +155,8 @@ impl<D: Disk> Flusher<D> {
     ) -> Result<Next, HostFault>
         requires { Follow self.old.shares self.old.store.guests }
         ensures follows { OnOk result (Follow self.new.shares self.new.store.guests) }
-        ensures rests { result ≡ Ok Next.End → IsAtRest self.new.store.broken self.new.store.guests }
+        ensures rests { result ≡ Ok Next.End
+            → IsAtRest self.new.store.broken self.new.store.guests }
         ensures keeps { KeepsOn D.state D.makes self.old.store self.new.store }
         ensures heard { IsHeard self.old.store self.old.broken self.new.store self.new.broken }
     {

@@ -56,8 +56,8 @@ impl<L: Ledger> Worker<L> {
         }
     }
 
-    /// Hands what left the book to the device, and pops what is offered, under the guest's lock. What was
-    /// done before a refusal of memory stays.
+    /// Hands what left the book to the device, and pops what is offered, under the guest's lock.
+    /// What was done before a refusal of memory stays.
     fn exchange(
         &mut self,
         rt: &impl Wait,
@@ -65,7 +65,8 @@ impl<L: Ledger> Worker<L> {
         guest: &Mutex<Guest>,
     ) -> Result<Exchange, HostFault>
         ensures tally { self.new.backlog.tally ≡ self.old.backlog.tally }
-        ensures jobs { IfOk result (λ e. Flows self.old.backlog.jobs.items e.popped 0 self.new.backlog.jobs.items) }
+        ensures jobs { IfOk result
+            (λ e. Flows self.old.backlog.jobs.items e.popped 0 self.new.backlog.jobs.items) }
         ensures replies { IfOk result (λ e.
             Flows self.old.backlog.dones.items 0 e.published self.new.backlog.dones.items) }
     {
@@ -89,8 +90,10 @@ impl<L: Ledger> Worker<L> {
         alloc: Global,
     ) -> Result<Consulted, HostFault>
         ensures guest { self.new.backlog.tally.guest ≡ self.old.backlog.tally.guest }
-        ensures count { IfOk result (λ c. self.new.backlog.tally.count ≡ self.old.backlog.tally.count + c.answered) }
-        ensures jobs { IfOk result (λ c. Flows self.old.backlog.jobs.items 0 c.answered self.new.backlog.jobs.items) }
+        ensures count { IfOk result
+            (λ c. self.new.backlog.tally.count ≡ self.old.backlog.tally.count + c.answered) }
+        ensures jobs { IfOk result
+            (λ c. Flows self.old.backlog.jobs.items 0 c.answered self.new.backlog.jobs.items) }
         ensures replies { IfOk result (λ c.
             Flows self.old.backlog.dones.items c.collected 0 self.new.backlog.dones.items) }
     {
@@ -133,7 +136,8 @@ impl<L: Ledger> Worker<L> {
 
     /// What comes after such a look: another, where something came of it.
     fn next_after(&self, exchange: Exchange, consulted: Consulted) -> Next
-        ensures { IsNext result exchange.popped consulted.answered consulted.collected exchange.published
+        ensures { IsNext result exchange.popped consulted.answered consulted.collected
+            exchange.published
             self.now.backlog.jobs.items self.now.backlog.dones.items }
     {
         if exchange.published > 0 || exchange.popped > 0 {
@@ -149,8 +153,8 @@ impl<L: Ledger> Worker<L> {
         }
     }
 
-    /// One look for work, under one lock after the other: the guest's, and the desk's. No lock is held where
-    /// the gate is told, nor where a MAC is made.
+    /// One look for work, under one lock after the other: the guest's, and the desk's. No lock is
+    /// held where the gate is told, nor where a MAC is made.
     pub(crate) fn turn<G: Gate>(
         &mut self,
         rt: &impl Wait,

@@ -219,7 +219,8 @@ fn becomes_failure(
     Ok(same(&reply, failure))
 }
 
-/// Whether the failure reply to a request is as told, and whether a reply of so many bytes becomes it.
+/// Whether the failure reply to a request is as told, and whether a reply of so many bytes becomes
+/// it.
 fn fails_as_told(
     alloc: Global,
     request: &Request<'_>,

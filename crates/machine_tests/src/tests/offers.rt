@@ -21,8 +21,8 @@ impl Asked {
         }
     }
 
-    /// The request (VIRTIO 1.2, 5.12.6): key, nonce, block count and kind, and behind a key a frame that
-    /// asks for its result.
+    /// The request (VIRTIO 1.2, 5.12.6): key, nonce, block count and kind, and behind a key a frame
+    /// that asks for its result.
     fn bytes(self) -> [u8; 1024] {
         let mut bytes = [0; 1024];
         bytes[507] = 1;
@@ -45,8 +45,8 @@ impl Asked {
     }
 }
 
-/// Descriptors 2 n and 2 n + 1 (2.7.5): the request at 0x4000 + 0x400 n, and room for 512 bytes at 0x8000 +
-/// 0x400 n.
+/// Descriptors 2 n and 2 n + 1 (2.7.5): the request at 0x4000 + 0x400 n, and room for 512 bytes at
+/// 0x8000 + 0x400 n.
 fn descriptors(n: u8, frames: u8) -> [u8; 32] {
     let mut bytes = [0; 32];
     let page = n.saturating_mul(4);
@@ -65,7 +65,8 @@ pub fn reply_at(n: u8) -> u64 {
     0x8000 + 0x400 * u64::from(n)
 }
 
-/// Offers a request as the n-th chain, n below 8, and notifies the device. Whether the monitor is to serve it.
+/// Offers a request as the n-th chain, n below 8, and notifies the device. Whether the monitor is
+/// to serve it.
 pub fn offer<M: Monitor>(rig: &mut Rig<M>, guest: u16, n: u8, asked: Asked) -> Result<bool, Fail> {
     let number = u64::from(n);
     rig.put(guest, 0x1000 + 32 * number, &descriptors(n, asked.frames()))?;

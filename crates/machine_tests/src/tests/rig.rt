@@ -14,8 +14,8 @@ const TURNS: u32 = 40;
 /// More writes than an outbox holds.
 const WRITES: u32 = 257;
 
-/// What a driver writes into the registers from its reset to FEATURES_OK, with these features (VIRTIO 1.2,
-/// 3.1.1).
+/// What a driver writes into the registers from its reset to FEATURES_OK, with these features
+/// (VIRTIO 1.2, 3.1.1).
 fn greeting(low: u32, high: u32) -> [(u32, u32); 6] {
     [
         (reg::STATUS, 0),
@@ -27,8 +27,8 @@ fn greeting(low: u32, high: u32) -> [(u32, u32); 6] {
     ]
 }
 
-/// And from there to DRIVER_OK: a queue of 16 with its descriptors at 0x1000, its available ring at 0x2000
-/// and its used ring at 0x3000 (4.2.3.2).
+/// And from there to DRIVER_OK: a queue of 16 with its descriptors at 0x1000, its available ring at
+/// 0x2000 and its used ring at 0x3000 (4.2.3.2).
 static SETUP: [(u32, u32); 7] = [
     (reg::QUEUE_SEL, 0),
     (reg::QUEUE_NUM, 16),
@@ -58,8 +58,8 @@ pub fn check(holds: bool, what: &'static str) -> Result<(), Fail> {
     if holds { Ok(()) } else { Err(Fail::from(what)) }
 }
 
-/// What a monitor does. Its methods promise nothing, so that what stands above them is proved without the
-/// contracts of a machine.
+/// What a monitor does. Its methods promise nothing, so that what stands above them is proved
+/// without the contracts of a machine.
 pub trait Monitor: Drop {
     /// A guest writes a register. Whether its monitor is to serve it.
     fn act(&mut self, guest: u16, offset: u32, value: u32) -> bool;

@@ -92,8 +92,8 @@ fn put(content: &mut Vec<u8>, at: usize, byte: u8) {
     }
 }
 
-/// The bytes of a fresh image of one guest, written out by hand: the header with its magic, one guest of
-/// capacity 1, and the version byte (docs/FORMATS.md, "The image").
+/// The bytes of a fresh image of one guest, written out by hand: the header with its magic, one
+/// guest of capacity 1, and the version byte (docs/FORMATS.md, "The image").
 fn fresh(alloc: Global) -> Result<Vec<u8>, Fail> {
     let mut content = vec![in alloc; 0; 167_424]?;
     for (at, byte) in b"VRPMBIMG\x00\x01\x01".iter().enumerate() {
@@ -103,8 +103,8 @@ fn fresh(alloc: Global) -> Result<Vec<u8>, Fail> {
     Ok(content)
 }
 
-/// Whether `show`, `run` and `serve` of a file with this content end with the fault, print nothing, and leave the
-/// file.
+/// Whether `show`, `run` and `serve` of a file with this content end with the fault, print nothing,
+/// and leave the file.
 fn refuses<R: AllocGlobal + Threads + Wait + Sync>(
     rt: &HostRuntime,
     threads: &R,
@@ -124,8 +124,8 @@ fn refuses<R: AllocGlobal + Threads + Wait + Sync>(
     Ok(true)
 }
 
-/// Which faults a byte in a fresh image of one guest leads to: magic, number of guests, capacity, key flag,
-/// gate.
+/// Which faults a byte in a fresh image of one guest leads to: magic, number of guests, capacity,
+/// key flag, gate.
 const FLIPPED: [(usize, u8, &str); 5] = [
     (0, b'v', "rpmbd: 12 NotFormatted\n"),
     (9, 2, "rpmbd: 13 OtherConfig\n"),

@@ -34,8 +34,8 @@ fn words_of(alloc: Global, line: &str) -> Result<Vec<String>, Fail> {
     Ok(words)
 }
 
-/// The statuses of two programs: the first has opened its image when the second begins, and goes on once that
-/// one has ended.
+/// The statuses of two programs: the first has opened its image when the second begins, and goes on
+/// once that one has ended.
 fn both<R: AllocGlobal + Threads + Wait + Sync, D: Disk + Send + Drop>(
     rt: &HostRuntime,
     threads: &R,

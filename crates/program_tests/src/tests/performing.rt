@@ -39,8 +39,8 @@ const DISK_FAULT: &str = "rpmbd: 10 DiskFault\n";
 
 const FILE_FAULT: &str = "rpmbd: 21 FileFault\n";
 
-/// Performs a command on a disk, and gives the status and the disk, which threads lose at a fault. An image is
-/// made only on a disk of its length.
+/// Performs a command on a disk, and gives the status and the disk, which threads lose at a fault.
+/// An image is made only on a disk of its length.
 fn perform_on<R: Runtime, W: Write, E: Write>(
     rt: &R,
     command: Command<'_>,

@@ -29,8 +29,8 @@ static FILES: [(&str, &str); 8] = [
     ("store.txt", "chain 0 - 512\nstore 0 0 00\n"),
 ];
 
-// The words, and the status that they end with: 2 for words that name no command, 1 for a fault, else 0. A
-// board is read before a script, and an image is opened only once both are.
+// The words, and the status that they end with: 2 for words that name no command, 1 for a fault,
+// else 0. A board is read before a script, and an image is opened only once both are.
 static WORDS: [(&str, u8); 44] = [
     ("", 2),
     ("run", 2),

@@ -1,4 +1,5 @@
-//! Texts in pieces: most of a frame is one byte many times over, and most of a long script one line.
+//! Texts in pieces: most of a frame is one byte many times over, and most of a long script one
+//! line.
 
 use std::alloc::Global;
 use std::test::Fail;

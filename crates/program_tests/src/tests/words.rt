@@ -61,8 +61,8 @@ fn reads_commands(rt: HostRuntime) -> Result<(), Fail> {
     check(&rt, rt.alloc(), &TAKEN)
 }
 
-/// Words that are refused, the status, and a part of the text, which is for standard error where the status is
-/// 2.
+/// Words that are refused, the status, and a part of the text, which is for standard error where
+/// the status is 2.
 struct Refused(&'static str, i32, &'static str);
 
 static REFUSED: [Refused; 32] = [
@@ -104,7 +104,8 @@ static REFUSED: [Refused; 32] = [
     ),
 ];
 
-/// Whether an error has this status and this part of a text, on standard error where the status is 2.
+/// Whether an error has this status and this part of a text, on standard error where the status is
+/// 2.
 fn says(alloc: Global, error: &clap::Error, status: i32, part: &str) -> Result<bool, Fail> {
     let text = error.to_string(alloc)?;
     let is_error = error.use_stderr();

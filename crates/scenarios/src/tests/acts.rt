@@ -1,5 +1,5 @@
-//! What happens to a world: a driver that sets its device up and offers chains, and the steps that take
-//! requests to their replies.
+//! What happens to a world: a driver that sets its device up and offers chains, and the steps that
+//! take requests to their replies.
 
 use crate::tests::asked::{Asked, frames_of};
 use board::{Act, Event, Step};
@@ -8,9 +8,9 @@ use mmio_transport::register as reg;
 use std::alloc::Global;
 use std::test::Fail;
 
-/// What a driver writes into the registers: a reset, VIRTIO_F_VERSION_1 alone, a queue of 16 with its
-/// descriptors at 0x1000, its available ring at 0x2000 and its used ring at 0x3000, and DRIVER_OK
-/// (VIRTIO 1.2, 3.1.1 and 4.2.3.2).
+/// What a driver writes into the registers: a reset, VIRTIO_F_VERSION_1 alone, a queue of 16 with
+/// its descriptors at 0x1000, its available ring at 0x2000 and its used ring at 0x3000, and
+/// DRIVER_OK (VIRTIO 1.2, 3.1.1 and 4.2.3.2).
 pub static SETUP: [(u32, u32); 14] = [
     (reg::STATUS, 0),
     (reg::STATUS, 3),
@@ -28,8 +28,8 @@ pub static SETUP: [(u32, u32); 14] = [
     (reg::STATUS, 15),
 ];
 
-/// Two descriptors (VIRTIO 1.2, 2.7.5): the request of 512 or 1,024 bytes at 0x4000, and room for 512 bytes
-/// at 0x8000.
+/// Two descriptors (VIRTIO 1.2, 2.7.5): the request of 512 or 1,024 bytes at 0x4000, and room for
+/// 512 bytes at 0x8000.
 fn descriptors(frames: usize) -> [u8; 32] {
     let mut bytes = [0; 32];
     bytes[1] = 0x40;
@@ -61,8 +61,8 @@ pub enum Move {
     FailNext,
     /// A stop, with the filler of this number.
     Stop(u8),
-    /// An upgrade of the image, stopped within its call of the first number with the filler of the second;
-    /// whole where it makes no such call.
+    /// An upgrade of the image, stopped within its call of the first number with the filler of the
+    /// second; whole where it makes no such call.
     Upgrade(u32, u8),
 }
 

@@ -12,8 +12,8 @@ use rpmb_book::{Book, Refused, Shares};
 use std::alloc::Global;
 use std::test::Fail;
 
-/// A read before the key, the key, a write, a read and a lone request for the result, of which the key
-/// alone is settled when the store breaks.
+/// A read before the key, the key, a write, a read and a lone request for the result, of which the
+/// key alone is settled when the store breaks.
 static BROKEN: [Line; 22] = [
     Line::Ask(0, Asked::Counter(1)),
     Line::Ask(0, Asked::Key(0x11)),
@@ -27,7 +27,8 @@ static BROKEN: [Line; 22] = [
     Line::BreakOff,
     Line::BreakOff,
     Line::IsBroken(true),
-    // What is settled leaves as it was made; of the others each is a failure with the type of its request.
+    // What is settled leaves as it was made; of the others each is a failure with the type of its
+    // request.
     Line::Reply {
         guest: 0,
         session: 1,
@@ -112,8 +113,8 @@ fn marks_above_what_was_taken_are_foreign(rt: HostRuntime) -> Result<(), Fail> {
     take_marks_of(rt.alloc(), &mut fresh_store(rt.alloc(), 1)?)
 }
 
-/// One request of each kind, of guest 1, to a book that is broken: a failure of each, with the type of
-/// its response, and nothing where there is no room.
+/// One request of each kind, of guest 1, to a book that is broken: a failure of each, with the type
+/// of its response, and nothing where there is no room.
 static EACH_KIND: [Line; 16] = [
     Line::BreakOff,
     Line::Ask(1, Asked::Key(0x11)),

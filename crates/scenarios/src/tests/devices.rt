@@ -1,5 +1,5 @@
-//! A guest whose requests go through driver and device, and who resets its device while a reply is on
-//! its way.
+//! A guest whose requests go through driver and device, and who resets its device while a reply is
+//! on its way.
 
 use super::image::{fresh_store, keep_next};
 use super::scene::{
@@ -18,8 +18,8 @@ use std::test::Fail;
 /// Where the used ring of a queue of 16 stands in the driver's layout, and how long it is.
 const USED_RING: u64 = 304;
 
-/// A guest with its driver and device, the book that answers it, and the store that keeps what the book
-/// accepted.
+/// A guest with its driver and device, the book that answers it, and the store that keeps what the
+/// book accepted.
 #[derive(Drop)]
 struct Guest {
     device: Device,
@@ -194,11 +194,12 @@ fn a_reset_drops_the_reply_and_keeps_the_write(rt: HostRuntime) -> Result<(), Fa
     go_on_after_a_reset(rt.alloc(), &mut new_guest(rt.alloc())?)
 }
 
-/// The chain's frame, its two descriptors, and the available ring: where each stands in the driver's layout,
-/// and its length in bytes.
+/// The chain's frame, its two descriptors, and the available ring: where each stands in the
+/// driver's layout, and its length in bytes.
 static POPPED: [(u64, usize); 3] = [(FRAME, 512), (0, 32), (256, 38)];
 
-/// Where the first pair of buffers stands: the part to be read, and behind its 8,704 bytes the other one.
+/// Where the first pair of buffers stands: the part to be read, and behind its 8,704 bytes the
+/// other one.
 const FRAME: u64 = 960;
 
 const REPLY: u64 = FRAME + 8704;

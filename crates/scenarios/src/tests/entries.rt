@@ -6,8 +6,8 @@ use crate::tests::lines::{Line, play_all};
 use crate::tests::scene::LIFE;
 use std::test::Fail;
 
-/// Guest 1 reads the counter, programs its key, writes and reads the counter once more. What it asked
-/// leaves as the store settles it.
+/// Guest 1 reads the counter, programs its key, writes and reads the counter once more. What it
+/// asked leaves as the store settles it.
 static REPLIES: [Line; 22] = [
     Line::Life(LIFE),
     Line::Ask(1, Asked::Counter(1)),

@@ -1,5 +1,5 @@
-//! What three guests ask of the store: each programs its key, and then writes 1, 3 and 8 blocks. And
-//! their partitions after each of these requests, spelled out byte by byte.
+//! What three guests ask of the store: each programs its key, and then writes 1, 3 and 8 blocks.
+//! And their partitions after each of these requests, spelled out byte by byte.
 ghost use Rattle.std.specs.Prelude.{◌≡◌, ◌*◌, ◌^◌, IsTrue, length};
 ghost use Rattle.intent_slots.specs.Payload.{IsWrite};
 

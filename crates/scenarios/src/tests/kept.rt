@@ -1,4 +1,5 @@
-//! The book and the store together: what a guest was answered is on the disk when the store is idle.
+//! The book and the store together: what a guest was answered is on the disk when the store is
+//! idle.
 
 use crate::tests::asked::Asked;
 use crate::tests::groups::{Group, OF_A_KEY};
@@ -12,8 +13,9 @@ use rpmb_frame::BoardConfig;
 use std::alloc::Global;
 use std::test::Fail;
 
-/// Three requests of guest 1 are accepted, and one that has a counter of the past. The store keeps all
-/// that waits, as one: the key and two writes of one block, of which the second counts; nothing of guest 0.
+/// Three requests of guest 1 are accepted, and one that has a counter of the past. The store keeps
+/// all that waits, as one: the key and two writes of one block, of which the second counts; nothing
+/// of guest 0.
 static KEPT: [Line; 9] = [
     Line::Ask(1, Asked::Key(0x11)),
     Line::Ask(1, Asked::Write(0xa5, 0)),

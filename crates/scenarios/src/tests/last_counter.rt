@@ -55,8 +55,8 @@ fn answer(partition: &mut Partition, request: &Request<'_>, out: &mut [u8; 8192]
     (code, partition.reply(request, code, outcome, out))
 }
 
-/// Whether the write of a block of this byte under this counter has this result, and a reply with this
-/// tail.
+/// Whether the write of a block of this byte under this counter has this result, and a reply with
+/// this tail.
 fn answers(
     partition: &mut Partition,
     limits: Limits,

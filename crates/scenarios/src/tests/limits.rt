@@ -171,8 +171,8 @@ fn shares_of_another_book_are_foreign(rt: HostRuntime) -> Result<(), Fail> {
     refuse_shares_of(rt.alloc(), &mut scene_of(rt.alloc(), 2)?)
 }
 
-/// Guest 0 programs a key, and the result is asked for by guest 1, and by guest 0 in this session and in
-/// the next. Each reply has write counter, address, block count, result and type.
+/// Guest 0 programs a key, and the result is asked for by guest 1, and by guest 0 in this session
+/// and in the next. Each reply has write counter, address, block count, result and type.
 static RESULTS: [Line; 11] = [
     Line::Ask(0, Asked::Key(0x22)),
     Line::Ask(1, Asked::LastResult),

@@ -27,8 +27,8 @@ pub enum Line {
     Reads(u16, u32),
     /// The same of a book that is broken: each reply is a failure.
     FailedReads(u16, u32),
-    /// A guest with its key writes block 0 under the counters from this one on, so often. Each write goes
-    /// to the store and is settled, and its reply leaves, before the next.
+    /// A guest with its key writes block 0 under the counters from this one on, so often. Each
+    /// write goes to the store and is settled, and its reply leaves, before the next.
     Writes(u16, u32, u32),
     /// The guest's next intent goes to the store.
     Give(u16),
@@ -102,7 +102,8 @@ fn is_read(scene: &mut Scene, guest: u16, nonce: u128) -> bool {
     }
 }
 
-/// A guest reads its counter under this nonce, and the reply leaves: a failure where the book is broken.
+/// A guest reads its counter under this nonce, and the reply leaves: a failure where the book is
+/// broken.
 fn read(
     alloc: Global,
     scene: &mut Scene,

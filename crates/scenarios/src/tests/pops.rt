@@ -1,5 +1,5 @@
-//! The pops that a world notes, and what a refusal of memory leaves of one: `rt try --test --fail-alloc` has
-//! each allocation fail once.
+//! The pops that a world notes, and what a refusal of memory leaves of one: `rt try --test
+//! --fail-alloc` has each allocation fail once.
 
 use crate::tests::acts::{Acts, Move};
 use crate::tests::asked::Asked;

@@ -58,8 +58,8 @@ fn each_of_64_held_replies_of_64_guests_is_found(rt: HostRuntime) -> Result<(), 
     find_4096(rt.alloc(), &mut scene_of(rt.alloc(), 64)?)
 }
 
-/// Receipts of another life, of other guests, of the turn that collected the reply, and of turns that
-/// aren't there.
+/// Receipts of another life, of other guests, of the turn that collected the reply, and of turns
+/// that aren't there.
 fn strangers(receipt: Receipt) -> [Receipt; 7] {
     [
         Receipt {

@@ -1,5 +1,5 @@
-//! A history that rolls: which requests are answered still, which receipts find their turn, and what is
-//! kept.
+//! A history that rolls: which requests are answered still, which receipts find their turn, and
+//! what is kept.
 
 use crate::tests::asked::Asked;
 use crate::tests::groups::{Group, OF_A_KEY, OF_A_WRITE};
@@ -14,8 +14,8 @@ use rpmb_book::{Book, Receipt, Refused};
 use std::alloc::Global;
 use std::test::Fail;
 
-/// The receipt of guest 0 for the read of this number, where its first one was this turn and each reply
-/// left before the next read: a read is two turns.
+/// The receipt of guest 0 for the read of this number, where its first one was this turn and each
+/// reply left before the next read: a read is two turns.
 fn receipt_of(first: u128, number: u32) -> Receipt {
     Receipt {
         life: LIFE,
@@ -33,7 +33,8 @@ fn is_of(collected: Option<Done>, number: u32) -> bool {
     }
 }
 
-/// The read of this number, under its nonce: its receipt is the one that is told, and its reply leaves.
+/// The read of this number, under its nonce: its receipt is the one that is told, and its reply
+/// leaves.
 fn answer_one(alloc: Global, scene: &mut Scene, first: u128, number: u32) -> Result<(), Fail> {
     let receipt = scene.submit(alloc, 0, &get_write_counter(u128::from(number)))?;
     check(receipt == receipt_of(first, number), "another receipt")?;
@@ -48,7 +49,8 @@ fn answer(alloc: Global, scene: &mut Scene, first: u128, from: u32, to: u32) -> 
     Ok(())
 }
 
-/// Whether the receipt of a read finds its request and its reply, or, of one that was folded, nothing.
+/// Whether the receipt of a read finds its request and its reply, or, of one that was folded,
+/// nothing.
 fn is_found_from(book: &Book, first: u128, number: u32, folded: u32) -> bool {
     match book.find(&receipt_of(first, number)) {
         Some(turn) => folded <= number && is_of_nonce(&turn, u128::from(number)),
@@ -137,7 +139,8 @@ fn a_history_waits_for_its_first_reply(rt: HostRuntime) -> Result<(), Fail> {
     wait_for_one(rt.alloc(), &mut scene_of(rt.alloc(), 2)?)
 }
 
-/// A reply of guest 1 is held behind 10,000 reads of guest 0: these go, and what stands behind them stays.
+/// A reply of guest 1 is held behind 10,000 reads of guest 0: these go, and what stands behind them
+/// stays.
 fn fold_up_to_one(alloc: Global, scene: &mut Scene) -> Result<(), Fail> {
     answer(alloc, scene, 0, 0, 10_000)?;
     let held = scene.submit(alloc, 1, &get_write_counter(99))?;
@@ -154,8 +157,9 @@ fn what_stands_behind_a_held_reply_stays(rt: HostRuntime) -> Result<(), Fail> {
     fold_up_to_one(rt.alloc(), &mut scene_of(rt.alloc(), 2)?)
 }
 
-/// Guest 0 programs its key and writes, and guest 2, which has no key, reads. Of guest 1 a read, its key and another
-/// read are held when the history rolls first. It rolls once more when those have left.
+/// Guest 0 programs its key and writes, and guest 2, which has no key, reads. Of guest 1 a read,
+/// its key and another read are held when the history rolls first. It rolls once more when those
+/// have left.
 static KEPT: [Line; 43] = [
     Line::Ask(0, Asked::Key(0x11)),
     Line::Give(0),
@@ -262,8 +266,8 @@ fn what_was_written_stays_where_the_history_rolls(rt: HostRuntime) -> Result<(),
     play_all(rt.alloc(), 3, &KEPT)
 }
 
-/// The store breaks before the history rolls, and then after it. Of guest 1 a key that is settled, and a write and a
-/// read that aren't, are held over both.
+/// The store breaks before the history rolls, and then after it. Of guest 1 a key that is settled,
+/// and a write and a read that aren't, are held over both.
 static BROKEN: [&[Line]; 2] = [
     &[
         Line::Reads(0, 16_000),

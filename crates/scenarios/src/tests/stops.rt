@@ -1,5 +1,5 @@
-//! Three guests whose requests go to the disk side by side, one at a time or several as one, stopped at and
-//! within each call of the disk, and once more at and within the first call after the opening.
+//! Three guests whose requests go to the disk side by side, alone or several as one, stopped at and
+//! within each call of the disk, and again at and within the first call after the opening.
 mod ends;
 mod tally;
 
@@ -24,19 +24,19 @@ const MANY: u32 = 1000;
 #[derive(Clone, Copy)]
 struct Grouping {
     version: Version,
-    /// By guest and request, how many go as one from this request on; 0 where it goes with one before it.
+    /// By guest and request, how many go as one from it on; 0 where it goes with one before it.
     sizes: [[u64; 4]; 3],
     calls: u32,
     /// After how many stops between calls, and within them, no call follows an opening.
     without_calls: [u32; 2],
 }
 
-/// One at a time: 4 writes for each of 3 keys, 5 for each of 9 writes of blocks, and 18 syncs, since each
-/// request takes four, and guests 1 and 2 begin one and two syncs after guest 0.
+/// One at a time: 4 writes for each of 3 keys, 5 for each of 9 writes of blocks, and 18 syncs,
+/// since each request takes four, and guests 1 and 2 begin one and two syncs after guest 0.
 ///
-/// No call follows an opening after the last call, nor before the last sync where 3 of the 4 fillers leave the
-/// last gate shut. Nor does one where 3 of them leave it shut in the last sync, and 2 in the last write, which
-/// what reads give then lacks.
+/// No call follows an opening after the last call, nor before the last sync where 3 of the 4
+/// fillers leave the last gate shut. Nor does one where 3 of them leave it shut in the last sync,
+/// and 2 in the last write, which what reads give then lacks.
 static SINGLE: Grouping = Grouping {
     version: Version::One,
     sizes: [[1; 4]; 3],
@@ -44,8 +44,9 @@ static SINGLE: Grouping = Grouping {
     without_calls: [14, 10],
 };
 
-/// A key, a write and two as one; a key and three writes as one; a key and three writes, all as one. A group
-/// takes 4 writes, and one for each write of blocks: 15, 11 and 7, and 12 syncs, four for each group of guest 0.
+/// A key, a write and two as one; a key and three writes as one; a key and three writes, all as
+/// one. A group takes 4 writes, and one for each write of blocks: 15, 11 and 7, and 12 syncs, four
+/// for each group of guest 0.
 static MIXED: Grouping = Grouping {
     version: Version::One,
     sizes: [[1, 1, 2, 0], [1, 3, 0, 0], [4, 0, 0, 0]],
@@ -53,8 +54,8 @@ static MIXED: Grouping = Grouping {
     without_calls: [14, 10],
 };
 
-/// With two slots a guest's next payload and gate go beside those of the request before it, so each request
-/// but the first takes two syncs: 10 for each guest, of which guest 2 begins one sync after the others.
+/// With two slots a guest's next payload and gate go beside those of the request before it, so each
+/// but the first takes two syncs: 10 for each guest. Guest 2 begins one sync after the others.
 static PAIRED_SINGLE: Grouping = Grouping {
     version: Version::Two,
     calls: 68,
@@ -98,8 +99,8 @@ struct Run {
     given: [u64; 3],
 }
 
-/// What a stop has left, and of each guest the least and the most requests that it may have kept: those that
-/// are settled, and besides the group that comes next.
+/// What a stop has left, and of each guest the least and the most requests that it may have kept:
+/// those that are settled, and besides the group that comes next.
 #[derive(Drop)]
 struct Stopped {
     disk: CutDisk,
@@ -257,8 +258,8 @@ impl Run {
     }
 }
 
-/// How many requests a guest may have kept: of those given and not settled the next group, whose gate may be
-/// read as open.
+/// How many requests a guest may have kept: of those given and not settled the next group, whose
+/// gate may be read as open.
 fn most_of(sizes: &[[u64; 4]; 3], guest: u16, settled: u64, given: u64) -> u64 {
     match size_after(sizes, guest, settled) {
         Some(size) if settled < given => settled.saturating_add(size),

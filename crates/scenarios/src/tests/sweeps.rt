@@ -1,5 +1,5 @@
-//! Three guests side by side on images of both versions, stopped within each of the store's advances in turn,
-//! with each filler, and once more at the first call after the opening.
+//! Three guests side by side on images of both versions, stopped within each of the store's
+//! advances in turn, with each filler, and once more at the first call after the opening.
 
 use crate::tests::acts::{Acts, Move};
 use crate::tests::asked::Asked;
@@ -26,8 +26,8 @@ static KEYED: [Move; 4] = [
 /// The store goes on with what a guest wrote, while the guest is answered.
 static SERVED: [Move; 4] = [Move::HandOver, Move::Advances(3), Move::Reply, Move::Reply];
 
-/// Guest 0 writes once at a time, guest 1 twice and guest 2 three times, each under the counter that
-/// comes next.
+/// Guest 0 writes once at a time, guest 1 twice and guest 2 three times, each under the counter
+/// that comes next.
 fn write_some(acts: &mut Acts, guest: u16, round: u32) -> Result<(), Fail> {
     let byte = 0x40 + (guest % 64) as u8;
     let many = u32::from(guest % 3) + 1;
@@ -60,8 +60,8 @@ fn reply_to_all(acts: &mut Acts) -> Result<(), Fail> {
     Ok(())
 }
 
-/// Each guest programs its key, writes in two rounds and reads after each. What it writes in a round is
-/// taken as one, with what was still waiting.
+/// Each guest programs its key, writes in two rounds and reads after each. What it writes in a
+/// round is taken as one, with what was still waiting.
 fn mixed(acts: &mut Acts) -> Result<(), Fail> {
     acts.play(0, &[Move::Open])?;
     for guest in 0..3 {

@@ -1,6 +1,6 @@
-//! Images of version 1 that become images of version 2 while a write is under way, in each of its phases and
-//! with other bytes in each second slot: whole, or stopped within each call of the upgrade, and then once more.
-//! The guests write on, by both slots, and the host stops again.
+//! Images of version 1 that become images of version 2 while a write is under way, in each of its
+//! phases and with other bytes in each second slot: whole, or stopped within each call of the
+//! upgrade, and then once more. The guests write on, by both slots, and the host stops again.
 
 use crate::tests::acts::{Acts, Move};
 use crate::tests::asked::Asked;
@@ -16,15 +16,16 @@ use std::test::Fail;
 /// Old, New, and each byte that a gate or the version may be left with.
 const FILLERS: [u8; 5] = [0, 1, 4, 5, 6];
 
-/// Where the first partition begins, how long one of capacity 1 is, and where its second gate stands.
+/// Where the first partition begins, how long one of capacity 1 is, and where its second gate
+/// stands.
 const FIRST: usize = 1024;
 
 const LENGTH: usize = 35_328 + 131_072;
 
 const SECOND_GATE: usize = 17_920;
 
-/// How an upgrade comes about: of how many guests, after how many calls of their writes, and within which of
-/// its calls it is stopped.
+/// How an upgrade comes about: of how many guests, after how many calls of their writes, and within
+/// which of its calls it is stopped.
 #[derive(Clone, Copy)]
 struct Case {
     guests: u16,
@@ -173,7 +174,8 @@ fn fill(alloc: Global, case: &Case) -> Result<(), Fail> {
     Ok(())
 }
 
-/// An upgrade makes a sync, two reads, a write for each guest, a sync, the write of the version, and a sync.
+/// An upgrade makes a sync, two reads, a write for each guest, a sync, the write of the version,
+/// and a sync.
 fn stop_at_each(alloc: Global, case: &Case) -> Result<(), Fail> {
     for call in 0..u32::from(case.guests) + 7 {
         fill(alloc, &Case { call, ..*case })?;

@@ -87,7 +87,8 @@ fn run(world: &mut World, events: &[Event]) -> Left {
     left_in(world, refusal)
 }
 
-/// What these events leave of a fresh world. A world is held here alone, since its drop is dear to prove.
+/// What these events leave of a fresh world. A world is held here alone, since its drop is dear to
+/// prove.
 fn left_by(alloc: Global, events: &[Event]) -> Result<Left, Fail> {
     Ok(run(&mut world_of(alloc, 1, Version::One)?, events))
 }
@@ -100,8 +101,8 @@ impl Left {
     }
 }
 
-/// What lists of moves of guest 0 leave, one behind the other, where the store's advance after `left`
-/// others is stopped.
+/// What lists of moves of guest 0 leave, one behind the other, where the store's advance after
+/// `left` others is stopped.
 fn left_of(alloc: Global, lists: &[&[Move]], left: Option<u32>, filler: u8) -> Result<Left, Fail> {
     let mut acts = Acts::new(alloc, left, filler);
     for moves in lists {
@@ -158,8 +159,8 @@ fn an_opening_syncs_what_a_failed_sync_left(rt: HostRuntime) -> Result<(), Fail>
     check(left.openings == 3, "openings")
 }
 
-/// The opening's sync fails. What is asked then is nothing, since the world is closed; and a stop leaves what
-/// it could leave before.
+/// The opening's sync fails. What is asked then is nothing, since the world is closed; and a stop
+/// leaves what it could leave before.
 static NOT_OPENED: [Move; 5] = [
     Move::FailNext,
     Move::Open,
@@ -234,8 +235,8 @@ const SECOND: Move = Move::Submit(Asked::Write(0xa1, 1));
 
 const THIRD: Move = Move::Submit(Asked::Write(0xa2, 2));
 
-/// Three writes are answered before any sync, and go to the store in each grouping that a Take can give.
-/// A write takes 9 calls, and each further one of its group one more.
+/// Three writes are answered before any sync, and go to the store in each grouping that a Take can
+/// give. A write takes 9 calls, and each further one of its group one more.
 static ONE_BY_ONE: [Move; 9] = [
     FIRST,
     Move::HandOver,
@@ -270,8 +271,8 @@ static ONE_AND_TWO: [Move; 7] = [
 
 static ALL_THREE: [Move; 5] = [FIRST, SECOND, THIRD, Move::HandOver, Move::Advances(11)];
 
-/// What is there after a stop of the store's advance after `left` others: the counter, and the first byte
-/// of the block that all three write.
+/// What is there after a stop of the store's advance after `left` others: the counter, and the
+/// first byte of the block that all three write.
 fn after_stop(
     alloc: Global,
     moves: &[Move],

@@ -180,7 +180,8 @@ fn write_all(store: &mut Store<CutDisk>) {
     }
 }
 
-/// The disk of three guests, whose key requests stand before a sync, in Applying, Opening and Written.
+/// The disk of three guests, whose key requests stand before a sync, in Applying, Opening and
+/// Written.
 fn three_guests(alloc: Global, board: &BoardConfig, more: usize) -> Result<CutDisk, Fail> {
     let mut store = begun(alloc, board)?;
     for guest in 0..3 {
@@ -306,7 +307,8 @@ fn failed_calls(rt: HostRuntime) -> Result<(), Fail> {
     Ok(())
 }
 
-/// A disk on which the sync of a write's open gate failed: 0xA5 is read there, and a stop may take it.
+/// A disk on which the sync of a write's open gate failed: 0xA5 is read there, and a stop may take
+/// it.
 fn gate_unsynced(alloc: Global, board: &BoardConfig) -> Result<CutDisk, Fail> {
     let mut store = eight_given(alloc, board)?;
     store.fail(4);
@@ -338,8 +340,8 @@ fn finds_after_opening(alloc: Global, opens: bool) -> Result<bool, Fail> {
     finds_unsynced(alloc, &one_guest(alloc)?, opens)
 }
 
-/// What an opening has found, a stop after it leaves: the opening's sync has stored it. A stop without
-/// an opening takes it.
+/// What an opening has found, a stop after it leaves: the opening's sync has stored it. A stop
+/// without an opening takes it.
 #[test]
 fn opened_before_a_stop(rt: HostRuntime) -> Result<(), Fail> {
     for opens in &[false, true] {

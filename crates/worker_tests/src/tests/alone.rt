@@ -1,5 +1,5 @@
-//! What guests are told that are served at once is what each is told by a host that serves one chain at a
-//! time.
+//! What guests are told that are served at once is what each is told by a host that serves one
+//! chain at a time.
 use crate::tests::scene::{
     Ran, Step, board_of, check, formatted, formatted_in_memory, run_on, script_of_steps,
 };
@@ -13,7 +13,8 @@ use std::test::Fail;
 use std::thread::Threads;
 use workers::{DriverEnd, Open, Order, Script};
 
-/// A script of a guest of this number: its own key, its counter under several nonces, a reset between.
+/// A script of a guest of this number: its own key, its counter under several nonces, a reset
+/// between.
 pub fn script_of(alloc: Global, guest: u8) -> Result<Script, Fail> {
     let steps = [
         Step::Counter(guest),

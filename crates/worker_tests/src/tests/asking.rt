@@ -31,7 +31,8 @@ fn ask_of(turn: u8) -> Ask {
     }
 }
 
-/// The frames that write one block of this byte there, under the guest's key, and ask for the result.
+/// The frames that write one block of this byte there, under the guest's key, and ask for the
+/// result.
 pub fn write_of(key: &[u8; 32], counter: u32, address: u16, byte: u8) -> [[u8; 512]; 2] {
     let frame = Frame::zeros()
         .with_block_data(&[byte; 256])
@@ -73,8 +74,8 @@ fn chain_of(alloc: Global, guest: u8, turn: u8, written: u32, ask: Ask) -> Resul
     }
 }
 
-/// A guest's script of two hundred chains and a reset: it asks for the counter before it has a key, and then
-/// for all, in an order of its own.
+/// A guest's script of two hundred chains and a reset: it asks for the counter before it has a key,
+/// and then for all, in an order of its own.
 pub fn script_of(alloc: Global, guest: u8, salt: u8) -> Result<Script, Fail> {
     let mut orders = Vec::with_capacity(alloc, 201)?;
     orders.push(chain(alloc, &get_write_counter(u128::from(salt)))?)?;

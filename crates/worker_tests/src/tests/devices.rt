@@ -1,5 +1,5 @@
-//! Devices that stand in the place of a board's own: with less memory, with another guest's number, or with a queue
-//! that somebody else has made ready.
+//! Devices that stand in the place of a board's own: with less memory, with another guest's number,
+//! or with a queue that somebody else has made ready.
 ghost use Rattle.std.specs.Prelude.{◌≡◌, All, IfOk};
 ghost use Rattle.rpmb_book.specs.Book.{counted_in};
 ghost use Rattle.workers.specs.Following.{Follow};
@@ -31,9 +31,10 @@ pub fn descriptor(addr: u64, len: u32, flags: u16, next: u16) -> [u8; 16] {
     bytes
 }
 
-/// A device of this number that has accepted its features, and has a ready queue of four places: the descriptors at
-/// `base`, the available ring 256 bytes behind it, the used ring 512. A driver that doesn't reset it leaves the queue
-/// as it is. What the available ring holds at first is a chain that begins with the first of these descriptors.
+/// A device of this number that has accepted its features, and has a ready queue of four places:
+/// the descriptors at `base`, the available ring 256 bytes behind it, the used ring 512. A driver
+/// that doesn't reset it leaves the queue as it is. What the available ring holds at first is a
+/// chain that begins with the first of these descriptors.
 pub fn with_queue(
     alloc: Global,
     number: u16,
@@ -86,8 +87,8 @@ pub fn opened_beside<D: Disk>(
     Ok(parts)
 }
 
-/// A run of these scripts on a fresh image, with these devices in the place of the board's own. Of the disk the k-th
-/// call after the opening fails.
+/// A run of these scripts on a fresh image, with these devices in the place of the board's own. Of
+/// the disk the k-th call after the opening fails.
 pub fn run_beside<G: Gate + Sync, R: Threads + Wait + Sync>(
     rt: &R,
     alloc: Global,

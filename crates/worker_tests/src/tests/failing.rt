@@ -16,8 +16,8 @@ fn failure_of(kind: u8, code: u8) -> [u8; 12] {
     [0, 0, 0, 0, 0, 0, 0, 0, 0, code, kind, 0]
 }
 
-/// Whether an answer is a reply to a request of this type: with this result where nothing failed, and with
-/// one of these two where a call of the disk has.
+/// Whether an answer is a reply to a request of this type: with this result where nothing failed,
+/// and with one of these two where a call of the disk has.
 fn is_told(answer: Option<&Answer>, kind: u8, broken: bool, failures: [u8; 2]) -> bool {
     let Some(Answer::Used(reply)) = answer else {
         return false;
@@ -59,8 +59,8 @@ fn run_failing<R: Threads + Wait + Sync>(
     run_beside(rt, alloc, &mut [], scripts, &Open, k)
 }
 
-/// A run of two guests, each with a reset between its two chains, of which the k-th call fails: each guest has its
-/// two answers. Whether a call failed.
+/// A run of two guests, each with a reset between its two chains, of which the k-th call fails:
+/// each guest has its two answers. Whether a call failed.
 fn breaks_at<R: Threads + Wait + Sync>(rt: &R, alloc: Global, k: u64) -> Result<bool, Fail> {
     let steps = [Step::Key, Step::Reset, Step::Counter(1)];
     let scripts = two_scripts(alloc, &steps, &steps)?;
@@ -68,7 +68,8 @@ fn breaks_at<R: Threads + Wait + Sync>(rt: &R, alloc: Global, k: u64) -> Result<
     has_broken(&ran)
 }
 
-/// Runs of which one of ten calls fails, from this one on; whether each of them has to meet its failure.
+/// Runs of which one of ten calls fails, from this one on; whether each of them has to meet its
+/// failure.
 fn fail_from<R: Threads + Wait + Sync>(
     rt: &R,
     alloc: Global,
@@ -135,8 +136,8 @@ fn done_of(number: u8) -> [u8; 12] {
     }
 }
 
-/// Whether a reply is a failure to a chain of that script: one of a key and of a write may say too that it
-/// couldn't be stored.
+/// Whether a reply is a failure to a chain of that script: one of a key and of a write may say too
+/// that it couldn't be stored.
 fn is_failure(number: u8, tail: &[u8]) -> bool {
     let kind = match number {
         0 => 1,
@@ -146,7 +147,8 @@ fn is_failure(number: u8, tail: &[u8]) -> bool {
     tail == failure_of(kind, 1).as_slice() || (kind != 2 && tail == failure_of(kind, 5).as_slice())
 }
 
-/// The answers of a guest: right ones, and from the failure on failures. Whether there are any of these.
+/// The answers of a guest: right ones, and from the failure on failures. Whether there are any of
+/// these.
 fn has_failed(answers: &[Answer]) -> Result<bool, Fail> {
     let mut failed = false;
     for (number, answer) in (0..10_u8).zip(answers.iter()) {
@@ -164,7 +166,8 @@ fn has_failed(answers: &[Answer]) -> Result<bool, Fail> {
     Ok(failed)
 }
 
-/// Each of two guests that write has right answers, and failures only where a call failed. Whether one did.
+/// Each of two guests that write has right answers, and failures only where a call failed. Whether
+/// one did.
 fn have_broken(ran: &Ran) -> Result<bool, Fail> {
     ran.check_end()?;
     check(ran.turns == 20, "another number of turns")?;
@@ -207,8 +210,9 @@ fn no_call_of_two_guests_that_write_fails(rt: HostRuntime) -> Result<(), Fail> {
     check(!writes_break_at(&rt, rt.alloc(), 0)?, "a broken store")
 }
 
-// Eighteen requests are stored, at most four as one: in three rounds where one serves both guests, with 16 writes
-// of blocks, four writes more for each of six groups, and four syncs a round, which are 52 calls at least.
+// Eighteen requests are stored, at most four as one: in three rounds where one serves both guests,
+// with 16 writes of blocks, four writes more for each of six groups, and four syncs a round, which
+// are 52 calls at least.
 #[test]
 fn calls_21_to_30_fail_in_turn(rt: HostRuntime) -> Result<(), Fail> {
     writes_fail_from(&rt, rt.alloc(), 21)

@@ -19,15 +19,16 @@ fn foreign(alloc: Global) -> Result<Device, Fail> {
     Ok(Device::new(alloc, 63, &GuestConfig::of_capacity(1))?)
 }
 
-/// A device with too little memory for its driver, which comes to `OutOfRange` with its first chain.
+/// A device with too little memory for its driver, which comes to `OutOfRange` with its first
+/// chain.
 fn narrow(alloc: Global, number: u16) -> Result<Device, Fail> {
     let mut config = GuestConfig::of_capacity(1);
     config.memory = 65_536;
     Ok(Device::new(alloc, number, &config)?)
 }
 
-/// The fault of a run of two guests with a chain each, of which guest 1 has this device. Of the disk the k-th call
-/// after the opening fails.
+/// The fault of a run of two guests with a chain each, of which guest 1 has this device. Of the
+/// disk the k-th call after the opening fails.
 fn fault_beside<G: Gate + Sync, R: Threads + Wait + Sync>(
     rt: &R,
     alloc: Global,
@@ -50,7 +51,8 @@ fn each_fault_alone_ends_a_run(rt: HostRuntime) -> Result<(), Fail> {
     check(fault == Some(HostFault::OutOfRange), "no narrow memory")
 }
 
-/// Holds the worker of one guest at `Popped`, so long that the other's driver has come to its fault by then.
+/// Holds the worker of one guest at `Popped`, so long that the other's driver has come to its fault
+/// by then.
 #[derive(Drop)]
 struct HoldsAWhile<'a, C: Clock> {
     clock: &'a C,
@@ -99,8 +101,9 @@ fn late_devices(alloc: Global, driver: u16) -> Result<[Option<Device>; 2], Fail>
     }
 }
 
-/// A run of two guests, of which this one's driver comes to a fault, and the other's worker, which is held. The
-/// fault that it ends with, and whether the worker had come so far before the driver ended all.
+/// A run of two guests, of which this one's driver comes to a fault, and the other's worker, which
+/// is held. The fault that it ends with, and whether the worker had come so far before the driver
+/// ended all.
 fn run_late<R: Threads + Wait + Clock + Sync>(
     rt: &R,
     alloc: Global,
@@ -175,7 +178,8 @@ pub fn slept_till(clock: &impl Clock, flag: &AtomicBool) -> bool {
     false
 }
 
-// The one call of the disk that the key leads to fails, and guest 0 is told so before guest 1's worker goes on.
+// The one call of the disk that the key leads to fails, and guest 0 is told so before guest 1's
+// worker goes on.
 #[test]
 fn a_fault_is_answered_where_a_call_of_the_disk_has_failed(rt: HostRuntime) -> Result<(), Fail> {
     let alloc = rt.alloc();

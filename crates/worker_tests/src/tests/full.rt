@@ -95,8 +95,8 @@ fn has_all<D: Disk>(ended: &Ended<D>, guest: usize, chains: u16) -> bool {
     served.receipts.len() == count && driver.answers.len() == count && are_replies(&driver.answers)
 }
 
-/// All requests of two guests were answered. Where there are more than a history holds, those up to some turn were
-/// folded, the first turn at least and not the last, and the others are found.
+/// All requests of two guests were answered. Where there are more than a history holds, those up to
+/// some turn were folded, the first turn at least and not the last, and the others are found.
 fn check_ended<D: Disk>(ended: &Ended<D>, first: u16, second: u16) -> Result<(), Fail> {
     let turns = u64::from(first) + u64::from(second);
     check(

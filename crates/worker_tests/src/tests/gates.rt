@@ -1,5 +1,5 @@
-//! Gates that hold a thread until another has come somewhere. A thread that is held in vain for so many turns
-//! goes on, and the gate says so.
+//! Gates that hold a thread until another has come somewhere. A thread that is held in vain for so
+//! many turns goes on, and the gate says so.
 use disk::Hook;
 use std::sync::atomic::{AtomicBool, Ordering};
 use std::thread;
@@ -19,8 +19,8 @@ fn waited_for(flag: &AtomicBool, turns: u32) -> bool {
     false
 }
 
-/// Holds the worker of one guest at `Submitted` until the worker of the other reaches `Published`, and
-/// the other's at `Popped` until the first stands there.
+/// Holds the worker of one guest at `Submitted` until the worker of the other reaches `Published`,
+/// and the other's at `Popped` until the first stands there.
 #[derive(Drop)]
 pub struct HoldsOne {
     held: u16,

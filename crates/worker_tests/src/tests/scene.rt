@@ -167,8 +167,8 @@ pub fn run_of<D: Disk + Send + Drop, G: Gate + Sync, R: Threads + Wait + Sync>(
     Ok(serve(rt, alloc, parts, board, scripts, gate))
 }
 
-/// What is looked at of a run. All else that a run leaves is let go at once, since it is dear to prove that it
-/// goes.
+/// What is looked at of a run. All else that a run leaves is let go at once, since it is dear to
+/// prove that it goes.
 #[derive(Drop)]
 pub struct Ran {
     /// The fault that it ended with, where it did; all else is nothing then.

@@ -1,4 +1,5 @@
-//! A guest whose device stops while its first reply is held, beside one that asks as much as a history holds.
+//! A guest whose device stops while its first reply is held, beside one that asks as much as a
+//! history holds.
 use crate::tests::devices::{descriptor, opened_beside, with_queue};
 use crate::tests::faults::slept_till;
 use crate::tests::full::script_of_reads;
@@ -21,7 +22,8 @@ const REQUEST: u64 = 0x9_0000;
 
 const REPLY: u64 = 0x9_1000;
 
-/// A device whose queue holds a key request, and then a chain that leaves guest memory, at which it will stop.
+/// A device whose queue holds a key request, and then a chain that leaves guest memory, at which it
+/// will stop.
 fn stopping(alloc: Global) -> Result<Device, Fail> {
     let chains = [
         descriptor(REQUEST, 1024, 1, 1),
@@ -51,8 +53,8 @@ struct Watch<'a, C: Clock> {
     held: AtomicBool,
 }
 
-/// Holds the first sync after guest 0's key back, until guest 1's worker has popped its last job, and so long after
-/// that the book has been asked to answer it.
+/// Holds the first sync after guest 0's key back, until guest 1's worker has popped its last job,
+/// and so long after that the book has been asked to answer it.
 #[derive(Clone, Copy)]
 struct HoldsSync<'a, C: Clock>(&'a Watch<'a, C>);
 
@@ -87,7 +89,8 @@ impl<'a, C: Clock> Gate for Tells<'a, C> {
     }
 }
 
-/// Both guests' requests are answered: guest 0's worker stays until its reply has left, though its driver has ended.
+/// Both guests' requests are answered: guest 0's worker stays until its reply has left, though its
+/// driver has ended.
 fn run_held<R: Threads + Wait + Clock + Sync>(rt: &R, alloc: Global) -> Result<(), Fail> {
     let watch = Watch {
         clock: rt,

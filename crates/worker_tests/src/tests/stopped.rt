@@ -15,7 +15,8 @@ use workers::{DriverEnd, Open, Script};
 /// Where the device finds its queue: behind all that the driver uses.
 const BASE: u32 = 0x8_0000;
 
-/// Where the request lies that the queue holds at first, and where its reply goes but for the last 28 bytes.
+/// Where the request lies that the queue holds at first, and where its reply goes but for the last
+/// 28 bytes.
 const REQUEST: u64 = 0x9_0000;
 
 const REPLY: u64 = 0x9_1000;
@@ -37,7 +38,8 @@ fn refused(alloc: Global) -> Result<Device, Fail> {
     Ok(device)
 }
 
-/// A device whose queue holds a request whose reply ends in the driver's used ring, with a nonce of ones.
+/// A device whose queue holds a request whose reply ends in the driver's used ring, with a nonce of
+/// ones.
 fn overwriting(alloc: Global) -> Result<Device, Fail> {
     let chain = [
         descriptor(REQUEST, 512, 1, 1),
@@ -112,8 +114,8 @@ fn scripts_of(alloc: Global) -> Result<[Script; 3], Fail> {
     Ok([first, second, third])
 }
 
-/// A run of three guests, of which guest 1 has this device, and is stuck for this reason. So many of its requests
-/// were answered.
+/// A run of three guests, of which guest 1 has this device, and is stuck for this reason. So many
+/// of its requests were answered.
 fn is_stuck<R: Threads + Wait + Sync>(
     rt: &R,
     alloc: Global,

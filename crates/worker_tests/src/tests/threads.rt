@@ -1,4 +1,5 @@
-//! Guests that are served at once: what threads do beside each other, and what a run of them leaves.
+//! Guests that are served at once: what threads do beside each other, and what a run of them
+//! leaves.
 use crate::tests::gates::{HoldsOne, HoldsTillSync, TURNS, WaitsInSync, Watch};
 use crate::tests::scene::{
     KEY, Step, check, formatted, get_write_counter, outcome_on, program_key, run_on, tail_of,
@@ -89,7 +90,8 @@ fn check_found<D: Disk>(
     }
 }
 
-/// What a worker leaves of its guest: two requests were answered, with a receipt each that finds its request.
+/// What a worker leaves of its guest: two requests were answered, with a receipt each that finds
+/// its request.
 fn check_served<D: Disk>(
     alloc: Global,
     ended: &Ended<D>,

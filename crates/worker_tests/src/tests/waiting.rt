@@ -1,4 +1,5 @@
-//! A worker that waits for the history: the first reply of it is another guest's, and needs a sync that is held back.
+//! A worker that waits for the history: the first reply of it is another guest's, and needs a sync
+//! that is held back.
 use crate::tests::faults::slept_till;
 use crate::tests::full::script_of_reads;
 use crate::tests::scene::{
@@ -78,8 +79,8 @@ impl<'a, C: Clock> Watch<'a, C> {
     }
 }
 
-/// Holds the first sync back until guest 1's worker has popped its last job, and so long after that the book has been
-/// asked to answer it.
+/// Holds the first sync back until guest 1's worker has popped its last job, and so long after that
+/// the book has been asked to answer it.
 #[derive(Clone, Copy)]
 struct HoldsSync<'a, C: Clock>(&'a Watch<'a, C>);
 

@@ -1,5 +1,5 @@
-//! The gates let the right bodies through, and catch wrong ones: actors that share a thread, a lock that is held
-//! from pop to publish, and one that is held over a call of the disk.
+//! The gates let the right bodies through, and catch wrong ones: actors that share a thread, a lock
+//! that is held from pop to publish, and one that is held over a call of the disk.
 use crate::tests::gates::{HoldsOne, HoldsTillSync, TURNS, WaitsInSync, Watch};
 use crate::tests::scene::check;
 use disk::{Disk, HookDisk, MemDisk};
@@ -123,8 +123,8 @@ fn flush_under_lock<G: Gate, D: Disk>(
     flush(gate, disk)
 }
 
-/// Whether a hook that holds a sync finds that it was held in vain, where the book is held over the sync or
-/// isn't.
+/// Whether a hook that holds a sync finds that it was held in vain, where the book is held over the
+/// sync or isn't.
 fn is_sync_caught<R: Threads + Wait + Sync>(
     rt: &R,
     alloc: Global,

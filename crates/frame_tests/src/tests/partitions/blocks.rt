@@ -1,7 +1,7 @@
-//! Blocks that are written and read. The fields of
-//! each frame were written out by hand or by Python from the table of replies, not by this crate; MACs
-//! are `hmac.new(key, b"".join(frame[228:] for frame in frames), "sha256")`. Fields that a reply doesn't
-//! repeat aren't zeros in the requests: each frame has a key_mac of its own, and so for the others.
+//! Blocks that are written and read. The fields of each frame were written out by hand or by Python
+//! from the table of replies, not by this crate; MACs are `hmac.new(key, b"".join(frame[228:] for
+//! frame in frames), "sha256")`. Fields that a reply doesn't repeat aren't zeros in the requests:
+//! each frame has a key_mac of its own, and so for the others.
 
 use crate::tests::partitions::steps::Scenario;
 

@@ -1,5 +1,5 @@
-//! Verdicts on writes whose MAC was checked before. The frames and their MACs, under 32 bytes 0x11, are
-//! those of `blocks`; they were written out by Python.
+//! Verdicts on writes whose MAC was checked before. The frames and their MACs, under 32 bytes 0x11,
+//! are those of `blocks`; they were written out by Python.
 
 use crate::tests::checks::check_row;
 use crate::tests::limits::limits_of;
@@ -11,13 +11,13 @@ use rpmb_frame::{Limits, Request};
 use std::alloc::Global;
 use std::test::Fail;
 
-/// The first of a write's frames in `blocks`, how many there are with the one that asks for the result,
-/// the partition's write counter, the byte that its key repeats, whether a byte of the data is another,
-/// and the result.
+/// The first of a write's frames in `blocks`, how many there are with the one that asks for the
+/// result, the partition's write counter, the byte that its key repeats, whether a byte of the data
+/// is another, and the result.
 type Row = (usize, usize, u32, u8, bool, u16);
 
-/// A right MAC, one that is right under another key alone, and one that is wrong under both keys; of a
-/// block, and of 16.
+/// A right MAC, one that is right under another key alone, and one that is wrong under both keys;
+/// of a block, and of 16.
 static ROWS: [Row; 8] = [
     (2, 2, 0, 0x11, false, 0x0000),
     (2, 2, 0, 0x22, false, 0x0002),

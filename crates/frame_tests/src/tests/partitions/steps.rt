@@ -5,8 +5,8 @@ use rpmb_core::{OK, Outcome, Partition, is_change};
 use rpmb_frame::{Limits, Request};
 use std::test::Fail;
 
-/// The fields of a frame in their order: the byte that stuff repeats, key_mac, the byte that the data
-/// repeat, nonce, write_counter; and address, block_count, result and req_resp, as one number.
+/// The fields of a frame in their order: the byte that stuff repeats, key_mac, the byte that the
+/// data repeat, nonce, write_counter; and address, block_count, result and req_resp, as one number.
 pub type Row = (u8, [u64; 4], u8, [u64; 2], u32, u64);
 
 /// How many frames a request has, the writable length in bytes, the result, and how many frames the

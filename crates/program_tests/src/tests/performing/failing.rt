@@ -14,7 +14,8 @@ struct Failing {
     part: Part,
     /// What stands in the script after the lines.
     more: Piece,
-    /// The calls of which one fails, each in a run of its own, from the first to the last; 0 is none.
+    /// The calls of which one fails, each in a run of its own, from the first to the last; 0 is
+    /// none.
     calls: (u64, u64),
     /// With the call's number it picks what a stop leaves.
     stop: u64,
@@ -38,12 +39,13 @@ const BROKEN: Failing = Failing {
 /// A line that stores outside the memory, and one behind it.
 const OUTSIDE: Piece = ("store 0 1048576 00\nchain 0 - 16\n", 1);
 
-/// The opening makes calls 1 to 6. A key takes eight calls, payload, gate, home and gate with a sync after each,
-/// and is told after the fourth. A write has its blocks written before the home. A run that has no such call
-/// succeeds, and what it did is settled.
+/// The opening makes calls 1 to 6. A key takes eight calls, payload, gate, home and gate with a
+/// sync after each, and is told after the fourth. A write has its blocks written before the home. A
+/// run that has no such call succeeds, and what it did is settled.
 ///
-/// The last two end at a line that stores outside the memory, after they printed what is wanted, and leave what
-/// was settled. A call that fails before is told by failure replies alone, since the run doesn't reach its end.
+/// The last two end at a line that stores outside the memory, after they printed what is wanted,
+/// and leave what was settled. A call that fails before is told by failure replies alone, since the
+/// run doesn't reach its end.
 static RUNS: [Failing; 7] = [
     Failing {
         part: Part {
@@ -110,7 +112,8 @@ static RUNS: [Failing; 7] = [
     },
 ];
 
-/// What a stop leaves: what the last sync left, what reads give, or bytes that shut gates or open them.
+/// What a stop leaves: what the last sync left, what reads give, or bytes that shut gates or open
+/// them.
 fn filler_of(alloc: Global, stop: u64) -> Result<Filler, Fail> {
     match stop % 4 {
         0 => Ok(Filler::Old),

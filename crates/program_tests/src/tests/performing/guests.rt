@@ -1,5 +1,5 @@
-//! Three guests that are served at once: what each is told, and what is left of their image. The MACs were
-//! computed by another program.
+//! Three guests that are served at once: what each is told, and what is left of their image. The
+//! MACs were computed by another program.
 
 use super::lines::{Part, WHOLE, script_of, told_by};
 use super::turns::left_at;
@@ -43,7 +43,8 @@ static WRITES: Served = Served {
     changed: (1_024, 167_424),
 };
 
-/// A key of 32 bytes 0x11 for guest 1, which then reads three blocks from the address 3 on: 1,536 bytes.
+/// A key of 32 bytes 0x11 for guest 1, which then reads three blocks from the address 3 on: 1,536
+/// bytes.
 static READS: Served = Served {
     part: NO_LINES,
     asks: &[
@@ -98,7 +99,8 @@ static READS: Served = Served {
     changed: (167_424, 333_824),
 };
 
-/// A key of guest 2 is refused, since its block count is 0. The outcome is told, and after a reset no more.
+/// A key of guest 2 is refused, since its block count is 0. The outcome is told, and after a reset
+/// no more.
 static FORGETS: Served = Served {
     part: NO_LINES,
     asks: &[

@@ -1,5 +1,5 @@
-//! Images that are made and shown, on disks in memory. What is wanted was written out by hand from the
-//! layout of an image (docs/FORMATS.md, "The image"), not by this program.
+//! Images that are made and shown, on disks in memory. What is wanted was written out by hand from
+//! the layout of an image (docs/FORMATS.md, "The image"), not by this program.
 
 use super::lines::ALL_LISTED;
 use super::turns::{Image, Leaves, Prints, Put, TURN, Turn, check_turns};
@@ -7,8 +7,8 @@ use super::{DISK_FAULT, FORMAT, ONE, SHOW};
 use crate::tests::texts::Piece;
 use std::test::Fail;
 
-/// Guests of capacities 1 and 2. The first one's home stands at 1,024, its blocks at 36,352; the second one's
-/// home at 167,424, its blocks at 202,752.
+/// Guests of capacities 1 and 2. The first one's home stands at 1,024, its blocks at 36,352; the
+/// second one's home at 167,424, its blocks at 202,752.
 const TWO: &[u8] = &[1, 2];
 
 /// An image of one guest is made of a disk that held other bytes.
@@ -60,15 +60,16 @@ const HOME: [u8; 45] = [
     0x11, 0, 0, 0, 7, 0, 0, 0, 0, 0, 0, 0, 8,
 ];
 
-/// The front of a payload: one entry, a write of two blocks at the address 3, after which the counter is 8;
-/// the key is 32 bytes 0x11.
+/// The front of a payload: one entry, a write of two blocks at the address 3, after which the
+/// counter is 8; the key is 32 bytes 0x11.
 const PAYLOAD: [u8; 57] = [
     1, 0, 0, 0, 0, 0, 0, 0, 0, 0, 0, 0, 0, 0, 0, 9, 3, 0x11, 0x11, 0x11, 0x11, 0x11, 0x11, 0x11,
     0x11, 0x11, 0x11, 0x11, 0x11, 0x11, 0x11, 0x11, 0x11, 0x11, 0x11, 0x11, 0x11, 0x11, 0x11, 0x11,
     0x11, 0x11, 0x11, 0x11, 0x11, 0x11, 0x11, 0x11, 0x11, 0, 0, 0, 8, 0, 3, 0, 2,
 ];
 
-/// The second guest's home, its blocks 1 and 1,023, and the last byte of the first guest's block 511.
+/// The second guest's home, its blocks 1 and 1,023, and the last byte of the first guest's block
+/// 511.
 const KEYED: &[Put] = &[
     (167_424, &HOME),
     (203_008, &[0xab; 256]),
@@ -86,8 +87,8 @@ const KEYED_LISTING: &[Piece] = &[
     ("\n", 1),
 ];
 
-/// A home of the write before, the blocks 2 and 3 as they were, and a payload with its blocks, behind a gate
-/// that is open.
+/// A home of the write before, the blocks 2 and 3 as they were, and a payload with its blocks,
+/// behind a gate that is open.
 const OPEN: &[Put] = &[
     (1024, &HOME),
     (36_864, &[0x22; 512]),
@@ -123,7 +124,8 @@ const SHUT_LISTING: &[Piece] = &[
     ("\n", 1),
 ];
 
-/// Keys, counters and blocks, what a gate that is open leads to, and what all lines leave, run or served.
+/// Keys, counters and blocks, what a gate that is open leads to, and what all lines leave, run or
+/// served.
 static LISTED: [Turn; 5] = [
     Turn {
         capacities: TWO,
@@ -158,7 +160,8 @@ fn shows_keys_counters_and_blocks(rt: HostRuntime) -> Result<(), Fail> {
     check_turns(&rt, &LISTED)
 }
 
-/// What a byte in a fresh image of one guest leads to: one of the magic, one of the number of guests.
+/// What a byte in a fresh image of one guest leads to: one of the magic, one of the number of
+/// guests.
 static SPOILED: [Turn; 2] = [
     Turn {
         image: Image::With(ONE, &[(0, b"v")]),
@@ -179,9 +182,9 @@ fn refuses_contents(rt: HostRuntime) -> Result<(), Fail> {
     check_turns(&rt, &SPOILED)
 }
 
-/// Over a fresh image each call of the disk fails in turn, and there is none behind the last: eleven writes of
-/// zeros, a home and two gates, a sync, header and version byte, a sync; and a sync, then the reads of header,
-/// version byte, gate, home and blocks.
+/// Over a fresh image each call of the disk fails in turn, and there is none behind the last:
+/// eleven writes of zeros, a home and two gates, a sync, header and version byte, a sync; and a
+/// sync, then the reads of header, version byte, gate, home and blocks.
 static CALLS: [Turn; 4] = [
     Turn {
         image: Image::Fresh(ONE),

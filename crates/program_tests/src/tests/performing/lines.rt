@@ -1,7 +1,9 @@
-//! The lines of a script, with what each prints. The MACs were computed by another program, and what is
-//! wanted was written out by hand from the tables of requests and replies (docs/FORMATS.md).
+//! The lines of a script, with what each prints. The MACs were computed by another program, and
+//! what is wanted was written out by hand from the tables of requests and replies
+//! (docs/FORMATS.md).
 //!
-//! A frame in hex digits is 196 bytes of zeros, 32 of a MAC, 256 of data, 16 of a nonce, and its last 12.
+//! A frame in hex digits is 196 bytes of zeros, 32 of a MAC, 256 of data, 16 of a nonce, and its
+//! last 12.
 
 use crate::tests::texts::{Piece, push};
 use std::alloc::Global;
@@ -12,7 +14,8 @@ pub struct Line {
     asks: &'static [Piece],
     /// What it prints while no call of the disk failed.
     told: &'static [Piece],
-    /// What it prints where a call failed while its request was held: a key or a write has failed then.
+    /// What it prints where a call failed while its request was held: a key or a write has failed
+    /// then.
     held: &'static [Piece],
     /// What it prints where a call failed before.
     failed: &'static [Piece],
@@ -225,7 +228,8 @@ pub struct Part {
     /// The place of the first of them, and the place after the last.
     pub from: usize,
     pub to: usize,
-    /// The place of the line whose request was held when a call of the disk failed; `ALL` where none failed.
+    /// The place of the line whose request was held when a call of the disk failed; `ALL` where
+    /// none failed.
     pub held_at: usize,
 }
 
@@ -245,7 +249,8 @@ impl Part {
         if self.has(place) { line.asks } else { &[] }
     }
 
-    /// What is told of the line at a place. What the last write came to isn't kept from an earlier run.
+    /// What is told of the line at a place. What the last write came to isn't kept from an earlier
+    /// run.
     fn told(self, place: usize, line: &Line) -> &'static [Piece] {
         if !self.has(place) {
             return &[];

@@ -14,7 +14,8 @@ fn is_told(alloc: Global, told: &Told, part: Part) -> Result<bool, Fail> {
     Ok(told.is(out.as_str(), ""))
 }
 
-/// Performs a script of these lines over a content, and gives what it leaves, if it prints what is wanted.
+/// Performs a script of these lines over a content, and gives what it leaves, if it prints what is
+/// wanted.
 fn run_script<R: Runtime>(
     rt: &R,
     alloc: Global,

@@ -60,8 +60,8 @@ const REFUSED: Room = Room {
     ..FULL
 };
 
-/// A line of a chain has 11 bytes, that of `format` 17, that of `show` 36: with just as much room only the flush
-/// fails. That lines are lost is told before another fault.
+/// A line of a chain has 11 bytes, that of `format` 17, that of `show` 36: with just as much room
+/// only the flush fails. That lines are lost is told before another fault.
 static ROOMS: [Room; 22] = [
     Room { room: 0, ..FULL },
     Room { room: 5, ..FULL },

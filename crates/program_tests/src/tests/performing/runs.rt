@@ -1,4 +1,5 @@
-//! Runs over images: with a bad line, over what is no image of the board, and as far as a history goes.
+//! Runs over images: with a bad line, over what is no image of the board, and as far as a history
+//! goes.
 
 use super::lines::{NO_RESULT, Part, WHOLE};
 use super::turns::{Image, Leaves, Prints, TURN, Turn, check_turns};
@@ -50,8 +51,8 @@ const OTHER_IMAGE: Turn = Turn {
     ..NO_IMAGE
 };
 
-/// The front of an image, one with a byte more, as many zeros as an image has bytes, and images of other boards
-/// than that of one guest of capacity 1.
+/// The front of an image, one with a byte more, as many zeros as an image has bytes, and images of
+/// other boards than that of one guest of capacity 1.
 static NO_IMAGES: [Turn; 8] = [
     Turn {
         image: Image::Front(0),
@@ -108,8 +109,8 @@ fn fails_within_the_opening(rt: HostRuntime) -> Result<(), Fail> {
     check_turns(&rt, &OPENINGS)
 }
 
-/// One request more than a history holds; and still more, each without a request, which is malformed, and with room for
-/// a frame.
+/// One request more than a history holds; and still more, each without a request, which is
+/// malformed, and with room for a frame.
 static HISTORIES: [Turn; 2] = [
     Turn {
         more: ("chain 0 - 16\n", 16_385),

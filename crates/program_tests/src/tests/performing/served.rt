@@ -74,9 +74,9 @@ fn serves_more_than_a_history_holds(rt: HostRuntime) -> Result<(), Fail> {
     check_turns(&rt, &HISTORIES)
 }
 
-/// A failed call of the disk is told, behind a line for each of the chains. The opening makes eight calls, of
-/// which a failure leaves nothing to be served. However the requests are grouped, the store makes at least eight.
-/// Two guests aren't served over the image of one.
+/// A failed call of the disk is told, behind a line for each of the chains. The opening makes eight
+/// calls, of which a failure leaves nothing to be served. However the requests are grouped, the
+/// store makes at least eight. Two guests aren't served over the image of one.
 static FAULTS: [Turn; 2] = [
     Turn {
         part: WHOLE,

@@ -22,7 +22,8 @@ pub enum Image {
     Fresh(&'static [u8]),
     /// The same with these bytes.
     With(&'static [u8], &'static [Put]),
-    /// So many bytes of the front of a fresh image of one guest, with zeros behind where it has fewer.
+    /// So many bytes of the front of a fresh image of one guest, with zeros behind where it has
+    /// fewer.
     Front(usize),
     /// The same byte so many times.
     Bytes(u8, usize),
@@ -128,7 +129,8 @@ pub struct Turn {
     pub part: Part,
     /// What stands behind them.
     pub more: Piece,
-    /// The calls of the disk of which one fails, each in a turn of its own, from the first to the last; 0 is none.
+    /// The calls of the disk of which one fails, each in a turn of its own, from the first to the
+    /// last; 0 is none.
     pub calls: (u64, u64),
     pub prints: Prints,
     /// What stands on standard error, where the command is to end with a fault.

@@ -6,7 +6,8 @@ use mmio_transport::Device;
 use rpmb_frame::{DriverLayout, RingKind};
 use std::test::Fail;
 
-// Stores the index and the first element of the used ring, at the device's area of the driver's layout.
+// Stores the index and the first element of the used ring, at the device's area of the driver's
+// layout.
 fn puts_element(device: &mut Device, id: u32, len: u32) -> bool {
     let area = DriverLayout::of(RingKind::Split, GUEST.queue).device_area;
     let at = area.min(131072);
@@ -29,8 +30,8 @@ pub fn uses(pair: &mut Pair, id: u32, len: u32) -> bool {
     }
 }
 
-// While a chain with room for 2 bytes is in flight under the id 0, the device's first element has an id and
-// a length. Where no chain has them a reap is refused, and once more.
+// While a chain with room for 2 bytes is in flight under the id 0, the device's first element has
+// an id and a length. Where no chain has them a reap is refused, and once more.
 static ELEMENTS: [(Form, &[Turn]); 8] = [
     (
         (RingKind::Split, false),

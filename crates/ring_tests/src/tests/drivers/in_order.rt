@@ -20,7 +20,8 @@ fn go_in_order(alloc: Global, form: Form, turns: &[Turn]) -> Result<(), Fail> {
     go_rounds(alloc, form, 1, turns)
 }
 
-// With IN_ORDER the reply to the second of two chains is dropped, until that to the first was written.
+// With IN_ORDER the reply to the second of two chains is dropped, until that to the first was
+// written.
 static SECOND_OF_DESCRIPTORS: [Turn; 12] = [
     Turn::Offers(&[5, 6, 7], 2, Ok(0)),
     Turn::Offers(&[5, 6, 7], 2, Ok(2)),
@@ -60,8 +61,8 @@ fn in_order_the_oldest_chain_comes_first(rt: HostRuntime) -> Result<(), Fail> {
     go_in_order(rt.alloc(), (RingKind::Packed, true), tables_or_places)
 }
 
-// With IN_ORDER the descriptors are taken round and round, and each names the following one: the last of the
-// table is followed by the first.
+// With IN_ORDER the descriptors are taken round and round, and each names the following one: the
+// last of the table is followed by the first.
 static TABLE_ORDER: [Turn; 9] = [
     Turn::Offers(&[5, 6, 7], 0, Ok(0)),
     Turn::Offers(&[5, 6, 7], 2, Ok(1)),
@@ -94,8 +95,8 @@ fn in_order_the_driver_keeps_the_order(rt: HostRuntime) -> Result<(), Fail> {
     Ok(())
 }
 
-// Five chains, which take eight of the four descriptors: twice round the table. The third one ends at
-// descriptor 0, which descriptor 3 names.
+// Five chains, which take eight of the four descriptors: twice round the table. The third one ends
+// at descriptor 0, which descriptor 3 names.
 static FIVE_CHAINS: [Turn; 21] = [
     Turn::Offers(&[5, 6, 7], 2, Ok(0)),
     Turn::Device(Step::Keeps(&[5, 6, 7])),
@@ -126,8 +127,8 @@ fn in_order_the_table_runs_round(rt: HostRuntime) -> Result<(), Fail> {
     go_rounds(rt.alloc(), (RingKind::Split, false), 13108, &FIVE_CHAINS)
 }
 
-// The guest writes its used ring itself: its own driver takes what stands there, and the device, which
-// doesn't read it, goes on by its own counts.
+// The guest writes its used ring itself: its own driver takes what stands there, and the device,
+// which doesn't read it, goes on by its own counts.
 static OWN_USED_RING: [Turn; 10] = [
     Turn::Offers(&[5, 6, 7], 0, Ok(0)),
     Turn::Offers(&[5, 6, 7], 0, Ok(1)),

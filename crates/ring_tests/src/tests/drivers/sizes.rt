@@ -69,7 +69,8 @@ fn queues_that_a_device_takes(rt: HostRuntime) -> Result<(), Fail> {
     Ok(())
 }
 
-// 256 chains of one descriptor each are in flight, by the ids in their order, and then there is no room.
+// 256 chains of one descriptor each are in flight, by the ids in their order, and then there is no
+// room.
 fn takes_256(pair: &mut Pair) -> bool {
     for place in 0..256_u16 {
         if !offers(pair, &[], 2, Ok(place)) {

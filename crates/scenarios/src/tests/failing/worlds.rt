@@ -114,8 +114,8 @@ fn each_call_of_a_world_fails(rt: HostRuntime) -> Result<(), Fail> {
     )
 }
 
-/// With two slots a guest's write may go beside its key. The keys take 12 writes and the writes 15, and
-/// two syncs settle a key, two more a write.
+/// With two slots a guest's write may go beside its key. The keys take 12 writes and the writes 15,
+/// and two syncs settle a key, two more a write.
 #[test]
 fn each_call_of_a_world_with_two_slots_fails(rt: HostRuntime) -> Result<(), Fail> {
     let calls = failures(rt.alloc(), Version::Two)?;

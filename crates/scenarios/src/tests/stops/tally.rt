@@ -88,7 +88,8 @@ impl Tally {
     }
 }
 
-/// Three partitions are compared at each place with each of 4 fillers, and then at two second stops.
+/// Three partitions are compared at each place with each of 4 fillers, and then at two second
+/// stops.
 pub fn check_tally(tally: &Tally, grouping: &Grouping, within: bool) -> Result<(), Fail> {
     let places = u64::from(grouping.calls) + u64::from(!within);
     let without = u64::from(grouping.without_calls[usize::from(within)]);

@@ -115,8 +115,8 @@ static GATES: [[Found; 4]; 2] = [
     ],
 ];
 
-/// How many calls come before the sync of both gates: ten, or, from the third write on, the second's
-/// block and home record, the third's payload, a sync, and the two gates.
+/// How many calls come before the sync of both gates: ten, or, from the third write on, the
+/// second's block and home record, the third's payload, a sync, and the two gates.
 static BEFORE: [usize; 2] = [10, 6];
 
 fn finds(

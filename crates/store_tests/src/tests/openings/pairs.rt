@@ -1,4 +1,5 @@
-//! Images of version 2: two intents of a guest on their way, each call that they take, and the marks.
+//! Images of version 2: two intents of a guest on their way, each call that they take, and the
+//! marks.
 use super::calls::{LogDisk, Logged};
 use super::{KEY, give, one_guest, opened, other_bytes};
 use arrayvec::ArrayVec;

@@ -1,5 +1,5 @@
-//! Images whose gates were opened by hand: what an opening makes of the payloads behind them, by the version
-//! byte.
+//! Images whose gates were opened by hand: what an opening makes of the payloads behind them, by
+//! the version byte.
 use super::{KEY, fault_of, fresh, one_guest, opened, overwrite};
 use disk::CutDisk;
 use intent_slots::{Intent, PAYLOAD_LENGTH};
@@ -21,8 +21,8 @@ enum Put {
     Other(u32),
 }
 
-/// The version byte, what is put into slot A and slot B, and the counter that an opening finds; None where
-/// it finds no image.
+/// The version byte, what is put into slot A and slot B, and the counter that an opening finds;
+/// None where it finds no image.
 type Case = (u8, Put, Put, Option<u32>);
 
 static CASES: [Case; 17] = [
