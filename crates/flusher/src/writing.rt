@@ -122,7 +122,6 @@ pub(crate) fn write_round<D: Disk>(
     requires buffer { length buffer.old ≡ 16648 }
     requires next { position guest_has_write guests.old ≡ Some guest }
     ensures fits { AllFit (D.state disk.old).len guests.new }
-    ensures same { length guests.new ≡ length guests.old }
     ensures room { (D.state disk.new).len ≡ (D.state disk.old).len }
     ensures buffer { length buffer.new ≡ 16648 }
     ensures wrote { WroteSlot D.makes guest disk.old guests.old (is_ok result) disk.new guests.new }

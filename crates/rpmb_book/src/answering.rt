@@ -91,9 +91,8 @@ impl Book {
               number = self.old.folded + length self.old.history;
             }) }
         ensures allowed { OnOk result (refusal self.old tally.old job ≡ None) }
-        ensures refused { IfErr result
-            (λ e. e.1 ≡ unwrap_or (refusal self.old tally.old job) Refused.NoMemory) }
-        ensures given_back { IfErr result (λ e. e.0 ≡ job) }
+        ensures refused { IfErr result (λ e. (e.0 ≡ job)
+            × (e.1 ≡ unwrap_or (refusal self.old tally.old job) Refused.NoMemory)) }
         ensures unchanged { OnErr result ((self.new ≡ self.old) × (tally.new ≡ tally.old)) }
     {
         match self.submit_checked(alloc, tally, Checked::plain(alloc, job)) {
@@ -122,9 +121,8 @@ impl Book {
               number = self.old.folded + length self.old.history;
             }) }
         ensures allowed { OnOk result (refusal self.old tally.old checked ≡ None) }
-        ensures refused { IfErr result (λ e. e.1
-            ≡ unwrap_or (refusal self.old tally.old checked) Refused.NoMemory) }
-        ensures given_back { IfErr result (λ e. e.0 ≡ checked) }
+        ensures refused { IfErr result (λ e. (e.0 ≡ checked)
+            × (e.1 ≡ unwrap_or (refusal self.old tally.old checked) Refused.NoMemory)) }
         ensures unchanged { OnErr result ((self.new ≡ self.old) × (tally.new ≡ tally.old)) }
     {
         if let Some(refused) = self.refusal(tally, checked.job()) {

@@ -64,19 +64,18 @@ impl<L: Ledger> Desk<L> {
         job: Checked,
     ) -> Result<Receipt, (Checked, Refused)>
         requires { 0 < share.old.parts }
-        ensures made { OnOk result (self.new ≡ after_submit self.old job) }
-        ensures tally { OnOk result (tally.new ≡ record tally.old { count = tally.old.count + 1 }) }
-        ensures counted { OnOk result (share.new.amount ≡ share.old.amount + 1) }
+        ensures made { OnOk result ((refusal self.old tally.old job ≡ None)
+            × (self.new ≡ after_submit self.old job)) }
+        ensures counted { OnOk result ((share.new.amount ≡ share.old.amount + 1)
+            × (tally.new ≡ record tally.old { count = tally.old.count + 1 })) }
         ensures named { IfOk result (λ r. r
             ≡ record {
               life = self.old.life;
               guest = job.guest;
               number = self.old.folded + length self.old.history;
             }) }
-        ensures allowed { OnOk result (refusal self.old tally.old job ≡ None) }
-        ensures refused { IfErr result
-            (λ e. e.1 ≡ unwrap_or (refusal self.old tally.old job) Refused.NoMemory) }
-        ensures given_back { IfErr result (λ e. e.0 ≡ job) }
+        ensures refused { IfErr result (λ e. (e.0 ≡ job)
+            × (e.1 ≡ unwrap_or (refusal self.old tally.old job) Refused.NoMemory)) }
         ensures unchanged { OnErr result ((self.new ≡ self.old) × (tally.new ≡ tally.old)
             × (share.new.amount ≡ share.old.amount)) }
         ensures parts { share.new.parts ≡ share.old.parts }

@@ -14,15 +14,15 @@ returns-in-Ok-clause-receipt g c r there is =
     (ap (λ x. x.life) last, ap (λ x. x.number) last)
 
 pub returns-in-Busy-clause-jobs : goal.returns-in-Busy-clause-jobs
-returns-in-Busy-clause-jobs g c = flows_same _ _ (c.push_front_reserved.ensures.items ∙ ap (λ j. j ∷ c.pop_front.new.self.items) c.in-Err.ensures.given_back ∙ sym c.in-Some.ensures.items ∙ c.try_reserve.ensures.items)
+returns-in-Busy-clause-jobs g c = flows_same _ _ (c.push_front_reserved.ensures.items ∙ ap (λ j. j ∷ c.pop_front.new.self.items) c.in-Err.ensures.refused.0 ∙ sym c.in-Some.ensures.items ∙ c.try_reserve.ensures.items)
 
 pub returns-in-HistoryFull-clause-jobs : goal.returns-in-HistoryFull-clause-jobs
-returns-in-HistoryFull-clause-jobs g c = flows_same _ _ (c.push_front_reserved.ensures.items ∙ ap (λ j. j ∷ c.pop_front.new.self.items) c.in-Err.ensures.given_back ∙ sym c.in-Some.ensures.items ∙ c.try_reserve.ensures.items)
+returns-in-HistoryFull-clause-jobs g c = flows_same _ _ (c.push_front_reserved.ensures.items ∙ ap (λ j. j ∷ c.pop_front.new.self.items) c.in-Err.ensures.refused.0 ∙ sym c.in-Some.ensures.items ∙ c.try_reserve.ensures.items)
 
 pub invariant_of-self-in-Ok-clause-own : goal.invariant_of-self-in-Ok-clause-own
 invariant_of-self-in-Ok-clause-own g c =
     let b = c.args.desk.now in
-    let allowed = is_own (is_full b) c.args.self.now.tally c.in-Some.job (guest_of b c.in-Some.job.guest) c.in-Ok.ensures.allowed in
-    let same = ap (λ t. t.guest) c.in-Ok.ensures.tally in
+    let allowed = is_own (is_full b) c.args.self.now.tally c.in-Some.job (guest_of b c.in-Some.job.guest) c.in-Ok.ensures.made.0 in
+    let same = ap (λ t. t.guest) c.in-Ok.ensures.counted.1 in
     own_pushed c.submit.new.tally.guest c.reserve.new.self.items c.in-Ok.receipt c.push_reserved.new.self.items
     (search rules) (ap (λ r. r.guest) c.in-Ok.ensures.named ∙ allowed ∙ sym same) c.push_reserved.ensures.items
