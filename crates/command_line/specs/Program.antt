@@ -6,6 +6,8 @@ use Rattle.clap.specs.Words.{App, fault_of, subcommand_of, Row, Rule, Text, firs
 use Rattle.clap.specs.Words.{new_rule, with_rule, with_subcommand}
 use Rattle.clap.specs.Kinds.{IsAmong, Kinds}
 use Rattle.clap.specs.Values.{kind_of}
+use Rattle.command_line.specs.declared.grammar.Files.{Files}
+use Rattle.command_line.specs.declared.grammar.Files.TheVariants.{Board, BoardAndScript}
 use Rattle.command_line.specs.declared.words.WordsError.{WordsError}
 use Rattle.command_line.specs.declared.words.WordsError.TheVariants.{Incomplete, NoMemory, Refused}
 use Rattle.command_line.specs.declared.command.Command.{Command}
@@ -21,6 +23,11 @@ on_board name = with_rule (new_app name) (required (codes "BOARD"))
 -- a command that takes a board file and a script
 abbrev pub on_script : Text → App
 on_script name = with_rule (on_board name) (required (codes "SCRIPT"))
+
+-- a command that takes these files
+abbrev pub command_of : Files → Text → App
+command_of Board name = on_board name
+command_of BoardAndScript name = on_script name
 
 -- the program's name alone, which wants a command
 abbrev pub bare : App

@@ -2,7 +2,7 @@
 ghost use Rattle.std.specs.Prelude.{◌≡◌, IfOk, false};
 ghost use Rattle.clap.specs.Words.{app_of, rule_of, with_subcommand};
 ghost use Rattle.clap.specs.declared.builder.command.Command.TheViews.{out-Command as fields_of};
-ghost use Rattle.command_line.specs.Program.{bare, on_board, on_script, program, required};
+ghost use Rattle.command_line.specs.Program.{bare, command_of, program, required};
 
 use crate::help;
 use clap::{Arg, Command};
@@ -16,38 +16,39 @@ fn required<'a>(alloc: Global, id: &'a str, help: &'a str) -> Arg<'a>
     Arg::new(alloc, id).required(true).help(help)
 }
 
-/// A command that takes a board file; `more` stands below its usage.
-fn on_board<'a>(
-    alloc: Global,
-    name: &'a str,
-    about: &'a str,
-    more: &'a str,
-) -> Result<Command<'a>, AllocError>
-    ensures shape { IfOk result (λ c. app_of c ≡ on_board name.entry.now) }
-    ensures local { IfOk result (λ c. (fields_of c).has_globals ≡ false) }
-{
-    let board = required(alloc, "BOARD", "The board file (TOML): what the guests are");
-    let command = Command::new(alloc, name).about(about).after_help(more);
-    command.arg(board)
+/// The files that a command takes.
+#[derive(Clone, Copy)]
+enum Files {
+    Board,
+    BoardAndScript,
 }
 
-/// A command that takes a board file and a script.
-fn on_script<'a>(
+/// A command that takes files; `more` stands below its usage.
+fn command<'a>(
     alloc: Global,
+    files: Files,
     name: &'a str,
     about: &'a str,
     more: &'a str,
 ) -> Result<Command<'a>, AllocError>
-    ensures shape { IfOk result (λ c. app_of c ≡ on_script name.entry.now) }
+    ensures shape { IfOk result (λ c. app_of c ≡ command_of files name.entry.now) }
     ensures local { IfOk result (λ c. (fields_of c).has_globals ≡ false) }
 {
-    let command = on_board(alloc, name, about, more)?;
-    let script = required(
+    let board = required(
         alloc,
-        "SCRIPT",
-        "The script: what the guests do, one step a line",
+        "BOARD",
+        "The board file (TOML): what the guests are",
     );
-    command.arg(script)
+    let command = Command::new(alloc, name).about(about).after_help(more);
+    let command = command.arg(board)?;
+    match files {
+        Files::Board => Ok(command),
+        Files::BoardAndScript => command.arg(required(
+            alloc,
+            "SCRIPT",
+            "The script: what the guests do, one step a line",
+        )),
+    }
 }
 
 fn bare<'a>(alloc: Global) -> Command<'a>
@@ -62,69 +63,61 @@ fn bare<'a>(alloc: Global) -> Command<'a>
         .subcommand_required(true)
 }
 
-/// `program` with one command more, which takes a board file.
-fn with_board<'a>(
+/// `program` with one command more.
+fn with_command<'a>(
     alloc: Global,
     program: Command<'a>,
+    files: Files,
     name: &'a str,
     about: &'a str,
     more: &'a str,
 ) -> Result<Command<'a>, AllocError>
     ensures { IfOk result (λ c.
-        app_of c ≡ with_subcommand (app_of program.entry) (on_board name.entry.now).top) }
+        app_of c ≡ with_subcommand (app_of program.entry) (command_of files name.entry.now).top) }
 {
-    program.subcommand(on_board(alloc, name, about, more)?)
-}
-
-/// `program` with one command more, which takes a board file and a script.
-fn with_script<'a>(
-    alloc: Global,
-    program: Command<'a>,
-    name: &'a str,
-    about: &'a str,
-    more: &'a str,
-) -> Result<Command<'a>, AllocError>
-    ensures { IfOk result (λ c.
-        app_of c ≡ with_subcommand (app_of program.entry) (on_script name.entry.now).top) }
-{
-    program.subcommand(on_script(alloc, name, about, more)?)
+    program.subcommand(command(alloc, files, name, about, more)?)
 }
 
 /// The program with all its commands.
 pub fn program<'a>(alloc: Global) -> Result<Command<'a>, AllocError>
     ensures { IfOk result (λ c. app_of c ≡ program) }
 {
-    let program = with_board(
+    let program = with_command(
         alloc,
         bare(alloc),
+        Files::Board,
         "format",
         "Makes a fresh image of the board, over what its file holds",
         help::FORMAT,
     )?;
-    let program = with_board(
+    let program = with_command(
         alloc,
         program,
+        Files::Board,
         "show",
         "Prints what the image of the board holds",
         help::SHOW,
     )?;
-    let program = with_board(
+    let program = with_command(
         alloc,
         program,
+        Files::Board,
         "upgrade",
         "Makes the image of the board one of version 2, in place",
         help::UPGRADE,
     )?;
-    let program = with_script(
+    let program = with_command(
         alloc,
         program,
+        Files::BoardAndScript,
         "run",
         "Performs a script, line by line, and prints a line for each chain",
         help::RUN,
     )?;
-    with_script(
+    with_command(
         alloc,
         program,
+        Files::BoardAndScript,
         "serve",
         "Performs a script, all guests at once, and prints each guest's lines",
         help::SERVE,

@@ -14,11 +14,16 @@ use Rattle.guest_driver.specs.Reap as reap
 use Rattle.guest_driver.specs.declared.fault.DriverFault.{DriverFault}
 use Rattle.guest_driver.specs.declared.reaping.Reaped.{Reaped}
 use Rattle.host.specs.declared.front.Answer.{Answer}
-use Rattle.host.specs.declared.front.Answer.TheVariants.{Used}
+use Rattle.host.specs.declared.front.Answer.TheVariants.{Used, Stuck as Unanswered}
+use Rattle.host.specs.declared.front.Stuck.{Stuck}
+use Rattle.queue_looks.specs.declared.fault.HostFault.{HostFault}
 use Rattle.rpmb_book.specs.Book.{BookView, due_of, after_collect}
 use Rattle.workers.specs.declared.backlog.Handed.{Handed}
 use Rattle.workers.specs.declared.backlog.Handed.TheVariants.{Answered, Nothing, Busy, Full}
 use Rattle.workers.specs.declared.order.Chain.{Chain}
+use Rattle.workers.specs.Looks.{told}
+use Rattle.workers.specs.declared.seat.News.{News}
+use Rattle.workers.specs.declared.seat.News.TheVariants as news
 use Rattle.workers.specs.declared.seat.Next.{Next}
 use Rattle.workers.specs.declared.seat.Next.TheVariants.{Again, Rest, End}
 
@@ -87,16 +92,26 @@ abbrev pub Reaps : ℕ → Bool → ℕ → Type 0
 Reaps answers true answers' = (answers ≤ answers') × (answers' ≤ answers + 1)
 Reaps answers false answers' = answers' ≡ answers
 
--- what a driver keeps of what it reaped: a reply lies behind its other answers
-abbrev pub KeepsReply : Result (Option Reaped) DriverFault → List Answer → List Answer → Type 0
-KeepsReply (Ok (Some reaped)) old new = new ≡ old ++ Used reaped.bytes ∷ []
-KeepsReply (Ok None) old new = new ≡ old
-KeepsReply (Err fault) old new = new ≡ old
+-- What a driver keeps of what a look told: a reply lies behind its other answers, and where none
+-- comes any more it is stuck for the reason that was told.
+abbrev pub Keeps : Result News HostFault → List Answer → Bool → Option Stuck → List Answer → Type 0
+Keeps (Ok (news.Reply bytes)) old moved stuck new =
+    (moved ≡ true) × (stuck ≡ None) × (new ≡ old ++ Used bytes ∷ [])
+Keeps (Ok (news.NoReply why)) old moved stuck new =
+    (moved ≡ true) × (stuck ≡ Some why) × (new ≡ old)
+Keeps (Ok news.Nothing) old moved stuck new = (moved ≡ false) × (stuck ≡ None) × (new ≡ old)
+Keeps (Err fault) old moved stuck new = ⊥
 
--- a driver reaped once, and kept the reply that came
-abbrev pub IsKept : List ℕ → DriverState → List Answer → DriverState → List Answer → Type 0
-IsKept memory driver old driver' new = (reaped : Result (Option Reaped) DriverFault)
-    × reap.Reaps memory driver reaped driver' × KeepsReply reaped old new
+-- What a driver does for its oldest chain without an answer. Stuck, it looks at nothing, and the
+-- answer is why it is; else it reaps once, and keeps what that told.
+abbrev pub AnswersOldest : Option Stuck → (memory : List ℕ) (driver : DriverState) (stopped : Bool)
+    → List Answer → Bool → DriverState → Option Stuck → List Answer → Type 0
+AnswersOldest (Some why) memory driver stopped old moved driver' stuck new =
+    (moved ≡ true) × (driver' ≡ driver) × (stuck ≡ Some why)
+    × (new ≡ old ++ Unanswered why ∷ [])
+AnswersOldest None memory driver stopped old moved driver' stuck new =
+    (reaped : Result (Option Reaped) DriverFault)
+    × reap.Reaps memory driver reaped driver' × Keeps (told reaped stopped) old moved stuck new
 
 -- one look at the script
 abbrev pub Offers : ℕ → Bool → ℕ → Type 0

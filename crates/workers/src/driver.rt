@@ -1,10 +1,10 @@
 //! A guest's driver: it offers the chains of a script, and keeps an answer to each.
 ghost use Rattle.std.specs.Prelude.{◌≡◌, ◌+◌, ◌≤◌, ◌<◌, true, length, take, vec_len, IfOk, IsTrue};
 ghost use Rattle.std.specs.Prelude.{Some, slice_get};
-ghost use Rattle.std.specs.Prelude.{◌++◌, ◌∷◌, [], if◌then◌else◌, None, Ok, OnOk};
+ghost use Rattle.std.specs.Prelude.{◌++◌, ◌∷◌, [], false, if◌then◌else◌, None, Ok};
 ghost use Rattle.std.specs.Option.{option_copied};
 ghost use Rattle.workers.specs.Orders.{LeavesAll, chain_orders, chains_in};
-ghost use Rattle.workers.specs.Turns.{Drives, GoesOn, IsKept, IsOffered, Offers, Reaps};
+ghost use Rattle.workers.specs.Turns.{AnswersOldest, Drives, GoesOn, IsOffered, Offers, Reaps};
 
 use crate::bell::{Actor, Bell, Rest};
 use crate::order::{Chain, Order};
@@ -78,14 +78,15 @@ impl<'a> Driver<'a> {
         self.stuck = Some(stuck);
     }
 
-    /// The oldest chain without an answer has this one. Room was made for it.
+    /// The oldest chain without an answer has this one.
     fn answer(&mut self, answer: Answer) -> Result<bool, HostFault>
         requires { 0 < self.old.outstanding }
-        ensures script { (self.new.script ≡ self.old.script) × (self.new.next ≡ self.old.next) }
+        ensures stays { (self.new.script ≡ self.old.script) × (self.new.next ≡ self.old.next)
+            × (self.new.stuck ≡ self.old.stuck) }
         ensures answers { IfOk result
             (λ moved. Reaps (vec_len self.old.answers) moved (vec_len self.new.answers)) }
-        ensures last { OnOk result
-            (self.new.answers.items ≡ self.old.answers.items ++ answer ∷ []) }
+        ensures last { IfOk result (λ moved. (moved ≡ true)
+            × (self.new.answers.items ≡ self.old.answers.items ++ answer ∷ [])) }
     {
         if self.answers.reserve(1).is_err() {
             return Err(HostFault::NoMemory);
@@ -100,9 +101,14 @@ impl<'a> Driver<'a> {
         ensures script { (self.new.script ≡ self.old.script) × (self.new.next ≡ self.old.next) }
         ensures answers { IfOk result
             (λ moved. Reaps (vec_len self.old.answers) moved (vec_len self.new.answers)) }
-        ensures reply { 0 < self.old.outstanding → self.old.stuck ≡ None → IfOk result (λ moved.
-            IsKept guest.old.device.memory guest.old.driver self.old.answers.items
-            guest.new.driver self.new.answers.items) }
+        ensures idle { self.old.outstanding ≡ 0
+            → (result ≡ Ok false) × (self.new ≡ self.old) × (guest.new ≡ guest.old) }
+        ensures oldest { 0 < self.old.outstanding → IfOk result (λ moved.
+            AnswersOldest self.old.stuck guest.old.device.memory guest.old.driver
+            guest.old.stopped self.old.answers.items moved guest.new.driver self.new.stuck
+            self.new.answers.items) }
+        ensures rest { (guest.new.device ≡ guest.old.device)
+            × (guest.new.stopped ≡ guest.old.stopped) }
     {
         if self.outstanding == 0 {
             return Ok(false);

@@ -14,5 +14,5 @@ returns c =
     let shows = c.in_ok-program-2.ensures ∙ ap (with_command (on_board (codes "show"))) formats in
     let upgrades = c.in_ok-program-3.ensures ∙ ap (with_command (on_board (codes "upgrade"))) shows in
     let runs = c.in_ok-program-4.ensures ∙ ap (with_command (on_script (codes "run"))) upgrades in
-    subst (λ (a : App). IfOk c.with_script-2.result (λ p. app_of p ≡ with_command (on_script (codes "serve")) a)) runs
-    c.with_script-2.ensures
+    subst (λ (a : App). IfOk c.with_command-5.result (λ p. app_of p ≡ with_command (on_script (codes "serve")) a)) runs
+    c.with_command-5.ensures

@@ -1,6 +1,0 @@
-use Rattle.command_line.proofs.GrammarLemmas.{one_more}
-use Rattle.command_line.proofs.grammar.with_board.Goals as goal
-
-pub returns : goal.returns
-returns c =
-    one_more _ _ _ _ c.in_ok-on_board.ensures.shape c.in_ok-on_board.ensures.local c.subcommand.ensures
