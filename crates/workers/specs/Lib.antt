@@ -1,3 +1,4 @@
+pub mod Driving
 pub mod Following
 pub mod Keeping
 pub mod Looks

@@ -4,7 +4,8 @@ ghost use Rattle.std.specs.Prelude.{Some, slice_get};
 ghost use Rattle.std.specs.Prelude.{◌++◌, ◌∷◌, [], false, if◌then◌else◌, None, Ok};
 ghost use Rattle.std.specs.Option.{option_copied};
 ghost use Rattle.workers.specs.Orders.{LeavesAll, chain_orders, chains_in};
-ghost use Rattle.workers.specs.Turns.{AnswersOldest, Drives, GoesOn, IsOffered, Offers, Reaps};
+ghost use Rattle.workers.specs.Driving.{Answers, Drives, GoesOn, Offers, OffersBy, Reaps};
+ghost use Rattle.workers.specs.Driving.{Steps, TakesOrder};
 
 use crate::bell::{Actor, Bell, Rest};
 use crate::order::{Chain, Order};
@@ -101,14 +102,8 @@ impl<'a> Driver<'a> {
         ensures script { (self.new.script ≡ self.old.script) × (self.new.next ≡ self.old.next) }
         ensures answers { IfOk result
             (λ moved. Reaps (vec_len self.old.answers) moved (vec_len self.new.answers)) }
-        ensures idle { self.old.outstanding ≡ 0
-            → (result ≡ Ok false) × (self.new ≡ self.old) × (guest.new ≡ guest.old) }
-        ensures oldest { 0 < self.old.outstanding → IfOk result (λ moved.
-            AnswersOldest self.old.stuck guest.old.device.memory guest.old.driver
-            guest.old.stopped self.old.answers.items moved guest.new.driver self.new.stuck
-            self.new.answers.items) }
-        ensures rest { (guest.new.device ≡ guest.old.device)
-            × (guest.new.stopped ≡ guest.old.stopped) }
+        ensures looks { IfOk result (λ moved. Answers self.old.outstanding self.old.stuck guest.old
+            self.old.answers.items moved self.new.stuck guest.new self.new.answers.items) }
     {
         if self.outstanding == 0 {
             return Ok(false);
@@ -134,6 +129,8 @@ impl<'a> Driver<'a> {
         ensures next { IfOk result (λ moved. Offers self.old.next moved self.new.next) }
         ensures waits { (order : Order) → slice_get self.old.script.now self.old.next ≡ Some order
             → chains_in order ≡ 0 → result ≡ Ok true → self.old.outstanding ≡ 0 }
+        ensures takes { TakesOrder (slice_get self.old.script.now self.old.next)
+            self.old.outstanding self.old.stuck guest.old result self.new.stuck guest.new }
     {
         let Some(order) = self.order() else {
             return Ok(false);
@@ -165,9 +162,9 @@ impl<'a> Driver<'a> {
         ensures script { (self.new.script ≡ self.old.script)
             × (self.new.answers ≡ self.old.answers) }
         ensures next { IfOk result (λ moved. Offers self.old.next moved self.new.next) }
-        ensures offered { self.old.stuck ≡ None → self.old.outstanding < 256
-            → IsOffered guest.old.device guest.old.driver chain.now guest.new.device
-            guest.new.driver }
+        ensures stuck { self.new.stuck ≡ self.old.stuck }
+        ensures offered { OffersBy self.old.stuck self.old.outstanding chain.now guest.old result
+            guest.new }
     {
         if self.outstanding >= PLACES {
             return Ok(false);
@@ -198,7 +195,7 @@ impl<'a> Driver<'a> {
         requires room { self.old.outstanding < 256 }
         ensures script { (self.new.script ≡ self.old.script)
             × (self.new.answers ≡ self.old.answers) }
-        ensures next { self.new.next ≡ self.old.next + 1 }
+        ensures next { (self.new.next ≡ self.old.next + 1) × (self.new.stuck ≡ self.old.stuck) }
     {
         self.outstanding += 1;
         self.next += 1;
@@ -211,7 +208,7 @@ impl<'a> Driver<'a> {
         requires reset { chains_in order.now ≡ 0 }
         ensures script { (self.new.script ≡ self.old.script)
             × (self.new.answers ≡ self.old.answers) }
-        ensures next { self.new.next ≡ self.old.next + 1 }
+        ensures next { (self.new.next ≡ self.old.next + 1) × (self.new.stuck ≡ self.old.stuck) }
     {
         let _ = order;
         self.next += 1;
@@ -233,6 +230,9 @@ impl<'a> Driver<'a> {
             self.new.next) }
         ensures complete { result ≡ Ok Next.End
             → vec_len self.new.answers ≡ chain_orders self.new.script.now }
+        ensures steps { IfOk result (λ next. Steps self.old.outstanding
+            (slice_get self.old.script.now self.old.next) self.old.stuck guest.old
+            self.old.answers.items next self.new.stuck guest.new self.new.answers.items) }
     {
         let reaped = self.reap(guest)?;
         let offered = self.offer(guest)?;

@@ -1,0 +1,151 @@
+-- What a guest's driver does at a look: it answers its oldest chain, and goes on in its script.
+use Rattle.std.specs.Prelude.{◌≡◌, ℕ, ◌+◌, ◌<◌, ◌≤◌, Bool, true, false, if◌then◌else◌, List, [], ◌∷◌}
+use Rattle.std.specs.Prelude.{◌++◌, ◌⊎◌, ◌≢◌, length, Option, Some, None, Result, Ok, Err}
+use Rattle.mmio_transport.specs.Device.{after_write}
+use Rattle.guest_driver.specs.Driver.{Offering, first_driver}
+use Rattle.guest_driver.specs.Negotiation.{is_in_service, negotiated}
+use Rattle.guest_driver.specs.Reap as reap
+use Rattle.guest_driver.specs.declared.fault.DriverFault.{DriverFault}
+use Rattle.guest_driver.specs.declared.fault.DriverFault.TheVariants.{BadUsed, NoMemory, NoRoom}
+use Rattle.guest_driver.specs.declared.fault.DriverFault.TheVariants.{OutOfRange}
+use Rattle.guest_driver.specs.declared.reaping.Reaped.{Reaped}
+use Rattle.queue_looks.specs.declared.fault.HostFault.{HostFault}
+use Rattle.queue_looks.specs.declared.fault.HostFault.TheVariants as host
+use Rattle.host.specs.declared.front.Answer.{Answer}
+use Rattle.host.specs.declared.front.Answer.TheVariants.{Used, Stuck as Unanswered}
+use Rattle.host.specs.declared.front.Stuck.{Stuck}
+use Rattle.host.specs.declared.front.Stuck.TheVariants.{NoAnswer}
+use Rattle.workers.specs.Looks.{fault_of, told}
+use Rattle.workers.specs.declared.order.Chain.{Chain}
+use Rattle.workers.specs.declared.order.Order.{Order}
+use Rattle.workers.specs.declared.order.Order.TheVariants.{Chain as Offer, Reset}
+use Rattle.workers.specs.declared.seat.Guest.{Guest}
+use Rattle.workers.specs.declared.seat.News.{News}
+use Rattle.workers.specs.declared.seat.News.TheVariants as news
+use Rattle.workers.specs.declared.seat.Next.{Next}
+use Rattle.workers.specs.declared.seat.Next.TheVariants.{Again, Rest, End}
+
+-- 1. Answers
+
+-- one look for an answer, of which something came, or nothing
+abbrev pub Reaps : ℕ → Bool → ℕ → Type 0
+Reaps answers true answers' = (answers ≤ answers') × (answers' ≤ answers + 1)
+Reaps answers false answers' = answers' ≡ answers
+
+-- What a driver keeps of what a look told: a reply lies behind its other answers, and where none
+-- comes any more it is stuck for the reason that was told.
+abbrev pub Keeps : Result News HostFault → List Answer → Bool → Option Stuck → List Answer → Type 0
+Keeps (Ok (news.Reply bytes)) old moved stuck new =
+    (moved ≡ true) × (stuck ≡ None) × (new ≡ old ++ Used bytes ∷ [])
+Keeps (Ok (news.NoReply why)) old moved stuck new =
+    (moved ≡ true) × (stuck ≡ Some why) × (new ≡ old)
+Keeps (Ok news.Nothing) old moved stuck new = (moved ≡ false) × (stuck ≡ None) × (new ≡ old)
+Keeps (Err fault) old moved stuck new = ⊥
+
+-- What a driver does for its oldest chain without an answer. Stuck, it looks at nothing, and the
+-- answer is why it is; else it reaps once, and keeps what that told.
+abbrev pub AnswersBy : Option Stuck → Guest → List Answer → Bool → Option Stuck → Guest
+    → List Answer → Type 0
+AnswersBy (Some why) guest old moved stuck guest' new =
+    (moved ≡ true) × (stuck ≡ Some why) × (guest' ≡ guest) × (new ≡ old ++ Unanswered why ∷ [])
+AnswersBy None guest old moved stuck guest' new =
+    (guest'.device ≡ guest.device) × (guest'.stopped ≡ guest.stopped)
+    × ((reaped : Result (Option Reaped) DriverFault)
+    × reap.Reaps guest.device.memory guest.driver reaped guest'.driver
+    × Keeps (told reaped guest.stopped) old moved stuck new)
+
+-- the same where so many chains have no answer: without one, nothing moves
+pub record Answers (outstanding : ℕ) (stuck : Option Stuck) (guest : Guest) (old : List Answer)
+    (moved : Bool) (stuck' : Option Stuck) (guest' : Guest) (new : List Answer) : Type 0 where
+  pub none : outstanding ≡ 0
+      → (moved ≡ false) × (stuck' ≡ stuck) × (guest' ≡ guest) × (new ≡ old)
+  pub oldest : 0 < outstanding → AnswersBy stuck guest old moved stuck' guest' new
+
+-- 2. Orders
+
+-- one look at the script
+abbrev pub Offers : ℕ → Bool → ℕ → Type 0
+Offers next true next' = next' ≡ next + 1
+Offers next false next' = next' ≡ next
+
+-- what the answer to an offer comes to: without room, a chain waits for those before it
+abbrev pub IsToldBy : Result ℕ DriverFault → ℕ → Result Bool HostFault → Type 0
+IsToldBy (Ok id) outstanding result = result ≡ Ok true
+IsToldBy (Err NoRoom) outstanding result =
+    (0 < outstanding → result ≡ Ok false) × (outstanding ≡ 0 → result ≡ Err host.NoRoom)
+IsToldBy (Err OutOfRange) outstanding result = result ≡ Err (fault_of OutOfRange)
+IsToldBy (Err NoMemory) outstanding result = result ≡ Err (fault_of NoMemory)
+IsToldBy (Err BadUsed) outstanding result = result ≡ Err (fault_of BadUsed)
+
+-- the chain was offered whole, whatever came of it
+pub record IsOffered (outstanding : ℕ) (chain : Chain) (guest : Guest)
+    (result : Result Bool HostFault) (guest' : Guest) : Type 0 where
+  pub answer : Result ℕ DriverFault
+  pub offering : Offering guest.device.memory guest.driver chain.readable.items chain.writable
+      answer guest'.device.memory guest'.driver
+  pub told : IsToldBy answer outstanding result
+  pub device : guest'.device ≡ record guest.device { memory = guest'.device.memory }
+  pub stopped : guest'.stopped ≡ guest.stopped
+
+-- A chain is offered where at most 255 have no answer, and waits else. Of a stuck driver it only
+-- counts.
+abbrev pub OffersBy : Option Stuck → ℕ → Chain → Guest → Result Bool HostFault → Guest → Type 0
+OffersBy (Some why) outstanding chain guest result guest' =
+    (guest' ≡ guest) × (outstanding < 256 → result ≡ Ok true)
+    × (256 ≤ outstanding → result ≡ Ok false)
+OffersBy None outstanding chain guest result guest' =
+    (outstanding < 256 → IsOffered outstanding chain guest result guest')
+    × (256 ≤ outstanding → (result ≡ Ok false) × (guest' ≡ guest))
+
+-- the driver has reset its device, and brought it into service again where it could
+pub record IsRestarted (guest guest' : Guest) (stuck : Option Stuck) : Type 0 where
+  pub device : guest'.device ≡ negotiated (after_write guest.device 0x70 4 0) guest.driver.form
+      guest.driver.size guest.driver.event_idx
+  pub driver : guest'.driver
+      ≡ first_driver guest.driver.form guest.driver.size guest.driver.event_idx
+  pub stopped : guest'.stopped ≡ false
+  pub told : stuck ≡ (if is_in_service guest'.device then None else Some NoAnswer)
+
+-- What a driver does with its next order, where so many chains have no answer. A reset waits until
+-- each has its own.
+abbrev pub TakesOrder : Option Order → ℕ → Option Stuck → Guest → Result Bool HostFault
+    → Option Stuck → Guest → Type 0
+TakesOrder None outstanding stuck guest result stuck' guest' =
+    (result ≡ Ok false) × (stuck' ≡ stuck) × (guest' ≡ guest)
+TakesOrder (Some (Offer chain)) outstanding stuck guest result stuck' guest' =
+    (stuck' ≡ stuck) × OffersBy stuck outstanding chain guest result guest'
+TakesOrder (Some Reset) outstanding stuck guest result stuck' guest' =
+    (outstanding ≡ 0 → (result ≡ Ok true) × IsRestarted guest guest' stuck')
+    × (0 < outstanding → (result ≡ Ok false) × (stuck' ≡ stuck) × (guest' ≡ guest))
+
+-- 3. Both
+
+-- A driver's step: it looks for the answer to its oldest chain, and then at its next order. What it
+-- did says whether it goes on.
+pub record Steps (outstanding : ℕ) (order : Option Order) (stuck : Option Stuck) (guest : Guest)
+    (old : List Answer) (next : Next) (stuck' : Option Stuck) (guest' : Guest)
+    (new : List Answer) : Type 0 where
+  pub answered : Bool
+  pub taken : Bool
+  pub left : ℕ
+  pub between : Option Stuck
+  pub middle : Guest
+  pub answers : Answers outstanding stuck guest old answered between middle new
+  pub counted : left + length new ≡ outstanding + length old
+  pub takes : TakesOrder order left between middle (Ok taken) stuck' guest'
+  pub goes_on : ((answered ≡ true) ⊎ (taken ≡ true) → next ≡ Again)
+      × (answered ≡ false → taken ≡ false → next ≢ Again)
+
+-- A driver that went on has one answer more at most, and one order; one that rests or ends has
+-- neither.
+abbrev pub Drives : ℕ → ℕ → Next → ℕ → ℕ → Type 0
+Drives answers next Again answers' next' =
+    (answers ≤ answers') × (answers' ≤ answers + 1) × (next ≤ next') × (next' ≤ next + 1)
+Drives answers next Rest answers' next' = (answers' ≡ answers) × (next' ≡ next)
+Drives answers next End answers' next' = (answers' ≡ answers) × (next' ≡ next)
+
+-- A driver's look: no answer is lost and no order made twice; one that rests did nothing.
+abbrev pub GoesOn : ℕ → ℕ → Next → ℕ → ℕ → Type 0
+GoesOn answers next Again answers' next' = (answers ≤ answers') × (next ≤ next')
+GoesOn answers next Rest answers' next' = (answers' ≡ answers) × (next' ≡ next)
+GoesOn answers next End answers' next' = (answers ≤ answers') × (next ≤ next')
