@@ -180,6 +180,35 @@ impl<D: Disk> Flusher<D> {
     }
 
     /// Writes and syncs what the workers submit, until all of them have ended and nothing is left.
+    /// Whether it came so far, before all were told to end.
+    fn work<L: Ledger, G: Gate>(
+        &mut self,
+        rt: &impl Wait,
+        desk: &Mutex<Desk<L>>,
+        bell: &Bell,
+        gate: &G,
+    ) -> Result<bool, HostFault>
+        requires { Follow self.old.shares self.old.store.guests }
+        ensures follows { OnOk result (Follow self.new.shares self.new.store.guests) }
+        ensures rests { result ≡ Ok true → IsAtRest self.new.store.broken self.new.store.guests }
+        ensures keeps { KeepsOn D.state D.makes self.old.store self.new.store }
+        ensures heard { IsHeard self.old.store self.old.broken self.new.store self.new.broken }
+    {
+        let mut rest = Rest::begin(rt, bell, Actor::flusher());
+        for _ in rt.forever() {
+            if rest.is_stopped() {
+                break;
+            }
+            match self.turn(rt, desk, bell, gate, rest.workers_ended())? {
+                Next::Again => rest.went_on(rt, bell),
+                Next::Rest => rest.rest(rt, bell),
+                Next::End => return Ok(true),
+            }
+        }
+        Ok(false)
+    }
+
+    /// Works to the end. A fault stops all.
     pub(crate) fn run<L: Ledger, G: Gate>(
         mut self,
         rt: &impl Wait,
@@ -191,22 +220,13 @@ impl<D: Disk> Flusher<D> {
         ensures keeps { KeepsOn D.state D.makes self.store result.store }
         ensures heard { IsHeard self.store self.broken result.store result.broken }
     {
-        let mut rest = Rest::begin(rt, bell, Actor::flusher());
-        for _ in rt.forever() {
-            if rest.is_stopped() {
-                break;
-            }
-            match self.turn(rt, desk, bell, gate, rest.workers_ended()) {
-                Ok(Next::Again) => rest.went_on(rt, bell),
-                Ok(Next::Rest) => rest.rest(rt, bell),
-                Ok(Next::End) => return self.into_end(true, None),
-                Err(fault) => {
-                    bell.stop(rt);
-                    return self.into_end(false, Some(fault));
-                }
+        match self.work(rt, desk, bell, gate) {
+            Ok(complete) => self.into_end(complete, None),
+            Err(fault) => {
+                bell.stop(rt);
+                self.into_end(false, Some(fault))
             }
         }
-        self.into_end(false, None)
     }
 
     fn into_end(self, complete: bool, fault: Option<HostFault>) -> FlusherEnd<D>
