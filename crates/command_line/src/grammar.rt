@@ -34,11 +34,7 @@ fn command<'a>(
     ensures shape { IfOk result (λ c. app_of c ≡ command_of files name.entry.now) }
     ensures local { IfOk result (λ c. (fields_of c).has_globals ≡ false) }
 {
-    let board = required(
-        alloc,
-        "BOARD",
-        "The board file (TOML): what the guests are",
-    );
+    let board = required(alloc, "BOARD", "The board file (TOML): what the guests are");
     let command = Command::new(alloc, name).about(about).after_help(more);
     let command = command.arg(board)?;
     match files {

@@ -1,6 +1,6 @@
 -- What a guest's driver does at a look: it answers its oldest chain, and goes on in its script.
-use Rattle.std.specs.Prelude.{◌≡◌, ℕ, ◌+◌, ◌<◌, ◌≤◌, Bool, true, false, if◌then◌else◌, List, [], ◌∷◌}
-use Rattle.std.specs.Prelude.{◌++◌, ◌⊎◌, ◌≢◌, length, Option, Some, None, Result, Ok, Err}
+use Rattle.std.specs.Prelude.{◌≡◌, ◌≢◌, ◌⊎◌, ℕ, ◌+◌, ◌<◌, ◌≤◌, Bool, true, false, if◌then◌else◌}
+use Rattle.std.specs.Prelude.{List, [], ◌∷◌, ◌++◌, length, Option, Some, None, Result, Ok, Err}
 use Rattle.mmio_transport.specs.Device.{after_write}
 use Rattle.guest_driver.specs.Driver.{Offering, first_driver}
 use Rattle.guest_driver.specs.Negotiation.{is_in_service, negotiated}
@@ -34,13 +34,14 @@ Reaps answers false answers' = answers' ≡ answers
 
 -- What a driver keeps of what a look told: a reply lies behind its other answers, and where none
 -- comes any more it is stuck for the reason that was told.
-abbrev pub Keeps : Result News HostFault → List Answer → Bool → Option Stuck → List Answer → Type 0
-Keeps (Ok (news.Reply bytes)) old moved stuck new =
+abbrev pub KeepsTold : Result News HostFault → List Answer → Bool → Option Stuck → List Answer
+    → Type 0
+KeepsTold (Ok (news.Reply bytes)) old moved stuck new =
     (moved ≡ true) × (stuck ≡ None) × (new ≡ old ++ Used bytes ∷ [])
-Keeps (Ok (news.NoReply why)) old moved stuck new =
+KeepsTold (Ok (news.NoReply why)) old moved stuck new =
     (moved ≡ true) × (stuck ≡ Some why) × (new ≡ old)
-Keeps (Ok news.Nothing) old moved stuck new = (moved ≡ false) × (stuck ≡ None) × (new ≡ old)
-Keeps (Err fault) old moved stuck new = ⊥
+KeepsTold (Ok news.Nothing) old moved stuck new = (moved ≡ false) × (stuck ≡ None) × (new ≡ old)
+KeepsTold (Err fault) old moved stuck new = ⊥
 
 -- What a driver does for its oldest chain without an answer. Stuck, it looks at nothing, and the
 -- answer is why it is; else it reaps once, and keeps what that told.
@@ -52,7 +53,7 @@ AnswersBy None guest old moved stuck guest' new =
     (guest'.device ≡ guest.device) × (guest'.stopped ≡ guest.stopped)
     × ((reaped : Result (Option Reaped) DriverFault)
     × reap.Reaps guest.device.memory guest.driver reaped guest'.driver
-    × Keeps (told reaped guest.stopped) old moved stuck new)
+    × KeepsTold (told reaped guest.stopped) old moved stuck new)
 
 -- the same where so many chains have no answer: without one, nothing moves
 pub record Answers (outstanding : ℕ) (stuck : Option Stuck) (guest : Guest) (old : List Answer)
