@@ -38,7 +38,8 @@ pub use Rattle.queue_looks.specs.Runner.{runner_of, RunnerView}
 pub use Rattle.queue_looks.specs.declared.fault.HostFault.{HostFault}
 pub use Rattle.host.specs.declared.front.Answer.{Answer}
 pub use Rattle.host.specs.declared.front.Answer.TheVariants.{Used, Stuck}
-pub use Rattle.workers.specs.Orders.{HaveAll, chain_orders, chains_in}
+pub use Rattle.workers.specs.Ends.{HaveAll}
+pub use Rattle.workers.specs.Orders.{chain_orders, chains_in}
 pub use Rattle.workers.specs.declared.order.Order.{Order}
 pub use Rattle.script.specs.Line.{Said, chain, nothing, reset, store, served_line_of, IsWithin, IsServed}
 pub use Rattle.script.specs.Script.{lines_of}
@@ -53,7 +54,7 @@ pub use Rattle.commands.specs.Listing.{block_shown, listing}
 pub use Rattle.commands.specs.Moments.{MayEnd, Moment, StopsAt, broken_at, AnyMoment, Begun, IsTold, Trail, Went, MovesTo, Starts, Walked, moment_of}
 pub use Rattle.commands.specs.Running.{IsAt, AreWithin, IsSized}
 unfoldable pub use Rattle.commands.specs.Serving.{answer_lines, guests_lines}
-pub use Rattle.commands.specs.Serving.{PrintsEach, answer_line, asked_by, asked_of, asks, chains_of, is_chain}
+pub use Rattle.commands.specs.Serving.{PrintsEach, RanOf, answer_line, asked_by, asked_of, asks, chains_of, is_chain}
 unfoldable pub use Rattle.commands.specs.Transcript.{told_after, transcript}
 pub use Rattle.commands.specs.Transcript.{StoresNothing, first_told, Told, used_line, printed_by, told_by}
 pub use Rattle.commands.specs.declared.fault.Fault.{Fault}

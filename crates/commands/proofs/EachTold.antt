@@ -1,11 +1,12 @@
 -- Lines of guests that are written one after another, and what a script whose guests are served comes to.
 use Rattle.std.proofs.Common.{◌≡◌, ◌∙◌, ℕ, zero, suc, ◌+◌, ◌<◌, List, [], ◌∷◌, ◌++◌, Option, Some, Result, Ok, Err, take, length, map, get_or, refl, ap, subst, sym, arith, inr}
-use Rattle.commands.proofs.Common.{Appends-nil, Appends-trans, Keeps-refl, append_assoc, append-nil, length-map, slice_get_read, Appends, IfErr, slice_get, slice_index_or, true, GuestConfig, DiskState, capacities_of, Said, served_line_of, lines_of, Line, AnswersFault, OpenFault, HostFault, Answer, HaveAll, chain_orders, Order, Ends, IsOfReading, IsOfTelling, serving, fault_of, fault_of_image, PrintsEach, answer_line, answer_lines, asked_of, asks, chains_of, guests_lines, Fault}
+use Rattle.commands.proofs.Common.{Appends-nil, Appends-trans, Keeps-refl, append_assoc, append-nil, length-map, slice_get_read, Appends, IfErr, slice_get, slice_index_or, true, GuestConfig, DiskState, capacities_of, Said, served_line_of, lines_of, Line, AnswersFault, OpenFault, HostFault, Answer, HaveAll, chain_orders, Order, Ends, IsOfReading, IsOfTelling, serving, fault_of, fault_of_image, PrintsEach, RanOf, answer_line, answer_lines, asked_of, asks, chains_of, guests_lines, Fault}
 use Rattle.std.proofs.lemmas.List.{get_or-map}
 use Rattle.std.specs.Prelude.{vec_len}
 use Rattle.script.specs.Line.{said}
 use Rattle.recovery.specs.declared.fault.OpenFault.TheVariants as image
 use Rattle.queue_looks.specs.declared.fault.HostFault.TheVariants as host
+use Rattle.workers.specs.Driving.{Ran}
 use Rattle.workers.specs.declared.driver.DriverEnd.{DriverEnd}
 use Rattle.commands.specs.Ending.{IsServable}
 use Rattle.commands.specs.Serving.{IsUnservedAt, ServePrints, ServedPrint}
@@ -73,11 +74,25 @@ told_each [] scripts lines n many as_many all each g below = absurd (omega (arit
 told_each (d ∷ drivers) scripts lines n many as_many all each g below =
     let inside : g < length (d ∷ drivers) = omega (arith, many, below) in
     let here = get_or (d ∷ drivers) g d in
-    let answered : vec_len here.answers ≡ chain_orders (slice_index_or scripts g []) = all g d (omega (arith, as_many, below)) in
+    let answered : length here.answers.items ≡ chain_orders (slice_index_or scripts g []) = (all g d (omega (arith, as_many, below))).all in
     let shown : length (get_or (map (λ e. e.answers.items) (d ∷ drivers)) g []) ≡ length here.answers.items = ap length (get_or-map (λ (e : DriverEnd). e.answers.items) (d ∷ drivers) g d [] inside) in
-    let long = here.answers.ok in
     let offers = as_many_chains g (slice_index_or scripts g []) lines (each g below) in
-    omega (arith, answered, shown, long, offers)
+    omega (arith, answered, shown, offers)
+
+-- and the drivers ran just these
+ran_each : (drivers : List DriverEnd) (scripts : List (List Order)) (lines : List Said) (n : ℕ) → length drivers ≡ n → length scripts ≡ n → HaveAll drivers scripts
+    → ((g : ℕ) → g < n → map (asks g) (slice_index_or scripts g []) ≡ asked_of g lines)
+    → (g : ℕ) → g < n → RanOf g lines (get_or (map (λ e. e.answers.items) drivers) g [])
+ran_each [] scripts lines n many as_many all each g below = absurd (omega (arith, many, below))
+ran_each (d ∷ drivers) scripts lines n many as_many all each g below =
+    let inside : g < length (d ∷ drivers) = omega (arith, many, below) in
+    record {
+      script = slice_index_or scripts g [];
+      asked = each g below;
+      ran = subst (Ran (slice_index_or scripts g []))
+      (sym (get_or-map (λ (e : DriverEnd). e.answers.items) (d ∷ drivers) g d [] inside))
+      (all g d (omega (arith, as_many, below)));
+    }
 
 -- what they print where they end well
 pub prints_each : (drivers : List DriverEnd) (scripts : List (List Order)) (lines : List Said) (n : ℕ) (start now : Option (List ℕ)) → length drivers ≡ n → length scripts ≡ n → HaveAll drivers scripts
@@ -86,6 +101,7 @@ pub prints_each : (drivers : List DriverEnd) (scripts : List (List Order)) (line
 prints_each drivers scripts lines n start now many as_many all each printed = record {
   answers = map (λ e. e.answers.items) drivers;
   many = length-map drivers (λ (e : DriverEnd). e.answers.items) ∙ many;
+  ran = ran_each drivers scripts lines n many as_many all each;
   each = told_each drivers scripts lines n many as_many all each;
   printed = printed;
 }

@@ -10,6 +10,7 @@ use Rattle.recovery.specs.Opening.{Untouched}
 use Rattle.script.specs.declared.line.Line.{Line}
 use Rattle.script.specs.Line.{IsServed, IsWithin, Said, chain, reset, said, served_line_of}
 use Rattle.script.specs.Script.{first_unserved, lines_of}
+use Rattle.workers.specs.Driving.{Ran}
 use Rattle.workers.specs.declared.order.Order.{Order}
 use Rattle.workers.specs.declared.order.Order.TheVariants as order
 use Rattle.host.specs.declared.front.Answer.{Answer}
@@ -72,11 +73,19 @@ unfoldable pub guests_lines : ℕ → List (List Answer) → List ℕ
 guests_lines guest [] = []
 guests_lines guest (answers ∷ rest) = answer_lines guest answers ++ guests_lines (guest + 1) rest
 
+-- A guest's driver ran just what the lines ask of its guest, chains and resets in their order, and
+-- was told these answers.
+pub record RanOf (guest : ℕ) (lines : List Said) (answers : List Answer) : Type 0 where
+  pub script : List Order
+  pub asked : map (asks guest) script ≡ asked_of guest lines
+  pub ran : Ran script answers
+
 -- What lines print whose guests are served at once: guest by guest, a line for each chain that they
--- offer of it.
+-- offer of it, of what its driver was told.
 pub record PrintsEach (guests : ℕ) (lines : List Said) (start now : Option (List ℕ)) : Type 0 where
   pub answers : List (List Answer)
   pub many : length answers ≡ guests
+  pub ran : (g : ℕ) → g < guests → RanOf g lines (get_or answers g [])
   pub each : (g : ℕ) → g < guests → length (get_or answers g []) ≡ chains_of g lines
   pub printed : Appends start now (guests_lines 0 answers)
 

@@ -1,6 +1,7 @@
 -- What a guest's driver does at a look: it answers its oldest chain, and goes on in its script.
 use Rattle.std.specs.Prelude.{◌≡◌, ◌≢◌, ◌⊎◌, ℕ, ◌+◌, ◌<◌, ◌≤◌, Bool, true, false, if◌then◌else◌}
 use Rattle.std.specs.Prelude.{List, [], ◌∷◌, ◌++◌, length, Option, Some, None, Result, Ok, Err}
+use Rattle.std.specs.Prelude.{slice_get, take}
 use Rattle.mmio_transport.specs.Device.{after_write}
 use Rattle.guest_driver.specs.Driver.{Offering, first_driver}
 use Rattle.guest_driver.specs.Negotiation.{is_in_service, negotiated}
@@ -16,6 +17,8 @@ use Rattle.host.specs.declared.front.Answer.TheVariants.{Used, Stuck as Unanswer
 use Rattle.host.specs.declared.front.Stuck.{Stuck}
 use Rattle.host.specs.declared.front.Stuck.TheVariants.{NoAnswer}
 use Rattle.workers.specs.Looks.{fault_of, told}
+use Rattle.workers.specs.Orders.{chain_orders}
+use Rattle.workers.specs.declared.driver.Driver.{Driver}
 use Rattle.workers.specs.declared.order.Chain.{Chain}
 use Rattle.workers.specs.declared.order.Order.{Order}
 use Rattle.workers.specs.declared.order.Order.TheVariants.{Chain as Offer, Reset}
@@ -24,6 +27,26 @@ use Rattle.workers.specs.declared.seat.News.{News}
 use Rattle.workers.specs.declared.seat.News.TheVariants as news
 use Rattle.workers.specs.declared.seat.Next.{Next}
 use Rattle.workers.specs.declared.seat.Next.TheVariants.{Again, Rest, End}
+
+-- what a driver keeps to itself: how many orders it has taken, how many chains have no answer, why it
+-- is stuck, and its answers, in the order of the script
+pub record At : Type 0 where
+  pub next : ℕ
+  pub outstanding : ℕ
+  pub stuck : Option Stuck
+  pub answers : List Answer
+
+abbrev pub at : Driver → At
+at d = record {
+  next = d.next;
+  outstanding = d.outstanding;
+  stuck = d.stuck;
+  answers = d.answers.items;
+}
+
+-- a driver that has done nothing yet
+abbrev pub begun : Option Stuck → At
+begun stuck = record { next = 0; outstanding = 0; stuck = stuck; answers = [] }
 
 -- 1. Answers
 
@@ -45,22 +68,24 @@ KeepsTold (Err fault) old moved stuck new = ⊥
 
 -- What a driver does for its oldest chain without an answer. Stuck, it looks at nothing, and the
 -- answer is why it is; else it reaps once, and keeps what that told.
-abbrev pub AnswersBy : Option Stuck → Guest → List Answer → Bool → Option Stuck → Guest
-    → List Answer → Type 0
-AnswersBy (Some why) guest old moved stuck guest' new =
-    (moved ≡ true) × (stuck ≡ Some why) × (guest' ≡ guest) × (new ≡ old ++ Unanswered why ∷ [])
-AnswersBy None guest old moved stuck guest' new =
+abbrev pub AnswersBy : Option Stuck → At → Guest → Bool → At → Guest → Type 0
+AnswersBy (Some why) old guest moved new guest' =
+    (moved ≡ true) × (new.stuck ≡ Some why) × (guest' ≡ guest)
+    × (new.answers ≡ old.answers ++ Unanswered why ∷ [])
+AnswersBy None old guest moved new guest' =
     (guest'.device ≡ guest.device) × (guest'.stopped ≡ guest.stopped)
     × ((reaped : Result (Option Reaped) DriverFault)
     × reap.Reaps guest.device.memory guest.driver reaped guest'.driver
-    × KeepsTold (told reaped guest.stopped) old moved stuck new)
+    × KeepsTold (told reaped guest.stopped) old.answers moved new.stuck new.answers)
 
--- the same where so many chains have no answer: without one, nothing moves
-pub record Answers (outstanding : ℕ) (stuck : Option Stuck) (guest : Guest) (old : List Answer)
-    (moved : Bool) (stuck' : Option Stuck) (guest' : Guest) (new : List Answer) : Type 0 where
-  pub none : outstanding ≡ 0
-      → (moved ≡ false) × (stuck' ≡ stuck) × (guest' ≡ guest) × (new ≡ old)
-  pub oldest : 0 < outstanding → AnswersBy stuck guest old moved stuck' guest' new
+-- With no chain that has no answer, nothing moves.
+pub record Answers (old : At) (guest : Guest) (moved : Bool) (new : At) (guest' : Guest)
+    : Type 0 where
+  pub none : old.outstanding ≡ 0
+      → (moved ≡ false) × (new.stuck ≡ old.stuck) × (guest' ≡ guest)
+      × (new.answers ≡ old.answers)
+  pub oldest : 0 < old.outstanding → AnswersBy old.stuck old guest moved new guest'
+  pub place : new.next ≡ old.next
 
 -- 2. Orders
 
@@ -107,35 +132,17 @@ pub record IsRestarted (guest guest' : Guest) (stuck : Option Stuck) : Type 0 wh
   pub stopped : guest'.stopped ≡ false
   pub told : stuck ≡ (if is_in_service guest'.device then None else Some NoAnswer)
 
--- What a driver does with its next order, where so many chains have no answer. A reset waits until
--- each has its own.
-abbrev pub TakesOrder : Option Order → ℕ → Option Stuck → Guest → Result Bool HostFault
-    → Option Stuck → Guest → Type 0
-TakesOrder None outstanding stuck guest result stuck' guest' =
-    (result ≡ Ok false) × (stuck' ≡ stuck) × (guest' ≡ guest)
-TakesOrder (Some (Offer chain)) outstanding stuck guest result stuck' guest' =
-    (stuck' ≡ stuck) × OffersBy stuck outstanding chain guest result guest'
-TakesOrder (Some Reset) outstanding stuck guest result stuck' guest' =
-    (outstanding ≡ 0 → (result ≡ Ok true) × IsRestarted guest guest' stuck')
-    × (0 < outstanding → (result ≡ Ok false) × (stuck' ≡ stuck) × (guest' ≡ guest))
+-- What a driver does with its next order. A reset waits until each chain has its answer.
+abbrev pub TakesOrder : Option Order → At → Guest → Result Bool HostFault → At → Guest → Type 0
+TakesOrder None old guest result new guest' =
+    (result ≡ Ok false) × (new.stuck ≡ old.stuck) × (guest' ≡ guest)
+TakesOrder (Some (Offer chain)) old guest result new guest' =
+    (new.stuck ≡ old.stuck) × OffersBy old.stuck old.outstanding chain guest result guest'
+TakesOrder (Some Reset) old guest result new guest' =
+    (old.outstanding ≡ 0 → (result ≡ Ok true) × IsRestarted guest guest' new.stuck)
+    × (0 < old.outstanding → (result ≡ Ok false) × (new.stuck ≡ old.stuck) × (guest' ≡ guest))
 
--- 3. Both
-
--- A driver's step: it looks for the answer to its oldest chain, and then at its next order. What it
--- did says whether it goes on.
-pub record Steps (outstanding : ℕ) (order : Option Order) (stuck : Option Stuck) (guest : Guest)
-    (old : List Answer) (next : Next) (stuck' : Option Stuck) (guest' : Guest)
-    (new : List Answer) : Type 0 where
-  pub answered : Bool
-  pub taken : Bool
-  pub left : ℕ
-  pub between : Option Stuck
-  pub middle : Guest
-  pub answers : Answers outstanding stuck guest old answered between middle new
-  pub counted : left + length new ≡ outstanding + length old
-  pub takes : TakesOrder order left between middle (Ok taken) stuck' guest'
-  pub goes_on : ((answered ≡ true) ⊎ (taken ≡ true) → next ≡ Again)
-      × (answered ≡ false → taken ≡ false → next ≢ Again)
+-- 3. Steps
 
 -- A driver that went on has one answer more at most, and one order; one that rests or ends has
 -- neither.
@@ -150,3 +157,51 @@ abbrev pub GoesOn : ℕ → ℕ → Next → ℕ → ℕ → Type 0
 GoesOn answers next Again answers' next' = (answers ≤ answers') × (next ≤ next')
 GoesOn answers next Rest answers' next' = (answers' ≡ answers) × (next' ≡ next)
 GoesOn answers next End answers' next' = (answers ≤ answers') × (next ≤ next')
+
+-- A step: it looks for the answer to its oldest chain, and then at its next order. What it did says
+-- whether it goes on.
+pub record Steps (script : List Order) (old : At) (guest : Guest) (next : Next) (new : At)
+    (guest' : Guest) : Type 0 where
+  pub answered : Bool
+  pub taken : Bool
+  pub between : At
+  pub middle : Guest
+  pub answers : Answers old guest answered between middle
+  pub takes : TakesOrder (slice_get script between.next) between middle (Ok taken) new guest'
+  pub place : Offers between.next taken new.next
+  pub kept : new.answers ≡ between.answers
+  pub counted : (length between.answers + between.outstanding
+      ≡ chain_orders (take between.next script))
+      × (length new.answers + new.outstanding ≡ chain_orders (take new.next script))
+  pub goes_on : ((answered ≡ true) ⊎ (taken ≡ true) → next ≡ Again)
+      × (answered ≡ false → taken ≡ false → next ≢ Again)
+
+-- a step, and where it led, under the lock of the guest
+pub record Move : Type 0 where
+  pub guest : Guest
+  pub next : Next
+  pub to : At
+  pub guest' : Guest
+
+-- these steps of a script, one after another
+abbrev pub Went : List Order → At → List Move → At → Type 0
+Went script from [] to = to ≡ from
+Went script from (m ∷ moves) to =
+    Steps script from m.guest m.next m.to m.guest' × Went script m.to moves to
+
+-- steps of a script led from one to the other
+pub record GoesTo (script : List Order) (from to : At) : Type 0 where
+  pub moves : List Move
+  pub went : Went script from moves to
+
+-- A driver ran its script: by steps, from where its device was in service or wasn't, to the script's
+-- end. Each chain of the script has its answer.
+pub record Ran (script : List Order) (answers : List Answer) : Type 0 where
+  pub first : Option Stuck
+  pub last : At
+  pub service : (first ≡ None) ⊎ (first ≡ Some NoAnswer)
+  pub goes : GoesTo script (begun first) last
+  pub whole : last.next ≡ length script
+  pub none : last.outstanding ≡ 0
+  pub told : last.answers ≡ answers
+  pub all : length answers ≡ chain_orders script

@@ -1,4 +1,5 @@
 pub mod Driving
+pub mod Ends
 pub mod Following
 pub mod Keeping
 pub mod Looks

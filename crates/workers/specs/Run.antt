@@ -4,7 +4,7 @@ use Rattle.board.specs.declared.board.Parts.{Parts}
 use Rattle.disk.specs.declared.disk.Disk.{Ghosts}
 use Rattle.rpmb_book.specs.Book.{counted_in, state}
 use Rattle.workers.specs.Following.{Follow}
-use Rattle.workers.specs.Orders.{HaveAll, Left}
+use Rattle.workers.specs.Ends.{HaveAll, Left}
 use Rattle.workers.specs.declared.crew.Crew.{Crew}
 use Rattle.workers.specs.declared.order.Order.{Order}
 use Rattle.workers.specs.declared.ended.Ended.{Ended}
@@ -23,8 +23,8 @@ pub record AreJoined {L D : Type 0} {disk : Ghosts D} (crew : Crew L D disk)
   pub left : Left crew.drivers.items scripts
 
 -- What a run leaves of the guests of these numbers and their scripts: an entry for each; the book's
--- Submit turns are as many as the tallies' sum; each driver has an answer to each chain; and the
--- book knows whether a call of the disk failed.
+-- Submit turns are as many as the tallies' sum; each driver ran its script, and so has an
+-- answer to each chain; and the book knows whether a call of the disk failed.
 pub record Leaves {D : Type 0} {disk : Ghosts D} (numbers : List ℕ) (scripts : List (List Order))
     (ended : Ended D disk) : Type 0 where
   pub served : vec_len ended.served ≡ length scripts

@@ -3,11 +3,12 @@ ghost use Rattle.std.specs.Prelude.{◌≡◌, ◌<◌, ℕ, [], IfOk, vec_len, 
 ghost use Rattle.workers.specs.Crew.{guests_of};
 ghost use Rattle.workers.specs.Following.{Follow};
 ghost use Rattle.workers.specs.Keeping.{IsHeard, KeepsOn, LeftBy};
-ghost use Rattle.workers.specs.Orders.{LeavesAll, Left, chain_orders};
+ghost use Rattle.workers.specs.Ends.{LeavesAll, Left};
 
 use crate::bell::{Actor, Bell};
 use crate::desk::Desk;
-use crate::driver::{DriverEnd, drive};
+use crate::driver::DriverEnd;
+use crate::driving::drive;
 use crate::flushing::{Flusher, FlusherEnd};
 use crate::gate::Gate;
 use crate::scripts::Script;
@@ -53,12 +54,12 @@ impl<L: Ledger> Promise<Worker<L>> for OfGuest {
     ghost kept_by = { λ p w. w.backlog.tally.guest ≡ p.0 };
 }
 
-/// A driver of a script that offers so many chains.
-#[derive(Clone, Copy)]
-pub(crate) struct OfChains(usize);
+/// A driver of this script.
+#[derive(Drop)]
+pub(crate) struct OfScript(Snapshot<Script>);
 
-impl Promise<DriverEnd> for OfChains {
-    ghost kept_by = { λ p e. LeavesAll e.complete (vec_len e.answers) p.0 };
+impl Promise<DriverEnd> for OfScript {
+    ghost kept_by = { λ p e. LeavesAll e.complete e.answers.items p.0.value };
 }
 
 /// The end of this flusher.
@@ -82,7 +83,7 @@ pub(crate) struct Crew<L: Ledger, D: Disk> {
 #[derive(Drop)]
 struct Started<L: Ledger, D: Disk> {
     workers: Vec<PromisedHandle<Worker<L>, OfGuest>>,
-    drivers: Vec<PromisedHandle<DriverEnd, OfChains>>,
+    drivers: Vec<PromisedHandle<DriverEnd, OfScript>>,
     flusher: PromisedHandle<FlusherEnd<D>, OfFlusher<D>>,
 }
 
@@ -113,10 +114,9 @@ fn start_driver<'s, E, L: Ledger + Send + Sync, R: Wait + Sync>(
     alloc: Global,
     seat: Seat<'s, L>,
     script: &'s Script,
-) -> Result<PromisedHandle<DriverEnd, OfChains>, HostFault>
-    ensures { IfOk result (λ h. h.promise.0 ≡ chain_orders script.now) }
+) -> Result<PromisedHandle<DriverEnd, OfScript>, HostFault>
+    ensures { IfOk result (λ h. h.promise.0.value ≡ script.now) }
 {
-    let chains = script.chains();
     let orders = script.orders();
     let Seat {
         guest,
@@ -126,11 +126,10 @@ fn start_driver<'s, E, L: Ledger + Send + Sync, R: Wait + Sync>(
         worker,
     } = seat;
     let started = scope.spawn_with(
-        OfChains(chains),
+        OfScript(Snapshot::of(script)),
         move || -> DriverEnd
-            requires { chains ≡ chain_orders orders.now }
-            ensures { LeavesAll result.complete (vec_len result.answers) chains }
-        { drive(rt, alloc, guest, bell, me, worker, orders, chains) },
+            ensures { LeavesAll result.complete result.answers.items orders.entry.now }
+        { drive(rt, alloc, guest, bell, me, worker, orders) },
     );
     match started {
         Ok(handle) => Ok(handle),
@@ -203,10 +202,10 @@ fn start_drivers<'s, E, L: Ledger + Send + Sync, R: Wait + Sync>(
     alloc: Global,
     hall: &'s Hall<L>,
     scripts: &'s [Script],
-) -> Result<Vec<PromisedHandle<DriverEnd, OfChains>>, HostFault>
+) -> Result<Vec<PromisedHandle<DriverEnd, OfScript>>, HostFault>
     ensures len { IfOk result (λ v. vec_len v ≡ length scripts.now) }
     ensures each { IfOk result (λ v. (i : ℕ) (d : _) → i < length scripts.now
-        → chain_orders (slice_index_or scripts.now i []) ≡ (slice_index_or v.items i d).promise.0) }
+        → slice_index_or scripts.now i [] ≡ (slice_index_or v.items i d).promise.0.value) }
 {
     let mut started = Vec::new(alloc);
     for i in 0..scripts.len() {
@@ -245,8 +244,8 @@ fn start_all<
         ≡ guests_of workers.items) }
     ensures drivers { IfOk result (λ s. vec_len s.drivers ≡ length scripts.now) }
     ensures each { IfOk result (λ s. (i : ℕ) (d : _) → i < length scripts.now
-        → chain_orders (slice_index_or scripts.now i [])
-        ≡ (slice_index_or s.drivers.items i d).promise.0) }
+        → slice_index_or scripts.now i []
+        ≡ (slice_index_or s.drivers.items i d).promise.0.value) }
     ensures flusher { IfOk result (λ s. s.flusher.promise.0.value ≡ flusher) }
 {
     let workers = start_workers(scope, rt, alloc, hall, gate, workers)?;
@@ -267,8 +266,8 @@ fn join_all<L: Ledger, D: Disk + Drop, R: Threads>(
 ) -> Result<Crew<L, D>, HostFault>
     requires len { vec_len started.drivers ≡ length scripts.now }
     requires each { (i : ℕ) (d : _) → i < length scripts.now
-        → chain_orders (slice_index_or scripts.now i [])
-        ≡ (slice_index_or started.drivers.items i d).promise.0 }
+        → slice_index_or scripts.now i []
+        ≡ (slice_index_or started.drivers.items i d).promise.0.value }
     ensures workers { IfOk result (λ c. vec_len c.workers ≡ vec_len started.workers) }
     ensures guests { IfOk result (λ c. guests_of c.workers.items
         ≡ map (λ h. h.promise.0) started.workers.items) }

@@ -1,0 +1,32 @@
+-- What drivers leave of their scripts.
+use Rattle.std.specs.Prelude.{◌≡◌, ◌<◌, ℕ, Bool, true, false, List, [], length, slice_index_or}
+use Rattle.std.specs.Prelude.{Option, Some, None, Result, Ok, Err}
+use Rattle.queue_looks.specs.declared.fault.HostFault.{HostFault}
+use Rattle.host.specs.declared.front.Answer.{Answer}
+use Rattle.workers.specs.Driving.{Ran}
+use Rattle.workers.specs.declared.driver.DriverEnd.{DriverEnd}
+use Rattle.workers.specs.declared.order.Order.{Order}
+
+-- whether a driver came to the end of its script, and the fault that it ended by, by how it worked
+abbrev pub completes : Result Bool HostFault → Bool
+completes (Ok complete) = complete
+completes (Err fault) = false
+
+abbrev pub fault_in : Result Bool HostFault → Option HostFault
+fault_in (Ok complete) = None
+fault_in (Err fault) = Some fault
+
+-- a driver that came to the end of its script ran it
+pub record LeavesAll (complete : Bool) (answers : List Answer) (script : List Order) : Type 0 where
+  pub ran : complete ≡ true → Ran script answers
+
+-- the same of each driver and its script
+abbrev pub Left : List DriverEnd → List (List Order) → Type 0
+Left ends scripts = (i : ℕ) (d : DriverEnd) → i < length scripts
+    → LeavesAll (slice_index_or ends i d).complete (slice_index_or ends i d).answers.items
+    (slice_index_or scripts i [])
+
+-- each driver ran its script
+abbrev pub HaveAll : List DriverEnd → List (List Order) → Type 0
+HaveAll ends scripts = (i : ℕ) (d : DriverEnd) → i < length scripts
+    → Ran (slice_index_or scripts i []) (slice_index_or ends i d).answers.items

@@ -1,0 +1,235 @@
+//! What a guest's driver does: it offers the chains of its script, and answers each.
+ghost use Rattle.std.specs.Prelude.{◌≡◌, ◌≤◌, ◌<◌, IfOk, OnOk, Ok, Some, None, [], length, slice_get};
+ghost use Rattle.std.specs.Prelude.{true, vec_len};
+ghost use Rattle.workers.specs.Driving.{Answers, Drives, GoesOn, GoesTo, Offers, OffersBy, Reaps};
+ghost use Rattle.workers.specs.Driving.{Steps, TakesOrder, at, begun};
+ghost use Rattle.workers.specs.Ends.{LeavesAll, completes, fault_in};
+ghost use Rattle.workers.specs.Orders.{chain_orders, chains_in};
+
+use crate::bell::{Actor, Bell, Rest};
+use crate::driver::{Driver, DriverEnd};
+use crate::order::{Chain, Order};
+use crate::seat::{Guest, News, Next, fault_of};
+use guest_driver::DriverFault;
+use host::{Answer, HostFault};
+use std::alloc::Global;
+use std::sync::{Mutex, Wait};
+
+/// How many chains may be under way: a queue has at most 256 places.
+const PLACES: usize = 256;
+
+impl<'a> Driver<'a> {
+    /// Looks for the answer to the oldest chain that has none. Whether something came of it.
+    fn reap(&mut self, guest: &mut Guest) -> Result<bool, HostFault>
+        ensures script { (self.new.script ≡ self.old.script) × (self.new.next ≡ self.old.next) }
+        ensures answers { IfOk result
+            (λ moved. Reaps (vec_len self.old.answers) moved (vec_len self.new.answers)) }
+        ensures looks { IfOk result
+            (λ moved. Answers (at self.old) guest.old moved (at self.new) guest.new) }
+    {
+        if self.outstanding() == 0 {
+            return Ok(false);
+        }
+        if let Some(stuck) = self.stuck() {
+            return self.answer(Answer::Stuck(stuck));
+        }
+        match guest.look().told()? {
+            News::Reply(bytes) => self.answer(Answer::Used(bytes)),
+            News::NoReply(stuck) => {
+                self.stick(stuck);
+                Ok(true)
+            }
+            News::Nothing => Ok(false),
+        }
+    }
+
+    /// Goes on in the script, where the queue has room; before a reset each chain has to have its
+    /// answer.
+    fn offer(&mut self, guest: &mut Guest) -> Result<bool, HostFault>
+        ensures script { (self.new.script ≡ self.old.script)
+            × (self.new.answers ≡ self.old.answers) }
+        ensures next { IfOk result (λ moved. Offers self.old.next moved self.new.next) }
+        ensures waits { (order : Order) → slice_get self.old.script.now self.old.next ≡ Some order
+            → chains_in order ≡ 0 → result ≡ Ok true → self.old.outstanding ≡ 0 }
+        ensures takes { TakesOrder (slice_get self.old.script.now self.old.next) (at self.old)
+            guest.old result (at self.new) guest.new }
+    {
+        let Some(order) = self.order() else {
+            return Ok(false);
+        };
+        match order {
+            Order::Chain(chain) => self.offer_chain(guest, order, chain),
+            Order::Reset => {
+                if self.outstanding() != 0 {
+                    return Ok(false);
+                }
+                let in_service = guest.restart();
+                self.count_reset(order);
+                self.renew(in_service);
+                Ok(true)
+            }
+        }
+    }
+
+    /// Offers a chain whole, where the queue has room. Whether it did: out of service it only
+    /// counts.
+    fn offer_chain(
+        &mut self,
+        guest: &mut Guest,
+        order: &Order,
+        chain: &Chain,
+    ) -> Result<bool, HostFault>
+        requires here { slice_get self.old.script.now self.old.next ≡ Some order.now }
+        requires chain { chains_in order.now ≡ 1 }
+        ensures script { (self.new.script ≡ self.old.script)
+            × (self.new.answers ≡ self.old.answers) × (self.new.stuck ≡ self.old.stuck) }
+        ensures next { IfOk result (λ moved. Offers self.old.next moved self.new.next) }
+        ensures offered { OffersBy self.old.stuck self.old.outstanding chain.now guest.old result
+            guest.new }
+    {
+        if self.outstanding() >= PLACES {
+            return Ok(false);
+        }
+        if self.stuck().is_none() {
+            match guest.offer(chain.readable(), chain.writable()) {
+                Ok(_) => {}
+                Err(DriverFault::NoRoom) if self.outstanding() > 0 => return Ok(false),
+                Err(fault) => return Err(fault_of(fault)),
+            }
+        }
+        self.count_chain(order);
+        Ok(true)
+    }
+
+    /// One answer, and one order.
+    fn step(&mut self, guest: &mut Guest) -> Result<Next, HostFault>
+        ensures script { self.new.script ≡ self.old.script }
+        ensures drives { IfOk result (λ next.
+            Drives (vec_len self.old.answers) self.old.next next (vec_len self.new.answers)
+            self.new.next) }
+        ensures end { result ≡ Ok Next.End
+            → (self.new.next ≡ length self.new.script.now) × (self.new.outstanding ≡ 0) }
+        ensures steps { IfOk result (λ next.
+            Steps self.old.script.now (at self.old) guest.old next (at self.new) guest.new) }
+    {
+        let reaped = self.reap(guest)?;
+        let offered = self.offer(guest)?;
+        if reaped || offered {
+            return Ok(Next::Again);
+        }
+        Ok(if self.is_complete() {
+            Next::End
+        } else {
+            Next::Rest
+        })
+    }
+
+    /// One look for work, under one lock: answers and orders as long as there are some.
+    #[tactic(auto, using(crate::proofs::Going::nowhere, crate::proofs::Going::one_more))]
+    fn turn(&mut self, rt: &impl Wait, guest: &Mutex<Guest>) -> Result<Next, HostFault>
+        ensures script { self.new.script ≡ self.old.script }
+        ensures goes_on { IfOk result (λ next.
+            GoesOn (vec_len self.old.answers) self.old.next next (vec_len self.new.answers)
+            self.new.next) }
+        ensures end { result ≡ Ok Next.End
+            → (self.new.next ≡ length self.new.script.now) × (self.new.outstanding ≡ 0) }
+        ensures goes { OnOk result (GoesTo self.old.script.now (at self.old) (at self.new)) }
+    {
+        let mut held = guest.lock(rt);
+        for i in 0..PLACES {
+            match self.step(&mut held)? {
+                Next::Again => {}
+                Next::Rest => return Ok(if i == 0 { Next::Rest } else { Next::Again }),
+                Next::End => return Ok(Next::End),
+            }
+        }
+        Ok(Next::Again)
+    }
+
+    /// Runs the script to its end, or until all are to end. Whether it came to its end.
+    #[tactic(auto, using(crate::proofs::Going::nowhere, crate::proofs::Going::through))]
+    fn work<R: Wait>(
+        &mut self,
+        rt: &R,
+        guest: &Mutex<Guest>,
+        bell: &Bell,
+        me: Actor,
+        worker: Actor,
+    ) -> Result<bool, HostFault>
+        ensures script { self.new.script ≡ self.old.script }
+        ensures end { result ≡ Ok true
+            → (self.new.next ≡ length self.new.script.now) × (self.new.outstanding ≡ 0) }
+        ensures goes { OnOk result (GoesTo self.old.script.now (at self.old) (at self.new)) }
+    {
+        let mut rest = Rest::begin(rt, bell, me);
+        for _ in rt.forever() {
+            if rest.is_stopped() {
+                break;
+            }
+            match self.turn(rt, guest)? {
+                Next::Again => {
+                    bell.ring(rt, worker);
+                    rest.went_on(rt, bell);
+                }
+                Next::Rest => rest.rest(rt, bell),
+                Next::End => return Ok(true),
+            }
+        }
+        Ok(false)
+    }
+
+    /// Brings the device into service, and works. A fault stops all.
+    fn run<R: Wait>(
+        mut self,
+        rt: &R,
+        guest: &Mutex<Guest>,
+        bell: &Bell,
+        me: Actor,
+        worker: Actor,
+    ) -> DriverEnd
+        requires { at self ≡ begun self.stuck }
+        ensures { LeavesAll result.complete result.answers.items self.entry.script.now }
+    {
+        let in_service = guest.lock(rt).begin();
+        self.renew(in_service);
+        let worked = self.work(rt, guest, bell, me, worker);
+        if worked.is_err() {
+            bell.stop(rt);
+        }
+        guest.lock(rt).finish();
+        bell.ring(rt, worker);
+        end_of(self.into_answers(), worked)
+    }
+}
+
+/// What a driver leaves that has these answers, and worked so.
+fn end_of(answers: Vec<Answer>, worked: Result<bool, HostFault>) -> DriverEnd
+    ensures answers { result.answers ≡ answers }
+    ensures complete { result.complete ≡ completes worked }
+    ensures fault { result.fault ≡ fault_in worked }
+{
+    let (complete, fault) = match worked {
+        Ok(complete) => (complete, None),
+        Err(fault) => (false, Some(fault)),
+    };
+    DriverEnd {
+        answers,
+        complete,
+        fault,
+    }
+}
+
+/// Runs the script to its end, or until all are to end.
+pub(crate) fn drive<R: Wait>(
+    rt: &R,
+    alloc: Global,
+    guest: &Mutex<Guest>,
+    bell: &Bell,
+    me: Actor,
+    worker: Actor,
+    script: &[Order],
+) -> DriverEnd
+    ensures { LeavesAll result.complete result.answers.items script.now }
+{
+    Driver::new(alloc, script).run(rt, guest, bell, me, worker)
+}
