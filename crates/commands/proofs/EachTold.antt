@@ -90,8 +90,8 @@ ran_each (d ∷ drivers) scripts lines n many as_many all each g below =
       script = slice_index_or scripts g [];
       asked = each g below;
       ran = subst (Ran (slice_index_or scripts g []))
-      (sym (get_or-map (λ (e : DriverEnd). e.answers.items) (d ∷ drivers) g d [] inside))
-      (all g d (omega (arith, as_many, below)));
+          (sym (get_or-map (λ (e : DriverEnd). e.answers.items) (d ∷ drivers) g d [] inside))
+          (all g d (omega (arith, as_many, below)));
     }
 
 -- what they print where they end well

@@ -1,5 +1,5 @@
 -- Steps of a driver, one after another.
-use Rattle.std.proofs.Common.{◌≡◌, List, [], ◌∷◌, ◌++◌, refl, sym, subst}
+use Rattle.std.proofs.Common.{List, [], ◌∷◌, ◌++◌, refl, subst}
 use Rattle.workers.specs.Driving.{At, GoesTo, Move, Steps, Went}
 use Rattle.workers.specs.declared.order.Order.{Order}
 use Rattle.workers.specs.declared.seat.Guest.{Guest}

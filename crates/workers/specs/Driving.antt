@@ -28,8 +28,8 @@ use Rattle.workers.specs.declared.seat.News.TheVariants as news
 use Rattle.workers.specs.declared.seat.Next.{Next}
 use Rattle.workers.specs.declared.seat.Next.TheVariants.{Again, Rest, End}
 
--- what a driver keeps to itself: how many orders it has taken, how many chains have no answer, why it
--- is stuck, and its answers, in the order of the script
+-- what a driver keeps to itself: how many orders it has taken, how many chains have no answer, why
+-- it is stuck, and its answers, in the order of the script
 pub record At : Type 0 where
   pub next : ℕ
   pub outstanding : ℕ
@@ -194,8 +194,8 @@ pub record GoesTo (script : List Order) (from to : At) : Type 0 where
   pub moves : List Move
   pub went : Went script from moves to
 
--- A driver ran its script: by steps, from where its device was in service or wasn't, to the script's
--- end. Each chain of the script has its answer.
+-- A driver ran its script: by steps, from where its device was in service or wasn't, to the end of
+-- the script. Each chain of it has its answer.
 pub record Ran (script : List Order) (answers : List Answer) : Type 0 where
   pub first : Option Stuck
   pub last : At

@@ -34,6 +34,7 @@ pub struct DriverEnd {
 }
 
 impl<'a> Driver<'a> {
+    /// A driver of this script that has done nothing yet.
     pub(crate) fn new(alloc: Global, script: &'a [Order]) -> Driver<'a>
         ensures script { result.script ≡ script.entry }
         ensures begun { (result.next ≡ 0) × (result.outstanding ≡ 0) × (result.answers.items ≡ []) }

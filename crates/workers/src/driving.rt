@@ -1,10 +1,9 @@
 //! What a guest's driver does: it offers the chains of its script, and answers each.
-ghost use Rattle.std.specs.Prelude.{◌≡◌, ◌≤◌, ◌<◌, IfOk, OnOk, Ok, Some, None, [], length, slice_get};
-ghost use Rattle.std.specs.Prelude.{true, vec_len};
+ghost use Rattle.std.specs.Prelude.{◌≡◌, IfOk, OnOk, Ok, Some, true, length, slice_get, vec_len};
 ghost use Rattle.workers.specs.Driving.{Answers, Drives, GoesOn, GoesTo, Offers, OffersBy, Reaps};
 ghost use Rattle.workers.specs.Driving.{Steps, TakesOrder, at, begun};
 ghost use Rattle.workers.specs.Ends.{LeavesAll, completes, fault_in};
-ghost use Rattle.workers.specs.Orders.{chain_orders, chains_in};
+ghost use Rattle.workers.specs.Orders.{chains_in};
 
 use crate::bell::{Actor, Bell, Rest};
 use crate::driver::{Driver, DriverEnd};
