@@ -50,11 +50,6 @@ begun stuck = record { next = 0; outstanding = 0; stuck = stuck; answers = [] }
 
 -- 1. Answers
 
--- one look for an answer, of which something came, or nothing
-abbrev pub Reaps : ℕ → Bool → ℕ → Type 0
-Reaps answers true answers' = (answers ≤ answers') × (answers' ≤ answers + 1)
-Reaps answers false answers' = answers' ≡ answers
-
 -- What a driver keeps of what a look told: a reply lies behind its other answers, and where none
 -- comes any more it is stuck for the reason that was told.
 abbrev pub KeepsTold : Result News HostFault → List Answer → Bool → Option Stuck → List Answer
@@ -122,6 +117,14 @@ OffersBy (Some why) outstanding chain guest result guest' =
 OffersBy None outstanding chain guest result guest' =
     (outstanding < 256 → IsOffered outstanding chain guest result guest')
     × (256 ≤ outstanding → (result ≡ Ok false) × (guest' ≡ guest))
+
+-- the driver has negotiated with its device, which is in service then, or isn't
+pub record IsBegun (guest guest' : Guest) (stuck : Option Stuck) : Type 0 where
+  pub device : guest'.device ≡ negotiated guest.device guest.driver.form guest.driver.size
+      guest.driver.event_idx
+  pub driver : guest'.driver
+      ≡ first_driver guest.driver.form guest.driver.size guest.driver.event_idx
+  pub told : stuck ≡ (if is_in_service guest'.device then None else Some NoAnswer)
 
 -- the driver has reset its device, and brought it into service again where it could
 pub record IsRestarted (guest guest' : Guest) (stuck : Option Stuck) : Type 0 where
@@ -194,12 +197,14 @@ pub record GoesTo (script : List Order) (from to : At) : Type 0 where
   pub moves : List Move
   pub went : Went script from moves to
 
--- A driver ran its script: by steps, from where its device was in service or wasn't, to the end of
--- the script. Each chain of it has its answer.
+-- A driver ran its script: it negotiated with its device, and went by steps, from what that told, to
+-- the end of the script. Each chain of it has its answer.
 pub record Ran (script : List Order) (answers : List Answer) : Type 0 where
+  pub found : Guest
+  pub guest : Guest
   pub first : Option Stuck
   pub last : At
-  pub service : (first ≡ None) ⊎ (first ≡ Some NoAnswer)
+  pub begins : IsBegun found guest first
   pub goes : GoesTo script (begun first) last
   pub whole : last.next ≡ length script
   pub none : last.outstanding ≡ 0

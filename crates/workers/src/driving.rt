@@ -1,6 +1,6 @@
 //! What a guest's driver does: it offers the chains of its script, and answers each.
 ghost use Rattle.std.specs.Prelude.{◌≡◌, IfOk, OnOk, Ok, Some, true, length, slice_get, vec_len};
-ghost use Rattle.workers.specs.Driving.{Answers, Drives, GoesOn, GoesTo, Offers, OffersBy, Reaps};
+ghost use Rattle.workers.specs.Driving.{Answers, Drives, GoesOn, GoesTo, Offers, OffersBy};
 ghost use Rattle.workers.specs.Driving.{Steps, TakesOrder, at, begun};
 ghost use Rattle.workers.specs.Ends.{LeavesAll, completes, fault_in};
 ghost use Rattle.workers.specs.Orders.{chains_in};
@@ -21,8 +21,6 @@ impl<'a> Driver<'a> {
     /// Looks for the answer to the oldest chain that has none. Whether something came of it.
     fn reap(&mut self, guest: &mut Guest) -> Result<bool, HostFault>
         ensures script { (self.new.script ≡ self.old.script) × (self.new.next ≡ self.old.next) }
-        ensures answers { IfOk result
-            (λ moved. Reaps (vec_len self.old.answers) moved (vec_len self.new.answers)) }
         ensures looks { IfOk result
             (λ moved. Answers (at self.old) guest.old moved (at self.new) guest.new) }
     {
@@ -48,8 +46,6 @@ impl<'a> Driver<'a> {
         ensures script { (self.new.script ≡ self.old.script)
             × (self.new.answers ≡ self.old.answers) }
         ensures next { IfOk result (λ moved. Offers self.old.next moved self.new.next) }
-        ensures waits { (order : Order) → slice_get self.old.script.now self.old.next ≡ Some order
-            → chains_in order ≡ 0 → result ≡ Ok true → self.old.outstanding ≡ 0 }
         ensures takes { TakesOrder (slice_get self.old.script.now self.old.next) (at self.old)
             guest.old result (at self.new) guest.new }
     {
