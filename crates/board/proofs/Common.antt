@@ -62,24 +62,10 @@ pub use Rattle.rpmb_book.specs.Replay.{fresh_guests}
 pub use Rattle.rpmb_book.specs.Sound.{AreOfBoard, IsOfBoard}
 pub use Rattle.rpmb_book.specs.Turn.{Turn, Take, Settle, Collect, Break, move_some}
 pub use Rattle.board.specs.Board.{IsLinkedBoard, LeavesPrefixes, marks_in, accepted_by, joined_when, accepted_after, answered, IsSound, StaysLinked}
-pub use Rattle.board.specs.InOrder.{AreInOrder, IsTied, IsTiedTo, is_of, numbers_of, pops_of}
-pub use Rattle.board.specs.Kept.{IsConsistent, IsConsistentAt, IsNew, IsOpen}
 pub use Rattle.board.specs.Link.{IsLinked, IsPrefix, AreInTurn, HasKeyOf, entries_all, entries_of}
-pub use Rattle.board.specs.Logs.{AreCut, AreFresh, GuestLog, cut_log, kept_count, Asked}
-pub use Rattle.board.specs.Noting.{IsGuest, IsNoted}
 pub use Rattle.board.specs.Opening.{Begins, GoesOn, bases_of, first_devices, kept_by, kept_of, new_board, CallsRefused, Finds}
-pub use Rattle.board.specs.Records.{HasRoom, HaveRoom, accepted_in, count_of, popped_in, popped_of, published_in, published_of, asked_by, IsFitWith, home_of, seen_of, world_of}
 pub use Rattle.board.specs.State.{BoardState, Report, in_place, report_seen, guests, Marks, put, Fault}
 pub use Rattle.board.specs.Steps.{AdvancesUnder, Answer, SubmitsFrom, advance_answer, report_of, Advances, Does, Drives, PopsInto, PublishesFrom, Idles, job_of, pop_answer, CollectsInto, GivesWhere, SettlesBy, TakesInto, answer_by, did_answer}
-unfoldable pub use Rattle.board.specs.World.{raised}
-pub use Rattle.board.specs.World.{CutBy, CutWithin, CutsTo, EndsUpgrade, UpgradesTo, Happens, LacksRoom, OpensOrNot, Runs, StepsAt, WorldState, choosing, disk_of, opened_world, refusal_of, StepsIn, popped_after, publication_of, published_after, with_publication, choosing_call, partition_in}
-pub use Rattle.board.specs.declared.event.Event.{Event}
-pub use Rattle.board.specs.declared.event.Refusal.{Refusal}
-pub use Rattle.board.specs.declared.home.Home.{Home}
-pub use Rattle.board.specs.declared.home.Home.TheVariants.{Up, Down}
-pub use Rattle.board.specs.declared.log.Pop.{Pop}
-pub use Rattle.board.specs.declared.log.Publication.{Publication}
-pub use Rattle.board.specs.declared.stage.Stage.{Stage}
 pub use Rattle.board.specs.declared.step.Act.{Act}
 pub use Rattle.board.specs.declared.step.Seen.TheVariants.{Did}
 pub use Rattle.board.specs.declared.step.Step.{Step}

@@ -2,9 +2,8 @@
 use crate::refusal::Refusal;
 use crate::source::{Source, text_of};
 use crate::words::Words;
-use board_file::{BoardVerdict, judge_board};
+use flaws::{BoardVerdict, ScriptVerdict, judge_board, judge_script};
 use rpmb_client::OptionRefusal;
-use script::{ScriptVerdict, judge_script};
 use std::alloc::Global;
 use std::io::Write;
 

@@ -1,4 +1,3 @@
 pub mod Line
 pub mod Script
 pub mod Words
-pub mod Judged

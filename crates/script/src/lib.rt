@@ -11,14 +11,11 @@
 #![tactic(auto)]
 
 mod fault;
-mod flaw;
-mod judging;
 mod line;
 mod reader;
 mod word;
 
 pub use fault::{LineError, ScriptError};
-pub use judging::{ScriptVerdict, judge_script};
 pub use line::{Line, read_line};
 pub use reader::{read_script, read_served_script};
 pub use word::{first_words, read_bytes, read_number, shown_bytes};

@@ -5,13 +5,14 @@ use crate::boards::{
 };
 use crate::looks::{Sum, Trouble, check, tell_end, tell_refused};
 use crate::queues::Bus;
-use board::{Act, Event, Refusal, Step, StepFault, World};
+use board::{Act, Step, StepFault};
 use disk::CutDisk;
 use mmio_transport::DeviceFault;
 use recovery::OpenFault;
 use rpmb_book::Refused;
 use std::alloc::Global;
 use std::slice;
+use world::{Event, Refusal, World};
 
 /// What is to happen, in its order.
 #[derive(Drop)]

@@ -2,11 +2,12 @@
 //! take requests to their replies.
 
 use crate::tests::asked::{Asked, frames_of};
-use board::{Act, Event, Step};
+use board::{Act, Step};
 use disk::Filler;
 use mmio_transport::register as reg;
 use std::alloc::Global;
 use std::test::Fail;
+use world::Event;
 
 /// What a driver writes into the registers: a reset, VIRTIO_F_VERSION_1 alone, a queue of 16 with
 /// its descriptors at 0x1000, its available ring at 0x2000 and its used ring at 0x3000, and

@@ -9,10 +9,10 @@ use crate::tests::image::{Version, formatted_as};
 use crate::tests::scene::{board_of, check};
 use crate::tests::sweeps::check_guests;
 use crate::tests::worlds::world_of;
-use board::{Event, World};
 use rpmb_frame::BoardConfig;
 use std::alloc::Global;
 use std::test::Fail;
+use world::{Event, World};
 
 /// What a stop leaves in the places that weren't synced: what the last sync left, what reads gave,
 /// and 0x5a and 0xa5 in turn.

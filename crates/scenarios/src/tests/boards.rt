@@ -2,13 +2,14 @@
 
 use crate::tests::metered::MeteredDisk;
 use crate::tests::scene::check;
-use board::{Board, Event, Seen, Step, StepFault};
+use board::{Board, Seen, Step, StepFault};
 use disk::CutDisk;
 use flusher::Call;
 use mmio_transport::{Device, Done, Published};
 use rpmb_frame::BoardConfig;
 use std::alloc::Global;
 use std::test::Fail;
+use world::Event;
 
 /// A board over a disk that counts its calls. Its methods promise nothing, so that what stands
 /// above them is proved without a board's contracts.

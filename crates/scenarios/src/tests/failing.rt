@@ -9,7 +9,7 @@ use crate::tests::image::{formatted, opened};
 use crate::tests::lines::failure_of;
 use crate::tests::metered::MeteredDisk;
 use crate::tests::scene::{KEY, board_of, check};
-use board::{Event, Seen, Step, StepFault};
+use board::{Seen, Step, StepFault};
 use disk::{CutDisk, Filler};
 use flusher::StoreFault;
 use hmac256::mac_of;
@@ -18,6 +18,7 @@ use rpmb_core::Partition;
 use rpmb_frame::{BoardConfig, Frame};
 use std::alloc::Global;
 use std::test::Fail;
+use world::Event;
 
 /// Where a guest's two changes, the key and the write, stand among the calls of the disk, which
 /// are counted from the opening on.

@@ -10,11 +10,12 @@ use crate::tests::boards::{Table, opened_board};
 use crate::tests::image::formatted;
 use crate::tests::metered::MeteredDisk;
 use crate::tests::scene::{board_of, check};
-use board::{Board, Event, Seen, Step, StepFault};
+use board::{Board, Seen, Step, StepFault};
 use disk::CutDisk;
 use mmio_transport::{Done, Published};
 use std::alloc::Global;
 use std::test::Fail;
+use world::Event;
 
 /// What the honest guests are told and find in their memory.
 #[derive(Drop)]

@@ -6,10 +6,11 @@ use crate::tests::asked::Asked;
 use crate::tests::image::Version;
 use crate::tests::scene::check;
 use crate::tests::worlds::{KEYED, world_of};
-use board::{Event, Pop, Publication, Refusal, Step, StepFault, World};
+use board::{Step, StepFault};
 use mmio_transport::DeviceFault;
 use std::alloc::Global;
 use std::test::Fail;
+use world::{Event, Pop, Publication, Refusal, World};
 
 /// A second life, in which two requests are answered, each before the next.
 static SECOND_LIFE: [Move; 6] = [

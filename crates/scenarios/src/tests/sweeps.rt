@@ -6,11 +6,11 @@ use crate::tests::asked::Asked;
 use crate::tests::image::Version;
 use crate::tests::scene::{board_of, check};
 use crate::tests::worlds::world_of;
-use board::{Accepted, Event, Publication, World};
 use rpmb_core::{OK, Partition, is_change};
 use rpmb_frame::{Limits, Request};
 use std::alloc::Global;
 use std::test::Fail;
+use world::{Accepted, Event, Publication, World};
 
 /// How many advances the list has.
 const ADVANCES: u32 = 64;

@@ -7,11 +7,11 @@ use crate::tests::asked::Asked;
 use crate::tests::image::formatted;
 use crate::tests::scene::{board_of, check};
 use crate::tests::sweeps::check_guest;
-use board::{Event, World};
 use disk::CutDisk;
 use rpmb_frame::BoardConfig;
 use std::alloc::Global;
 use std::test::Fail;
+use world::{Event, World};
 
 /// Old, New, and each byte that a gate or the version may be left with.
 const FILLERS: [u8; 5] = [0, 1, 4, 5, 6];

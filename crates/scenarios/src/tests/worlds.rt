@@ -4,13 +4,14 @@ use crate::tests::acts::{Acts, Move};
 use crate::tests::asked::Asked;
 use crate::tests::image::{Version, formatted_as};
 use crate::tests::scene::{board_of, check};
-use board::{Event, Publication, Refusal, StepFault, World};
+use board::StepFault;
 use flusher::StoreFault;
 use recovery::OpenFault;
 use rpmb_core::Partition;
 use rpmb_frame::BoardConfig;
 use std::alloc::Global;
 use std::test::Fail;
+use world::{Event, Publication, Refusal, World};
 
 fn world_over(alloc: Global, board: BoardConfig, version: Version) -> Result<World, Fail> {
     let disk = formatted_as(alloc, &board, version)?;

@@ -5,10 +5,11 @@ use crate::tests::image::Version;
 use crate::tests::scene::check;
 use crate::tests::sweeps::check_guest;
 use crate::tests::worlds::world_of;
-use board::{Event, Publication, Refusal, StepFault, World};
+use board::StepFault;
 use flusher::StoreFault;
 use std::alloc::Global;
 use std::test::Fail;
+use world::{Event, Publication, Refusal, World};
 
 /// More calls than any run has.
 const MANY: u64 = 100;

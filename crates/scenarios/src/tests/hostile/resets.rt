@@ -4,10 +4,11 @@ use crate::tests::acts::{Acts, Move, SETUP};
 use crate::tests::asked::Asked;
 use crate::tests::boards::{Table, play};
 use crate::tests::scene::check;
-use board::{Event, Seen, Step};
+use board::{Seen, Step};
 use mmio_transport::Published;
 use std::alloc::Global;
 use std::test::Fail;
+use world::Event;
 
 const RESETS: u64 = 1000;
 

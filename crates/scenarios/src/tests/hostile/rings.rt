@@ -6,9 +6,9 @@ use crate::tests::boards::{Table, play};
 use crate::tests::image::Version;
 use crate::tests::scene::check;
 use crate::tests::worlds::world_of;
-use board::{Event, Publication, World};
 use std::alloc::Global;
 use std::test::Fail;
+use world::{Event, Publication, World};
 
 /// Where the used ring has its index.
 const USED_INDEX: u64 = 0x3002;

@@ -1,0 +1,2 @@
+pub mod JudgedBoard
+pub mod JudgedScript

@@ -1,0 +1,12 @@
+mod Common
+mod Upgraded
+mod Runs
+mod Rooms
+mod Noted
+mod Logged
+mod Keeping
+mod Staging
+mod Images
+mod Memory
+mod Ordered
+mod Lasting

@@ -1,0 +1,9 @@
+pub mod World
+pub mod Logs
+pub mod Records
+pub mod Noting
+pub mod Kept
+pub mod Headline
+pub mod Images
+pub mod Memory
+pub mod InOrder
