@@ -1,5 +1,5 @@
-# Performs words over a fresh image, with output that takes so many bytes: a file that may have no more. Says how that ends,
-# and of a fault that can't be told whole whether it ends so too.
+# Performs words over a fresh image, with output that takes so many bytes: a file that may have no more. Says how that
+# ends, and of a fault that can't be told whole whether it ends so too.
 room=$1
 shift
 narrow() { truncate -s 0 $1; truncate -s $((1048576 - $2)) $1; }

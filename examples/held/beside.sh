@@ -1,4 +1,5 @@
-# Each command beside each other one. The output of the first is a pipe that is full, so that it waits there, and holds the image.
+# Each command beside each other one. The output of the first is a pipe that is full, so that it waits there, and holds
+# the image.
 cp board.img fresh.img
 cp fresh.img upgraded.img
 printf '\x02' | dd of=upgraded.img seek=512 oflag=seek_bytes conv=notrunc status=none
@@ -11,7 +12,7 @@ for first in format show upgrade run serve; do
         exec 3<> full
         head -c 65536 /dev/zero >&3
         rpmbd $(words $first) >&3 3>&- &
-        for _ in {1..1000}; do
+        for _ in {1..300}; do
             grep -q ":$(stat -c %i board.img) " /proc/locks && break
             sleep 0.01
         done

@@ -1,4 +1,5 @@
-# The words of the file `case` end with this status, and what stands behind the arrow is told, on the stream for it alone.
+# The words of the file `case` end with this status, and what stands behind the arrow is told, on the stream for it
+# alone.
 words=$(sed 's/ => .*//' case) part=$(sed 's/.* => //' case)
 $words > out.txt 2> err.txt
 ended=$?
