@@ -54,6 +54,8 @@ class Room:
         """What a program printed, and how many calls of each kind it made."""
         count = f"{folder}/count"
         env = {"LD_PRELOAD": self.shim, "REFUSE": refuse, "REFUSE_COUNT": count}
+        if refuse.startswith("disk"):
+            env["REFUSE_STOP"] = f"{folder}/stop"
         how = {"stdin": subprocess.DEVNULL, "stdout": subprocess.PIPE, "stderr": subprocess.PIPE, **how}
         try:
             ran = subprocess.run([f"{self.top}/{words[0]}", *words[1:]], cwd=folder, env=env, timeout=SECONDS, **how)
@@ -61,7 +63,7 @@ class Room:
             raise Wrong(f"{' '.join(words)}, {refuse}: no end after {SECONDS} seconds") from None
         try:
             with open(count, encoding="ascii") as it:
-                calls = dict(zip(KINDS, map(int, it.read().split())))
+                calls = dict(zip((*KINDS, "disk"), map(int, it.read().split())))
         except OSError:
             calls = {}
         decode = lambda it: (it or b"").decode(errors="replace")

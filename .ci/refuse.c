@@ -4,8 +4,11 @@
  * malloc, calloc or realloc, which gives no memory; "io 7" the seventh read, write, sync or new length of a
  * file, which does nothing and answers EIO; "short 7" the seventh read or write of two bytes or more, which
  * moves one; "open 7" the seventh opening, second number, lock or look at the metadata of a file, which answers
- * EIO. With a plus, "io 7+", each later one fails too. No write to standard error is counted: what failed is told there. REFUSE_COUNT names a file into which the
- * number of calls of each kind goes at the end. Threads count as one.
+ * EIO; "disk 7" the seventh read or write at a place, or sync, which does nothing and answers EIO. With a plus,
+ * "io 7+", each later one fails too. No write to standard error is counted: what failed is told there.
+ * REFUSE_COUNT names a file into which the number of calls of each kind goes at the end. Threads count as one.
+ * For stops, REFUSE_STOP names a file: with the ending ".synced" it has what the last sync that succeeded left, and
+ * with ".places" a line for each write since, its place and its length, also for one that failed.
  */
 #define _GNU_SOURCE
 #include <dlfcn.h>
@@ -21,9 +24,9 @@
 #include <sys/syscall.h>
 #include <unistd.h>
 
-enum { ALLOC, IO, SHORT, OPEN, KINDS };
+enum { ALLOC, IO, SHORT, OPEN, DISK, KINDS };
 
-static const char *const names[KINDS] = {"alloc", "io", "short", "open"};
+static const char *const names[KINDS] = {"alloc", "io", "short", "open", "disk"};
 static atomic_ulong calls[KINDS];
 static unsigned long chosen[KINDS];
 static int and_later[KINDS];
@@ -88,8 +91,8 @@ __attribute__((destructor)) static void end(void)
     if (file < 0)
         return;
     char line[128];
-    int length = snprintf(line, sizeof line, "%lu %lu %lu %lu\n", calls[ALLOC], calls[IO], calls[SHORT],
-                          calls[OPEN]);
+    int length = snprintf(line, sizeof line, "%lu %lu %lu %lu %lu\n", calls[ALLOC], calls[IO], calls[SHORT],
+                          calls[OPEN], calls[DISK]);
     if (real_write(file, line, (size_t)length) != length)
         abort();
     close(file);
@@ -161,6 +164,46 @@ static int fails(int file)
     return file != 2 && fails_as(IO);
 }
 
+static int fails_at(int file)
+{
+    int disk = fails_as(DISK);
+    return fails(file) || disk;
+}
+
+static int stop_file(const char *ending, int flags)
+{
+    char name[4096];
+    const char *path = getenv("REFUSE_STOP");
+    if (!path || snprintf(name, sizeof name, "%s%s", path, ending) >= (int)sizeof name)
+        return -1;
+    return real_open(name, O_WRONLY | O_CREAT | flags, 0600);
+}
+
+static void note_write(size_t size, off_t at)
+{
+    char line[64];
+    int to = stop_file(".places", O_APPEND), length = snprintf(line, sizeof line, "%ld %zu\n", (long)at, size);
+    if (to < 0)
+        return;
+    if (real_write(to, line, (size_t)length) != length)
+        abort();
+    close(to);
+}
+
+static void note_sync(int file)
+{
+    char bytes[65536];
+    ssize_t count;
+    int to = stop_file(".synced", O_TRUNC), places = stop_file(".places", O_TRUNC);
+    if (to < 0)
+        return;
+    for (off_t at = 0; (count = real_pread(file, bytes, sizeof bytes, at)) > 0; at += count)
+        if (real_write(to, bytes, (size_t)count) != count)
+            abort();
+    close(to);
+    close(places);
+}
+
 static size_t moved(int file, size_t size)
 {
     return file != 2 && size > 1 && is_chosen(SHORT) ? 1 : size;
@@ -178,17 +221,21 @@ ssize_t write(int file, const void *from, size_t size)
 
 ssize_t pread(int file, void *to, size_t size, off_t at)
 {
-    return fails(file) ? -1 : real_pread(file, to, moved(file, size), at);
+    return fails_at(file) ? -1 : real_pread(file, to, moved(file, size), at);
 }
 
 ssize_t pwrite(int file, const void *from, size_t size, off_t at)
 {
-    return fails(file) ? -1 : real_pwrite(file, from, moved(file, size), at);
+    note_write(size, at);
+    return fails_at(file) ? -1 : real_pwrite(file, from, moved(file, size), at);
 }
 
 int fsync(int file)
 {
-    return fails(file) ? -1 : real_fsync(file);
+    if (fails_at(file) || real_fsync(file))
+        return -1;
+    note_sync(file);
+    return 0;
 }
 
 /* It need not keep a file's length, so it is no fsync: a program that takes it for one fails here. */

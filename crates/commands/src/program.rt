@@ -63,66 +63,6 @@ fn perform_script<R: AllocGlobal + Threads + Wait + Sync, W: Write>(
     }
 }
 
-/// Makes the image's file, and formats it.
-fn format_file<R: AllocGlobal + Threads + Wait + Sync, W: Write>(
-    rt: &HostRuntime,
-    threads: &R,
-    command: Command<'_>,
-    path: &str,
-    out: &mut W,
-) -> Result<u8, Fault> {
-    let (board, image) = read_image_board(rt, path)?;
-    let length = Layout::of(&board).length();
-    let disk = create_image(rt, image.as_str(), path, length)?;
-    Ok(perform_on(rt, threads, command, &board, "", disk, out))
-}
-
-/// Performs a command on an image that is only read.
-fn show_file<R: AllocGlobal + Threads + Wait + Sync, W: Write>(
-    rt: &HostRuntime,
-    threads: &R,
-    command: Command<'_>,
-    path: &str,
-    out: &mut W,
-) -> Result<u8, Fault>
-    requires { ¬ IsFormat command }
-{
-    let (board, image) = read_image_board(rt, path)?;
-    let disk = open_shown(rt, image.as_str())?;
-    Ok(perform_on(rt, threads, command, &board, "", disk, out))
-}
-
-/// Performs a command that writes to an image that is there.
-fn upgrade_file<R: AllocGlobal + Threads + Wait + Sync, W: Write>(
-    rt: &HostRuntime,
-    threads: &R,
-    command: Command<'_>,
-    path: &str,
-    out: &mut W,
-) -> Result<u8, Fault>
-    requires { ¬ IsFormat command }
-{
-    let (board, image) = read_image_board(rt, path)?;
-    let disk = open_image(rt, image.as_str())?;
-    Ok(perform_on(rt, threads, command, &board, "", disk, out))
-}
-
-/// Reads the script of a command, and performs that.
-fn perform_script_file<R: AllocGlobal + Threads + Wait + Sync, W: Write>(
-    rt: &HostRuntime,
-    threads: &R,
-    command: Command<'_>,
-    path: &str,
-    script: &str,
-    out: &mut W,
-) -> Result<u8, Fault>
-    requires { ¬ IsFormat command }
-{
-    let (board, image) = read_board_file(rt, path)?;
-    let script = read_text(rt, script)?;
-    perform_script(rt, threads, command, &board, script.as_str(), image, out)
-}
-
 /// Reads the files that the command names, and performs it on them.
 fn perform_on_files<R: AllocGlobal + Threads + Wait + Sync, W: Write>(
     rt: &HostRuntime,
@@ -131,11 +71,26 @@ fn perform_on_files<R: AllocGlobal + Threads + Wait + Sync, W: Write>(
     out: &mut W,
 ) -> Result<u8, Fault> {
     match command {
-        Command::Format { board } => format_file(rt, threads, command, board, out),
-        Command::Show { board } => show_file(rt, threads, command, board, out),
-        Command::Upgrade { board } => upgrade_file(rt, threads, command, board, out),
+        Command::Format { board: path } => {
+            let (board, image) = read_image_board(rt, path)?;
+            let length = Layout::of(&board).length();
+            let disk = create_image(rt, image.as_str(), path, length)?;
+            Ok(perform_on(rt, threads, command, &board, "", disk, out))
+        }
+        Command::Show { board } => {
+            let (board, image) = read_image_board(rt, board)?;
+            let disk = open_shown(rt, image.as_str())?;
+            Ok(perform_on(rt, threads, command, &board, "", disk, out))
+        }
+        Command::Upgrade { board } => {
+            let (board, image) = read_image_board(rt, board)?;
+            let disk = open_image(rt, image.as_str())?;
+            Ok(perform_on(rt, threads, command, &board, "", disk, out))
+        }
         Command::Run { board, script } | Command::Serve { board, script } => {
-            perform_script_file(rt, threads, command, board, script, out)
+            let (board, image) = read_board_file(rt, board)?;
+            let script = read_text(rt, script)?;
+            perform_script(rt, threads, command, &board, script.as_str(), image, out)
         }
     }
 }

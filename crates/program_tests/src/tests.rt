@@ -1,9 +1,0 @@
-mod boards;
-mod cases;
-mod files;
-mod held;
-mod performing;
-mod scripts;
-mod statuses;
-mod texts;
-mod words;
