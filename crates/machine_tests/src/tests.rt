@@ -1,5 +1,6 @@
 mod answers;
 mod offers;
+mod playing;
 mod ranges;
 mod rig;
 mod settings;

@@ -1,7 +1,7 @@
 //! Requests and their answers, over completions, stops and failures.
 use crate::tests::offers::{Asked, COUNTED, NO_KEY, NOTHING, PROGRAMMED, ending, offer};
-use crate::tests::rig::{Monitor, Rig, check, new_rig, opened, window_at};
-use machine::Machine;
+use crate::tests::playing::{Acts, left, left_of_fresh, play};
+use crate::tests::rig::{Monitor, Rig, check, window_at};
 use std::test::Fail;
 
 /// The guest asks as its n-th chain, and is served until no sync is awaited.
@@ -11,14 +11,8 @@ fn ask<M: Monitor>(rig: &mut Rig<M>, guest: u16, n: u8, asked: Asked) -> Result<
     ending(rig, guest, n)
 }
 
-/// A rig of one guest whose device is in service.
-fn one(rt: &HostRuntime) -> Result<Rig<Machine>, Fail> {
-    let mut rig = new_rig(rt.alloc(), &[window_at(0)])?;
+pub fn key_and_counter<M: Monitor>(rig: &mut Rig<M>) -> Result<(), Fail> {
     rig.set_up(0)?;
-    Ok(rig)
-}
-
-fn key_and_counter<M: Monitor>(rig: &mut Rig<M>) -> Result<(), Fail> {
     check(
         ask(rig, 0, 0, Asked::Counter)? == NO_KEY,
         "a counter of no key",
@@ -38,8 +32,7 @@ fn key_and_counter<M: Monitor>(rig: &mut Rig<M>) -> Result<(), Fail> {
 
 #[test]
 fn requests_get_their_answers(rt: HostRuntime) -> Result<(), Fail> {
-    let mut rig = one(&rt)?;
-    key_and_counter(&mut rig)
+    play(rt.alloc(), &[window_at(0)], Acts::KeyAndCounter)
 }
 
 /// A key's writes are taken, and the monitor stops before it tells a sync.
@@ -54,50 +47,59 @@ fn stop_within<M: Monitor>(rig: &mut Rig<M>, makes: bool) -> Result<(), Fail> {
     check(ending(rig, 0, 0)? == NOTHING, "a reply before its sync")
 }
 
-/// What the counter says after an opening of the image.
-fn reopened(rt: &HostRuntime, image: Vec<u8>) -> Result<[u8; 4], Fail> {
-    let mut rig = opened(rt.alloc(), &[window_at(0)], image)?;
+/// The same, and what was taken isn't made.
+pub fn stop_within_a_key<M: Monitor>(rig: &mut Rig<M>) -> Result<(), Fail> {
     rig.set_up(0)?;
-    ask(&mut rig, 0, 0, Asked::Counter)
+    stop_within(rig, false)
+}
+
+pub fn has_key<M: Monitor>(rig: &mut Rig<M>) -> Result<(), Fail> {
+    rig.set_up(0)?;
+    check(ask(rig, 0, 0, Asked::Key)? == PROGRAMMED, "a key")
+}
+
+/// What the counter says, after an opening of an image.
+pub fn has_counter<M: Monitor>(rig: &mut Rig<M>, end: [u8; 4]) -> Result<(), Fail> {
+    rig.set_up(0)?;
+    check(ask(rig, 0, 0, Asked::Counter)? == end, "another counter")
 }
 
 #[test]
 fn a_stop_before_a_sync_takes_nothing_back(rt: HostRuntime) -> Result<(), Fail> {
-    let mut rig = one(&rt)?;
-    stop_within(&mut rig, false)?;
-    check(
-        reopened(&rt, rig.image)? == NO_KEY,
-        "a key that nobody made",
-    )
+    let windows = [window_at(0)];
+    let image = left_of_fresh(rt.alloc(), &windows, Acts::StopWithinAKey)?;
+    left(rt.alloc(), &windows, image, Acts::Counter(NO_KEY))?;
+    Ok(())
 }
 
 #[test]
 fn what_was_told_stands_after_an_opening(rt: HostRuntime) -> Result<(), Fail> {
-    let mut rig = one(&rt)?;
-    check(ask(&mut rig, 0, 0, Asked::Key)? == PROGRAMMED, "a key")?;
-    check(reopened(&rt, rig.image)? == COUNTED, "a key that is gone")
+    let windows = [window_at(0)];
+    let image = left_of_fresh(rt.alloc(), &windows, Acts::Key)?;
+    left(rt.alloc(), &windows, image, Acts::Counter(COUNTED))?;
+    Ok(())
 }
 
 /// A sync that failed: the reply becomes a failure, and nothing more is accepted.
-fn fail<M: Monitor>(rig: &mut Rig<M>) -> Result<(), Fail> {
+pub fn fail<M: Monitor>(rig: &mut Rig<M>) -> Result<(), Fail> {
+    rig.set_up(0)?;
     check(!rig.monitor.tell(true), "a success that nobody awaits")?;
     stop_within(rig, true)?;
     check(rig.monitor.tell(false), "a failure is refused")?;
     check(!rig.serve(0)?, "a sync after a failure")?;
     check(rig.answered == 1, "no reply after a failure")?;
     let end = ending(rig, 0, 0)?;
-    check(end[1] != 0 && end[2] == 1, "a success after a failure")
+    check(end[1] != 0 && end[2] == 1, "a success after a failure")?;
+    check(rig.monitor.broke(), "a board that goes on")
 }
 
 #[test]
 fn a_failed_sync_makes_failures(rt: HostRuntime) -> Result<(), Fail> {
-    let mut rig = one(&rt)?;
-    fail(&mut rig)?;
-    check(rig.monitor.is_broken(), "a board that goes on")
+    play(rt.alloc(), &[window_at(0)], Acts::Failure)
 }
 
 /// Of two guests one has a key.
-fn keep_apart<M: Monitor>(rig: &mut Rig<M>) -> Result<(), Fail> {
+pub fn keep_apart<M: Monitor>(rig: &mut Rig<M>) -> Result<(), Fail> {
     rig.set_up(0)?;
     rig.set_up(1)?;
     check(
@@ -117,12 +119,12 @@ fn keep_apart<M: Monitor>(rig: &mut Rig<M>) -> Result<(), Fail> {
 
 #[test]
 fn guests_have_keys_of_their_own(rt: HostRuntime) -> Result<(), Fail> {
-    let mut rig = new_rig(rt.alloc(), &[window_at(0), window_at(0)])?;
-    keep_apart(&mut rig)
+    play(rt.alloc(), &[window_at(0), window_at(0)], Acts::TwoGuests)
 }
 
 /// While one chain waits, no second is taken.
-fn take_turns<M: Monitor>(rig: &mut Rig<M>) -> Result<(), Fail> {
+pub fn take_turns<M: Monitor>(rig: &mut Rig<M>) -> Result<(), Fail> {
+    rig.set_up(0)?;
     offer(rig, 0, 0, Asked::Key)?;
     offer(rig, 0, 1, Asked::Counter)?;
     check(rig.serve(0)?, "no sync is awaited")?;
@@ -139,7 +141,5 @@ fn take_turns<M: Monitor>(rig: &mut Rig<M>) -> Result<(), Fail> {
 fn one_chain_waits_at_once(rt: HostRuntime) -> Result<(), Fail> {
     let mut window = window_at(0);
     window.most = 1;
-    let mut rig = new_rig(rt.alloc(), &[window])?;
-    rig.set_up(0)?;
-    take_turns(&mut rig)
+    play(rt.alloc(), &[window], Acts::Turns)
 }

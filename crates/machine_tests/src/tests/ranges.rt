@@ -1,6 +1,7 @@
 //! What a serve tells of what it wrote, and where a window stands.
 use crate::tests::offers::{Asked, NO_KEY, ending, offer, reply_at};
-use crate::tests::rig::{Monitor, Rig, check, new_rig, window_at};
+use crate::tests::playing::{Acts, play};
+use crate::tests::rig::{Monitor, Rig, check, window_at};
 use machine::{Range, image_length};
 use std::test::Fail;
 
@@ -33,15 +34,20 @@ fn tell_two<M: Monitor>(rig: &mut Rig<M>, base: u64) -> Result<(), Fail> {
     check(ending(rig, 0, 0)? == NO_KEY, "a counter of no key")
 }
 
+/// The same of a window at 0.
+pub fn two_ranges<M: Monitor>(rig: &mut Rig<M>) -> Result<(), Fail> {
+    rig.set_up(0)?;
+    tell_two(rig, 0)
+}
+
 #[test]
 fn each_part_is_told(rt: HostRuntime) -> Result<(), Fail> {
-    let mut rig = new_rig(rt.alloc(), &[window_at(0)])?;
-    rig.set_up(0)?;
-    tell_two(&mut rig, 0)
+    play(rt.alloc(), &[window_at(0)], Acts::TwoRanges)
 }
 
 /// With room for one range, it spans both.
-fn tell_one<M: Monitor>(rig: &mut Rig<M>) -> Result<(), Fail> {
+pub fn tell_one<M: Monitor>(rig: &mut Rig<M>) -> Result<(), Fail> {
+    rig.set_up(0)?;
     let mut ranges = [Range { at: 0, len: 0 }];
     check(serve_once(rig, &mut ranges)? == 1, "one range")?;
     let all = Range {
@@ -53,35 +59,33 @@ fn tell_one<M: Monitor>(rig: &mut Rig<M>) -> Result<(), Fail> {
 
 #[test]
 fn one_range_grows_over_all(rt: HostRuntime) -> Result<(), Fail> {
-    let mut rig = new_rig(rt.alloc(), &[window_at(0)])?;
-    rig.set_up(0)?;
-    tell_one(&mut rig)
+    play(rt.alloc(), &[window_at(0)], Acts::OneRange)
 }
 
-fn refuse_outside<M: Monitor>(rig: &mut Rig<M>) -> Result<(), Fail> {
+/// Stores and loads beside the window are refused; then a request of it is told by its addresses.
+pub fn refuse_outside<M: Monitor>(rig: &mut Rig<M>, base: u64) -> Result<(), Fail> {
+    rig.set_up(0)?;
     let mut byte = [0];
     check(!rig.monitor.put(0, 0, &byte), "a store below the window")?;
     check(
-        !rig.monitor.look(0, BASE - 1, &mut byte),
+        !rig.monitor.look(0, base.saturating_sub(1), &mut byte),
         "a load below the window",
     )?;
     check(
-        !rig.monitor.put(0, BASE + 65_536, &byte),
+        !rig.monitor.put(0, base.saturating_add(65_536), &byte),
         "a store above the window",
     )?;
-    check(!rig.monitor.put(1, BASE, &byte), "a store of no guest")?;
+    check(!rig.monitor.put(1, base, &byte), "a store of no guest")?;
     check(
-        rig.monitor.put(0, BASE + 65_535, &byte),
+        rig.monitor.put(0, base.saturating_add(65_535), &byte),
         "no store at the end",
-    )
+    )?;
+    tell_two(rig, base)
 }
 
 #[test]
 fn a_window_begins_at_its_base(rt: HostRuntime) -> Result<(), Fail> {
-    let mut rig = new_rig(rt.alloc(), &[window_at(BASE)])?;
-    rig.set_up(0)?;
-    refuse_outside(&mut rig)?;
-    tell_two(&mut rig, BASE)
+    play(rt.alloc(), &[window_at(BASE)], Acts::Outside(BASE))
 }
 
 #[test]

@@ -75,6 +75,9 @@ pub trait Monitor: Drop {
     fn take_write(&mut self, out: &mut [u8]) -> Option<(u64, usize)>;
 
     fn tell(&mut self, succeeded: bool) -> bool;
+
+    /// Whether a call of its disk has failed.
+    fn broke(&self) -> bool;
 }
 
 impl Monitor for Machine {
@@ -107,6 +110,10 @@ impl Monitor for Machine {
 
     fn tell(&mut self, succeeded: bool) -> bool {
         self.completed(succeeded).is_ok()
+    }
+
+    fn broke(&self) -> bool {
+        self.is_broken()
     }
 }
 
@@ -173,12 +180,6 @@ pub fn opened(alloc: Global, windows: &[Window], image: Vec<u8>) -> Result<Rig<M
         None => 0,
     };
     rig_of(alloc, machine, image, base)
-}
-
-/// A machine over a fresh image.
-pub fn new_rig(alloc: Global, windows: &[Window]) -> Result<Rig<Machine>, Fail> {
-    let image = fresh_image(alloc, windows)?;
-    opened(alloc, windows, image)
 }
 
 impl<M: Monitor> Rig<M> {

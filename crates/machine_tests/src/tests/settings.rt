@@ -1,5 +1,6 @@
 //! What a monitor asks beside the plain device.
-use crate::tests::rig::{Monitor, Rig, check, new_rig, window_at};
+use crate::tests::playing::{Acts, play};
+use crate::tests::rig::{Monitor, Rig, check, window_at};
 use mmio_transport::register as reg;
 use std::test::Fail;
 
@@ -14,7 +15,7 @@ fn offered<M: Monitor>(rig: &mut Rig<M>, half: u32) -> u32 {
     rig.monitor.see(0, reg::DEVICE_FEATURES)
 }
 
-fn plain<M: Monitor>(rig: &mut Rig<M>) -> Result<(), Fail> {
+pub fn plain<M: Monitor>(rig: &mut Rig<M>) -> Result<(), Fail> {
     check(offered(rig, 0) & INDIRECT != 0, "no indirect descriptors")?;
     check(offered(rig, 1) & PLATFORM == 0, "ACCESS_PLATFORM")?;
     check(
@@ -27,11 +28,10 @@ fn plain<M: Monitor>(rig: &mut Rig<M>) -> Result<(), Fail> {
 
 #[test]
 fn a_plain_device_offers_what_it_has(rt: HostRuntime) -> Result<(), Fail> {
-    let mut rig = new_rig(rt.alloc(), &[window_at(0)])?;
-    plain(&mut rig)
+    play(rt.alloc(), &[window_at(0)], Acts::Plain)
 }
 
-fn asked<M: Monitor>(rig: &mut Rig<M>) -> Result<(), Fail> {
+pub fn asked<M: Monitor>(rig: &mut Rig<M>) -> Result<(), Fail> {
     check(
         offered(rig, 0) & INDIRECT == 0,
         "a feature that is withheld",
@@ -51,6 +51,5 @@ fn features_are_withheld_and_shown(rt: HostRuntime) -> Result<(), Fail> {
     window.withheld = u64::from(INDIRECT);
     window.capped = true;
     window.platform = true;
-    let mut rig = new_rig(rt.alloc(), &[window])?;
-    asked(&mut rig)
+    play(rt.alloc(), &[window], Acts::Asked)
 }
