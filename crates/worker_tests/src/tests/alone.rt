@@ -15,7 +15,7 @@ use workers::{DriverEnd, Open, Order, Script};
 
 /// A script of a guest of this number: its own key, its counter under several nonces, a reset
 /// between.
-pub fn script_of(alloc: Global, guest: u8) -> Result<Script, Fail> {
+pub fn script_of(alloc: Global, guest: u8) -> Option<Script> {
     let steps = [
         Step::Counter(guest),
         Step::Key,
@@ -29,44 +29,53 @@ pub fn script_of(alloc: Global, guest: u8) -> Result<Script, Fail> {
     script_of_steps(alloc, &[guest; 32], &steps)
 }
 
-fn scripts_of(alloc: Global, guests: u8) -> Result<Vec<Script>, Fail> {
+fn scripts_of(alloc: Global, guests: u8) -> Option<Vec<Script>> {
     let mut scripts = Vec::new(alloc);
     for guest in 0..guests {
-        scripts.push(script_of(alloc, guest)?)?;
+        let Some(script) = script_of(alloc, guest) else {
+            return None;
+        };
+
+        if scripts.push(script).is_err() {
+            return None;
+        }
     }
-    Ok(scripts)
+    Some(scripts)
 }
 
 /// A host on this disk.
-fn host_on(alloc: Global, disk: MemDisk, board: &BoardConfig) -> Result<Host<MemDisk>, Fail> {
+fn host_on(alloc: Global, disk: MemDisk, board: &BoardConfig) -> Option<Host<MemDisk>> {
     match Board::open(alloc, disk, 1, board) {
         Ok(opened) => match Host::new(alloc, opened, board) {
-            Ok(host) => Ok(host),
-            Err(_) => Err(Fail::from("no memory")),
+            Ok(host) => Some(host),
+            Err(_) => None,
         },
-        Err(_) => Err(Fail::from("an image that isn't opened")),
+        Err(_) => None,
     }
 }
 
 /// A host on a fresh image of so many guests.
-fn host_of(alloc: Global, guests: usize) -> Result<Host<MemDisk>, Fail> {
-    let board = board_of(alloc, guests)?;
-    host_on(alloc, formatted_in_memory(alloc, guests)?, &board)
+fn host_of(alloc: Global, guests: usize) -> Option<Host<MemDisk>> {
+    let Some(board) = board_of(alloc, guests) else {
+        return None;
+    };
+    let Some(disk) = formatted_in_memory(alloc, guests) else {
+        return None;
+    };
+    host_on(alloc, disk, &board)
 }
 
 /// The reply of a host to one chain; none to a reset.
-fn reply_alone(
-    host: &mut Host<MemDisk>,
-    guest: u16,
-    order: &Order,
-) -> Result<Option<Vec<u8>>, Fail> {
+fn reply_alone(host: &mut Host<MemDisk>, guest: u16, order: &Order) -> Option<Option<Vec<u8>>> {
     let Order::Chain(chain) = order else {
-        check(host.reset(guest).is_ok(), "no such guest")?;
-        return Ok(None);
+        if host.reset(guest).is_err() {
+            return None;
+        }
+        return Some(None);
     };
     match host.chain(guest, chain.readable(), chain.writable()) {
-        Ok(Answer::Used(reply)) => Ok(Some(reply)),
-        _ => Err(Fail::from("no answer alone")),
+        Ok(Answer::Used(reply)) => Some(Some(reply)),
+        _ => None,
     }
 }
 
@@ -76,14 +85,21 @@ fn replies_alone(
     host: &mut Host<MemDisk>,
     guest: u16,
     orders: &[Order],
-) -> Result<Vec<Vec<u8>>, Fail> {
-    let mut replies = Vec::with_capacity(alloc, orders.len())?;
+) -> Option<Vec<Vec<u8>>> {
+    let Ok(mut replies) = Vec::with_capacity(alloc, orders.len()) else {
+        return None;
+    };
     for order in orders {
-        if let Some(reply) = reply_alone(host, guest, order)? {
-            replies.push(reply)?;
+        let Some(told) = reply_alone(host, guest, order) else {
+            return None;
+        };
+        if let Some(reply) = told {
+            if replies.push(reply).is_err() {
+                return None;
+            }
         }
     }
-    Ok(replies)
+    Some(replies)
 }
 
 /// Appends what the host tells a guest.
@@ -93,10 +109,11 @@ fn tell(
     guest: u16,
     orders: &[Order],
     all: &mut Vec<Vec<Vec<u8>>>,
-) -> Result<(), Fail> {
-    let replies = replies_alone(alloc, host, guest, orders)?;
-    all.push(replies)?;
-    Ok(())
+) -> bool {
+    let Some(replies) = replies_alone(alloc, host, guest, orders) else {
+        return false;
+    };
+    all.push(replies).is_ok()
 }
 
 /// The same for all guests, each in turn.
@@ -105,19 +122,25 @@ fn tell_all(
     host: &mut Host<MemDisk>,
     scripts: &[Script],
     all: &mut Vec<Vec<Vec<u8>>>,
-) -> Result<(), Fail> {
+) -> bool {
     for (guest, script) in (0..u16::MAX).zip(scripts.iter()) {
-        tell(alloc, host, guest, script.orders(), all)?;
+        if !tell(alloc, host, guest, script.orders(), all) {
+            return false;
+        }
     }
-    Ok(())
+    true
 }
 
 /// What all guests are told alone, by a host on a fresh image.
-pub fn all_alone(alloc: Global, scripts: &[Script]) -> Result<Vec<Vec<Vec<u8>>>, Fail> {
-    let mut host = host_of(alloc, scripts.len())?;
+pub fn all_alone(alloc: Global, scripts: &[Script]) -> Option<Vec<Vec<Vec<u8>>>> {
+    let Some(mut host) = host_of(alloc, scripts.len()) else {
+        return None;
+    };
     let mut all = Vec::new(alloc);
-    tell_all(alloc, &mut host, scripts, &mut all)?;
-    Ok(all)
+    if !tell_all(alloc, &mut host, scripts, &mut all) {
+        return None;
+    }
+    Some(all)
 }
 
 /// Whether these are the replies.
@@ -142,23 +165,35 @@ pub fn are_all_told(drivers: &[DriverEnd], alone: &[Vec<Vec<u8>>]) -> bool {
 }
 
 /// The guests of a run were told what each is told alone.
-fn check_ran(alloc: Global, ran: &Ran, scripts: &[Script]) -> Result<(), Fail> {
-    ran.check_end()?;
-    let alone = all_alone(alloc, scripts)?;
+fn check_ran(alloc: Global, ran: &Ran, scripts: &[Script]) -> bool {
+    if !ran.check_end() {
+        return false;
+    }
+    let Some(alone) = all_alone(alloc, scripts) else {
+        return false;
+    };
     let are_told = are_all_told(&ran.drivers, &alone);
-    check(are_told, "another answer than alone")
+    are_told
 }
 
 /// So many guests are told at once what each is told alone.
-fn are_told_alike<R: Threads + Wait + Sync>(rt: &R, alloc: Global, guests: u8) -> Result<(), Fail> {
-    let scripts = scripts_of(alloc, guests)?;
-    let disk = formatted(alloc, scripts.len())?;
-    let ran = run_on(rt, alloc, disk, &scripts, &Open)?;
+fn are_told_alike<R: Threads + Wait + Sync>(rt: &R, alloc: Global, guests: u8) -> bool {
+    let Some(scripts) = scripts_of(alloc, guests) else {
+        return false;
+    };
+    let Some(disk) = formatted(alloc, scripts.len()) else {
+        return false;
+    };
+    let Some(ran) = run_on(rt, alloc, disk, &scripts, &Open) else {
+        return false;
+    };
     check_ran(alloc, &ran, &scripts)
 }
 
 #[test]
 fn guests_are_told_at_once_what_each_is_told_alone(rt: HostRuntime) -> Result<(), Fail> {
-    are_told_alike(&rt, rt.alloc(), 1)?;
-    are_told_alike(&rt, rt.alloc(), 8)
+    check(
+        are_told_alike(&rt, rt.alloc(), 1) && are_told_alike(&rt, rt.alloc(), 8),
+        "another outcome",
+    )
 }

@@ -1,5 +1,5 @@
 //! Scripts of two hundred chains, in which a guest asks for all that there is to ask for.
-use crate::tests::scene::{chain, get_write_counter, program_key, result_read};
+use crate::tests::scene::{adds, chain, get_write_counter, program_key, result_read, script_where};
 use hmac256::mac_of;
 use rpmb_frame::Frame;
 use std::alloc::Global;
@@ -55,7 +55,7 @@ pub fn read_of(nonce: u128, address: u16) -> [[u8; 512]; 1] {
 }
 
 /// A guest's chain of this number, where it has made so many writes.
-fn chain_of(alloc: Global, guest: u8, turn: u8, written: u32, ask: Ask) -> Result<Order, Fail> {
+fn chain_of(alloc: Global, guest: u8, turn: u8, written: u32, ask: Ask) -> Option<Order> {
     let nonce = u128::from_be_bytes([turn, guest, 1, 2, 3, 4, 5, 6, 7, 8, 9, 10, 11, 12, 13, 14]);
     let address = u16::from(turn % 8);
     match ask {
@@ -65,31 +65,33 @@ fn chain_of(alloc: Global, guest: u8, turn: u8, written: u32, ask: Ask) -> Resul
         Ask::Outcome => chain(alloc, &[result_read()]),
         Ask::Unknown => chain(alloc, &[Frame::zeros().with_req_resp(0x0077).to_bytes()]),
         Ask::Garbage => {
-            let few = vec![in alloc; turn; 100]?;
+            let Ok(few) = vec![in alloc; turn; 100] else {
+                return None;
+            };
             if few.len() != 100 {
-                return Err(Fail::from("another length"));
+                return None;
             }
-            Ok(Order::Chain(Chain::new(few, 512)))
-        }
+            Some(Order::Chain(Chain::new(few, 512)))
+        },
     }
 }
 
 /// A guest's script of two hundred chains and a reset: it asks for the counter before it has a key,
 /// and then for all, in an order of its own.
-pub fn script_of(alloc: Global, guest: u8, salt: u8) -> Result<Script, Fail> {
-    let mut orders = Vec::with_capacity(alloc, 201)?;
-    orders.push(chain(alloc, &get_write_counter(u128::from(salt)))?)?;
-    orders.push(chain(alloc, &program_key(&[guest; 32]))?)?;
+pub fn script_of(alloc: Global, guest: u8, salt: u8) -> Option<Script> {
+    let mut orders = Vec::new(alloc);
+    let mut made = adds(
+        &mut orders,
+        chain(alloc, &get_write_counter(u128::from(salt))),
+    ) && adds(&mut orders, chain(alloc, &program_key(&[guest; 32])));
     let mut written = 0_u32;
     for turn in 2..200_u8 {
         if turn == 60 + guest % 64 {
-            orders.push(Order::Reset)?;
+            made = made && orders.push(Order::Reset).is_ok();
         }
         let ask = ask_of(turn.wrapping_add(guest).wrapping_add(salt.wrapping_mul(7)));
-        orders.push(chain_of(alloc, guest, turn, written, ask)?)?;
-        if let Ask::Write = ask {
-            written = written.wrapping_add(1);
-        }
+        made = made && adds(&mut orders, chain_of(alloc, guest, turn, written, ask));
+        written = written.wrapping_add(u32::from(matches!(ask, Ask::Write)));
     }
-    Ok(Script::new(orders))
+    script_where(made, orders)
 }

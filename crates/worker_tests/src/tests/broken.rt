@@ -4,8 +4,8 @@
 use crate::tests::asking::{read_of, write_of};
 use crate::tests::behind::BehindDisk;
 use crate::tests::scene::{
-    KEY, Ran, board_of, chain, check, formatted, get_write_counter, outcome_on, program_key,
-    tail_of,
+    KEY, Ran, adds, board_of, chain, check, formatted, get_write_counter, outcome_on, program_key,
+    script_where, tail_of,
 };
 use disk::CutDisk;
 use host::{Answer, HostFault};
@@ -27,7 +27,7 @@ fn byte_of(guest: u16) -> u8 {
 }
 
 /// A guest's write of block 0. Guest 2 asks for no result of it.
-fn write_chain(alloc: Global, guest: u16) -> Result<Order, Fail> {
+fn write_chain(alloc: Global, guest: u16) -> Option<Order> {
     let write = write_of(&KEY, 0, 0, byte_of(guest));
     if guest == 2 {
         return chain(alloc, &write[..1]);
@@ -36,28 +36,34 @@ fn write_chain(alloc: Global, guest: u16) -> Result<Order, Fail> {
 }
 
 /// A guest programs its key, writes block 0, reads it, and asks for its counter.
-fn script_of(alloc: Global, guest: u16) -> Result<Script, Fail> {
+fn script_of(alloc: Global, guest: u16) -> Option<Script> {
     let mut orders = Vec::new(alloc);
-    orders.push(chain(alloc, &program_key(&KEY))?)?;
-    orders.push(write_chain(alloc, guest)?)?;
-    orders.push(chain(alloc, &read_of(7, 0))?)?;
-    orders.push(chain(alloc, &get_write_counter(9))?)?;
-    Ok(Script::new(orders))
+    let made = adds(&mut orders, chain(alloc, &program_key(&KEY)))
+        && adds(&mut orders, write_chain(alloc, guest))
+        && adds(&mut orders, chain(alloc, &read_of(7, 0)))
+        && adds(&mut orders, chain(alloc, &get_write_counter(9)));
+    script_where(made, orders)
 }
 
-fn scripts(alloc: Global) -> Result<[Script; 3], Fail> {
-    let first = script_of(alloc, 0)?;
-    let second = script_of(alloc, 1)?;
-    let third = script_of(alloc, 2)?;
-    Ok([first, second, third])
+fn scripts(alloc: Global) -> Option<[Script; 3]> {
+    let Some(first) = script_of(alloc, 0) else {
+        return None;
+    };
+    let Some(second) = script_of(alloc, 1) else {
+        return None;
+    };
+    let Some(third) = script_of(alloc, 2) else {
+        return None;
+    };
+    Some([first, second, third])
 }
 
 type Failing = BehindDisk<CutDisk>;
 
 /// What a run left: what the guests were told, and the disk.
-fn ended(outcome: Result<Ended<Failing>, HostFault>) -> Result<(Ran, Failing), Fail> {
+fn ended(outcome: Result<Ended<Failing>, HostFault>) -> Option<(Ran, Failing)> {
     let Ok(ended) = outcome else {
-        return Err(Fail::from("a fault"));
+        return None;
     };
     let Ended {
         book,
@@ -73,21 +79,25 @@ fn ended(outcome: Result<Ended<Failing>, HostFault>) -> Result<(Ran, Failing), F
         turns: book.submit_turns(),
         drivers,
     };
-    Ok((ran, store.into_disk()))
+    Some((ran, store.into_disk()))
 }
 
 /// A run on a fresh image, whose k-th call behind the opening fails; with 0 none.
-fn run_failing<R: Threads + Wait + Sync>(
-    rt: &R,
-    alloc: Global,
-    k: u64,
-) -> Result<(Ran, Failing), Fail> {
-    let mut disk = formatted(alloc, 3)?;
+fn run_failing<R: Threads + Wait + Sync>(rt: &R, alloc: Global, k: u64) -> Option<(Ran, Failing)> {
+    let Some(mut disk) = formatted(alloc, 3) else {
+        return None;
+    };
     if k > 0 {
         disk.fail(OPENING.saturating_add(k));
     }
     let disk = BehindDisk { disk, behind: 0 };
-    ended(outcome_on(rt, alloc, disk, &scripts(alloc)?, &Open)?)
+    let Some(scripts) = scripts(alloc) else {
+        return None;
+    };
+    let Some(outcome) = outcome_on(rt, alloc, disk, &scripts, &Open) else {
+        return None;
+    };
+    ended(outcome)
 }
 
 /// The tails of a guest's replies where nothing fails: write counter, address, block count, result
@@ -122,16 +132,22 @@ fn is_right(answer: Option<&Answer>, guest: usize, number: usize) -> bool {
 }
 
 /// All of a run in which nothing failed.
-fn check_undisturbed(ran: &Ran) -> Result<(), Fail> {
-    check(!ran.broken && ran.turns == 12, "a broken store")?;
+fn check_undisturbed(ran: &Ran) -> bool {
+    if ran.broken || ran.turns != 12 {
+        return false;
+    }
     for (guest, driver) in ran.drivers.iter().enumerate() {
-        check(driver.answers.len() == 4, "four answers")?;
+        if driver.answers.len() != 4 {
+            return false;
+        }
         for number in 0..4 {
             let right = is_right(driver.answers.get(number), guest, number);
-            check(right, "another reply")?;
+            if !right {
+                return false;
+            }
         }
     }
-    Ok(())
+    true
 }
 
 /// A failure: a frame of zeros but for its result and its type.
@@ -243,75 +259,78 @@ fn is_after(partition: &Partition, guest: u16, changes: u64) -> bool {
 }
 
 /// A partition has all that the guest was shown, and no more than was accepted.
-fn check_partition(partition: &Partition, guest: u16, told: Told) -> Result<(), Fail> {
+fn check_partition(partition: &Partition, guest: u16, told: Told) -> bool {
     let changes = partition.sequence();
-    check(
-        told.least <= changes && changes <= told.most && changes <= 2,
-        "another number of changes",
-    )?;
-    check(is_after(partition, guest, changes), "another partition")
+    told.least <= changes
+        && changes <= told.most
+        && changes <= 2
+        && is_after(partition, guest, changes)
 }
 
 /// The partitions that the disk opens to.
-fn partitions_of(alloc: Global, disk: CutDisk) -> Result<Vec<Partition>, Fail> {
+fn partitions_of(alloc: Global, disk: CutDisk) -> Option<Vec<Partition>> {
     let mut disk = disk;
     // Where no call was chosen that was made, none of the opening is.
     disk.fail(0);
-    match open(alloc, disk, &board_of(alloc, 3)?) {
-        Ok((_, partitions)) => Ok(partitions),
-        Err((_, fault)) => Err(Fail::from(fault)),
+    let Some(board) = board_of(alloc, 3) else {
+        return None;
+    };
+    match open(alloc, disk, &board) {
+        Ok((_, partitions)) => Some(partitions),
+        Err(_) => None,
     }
 }
 
 /// What each guest was told, and its partition.
-fn check_guests(ran: &Ran, alone: &Ran, partitions: &[Partition]) -> Result<(), Fail> {
-    check(
-        partitions.len() == 3 && ran.drivers.len() == 3,
-        "three guests",
-    )?;
+fn check_guests(ran: &Ran, alone: &Ran, partitions: &[Partition]) -> bool {
+    if partitions.len() != 3 || ran.drivers.len() != 3 {
+        return false;
+    }
     let both = ran.drivers.iter().zip(alone.drivers.iter());
     for (guest, ((driver, alone), partition)) in both.zip(partitions.iter()).enumerate() {
         let Some(told) = told_by(driver, alone) else {
-            return Err(Fail::from("another reply"));
+            return false;
         };
-        check(told.right || ran.broken, "a failure without a failed call")?;
-        check_partition(partition, (guest % 64) as u16, told)?;
+        if !(told.right || ran.broken) || !check_partition(partition, (guest % 64) as u16, told) {
+            return false;
+        }
     }
-    Ok(())
+    true
 }
 
 /// A run whose k-th call fails, beside one where none does; whether it had so many.
-fn breaks_at<R: Threads + Wait + Sync>(
-    rt: &R,
-    alloc: Global,
-    k: u64,
-    alone: &Ran,
-) -> Result<bool, Fail> {
-    let (ran, disk) = run_failing(rt, alloc, k)?;
-    check(
-        ran.turns == 12 && disk.behind == 0,
-        "a call behind the failed one",
-    )?;
-    let partitions = partitions_of(alloc, disk.disk)?;
-    check_guests(&ran, alone, &partitions)?;
-    Ok(ran.broken)
+fn breaks_at<R: Threads + Wait + Sync>(rt: &R, alloc: Global, k: u64, alone: &Ran) -> Option<bool> {
+    let Some((ran, disk)) = run_failing(rt, alloc, k) else {
+        return None;
+    };
+    if ran.turns != 12 || disk.behind != 0 {
+        return None;
+    }
+    let Some(partitions) = partitions_of(alloc, disk.disk) else {
+        return None;
+    };
+    if !check_guests(&ran, alone, &partitions) {
+        return None;
+    }
+    Some(ran.broken)
 }
 
 /// How many runs break of which one of these calls fails.
-fn breaks<R: Threads + Wait + Sync>(
-    rt: &R,
-    alloc: Global,
-    first: u64,
-    last: u64,
-) -> Result<u64, Fail> {
-    let (alone, _) = run_failing(rt, alloc, 0)?;
-    check_undisturbed(&alone)?;
+fn breaks<R: Threads + Wait + Sync>(rt: &R, alloc: Global, first: u64, last: u64) -> Option<u64> {
+    let Some((alone, _)) = run_failing(rt, alloc, 0) else {
+        return None;
+    };
+    if !check_undisturbed(&alone) {
+        return None;
+    }
     let mut broken = 0_u64;
     for k in first..last.saturating_add(1) {
-        let breaks = breaks_at(rt, alloc, k, &alone)?;
+        let Some(breaks) = breaks_at(rt, alloc, k, &alone) else {
+            return None;
+        };
         broken = broken.saturating_add(u64::from(breaks));
     }
-    Ok(broken)
+    Some(broken)
 }
 
 // A guest's key and write take five writes where they go as one, and four syncs may serve all: 19
@@ -319,21 +338,22 @@ fn breaks<R: Threads + Wait + Sync>(
 #[test]
 fn each_of_the_first_19_calls_fails(rt: HostRuntime) -> Result<(), Fail> {
     check(
-        breaks(&rt, rt.alloc(), 1, 19)? == 19,
+        breaks(&rt, rt.alloc(), 1, 19) == Some(19),
         "a failure that was lost",
     )
 }
 
 #[test]
 fn each_of_calls_20_to_36_fails(rt: HostRuntime) -> Result<(), Fail> {
-    breaks(&rt, rt.alloc(), 20, 36)?;
-    Ok(())
+    check(breaks(&rt, rt.alloc(), 20, 36).is_some(), "another outcome")
 }
 
 // Where no request goes with another and no sync serves two, the key takes eight calls and the
 // write nine: 51.
 #[test]
 fn each_of_calls_37_to_51_fails(rt: HostRuntime) -> Result<(), Fail> {
-    breaks(&rt, rt.alloc(), 37, 51)?;
-    check(breaks(&rt, rt.alloc(), 52, 52)? == 0, "more calls")
+    check(
+        breaks(&rt, rt.alloc(), 37, 51).is_some() && breaks(&rt, rt.alloc(), 52, 52) == Some(0),
+        "more calls",
+    )
 }

@@ -1,6 +1,6 @@
 //! Devices that stand in the place of a board's own: with less memory, with another guest's number,
 //! or with a queue that somebody else has made ready.
-ghost use Rattle.std.specs.Prelude.{◌≡◌, All, IfOk};
+ghost use Rattle.std.specs.Prelude.{◌≡◌, All, IfSome};
 ghost use Rattle.rpmb_book.specs.Book.{counted_in};
 ghost use Rattle.workers.specs.Following.{Follow};
 
@@ -41,11 +41,23 @@ pub fn with_queue(
     config: &GuestConfig,
     base: u32,
     descriptors: &[[u8; 16]],
-) -> Result<Device, Fail> {
-    let mut device = Device::new(alloc, number, config)?;
-    device.store(u64::from(base), descriptors.as_flattened())?;
+) -> Option<Device> {
+    let Ok(mut device) = Device::new(alloc, number, config) else {
+        return None;
+    };
+    if device
+        .store(u64::from(base), descriptors.as_flattened())
+        .is_err()
+    {
+        return None;
+    }
     // flags, the index 1, and the head 0
-    device.store(u64::from(base) + 256, &[0, 0, 1, 0, 0, 0])?;
+    if device
+        .store(u64::from(base) + 256, &[0, 0, 1, 0, 0, 0])
+        .is_err()
+    {
+        return None;
+    }
     for (register, value) in [
         (STATUS, 3),
         (DRIVER_FEATURES_SEL, 1),
@@ -59,7 +71,7 @@ pub fn with_queue(
     ] {
         device.write(register, 4, value);
     }
-    Ok(device)
+    Some(device)
 }
 
 /// Puts others, where there are any, in the place of devices; those take the others' places.
@@ -77,14 +89,16 @@ pub fn opened_beside<D: Disk>(
     disk: D,
     board: &BoardConfig,
     others: &mut [Option<Device>],
-) -> Result<Parts<D>, Fail>
-    ensures new_book { IfOk result (λ p. counted_in p.book ≡ 0) }
-    ensures fresh { IfOk result (λ p. All (λ t. t.count ≡ 0) p.tallies.items) }
-    ensures follows { IfOk result (λ p. Follow p.shares p.store.guests) }
+) -> Option<Parts<D>>
+    ensures new_book { IfSome result (λ p. counted_in p.book ≡ 0) }
+    ensures fresh { IfSome result (λ p. All (λ t. t.count ≡ 0) p.tallies.items) }
+    ensures follows { IfSome result (λ p. Follow p.shares p.store.guests) }
 {
-    let mut parts = opened(alloc, disk, board)?;
+    let Some(mut parts) = opened(alloc, disk, board) else {
+        return None;
+    };
     replace(&mut parts.devices, others);
-    Ok(parts)
+    Some(parts)
 }
 
 /// A run of these scripts on a fresh image, with these devices in the place of the board's own. Of
@@ -96,10 +110,19 @@ pub fn run_beside<G: Gate + Sync, R: Threads + Wait + Sync>(
     scripts: &[Script],
     gate: &G,
     k: u64,
-) -> Result<Ran, Fail> {
-    let board = board_of(alloc, scripts.len())?;
-    let mut parts = opened_beside(alloc, formatted(alloc, scripts.len())?, &board, others)?;
+) -> Option<Ran> {
+    let Some(board) = board_of(alloc, scripts.len()) else {
+        return None;
+    };
+    let Some(disk) = formatted(alloc, scripts.len()) else {
+        return None;
+    };
+    let Some(mut parts) = opened_beside(alloc, disk, &board, others) else {
+        return None;
+    };
     parts.store.fail(k);
-    let outcome = run_of(rt, alloc, parts, &board, scripts, gate)?;
-    Ok(looked_at(alloc, outcome))
+    let Some(outcome) = run_of(rt, alloc, parts, &board, scripts, gate) else {
+        return None;
+    };
+    Some(looked_at(alloc, outcome))
 }

@@ -2,7 +2,8 @@
 use crate::tests::asking::write_of;
 use crate::tests::devices::run_beside;
 use crate::tests::scene::{
-    KEY, Ran, Step, chain, check, get_write_counter, program_key, tail_of, two_scripts,
+    KEY, Ran, Step, adds, chain, check, get_write_counter, program_key, script_where, tail_of,
+    two_scripts,
 };
 use host::Answer;
 use std::alloc::Global;
@@ -31,22 +32,24 @@ fn is_told(answer: Option<&Answer>, kind: u8, broken: bool, failures: [u8; 2]) -
 }
 
 /// A guest has its two answers, where a call failed or none did.
-fn check_answers(driver: &DriverEnd, broken: bool) -> Result<(), Fail> {
-    check(driver.complete && driver.answers.len() == 2, "no end")?;
-    let key = is_told(driver.answers.get(0), 1, broken, [5, 1]);
-    check(key, "another reply to the key")?;
-    let counter = is_told(driver.answers.get(1), 2, broken, [1, 1]);
-    check(counter, "another reply to the counter")
+fn check_answers(driver: &DriverEnd, broken: bool) -> bool {
+    driver.complete
+        && driver.answers.len() == 2
+        && is_told(driver.answers.get(0), 1, broken, [5, 1])
+        && is_told(driver.answers.get(1), 2, broken, [1, 1])
 }
 
 /// Each of two guests has its two answers. Whether a call failed.
-fn has_broken(ran: &Ran) -> Result<bool, Fail> {
-    ran.check_end()?;
-    check(ran.turns == 4, "another number of turns")?;
-    for driver in ran.drivers.iter() {
-        check_answers(driver, ran.broken)?;
+fn has_broken(ran: &Ran) -> Option<bool> {
+    if !ran.check_end() || ran.turns != 4 {
+        return None;
     }
-    Ok(ran.broken)
+    for driver in ran.drivers.iter() {
+        if !check_answers(driver, ran.broken) {
+            return None;
+        }
+    }
+    Some(ran.broken)
 }
 
 /// A run of two guests on a fresh image, whose k-th call after the opening fails.
@@ -55,63 +58,69 @@ fn run_failing<R: Threads + Wait + Sync>(
     alloc: Global,
     k: u64,
     scripts: &[Script; 2],
-) -> Result<Ran, Fail> {
+) -> Option<Ran> {
     run_beside(rt, alloc, &mut [], scripts, &Open, k)
 }
 
 /// A run of two guests, each with a reset between its two chains, of which the k-th call fails:
 /// each guest has its two answers. Whether a call failed.
-fn breaks_at<R: Threads + Wait + Sync>(rt: &R, alloc: Global, k: u64) -> Result<bool, Fail> {
+fn breaks_at<R: Threads + Wait + Sync>(rt: &R, alloc: Global, k: u64) -> Option<bool> {
     let steps = [Step::Key, Step::Reset, Step::Counter(1)];
-    let scripts = two_scripts(alloc, &steps, &steps)?;
-    let ran = run_failing(rt, alloc, k, &scripts)?;
+    let Some(scripts) = two_scripts(alloc, &steps, &steps) else {
+        return None;
+    };
+    let Some(ran) = run_failing(rt, alloc, k, &scripts) else {
+        return None;
+    };
     has_broken(&ran)
 }
 
 /// Runs of which one of ten calls fails, from this one on; whether each of them has to meet its
 /// failure.
-fn fail_from<R: Threads + Wait + Sync>(
-    rt: &R,
-    alloc: Global,
-    first: u8,
-    each: bool,
-) -> Result<(), Fail> {
+fn fail_from<R: Threads + Wait + Sync>(rt: &R, alloc: Global, first: u8, each: bool) -> bool {
     for k in 0..10_u8 {
-        let broke = breaks_at(rt, alloc, u64::from(first) + u64::from(k))?;
-        check(broke || !each, "a failure that was lost")?;
+        let Some(broke) = breaks_at(rt, alloc, u64::from(first) + u64::from(k)) else {
+            return false;
+        };
+        if each && !broke {
+            return false;
+        }
     }
-    Ok(())
+    true
 }
 
 #[test]
 fn no_call_of_the_disk_fails(rt: HostRuntime) -> Result<(), Fail> {
-    check(!breaks_at(&rt, rt.alloc(), 0)?, "a broken store")
+    check(
+        breaks_at(&rt, rt.alloc(), 0) == Some(false),
+        "a broken store",
+    )
 }
 
 // The keys of two guests take twelve calls at least, where one sync serves both.
 #[test]
 fn calls_1_to_10_fail_in_turn(rt: HostRuntime) -> Result<(), Fail> {
-    fail_from(&rt, rt.alloc(), 1, true)
+    check(fail_from(&rt, rt.alloc(), 1, true), "another outcome")
 }
 
 #[test]
 fn calls_11_to_20_fail_in_turn(rt: HostRuntime) -> Result<(), Fail> {
-    fail_from(&rt, rt.alloc(), 11, false)
+    check(fail_from(&rt, rt.alloc(), 11, false), "another outcome")
 }
 
 /// How many writes each guest makes where later calls fail.
 const WRITES: u8 = 8;
 
 /// A script that programs the key, writes, and asks for the counter.
-fn script_of_writes(alloc: Global) -> Result<Script, Fail> {
+fn script_of_writes(alloc: Global) -> Option<Script> {
     let mut orders = Vec::new(alloc);
-    orders.push(chain(alloc, &program_key(&KEY))?)?;
+    let mut made = adds(&mut orders, chain(alloc, &program_key(&KEY)));
     for i in 0..WRITES {
         let frames = write_of(&KEY, u32::from(i), u16::from(i), i);
-        orders.push(chain(alloc, &frames)?)?;
+        made = made && adds(&mut orders, chain(alloc, &frames));
     }
-    orders.push(chain(alloc, &get_write_counter(1))?)?;
-    Ok(Script::new(orders))
+    made = made && adds(&mut orders, chain(alloc, &get_write_counter(1)));
+    script_where(made, orders)
 }
 
 /// The tail of the reply to a chain of that script, where nothing failed.
@@ -149,65 +158,87 @@ fn is_failure(number: u8, tail: &[u8]) -> bool {
 
 /// The answers of a guest: right ones, and from the failure on failures. Whether there are any of
 /// these.
-fn has_failed(answers: &[Answer]) -> Result<bool, Fail> {
+fn has_failed(answers: &[Answer]) -> Option<bool> {
     let mut failed = false;
     for (number, answer) in (0..10_u8).zip(answers.iter()) {
         let Answer::Used(reply) = answer else {
-            return Err(Fail::from("no reply"));
+            return None;
         };
         if tail_of(reply) == done_of(number).as_slice() {
-            check(!failed, "a right reply behind a failure")?;
+            if failed {
+                return None;
+            }
         } else {
-            check(is_failure(number, tail_of(reply)), "another reply")?;
+            if !is_failure(number, tail_of(reply)) {
+                return None;
+            }
             failed = true;
         }
     }
-    check(answers.len() == 10, "another number of answers")?;
-    Ok(failed)
+    if answers.len() != 10 {
+        return None;
+    }
+    Some(failed)
 }
 
 /// Each of two guests that write has right answers, and failures only where a call failed. Whether
 /// one did.
-fn have_broken(ran: &Ran) -> Result<bool, Fail> {
-    ran.check_end()?;
-    check(ran.turns == 20, "another number of turns")?;
-    for driver in ran.drivers.iter() {
-        let failed = has_failed(&driver.answers)?;
-        check(ran.broken || !failed, "a failure without a failed call")?;
+fn have_broken(ran: &Ran) -> Option<bool> {
+    if !ran.check_end() || ran.turns != 20 {
+        return None;
     }
-    Ok(ran.broken)
+    for driver in ran.drivers.iter() {
+        let Some(failed) = has_failed(&driver.answers) else {
+            return None;
+        };
+        if failed && !ran.broken {
+            return None;
+        }
+    }
+    Some(ran.broken)
 }
 
 /// The scripts of two guests that write.
-fn scripts_of_writes(alloc: Global) -> Result<[Script; 2], Fail> {
-    let first = script_of_writes(alloc)?;
-    let second = script_of_writes(alloc)?;
-    Ok([first, second])
+fn scripts_of_writes(alloc: Global) -> Option<[Script; 2]> {
+    let Some(first) = script_of_writes(alloc) else {
+        return None;
+    };
+    let Some(second) = script_of_writes(alloc) else {
+        return None;
+    };
+    Some([first, second])
 }
 
 /// A run of two guests that write, of which the k-th call fails. Whether a call failed.
-fn writes_break_at<R: Threads + Wait + Sync>(rt: &R, alloc: Global, k: u64) -> Result<bool, Fail> {
-    let scripts = scripts_of_writes(alloc)?;
-    let ran = run_failing(rt, alloc, k, &scripts)?;
+fn writes_break_at<R: Threads + Wait + Sync>(rt: &R, alloc: Global, k: u64) -> Option<bool> {
+    let Some(scripts) = scripts_of_writes(alloc) else {
+        return None;
+    };
+    let Some(ran) = run_failing(rt, alloc, k, &scripts) else {
+        return None;
+    };
     have_broken(&ran)
 }
 
 /// Ten runs of which one call fails, each of which meets its failure.
-fn writes_fail_from<R: Threads + Wait + Sync>(
-    rt: &R,
-    alloc: Global,
-    first: u8,
-) -> Result<(), Fail> {
+fn writes_fail_from<R: Threads + Wait + Sync>(rt: &R, alloc: Global, first: u8) -> bool {
     for k in 0..10_u8 {
-        let broke = writes_break_at(rt, alloc, u64::from(first) + u64::from(k))?;
-        check(broke, "a failure that was lost")?;
+        let Some(broke) = writes_break_at(rt, alloc, u64::from(first) + u64::from(k)) else {
+            return false;
+        };
+        if !broke {
+            return false;
+        }
     }
-    Ok(())
+    true
 }
 
 #[test]
 fn no_call_of_two_guests_that_write_fails(rt: HostRuntime) -> Result<(), Fail> {
-    check(!writes_break_at(&rt, rt.alloc(), 0)?, "a broken store")
+    check(
+        writes_break_at(&rt, rt.alloc(), 0) == Some(false),
+        "a broken store",
+    )
 }
 
 // Eighteen requests are stored, at most four as one: in three rounds where one serves both guests,
@@ -215,10 +246,10 @@ fn no_call_of_two_guests_that_write_fails(rt: HostRuntime) -> Result<(), Fail> {
 // are 52 calls at least.
 #[test]
 fn calls_21_to_30_fail_in_turn(rt: HostRuntime) -> Result<(), Fail> {
-    writes_fail_from(&rt, rt.alloc(), 21)
+    check(writes_fail_from(&rt, rt.alloc(), 21), "another outcome")
 }
 
 #[test]
 fn calls_31_to_40_fail_in_turn(rt: HostRuntime) -> Result<(), Fail> {
-    writes_fail_from(&rt, rt.alloc(), 31)
+    check(writes_fail_from(&rt, rt.alloc(), 31), "another outcome")
 }

@@ -1,7 +1,7 @@
 //! Faults of several threads at once: the lowest-numbered guest's is answered.
 use crate::tests::devices::run_beside;
 use crate::tests::full::script_of_reads;
-use crate::tests::scene::{Step, chain, check, result_read, two_scripts};
+use crate::tests::scene::{Step, adds, chain, check, result_read, script_where, two_scripts};
 use host::HostFault;
 use mmio_transport::Device;
 use rpmb_frame::GuestConfig;
@@ -15,16 +15,16 @@ use std::time::{Clock, Duration};
 use workers::{Gate, Open, Order, Place, Script, Who};
 
 /// A device whose jobs are another guest's: at the first the worker comes to `Foreign`.
-fn foreign(alloc: Global) -> Result<Device, Fail> {
-    Ok(Device::new(alloc, 63, &GuestConfig::of_capacity(1))?)
+fn foreign(alloc: Global) -> Option<Device> {
+    Device::new(alloc, 63, &GuestConfig::of_capacity(1)).ok()
 }
 
 /// A device with too little memory for its driver, which comes to `OutOfRange` with its first
 /// chain.
-fn narrow(alloc: Global, number: u16) -> Result<Device, Fail> {
+fn narrow(alloc: Global, number: u16) -> Option<Device> {
     let mut config = GuestConfig::of_capacity(1);
     config.memory = 65_536;
-    Ok(Device::new(alloc, number, &config)?)
+    Device::new(alloc, number, &config).ok()
 }
 
 /// The fault of a run of two guests with a chain each, of which guest 1 has this device. Of the
@@ -35,20 +35,38 @@ fn fault_beside<G: Gate + Sync, R: Threads + Wait + Sync>(
     device: Device,
     gate: &G,
     k: u64,
-) -> Result<Option<HostFault>, Fail> {
-    let scripts = two_scripts(alloc, &[Step::Key], &[Step::Key])?;
+) -> Option<Option<HostFault>> {
+    let Some(scripts) = two_scripts(alloc, &[Step::Key], &[Step::Key]) else {
+        return None;
+    };
     let mut others = [None, Some(device)];
-    let ran = run_beside(rt, alloc, &mut others, &scripts, gate, k)?;
-    Ok(ran.fault)
+    let Some(ran) = run_beside(rt, alloc, &mut others, &scripts, gate, k) else {
+        return None;
+    };
+    Some(ran.fault)
+}
+
+/// Whether a run ends with this fault of which guest 1 has this device.
+fn ends_at<R: Threads + Wait + Sync>(
+    rt: &R,
+    alloc: Global,
+    device: Option<Device>,
+    fault: HostFault,
+) -> bool {
+    match device {
+        Some(device) => fault_beside(rt, alloc, device, &Open, 0) == Some(Some(fault)),
+        None => false,
+    }
 }
 
 #[test]
 fn each_fault_alone_ends_a_run(rt: HostRuntime) -> Result<(), Fail> {
     let alloc = rt.alloc();
-    let fault = fault_beside(&rt, alloc, foreign(alloc)?, &Open, 0)?;
-    check(fault == Some(HostFault::Foreign), "no foreign job")?;
-    let fault = fault_beside(&rt, alloc, narrow(alloc, 1)?, &Open, 0)?;
-    check(fault == Some(HostFault::OutOfRange), "no narrow memory")
+    check(
+        ends_at(&rt, alloc, foreign(alloc), HostFault::Foreign)
+            && ends_at(&rt, alloc, narrow(alloc, 1), HostFault::OutOfRange),
+        "no foreign job, or no narrow memory",
+    )
 }
 
 /// Holds the worker of one guest at `Popped`, so long that the other's driver has come to its fault
@@ -70,34 +88,43 @@ impl<'a, C: Clock> Gate for HoldsAWhile<'a, C> {
 }
 
 /// A script with one chain behind many resets, so that the other guest's worker has popped before.
-fn late_script(alloc: Global) -> Result<Script, Fail> {
+fn late_script(alloc: Global) -> Option<Script> {
     let mut orders = Vec::new(alloc);
+    let mut made = true;
     for _ in 0..1_000 {
-        orders.push(Order::Reset)?;
+        made = made && orders.push(Order::Reset).is_ok();
     }
-    orders.push(chain(alloc, &[result_read()])?)?;
-    Ok(Script::new(orders))
+    made = made && adds(&mut orders, chain(alloc, &[result_read()]));
+    script_where(made, orders)
 }
 
 /// The scripts of two guests, of which this one's is late.
-fn late_scripts(alloc: Global, late: u16) -> Result<[Script; 2], Fail> {
-    let resets = late_script(alloc)?;
-    let one = script_of_reads(alloc, 1)?;
+fn late_scripts(alloc: Global, late: u16) -> Option<[Script; 2]> {
+    let Some(resets) = late_script(alloc) else {
+        return None;
+    };
+    let Some(one) = script_of_reads(alloc, 1) else {
+        return None;
+    };
     if late == 0 {
-        Ok([resets, one])
+        Some([resets, one])
     } else {
-        Ok([one, resets])
+        Some([one, resets])
     }
 }
 
 /// The devices of two guests, at which this one's driver comes to a fault, and the other's worker.
-fn late_devices(alloc: Global, driver: u16) -> Result<[Option<Device>; 2], Fail> {
-    let narrow = narrow(alloc, driver)?;
-    let stranger = foreign(alloc)?;
+fn late_devices(alloc: Global, driver: u16) -> Option<[Option<Device>; 2]> {
+    let Some(narrow) = narrow(alloc, driver) else {
+        return None;
+    };
+    let Some(stranger) = foreign(alloc) else {
+        return None;
+    };
     if driver == 0 {
-        Ok([Some(narrow), Some(stranger)])
+        Some([Some(narrow), Some(stranger)])
     } else {
-        Ok([Some(stranger), Some(narrow)])
+        Some([Some(stranger), Some(narrow)])
     }
 }
 
@@ -108,16 +135,22 @@ fn run_late<R: Threads + Wait + Clock + Sync>(
     rt: &R,
     alloc: Global,
     driver: u16,
-) -> Result<(Option<HostFault>, bool), Fail> {
+) -> Option<(Option<HostFault>, bool)> {
     let gate = HoldsAWhile {
         clock: rt,
         held: 1 - driver % 2,
         popped: AtomicBool::new(false),
     };
-    let scripts = late_scripts(alloc, driver)?;
-    let mut others = late_devices(alloc, driver)?;
-    let ran = run_beside(rt, alloc, &mut others, &scripts, &gate, 0)?;
-    Ok((ran.fault, gate.popped.load(Ordering::SeqCst)))
+    let Some(scripts) = late_scripts(alloc, driver) else {
+        return None;
+    };
+    let Some(mut others) = late_devices(alloc, driver) else {
+        return None;
+    };
+    let Some(ran) = run_beside(rt, alloc, &mut others, &scripts, &gate, 0) else {
+        return None;
+    };
+    Some((ran.fault, gate.popped.load(Ordering::SeqCst)))
 }
 
 /// Such runs, until in one both came to a fault: that one ends with this.
@@ -126,24 +159,32 @@ fn ends_with<R: Threads + Wait + Clock + Sync>(
     alloc: Global,
     driver: u16,
     fault: HostFault,
-) -> Result<(), Fail> {
+) -> bool {
     for _ in 0..100 {
-        let (found, both) = run_late(rt, alloc, driver)?;
+        let Some((found, both)) = run_late(rt, alloc, driver) else {
+            return false;
+        };
         if both {
-            return check(found == Some(fault), "another fault");
+            return found == Some(fault);
         }
     }
-    Err(Fail::from("no two faults at once"))
+    false
 }
 
 #[test]
 fn a_driver_of_a_lower_guest_comes_before_a_worker(rt: HostRuntime) -> Result<(), Fail> {
-    ends_with(&rt, rt.alloc(), 0, HostFault::OutOfRange)
+    check(
+        ends_with(&rt, rt.alloc(), 0, HostFault::OutOfRange),
+        "another outcome",
+    )
 }
 
 #[test]
 fn a_worker_of_a_lower_guest_comes_before_a_driver(rt: HostRuntime) -> Result<(), Fail> {
-    ends_with(&rt, rt.alloc(), 1, HostFault::Foreign)
+    check(
+        ends_with(&rt, rt.alloc(), 1, HostFault::Foreign),
+        "another outcome",
+    )
 }
 
 /// Holds guest 1's worker at `Popped` until guest 0's has published.
@@ -188,8 +229,16 @@ fn a_fault_is_answered_where_a_call_of_the_disk_has_failed(rt: HostRuntime) -> R
         called: AtomicBool::new(false),
         published: AtomicBool::new(false),
     };
-    let fault = fault_beside(&rt, alloc, foreign(alloc)?, &gate, 1)?;
-    check(fault == Some(HostFault::Foreign), "another fault")?;
-    check(gate.called.load(Ordering::SeqCst), "no call")?;
-    check(gate.published.load(Ordering::SeqCst), "no reply before")
+    let Some(device) = foreign(alloc) else {
+        return Err(Fail::from("no device"));
+    };
+    let Some(fault) = fault_beside(&rt, alloc, device, &gate, 1) else {
+        return Err(Fail::from("no fault"));
+    };
+    check(
+        fault == Some(HostFault::Foreign)
+            && gate.called.load(Ordering::SeqCst)
+            && gate.published.load(Ordering::SeqCst),
+        "another fault, no call, no reply before",
+    )
 }

@@ -1,5 +1,7 @@
 //! As many requests as a history holds, and one more, at which it rolls.
-use crate::tests::scene::{chain, check, formatted_in_memory, outcome_on, result_read};
+use crate::tests::scene::{
+    adds, chain, check, formatted_in_memory, outcome_on, result_read, script_where,
+};
 use disk::{Disk, MemDisk};
 use host::{Answer, HostFault};
 use rpmb_book::{Book, Receipt};
@@ -10,19 +12,24 @@ use std::thread::Threads;
 use workers::{Ended, Open, Script, Served};
 
 /// A script that asks so often for the result.
-pub fn script_of_reads(alloc: Global, chains: u16) -> Result<Script, Fail> {
+pub fn script_of_reads(alloc: Global, chains: u16) -> Option<Script> {
     let mut orders = Vec::new(alloc);
+    let mut made = true;
     for _ in 0..chains {
-        orders.push(chain(alloc, &[result_read()])?)?;
+        made = made && adds(&mut orders, chain(alloc, &[result_read()]));
     }
-    Ok(Script::new(orders))
+    script_where(made, orders)
 }
 
 /// The scripts of two guests, with so many chains.
-fn scripts_of(alloc: Global, first: u16, second: u16) -> Result<[Script; 2], Fail> {
-    let first = script_of_reads(alloc, first)?;
-    let second = script_of_reads(alloc, second)?;
-    Ok([first, second])
+fn scripts_of(alloc: Global, first: u16, second: u16) -> Option<[Script; 2]> {
+    let Some(first) = script_of_reads(alloc, first) else {
+        return None;
+    };
+    let Some(second) = script_of_reads(alloc, second) else {
+        return None;
+    };
+    Some([first, second])
 }
 
 /// The first turn of the book that a receipt of this guest finds.
@@ -97,30 +104,22 @@ fn has_all<D: Disk>(ended: &Ended<D>, guest: usize, chains: u16) -> bool {
 
 /// All requests of two guests were answered. Where there are more than a history holds, those up to
 /// some turn were folded, the first turn at least and not the last, and the others are found.
-fn check_ended<D: Disk>(ended: &Ended<D>, first: u16, second: u16) -> Result<(), Fail> {
+fn check_ended<D: Disk>(ended: &Ended<D>, first: u16, second: u16) -> bool {
     let turns = u64::from(first) + u64::from(second);
-    check(
-        ended.book.submit_turns() == turns,
-        "another number of turns",
-    )?;
-    check(has_all(ended, 0, first), "guest 0")?;
-    check(has_all(ended, 1, second), "guest 1")?;
     let found = first_found(&ended.book, &ended.served);
-    check(found != u128::MAX, "no receipt finds its request")?;
-    check((found > 0) == (turns > 16_384), "what was folded")?;
-    let rest = all_are_found_from(&ended.book, &ended.served, found);
-    check(rest, "what stands behind it")
+    ended.book.submit_turns() == turns
+        && has_all(ended, 0, first)
+        && has_all(ended, 1, second)
+        && found != u128::MAX
+        && (found > 0) == (turns > 16_384)
+        && all_are_found_from(&ended.book, &ended.served, found)
 }
 
 /// The same of what a run came to, which has no fault.
-fn check_outcome<D: Disk>(
-    outcome: &Result<Ended<D>, HostFault>,
-    first: u16,
-    second: u16,
-) -> Result<(), Fail> {
+fn check_outcome<D: Disk>(outcome: &Result<Ended<D>, HostFault>, first: u16, second: u16) -> bool {
     match outcome {
         Ok(ended) => check_ended(ended, first, second),
-        Err(_) => Err(Fail::from("a fault")),
+        Err(_) => false,
     }
 }
 
@@ -130,28 +129,30 @@ fn outcome_of_reads<R: Threads + Wait + Sync>(
     alloc: Global,
     first: u16,
     second: u16,
-) -> Result<Result<Ended<MemDisk>, HostFault>, Fail> {
-    let scripts = scripts_of(alloc, first, second)?;
-    outcome_on(rt, alloc, formatted_in_memory(alloc, 2)?, &scripts, &Open)
+) -> Option<Result<Ended<MemDisk>, HostFault>> {
+    let Some(scripts) = scripts_of(alloc, first, second) else {
+        return None;
+    };
+    let Some(disk) = formatted_in_memory(alloc, 2) else {
+        return None;
+    };
+    outcome_on(rt, alloc, disk, &scripts, &Open)
 }
 
 /// A run of two guests with so many chains, all of which are answered.
-fn run_reads<R: Threads + Wait + Sync>(
-    rt: &R,
-    alloc: Global,
-    first: u16,
-    second: u16,
-) -> Result<(), Fail> {
-    let outcome = outcome_of_reads(rt, alloc, first, second)?;
+fn run_reads<R: Threads + Wait + Sync>(rt: &R, alloc: Global, first: u16, second: u16) -> bool {
+    let Some(outcome) = outcome_of_reads(rt, alloc, first, second) else {
+        return false;
+    };
     check_outcome(&outcome, first, second)
 }
 
 #[test]
 fn requests_16384_have_their_answers(rt: HostRuntime) -> Result<(), Fail> {
-    run_reads(&rt, rt.alloc(), 8_192, 8_192)
+    check(run_reads(&rt, rt.alloc(), 8_192, 8_192), "another outcome")
 }
 
 #[test]
 fn one_request_more_rolls_the_history(rt: HostRuntime) -> Result<(), Fail> {
-    run_reads(&rt, rt.alloc(), 8_192, 8_193)
+    check(run_reads(&rt, rt.alloc(), 8_192, 8_193), "another outcome")
 }

@@ -1,5 +1,5 @@
 //! A board on a fresh disk, the requests that its guests make, and a run of their scripts.
-ghost use Rattle.std.specs.Prelude.{◌≡◌, All, IfOk};
+ghost use Rattle.std.specs.Prelude.{◌≡◌, All, IfSome};
 ghost use Rattle.rpmb_book.specs.Book.{counted_in};
 ghost use Rattle.workers.specs.Following.{Follow};
 
@@ -36,36 +36,54 @@ fn guest_of(number: usize) -> GuestConfig {
 }
 
 /// A board of guests that aren't all alike.
-pub fn board_of(alloc: Global, guests: usize) -> Result<BoardConfig, Fail> {
-    let mut configs = Vec::with_capacity(alloc, guests)?;
+pub fn board_of(alloc: Global, guests: usize) -> Option<BoardConfig> {
+    let mut configs = Vec::new(alloc);
     for number in 0..guests {
-        configs.push(guest_of(number))?;
+        if configs.push(guest_of(number)).is_err() {
+            return None;
+        }
     }
-    Ok(BoardConfig::new(configs)?)
+    BoardConfig::new(configs).ok()
 }
 
 /// A fresh image of a board of so many guests.
-pub fn formatted(alloc: Global, guests: usize) -> Result<CutDisk, Fail> {
-    let board = board_of(alloc, guests)?;
+pub fn formatted(alloc: Global, guests: usize) -> Option<CutDisk> {
+    let Some(board) = board_of(alloc, guests) else {
+        return None;
+    };
     let layout = Layout::of(&board);
-    let mut disk = CutDisk::new(alloc, vec![in alloc; 0xee; layout.length() as usize]?)?;
+    let Ok(bytes) = vec![in alloc; 0xee; layout.length() as usize] else {
+        return None;
+    };
+    let Ok(mut disk) = CutDisk::new(alloc, bytes) else {
+        return None;
+    };
     if disk.len() != layout.length() {
-        return Err(Fail::from("another length"));
+        return None;
     }
-    format(&mut disk, &board)?;
-    Ok(disk)
+    if format(&mut disk, &board).is_err() {
+        return None;
+    }
+    Some(disk)
 }
 
 /// The same on a disk that keeps no calls, for runs of many requests.
-pub fn formatted_in_memory(alloc: Global, guests: usize) -> Result<MemDisk, Fail> {
-    let board = board_of(alloc, guests)?;
+pub fn formatted_in_memory(alloc: Global, guests: usize) -> Option<MemDisk> {
+    let Some(board) = board_of(alloc, guests) else {
+        return None;
+    };
     let layout = Layout::of(&board);
-    let mut disk = MemDisk::new(vec![in alloc; 0xee; layout.length() as usize]?);
+    let Ok(bytes) = vec![in alloc; 0xee; layout.length() as usize] else {
+        return None;
+    };
+    let mut disk = MemDisk::new(bytes);
     if disk.len() != layout.length() {
-        return Err(Fail::from("another length"));
+        return None;
     }
-    format(&mut disk, &board)?;
-    Ok(disk)
+    if format(&mut disk, &board).is_err() {
+        return None;
+    }
+    Some(disk)
 }
 
 /// The frame that asks for the result.
@@ -92,12 +110,31 @@ pub fn get_write_counter(nonce: u128) -> [[u8; 512]; 1] {
 }
 
 /// A chain of these frames, with room for one frame.
-pub fn chain(alloc: Global, frames: &[[u8; 512]]) -> Result<Order, Fail> {
-    let readable = frames.as_flattened().to_vec(alloc)?;
+pub fn chain(alloc: Global, frames: &[[u8; 512]]) -> Option<Order> {
+    let Ok(readable) = frames.as_flattened().to_vec(alloc) else {
+        return None;
+    };
     if readable.is_empty() || readable.len() > 8704 {
-        return Err(Fail::from("no chain has this length"));
+        return None;
     }
-    Ok(Order::Chain(Chain::new(readable, 512)))
+    Some(Order::Chain(Chain::new(readable, 512)))
+}
+
+/// Whether an order was made, and stands behind these now.
+pub fn adds(orders: &mut Vec<Order>, order: Option<Order>) -> bool {
+    match order {
+        Some(order) => orders.push(order).is_ok(),
+        None => false,
+    }
+}
+
+/// The script of these orders, where all were made.
+pub fn script_where(made: bool, orders: Vec<Order>) -> Option<Script> {
+    if made {
+        Some(Script::new(orders))
+    } else {
+        None
+    }
 }
 
 /// What a guest does at one place of its script.
@@ -112,39 +149,44 @@ pub enum Step {
 }
 
 /// The order that a step stands for, of a guest with this key.
-fn order_of(alloc: Global, key: &[u8; 32], step: &Step) -> Result<Order, Fail> {
+fn order_of(alloc: Global, key: &[u8; 32], step: &Step) -> Option<Order> {
     match step {
         Step::Key => chain(alloc, &program_key(key)),
         Step::Counter(nonce) => chain(alloc, &get_write_counter(u128::from(*nonce))),
-        Step::Reset => Ok(Order::Reset),
+        Step::Reset => Some(Order::Reset),
     }
 }
 
 /// The script of a guest with this key, which does these steps one after another.
-pub fn script_of_steps(alloc: Global, key: &[u8; 32], steps: &[Step]) -> Result<Script, Fail> {
+pub fn script_of_steps(alloc: Global, key: &[u8; 32], steps: &[Step]) -> Option<Script> {
     let mut orders = Vec::new(alloc);
+    let mut made = true;
     for step in steps.iter() {
-        orders.push(order_of(alloc, key, step)?)?;
+        made = made && adds(&mut orders, order_of(alloc, key, step));
     }
-    Ok(Script::new(orders))
+    script_where(made, orders)
 }
 
 /// The scripts of two guests, of which the first does these steps, and the second those.
-pub fn two_scripts(alloc: Global, first: &[Step], second: &[Step]) -> Result<[Script; 2], Fail> {
-    let first = script_of_steps(alloc, &KEY, first)?;
-    let second = script_of_steps(alloc, &KEY, second)?;
-    Ok([first, second])
+pub fn two_scripts(alloc: Global, first: &[Step], second: &[Step]) -> Option<[Script; 2]> {
+    let Some(first) = script_of_steps(alloc, &KEY, first) else {
+        return None;
+    };
+    let Some(second) = script_of_steps(alloc, &KEY, second) else {
+        return None;
+    };
+    Some([first, second])
 }
 
 /// The parts of a board that was just opened.
-pub fn opened<D: Disk>(alloc: Global, disk: D, board: &BoardConfig) -> Result<Parts<D>, Fail>
-    ensures new_book { IfOk result (λ p. counted_in p.book ≡ 0) }
-    ensures fresh { IfOk result (λ p. All (λ t. t.count ≡ 0) p.tallies.items) }
-    ensures follows { IfOk result (λ p. Follow p.shares p.store.guests) }
+pub fn opened<D: Disk>(alloc: Global, disk: D, board: &BoardConfig) -> Option<Parts<D>>
+    ensures new_book { IfSome result (λ p. counted_in p.book ≡ 0) }
+    ensures fresh { IfSome result (λ p. All (λ t. t.count ≡ 0) p.tallies.items) }
+    ensures follows { IfSome result (λ p. Follow p.shares p.store.guests) }
 {
     match Board::open(alloc, disk, 1, board) {
-        Ok(opened) => Ok(parts_of(opened, board)),
-        Err((_, fault)) => Err(Fail::from(fault)),
+        Ok(opened) => Some(parts_of(opened, board)),
+        Err(_) => None,
     }
 }
 
@@ -156,15 +198,15 @@ pub fn run_of<D: Disk + Send + Drop, G: Gate + Sync, R: Threads + Wait + Sync>(
     board: &BoardConfig,
     scripts: &[Script],
     gate: &G,
-) -> Result<Result<Ended<D>, HostFault>, Fail>
+) -> Option<Result<Ended<D>, HostFault>>
     requires new_book { counted_in parts.book ≡ 0 }
     requires fresh { All (λ t. t.count ≡ 0) parts.tallies.items }
     requires follows { Follow parts.shares parts.store.guests }
 {
     if parts.tallies.len() != scripts.len() {
-        return Err(Fail::from("another number of guests"));
+        return None;
     }
-    Ok(serve(rt, alloc, parts, board, scripts, gate))
+    Some(serve(rt, alloc, parts, board, scripts, gate))
 }
 
 /// What is looked at of a run. All else that a run leaves is let go at once, since it is dear to
@@ -183,8 +225,8 @@ pub struct Ran {
 
 impl Ran {
     /// Fails where the run ended with a fault.
-    pub fn check_end(&self) -> Result<(), Fail> {
-        check(self.fault.is_none(), "a fault")
+    pub fn check_end(&self) -> bool {
+        self.fault.is_none()
     }
 }
 
@@ -223,9 +265,13 @@ pub fn outcome_on<D: Disk + Send + Drop, G: Gate + Sync, R: Threads + Wait + Syn
     disk: D,
     scripts: &[Script],
     gate: &G,
-) -> Result<Result<Ended<D>, HostFault>, Fail> {
-    let board = board_of(alloc, scripts.len())?;
-    let parts = opened(alloc, disk, &board)?;
+) -> Option<Result<Ended<D>, HostFault>> {
+    let Some(board) = board_of(alloc, scripts.len()) else {
+        return None;
+    };
+    let Some(parts) = opened(alloc, disk, &board) else {
+        return None;
+    };
     run_of(rt, alloc, parts, &board, scripts, gate)
 }
 
@@ -236,9 +282,11 @@ pub fn run_on<D: Disk + Send + Drop, G: Gate + Sync, R: Threads + Wait + Sync>(
     disk: D,
     scripts: &[Script],
     gate: &G,
-) -> Result<Ran, Fail> {
-    let outcome = outcome_on(rt, alloc, disk, scripts, gate)?;
-    Ok(looked_at(alloc, outcome))
+) -> Option<Ran> {
+    let Some(outcome) = outcome_on(rt, alloc, disk, scripts, gate) else {
+        return None;
+    };
+    Some(looked_at(alloc, outcome))
 }
 
 /// The last twelve bytes of a reply: write counter, address, block count, result and type.

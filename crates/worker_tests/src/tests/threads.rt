@@ -7,6 +7,7 @@ use crate::tests::scene::{
 };
 use disk::{CutDisk, Disk, HookDisk};
 use host::{Answer, HostFault};
+use rpmb_book::{Book, Receipt};
 use std::alloc::Global;
 use std::sync::Wait;
 use std::test::Fail;
@@ -14,28 +15,47 @@ use std::thread::Threads;
 use workers::{DriverEnd, Ended, Open, Served};
 
 /// A run in which this guest's worker is held, and not in vain.
-fn run_held<R: Threads + Wait + Sync>(rt: &R, alloc: Global, held: u16) -> Result<(), Fail> {
+fn run_held<R: Threads + Wait + Sync>(rt: &R, alloc: Global, held: u16) -> bool {
     let gate = HoldsOne::new(held, TURNS);
-    let scripts = two_scripts(alloc, &[Step::Counter(1)], &[Step::Counter(1)])?;
-    let disk = formatted(alloc, 2)?;
-    run_on(rt, alloc, disk, &scripts, &gate)?.check_end()?;
-    check(!gate.is_late(), "a guest was held in vain")
+    let Some(scripts) = two_scripts(alloc, &[Step::Counter(1)], &[Step::Counter(1)]) else {
+        return false;
+    };
+    let Some(disk) = formatted(alloc, 2) else {
+        return false;
+    };
+    let Some(ran) = run_on(rt, alloc, disk, &scripts, &gate) else {
+        return false;
+    };
+    ran.check_end() && !gate.is_late()
 }
 
 #[test]
 fn each_worker_runs_beside_the_other(rt: HostRuntime) -> Result<(), Fail> {
-    run_held(&rt, rt.alloc(), 0)?;
-    run_held(&rt, rt.alloc(), 1)
+    check(
+        run_held(&rt, rt.alloc(), 0) && run_held(&rt, rt.alloc(), 1),
+        "a guest was held in vain",
+    )
+}
+
+fn run_beside_a_sync<R: Threads + Wait + Sync>(rt: &R, alloc: Global) -> bool {
+    let watch = Watch::new(TURNS);
+    let Some(scripts) = two_scripts(alloc, &[Step::Key], &[Step::Counter(1)]) else {
+        return false;
+    };
+    let Some(disk) = formatted(alloc, 2) else {
+        return false;
+    };
+    let disk = HookDisk::new(disk, WaitsInSync(&watch));
+    match run_on(rt, alloc, disk, &scripts, &HoldsTillSync(&watch)) {
+        Some(ran) => ran.check_end() && !watch.is_late(),
+        None => false,
+    }
 }
 
 #[test]
 fn workers_run_beside_a_sync(rt: HostRuntime) -> Result<(), Fail> {
-    let alloc = rt.alloc();
-    let watch = Watch::new(TURNS);
-    let scripts = two_scripts(alloc, &[Step::Key], &[Step::Counter(1)])?;
-    let disk = HookDisk::new(formatted(alloc, 2)?, WaitsInSync(&watch));
-    run_on(&rt, alloc, disk, &scripts, &HoldsTillSync(&watch))?.check_end()?;
-    check(!watch.is_late(), "the sync was held in vain")
+    let beside = run_beside_a_sync(&rt, rt.alloc());
+    check(beside, "the sync was held in vain")
 }
 
 /// Whether an answer is a reply with these last twelve bytes.
@@ -51,16 +71,9 @@ const PROGRAMMED: [u8; 12] = [0, 0, 0, 0, 0, 0, 0, 1, 0, 0, 1, 0];
 
 const AT_ZERO: [u8; 12] = [0, 0, 0, 0, 0, 0, 0, 1, 0, 0, 2, 0];
 
-fn ensure(holds: bool, what: &'static str) -> Result<(), &'static str> {
-    if holds { Ok(()) } else { Err(what) }
-}
-
 /// A guest was told that its key is programmed, and that its counter stands at 0.
-fn check_replies(driver: &DriverEnd) -> Result<(), &'static str> {
-    let first = is_reply(driver.answers.get(0), &PROGRAMMED);
-    ensure(first, "another first reply")?;
-    let second = is_reply(driver.answers.get(1), &AT_ZERO);
-    ensure(second, "another second reply")
+fn check_replies(driver: &DriverEnd) -> bool {
+    is_reply(driver.answers.get(0), &PROGRAMMED) && is_reply(driver.answers.get(1), &AT_ZERO)
 }
 
 /// The guest's receipt of this number finds this request, and the reply that was given.
@@ -70,65 +83,65 @@ fn check_found<D: Disk>(
     guest: usize,
     number: usize,
     request: &[u8],
-) -> Result<(), &'static str> {
+) -> bool {
     let (Some(served), Some(driver)) = (ended.served.get(guest), ended.drivers.get(guest)) else {
-        return Err("no such guest");
+        return false;
     };
-    let Some(receipt) = served.receipts.get(number) else {
-        return Err("a receipt too few");
+    match (served.receipts.get(number), driver.answers.get(number)) {
+        (Some(receipt), Some(Answer::Used(reply))) => {
+            is_found(alloc, &ended.book, receipt, request, reply)
+        }
+        _ => false,
+    }
+}
+
+/// Whether a receipt finds this request, and the reply that was given.
+fn is_found(alloc: Global, book: &Book, receipt: &Receipt, request: &[u8], reply: &[u8]) -> bool {
+    let Some(found) = book.find(receipt) else {
+        return false;
     };
-    let Some(found) = ended.book.find(receipt) else {
-        return Err("a receipt that finds nothing");
-    };
-    ensure(found.request == request, "another request")?;
-    let Ok(closed) = found.closed_reply(alloc) else {
-        return Err("no memory for the reply");
-    };
-    match driver.answers.get(number) {
-        Some(Answer::Used(reply)) => ensure(closed == *reply, "another reply"),
-        _ => Err("no reply"),
+    if found.request != request {
+        return false;
+    }
+    match found.closed_reply(alloc) {
+        Ok(closed) => closed.as_slice() == reply,
+        Err(_) => false,
     }
 }
 
 /// What a worker leaves of its guest: two requests were answered, with a receipt each that finds
 /// its request.
-fn check_served<D: Disk>(
-    alloc: Global,
-    ended: &Ended<D>,
-    guest: usize,
-    served: &Served,
-) -> Result<(), &'static str> {
-    ensure(served.tally.count() == 2, "another tally")?;
-    ensure(served.receipts.len() == 2, "another number of receipts")?;
-    check_found(alloc, ended, guest, 0, program_key(&KEY).as_flattened())?;
-    check_found(alloc, ended, guest, 1, get_write_counter(1).as_flattened())
+fn check_served<D: Disk>(alloc: Global, ended: &Ended<D>, guest: usize, served: &Served) -> bool {
+    served.tally.count() == 2
+        && served.receipts.len() == 2
+        && check_found(alloc, ended, guest, 0, program_key(&KEY).as_flattened())
+        && check_found(alloc, ended, guest, 1, get_write_counter(1).as_flattened())
 }
 
 /// Two guests were served to their ends.
-fn check_ended<D: Disk>(alloc: Global, ended: &Ended<D>) -> Result<(), &'static str> {
-    ensure(!ended.broken, "a broken store")?;
-    ensure(ended.book.submit_turns() == 4, "another number of turns")?;
+fn check_ended<D: Disk>(alloc: Global, ended: &Ended<D>) -> bool {
     for (guest, served) in ended.served.iter().enumerate() {
-        check_served(alloc, ended, guest, served)?;
+        if !check_served(alloc, ended, guest, served) {
+            return false;
+        }
     }
-    check_all_replies(&ended.drivers)
+    !ended.broken && ended.book.submit_turns() == 4 && check_all_replies(&ended.drivers)
 }
 
-fn check_all_replies(drivers: &[DriverEnd]) -> Result<(), &'static str> {
+fn check_all_replies(drivers: &[DriverEnd]) -> bool {
     for driver in drivers.iter() {
-        check_replies(driver)?;
+        if !check_replies(driver) {
+            return false;
+        }
     }
-    Ok(())
+    true
 }
 
 /// A run came to its end, with two guests served.
-fn check_outcome<D: Disk>(
-    alloc: Global,
-    outcome: &Result<Ended<D>, HostFault>,
-) -> Result<(), &'static str> {
+fn check_outcome<D: Disk>(alloc: Global, outcome: &Result<Ended<D>, HostFault>) -> bool {
     match outcome {
         Ok(ended) => check_ended(alloc, ended),
-        Err(_) => Err("a fault"),
+        Err(_) => false,
     }
 }
 
@@ -137,34 +150,37 @@ fn outcome_of<R: Threads + Wait + Sync>(
     rt: &R,
     alloc: Global,
     steps: &[Step],
-) -> Result<Result<Ended<CutDisk>, HostFault>, Fail> {
-    let scripts = two_scripts(alloc, steps, steps)?;
-    outcome_on(rt, alloc, formatted(alloc, 2)?, &scripts, &Open)
+) -> Option<Result<Ended<CutDisk>, HostFault>> {
+    let Some(scripts) = two_scripts(alloc, steps, steps) else {
+        return None;
+    };
+    let Some(disk) = formatted(alloc, 2) else {
+        return None;
+    };
+    outcome_on(rt, alloc, disk, &scripts, &Open)
 }
 
-/// What such a run lacks to one in which two guests are served.
-fn checked<R: Threads + Wait + Sync>(
-    rt: &R,
-    alloc: Global,
-    steps: &[Step],
-) -> Result<Result<(), &'static str>, Fail> {
-    let outcome = outcome_of(rt, alloc, steps)?;
-    Ok(check_outcome(alloc, &outcome))
+/// Whether such a run is one in which two guests are served.
+fn checked<R: Threads + Wait + Sync>(rt: &R, alloc: Global, steps: &[Step]) -> Option<bool> {
+    match outcome_of(rt, alloc, steps) {
+        Some(outcome) => Some(check_outcome(alloc, &outcome)),
+        None => None,
+    }
 }
 
 #[test]
 fn two_guests_each_with_a_key_and_a_counter(rt: HostRuntime) -> Result<(), Fail> {
-    checked(&rt, rt.alloc(), &[Step::Key, Step::Counter(1)])?.map_err(Fail::from)
+    let served = checked(&rt, rt.alloc(), &[Step::Key, Step::Counter(1)]);
+    check(served == Some(true), "two guests that are served")
 }
 
 /// A run that serves nobody, and one that always wants memory, don't pass for it.
 #[test]
 fn runs_that_serve_nobody_are_caught(rt: HostRuntime) -> Result<(), Fail> {
-    let nothing = checked(&rt, rt.alloc(), &[])?;
-    check(nothing.is_err(), "a run of nothing passed")?;
+    let nothing = checked(&rt, rt.alloc(), &[]);
     let refused: Result<Ended<CutDisk>, HostFault> = Err(HostFault::NoMemory);
     check(
-        check_outcome(rt.alloc(), &refused).is_err(),
-        "want of memory passed",
+        nothing == Some(false) && !check_outcome(rt.alloc(), &refused),
+        "a run of nothing, or want of memory, passed",
     )
 }
