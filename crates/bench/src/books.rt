@@ -1,223 +1,304 @@
 //! The book of a board and its store over a disk in memory, with nothing between them and their
 //! caller: what a board's steps are measured against.
-use crate::clock::{NO_MEMORY, Row, Stop};
+use crate::clock::{NO_MEMORY, Row, Stop, stopped};
 use crate::counted::{CountedDisk, Counts};
-use crate::images::{Version, guests_of, new_disk_of, opened_board};
-use crate::requests::{Kind, mixed};
+use crate::images::{Version, guests_of, new_disk, opened_board};
+use crate::requests::{KEY, Kind, mixed};
 use crate::stores::give;
-use crate::ways::{Call, Shape, Turn, Way, time_way};
+use crate::ways::{Ask, Call, Shape, Turn, Way, time_way};
 use board::Parts;
 use chains::Range;
 use disk::MemDisk;
 use flusher::Made;
+use hmac256::MacKey;
 use mmio_transport::{Done, Job};
-use rpmb_frame::BoardConfig;
+use rpmb_book::{Checked, Due, Rooms};
+use rpmb_frame::{BoardConfig, Limits};
 use std::alloc::Global;
 use std::collections::VecDeque;
 use workers::parts_of;
 
-/// A book that answers jobs, and the store that keeps what it accepts.
-#[derive(Drop)]
-pub struct Books {
-    alloc: Global,
-    parts: Parts<CountedDisk<MemDisk>>,
-    jobs: VecDeque<Job>,
-    /// The replies that were collected, which are kept until the clock has stopped, as a board
-    /// keeps them for its devices.
-    replies: VecDeque<Done>,
-    sum: u32,
+/// A book and its store. Its methods promise nothing, so that what stands above them is proved
+/// without the contracts of either.
+pub trait Desk: Drop {
+    /// Has the book answer a job of a guest; what memory is left.
+    fn submit(&mut self, alloc: Global, guest: u16, job: Checked) -> Result<Rooms, Stop>;
+
+    fn collect(&mut self, guest: u16) -> Option<Done>;
+
+    /// The same without the MAC of the reply.
+    fn collect_due(&mut self, guest: u16) -> Option<Due>;
+
+    /// Gives the store a guest's next intent, where one waits and a slot is free.
+    fn hand_over(&mut self, guest: u16) -> Result<(), Stop>;
+
+    /// Makes the store's next call, and tells the book what it settled.
+    fn next_call(&mut self) -> Result<Call, Stop>;
+
+    /// How many of a guest's intents are settled, that for its key with them.
+    fn settled_by_book(&self, guest: u16) -> u64;
+
+    /// Whether the store may be given the guest's next intent.
+    fn is_free(&self, guest: u16) -> bool;
+
+    /// What was counted of the disk.
+    fn counts(&self) -> Counts;
 }
 
-/// The book and the store over a fresh image of a board and of version 1, of which nothing was
-/// asked.
-pub fn new_books(alloc: Global, config: &BoardConfig) -> Result<Books, Stop> {
-    new_books_on(alloc, config, Version::One)
-}
+pub type Counted = Parts<CountedDisk<MemDisk>>;
 
-/// The same over an image of this version.
-pub fn new_books_on(alloc: Global, config: &BoardConfig, version: Version) -> Result<Books, Stop> {
-    let disk = CountedDisk::of(new_disk_of(alloc, config, version)?);
-    let board = opened_board(alloc, disk, config)?;
-    Ok(Books {
-        alloc,
-        parts: parts_of(board, config),
-        jobs: VecDeque::new(alloc),
-        replies: VecDeque::new(alloc),
-        sum: 0,
-    })
-}
-
-/// The job of a guest's request, with room for its reply, which no device gave.
-pub fn job_of(alloc: Global, guest: u16, kind: Kind, counter: u32) -> Result<Job, Stop> {
-    let request = kind.request(alloc, counter)?;
-    let room = Range {
-        at: 0,
-        len: kind.writable(),
-    };
-    match Vec::from_slice(alloc, &[room]) {
-        Ok(writable) => Ok(Job::of(alloc, guest, 1, 0, 1, writable, request)),
-        Err(_) => Err(NO_MEMORY),
-    }
-}
-
-/// One more job.
-fn push_job(
-    alloc: Global,
-    jobs: &mut VecDeque<Job>,
-    guest: u16,
-    kind: Kind,
-    counter: u32,
-) -> Result<(), Stop> {
-    let job = job_of(alloc, guest, kind, counter)?;
-    match jobs.push_back(job) {
-        Ok(()) => Ok(()),
-        Err(_) => Err(NO_MEMORY),
-    }
-}
-
-/// One more reply, where there is one.
-fn push_reply(replies: &mut VecDeque<Done>, done: Option<Done>) -> Result<(), Stop> {
-    match done {
-        Some(done) => replies.push_back(done).ok().ok_or(NO_MEMORY),
-        None => Err("a reply that doesn't leave"),
-    }
-}
-
-/// What was mixed before, and the bytes of a reply together.
-pub fn mixed_reply(before: u32, done: &Done) -> u32 {
-    let mut all = 0;
-    for byte in done.reply() {
-        all ^= *byte;
-    }
-    mixed(before, all)
-}
-
-fn submit(parts: &mut Parts<CountedDisk<MemDisk>>, alloc: Global, job: Job) -> Result<(), Stop> {
-    match parts.tallies.get_mut(usize::from(job.ticket().guest)) {
-        Some(tally) => match parts.book.submit(alloc, tally, job) {
-            Ok(_) => Ok(()),
-            Err(_) => Err("a job that is refused"),
-        },
-        None => Err("no such guest"),
-    }
-}
-
-/// Gives the store a guest's next intent, where one waits and a slot is free.
-pub fn hand_over(parts: &mut Parts<CountedDisk<MemDisk>>, guest: u16) -> Result<(), Stop> {
-    if !parts.store.is_free(guest) {
-        return Ok(());
-    }
-    match parts.book.take(&mut parts.shares, guest) {
-        Ok(Some(intent)) => give(&mut parts.store, intent),
-        Ok(None) => Ok(()),
-        Err(_) => Err("no such guest"),
-    }
-}
-
-fn settle(parts: &mut Parts<CountedDisk<MemDisk>>) -> Result<Call, Stop> {
+fn settle(parts: &mut Counted) -> Result<Call, Stop> {
     match parts.book.settle(&parts.shares, parts.store.marks()) {
         Ok(()) => Ok(Call::Sync),
         Err(_) => Err("marks that aren't settled"),
     }
 }
 
-/// Makes the store's next call, and tells the book what it settled.
-pub fn advance(parts: &mut Parts<CountedDisk<MemDisk>>) -> Result<Call, Stop> {
-    match parts.store.advance() {
-        Ok(Made::Idle) => Ok(Call::Nothing),
-        Ok(Made::Wrote) => Ok(Call::Write),
-        Ok(Made::Synced) => settle(parts),
-        Err(_) => Err("a call that failed"),
+impl Desk for Counted {
+    fn submit(&mut self, alloc: Global, guest: u16, job: Checked) -> Result<Rooms, Stop> {
+        match self.tallies.get_mut(usize::from(guest)) {
+            Some(tally) => match self.book.submit_checked(alloc, tally, job) {
+                Ok((_, rooms)) => Ok(rooms),
+                Err(_) => Err("a job that is refused"),
+            },
+            None => Err("no such guest"),
+        }
+    }
+
+    fn collect(&mut self, guest: u16) -> Option<Done> {
+        self.book.collect(guest)
+    }
+
+    fn collect_due(&mut self, guest: u16) -> Option<Due> {
+        self.book.collect_due(guest)
+    }
+
+    fn hand_over(&mut self, guest: u16) -> Result<(), Stop> {
+        if !self.store.is_free(guest) {
+            return Ok(());
+        }
+        match self.book.take(&mut self.shares, guest) {
+            Ok(Some(intent)) => give(&mut self.store, intent),
+            Ok(None) => Ok(()),
+            Err(_) => Err("no such guest"),
+        }
+    }
+
+    fn next_call(&mut self) -> Result<Call, Stop> {
+        match self.store.advance() {
+            Ok(Made::Idle) => Ok(Call::Nothing),
+            Ok(Made::Wrote) => Ok(Call::Write),
+            Ok(Made::Synced) => settle(self),
+            Err(_) => Err("a call that failed"),
+        }
+    }
+
+    fn settled_by_book(&self, guest: u16) -> u64 {
+        self.book.settled(guest).unwrap_or(0)
+    }
+
+    fn is_free(&self, guest: u16) -> bool {
+        self.store.is_free(guest)
+    }
+
+    fn counts(&self) -> Counts {
+        self.store.disk().counts()
     }
 }
 
-/// How many of a guest's writes are settled: all that is but its key.
-pub fn settled(parts: &Parts<CountedDisk<MemDisk>>, guest: u16) -> u64 {
-    parts.book.settled(guest).unwrap_or(0).saturating_sub(1)
+/// A book that answers jobs, the store that keeps what it accepts, and what lies before and behind
+/// them.
+#[derive(Drop)]
+pub struct Books<D: Desk> {
+    alloc: Global,
+    desk: D,
+    /// Whether MACs and memory of answers are made before a Submit and behind a Collect, as who
+    /// locks the book may, or within them.
+    is_apart: bool,
+    limits: Limits,
+    key: MacKey,
+    jobs: VecDeque<Checked>,
+    /// Memory that answers have left, for the next ones.
+    spare: Vec<Rooms>,
+    /// The replies that were collected, which are kept until the clock has stopped, as a board
+    /// keeps them for its devices.
+    replies: VecDeque<Done>,
+    /// The same without their MACs.
+    dues: VecDeque<Due>,
+    sum: u32,
 }
 
-impl Books {
+fn parts_on(alloc: Global, config: &BoardConfig, version: Version) -> Result<Counted, Stop> {
+    let disk = CountedDisk::of(new_disk(alloc, config, version)?);
+    let board = opened_board(alloc, disk, config)?;
+    Ok(parts_of(board, config))
+}
+
+/// The book and the store over a fresh image of a board and a version, of which nothing was asked.
+pub fn new_books(
+    alloc: Global,
+    config: &BoardConfig,
+    version: Version,
+    is_apart: bool,
+) -> Result<Books<Counted>, Stop> {
+    let limits = limits_of(config)?;
+    match parts_on(alloc, config, version) {
+        Ok(desk) => Ok(books_of(alloc, desk, is_apart, limits)),
+        Err(stop) => Err(stop),
+    }
+}
+
+/// The limits of the first guest; all are alike.
+fn limits_of(config: &BoardConfig) -> Result<Limits, Stop> {
+    match config.guests().first() {
+        Some(guest) => Ok(Limits::of(guest)),
+        None => Err("no guest"),
+    }
+}
+
+fn books_of<D: Desk>(alloc: Global, desk: D, is_apart: bool, limits: Limits) -> Books<D> {
+    Books {
+        alloc,
+        desk,
+        is_apart,
+        limits,
+        key: MacKey::new(&KEY),
+        jobs: VecDeque::new(alloc),
+        spare: Vec::new(alloc),
+        replies: VecDeque::new(alloc),
+        dues: VecDeque::new(alloc),
+        sum: 0,
+    }
+}
+
+/// The job of a guest's request, with room for its reply, which no device gave.
+fn job_of(alloc: Global, ask: Ask) -> Result<Job, Stop> {
+    let request = ask.kind.request(alloc, ask.counter)?;
+    let room = Range {
+        at: 0,
+        len: ask.kind.writable(),
+    };
+    match Vec::from_slice(alloc, &[room]) {
+        Ok(writable) => Ok(Job::of(alloc, ask.guest, 1, 0, 1, writable, request)),
+        Err(_) => Err(NO_MEMORY),
+    }
+}
+
+/// Keeps what was collected, where there is something.
+fn keep<T: Drop>(kept: &mut VecDeque<T>, one: Option<T>) -> Result<(), Stop> {
+    match one {
+        Some(one) => kept.push_back(one).ok().ok_or(NO_MEMORY),
+        None => Err("a reply that doesn't leave"),
+    }
+}
+
+/// What was mixed before, and the bytes of a reply together.
+fn mixed_reply(before: u32, reply: &[u8]) -> u32 {
+    let mut all = 0;
+    for byte in reply {
+        all ^= *byte;
+    }
+    mixed(before, all)
+}
+
+/// Whether a reply says that all went well: its last frame has the result 0x0000.
+fn is_granted(reply: &[u8]) -> bool {
+    let at = reply.len().saturating_sub(4);
+    reply.get(at) == Some(&0) && reply.get(at + 1) == Some(&0)
+}
+
+impl<D: Desk> Books<D> {
+    /// Makes of a job what can be made before the book has it.
+    fn prepare(&mut self, checked: &mut Checked) {
+        let spare = match self.spare.pop() {
+            Some(rooms) => rooms,
+            None => Rooms::none(self.alloc),
+        };
+        checked.prepare(self.alloc, self.limits, Some(&self.key), spare);
+    }
+
+    /// Keeps memory for the next answers, where those take it.
+    fn leave(&mut self, rooms: Rooms) -> Result<(), Stop> {
+        if self.is_apart {
+            self.spare.push(rooms).ok().ok_or(NO_MEMORY)
+        } else {
+            Ok(())
+        }
+    }
+
     /// Has the book answer a job: the one that was offered first.
-    fn submit(&mut self) -> Result<(), Stop> {
+    fn submit(&mut self, guest: u16) -> Result<(), Stop> {
         match self.jobs.pop_front() {
-            Some(job) => submit(&mut self.parts, self.alloc, job),
+            Some(job) => match self.desk.submit(self.alloc, guest, job) {
+                Ok(rooms) => self.leave(rooms),
+                Err(stop) => Err(stop),
+            },
             None => Err("no job"),
         }
     }
 
     fn collect(&mut self, guest: u16) -> Result<(), Stop> {
-        let done = self.parts.book.collect(guest);
-        push_reply(&mut self.replies, done)
+        if self.is_apart {
+            keep(&mut self.dues, self.desk.collect_due(guest))
+        } else {
+            keep(&mut self.replies, self.desk.collect(guest))
+        }
+    }
+
+    /// The first reply, with its MAC.
+    fn next_reply(&mut self) -> Option<Done> {
+        match self.dues.pop_front() {
+            Some(due) => Some(due.done(Some(&self.key))),
+            None => self.replies.pop_front(),
+        }
     }
 
     /// Mixes the first reply, and lets it go.
     fn publish(&mut self) -> Result<(), Stop> {
-        match self.replies.pop_front() {
-            Some(done) => {
-                self.sum = mixed_reply(self.sum, &done);
+        match self.next_reply() {
+            Some(done) if is_granted(done.reply()) => {
+                self.sum = mixed_reply(self.sum, done.reply());
                 Ok(())
             }
-            None => Err("no reply"),
-        }
-    }
-
-    /// That the first reply is a good one to a request of this kind.
-    fn granted(&self, kind: Kind) -> Result<(), Stop> {
-        match self.replies.front() {
-            Some(done) if done.reply().ends_with(&kind.end()) => Ok(()),
             _ => Err("a refusal"),
         }
     }
 
-    /// One request of a guest, which has its key, for its counter, from the making of its job to
-    /// the end of its reply.
-    pub fn ask(&mut self, guest: u16) -> Result<(), Stop> {
-        push_job(self.alloc, &mut self.jobs, guest, Kind::Counter, 0)?;
-        self.submit()?;
-        self.collect(guest)?;
-        self.granted(Kind::Counter)?;
-        self.publish()
-    }
-
     /// Whether the store may be given the guest's next intent.
     pub fn is_free(&self, guest: u16) -> bool {
-        self.parts.store.is_free(guest)
+        self.desk.is_free(guest)
     }
 
     /// What was counted of the disk.
-    pub fn into_counts(self) -> Counts {
-        let Parts { store, .. } = self.parts;
-        store.into_disk().counts()
+    pub fn counts(&self) -> Counts {
+        self.desk.counts()
     }
 }
 
-impl Way for Books {
-    fn offer(
-        &mut self,
-        alloc: Global,
-        guest: u16,
-        kind: Kind,
-        counter: u32,
-        _number: u16,
-    ) -> Result<(), Stop> {
-        push_job(alloc, &mut self.jobs, guest, kind, counter)
+impl<D: Desk> Way for Books<D> {
+    fn offer(&mut self, ask: Ask) -> Result<(), Stop> {
+        let mut job = Checked::plain(self.alloc, job_of(self.alloc, ask)?);
+        if self.is_apart {
+            self.prepare(&mut job);
+        }
+        self.jobs.push_back(job).ok().ok_or(NO_MEMORY)
     }
 
     fn turn(&mut self, guest: u16, turn: Turn) -> Result<(), Stop> {
         match turn {
-            Turn::Submit => self.submit(),
-            Turn::HandOver => hand_over(&mut self.parts, guest),
+            Turn::Submit => self.submit(guest),
+            Turn::HandOver => self.desk.hand_over(guest),
             Turn::Collect => self.collect(guest),
             Turn::Publish => self.publish(),
         }
     }
 
     fn advance(&mut self) -> Result<Call, Stop> {
-        advance(&mut self.parts)
+        self.desk.next_call()
     }
 
     fn settled(&self, guest: u16) -> u64 {
-        settled(&self.parts, guest)
+        self.desk.settled_by_book(guest).saturating_sub(1)
     }
 
     fn replies(&mut self) -> u32 {
@@ -230,14 +311,17 @@ impl Way for Books {
 /// Times so many requests of a kind from each guest of a board, by its book and store.
 pub fn time_books(
     rt: &HostRuntime,
+    name: &'static str,
     config: &BoardConfig,
     kind: Kind,
     count: u32,
-) -> Result<Row, Stop> {
-    let books = new_books(rt.alloc(), config)?;
+) -> Row {
     let shape = Shape {
         guests: guests_of(config),
         waiting: 1,
     };
-    time_way(rt, kind.name(), books, shape, kind, count)
+    match new_books(rt.alloc(), config, Version::One, false) {
+        Ok(mut books) => time_way(rt, name, &mut books, shape, kind, count),
+        Err(stop) => stopped(name, stop),
+    }
 }

@@ -1,6 +1,6 @@
 //! What requests cost a process, as the system tells it.
 use crate::clock::{Stop, now};
-use crate::pages::{number_at, stat_now};
+use crate::pages::{Pages, pages_now};
 use std::fs;
 use std::fs::DirEntry;
 use std::time::{CpuClock, Duration, Instant};
@@ -15,11 +15,9 @@ pub struct Used {
     at: Instant,
     /// The processor time of all threads.
     cpu: Duration,
-    /// How many ticks of it were in user mode, and how many in the system.
-    user: u64,
-    system: u64,
-    /// Pages that were touched and had to be cleared or mapped first.
-    faults: u64,
+    /// How many ticks of it were in user mode, and how many in the system; pages that were touched
+    /// and had to be cleared or mapped first.
+    pages: Pages,
     /// Context switches of the threads that run now.
     switches: u64,
 }
@@ -37,77 +35,93 @@ pub struct Cost {
     pub switches: u64,
 }
 
+/// Two numbers together, where there are both.
+fn added(all: Option<u64>, more: Option<u64>) -> Option<u64> {
+    match (all, more) {
+        (Some(all), Some(more)) => Some(all.saturating_add(more)),
+        _ => None,
+    }
+}
+
 /// The context switches that a line of a thread's status tells of; none in another line.
-fn switches_in(line: &str) -> Result<u64, Stop> {
+fn switches_in(line: &str) -> Option<u64> {
     match line.split_once('\t') {
         Some((name, number)) if name.ends_with("voluntary_ctxt_switches:") => {
-            number.parse::<u64>().ok().ok_or("no number")
+            number.parse::<u64>().ok()
         }
-        _ => Ok(0),
+        _ => Some(0),
     }
 }
 
 /// The context switches of a thread, of its own will and against it (proc_pid_status(5)).
-fn switches_of(status: &str) -> Result<u64, Stop> {
-    let mut all = 0u64;
+fn switches_of(status: &str) -> Option<u64> {
+    let mut all = Some(0);
     for line in status.split('\n') {
-        all = all.saturating_add(switches_in(line)?);
+        all = added(all, switches_in(line));
     }
-    Ok(all)
+    all
 }
 
 /// The context switches of the thread of this folder.
-fn switches_at(rt: &HostRuntime, thread: &DirEntry) -> Result<u64, Stop> {
-    let path = thread.path().join(rt.alloc(), "status");
-    let path = path.ok().ok_or("no memory")?;
+fn switches_at(rt: &HostRuntime, thread: &DirEntry) -> Option<u64> {
+    let path = thread.path().join(rt.alloc(), "status").ok()?;
     match fs::read_to_string(rt, path) {
         Ok(status) => switches_of(status.as_str()),
-        Err(_) => Err("a thread that has ended"),
+        Err(_) => None,
     }
 }
 
 /// The context switches of all threads that run now: the system keeps no sum that has those of
 /// others.
-fn switches_now(rt: &HostRuntime) -> Result<u64, Stop> {
+fn switches_now(rt: &HostRuntime) -> Option<u64> {
     let Ok(threads) = fs::read_dir(rt, "/proc/self/task") else {
-        return Err("no /proc/self/task");
+        return None;
     };
-    let mut all = 0u64;
+    let mut all = Some(0);
     for thread in threads {
-        match thread {
-            Ok(thread) => all = all.saturating_add(switches_at(rt, &thread)?),
-            Err(_) => return Err("no thread"),
-        }
+        let more = match thread {
+            Ok(thread) => switches_at(rt, &thread),
+            Err(_) => None,
+        };
+        all = added(all, more);
     }
-    Ok(all)
+    all
 }
 
 /// What the process has used until now.
 pub fn used_now(rt: &HostRuntime) -> Result<Used, Stop> {
-    let switches = switches_now(rt)?;
-    let stat = stat_now(rt)?;
-    let cpu = rt.process_cpu_time();
-    Ok(Used {
-        at: now(rt).ok_or("no clock")?,
-        cpu: cpu.ok().ok_or("no clock")?,
-        user: number_at(stat.as_str(), 13)?,
-        system: number_at(stat.as_str(), 14)?,
-        faults: number_at(stat.as_str(), 9)?,
-        switches,
-    })
+    let switches = switches_now(rt);
+    let pages = pages_now(rt);
+    let cpu = rt.process_cpu_time().ok();
+    match (switches, pages, cpu, now(rt)) {
+        (Some(switches), Ok(pages), Some(cpu), Some(at)) => Ok(Used {
+            at,
+            cpu,
+            pages,
+            switches,
+        }),
+        _ => Err("what the process has used isn't told"),
+    }
+}
+
+/// Between two looks.
+fn between(first: u64, last: u64) -> u64 {
+    last.saturating_sub(first)
 }
 
 impl Used {
     /// What was used from here on to a later look, for so many requests.
     pub fn until(&self, last: &Used, count: u64) -> Cost {
+        let user = between(self.pages.user, last.pages.user);
+        let system = between(self.pages.system, last.pages.system);
         Cost {
             count,
             took: last.at.saturating_duration_since(self.at),
             cpu: last.cpu.saturating_sub(self.cpu),
-            user: last.user.saturating_sub(self.user).saturating_mul(TICK),
-            system: last.system.saturating_sub(self.system).saturating_mul(TICK),
-            faults: last.faults.saturating_sub(self.faults),
-            switches: last.switches.saturating_sub(self.switches),
+            user: user.saturating_mul(TICK),
+            system: system.saturating_mul(TICK),
+            faults: between(self.pages.faults, last.pages.faults),
+            switches: between(self.switches, last.switches),
         }
     }
 }
@@ -127,22 +141,14 @@ impl Cost {
         }
     }
 
-    /// Hundredths for each request: of microseconds of processor time, in user mode and in the
-    /// system, of page faults, and of context switches.
-    fn hundredths(&self) -> [u128; 5] {
-        let all = [
-            self.cpu.as_nanos() / 1_000,
-            u128::from(self.user),
-            u128::from(self.system),
-            u128::from(self.faults),
-            u128::from(self.switches),
-        ];
-        all.map(|one| one.saturating_mul(100) / u128::from(self.count.max(1)))
+    /// Hundredths for each request.
+    fn hundredths(&self, of_all: u128) -> u128 {
+        of_all.saturating_mul(100) / u128::from(self.count.max(1))
     }
 }
 
 /// Prints hundredths as a column of a table.
-pub fn print_hundredths(rt: &HostRuntime, hundredths: u128) -> Result<(), Stop> {
+fn print_hundredths(rt: &HostRuntime, hundredths: u128) -> Result<(), Stop> {
     let printed = print!(rt; "{:>7}.{:02}", hundredths / 100, hundredths % 100);
     printed.ok().ok_or("no output")
 }
@@ -155,12 +161,27 @@ pub fn print_heads(rt: &HostRuntime) -> Result<(), Stop> {
     printed.ok().ok_or("no output")
 }
 
+/// Prints of a way, for each request: microseconds of processor time, in user mode and in the
+/// system, page faults, and context switches.
+fn print_each(rt: &HostRuntime, cost: &Cost) -> Result<(), Stop> {
+    let columns = [
+        cost.cpu.as_nanos() / 1_000,
+        u128::from(cost.user),
+        u128::from(cost.system),
+        u128::from(cost.faults),
+        u128::from(cost.switches),
+    ];
+    let mut all = Ok(());
+    for column in &columns {
+        all = all.and(print_hundredths(rt, cost.hundredths(*column)));
+    }
+    all
+}
+
 /// Prints what a way to serve so many guests costs: requests a second, and then for each request.
 pub fn print_cost(rt: &HostRuntime, guests: u16, way: &str, cost: &Cost) -> Result<(), Stop> {
-    let printed = print!(rt; "{guests:>6}  {way:<18}{:>12}", cost.rate());
-    printed.ok().ok_or("no output")?;
-    for hundredths in &cost.hundredths() {
-        print_hundredths(rt, *hundredths)?;
-    }
-    println!(rt; "").ok().ok_or("no output")
+    let begun = print!(rt; "{guests:>6}  {way:<18}{:>12}", cost.rate());
+    let printed = print_each(rt, cost);
+    let ended = println!(rt; "");
+    begun.and(ended).ok().ok_or("no output").and(printed)
 }

@@ -39,27 +39,37 @@ fn push_request(
     kind: Kind,
     counter: u32,
 ) -> Result<(), Stop> {
-    let request = kind.request(alloc, counter)?;
-    requests.push(request).ok().ok_or(NO_MEMORY)
+    match kind.request(alloc, counter) {
+        Ok(request) => requests.push(request).ok().ok_or(NO_MEMORY),
+        Err(stop) => Err(stop),
+    }
 }
 
 /// A request for the key, and so many of a kind, each under the counter that it finds.
-fn requests_of(alloc: Global, kind: Kind, count: u32) -> Result<Vec<Vec<u8>>, Stop> {
-    let mut requests = Vec::new(alloc);
-    push_request(alloc, &mut requests, Kind::Key, 0)?;
+fn push_requests(
+    alloc: Global,
+    requests: &mut Vec<Vec<u8>>,
+    kind: Kind,
+    count: u32,
+) -> Result<(), Stop> {
+    let mut all = push_request(alloc, requests, Kind::Key, 0);
     for counter in 0..count {
-        push_request(alloc, &mut requests, kind, counter)?;
+        all = all.and(push_request(alloc, requests, kind, counter));
     }
-    Ok(requests)
+    all
 }
 
 /// The requests of each guest of a board.
 pub fn new_load(alloc: Global, config: BoardConfig, asked: Asked) -> Result<Load, Stop> {
-    Ok(Load {
-        asked,
-        config,
-        requests: requests_of(alloc, asked.kind, asked.count())?,
-    })
+    let mut requests = Vec::new(alloc);
+    match push_requests(alloc, &mut requests, asked.kind, asked.count()) {
+        Ok(()) => Ok(Load {
+            asked,
+            config,
+            requests,
+        }),
+        Err(stop) => Err(stop),
+    }
 }
 
 /// What was mixed before, and each byte of a reply.
@@ -130,25 +140,44 @@ impl Load {
         }
     }
 
-    fn script(&self, alloc: Global) -> Result<Script, Stop> {
-        let mut orders = Vec::new(alloc);
-        let mut kind = Kind::Key;
-        for request in &self.requests {
-            let order = self.order_of(alloc, request, kind)?;
-            orders.push(order).ok().ok_or(NO_MEMORY)?;
-            kind = self.asked.kind;
+    fn push_order(
+        &self,
+        alloc: Global,
+        orders: &mut Vec<Order>,
+        request: &[u8],
+        kind: Kind,
+    ) -> Result<(), Stop> {
+        match self.order_of(alloc, request, kind) {
+            Ok(order) => orders.push(order).ok().ok_or(NO_MEMORY),
+            Err(stop) => Err(stop),
         }
-        Ok(Script::new(orders))
     }
 
-    /// A script for each guest, all alike.
-    pub fn scripts(&self, alloc: Global) -> Result<Vec<Script>, Stop> {
-        let mut scripts = Vec::new(alloc);
-        for _ in 0..self.guests() {
-            let script = self.script(alloc)?;
-            scripts.push(script).ok().ok_or(NO_MEMORY)?;
+    fn push_orders(&self, alloc: Global, orders: &mut Vec<Order>) -> Result<(), Stop> {
+        let mut all = Ok(());
+        let mut kind = Kind::Key;
+        for request in &self.requests {
+            all = all.and(self.push_order(alloc, orders, request, kind));
+            kind = self.asked.kind;
         }
-        Ok(scripts)
+        all
+    }
+
+    fn push_script(&self, alloc: Global, scripts: &mut Vec<Script>) -> Result<(), Stop> {
+        let mut orders = Vec::new(alloc);
+        match self.push_orders(alloc, &mut orders) {
+            Ok(()) => scripts.push(Script::new(orders)).ok().ok_or(NO_MEMORY),
+            Err(stop) => Err(stop),
+        }
+    }
+
+    /// Puts a script for each guest behind others, all alike.
+    pub fn push_scripts(&self, alloc: Global, scripts: &mut Vec<Script>) -> Result<(), Stop> {
+        let mut all = Ok(());
+        for _ in 0..self.guests() {
+            all = all.and(self.push_script(alloc, scripts));
+        }
+        all
     }
 
     /// The last bytes of the last reply to each guest: its write counter, address 0, one block, the

@@ -1,13 +1,13 @@
 //! MACs of frames, by a key whose pads are hashed once or anew.
 ghost use Rattle.std.specs.Prelude.{◌≤◌};
 
-use crate::clock::{Row, Stop, now, since};
+use crate::clock::{Row, now, since};
 use crate::requests::KEY;
 use hmac256::{MacKey, mac_of};
 
 /// So many MACs of one frame, each with the pads hashed anew; the answer is their first bytes,
 /// mixed.
-pub fn plain_macs(count: u32) -> u8 {
+fn plain_macs(count: u32) -> u8 {
     let mut frame = [0x5au8; 512];
     let mut all = 0u8;
     for _ in 0..count {
@@ -19,7 +19,7 @@ pub fn plain_macs(count: u32) -> u8 {
 
 /// So many MACs of this many frames, with the pads hashed once; the answer is their first bytes,
 /// mixed.
-pub fn keyed_macs(count: u32, frames: usize) -> u8
+fn keyed_macs(count: u32, frames: usize) -> u8
     requires { frames ≤ 16 }
 {
     let key = MacKey::new(&KEY);
@@ -33,30 +33,25 @@ pub fn keyed_macs(count: u32, frames: usize) -> u8
 }
 
 /// Times so many MACs of one frame with the pads hashed anew.
-pub fn time_plain(rt: &HostRuntime, name: &'static str, count: u32) -> Result<Row, Stop> {
+pub fn time_plain(rt: &HostRuntime, name: &'static str, count: u32) -> Row {
     let start = now(rt);
     let sum = u64::from(plain_macs(count));
-    Ok(Row {
+    Row {
         name,
         count: u64::from(count),
-        took: since(rt, start)?,
+        took: since(rt, start),
         sum,
-    })
+    }
 }
 
 /// Times so many MACs of this many frames, at most 16, with the pads hashed once.
-pub fn time_keyed(
-    rt: &HostRuntime,
-    name: &'static str,
-    count: u32,
-    frames: usize,
-) -> Result<Row, Stop> {
+pub fn time_keyed(rt: &HostRuntime, name: &'static str, count: u32, frames: usize) -> Row {
     let start = now(rt);
     let sum = u64::from(keyed_macs(count, frames.min(16)));
-    Ok(Row {
+    Row {
         name,
         count: u64::from(count),
-        took: since(rt, start)?,
+        took: since(rt, start),
         sum,
-    })
+    }
 }

@@ -1,5 +1,5 @@
-//! Times work of one kind, `bench WORK COUNT`; without arguments it prints checksums alone. COUNT
-//! is
+//! Times work of one kind, `bench WORK COUNT`; without arguments it does a few of each and prints
+//! what they came to, and no times. COUNT is
 //!
 //! - of `macs`: of MACs;
 //! - of `requests`: of requests for each of 64 guests, all of which have their keys; and of as many
@@ -8,14 +8,14 @@
 //!   what memory the process has after the first 20,000 and at the end;
 //! - of `rings`: of chains of 8,704 bytes, through queues of each form;
 //! - of `device`: of whole requests of each kind, of one guest, each from its offer to its reap,
-//!   through queues of each form, against the MACs that they need. The guest has asked for its key
-//!   and 20,000 requests of the kind before, so that the history has rolled once. The requests are
-//!   made before the clock runs, 256 at a time, and each answer is tested and let go while it runs;
-//!   their MACs are timed after each 256. A line of its own tells how many pages were touched that
-//!   had to be fetched or cleared first, for 1,000 of these requests;
-//! - of `store`: of writes of each of 64 guests, also where 2 and 4 of a guest go as one, with the
-//!   calls and bytes that each way needs, and of guests that write on without a pause, on images of
-//!   both versions, also how many syncs come before a record may begin;
+//!   through queues of each form, against the MACs that they need: as many batches of 256 as hold
+//!   COUNT. The guest has asked for its key and 20,000 requests of the kind before, so that the
+//!   history has rolled once. A batch is made before the clock runs, and each answer is tested and
+//!   let go while it runs; its MACs are timed after it. A line of its own tells how many pages were
+//!   touched that had to be fetched or cleared first, for 1,000 of these requests;
+//! - of `store`: of writes of each of 64 guests, also where 2 and 4 of a guest go as one; and of
+//!   guests that write on without a pause, on images of both versions, the calls and bytes that
+//!   each way needs, and how many syncs come before a record may begin;
 //! - of `open`: of upgrades of an image, and of openings, with the writes and syncs of an upgrade;
 //! - of `board`: of writes of each of 64 guests, which a board's steps settle, its book and store,
 //!   and its store alone;
@@ -50,17 +50,17 @@
 #![tactic(auto)]
 
 mod books;
+mod buses;
 mod clock;
 mod costs;
 mod counted;
-mod groups;
 mod images;
 mod loads;
 mod locks;
 mod machines;
 mod macs;
+mod openings;
 mod pages;
-mod parted;
 mod requests;
 mod rings;
 mod rolls;
@@ -70,287 +70,289 @@ mod serving;
 mod steps;
 mod stores;
 mod streams;
-mod upgrades;
 mod watching;
 mod ways;
 mod whole;
 
 use books::time_books;
-use clock::{Stop, print_rows};
-use groups::print_counts;
-use images::{board_of, time_openings, time_reads};
-use locks::{few_locked, time_locks};
-use machines::{few_monitored, time_four, time_machine, time_stepped};
-use macs::{keyed_macs, plain_macs, time_keyed, time_plain};
+use clock::{Extent, Row, Stop, plus, print_rows};
+use images::board_of;
+use locks::print_locks;
+use machines::time_machine;
+use macs::{time_keyed, time_plain};
+use openings::{print_upgrade, time_openings, time_reads, time_upgrades};
 use requests::Kind;
 use rings::{FORMS, time_chains, time_copies};
 use rolls::time_rolls;
 use rpmb_frame::BoardConfig;
 use runs::time_script;
-use serve_times::{few_served, time_serve};
+use serve_times::time_serve;
 use std::env;
 use std::process::ExitCode;
 use std::sync::Wait;
 use std::thread::Threads;
-use stores::{new_store, time_puts, time_stored, time_waiting};
+use steps::time_steps;
+use stores::{time_puts, time_store};
 use streams::print_streams;
-use upgrades::{print_upgrade, time_upgrades};
-use ways::{calls_of, time_ways};
-use whole::{few_whole, time_device};
+use whole::time_device;
 
-const GUESTS: u16 = 64;
+/// After so many requests the history, which holds 16,384, has rolled once.
+const WARM: u32 = 20_000;
 
-fn time_macs(rt: &HostRuntime, count: u32) -> Result<(), Stop> {
-    let keyed = time_keyed(rt, "MacKey", count, 1)?;
-    let plain = time_plain(rt, "mac_of", count)?;
-    print_rows(rt, &[keyed, plain])
+/// The works, and how many of each are done where no times are printed; `lock` is within `serve`.
+static WORKS: [(&str, u32); 10] = [
+    ("macs", 4),
+    ("requests", 2),
+    ("rings", 40),
+    ("device", 2),
+    ("store", 4),
+    ("open", 1),
+    ("board", 2),
+    ("machine", 4),
+    ("run", 2),
+    ("serve", 3),
+];
+
+fn print_macs(rt: &HostRuntime, extent: Extent) -> Result<(), Stop> {
+    let keyed = time_keyed(rt, "MacKey", extent.count, 1);
+    print_rows(
+        rt,
+        extent,
+        &[keyed],
+        &time_plain(rt, "mac_of", extent.count),
+    )
 }
 
-/// Requests for the counter from each guest, and as many writes.
-fn time_part(rt: &HostRuntime, board: &BoardConfig, part: u32) -> Result<(), Stop> {
-    let written = time_books(rt, board, Kind::Write, part)?;
-    let counted = time_books(rt, board, Kind::Counter, part)?;
-    print_rows(rt, &[written, counted])
+/// Writes of each guest, and as many requests for the counter.
+fn print_part(
+    rt: &HostRuntime,
+    board: &BoardConfig,
+    extent: Extent,
+    count: u32,
+) -> Result<(), Stop> {
+    let written = time_books(rt, Kind::Write.name(), board, Kind::Write, count);
+    let counted = time_books(rt, Kind::Counter.name(), board, Kind::Counter, count);
+    print_rows(rt, extent, &[written], &counted)
 }
 
-fn time_requests(rt: &HostRuntime, board: &BoardConfig, count: u32) -> Result<(), Stop> {
-    // First what holds no more than it needs: the parts keep all their requests ready.
-    time_rolls(rt, board, count.saturating_mul(u32::from(GUESTS)))?;
-    // Half the load before the whole: where time grows with the requests alone, each takes as long
-    // in both.
-    time_part(rt, board, count / 2)?;
-    time_part(rt, board, count)
-}
-
-fn time_rings(rt: &HostRuntime, count: u32) -> Result<(), Stop> {
-    let copied = time_copies(rt, count)?;
-    for form in &FORMS {
-        let popped = time_chains(rt, form, count)?;
-        print_rows(rt, &[popped, copied])?;
+/// First what holds no more than it needs: the parts keep all their requests ready.
+fn print_rolls(rt: &HostRuntime, board: &BoardConfig, extent: Extent) -> Result<(), Stop> {
+    if extent.is_timed {
+        time_rolls(rt, board, extent.count.saturating_mul(64))
+    } else {
+        Ok(())
     }
-    Ok(())
 }
 
-fn time_store(rt: &HostRuntime, board: &BoardConfig, count: u32) -> Result<(), Stop> {
-    let stored = time_stored(rt, board, count)?;
-    let put = time_puts(rt, board, count)?;
-    print_rows(rt, &[stored, put])?;
-    time_groups(rt, board, count)
+/// Half the load comes before the whole: where time grows with the requests alone, each takes as
+/// long in both.
+fn print_requests(rt: &HostRuntime, board: &BoardConfig, extent: Extent) -> Result<(), Stop> {
+    let rolled = print_rolls(rt, board, extent);
+    let half = print_part(rt, board, extent, extent.count / 2);
+    let whole = print_part(rt, board, extent, extent.count);
+    rolled.and(half).and(whole)
+}
+
+fn print_rings(rt: &HostRuntime, extent: Extent) -> Result<(), Stop> {
+    let copied = time_copies(rt, extent.count);
+    let mut all = Ok(());
+    for form in &FORMS {
+        let popped = time_chains(rt, *form, extent.count);
+        all = all.and(print_rows(rt, extent, &[popped], &copied));
+    }
+    all
 }
 
 /// As many writes of each guest by its store alone, four, two and one at a time.
-fn time_groups(rt: &HostRuntime, board: &BoardConfig, count: u32) -> Result<(), Stop> {
-    let four = time_waiting(rt, "4 waiting", board, 4, count / 4)?;
-    let two = time_waiting(rt, "2 waiting", board, 2, count / 2)?;
-    let one = time_waiting(rt, "1 waiting", board, 1, count)?;
-    print_rows(rt, &[four, two, one])?;
-    print_counts(rt, board)?;
-    print_streams(rt, board)
+fn print_groups(rt: &HostRuntime, board: &BoardConfig, extent: Extent) -> Result<(), Stop> {
+    let four = time_store(rt, "4 waiting", board, 4, extent.count / 4);
+    let two = time_store(rt, "2 waiting", board, 2, extent.count / 2);
+    let one = time_store(rt, "1 waiting", board, 1, extent.count);
+    print_rows(rt, extent, &[four, two], &one)
 }
 
-fn time_open(rt: &HostRuntime, board: &BoardConfig, count: u32) -> Result<(), Stop> {
-    let upgraded = time_upgrades(rt, board, count)?;
-    let opened = time_openings(rt, board, count)?;
-    let read = time_reads(rt, board, count)?;
-    print_rows(rt, &[upgraded, opened, read])?;
-    print_upgrade(rt, board)
+fn print_store(rt: &HostRuntime, board: &BoardConfig, extent: Extent) -> Result<(), Stop> {
+    let stored = time_store(rt, "its store alone", board, 1, extent.count);
+    let put = time_puts(rt, board, extent.count);
+    let printed = print_rows(rt, extent, &[stored], &put);
+    let grouped = print_groups(rt, board, extent);
+    printed.and(grouped).and(print_streams(rt, board))
 }
 
-fn time_board(rt: &HostRuntime, board: &BoardConfig, count: u32) -> Result<(), Stop> {
-    let rows = time_ways(rt, board, count)?;
-    print_rows(rt, &[rows.steps, rows.store, rows.books])
+fn print_open(rt: &HostRuntime, board: &BoardConfig, extent: Extent) -> Result<(), Stop> {
+    let upgraded = time_upgrades(rt, board, extent.count);
+    let opened = time_openings(rt, board, extent.count);
+    let read = time_reads(rt, board, extent.count);
+    let printed = print_rows(rt, extent, &[upgraded, opened], &read);
+    printed.and(print_upgrade(rt, board))
 }
 
-fn time_served(rt: &HostRuntime, single: &BoardConfig, kind: Kind, count: u32) -> Result<(), Stop> {
-    let served = time_machine(rt, kind, count)?;
-    let stepped = time_stepped(rt, single, kind, count)?;
-    print_rows(rt, &[served, stepped])
+fn print_board(rt: &HostRuntime, board: &BoardConfig, extent: Extent) -> Result<(), Stop> {
+    let name = "a write by a board's steps";
+    let steps = time_steps(rt, name, board, Kind::Write, extent.count);
+    let store = time_store(rt, "by its store alone", board, 1, extent.count);
+    let name = "by its book and store";
+    let books = time_books(rt, name, board, Kind::Write, extent.count);
+    print_rows(rt, extent, &[steps, store], &books)
 }
 
-fn time_monitor(rt: &HostRuntime, single: &BoardConfig, count: u32) -> Result<(), Stop> {
-    time_served(rt, single, Kind::Counter, count)?;
-    time_served(rt, single, Kind::Write, count)?;
-    time_fours(rt, count)
+fn print_served(
+    rt: &HostRuntime,
+    single: &BoardConfig,
+    kind: Kind,
+    extent: Extent,
+) -> Result<(), Stop> {
+    let served = time_machine(rt, kind.name(), kind, extent.count, 1);
+    let stepped = time_steps(rt, "by a board's steps", single, kind, extent.count);
+    print_rows(rt, extent, &[served], &stepped)
 }
 
 /// Four writes a kick, beside one a kick.
-fn time_fours(rt: &HostRuntime, count: u32) -> Result<(), Stop> {
-    let four = time_four(rt, count / 4)?;
-    let one = time_machine(rt, Kind::Write, count)?;
-    print_rows(rt, &[four, one])
+fn print_fours(rt: &HostRuntime, extent: Extent) -> Result<(), Stop> {
+    let name = "4 writes of 1 block, by one kick";
+    let four = time_machine(rt, name, Kind::Write, extent.count / 4, 4);
+    let one = time_machine(rt, Kind::Write.name(), Kind::Write, extent.count, 1);
+    print_rows(rt, extent, &[four], &one)
+}
+
+fn print_machine(rt: &HostRuntime, single: &BoardConfig, extent: Extent) -> Result<(), Stop> {
+    let counted = print_served(rt, single, Kind::Counter, extent);
+    let written = print_served(rt, single, Kind::Write, extent);
+    counted.and(written).and(print_fours(rt, extent))
 }
 
 /// Beside a run the calls of its store, and the two MACs of each write: of its frame, and of its
 /// reply.
-fn time_run<R: AllocGlobal + Threads + Wait + Sync>(
-    rt: &HostRuntime,
-    threads: &R,
-    board: &BoardConfig,
-    count: u32,
-) -> Result<(), Stop> {
-    let run = time_script(rt, threads, board, count)?;
-    let mut own = time_plain(rt, "its store's calls and MACs", count.saturating_mul(2))?;
-    let stored = time_stored(rt, board, count)?;
-    own.took = own.took.saturating_add(stored.took);
-    own.count = u64::from(count);
-    print_rows(rt, &[run, own])
-}
-
-/// Some chains through a ring, and some copies.
-fn few_chains(rt: &HostRuntime) -> Result<u64, Stop> {
-    let popped = time_chains(rt, &FORMS[0], 40)?;
-    let copied = time_copies(rt, 3)?;
-    Ok(popped.sum ^ copied.sum)
-}
-
-/// Prints numbers, each with what stands behind it.
-fn print_numbers(rt: &HostRuntime, numbers: &[(u64, &str)]) -> Result<(), Stop> {
-    for (number, behind) in numbers {
-        let printed = print!(rt; "{number}{behind}");
-        printed.ok().ok_or("no output")?;
+fn limit_of_run(rt: &HostRuntime, board: &BoardConfig, count: u32) -> Row {
+    let stored = time_store(rt, "its store's calls and MACs", board, 1, count);
+    let macs = time_plain(rt, "mac_of", count.saturating_mul(2));
+    Row {
+        took: plus(stored.took, macs.took),
+        ..stored
     }
-    Ok(())
 }
 
-/// Three MACs and four of a key, two requests of each kind of 64 guests, chains and copies, and two
-/// whole requests of each kind.
-fn print_requests(rt: &HostRuntime, board: &BoardConfig) -> Result<(), Stop> {
-    let macs = plain_macs(3) ^ keyed_macs(4, 1);
-    let counted = time_books(rt, board, Kind::Counter, 2)?;
-    let written = time_books(rt, board, Kind::Write, 2)?;
-    let numbers = [
-        (u64::from(macs), " "),
-        (counted.sum, " "),
-        (written.sum, " "),
-        (few_chains(rt)?, " "),
-        (few_whole(rt)?, "\n"),
-    ];
-    print_numbers(rt, &numbers)
-}
-
-/// The calls and syncs of 64 keys, and of 64 writes, of a store.
-fn print_calls(rt: &HostRuntime, board: &BoardConfig) -> Result<(), Stop> {
-    let store = new_store(rt.alloc(), board, 1)?;
-    let [key_calls, key_syncs, calls, syncs] = calls_of(rt, store, GUESTS)?;
-    let numbers = [
-        (u64::from(key_calls), " "),
-        (u64::from(key_syncs), ", "),
-        (u64::from(calls), " "),
-        (u64::from(syncs), "\n"),
-    ];
-    print_numbers(rt, &numbers)
-}
-
-/// Writes by steps, by a book and by a store.
-fn print_ways(rt: &HostRuntime, board: &BoardConfig) -> Result<(), Stop> {
-    let ways = time_ways(rt, board, 2)?;
-    let numbers = [
-        (ways.steps.sum, " "),
-        (ways.books.sum, " "),
-        (ways.store.sum, "\n"),
-    ];
-    print_numbers(rt, &numbers)
-}
-
-/// A script, then what threads and a monitor came to, and what two locks count.
-fn print_runs<R: AllocGlobal + Threads + Wait + Sync>(
-    rt: &HostRuntime,
-    threads: &R,
-    single: &BoardConfig,
-) -> Result<(), Stop> {
-    let script = time_script(rt, threads, single, 2)?;
-    let run = few_served(rt, threads)?;
-    let numbers = [
-        (script.sum, "\n"),
-        (run.turns, " "),
-        (u64::from(run.answers), " "),
-        (few_monitored(rt)?, " "),
-        (few_locked(rt)?, "\n"),
-    ];
-    print_numbers(rt, &numbers)
-}
-
-/// What the gate runs: a few of each, with no times, of a board of 64 guests and of one of a single
-/// guest.
-fn checksums<R: AllocGlobal + Threads + Wait + Sync>(
+fn print_run<R: AllocGlobal + Threads + Wait + Sync>(
     rt: &HostRuntime,
     threads: &R,
     board: &BoardConfig,
-    single: &BoardConfig,
+    extent: Extent,
 ) -> Result<(), Stop> {
-    print_requests(rt, board)?;
-    print_calls(rt, board)?;
-    print_ways(rt, board)?;
-    print_runs(rt, threads, single)?;
-    print_counts(rt, board)?;
-    print_streams(rt, board)?;
-    print_upgrade(rt, board)
+    let run = time_script(rt, threads, board, extent.count);
+    print_rows(rt, extent, &[run], &limit_of_run(rt, board, extent.count))
 }
 
-/// Times the work of this name.
-fn time<R: AllocGlobal + Threads + Wait + Sync>(
+/// Serves at once, and then what `lock` prints.
+fn print_serve<R: AllocGlobal + Threads + Wait + Sync>(
     rt: &HostRuntime,
     threads: &R,
     board: &BoardConfig,
-    single: &BoardConfig,
+    extent: Extent,
+) -> Result<(), Stop> {
+    let served = time_serve(rt, threads, extent);
+    served.and(print_locks(rt, board, extent))
+}
+
+/// Does a work that needs a board, of one guest or of 64.
+fn print_on<R: AllocGlobal + Threads + Wait + Sync>(
+    rt: &HostRuntime,
+    threads: &R,
+    board: &BoardConfig,
     work: &str,
-    count: u32,
+    extent: Extent,
 ) -> Result<(), Stop> {
     match work {
-        "macs" => time_macs(rt, count),
-        "requests" => time_requests(rt, board, count),
-        "rings" => time_rings(rt, count),
-        "device" => time_device(rt, count),
-        "store" => time_store(rt, board, count),
-        "open" => time_open(rt, board, count),
-        "board" => time_board(rt, board, count),
-        "machine" => time_monitor(rt, single, count),
-        "run" => time_run(rt, threads, single, count),
-        "lock" => time_locks(rt, count),
-        "serve" => time_serve(rt, threads, count),
+        "requests" => print_requests(rt, board, extent),
+        "store" => print_store(rt, board, extent),
+        "open" => print_open(rt, board, extent),
+        "board" => print_board(rt, board, extent),
+        "machine" => print_machine(rt, board, extent),
+        "run" => print_run(rt, threads, board, extent),
+        "lock" => print_locks(rt, board, extent),
+        "serve" => print_serve(rt, threads, board, extent),
         _ => Err("no such work"),
     }
 }
 
-/// Does what the words ask for: the program's name, WORK and COUNT.
-fn perform_on<R: AllocGlobal + Threads + Wait + Sync>(
-    rt: &HostRuntime,
-    threads: &R,
-    board: &BoardConfig,
-    single: &BoardConfig,
-    words: &[String],
-) -> Result<(), Stop> {
-    match words {
-        [_, work, count] => match count.parse::<u32>() {
-            Ok(count) => time(rt, threads, board, single, work, count),
-            Err(_) => Err("COUNT is no number"),
-        },
-        _ => checksums(rt, threads, board, single),
+fn guests_for(work: &str) -> u16 {
+    match work {
+        "machine" | "run" | "lock" | "serve" => 1,
+        _ => 64,
     }
 }
 
-/// The same beside the boards that it may need, which are held here alone.
+/// Does the work of this name.
+fn print_work<R: AllocGlobal + Threads + Wait + Sync>(
+    rt: &HostRuntime,
+    threads: &R,
+    work: &str,
+    extent: Extent,
+) -> Result<(), Stop> {
+    match work {
+        "macs" => print_macs(rt, extent),
+        "rings" => print_rings(rt, extent),
+        "device" => time_device(rt, extent),
+        _ => match board_of(rt.alloc(), guests_for(work)) {
+            Ok(board) => print_on(rt, threads, &board, work, extent),
+            Err(stop) => Err(stop),
+        },
+    }
+}
+
+/// What the gate runs: a few of each work, with no times.
+fn print_few<R: AllocGlobal + Threads + Wait + Sync>(
+    rt: &HostRuntime,
+    threads: &R,
+) -> Result<(), Stop> {
+    let mut all = Ok(());
+    for (work, count) in &WORKS {
+        let extent = Extent {
+            count: *count,
+            warm: 0,
+            is_timed: false,
+        };
+        all = all.and(print_work(rt, threads, work, extent));
+    }
+    all
+}
+
+/// Does what the words ask for: the program's name, WORK and COUNT.
 fn perform<R: AllocGlobal + Threads + Wait + Sync>(
     rt: &HostRuntime,
     threads: &R,
     words: &[String],
 ) -> Result<(), Stop> {
-    let board = board_of(rt.alloc(), GUESTS)?;
-    let single = board_of(rt.alloc(), 1)?;
-    perform_on(rt, threads, &board, &single, words)
+    match words {
+        [_, work, count] => match count.parse::<u32>() {
+            Ok(count) => {
+                let extent = Extent {
+                    count,
+                    warm: WARM,
+                    is_timed: true,
+                };
+                print_work(rt, threads, work.as_str(), extent)
+            }
+            Err(_) => Err("COUNT is no number"),
+        },
+        _ => print_few(rt, threads),
+    }
 }
 
 fn words(rt: &HostRuntime) -> Result<Vec<String>, Stop> {
-    let words = env::args(rt).ok().ok_or("no words")?;
-    words.collect(rt.alloc()).ok().ok_or("no words")
+    match env::args(rt) {
+        Ok(words) => words.collect(rt.alloc()).ok().ok_or("no words"),
+        Err(_) => Err("no words"),
+    }
 }
 
 fn perform_words<R: AllocGlobal + Threads + Wait + Sync>(
     rt: &HostRuntime,
     threads: &R,
 ) -> Result<(), Stop> {
-    let words = words(rt)?;
-    perform(rt, threads, &words)
+    match words(rt) {
+        Ok(words) => perform(rt, threads, &words),
+        Err(stop) => Err(stop),
+    }
 }
 
 fn main(rt: HostRuntime) -> ExitCode {

@@ -21,6 +21,9 @@ pub enum Kind {
     Read,
 }
 
+/// Those that are asked again and again.
+pub static KINDS: [Kind; 3] = [Kind::Counter, Kind::Write, Kind::Read];
+
 impl Kind {
     pub fn name(self) -> &'static str {
         match self {

@@ -1,9 +1,9 @@
 //! Requests of one life past what a history holds: how long each takes, and what memory they use.
-use crate::books::{Books, new_books};
+use crate::books::new_books;
 use crate::clock::{NO_MEMORY, Stop, now, since};
-use crate::images::guests_of;
+use crate::images::Version;
 use crate::pages::{Pages, pages_now};
-use crate::ways::keyed;
+use crate::ways::{Way, ask_alone, key_each};
 use rpmb_frame::BoardConfig;
 
 /// After so many requests the history has rolled once.
@@ -16,20 +16,21 @@ const SUBMITS: usize = 16_384;
 const KEYS: usize = 64;
 
 /// The nanoseconds of one request for the counter, from the making of its job to the end of its
-/// reply.
-fn time_one(rt: &HostRuntime, books: &mut Books, guest: u16) -> Result<u32, Stop> {
+/// reply; 0 where it had none.
+fn time_one<W: Way>(rt: &HostRuntime, way: &mut W, guest: u16) -> u32 {
     let start = now(rt);
-    books.ask(guest)?;
-    let took = since(rt, start)?;
-    Ok(u32::try_from(took.as_nanos()).unwrap_or(u32::MAX))
+    let asked = ask_alone(way, guest);
+    match asked.and(since(rt, start)) {
+        Ok(took) => u32::try_from(took.as_nanos()).unwrap_or(u32::MAX),
+        Err(_) => 0,
+    }
 }
 
 /// As many requests as there are places for their times, of 64 guests in turn.
-fn time_each(rt: &HostRuntime, books: &mut Books, times: &mut [u32]) -> Result<(), Stop> {
+fn time_each<W: Way>(rt: &HostRuntime, way: &mut W, times: &mut [u32]) {
     for (number, time) in times.iter_mut().enumerate() {
-        *time = time_one(rt, books, (number % 64) as u16)?;
+        *time = time_one(rt, way, (number % 64) as u16);
     }
-    Ok(())
 }
 
 fn time_at(times: &[u32], place: usize) -> u32 {
@@ -101,21 +102,37 @@ fn print_pages(rt: &HostRuntime, first: Pages, last: Pages) -> Result<(), Stop> 
     printed.ok().ok_or("no output")
 }
 
-/// Times a request for each place, of 64 guests in turn, one after another.
-fn time_all(rt: &HostRuntime, books: &mut Books, times: &mut [u32]) -> Result<(), Stop> {
+/// Times a request for each place, of 64 guests in turn, one after another, once they have their
+/// keys.
+fn time_all<W: Way>(rt: &HostRuntime, way: &mut W, times: &mut [u32]) -> Result<(), Stop> {
     let (begin, rest) = times.split_at_mut(FIRST.min(times.len()));
-    time_each(rt, books, begin)?;
-    let first = pages_now(rt)?;
-    time_each(rt, books, rest)?;
-    let last = pages_now(rt)?;
-    print_pages(rt, first, last)
+    let keyed = key_each(rt, way, 64);
+    time_each(rt, way, begin);
+    let first = pages_now(rt);
+    time_each(rt, way, rest);
+    let last = pages_now(rt);
+    match (keyed, first, last) {
+        (Ok(_), Ok(first), Ok(last)) => print_pages(rt, first, last),
+        _ => Err("requests that weren't timed"),
+    }
 }
 
-/// The same, by a new book, once the guests have their keys.
+/// The same, by a new book.
 fn time_new(rt: &HostRuntime, board: &BoardConfig, times: &mut [u32]) -> Result<(), Stop> {
-    let books = new_books(rt.alloc(), board)?;
-    let mut books = keyed(rt, books, guests_of(board))?;
-    time_all(rt, &mut books, times)
+    match new_books(rt.alloc(), board, Version::One, false) {
+        Ok(mut books) => time_all(rt, &mut books, times),
+        Err(stop) => Err(stop),
+    }
+}
+
+/// Prints what the times come to, all of which there are.
+fn print_all(rt: &HostRuntime, times: &mut [u32]) -> Result<(), Stop> {
+    let folds = folds_of(times);
+    times.sort_unstable();
+    if time_at(times, 0) == 0 {
+        return Err("a request that has no reply");
+    }
+    print_times(rt, times, folds)
 }
 
 /// Times each of so many requests of 64 guests, which have their keys, by their book, past where
@@ -124,8 +141,6 @@ pub fn time_rolls(rt: &HostRuntime, board: &BoardConfig, count: u32) -> Result<(
     let Ok(mut times) = vec![in rt.alloc(); 1u32; count as usize] else {
         return Err(NO_MEMORY);
     };
-    time_new(rt, board, &mut times)?;
-    let folds = folds_of(&times);
-    times.sort_unstable();
-    print_times(rt, &times, folds)
+    let timed = time_new(rt, board, &mut times);
+    timed.and(print_all(rt, &mut times))
 }

@@ -1,7 +1,7 @@
 //! Writes of one guest by `run`: each goes through its line, its driver, the device, the board and
 //! the store.
-use crate::clock::{NO_MEMORY, Row, Stop, now, since};
-use crate::images::new_disk;
+use crate::clock::{NO_MEMORY, Row, Stop, now, since, stopped};
+use crate::images::{Version, new_disk};
 use crate::requests::Kind;
 use command_line::Command;
 use commands::perform;
@@ -10,6 +10,8 @@ use rpmb_frame::BoardConfig;
 use std::alloc::{AllocError, Global};
 use std::sync::Wait;
 use std::thread::Threads;
+
+const NAME: &str = "a write by run";
 
 static RUN: Command<'static> = Command::Run {
     board: "",
@@ -46,30 +48,47 @@ fn runs<R: AllocGlobal + Threads + Wait + Sync>(
     script: &str,
     disk: MemDisk,
     out: &mut Vec<u8>,
-) -> bool {
+) -> Result<(), Stop> {
     let mut err = Vec::new(threads.alloc());
-    let (status, _) = perform(threads, RUN, config, script, disk, out, &mut err);
-    status == 0
+    match perform(threads, RUN, config, script, disk, out, &mut err) {
+        (0, _) => Ok(()),
+        _ => Err("a run that came to a fault"),
+    }
 }
 
-/// Times a script of a key and so many writes of one guest; the sum is how many bytes it printed.
+/// Times a script over a fresh image in memory; the sum is how many bytes it printed.
+fn time_lines<R: AllocGlobal + Threads + Wait + Sync>(
+    rt: &HostRuntime,
+    threads: &R,
+    config: &BoardConfig,
+    script: &str,
+    count: u32,
+) -> Result<Row, Stop> {
+    let disk = new_disk(rt.alloc(), config, Version::One)?;
+    let mut out = Vec::new(rt.alloc());
+    let start = now(rt);
+    let ran = runs(threads, config, script, disk, &mut out);
+    Ok(Row {
+        name: NAME,
+        count: u64::from(count),
+        took: ran.and(since(rt, start)),
+        sum: out.len() as u64,
+    })
+}
+
+/// Times a script of a key and so many writes of one guest.
 pub fn time_script<R: AllocGlobal + Threads + Wait + Sync>(
     rt: &HostRuntime,
     threads: &R,
     config: &BoardConfig,
     count: u32,
-) -> Result<Row, Stop> {
-    let script = script_of(rt.alloc(), count)?;
-    let disk = new_disk(rt.alloc(), config)?;
-    let mut out = Vec::new(rt.alloc());
-    let start = now(rt);
-    if !runs(threads, config, script.as_str(), disk, &mut out) {
-        return Err("a run that came to a fault");
+) -> Row {
+    let timed = match script_of(rt.alloc(), count) {
+        Ok(script) => time_lines(rt, threads, config, script.as_str(), count),
+        Err(stop) => Err(stop),
+    };
+    match timed {
+        Ok(row) => row,
+        Err(stop) => stopped(NAME, stop),
     }
-    Ok(Row {
-        name: "a write by run",
-        count: u64::from(count),
-        took: since(rt, start)?,
-        sum: out.len() as u64,
-    })
 }

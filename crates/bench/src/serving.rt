@@ -4,7 +4,7 @@ ghost use Rattle.host.specs.Opening.{IsJustOpened};
 
 use crate::clock::{NO_MEMORY, Stop};
 use crate::costs::{Cost, used_now};
-use crate::images::{make_image, opened_board};
+use crate::images::{Version, make_image, opened_board};
 use crate::loads::{LONGEST, Load};
 use crate::requests::Kind;
 use crate::watching::Watch;
@@ -84,8 +84,10 @@ fn fresh_board<D: Disk>(alloc: Global, disk: D, config: &BoardConfig) -> Result<
     ensures { IfOk result (λ b. IsJustOpened D.state config.now b) }
 {
     let mut disk = disk;
-    make_image(&mut disk, config)?;
-    opened_board(alloc, disk, config)
+    match make_image(&mut disk, config, Version::One) {
+        Ok(()) => opened_board(alloc, disk, config),
+        Err(stop) => Err(stop),
+    }
 }
 
 /// Serves the guests at once, on a fresh image.
@@ -95,7 +97,8 @@ pub fn served<D: Disk + Send + Drop, R: Threads + Wait + Sync>(
     load: &Load,
     disk: D,
 ) -> Result<Run, Stop> {
-    let scripts = load.scripts(rt.alloc())?;
+    let mut scripts = Vec::new(rt.alloc());
+    load.push_scripts(rt.alloc(), &mut scripts)?;
     if scripts.len() != load.config.guests().len() {
         return Err("another number of guests");
     }
@@ -129,6 +132,19 @@ impl<D: Disk> Chains for Host<D> {
     }
 }
 
+fn take_chain<C: Chains>(
+    host: &mut C,
+    guest: u16,
+    kind: Kind,
+    request: &[u8],
+    answers: &mut Vec<Answer>,
+) -> Result<(), Stop> {
+    match host.end_of(guest, request, kind) {
+        Ok(answer) => answers.push(answer).ok().ok_or(NO_MEMORY),
+        Err(stop) => Err(stop),
+    }
+}
+
 /// A guest offers one chain after another.
 fn take_chains<C: Chains>(
     host: &mut C,
@@ -137,11 +153,11 @@ fn take_chains<C: Chains>(
     requests: &[Vec<u8>],
     answers: &mut Vec<Answer>,
 ) -> Result<(), Stop> {
+    let mut all = Ok(());
     for request in requests {
-        let answer = host.end_of(guest, request, kind)?;
-        answers.push(answer).ok().ok_or(NO_MEMORY)?;
+        all = all.and(take_chain(host, guest, kind, request, answers));
     }
-    Ok(())
+    all
 }
 
 /// Each guest does, one after another.
@@ -151,10 +167,12 @@ fn take_each<C: Chains>(
     requests: &[Vec<u8>],
     answers: &mut [Vec<Answer>],
 ) -> Result<(), Stop> {
+    let mut all = Ok(());
     for (guest, answers) in answers.iter_mut().enumerate() {
-        take_chains(host, (guest % 65_536) as u16, kind, requests, answers)?;
+        let guest = (guest % 65_536) as u16;
+        all = all.and(take_chains(host, guest, kind, requests, answers));
     }
-    Ok(())
+    all
 }
 
 /// Takes the chains of a load to their end, with what those cost that are timed.
@@ -165,12 +183,17 @@ fn take_load<C: Chains>(
     answers: &mut [Vec<Answer>],
 ) -> Result<Cost, Stop> {
     let [key, warm, timed] = load.parts();
-    take_each(host, Kind::Key, key, answers)?;
-    take_each(host, load.asked.kind, warm, answers)?;
-    let first = used_now(rt)?;
-    take_each(host, load.asked.kind, timed, answers)?;
-    let last = used_now(rt)?;
-    Ok(first.until(&last, load.all().saturating_sub(load.warm())))
+    let keyed = take_each(host, Kind::Key, key, answers);
+    let warmed = take_each(host, load.asked.kind, warm, answers);
+    let first = used_now(rt);
+    let taken = take_each(host, load.asked.kind, timed, answers);
+    let last = used_now(rt);
+    match (keyed.and(warmed).and(taken), first, last) {
+        (Ok(()), Ok(first), Ok(last)) => {
+            Ok(first.until(&last, load.all().saturating_sub(load.warm())))
+        }
+        (Err(stop), ..) | (_, Err(stop), _) | (.., Err(stop)) => Err(stop),
+    }
 }
 
 /// Brings the devices into service, takes one chain after another to its end, and makes the calls

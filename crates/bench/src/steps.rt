@@ -1,48 +1,39 @@
-//! A board whose guests act by steps alone: their drivers write registers and store chains.
-use crate::clock::{NO_MEMORY, Stop};
-use crate::images::{guests_of, new_disk, opened_board};
+//! A board whose guests are served by steps alone.
+use crate::buses::{Bus, offer, set_up};
+use crate::clock::{Row, Stop, stopped};
+use crate::images::{Version, guests_of, new_disk, opened_board};
 use crate::requests::Kind;
-use crate::ways::{Call, Turn, Way};
-use board::{Act, Board, Seen, Step};
+use crate::ways::{Ask, Call, Shape, Turn, Way, time_way};
+use board::{Board, Seen, Step};
 use disk::MemDisk;
-use mmio_transport::register as reg;
 use rpmb_frame::BoardConfig;
 use std::alloc::Global;
 
-/// What a driver writes into the registers: VIRTIO_F_VERSION_1 alone, a queue of 16 with its
-/// descriptors at 0x1000, its available ring at 0x2000 and its used ring at 0x3000, and DRIVER_OK
-/// (VIRTIO 1.2, 3.1.1 and 4.2.3.2).
-pub static SETUP: [(u32, u32); 13] = [
-    (reg::STATUS, 3),
-    (reg::DRIVER_FEATURES_SEL, 0),
-    (reg::DRIVER_FEATURES, 0),
-    (reg::DRIVER_FEATURES_SEL, 1),
-    (reg::DRIVER_FEATURES, 1),
-    (reg::STATUS, 11),
-    (reg::QUEUE_SEL, 0),
-    (reg::QUEUE_NUM, 16),
-    (reg::QUEUE_DESC_LOW, 0x1000),
-    (reg::QUEUE_DRIVER_LOW, 0x2000),
-    (reg::QUEUE_DEVICE_LOW, 0x3000),
-    (reg::QUEUE_READY, 1),
-    (reg::STATUS, 15),
-];
-
-/// Two descriptors (VIRTIO 1.2, 2.7.5): a request of 1,024 bytes at 0x4000, and room for 512 at
-/// 0x8000.
-pub static DESCRIPTORS: [u8; 32] = [
-    0, 0x40, 0, 0, 0, 0, 0, 0, 0, 4, 0, 0, 1, 0, 1, 0, //
-    0, 0x80, 0, 0, 0, 0, 0, 0, 0, 2, 0, 0, 2, 0, 0, 0,
-];
-
-/// Makes steps. Its methods promise nothing, so that what stands above them is proved without the
-/// contract of a board's step.
-pub trait Stepper: Drop {
+/// Makes steps.
+pub trait Stepper: Bus + Drop {
     /// Whether the step found something to do.
     fn make(&mut self, step: Step) -> Result<bool, Stop>;
 
     /// How many writes of a guest were accepted, which are settled once their replies left.
     fn writes(&self, guest: u16) -> u64;
+}
+
+impl Bus for Board<MemDisk> {
+    fn set(&mut self, guest: u16, offset: u32, value: u32) -> Result<(), Stop> {
+        if usize::from(guest) >= self.guests() {
+            return Err("no such guest");
+        }
+        self.device(guest).write(offset, 4, value);
+        Ok(())
+    }
+
+    fn put(&mut self, guest: u16, at: u64, bytes: &[u8]) -> Result<(), Stop> {
+        if usize::from(guest) >= self.guests() {
+            return Err("no such guest");
+        }
+        let stored = self.device(guest).store(at, bytes);
+        stored.ok().ok_or("a store outside")
+    }
 }
 
 impl Stepper for Board<MemDisk> {
@@ -64,24 +55,15 @@ impl Stepper for Board<MemDisk> {
 
 /// A board that makes steps.
 #[derive(Drop)]
-pub struct Steps<B: Stepper> {
+struct Steps<B: Stepper> {
     alloc: Global,
     board: B,
 }
 
-/// A board over a fresh image, with its devices in service.
-pub fn new_steps(alloc: Global, config: &BoardConfig) -> Result<Steps<Board<MemDisk>>, Stop> {
-    let disk = new_disk(alloc, config)?;
-    let board = opened_board(alloc, disk, config)?;
-    in_service(alloc, board, guests_of(config))
-}
-
-fn in_service<B: Stepper>(alloc: Global, board: B, guests: u16) -> Result<Steps<B>, Stop> {
-    let mut steps = Steps { alloc, board };
-    for guest in 0..guests {
-        steps.set_up(guest)?;
-    }
-    Ok(steps)
+/// A board over a fresh image.
+fn new_board(alloc: Global, config: &BoardConfig) -> Result<Board<MemDisk>, Stop> {
+    let disk = new_disk(alloc, config, Version::One)?;
+    opened_board(alloc, disk, config)
 }
 
 impl<B: Stepper> Steps<B> {
@@ -94,58 +76,27 @@ impl<B: Stepper> Steps<B> {
         }
     }
 
-    /// A guest stores bytes into its memory.
-    fn store(&mut self, guest: u16, at: u64, bytes: &[u8]) -> Result<(), Stop> {
-        match Vec::from_slice(self.alloc, bytes) {
-            Ok(bytes) => self.step(Step::Drive(guest, Act::Store { at, bytes })),
-            Err(_) => Err(NO_MEMORY),
+    /// A request that wasn't accepted has nothing for the store.
+    fn hand_over(&mut self, guest: u16) -> Result<(), Stop> {
+        match self.board.make(Step::Take(guest)) {
+            Ok(true) => self.step(Step::Give(guest)),
+            Ok(false) => Ok(()),
+            Err(stop) => Err(stop),
         }
-    }
-
-    fn write(&mut self, guest: u16, offset: u32, value: u32) -> Result<(), Stop> {
-        let act = Act::Write {
-            offset,
-            width: 4,
-            value,
-        };
-        self.step(Step::Drive(guest, act))
-    }
-
-    /// A guest's driver brings its device into service.
-    fn set_up(&mut self, guest: u16) -> Result<(), Stop> {
-        for (offset, value) in &SETUP {
-            self.write(guest, *offset, *value)?;
-        }
-        self.store(guest, 0x1000, &DESCRIPTORS)
     }
 }
 
 impl<B: Stepper> Way for Steps<B> {
-    /// The guest offers a request of 1,024 bytes, and its device gives the job.
-    fn offer(
-        &mut self,
-        alloc: Global,
-        guest: u16,
-        kind: Kind,
-        counter: u32,
-        number: u16,
-    ) -> Result<(), Stop> {
-        let request = kind.request(alloc, counter)?;
-        let place = u64::from(number % 16);
-        self.store(guest, 0x4000, &request)?;
-        self.store(guest, 0x2004 + 2 * place, &[0, 0])?;
-        self.store(guest, 0x2002, &number.wrapping_add(1).to_le_bytes())?;
-        self.step(Step::Pop(guest))
+    /// The guest offers a request, and its device gives the job.
+    fn offer(&mut self, ask: Ask) -> Result<(), Stop> {
+        let offered = offer(&mut self.board, self.alloc, ask, 1);
+        offered.and(self.step(Step::Pop(ask.guest)))
     }
 
     fn turn(&mut self, guest: u16, turn: Turn) -> Result<(), Stop> {
         match turn {
             Turn::Submit => self.step(Step::Submit(guest)),
-            // A request that wasn't accepted has nothing for the store.
-            Turn::HandOver => match self.board.make(Step::Take(guest))? {
-                true => self.step(Step::Give(guest)),
-                false => Ok(()),
-            },
+            Turn::HandOver => self.hand_over(guest),
             Turn::Collect => self.step(Step::Collect(guest)),
             Turn::Publish => self.step(Step::Publish(guest)),
         }
@@ -153,11 +104,11 @@ impl<B: Stepper> Way for Steps<B> {
 
     /// A board doesn't tell which call it made.
     fn advance(&mut self) -> Result<Call, Stop> {
-        if !self.board.make(Step::Advance)? {
-            return Ok(Call::Nothing);
+        match self.board.make(Step::Advance) {
+            Ok(true) => self.board.make(Step::Settle).and(Ok(Call::Write)),
+            Ok(false) => Ok(Call::Nothing),
+            Err(stop) => Err(stop),
         }
-        self.board.make(Step::Settle)?;
-        Ok(Call::Write)
     }
 
     fn settled(&self, guest: u16) -> u64 {
@@ -166,5 +117,39 @@ impl<B: Stepper> Way for Steps<B> {
 
     fn replies(&mut self) -> u32 {
         0
+    }
+}
+
+/// Brings the devices into service, and times.
+fn time_board<B: Stepper>(
+    rt: &HostRuntime,
+    name: &'static str,
+    steps: &mut Steps<B>,
+    guests: u16,
+    kind: Kind,
+    count: u32,
+) -> Row {
+    let shape = Shape { guests, waiting: 1 };
+    match set_up(&mut steps.board, guests) {
+        Ok(()) => time_way(rt, name, steps, shape, kind, count),
+        Err(stop) => stopped(name, stop),
+    }
+}
+
+/// Times so many requests of a kind from each guest of a board, by the board's steps.
+pub fn time_steps(
+    rt: &HostRuntime,
+    name: &'static str,
+    config: &BoardConfig,
+    kind: Kind,
+    count: u32,
+) -> Row {
+    let alloc = rt.alloc();
+    match new_board(alloc, config) {
+        Ok(board) => {
+            let mut steps = Steps { alloc, board };
+            time_board(rt, name, &mut steps, guests_of(config), kind, count)
+        }
+        Err(stop) => stopped(name, stop),
     }
 }

@@ -2,10 +2,10 @@
 //! itself.
 ghost use Rattle.std.specs.Prelude.{◌<◌, ◌+◌, ◌^◌, length};
 
-use crate::clock::{NO_MEMORY, Row, Stop, now, since};
-use crate::images::{guests_of, new_disk};
+use crate::clock::{NO_MEMORY, Row, Stop, Work, stopped, time_work};
+use crate::images::{Version, guests_of, new_disk};
 use crate::requests::{KEY, Kind};
-use crate::ways::{Call, Shape, Turn, Way, time_way};
+use crate::ways::{Ask, Call, Shape, Turn, Way, time_way};
 use disk::{Disk, MemDisk};
 use flusher::{Made, Store};
 use intent_slots::{Entry, Intent, Layout, Side};
@@ -15,16 +15,21 @@ use std::alloc::Global;
 
 /// A store that is given so many writes of a guest as one.
 #[derive(Drop)]
-pub struct Stored {
+struct Stored {
+    alloc: Global,
     store: Store<MemDisk>,
     waiting: u32,
 }
 
 /// The store over a fresh image of a board, which is given so many writes of a guest as one.
-pub fn new_store(alloc: Global, board: &BoardConfig, waiting: u32) -> Result<Stored, Stop> {
-    let disk = new_disk(alloc, board)?;
+fn new_store(alloc: Global, board: &BoardConfig, waiting: u32) -> Result<Stored, Stop> {
+    let disk = new_disk(alloc, board, Version::One)?;
     match open(alloc, disk, board) {
-        Ok((store, _)) => Ok(Stored { store, waiting }),
+        Ok((store, _)) => Ok(Stored {
+            alloc,
+            store,
+            waiting,
+        }),
         Err(_) => Err("no image"),
     }
 }
@@ -38,52 +43,56 @@ pub fn give<D: Disk>(store: &mut Store<D>, intent: Intent) -> Result<(), Stop> {
     Ok(())
 }
 
-/// The write of a guest's first block under this counter.
-fn write_of(alloc: Global, guest: u16, counter: u32) -> Result<Intent, Stop> {
-    match vec![in alloc; 0x5a; 256] {
-        Ok(blocks) => Ok(Intent::write(guest, KEY, counter.wrapping_add(1), 0, blocks)),
-        Err(_) => Err(NO_MEMORY),
-    }
-}
-
 /// Adds a write of the first block to an intent that has room for it.
 fn add_write(alloc: Global, intent: &mut Intent) -> Result<(), Stop> {
     if intent.entries() >= 4 || intent.last_counter() == u32::MAX {
         return Err("an intent without room");
     }
     match vec![in alloc; 0x5a; 256] {
-        Ok(blocks) => {
-            intent.push(Entry::write(0, blocks));
+        Ok(block) => {
+            intent.push(Entry::write(0, block));
             Ok(())
         }
         Err(_) => Err(NO_MEMORY),
     }
 }
 
-/// So many writes of a guest's first block, the first under this counter, as one.
-fn writes_of(alloc: Global, guest: u16, counter: u32, waiting: u32) -> Result<Intent, Stop> {
-    let mut intent = write_of(alloc, guest, counter)?;
-    for _ in 1..waiting {
-        add_write(alloc, &mut intent)?;
+fn add_writes(alloc: Global, intent: &mut Intent, count: u32) -> Result<(), Stop> {
+    let mut all = Ok(());
+    for _ in 0..count {
+        all = all.and(add_write(alloc, intent));
     }
-    Ok(intent)
+    all
+}
+
+/// The write of a guest's first block under a counter.
+fn write_of(alloc: Global, ask: Ask) -> Result<Intent, Stop> {
+    let next = ask.counter.wrapping_add(1);
+    match vec![in alloc; 0x5a; 256] {
+        Ok(block) => Ok(Intent::write(ask.guest, KEY, next, 0, block)),
+        Err(_) => Err(NO_MEMORY),
+    }
+}
+
+/// So many writes of a guest's first block, the first under this counter, as one.
+fn writes_of(alloc: Global, ask: Ask, waiting: u32) -> Result<Intent, Stop> {
+    let mut intent = write_of(alloc, ask)?;
+    match add_writes(alloc, &mut intent, waiting.saturating_sub(1)) {
+        Ok(()) => Ok(intent),
+        Err(stop) => Err(stop),
+    }
 }
 
 impl Way for Stored {
     /// A key, or writes of the first block as one, the first under this counter.
-    fn offer(
-        &mut self,
-        alloc: Global,
-        guest: u16,
-        kind: Kind,
-        counter: u32,
-        _number: u16,
-    ) -> Result<(), Stop> {
-        let intent = match kind {
-            Kind::Key => Intent::program_key(guest, KEY),
-            _ => writes_of(alloc, guest, counter, self.waiting)?,
-        };
-        give(&mut self.store, intent)
+    fn offer(&mut self, ask: Ask) -> Result<(), Stop> {
+        if let Kind::Key = ask.kind {
+            return give(&mut self.store, Intent::program_key(ask.guest, KEY));
+        }
+        match writes_of(self.alloc, ask, self.waiting) {
+            Ok(intent) => give(&mut self.store, intent),
+            Err(stop) => Err(stop),
+        }
     }
 
     fn turn(&mut self, _guest: u16, _turn: Turn) -> Result<(), Stop> {
@@ -110,24 +119,28 @@ impl Way for Stored {
 
 /// Times so many rounds of writes of each guest of a board by its store alone, which is given so
 /// many as one.
-pub fn time_waiting(
+pub fn time_store(
     rt: &HostRuntime,
     name: &'static str,
     board: &BoardConfig,
     waiting: u32,
     rounds: u32,
-) -> Result<Row, Stop> {
-    let store = new_store(rt.alloc(), board, waiting)?;
+) -> Row {
     let shape = Shape {
         guests: guests_of(board),
         waiting,
     };
-    time_way(rt, name, store, shape, Kind::Write, rounds)
+    match new_store(rt.alloc(), board, waiting) {
+        Ok(mut store) => time_way(rt, name, &mut store, shape, Kind::Write, rounds),
+        Err(stop) => stopped(name, stop),
+    }
 }
 
-/// Times so many writes of each guest of a board by its store alone, one at a time.
-pub fn time_stored(rt: &HostRuntime, board: &BoardConfig, count: u32) -> Result<Row, Stop> {
-    time_waiting(rt, "its store alone", board, 1, count)
+/// A disk to which the calls of a store are made.
+#[derive(Drop)]
+struct Puts {
+    disk: MemDisk,
+    layout: Layout,
 }
 
 /// Writes so many bytes, at most 328, to a disk that has room for them.
@@ -137,10 +150,9 @@ fn put(disk: &mut MemDisk, at: u64, len: usize) -> Result<(), Stop> {
     if at > disk.len() || len as u64 > disk.len() - at {
         return Err("no room on the disk");
     }
-    match disk.write_at(at, &bytes[..len]) {
-        Ok(()) => Ok(()),
-        Err(_) => Err("a call that failed"),
-    }
+    disk.write_at(at, &bytes[..len])
+        .ok()
+        .ok_or("a call that failed")
 }
 
 /// The calls that a guest's write of one block takes: places, and how many bytes.
@@ -159,55 +171,48 @@ fn puts_of(layout: &Layout, guest: u16) -> [(u64, usize); 5]
 
 /// Makes those calls to the disk itself.
 fn put_each(disk: &mut MemDisk, puts: &[(u64, usize)]) -> Result<(), Stop> {
+    let mut all = Ok(());
     for (at, len) in puts {
-        put(disk, *at, *len)?;
+        all = all.and(put(disk, *at, *len));
     }
-    Ok(())
-}
-
-/// The same calls for each guest of a board; four syncs go with them, whatever the number of
-/// guests.
-fn put_writes(disk: &mut MemDisk, layout: &Layout) -> Result<(), Stop> {
-    for guest in 0..layout.guests() {
-        put_each(disk, &puts_of(layout, guest as u16))?;
-    }
-    sync_four_times(disk)
+    all
 }
 
 fn sync_four_times(disk: &mut MemDisk) -> Result<(), Stop> {
+    let mut all = Ok(());
     for _ in 0..4 {
-        disk.sync().ok().ok_or("a call that failed")?;
+        all = all.and(disk.sync().ok().ok_or("a call that failed"));
     }
-    Ok(())
+    all
 }
 
-fn put_all(disk: &mut MemDisk, board: &BoardConfig, count: u32) -> Result<(), Stop> {
-    let layout = Layout::of(board);
-    for _ in 0..count {
-        put_writes(disk, &layout)?;
+/// The calls of a write of each guest.
+fn put_writes(disk: &mut MemDisk, layout: &Layout) -> Result<(), Stop> {
+    let mut all = Ok(());
+    for guest in 0..layout.guests() {
+        all = all.and(put_each(disk, &puts_of(layout, guest as u16)));
     }
-    Ok(())
+    all
 }
 
-/// Times the calls of so many writes of each guest of a board, made to this disk.
-fn time_puts_to(
-    rt: &HostRuntime,
-    disk: &mut MemDisk,
-    board: &BoardConfig,
-    count: u32,
-) -> Result<Row, Stop> {
-    let start = now(rt);
-    put_all(disk, board, count)?;
-    Ok(Row {
-        name: "the same calls of the disk itself",
-        count: u64::from(count) * u64::from(guests_of(board)),
-        took: since(rt, start)?,
-        sum: 0,
-    })
+impl Work for Puts {
+    /// Four syncs go with the calls, whatever the number of guests.
+    fn once(&mut self, _number: u32) -> Result<u32, Stop> {
+        let put = put_writes(&mut self.disk, &self.layout);
+        put.and(sync_four_times(&mut self.disk)).and(Ok(0))
+    }
 }
 
 /// Times the calls of so many writes of each guest of a board, made to the disk itself.
-pub fn time_puts(rt: &HostRuntime, board: &BoardConfig, count: u32) -> Result<Row, Stop> {
-    let mut disk = new_disk(rt.alloc(), board)?;
-    time_puts_to(rt, &mut disk, board, count)
+pub fn time_puts(rt: &HostRuntime, board: &BoardConfig, count: u32) -> Row {
+    let name = "the same calls of the disk itself";
+    match new_disk(rt.alloc(), board, Version::One) {
+        Ok(disk) => {
+            let layout = Layout::of(board);
+            let mut row = time_work(rt, name, count, &mut Puts { disk, layout });
+            row.count = row.count.saturating_mul(u64::from(guests_of(board)));
+            row
+        }
+        Err(stop) => stopped(name, stop),
+    }
 }
