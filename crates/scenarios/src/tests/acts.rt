@@ -79,17 +79,24 @@ pub struct Acts {
     offered: [u16; 3],
 }
 
-/// The fillers of a stop, by number.
-fn filler_of(alloc: Global, number: u8) -> Result<Filler, Fail> {
+/// The bytes that a stop of each number leaves in turn.
+fn bytes_of(number: u8) -> &'static [u8] {
     match number {
-        0 => Ok(Filler::Old),
-        1 => Ok(Filler::New),
-        2 => Ok(Filler::Fill(Vec::new(alloc))),
-        4 => Ok(Filler::Fill(Vec::from_slice(alloc, &[0xa5])?)),
-        5 => Ok(Filler::Fill(Vec::from_slice(alloc, &[0x02])?)),
-        6 => Ok(Filler::Fill(Vec::from_slice(alloc, &[0x77])?)),
-        7 => Ok(Filler::Fill(Vec::from_slice(alloc, &[0x5a, 0xa5])?)),
-        _ => Ok(Filler::Fill(Vec::from_slice(alloc, &[0xff])?)),
+        2 => &[],
+        4 => &[0xa5],
+        5 => &[0x02],
+        6 => &[0x77],
+        7 => &[0x5a, 0xa5],
+        _ => &[0xff],
+    }
+}
+
+/// The fillers of a stop, by number.
+fn filler_of(alloc: Global, number: u8) -> Option<Filler> {
+    match number {
+        0 => Some(Filler::Old),
+        1 => Some(Filler::New),
+        _ => Some(Filler::Fill(bytes_of(number).to_vec(alloc).ok()?)),
     }
 }
 
@@ -110,38 +117,43 @@ impl Acts {
     }
 
     /// One more event, unless the stop has come.
-    fn add(&mut self, event: Event) -> Result<(), Fail> {
+    fn add(&mut self, event: Event) -> bool {
         if !self.has_stopped() {
-            self.events.push(event)?;
+            if self.events.push(event).is_err() {
+                return false;
+            }
         }
-        Ok(())
+        true
     }
 
     /// Once more a stop, within the first call after the opening, or after that call.
-    pub fn stop_again(&mut self, within: bool) -> Result<(), Fail> {
-        let filler = filler_of(self.alloc, self.filler)?;
+    pub fn stop_again(&mut self, within: bool) -> bool {
+        let Some(filler) = filler_of(self.alloc, self.filler) else {
+            return false;
+        };
         if within {
-            return Ok(self.events.push(Event::StopIn(filler))?);
+            return self.events.push(Event::StopIn(filler)).is_ok();
         }
-        self.events.push(Event::Do(Step::Advance))?;
-        self.events.push(Event::Do(Step::Settle))?;
-        Ok(self.events.push(Event::Stop(filler))?)
+        self.events.push(Event::Do(Step::Advance)).is_ok()
+            && self.events.push(Event::Do(Step::Settle)).is_ok()
+            && self.events.push(Event::Stop(filler)).is_ok()
     }
 
-    fn step(&mut self, step: Step) -> Result<(), Fail> {
+    fn step(&mut self, step: Step) -> bool {
         self.add(Event::Do(step))
     }
 
     /// The stop in place of the store's next call.
-    fn stop_in(&mut self) -> Result<(), Fail> {
-        let filler = filler_of(self.alloc, self.filler)?;
+    fn stop_in(&mut self) -> bool {
+        let Some(filler) = filler_of(self.alloc, self.filler) else {
+            return false;
+        };
         self.add(Event::StopIn(filler))
     }
 
     /// The store's next call, and what it means to the book.
-    fn call(&mut self) -> Result<(), Fail> {
-        self.step(Step::Advance)?;
-        self.step(Step::Settle)
+    fn call(&mut self) -> bool {
+        self.step(Step::Advance) && self.step(Step::Settle)
     }
 
     /// One advance less until the stop; answers whether it comes now.
@@ -157,7 +169,7 @@ impl Acts {
     }
 
     /// The store's next call, or the stop in its place.
-    fn advance(&mut self) -> Result<(), Fail> {
+    fn advance(&mut self) -> bool {
         if self.is_due() {
             self.stop_in()
         } else {
@@ -165,15 +177,17 @@ impl Acts {
         }
     }
 
-    fn advances(&mut self, times: u32) -> Result<(), Fail> {
+    fn advances(&mut self, times: u32) -> bool {
         for _ in 0..times {
-            self.advance()?;
+            if !self.advance() {
+                return false;
+            }
         }
-        Ok(())
+        true
     }
 
     /// Sets a guest's device up.
-    fn set_up(&mut self, guest: u16) -> Result<(), Fail> {
+    fn set_up(&mut self, guest: u16) -> bool {
         if let Some(offered) = self.offered.get_mut(usize::from(guest)) {
             *offered = 0;
         }
@@ -181,14 +195,16 @@ impl Acts {
     }
 
     /// A guest writes these values into these registers.
-    pub fn write_all(&mut self, guest: u16, writes: &[(u32, u32)]) -> Result<(), Fail> {
+    pub fn write_all(&mut self, guest: u16, writes: &[(u32, u32)]) -> bool {
         for (offset, value) in writes {
-            self.write(guest, *offset, *value)?;
+            if !self.write(guest, *offset, *value) {
+                return false;
+            }
         }
-        Ok(())
+        true
     }
 
-    fn write(&mut self, guest: u16, offset: u32, value: u32) -> Result<(), Fail> {
+    fn write(&mut self, guest: u16, offset: u32, value: u32) -> bool {
         let act = Act::Write {
             offset,
             width: 4,
@@ -198,8 +214,10 @@ impl Acts {
     }
 
     /// A guest stores bytes into its memory.
-    pub fn store(&mut self, guest: u16, at: u64, bytes: &[u8]) -> Result<(), Fail> {
-        let bytes = bytes.to_vec(self.alloc)?;
+    pub fn store(&mut self, guest: u16, at: u64, bytes: &[u8]) -> bool {
+        let Ok(bytes) = bytes.to_vec(self.alloc) else {
+            return false;
+        };
         self.step(Step::Drive(guest, Act::Store { at, bytes }))
     }
 
@@ -216,52 +234,54 @@ impl Acts {
     }
 
     /// Puts a chain of these frames, with room for one, before the device.
-    fn place(&mut self, guest: u16, frames: &[[u8; 512]]) -> Result<(), Fail> {
-        self.store(guest, 0x4000, frames.as_flattened())?;
-        self.store(guest, 0x1000, &descriptors(frames.len()))
+    fn place(&mut self, guest: u16, frames: &[[u8; 512]]) -> bool {
+        self.store(guest, 0x4000, frames.as_flattened())
+            && self.store(guest, 0x1000, &descriptors(frames.len()))
     }
 
     /// Makes it available.
-    fn offer(&mut self, guest: u16) -> Result<(), Fail> {
+    fn offer(&mut self, guest: u16) -> bool {
         let number = self.next_chain(guest);
-        self.store(guest, 0x2004 + 2 * u64::from(number % 16), &[0, 0])?;
-        self.store(guest, 0x2002, &number.wrapping_add(1).to_le_bytes())
+        self.store(guest, 0x2004 + 2 * u64::from(number % 16), &[0, 0])
+            && self.store(guest, 0x2002, &number.wrapping_add(1).to_le_bytes())
     }
 
     /// Puts a chain of this request before the device, and makes it available.
-    pub fn ask(&mut self, guest: u16, asked: Asked) -> Result<(), Fail> {
-        let frames = frames_of(self.alloc, asked)?;
-        self.place(guest, &frames)?;
-        self.offer(guest)
+    pub fn ask(&mut self, guest: u16, asked: Asked) -> bool {
+        let Some(frames) = frames_of(self.alloc, asked) else {
+            return false;
+        };
+        self.place(guest, &frames) && self.offer(guest)
     }
 
     /// The guest offers a chain of this request, and its job is answered.
-    pub fn submit(&mut self, guest: u16, asked: Asked) -> Result<(), Fail> {
-        self.ask(guest, asked)?;
-        self.step(Step::Pop(guest))?;
-        self.step(Step::Submit(guest))
+    pub fn submit(&mut self, guest: u16, asked: Asked) -> bool {
+        self.ask(guest, asked) && self.step(Step::Pop(guest)) && self.step(Step::Submit(guest))
     }
 
-    fn hand_over(&mut self, guest: u16) -> Result<(), Fail> {
-        self.step(Step::Take(guest))?;
-        self.step(Step::Give(guest))
+    fn hand_over(&mut self, guest: u16) -> bool {
+        self.step(Step::Take(guest)) && self.step(Step::Give(guest))
     }
 
-    fn reply(&mut self, guest: u16) -> Result<(), Fail> {
-        self.step(Step::Collect(guest))?;
-        self.step(Step::Publish(guest))
+    fn reply(&mut self, guest: u16) -> bool {
+        self.step(Step::Collect(guest)) && self.step(Step::Publish(guest))
     }
 
-    fn stop(&mut self, filler: u8) -> Result<(), Fail> {
-        self.add(Event::Stop(filler_of(self.alloc, filler)?))
+    fn stop(&mut self, filler: u8) -> bool {
+        let Some(filler_2) = filler_of(self.alloc, filler) else {
+            return false;
+        };
+        self.add(Event::Stop(filler_2))
     }
 
-    fn upgrade(&mut self, call: u32, filler: u8) -> Result<(), Fail> {
-        let filler = filler_of(self.alloc, filler)?;
+    fn upgrade(&mut self, call: u32, filler: u8) -> bool {
+        let Some(filler) = filler_of(self.alloc, filler) else {
+            return false;
+        };
         self.add(Event::Upgrade(Some((call, filler))))
     }
 
-    fn make(&mut self, guest: u16, next: Move) -> Result<(), Fail> {
+    fn make(&mut self, guest: u16, next: Move) -> bool {
         match next {
             Move::Open => self.add(Event::Open),
             Move::SetUp => self.set_up(guest),
@@ -276,10 +296,12 @@ impl Acts {
     }
 
     /// Makes one move of a guest after another.
-    pub fn play(&mut self, guest: u16, moves: &[Move]) -> Result<(), Fail> {
+    pub fn play(&mut self, guest: u16, moves: &[Move]) -> bool {
         for next in moves.iter() {
-            self.make(guest, *next)?;
+            if !self.make(guest, *next) {
+                return false;
+            }
         }
-        Ok(())
+        true
     }
 }

@@ -3,7 +3,7 @@
 use crate::tests::scene::{KEY, get_write_counter, program_key, result_read, write_at, write_of};
 use hmac256::mac_of;
 use rpmb_frame::Frame;
-use std::alloc::{AllocError, Global};
+use std::alloc::Global;
 
 /// A request, in a chain with room for one frame.
 #[derive(Clone, Copy)]
@@ -51,17 +51,15 @@ fn write_frame(byte: u8, address: u16, count: u8, counter: u32) -> [u8; 512] {
         .to_bytes()
 }
 
-fn push_writes(
-    frames: &mut Vec<[u8; 512]>,
-    address: u16,
-    count: u8,
-    counter: u32,
-) -> Result<(), AllocError> {
+fn push_writes(frames: &mut Vec<[u8; 512]>, address: u16, count: u8, counter: u32) -> bool {
     let first = 16 * (counter % 8) as u8 + 1;
     for i in 0..count {
-        frames.push(write_frame(first.wrapping_add(i), address, count, counter))?;
+        let frame = write_frame(first.wrapping_add(i), address, count, counter);
+        if frames.push(frame).is_err() {
+            return false;
+        }
     }
-    Ok(())
+    true
 }
 
 /// Puts the MAC of all frames into the last one.
@@ -73,25 +71,19 @@ fn seal(frames: &mut [[u8; 512]]) {
 }
 
 /// The frames that write so many blocks under this counter and ask for the result.
-fn writes_of(
-    alloc: Global,
-    address: u16,
-    count: u8,
-    counter: u32,
-) -> Result<Vec<[u8; 512]>, AllocError> {
-    let mut frames = Vec::with_capacity(alloc, 17)?;
-    push_writes(&mut frames, address, count, counter)?;
+fn writes_of(alloc: Global, address: u16, count: u8, counter: u32) -> Option<Vec<[u8; 512]>> {
+    let mut frames = Vec::new(alloc);
+    let written = push_writes(&mut frames, address, count, counter);
     seal(&mut frames);
-    frames.push(result_read())?;
-    Ok(frames)
+    (written && frames.push(result_read()).is_ok()).then_some(frames)
 }
 
-fn listed(alloc: Global, frames: &[[u8; 512]]) -> Result<Vec<[u8; 512]>, AllocError> {
-    Vec::from_slice(alloc, frames)
+fn listed(alloc: Global, frames: &[[u8; 512]]) -> Option<Vec<[u8; 512]>> {
+    Vec::from_slice(alloc, frames).ok()
 }
 
 /// The frames of a request.
-pub fn frames_of(alloc: Global, asked: Asked) -> Result<Vec<[u8; 512]>, AllocError> {
+pub fn frames_of(alloc: Global, asked: Asked) -> Option<Vec<[u8; 512]>> {
     match asked {
         Asked::Key(byte) => listed(alloc, &program_key(&[byte; 32])),
         Asked::Write(byte, counter) => listed(alloc, &write_of(byte, counter)),

@@ -89,132 +89,159 @@ fn request_of(guest: u16, number: usize) -> Asked {
 }
 
 /// What a guest asks in this turn, where it asks something.
-fn ask_in(acts: &mut Acts, pace: &Pace, guest: u16, turn: u32) -> Result<(), Fail> {
+fn ask_in(acts: &mut Acts, pace: &Pace, guest: u16, turn: u32) -> bool {
     for (number, at) in pace.at.iter().enumerate() {
         if turn == at.saturating_add(3 * u32::from(guest)) {
-            acts.play(guest, &[Move::Submit(request_of(guest, number))])?;
+            if !acts.play(guest, &[Move::Submit(request_of(guest, number))]) {
+                return false;
+            }
         }
     }
     acts.play(guest, &[Move::HandOver])
 }
 
-fn turn(acts: &mut Acts, pace: &Pace, turn: u32) -> Result<(), Fail> {
+fn turn(acts: &mut Acts, pace: &Pace, turn: u32) -> bool {
     for guest in 0..3 {
-        ask_in(acts, pace, guest, turn)?;
+        if !ask_in(acts, pace, guest, turn) {
+            return false;
+        }
     }
-    acts.play(0, &[Move::Advances(1)])?;
+    if !acts.play(0, &[Move::Advances(1)]) {
+        return false;
+    }
     for guest in 0..3 {
-        acts.play(guest, &[Move::Reply])?;
+        if !acts.play(guest, &[Move::Reply]) {
+            return false;
+        }
     }
-    Ok(())
+    true
 }
 
 /// All turns of three guests, up to the stop.
-fn turns(acts: &mut Acts, pace: &Pace) -> Result<(), Fail> {
+fn turns(acts: &mut Acts, pace: &Pace) -> bool {
     for guest in 0..3 {
-        acts.play(guest, &[Move::SetUp])?;
+        if !acts.play(guest, &[Move::SetUp]) {
+            return false;
+        }
     }
     for number in 0..pace.turns {
-        turn(acts, pace, number)?;
+        if !turn(acts, pace, number) {
+            return false;
+        }
     }
-    Ok(())
+    true
 }
 
 /// The turns of a world up to a stop within the call of turn `left`.
-fn stopped_in(alloc: Global, pace: &Pace, left: u32, filler: u8) -> Result<Acts, Fail> {
+fn stopped_in(alloc: Global, pace: &Pace, left: u32, filler: u8) -> Option<Acts> {
     let mut acts = Acts::new(alloc, Some(left), filler);
-    acts.play(0, &[Move::Open])?;
-    turns(&mut acts, pace)?;
-    Ok(acts)
+    if !acts.play(0, &[Move::Open]) || !turns(&mut acts, pace) {
+        return None;
+    }
+    Some(acts)
 }
 
 /// The stop within the first call after the opening.
-fn stopped_again(alloc: Global, filler: u8) -> Result<Acts, Fail> {
+fn stopped_again(alloc: Global, filler: u8) -> Option<Acts> {
     let mut acts = Acts::new(alloc, None, filler);
-    acts.stop_again(true)?;
-    Ok(acts)
+    if !acts.stop_again(true) {
+        return None;
+    }
+    Some(acts)
 }
 
 /// Each guest has all that it was shown, after so many openings.
-fn happens(alloc: Global, world: &mut World, events: &[Event], openings: u64) -> Result<(), Fail> {
-    check(world.run(events).is_none(), "a refusal")?;
-    check(world.openings() == openings, "an opening")?;
-    check_guests(alloc, world)
+fn happens(alloc: Global, world: &mut World, events: &[Event], openings: u64) -> bool {
+    world.run(events).is_none() && world.openings() == openings && check_guests(alloc, world)
 }
 
-fn stop(alloc: Global, world: &mut World, pace: &Pace, left: u32, filler: u8) -> Result<(), Fail> {
-    let acts = stopped_in(alloc, pace, left, filler)?;
-    happens(alloc, world, &acts.events, 2)?;
-    let acts = stopped_again(alloc, filler)?;
+fn stop(alloc: Global, world: &mut World, pace: &Pace, left: u32, filler: u8) -> bool {
+    let Some(acts) = stopped_in(alloc, pace, left, filler) else {
+        return false;
+    };
+    if !happens(alloc, world, &acts.events, 2) {
+        return false;
+    }
+    let Some(acts) = stopped_again(alloc, filler) else {
+        return false;
+    };
     happens(alloc, world, &acts.events, 3)
 }
 
 /// Stops within the call of each turn, with this filler.
-fn stop_in_each(alloc: Global, pace: &Pace, filler: u8) -> Result<(), Fail> {
+fn stop_in_each(alloc: Global, pace: &Pace, filler: u8) -> bool {
     for left in 0..pace.turns {
-        let mut world = world_of(alloc, 3, pace.version)?;
-        stop(alloc, &mut world, pace, left, filler)?;
+        let Some(mut world) = world_of(alloc, 3, pace.version) else {
+            return false;
+        };
+        if !stop(alloc, &mut world, pace, left, filler) {
+            return false;
+        }
     }
-    Ok(())
+    true
 }
 
 /// The same with each filler.
-fn stop_with_each(alloc: Global, pace: &Pace) -> Result<(), Fail> {
+fn stop_with_each(alloc: Global, pace: &Pace) -> bool {
     for filler in [OLD, NEW, OTHER] {
-        stop_in_each(alloc, pace, filler)?;
+        if !stop_in_each(alloc, pace, filler) {
+            return false;
+        }
     }
-    Ok(())
+    true
 }
 
 #[test]
 fn alone_and_old(rt: HostRuntime) -> Result<(), Fail> {
-    stop_in_each(rt.alloc(), &ALONE, OLD)
+    check(stop_in_each(rt.alloc(), &ALONE, OLD), "another outcome")
 }
 
 #[test]
 fn alone_and_new(rt: HostRuntime) -> Result<(), Fail> {
-    stop_in_each(rt.alloc(), &ALONE, NEW)
+    check(stop_in_each(rt.alloc(), &ALONE, NEW), "another outcome")
 }
 
 #[test]
 fn alone_and_other(rt: HostRuntime) -> Result<(), Fail> {
-    stop_in_each(rt.alloc(), &ALONE, OTHER)
+    check(stop_in_each(rt.alloc(), &ALONE, OTHER), "another outcome")
 }
 
 #[test]
 fn several_as_one(rt: HostRuntime) -> Result<(), Fail> {
-    stop_with_each(rt.alloc(), &TOGETHER)
+    check(stop_with_each(rt.alloc(), &TOGETHER), "another outcome")
 }
 
 #[test]
 fn all_as_one(rt: HostRuntime) -> Result<(), Fail> {
-    stop_with_each(rt.alloc(), &AT_ONCE)
+    check(stop_with_each(rt.alloc(), &AT_ONCE), "another outcome")
 }
 
 #[test]
 fn beside_another_and_old(rt: HostRuntime) -> Result<(), Fail> {
-    stop_in_each(rt.alloc(), &BESIDE, OLD)
+    check(stop_in_each(rt.alloc(), &BESIDE, OLD), "another outcome")
 }
 
 #[test]
 fn beside_another_and_new(rt: HostRuntime) -> Result<(), Fail> {
-    stop_in_each(rt.alloc(), &BESIDE, NEW)
+    check(stop_in_each(rt.alloc(), &BESIDE, NEW), "another outcome")
 }
 
 #[test]
 fn beside_another_and_other(rt: HostRuntime) -> Result<(), Fail> {
-    stop_in_each(rt.alloc(), &BESIDE, OTHER)
+    check(stop_in_each(rt.alloc(), &BESIDE, OTHER), "another outcome")
 }
 
 #[test]
 fn several_as_one_beside_another(rt: HostRuntime) -> Result<(), Fail> {
-    stop_with_each(rt.alloc(), &TOGETHER_BESIDE)
+    check(
+        stop_with_each(rt.alloc(), &TOGETHER_BESIDE),
+        "another outcome",
+    )
 }
 
 /// All turns, without a stop.
-fn all_turns(acts: &mut Acts, pace: &Pace) -> Result<(), Fail> {
-    acts.play(0, &[Move::Open])?;
-    turns(acts, pace)
+fn all_turns(acts: &mut Acts, pace: &Pace) -> bool {
+    acts.play(0, &[Move::Open]) && turns(acts, pace)
 }
 
 /// A guest has the reply to each of its requests, which needed all up to it, and a counter of its
@@ -232,45 +259,69 @@ fn is_served(world: &World, guest: u16) -> bool {
     }
 }
 
-fn serve_all(alloc: Global, world: &mut World, pace: &Pace) -> Result<(), Fail> {
+fn serve_all(alloc: Global, world: &mut World, pace: &Pace) -> bool {
     let mut acts = Acts::new(alloc, None, 0);
-    all_turns(&mut acts, pace)?;
-    happens(alloc, world, &acts.events, 1)?;
-    for guest in 0..3 {
-        check(is_served(world, guest), "a reply")?;
+    if !all_turns(&mut acts, pace) || !happens(alloc, world, &acts.events, 1) {
+        return false;
     }
-    Ok(())
+    for guest in 0..3 {
+        if !is_served(world, guest) {
+            return false;
+        }
+    }
+    true
 }
 
 #[test]
 fn all_is_served_within_the_turns(rt: HostRuntime) -> Result<(), Fail> {
     for pace in [&ALONE, &TOGETHER, &AT_ONCE, &BESIDE, &TOGETHER_BESIDE] {
-        let mut world = world_of(rt.alloc(), 3, pace.version)?;
-        serve_all(rt.alloc(), &mut world, pace)?;
+        let Some(mut world) = world_of(rt.alloc(), 3, pace.version) else {
+            return Err(Fail::from("no world"));
+        };
+        if !serve_all(rt.alloc(), &mut world, pace) {
+            return Err(Fail::from("another outcome"));
+        }
     }
     Ok(())
 }
 
 /// All turns are made and leave no call. How many writes they took.
-fn writes_of<B: Table>(mut board: B, events: &[Event]) -> Result<u64, Fail> {
-    check(play(&mut board, events)?.is_none(), "a refusal")?;
-    check(board.is_idle(), "a call that is left")?;
-    Ok(board.end().writes)
+fn writes_of<B: Table>(mut board: B, events: &[Event]) -> Option<u64> {
+    let Some(refusal) = play(&mut board, events) else {
+        return None;
+    };
+    if refusal.is_some() || !board.is_idle() {
+        return None;
+    }
+    Some(board.end().writes)
 }
 
-fn check_rest(alloc: Global, config: &BoardConfig, pace: &Pace) -> Result<(), Fail> {
+fn check_rest(alloc: Global, config: &BoardConfig, pace: &Pace) -> bool {
     let mut acts = Acts::new(alloc, None, 0);
-    turns(&mut acts, pace)?;
-    let disk = formatted_as(alloc, config, pace.version)?;
-    let writes = writes_of(opened_board(alloc, disk, config)?, &acts.events)?;
-    check(writes == pace.writes, "another number of writes")
+    if !turns(&mut acts, pace) {
+        return false;
+    }
+    let Some(disk) = formatted_as(alloc, config, pace.version) else {
+        return false;
+    };
+    let Some(board) = opened_board(alloc, disk, config) else {
+        return false;
+    };
+    let Some(writes) = writes_of(board, &acts.events) else {
+        return false;
+    };
+    writes == pace.writes
 }
 
 #[test]
 fn no_call_is_left_behind_the_turns(rt: HostRuntime) -> Result<(), Fail> {
-    let config = board_of(rt.alloc(), 3)?;
+    let Some(config) = board_of(rt.alloc(), 3) else {
+        return Err(Fail::from("no config"));
+    };
     for pace in [&ALONE, &TOGETHER, &AT_ONCE, &BESIDE, &TOGETHER_BESIDE] {
-        check_rest(rt.alloc(), &config, pace)?;
+        if !check_rest(rt.alloc(), &config, pace) {
+            return Err(Fail::from("another outcome"));
+        }
     }
     Ok(())
 }

@@ -55,31 +55,28 @@ pub fn opened_board(
     alloc: Global,
     inner: CutDisk,
     config: &BoardConfig,
-) -> Result<Board<MeteredDisk<CutDisk>>, Fail> {
+) -> Option<Board<MeteredDisk<CutDisk>>> {
     match Board::open(alloc, MeteredDisk::of(inner), 1, config) {
-        Ok(board) => Ok(board),
-        Err((_, fault)) => Err(Fail::from(fault)),
+        Ok(board) => Some(board),
+        Err((_, fault)) => None,
     }
 }
 
 /// Makes the steps of a list, which are all that it may have, also behind one that is refused;
 /// answers the first refusal.
-pub fn play<B: Table>(board: &mut B, events: &[Event]) -> Result<Option<StepFault>, Fail> {
+pub fn play<B: Table>(board: &mut B, events: &[Event]) -> Option<Option<StepFault>> {
     let mut first = None;
     for event in events {
         let Event::Do(step) = event else {
-            return Err(Fail::from("no step"));
+            return None;
         };
         first = first.or(board.make(step).err());
     }
-    Ok(first)
+    Some(first)
 }
 
 /// Publishes the reply that was collected.
-pub fn publish<B: Table>(board: &mut B, guest: u16) -> Result<(), Fail> {
+pub fn publish<B: Table>(board: &mut B, guest: u16) -> bool {
     let made = board.make(&Step::Publish(guest));
-    check(
-        matches!(made, Ok(Seen::Published(Published::Wrote { .. }))),
-        "a reply that isn't written",
-    )
+    matches!(made, Ok(Seen::Published(Published::Wrote { .. })))
 }

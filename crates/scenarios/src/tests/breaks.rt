@@ -85,32 +85,38 @@ fn is_foreign(book: &mut Book, shares: &Shares, marks: Marks) -> bool {
 }
 
 /// Marks above what was taken, and shares of another book, move nothing.
-fn refuses_both(scene: &mut Scene, other: &mut Scene, store: &Store<CutDisk>) -> Result<(), Fail> {
+fn refuses_both(scene: &mut Scene, other: &mut Scene, store: &Store<CutDisk>) -> bool {
     let above = is_foreign(&mut other.book, &other.shares, store.marks());
     let others = is_foreign(&mut scene.book, &other.shares, store.marks());
-    check(above, "a mark above")?;
-    check(others, "other shares")
+    above && others
 }
 
-fn refuses(alloc: Global, scene: &mut Scene, store: &Store<CutDisk>) -> Result<(), Fail> {
-    refuses_both(scene, &mut scene_of(alloc, 1)?, store)
+fn refuses(alloc: Global, scene: &mut Scene, store: &Store<CutDisk>) -> bool {
+    let Some(mut other) = scene_of(alloc, 1) else {
+        return false;
+    };
+    refuses_both(scene, &mut other, store)
 }
 
-fn take_marks(alloc: Global, scene: &mut Scene, store: &mut Store<CutDisk>) -> Result<(), Fail> {
-    let kept = play(alloc, scene, store, &KEEPS_ONE)?;
-    refuses(alloc, scene, store)?;
-    let settled = play(alloc, scene, store, &SETTLES_TWICE)?;
-    check(kept == KEEPS_ONE.len(), "the key is kept")?;
-    check(settled == SETTLES_TWICE.len(), "its own marks")
+fn take_marks(alloc: Global, scene: &mut Scene, store: &mut Store<CutDisk>) -> bool {
+    play(alloc, scene, store, &KEEPS_ONE) == KEEPS_ONE.len()
+        && refuses(alloc, scene, store)
+        && play(alloc, scene, store, &SETTLES_TWICE) == SETTLES_TWICE.len()
 }
 
-fn take_marks_of(alloc: Global, store: &mut Store<CutDisk>) -> Result<(), Fail> {
-    take_marks(alloc, &mut scene_of(alloc, 1)?, store)
+fn take_marks_of(alloc: Global, store: &mut Store<CutDisk>) -> bool {
+    let Some(mut scene) = scene_of(alloc, 1) else {
+        return false;
+    };
+    take_marks(alloc, &mut scene, store)
 }
 
 #[test]
 fn marks_above_what_was_taken_are_foreign(rt: HostRuntime) -> Result<(), Fail> {
-    take_marks_of(rt.alloc(), &mut fresh_store(rt.alloc(), 1)?)
+    let Some(mut store) = fresh_store(rt.alloc(), 1) else {
+        return Err(Fail::from("no store"));
+    };
+    check(take_marks_of(rt.alloc(), &mut store), "another outcome")
 }
 
 /// One request of each kind, of guest 1, to a book that is broken: a failure of each, with the type
@@ -145,19 +151,24 @@ fn each_of_64_fails(scene: &mut Scene) -> bool {
 }
 
 /// A broken book refuses a guest's job only where 64 replies of it are held.
-fn answer_each(alloc: Global, scene: &mut Scene, store: &mut Store<CutDisk>) -> Result<(), Fail> {
-    let lines = play(alloc, scene, store, &EACH_KIND)?;
-    check(lines == EACH_KIND.len(), "one of each kind")?;
-    hold_64(alloc, scene, 0)?;
-    check(is_busy(alloc, scene, 0)?, "the 65th")?;
-    check(each_of_64_fails(scene), "64, and no more")
+fn answer_each(alloc: Global, scene: &mut Scene, store: &mut Store<CutDisk>) -> bool {
+    play(alloc, scene, store, &EACH_KIND) == EACH_KIND.len()
+        && hold_64(alloc, scene, 0)
+        && is_busy(alloc, scene, 0)
+        && each_of_64_fails(scene)
 }
 
-fn answer_each_of(alloc: Global, store: &mut Store<CutDisk>) -> Result<(), Fail> {
-    answer_each(alloc, &mut scene_of(alloc, 2)?, store)
+fn answer_each_of(alloc: Global, store: &mut Store<CutDisk>) -> bool {
+    let Some(mut scene) = scene_of(alloc, 2) else {
+        return false;
+    };
+    answer_each(alloc, &mut scene, store)
 }
 
 #[test]
 fn a_broken_book_answers_each_request(rt: HostRuntime) -> Result<(), Fail> {
-    answer_each_of(rt.alloc(), &mut fresh_store(rt.alloc(), 2)?)
+    let Some(mut store) = fresh_store(rt.alloc(), 2) else {
+        return Err(Fail::from("no store"));
+    };
+    check(answer_each_of(rt.alloc(), &mut store), "another outcome")
 }

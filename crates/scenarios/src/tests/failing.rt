@@ -1,23 +1,22 @@
 //! Three guests, and one alone, of whose disk each call fails in turn: what they are told, byte by
 //! byte, that no call is made behind the one that failed, and what opens from the disk then.
+mod openings;
 mod worlds;
 
 use crate::tests::acts::{Acts, Move};
 use crate::tests::asked::Asked;
 use crate::tests::boards::{Table, opened_board, play, publish};
-use crate::tests::image::{formatted, opened};
+use crate::tests::image::formatted;
 use crate::tests::lines::failure_of;
 use crate::tests::metered::MeteredDisk;
-use crate::tests::scene::{KEY, board_of, check};
+use crate::tests::scene::KEY;
 use board::{Seen, Step, StepFault};
-use disk::{CutDisk, Filler};
+use disk::CutDisk;
 use flusher::StoreFault;
 use hmac256::mac_of;
 use mmio_transport::Done;
-use rpmb_core::Partition;
 use rpmb_frame::{BoardConfig, Frame};
 use std::alloc::Global;
-use std::test::Fail;
 use world::Event;
 
 /// Where a guest's two changes, the key and the write, stand among the calls of the disk, which
@@ -92,7 +91,7 @@ fn write_of(guest: u16) -> Asked {
 }
 
 /// A guest programs its key, and the store makes so many calls.
-fn ask_for_key(acts: &mut Acts, guest: u16, calls: u32) -> Result<(), Fail> {
+fn ask_for_key(acts: &mut Acts, guest: u16, calls: u32) -> bool {
     acts.play(
         guest,
         &[
@@ -105,7 +104,7 @@ fn ask_for_key(acts: &mut Acts, guest: u16, calls: u32) -> Result<(), Fail> {
 }
 
 /// A guest writes, reads what it wrote, and asks for its counter.
-fn ask_for_more(acts: &mut Acts, guest: u16, calls: u32) -> Result<(), Fail> {
+fn ask_for_more(acts: &mut Acts, guest: u16, calls: u32) -> bool {
     acts.play(
         guest,
         &[
@@ -119,25 +118,34 @@ fn ask_for_more(acts: &mut Acts, guest: u16, calls: u32) -> Result<(), Fail> {
 }
 
 /// What three guests ask, in the order of the courses.
-fn ask_all(acts: &mut Acts) -> Result<(), Fail> {
+fn ask_all(acts: &mut Acts) -> bool {
     for (guest, calls) in [(0, 4), (1, 2), (2, 6)] {
-        ask_for_key(acts, guest, calls)?;
+        if !ask_for_key(acts, guest, calls) {
+            return false;
+        }
     }
     for (guest, calls) in [(0, 4), (1, 4), (2, 0)] {
-        ask_for_more(acts, guest, calls)?;
+        if !ask_for_more(acts, guest, calls) {
+            return false;
+        }
     }
+    // The slot of guest 1 wasn't free before.
     // The slot of guest 1 wasn't free before.
     acts.play(1, &[Move::HandOver, Move::Advances(17)])
 }
 
-fn asked_by(alloc: Global, plan: Plan) -> Result<Acts, Fail> {
+fn asked_by(alloc: Global, plan: Plan) -> Option<Acts> {
     let mut acts = Acts::new(alloc, None, 0);
     if plan.guests == 1 {
-        ask_for_key(&mut acts, 0, 8)?;
+        if !ask_for_key(&mut acts, 0, 8) {
+            return None;
+        }
     } else {
-        ask_all(&mut acts)?;
+        if !ask_all(&mut acts) {
+            return None;
+        }
     }
-    Ok(acts)
+    Some(acts)
 }
 
 /// What becomes of a reply.
@@ -236,21 +244,24 @@ fn collects<B: Table>(board: &mut B, guest: u16, number: u8, k: u64) -> bool {
 }
 
 /// The replies to a guest leave as they are told, and no others.
-fn check_guest<B: Table>(board: &mut B, plan: Plan, guest: u16, k: u64) -> Result<(), Fail> {
+fn check_guest<B: Table>(board: &mut B, plan: Plan, guest: u16, k: u64) -> bool {
     for number in 0..plan.requests {
         let told = collects(board, guest, number, k);
-        check(told, "another reply")?;
-        publish(board, guest)?;
+        if !told || !publish(board, guest) {
+            return false;
+        }
     }
     let more = board.make(&Step::Collect(guest));
-    check(more == Ok(Seen::Nothing), "one more reply")
+    more == Ok(Seen::Nothing)
 }
 
-fn check_replies<B: Table>(board: &mut B, plan: Plan, k: u64) -> Result<(), Fail> {
+fn check_replies<B: Table>(board: &mut B, plan: Plan, k: u64) -> bool {
     for guest in 0..plan.guests {
-        check_guest(board, plan, guest, k)?;
+        if !check_guest(board, plan, guest, k) {
+            return false;
+        }
     }
-    Ok(())
+    true
 }
 
 /// What a run is refused first of which this call fails, where it has so many.
@@ -268,48 +279,46 @@ fn left_by<B: Table>(
     events: &[Event],
     plan: Plan,
     k: u64,
-) -> Result<MeteredDisk<CutDisk>, Fail> {
-    let refusal = play(&mut board, events)?;
-    check(refusal == fault_at(plan, k), "another refusal")?;
-    check_replies(&mut board, plan, k)?;
-    Ok(board.end())
+) -> Option<MeteredDisk<CutDisk>> {
+    let Some(refusal) = play(&mut board, events) else {
+        return None;
+    };
+    if refusal != fault_at(plan, k) || !check_replies(&mut board, plan, k) {
+        return None;
+    }
+    Some(board.end())
 }
 
 /// A fresh image whose k-th call after the opening is to fail.
-fn failing(alloc: Global, config: &BoardConfig, plan: Plan, k: u64) -> Result<CutDisk, Fail> {
-    let mut disk = formatted(alloc, config)?;
+fn failing(alloc: Global, config: &BoardConfig, plan: Plan, k: u64) -> Option<CutDisk> {
+    let Some(mut disk) = formatted(alloc, config) else {
+        return None;
+    };
     disk.fail(plan.opening.saturating_add(k));
-    Ok(disk)
+    Some(disk)
 }
 
 /// The disk that a run leaves of which the k-th call fails: it is the last one that was made.
-fn disk_left(alloc: Global, config: &BoardConfig, plan: Plan, k: u64) -> Result<CutDisk, Fail> {
-    let acts = asked_by(alloc, plan)?;
-    let board = opened_board(alloc, failing(alloc, config, plan, k)?, config)?;
-    let mut left = left_by(board, &acts.events, plan, k)?;
+fn disk_left(alloc: Global, config: &BoardConfig, plan: Plan, k: u64) -> Option<CutDisk> {
+    let Some(acts) = asked_by(alloc, plan) else {
+        return None;
+    };
+    let Some(disk) = failing(alloc, config, plan, k) else {
+        return None;
+    };
+    let Some(board) = opened_board(alloc, disk, config) else {
+        return None;
+    };
+    let Some(mut left) = left_by(board, &acts.events, plan, k) else {
+        return None;
+    };
     let made = plan.opening.saturating_add(k.min(plan.calls));
-    check(left.calls == made, "another number of calls")?;
+    if left.calls != made {
+        return None;
+    }
     // Where no call was the k-th, none of the opening is.
     left.inner.fail(0);
-    Ok(left.inner)
-}
-
-/// Whether a partition has as many of a guest's changes as that, and zeros in all other blocks.
-fn is_after(partition: &Partition, guest: u16, changes: u64) -> bool {
-    let written = changes == 2;
-    let byte = if written {
-        0xa0 + (guest % 16) as u8
-    } else {
-        0
-    };
-    for address in 1..512_u16 {
-        if partition.block(address) != [0; 256] {
-            return false;
-        }
-    }
-    partition.key() == (changes > 0).then_some(KEY)
-        && partition.counter() == u32::from(written)
-        && partition.block(0) == [byte; 256]
+    Some(left.inner)
 }
 
 /// How many of a guest's changes an opening finds that follows the failed call: those whose gate
@@ -321,71 +330,4 @@ fn changes_of(plan: Plan, guest: u16, k: u64) -> u64 {
         return key;
     }
     key + u64::from(opened[1] < k)
-}
-
-/// Whether it is the partition that is told.
-fn is_found(partition: Option<&Partition>, plan: Plan, guest: u16, k: u64) -> bool {
-    match partition {
-        Some(partition) => is_after(partition, guest, changes_of(plan, guest, k)),
-        None => false,
-    }
-}
-
-fn are_after(partitions: &[Partition], plan: Plan, k: u64) -> bool {
-    for guest in 0..plan.guests {
-        if !is_found(partitions.get(usize::from(guest)), plan, guest, k) {
-            return false;
-        }
-    }
-    partitions.len() == usize::from(plan.guests)
-}
-
-/// What opens from a disk is as told.
-fn check_opening(
-    alloc: Global,
-    disk: CutDisk,
-    config: &BoardConfig,
-    plan: Plan,
-    k: u64,
-) -> Result<(), Fail> {
-    let (_, partitions) = opened(alloc, disk, config)?;
-    check(are_after(&partitions, plan, k), "another partition")
-}
-
-/// A run of which the k-th call fails, and an opening of what it leaves.
-fn fail_at(alloc: Global, config: &BoardConfig, plan: Plan, k: u64) -> Result<(), Fail> {
-    let disk = disk_left(alloc, config, plan, k)?;
-    check_opening(alloc, disk, config, plan, k)
-}
-
-/// Each call fails in turn; the run behind them meets no failure.
-fn fail_each(alloc: Global, plan: Plan) -> Result<(), Fail> {
-    let config = board_of(alloc, usize::from(plan.guests))?;
-    for k in 1..plan.calls.saturating_add(2) {
-        fail_at(alloc, &config, plan, k)?;
-    }
-    Ok(())
-}
-
-#[test]
-fn each_call_of_three_guests_fails(rt: HostRuntime) -> Result<(), Fail> {
-    fail_each(rt.alloc(), THREE)
-}
-
-#[test]
-fn each_call_of_a_key_fails(rt: HostRuntime) -> Result<(), Fail> {
-    fail_each(rt.alloc(), ALONE)
-}
-
-/// The gate's write fails, and the host stops: its place may hold the byte of an open gate.
-fn stop_behind_a_failure(alloc: Global, config: &BoardConfig) -> Result<(), Fail> {
-    let mut disk = disk_left(alloc, config, ALONE, 3)?;
-    disk.cut(&Filler::Fill([0xa5].to_vec(alloc)?));
-    // The key is there, as where the call behind it had failed.
-    check_opening(alloc, disk, config, ALONE, 4)
-}
-
-#[test]
-fn a_failed_write_may_open_the_gate(rt: HostRuntime) -> Result<(), Fail> {
-    stop_behind_a_failure(rt.alloc(), &board_of(rt.alloc(), 1)?)
 }

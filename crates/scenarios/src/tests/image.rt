@@ -20,32 +20,38 @@ pub enum Version {
 }
 
 /// A disk as long as the image of a board, which holds something else.
-fn other_disk(alloc: Global, board: &BoardConfig) -> Result<CutDisk, Fail> {
+fn other_disk(alloc: Global, board: &BoardConfig) -> Option<CutDisk> {
     let length = Layout::of(board).length();
-    let bytes = vec![in alloc; 0xee; length as usize]?;
-    Ok(CutDisk::new(alloc, bytes)?)
+    let Ok(bytes) = vec![in alloc; 0xee; length as usize] else {
+        return None;
+    };
+    CutDisk::new(alloc, bytes).ok()
 }
 
 /// Makes a fresh image of a disk of its length.
-fn make_image(disk: &mut CutDisk, board: &BoardConfig, version: Version) -> Result<(), Fail> {
+fn make_image(disk: &mut CutDisk, board: &BoardConfig, version: Version) -> bool {
     if disk.len() != Layout::of(board).length() {
-        return Err(Fail::from("another length"));
+        return false;
     }
     match version {
-        Version::One => Ok(format(disk, board)?),
-        Version::Two => Ok(format2(disk, board)?),
+        Version::One => format(disk, board).is_ok(),
+        Version::Two => format2(disk, board).is_ok(),
     }
 }
 
 /// A fresh image of a version, on a disk that held something else.
-pub fn formatted_as(alloc: Global, board: &BoardConfig, version: Version) -> Result<CutDisk, Fail> {
-    let mut disk = other_disk(alloc, board)?;
-    make_image(&mut disk, board, version)?;
-    Ok(disk)
+pub fn formatted_as(alloc: Global, board: &BoardConfig, version: Version) -> Option<CutDisk> {
+    let Some(mut disk) = other_disk(alloc, board) else {
+        return None;
+    };
+    if !make_image(&mut disk, board, version) {
+        return None;
+    }
+    Some(disk)
 }
 
 /// The same of version 1.
-pub fn formatted(alloc: Global, board: &BoardConfig) -> Result<CutDisk, Fail> {
+pub fn formatted(alloc: Global, board: &BoardConfig) -> Option<CutDisk> {
     formatted_as(alloc, board, Version::One)
 }
 
@@ -54,49 +60,54 @@ pub fn opened<D: Disk>(
     alloc: Global,
     disk: D,
     board: &BoardConfig,
-) -> Result<(Store<D>, Vec<Partition>), Fail> {
-    match open(alloc, disk, board) {
-        Ok(opened) => Ok(opened),
-        Err((_, fault)) => Err(Fail::from(fault)),
-    }
+) -> Option<(Store<D>, Vec<Partition>)> {
+    open(alloc, disk, board).ok()
 }
 
 /// The store of a fresh image of so many guests.
-pub fn fresh_store(alloc: Global, guests: usize) -> Result<Store<CutDisk>, Fail> {
-    store_on(alloc, &board_of(alloc, guests)?)
+pub fn fresh_store(alloc: Global, guests: usize) -> Option<Store<CutDisk>> {
+    let Some(board) = board_of(alloc, guests) else {
+        return None;
+    };
+    store_on(alloc, &board)
 }
 
-fn store_on(alloc: Global, board: &BoardConfig) -> Result<Store<CutDisk>, Fail> {
-    let (store, _) = opened(alloc, formatted(alloc, board)?, board)?;
-    Ok(store)
+fn store_on(alloc: Global, board: &BoardConfig) -> Option<Store<CutDisk>> {
+    let Some(disk) = formatted(alloc, board) else {
+        return None;
+    };
+    let Some((store, _)) = opened(alloc, disk, board) else {
+        return None;
+    };
+    Some(store)
 }
 
 /// Gives an intent to the store, which has to be one that it may be given.
-pub fn give(store: &mut Store<CutDisk>, intent: Intent) -> Result<(), Fail> {
+pub fn give(store: &mut Store<CutDisk>, intent: Intent) -> bool {
     if !store.takes(&intent) {
-        return Err(Fail::from("an intent that can't be given"));
+        return false;
     }
     store.give(intent);
-    Ok(())
+    true
 }
 
 /// Has the store make its calls, until it is idle.
-pub fn settle(store: &mut Store<CutDisk>) -> Result<(), Fail> {
+pub fn settle(store: &mut Store<CutDisk>) -> bool {
     for _ in 0..100_u8 {
-        if matches!(store.advance()?, Made::Idle) {
-            return Ok(());
+        match store.advance() {
+            Ok(Made::Idle) => return true,
+            Ok(_) => {}
+            Err(_) => return false,
         }
     }
-    Err(Fail::from("no end"))
+    false
 }
 
 /// Has the store keep a guest's next intent; whether one waited.
-pub fn keep_next(scene: &mut Scene, store: &mut Store<CutDisk>, guest: u16) -> Result<bool, Fail> {
+pub fn keep_next(scene: &mut Scene, store: &mut Store<CutDisk>, guest: u16) -> Option<bool> {
     match scene.book.take(&mut scene.shares, guest) {
-        Ok(Some(intent)) => give(store, intent)?,
-        Ok(None) => return Ok(false),
-        Err(refused) => return Err(Fail::from(refused)),
+        Ok(Some(intent)) => (give(store, intent) && settle(store)).then_some(true),
+        Ok(None) => Some(false),
+        Err(_) => None,
     }
-    settle(store)?;
-    Ok(true)
 }

@@ -33,20 +33,22 @@ fn byte_of(guest: u16, n: u64, k: usize) -> u8 {
 }
 
 /// The address and the blocks that a guest's request n writes; none for the request of its key.
-fn write_of(alloc: Global, guest: u16, n: u64) -> Result<(u16, Vec<u8>), Fail> {
+fn write_of(alloc: Global, guest: u16, n: u64) -> Option<(u16, Vec<u8>)> {
     match place_of(guest, n) {
-        Some((address, count)) => Ok((address, blocks_of(alloc, guest, n, count)?)),
-        None => Ok((0, Vec::new(alloc))),
+        Some((address, count)) => Some((address, blocks_of(alloc, guest, n, count)?)),
+        None => Some((0, Vec::new(alloc))),
     }
 }
 
 /// The bytes of so many blocks, at most 8, of a guest's request n.
-fn blocks_of(alloc: Global, guest: u16, n: u64, count: usize) -> Result<Vec<u8>, Fail> {
+fn blocks_of(alloc: Global, guest: u16, n: u64, count: usize) -> Option<Vec<u8>> {
     let mut blocks = Vec::new(alloc);
     for k in 0..256 * count.min(8) {
-        blocks.push(byte_of(guest, n, k))?;
+        if blocks.push(byte_of(guest, n, k)).is_err() {
+            return None;
+        }
     }
-    Ok(blocks)
+    Some(blocks)
 }
 
 fn place_of(guest: u16, n: u64) -> Option<(u16, usize)> {
@@ -65,40 +67,48 @@ fn is_write(address: u16, blocks: &[u8]) -> bool
 }
 
 /// A guest's request n, counted from 0, as an intent.
-fn intent_of(alloc: Global, guest: u16, n: u64) -> Result<Intent, Fail> {
-    let (address, blocks) = write_of(alloc, guest, n)?;
+fn intent_of(alloc: Global, guest: u16, n: u64) -> Option<Intent> {
+    let Some((address, blocks)) = write_of(alloc, guest, n) else {
+        return None;
+    };
     if n == 0 {
-        return Ok(Intent::program_key(guest, key_of(guest)));
+        return Some(Intent::program_key(guest, key_of(guest)));
     }
     let Ok(counter) = u32::try_from(n) else {
-        return Err(Fail::from("no such request"));
+        return None;
     };
     if !is_write(address, &blocks) {
-        return Err(Fail::from("no blocks"));
+        return None;
     }
-    Ok(Intent::write(guest, key_of(guest), counter, address, blocks))
+    Some(Intent::write(guest, key_of(guest), counter, address, blocks))
 }
 
 /// Adds the write that a guest's request n is.
-fn push_write(alloc: Global, intent: &mut Intent, guest: u16, n: u64) -> Result<(), Fail> {
-    let (address, blocks) = write_of(alloc, guest, n)?;
+fn push_write(alloc: Global, intent: &mut Intent, guest: u16, n: u64) -> bool {
+    let Some((address, blocks)) = write_of(alloc, guest, n) else {
+        return false;
+    };
     if intent.entries() >= 4 || intent.last_counter() == u32::MAX {
-        return Err(Fail::from("no room"));
+        return false;
     }
     if !is_write(address, &blocks) {
-        return Err(Fail::from("no blocks"));
+        return false;
     }
     intent.push(Entry::write(address, blocks));
-    Ok(())
+    true
 }
 
 /// A guest's requests from n on, so many, as one intent.
-pub fn group_of(alloc: Global, guest: u16, n: u64, size: u64) -> Result<Intent, Fail> {
-    let mut intent = intent_of(alloc, guest, n)?;
+pub fn group_of(alloc: Global, guest: u16, n: u64, size: u64) -> Option<Intent> {
+    let Some(mut intent) = intent_of(alloc, guest, n) else {
+        return None;
+    };
     for place in 1..size {
-        push_write(alloc, &mut intent, guest, n.saturating_add(place))?;
+        if !push_write(alloc, &mut intent, guest, n.saturating_add(place)) {
+            return None;
+        }
     }
-    Ok(intent)
+    Some(intent)
 }
 
 /// The blocks of each guest's partition after 0, 1, .. 4 of its requests.
@@ -108,12 +118,17 @@ pub struct Histories {
 }
 
 impl Histories {
-    pub fn new(alloc: Global) -> Result<Histories, Fail> {
+    pub fn new(alloc: Global) -> Option<Histories> {
         let mut blocks = Vec::new(alloc);
         for place in 0..15_u16 {
-            blocks.push(blocks_after(alloc, place / 5, u64::from(place % 5))?)?;
+            let Some(after) = blocks_after(alloc, place / 5, u64::from(place % 5)) else {
+                return None;
+            };
+            if blocks.push(after).is_err() {
+                return None;
+            }
         }
-        Ok(Histories { blocks })
+        Some(Histories { blocks })
     }
 
     /// Whether a partition is the guest's after so many of its requests, byte for byte.
@@ -132,13 +147,17 @@ impl Histories {
 }
 
 /// The blocks of a guest's partition after so many of its requests.
-fn blocks_after(alloc: Global, guest: u16, requests: u64) -> Result<Vec<u8>, Fail> {
-    let mut blocks = vec![in alloc; 0; 131_072]?;
+fn blocks_after(alloc: Global, guest: u16, requests: u64) -> Option<Vec<u8>> {
+    let Ok(mut blocks) = vec![in alloc; 0; 131_072] else {
+        return None;
+    };
     for n in 1..requests {
-        let (address, bytes) = write_of(alloc, guest, n)?;
+        let Some((address, bytes)) = write_of(alloc, guest, n) else {
+            return None;
+        };
         overwrite(&mut blocks, 256 * usize::from(address), &bytes);
     }
-    Ok(blocks)
+    Some(blocks)
 }
 
 fn overwrite(blocks: &mut Vec<u8>, at: usize, bytes: &[u8]) {

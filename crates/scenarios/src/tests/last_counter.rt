@@ -14,33 +14,39 @@ use std::test::Fail;
 const COUNTER: u32 = 0xffff_fffe;
 
 /// A fresh image but for the home, which says that one more write may come.
-fn image(alloc: Global, board: &BoardConfig) -> Result<CutDisk, Fail> {
+fn image(alloc: Global, board: &BoardConfig) -> Option<CutDisk> {
     let layout = Layout::of(board);
     if layout.guests() == 0 {
-        return Err(Fail::from("no guest"));
+        return None;
     }
     let home = layout.extent(0).home();
-    let mut disk = formatted(alloc, board)?;
-    put_home(&mut disk, home)?;
-    Ok(disk)
+    let Some(mut disk) = formatted(alloc, board) else {
+        return None;
+    };
+    if !put_home(&mut disk, home) {
+        return None;
+    }
+    Some(disk)
 }
 
 /// Puts the home of a partition with the last counter but one where it belongs.
-fn put_home(disk: &mut CutDisk, home: u64) -> Result<(), Fail> {
+fn put_home(disk: &mut CutDisk, home: u64) -> bool {
     let bytes = Home::with_key(KEY, COUNTER).encode();
     if home > disk.len() || bytes.len() as u64 > disk.len() - home {
-        return Err(Fail::from("off the disk"));
+        return false;
     }
-    Ok(disk.write_at(home, &bytes)?)
+    disk.write_at(home, &bytes).is_ok()
 }
 
 type Opened = (Store<CutDisk>, Partition);
 
-fn opened_one(alloc: Global, disk: CutDisk, board: &BoardConfig) -> Result<Opened, Fail> {
-    let (store, mut partitions) = opened(alloc, disk, board)?;
+fn opened_one(alloc: Global, disk: CutDisk, board: &BoardConfig) -> Option<Opened> {
+    let Some((store, mut partitions)) = opened(alloc, disk, board) else {
+        return None;
+    };
     match partitions.pop() {
-        Some(partition) => Ok((store, partition)),
-        None => Err(Fail::from("no partition")),
+        Some(partition) => Some((store, partition)),
+        None => None,
     }
 }
 
@@ -77,10 +83,10 @@ const WRITTEN: [u8; 12] = *b"\xff\xff\xff\xff\0\0\0\x01\0\0\x03\0";
 
 const EXPIRED: [u8; 12] = *b"\xff\xff\xff\xff\0\0\0\x01\0\x80\x03\0";
 
-fn limits_of(board: &BoardConfig) -> Result<Limits, Fail> {
+fn limits_of(board: &BoardConfig) -> Option<Limits> {
     match board.guests().first() {
-        Some(guest) => Ok(Limits::of(guest)),
-        None => Err(Fail::from("no guest")),
+        Some(guest) => Some(Limits::of(guest)),
+        None => None,
     }
 }
 
@@ -106,59 +112,92 @@ fn writes_no_more(partition: &mut Partition, limits: Limits) -> bool {
 }
 
 /// The only partition that a disk opens to.
-fn partition_of(alloc: Global, disk: CutDisk, board: &BoardConfig) -> Result<Partition, Fail> {
-    let (_, partition) = opened_one(alloc, disk, board)?;
-    Ok(partition)
+fn partition_of(alloc: Global, disk: CutDisk, board: &BoardConfig) -> Option<Partition> {
+    let Some((_, partition)) = opened_one(alloc, disk, board) else {
+        return None;
+    };
+    Some(partition)
 }
 
-fn write_both(partition: &mut Partition, limits: Limits) -> Result<(), Fail> {
-    let made = writes_the_last(partition, limits);
-    check(made, "the last write")?;
-    check(writes_no_more(partition, limits), "the one after")
+fn write_both(partition: &mut Partition, limits: Limits) -> bool {
+    writes_the_last(partition, limits) && writes_no_more(partition, limits)
 }
 
-fn write_on_an_image(alloc: Global, board: &BoardConfig) -> Result<(), Fail> {
-    let limits = limits_of(board)?;
-    let mut partition = partition_of(alloc, image(alloc, board)?, board)?;
+fn write_on_an_image(alloc: Global, board: &BoardConfig) -> bool {
+    let Some(limits) = limits_of(board) else {
+        return false;
+    };
+    let Some(disk) = image(alloc, board) else {
+        return false;
+    };
+    let Some(mut partition) = partition_of(alloc, disk, board) else {
+        return false;
+    };
     write_both(&mut partition, limits)
 }
 
 #[test]
 fn the_last_write_and_the_one_after(rt: HostRuntime) -> Result<(), Fail> {
-    write_on_an_image(rt.alloc(), &board_of(rt.alloc(), 1)?)
+    let Some(board) = board_of(rt.alloc(), 1) else {
+        return Err(Fail::from("no board"));
+    };
+    check(write_on_an_image(rt.alloc(), &board), "another outcome")
 }
 
 /// The intent of the last write, of a block of this byte at address 0.
-fn last_write(alloc: Global, byte: u8) -> Result<Intent, Fail> {
-    Ok(Intent::write(0, KEY, 0xffff_ffff, 0, vec![in alloc; byte; 256]?))
+fn last_write(alloc: Global, byte: u8) -> Option<Intent> {
+    let Ok(blocks) = vec![in alloc; byte; 256] else {
+        return None;
+    };
+    Some(Intent::write(0, KEY, 0xffff_ffff, 0, blocks))
 }
 
-fn keep_the_last(alloc: Global, store: &mut Store<CutDisk>) -> Result<(), Fail> {
-    give(store, last_write(alloc, 0x77)?)?;
-    settle(store)?;
-    check(store.marks().get(0) == 0x1_0000_0000, "the mark")
+fn keep_the_last(alloc: Global, store: &mut Store<CutDisk>) -> bool {
+    let Some(intent) = last_write(alloc, 0x77) else {
+        return false;
+    };
+
+    give(store, intent) && settle(store) && store.marks().get(0) == 0x1_0000_0000
 }
 
 /// The disk with the last write.
-fn kept(alloc: Global, board: &BoardConfig) -> Result<CutDisk, Fail> {
-    let (mut store, _) = opened_one(alloc, image(alloc, board)?, board)?;
-    keep_the_last(alloc, &mut store)?;
-    Ok(store.into_disk())
+fn kept(alloc: Global, board: &BoardConfig) -> Option<CutDisk> {
+    let Some(disk) = image(alloc, board) else {
+        return None;
+    };
+    let Some((mut store, _)) = opened_one(alloc, disk, board) else {
+        return None;
+    };
+    if !keep_the_last(alloc, &mut store) {
+        return None;
+    }
+    Some(store.into_disk())
 }
 
-fn write_no_more(partition: &mut Partition, limits: Limits) -> Result<(), Fail> {
-    check(is_at_the_end(partition, 0x77), "the partition")?;
-    let no_more = writes_no_more(partition, limits);
-    check(no_more, "no write after it")
+fn write_no_more(partition: &mut Partition, limits: Limits) -> bool {
+    if !is_at_the_end(partition, 0x77) {
+        return false;
+    }
+    writes_no_more(partition, limits)
 }
 
-fn write_on_what_is_kept(alloc: Global, board: &BoardConfig) -> Result<(), Fail> {
-    let limits = limits_of(board)?;
-    let mut partition = partition_of(alloc, kept(alloc, board)?, board)?;
+fn write_on_what_is_kept(alloc: Global, board: &BoardConfig) -> bool {
+    let Some(limits) = limits_of(board) else {
+        return false;
+    };
+    let Some(store) = kept(alloc, board) else {
+        return false;
+    };
+    let Some(mut partition) = partition_of(alloc, store, board) else {
+        return false;
+    };
     write_no_more(&mut partition, limits)
 }
 
 #[test]
 fn the_last_write_on_the_disk(rt: HostRuntime) -> Result<(), Fail> {
-    write_on_what_is_kept(rt.alloc(), &board_of(rt.alloc(), 1)?)
+    let Some(board) = board_of(rt.alloc(), 1) else {
+        return Err(Fail::from("no board"));
+    };
+    check(write_on_what_is_kept(rt.alloc(), &board), "another outcome")
 }

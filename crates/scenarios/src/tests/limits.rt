@@ -29,31 +29,34 @@ pub fn given_back(
     guest: u16,
     frames: &[[u8; 512]],
     reason: Refused,
-) -> Result<Job, Fail> {
+) -> Option<Job> {
     let Err((job, refused)) = offered else {
-        return Err(Fail::from("not refused"));
+        return None;
     };
-    check(
-        refused == reason && is_the_same(&job, guest, frames),
-        "refused otherwise",
-    )?;
-    Ok(job)
+    if !(refused == reason && is_the_same(&job, guest, frames)) {
+        return None;
+    }
+    Some(job)
 }
 
 /// A guest reads its counter 64 times, under the nonces 0, 1, .. 63, and takes no reply.
-pub fn hold_64(alloc: Global, scene: &mut Scene, guest: u16) -> Result<(), Fail> {
+pub fn hold_64(alloc: Global, scene: &mut Scene, guest: u16) -> bool {
     for nonce in 0..64_u8 {
-        scene.submit(alloc, guest, &get_write_counter(u128::from(nonce)))?;
+        if scene
+            .submit(alloc, guest, &get_write_counter(u128::from(nonce)))
+            .is_none()
+        {
+            return false;
+        }
     }
-    Ok(())
+    true
 }
 
 /// Whether a guest that reads its counter once more is refused as one that is busy.
-pub fn is_busy(alloc: Global, scene: &mut Scene, guest: u16) -> Result<bool, Fail> {
-    let job = job_of(alloc, guest, 1, &get_write_counter(64))?;
-    match scene.offer(alloc, job) {
-        Err((_, refused)) => Ok(refused == Refused::Busy),
-        Ok(_) => Ok(false),
+pub fn is_busy(alloc: Global, scene: &mut Scene, guest: u16) -> bool {
+    match job_of(alloc, guest, 1, &get_write_counter(64)) {
+        Some(job) => matches!(scene.offer(alloc, job), Err((_, Refused::Busy))),
+        None => false,
     }
 }
 
@@ -64,35 +67,39 @@ fn is_of_nonce_0(collected: Option<Done>) -> bool {
     }
 }
 
-fn offer_the_65th(alloc: Global, scene: &mut Scene) -> Result<(), Fail> {
-    let job = refuse_the_65th(alloc, scene)?;
+fn offer_the_65th(alloc: Global, scene: &mut Scene) -> bool {
+    let Some(job) = refuse_the_65th(alloc, scene) else {
+        return false;
+    };
     // Another guest isn't held up.
-    go_on(alloc, scene)?;
-    accepted(scene.offer(alloc, job))?;
-    Ok(())
+    go_on(alloc, scene) && accepted(scene.offer(alloc, job)).is_some()
 }
 
 /// The job of guest 1 that is given back.
-fn refuse_the_65th(alloc: Global, scene: &mut Scene) -> Result<Job, Fail> {
+fn refuse_the_65th(alloc: Global, scene: &mut Scene) -> Option<Job> {
     let frames = get_write_counter(64);
-    let offered = scene.offer(alloc, job_of(alloc, 1, 1, &frames)?);
+    let Some(job) = job_of(alloc, 1, 1, &frames) else {
+        return None;
+    };
+    let offered = scene.offer(alloc, job);
     given_back(offered, 1, &frames, Refused::Busy)
 }
 
 /// Guest 0 has a request answered, and the first reply to guest 1 leaves.
-fn go_on(alloc: Global, scene: &mut Scene) -> Result<(), Fail> {
-    scene.submit(alloc, 0, &get_write_counter(64))?;
-    check(is_of_nonce_0(scene.book.collect(1)), "the first reply")
+fn go_on(alloc: Global, scene: &mut Scene) -> bool {
+    scene.submit(alloc, 0, &get_write_counter(64)).is_some() && is_of_nonce_0(scene.book.collect(1))
 }
 
-fn hold_65(alloc: Global, scene: &mut Scene) -> Result<(), Fail> {
-    hold_64(alloc, scene, 1)?;
-    offer_the_65th(alloc, scene)
+fn hold_65(alloc: Global, scene: &mut Scene) -> bool {
+    hold_64(alloc, scene, 1) && offer_the_65th(alloc, scene)
 }
 
 #[test]
 fn the_65th_held_reply_is_refused(rt: HostRuntime) -> Result<(), Fail> {
-    hold_65(rt.alloc(), &mut scene_of(rt.alloc(), 2)?)
+    let Some(mut scene) = scene_of(rt.alloc(), 2) else {
+        return Err(Fail::from("no scene"));
+    };
+    check(hold_65(rt.alloc(), &mut scene), "another outcome")
 }
 
 /// Offers the book a job with the tally of guest 0.
@@ -104,9 +111,12 @@ fn offer_as_0(alloc: Global, scene: &mut Scene, job: Job) -> Result<Receipt, (Jo
 }
 
 /// The job of a guest that is offered with the tally of guest 0, and given back.
-fn foreign(alloc: Global, scene: &mut Scene, guest: u16) -> Result<Job, Fail> {
+fn foreign(alloc: Global, scene: &mut Scene, guest: u16) -> Option<Job> {
     let frames = get_write_counter(1);
-    let offered = offer_as_0(alloc, scene, job_of(alloc, guest, 1, &frames)?);
+    let Some(job) = job_of(alloc, guest, 1, &frames) else {
+        return None;
+    };
+    let offered = offer_as_0(alloc, scene, job);
     given_back(offered, guest, &frames, Refused::Foreign)
 }
 
@@ -129,46 +139,66 @@ fn refuses_shares_of(scene: &mut Scene, other: &mut Scene, marks: Marks) -> bool
 }
 
 /// An intent of guest 1 is taken.
-fn take_one(alloc: Global, other: &mut Scene) -> Result<(), Fail> {
-    other.submit(alloc, 1, &program_key(&KEY))?;
-    let taken = other.book.take(&mut other.shares, 1).is_ok();
-    check(taken, "a take")
+fn take_one(alloc: Global, other: &mut Scene) -> bool {
+    if other.submit(alloc, 1, &program_key(&KEY)).is_none() {
+        return false;
+    }
+    other.book.take(&mut other.shares, 1).is_ok()
 }
 
-fn offer_of_no_guest(alloc: Global, scene: &mut Scene) -> Result<(), Fail> {
-    foreign(alloc, scene, 2)?;
-    check(counts_none(scene), "the tally counts none of them")?;
-    check(knows_no_guest_2(scene), "no guest 2")
+fn offer_of_no_guest(alloc: Global, scene: &mut Scene) -> bool {
+    foreign(alloc, scene, 2).is_some() && counts_none(scene) && knows_no_guest_2(scene)
 }
 
-fn offer_to_strangers(alloc: Global, scene: &mut Scene) -> Result<(), Fail> {
-    offer_of_no_guest(alloc, scene)?;
-    let job = foreign(alloc, scene, 1)?;
+fn offer_to_strangers(alloc: Global, scene: &mut Scene) -> bool {
+    if !offer_of_no_guest(alloc, scene) {
+        return false;
+    }
+    let Some(job) = foreign(alloc, scene, 1) else {
+        return false;
+    };
     // With its own guest's tally the same job is answered.
-    accepted(scene.offer(alloc, job))?;
-    check(counts_none(scene), "the tally counts none of them")
+    accepted(scene.offer(alloc, job)).is_some() && counts_none(scene)
 }
 
 #[test]
 fn strangers_are_foreign(rt: HostRuntime) -> Result<(), Fail> {
-    offer_to_strangers(rt.alloc(), &mut scene_of(rt.alloc(), 2)?)
+    let Some(mut scene) = scene_of(rt.alloc(), 2) else {
+        return Err(Fail::from("no scene"));
+    };
+    check(
+        offer_to_strangers(rt.alloc(), &mut scene),
+        "another outcome",
+    )
 }
 
 /// Marks of which none is above what either book took.
-fn fresh_marks(alloc: Global) -> Result<Marks, Fail> {
-    Ok(fresh_store(alloc, 2)?.marks())
+fn fresh_marks(alloc: Global) -> Option<Marks> {
+    let Some(store) = fresh_store(alloc, 2) else {
+        return None;
+    };
+    Some(store.marks())
 }
 
-fn refuse_shares_of(alloc: Global, other: &mut Scene) -> Result<(), Fail> {
-    take_one(alloc, other)?;
-    let marks = fresh_marks(alloc)?;
-    let refused = refuses_shares_of(&mut scene_of(alloc, 2)?, other, marks);
-    check(refused, "the shares")
+fn refuse_shares_of(alloc: Global, other: &mut Scene) -> bool {
+    if !take_one(alloc, other) {
+        return false;
+    }
+    let Some(marks) = fresh_marks(alloc) else {
+        return false;
+    };
+    let Some(mut scene) = scene_of(alloc, 2) else {
+        return false;
+    };
+    refuses_shares_of(&mut scene, other, marks)
 }
 
 #[test]
 fn shares_of_another_book_are_foreign(rt: HostRuntime) -> Result<(), Fail> {
-    refuse_shares_of(rt.alloc(), &mut scene_of(rt.alloc(), 2)?)
+    let Some(mut scene) = scene_of(rt.alloc(), 2) else {
+        return Err(Fail::from("no scene"));
+    };
+    check(refuse_shares_of(rt.alloc(), &mut scene), "another outcome")
 }
 
 /// Guest 0 programs a key, and the result is asked for by guest 1, and by guest 0 in this session

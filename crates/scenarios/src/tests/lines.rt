@@ -74,24 +74,32 @@ pub enum Line {
     NoReply(u16),
 }
 
-fn ask(
+fn ask(alloc: Global, scene: &mut Scene, guest: u16, session: u64, asked: Asked) -> bool {
+    match frames_of(alloc, asked) {
+        Some(frames) => ask_frames(alloc, scene, guest, session, &frames),
+        None => false,
+    }
+}
+
+fn ask_frames(
     alloc: Global,
     scene: &mut Scene,
     guest: u16,
     session: u64,
-    asked: Asked,
-) -> Result<bool, Fail> {
-    let frames = frames_of(alloc, asked)?;
-    let job = job_of(alloc, guest, session, &frames)?;
-    accepted(scene.offer(alloc, job))?;
-    Ok(true)
+    frames: &[[u8; 512]],
+) -> bool {
+    match job_of(alloc, guest, session, frames) {
+        Some(job) => scene.offer(alloc, job).is_ok(),
+        None => false,
+    }
 }
 
-fn ask_without_room(alloc: Global, scene: &mut Scene, guest: u16) -> Result<bool, Fail> {
-    let request = result_read().to_vec(alloc)?;
+fn ask_without_room(alloc: Global, scene: &mut Scene, guest: u16) -> bool {
+    let Ok(request) = result_read().to_vec(alloc) else {
+        return false;
+    };
     let job = Job::of(alloc, guest, 1, 5, 3, Vec::new(alloc), request);
-    accepted(scene.offer(alloc, job))?;
-    Ok(true)
+    scene.offer(alloc, job).is_ok()
 }
 
 /// Whether the guest's next reply is to a read under this nonce.
@@ -104,34 +112,22 @@ fn is_read(scene: &mut Scene, guest: u16, nonce: u128) -> bool {
 
 /// A guest reads its counter under this nonce, and the reply leaves: a failure where the book is
 /// broken.
-fn read(
-    alloc: Global,
-    scene: &mut Scene,
-    guest: u16,
-    nonce: u128,
-    broken: bool,
-) -> Result<bool, Fail> {
-    scene.submit(alloc, guest, &get_write_counter(nonce))?;
-    if broken {
-        Ok(fails(scene, guest, [0, 1, 2, 0]))
-    } else {
-        Ok(is_read(scene, guest, nonce))
-    }
+fn read(alloc: Global, scene: &mut Scene, guest: u16, nonce: u128, broken: bool) -> bool {
+    ask_frames(alloc, scene, guest, 1, &get_write_counter(nonce))
+        && if broken {
+            fails(scene, guest, [0, 1, 2, 0])
+        } else {
+            is_read(scene, guest, nonce)
+        }
 }
 
-fn read_all(
-    alloc: Global,
-    scene: &mut Scene,
-    guest: u16,
-    count: u32,
-    broken: bool,
-) -> Result<bool, Fail> {
+fn read_all(alloc: Global, scene: &mut Scene, guest: u16, count: u32, broken: bool) -> bool {
     for number in 0..count {
-        if !read(alloc, scene, guest, u128::from(number), broken)? {
-            return Ok(false);
+        if !read(alloc, scene, guest, u128::from(number), broken) {
+            return false;
         }
     }
-    Ok(true)
+    true
 }
 
 /// A guest's write under this counter is kept by the store, and its reply leaves.
@@ -141,10 +137,12 @@ fn write(
     store: &mut Store<CutDisk>,
     guest: u16,
     counter: u32,
-) -> Result<bool, Fail> {
-    scene.submit(alloc, guest, &write_of((counter % 256) as u8, counter))?;
-    let kept = keep_next(scene, store, guest)? && scene.settles(store.marks());
-    Ok(kept && writes_reply(scene, guest, counter))
+) -> bool {
+    let frames = write_of((counter % 256) as u8, counter);
+    ask_frames(alloc, scene, guest, 1, &frames)
+        && keep_next(scene, store, guest) == Some(true)
+        && scene.settles(store.marks())
+        && writes_reply(scene, guest, counter)
 }
 
 /// Whether the guest's next reply is to a write under this counter.
@@ -164,13 +162,13 @@ fn write_all(
     guest: u16,
     first: u32,
     count: u32,
-) -> Result<bool, Fail> {
+) -> bool {
     for number in 0..count {
-        if !write(alloc, scene, store, guest, first.wrapping_add(number))? {
-            return Ok(false);
+        if !write(alloc, scene, store, guest, first.wrapping_add(number)) {
+            return false;
         }
     }
-    Ok(true)
+    true
 }
 
 /// Whether it is the guest's intent, under the key, and this one where one is told.
@@ -281,18 +279,8 @@ fn replies_nothing(scene: &mut Scene, guest: u16) -> bool {
     }
 }
 
-fn runs(store: &mut Store<CutDisk>) -> Result<bool, Fail> {
-    settle(store)?;
-    Ok(true)
-}
-
 /// Whether a line happens as it is told.
-fn happens(
-    alloc: Global,
-    scene: &mut Scene,
-    store: &mut Store<CutDisk>,
-    line: Line,
-) -> Result<bool, Fail> {
+fn happens(alloc: Global, scene: &mut Scene, store: &mut Store<CutDisk>, line: Line) -> bool {
     match line {
         Line::Ask(guest, asked) => ask(alloc, scene, guest, 1, asked),
         Line::AskNext(guest, asked) => ask(alloc, scene, guest, 2, asked),
@@ -300,61 +288,61 @@ fn happens(
         Line::Reads(guest, count) => read_all(alloc, scene, guest, count, false),
         Line::FailedReads(guest, count) => read_all(alloc, scene, guest, count, true),
         Line::Writes(guest, first, count) => write_all(alloc, scene, store, guest, first, count),
-        Line::Run => runs(store),
-        Line::Give(guest) => Ok(hand_over(scene, store, guest, None)),
-        Line::GiveThis { guest, intent } => Ok(hand_over(scene, store, guest, Some(intent))),
-        Line::NoIntent(guest) => Ok(has_no_intent(scene, guest)),
-        Line::Mark(guest, sequence) => Ok(store.marks().get(guest) == sequence),
-        Line::Settle => Ok(scene.settles(store.marks())),
-        Line::Settled(guest, sequence) => Ok(is_settled(scene, guest, sequence)),
-        Line::Counter(guest, counter) => Ok(has_counter(scene, guest, counter)),
-        Line::Holds(guest, byte) => Ok(holds(scene, guest, byte)),
-        Line::Turns(count) => Ok(scene.book.submit_turns() == count),
-        Line::BreakOff => Ok(break_off(scene)),
-        Line::IsBroken(broken) => Ok(scene.book.is_broken() == broken),
-        Line::Life(life) => Ok(scene.book.life() == life),
+        Line::Run => settle(store),
+        Line::Give(guest) => hand_over(scene, store, guest, None),
+        Line::GiveThis { guest, intent } => hand_over(scene, store, guest, Some(intent)),
+        Line::NoIntent(guest) => has_no_intent(scene, guest),
+        Line::Mark(guest, sequence) => store.marks().get(guest) == sequence,
+        Line::Settle => scene.settles(store.marks()),
+        Line::Settled(guest, sequence) => is_settled(scene, guest, sequence),
+        Line::Counter(guest, counter) => has_counter(scene, guest, counter),
+        Line::Holds(guest, byte) => holds(scene, guest, byte),
+        Line::Turns(count) => scene.book.submit_turns() == count,
+        Line::BreakOff => break_off(scene),
+        Line::IsBroken(broken) => scene.book.is_broken() == broken,
+        Line::Life(life) => scene.book.life() == life,
         Line::Reply {
             guest,
             session,
             need,
             tail,
-        } => Ok(replies(scene, guest, session, need, &tail)),
-        Line::Failure(guest, end) => Ok(fails(scene, guest, end)),
-        Line::EmptyReply(guest) => Ok(replies_nothing(scene, guest)),
-        Line::NoReply(guest) => Ok(has_no_reply(scene, guest)),
+        } => replies(scene, guest, session, need, &tail),
+        Line::Failure(guest, end) => fails(scene, guest, end),
+        Line::EmptyReply(guest) => replies_nothing(scene, guest),
+        Line::NoReply(guest) => has_no_reply(scene, guest),
     }
 }
 
 /// How many lines of a scene happen as they are told, from the first on.
-pub fn play(
-    alloc: Global,
-    scene: &mut Scene,
-    store: &mut Store<CutDisk>,
-    lines: &[Line],
-) -> Result<usize, Fail> {
+pub fn play(alloc: Global, scene: &mut Scene, store: &mut Store<CutDisk>, lines: &[Line]) -> usize {
     for (number, line) in lines.iter().enumerate() {
-        if !happens(alloc, scene, store, *line)? {
-            return Ok(number);
+        if !happens(alloc, scene, store, *line) {
+            return number;
         }
     }
-    Ok(lines.len())
+    lines.len()
 }
 
-fn play_on(alloc: Global, guests: usize, scene: &mut Scene, lines: &[Line]) -> Result<usize, Fail> {
-    play(alloc, scene, &mut fresh_store(alloc, guests)?, lines)
+fn play_on(alloc: Global, guests: usize, scene: &mut Scene, lines: &[Line]) -> Option<usize> {
+    let Some(mut store) = fresh_store(alloc, guests) else {
+        return None;
+    };
+    Some(play(alloc, scene, &mut store, lines))
 }
 
 /// The same of a scene of its own, with so many guests.
-fn played(alloc: Global, guests: usize, lines: &[Line]) -> Result<usize, Fail> {
-    play_on(alloc, guests, &mut scene_of(alloc, guests)?, lines)
+fn played(alloc: Global, guests: usize, lines: &[Line]) -> Option<usize> {
+    let Some(mut scene) = scene_of(alloc, guests) else {
+        return None;
+    };
+    play_on(alloc, guests, &mut scene, lines)
 }
 
 /// Plays a scene of its own, with so many guests, whose lines all have to happen as they are told.
 pub fn play_all(alloc: Global, guests: usize, lines: &[Line]) -> Result<(), Fail> {
-    let number = played(alloc, guests, lines)?;
-    if number == lines.len() {
-        Ok(())
-    } else {
-        Err(Fail::new(format_args!("not as told: line {number}")))
+    match played(alloc, guests, lines) {
+        Some(number) if number == lines.len() => Ok(()),
+        Some(number) => Err(Fail::new(format_args!("not as told: line {number}"))),
+        None => Err(Fail::from("no scene")),
     }
 }

@@ -51,18 +51,22 @@ fn are_of(published: &[Publication], popped: &[Pop]) -> bool {
     true
 }
 
-fn check_told(world: &mut World, events: &[Event]) -> Result<(), Fail> {
-    check(world.run(events).is_none(), "a refusal")?;
-    check(are_told(world.popped(0)), "the pops")?;
-    check(are_of(world.published(0), world.popped(0)), "the replies")
+fn check_told(world: &mut World, events: &[Event]) -> bool {
+    world.run(events).is_none()
+        && are_told(world.popped(0))
+        && are_of(world.published(0), world.popped(0))
 }
 
 #[test]
 fn replies_tell_their_pops(rt: HostRuntime) -> Result<(), Fail> {
     let mut acts = Acts::new(rt.alloc(), None, 0);
-    acts.play(0, &KEYED)?;
-    acts.play(0, &SECOND_LIFE)?;
-    check_told(&mut world_of(rt.alloc(), 1, Version::One)?, &acts.events)
+    let Some(mut world) = world_of(rt.alloc(), 1, Version::One) else {
+        return Err(Fail::from("no world"));
+    };
+    check(
+        acts.play(0, &KEYED) && acts.play(0, &SECOND_LIFE) && check_told(&mut world, &acts.events),
+        "another outcome",
+    )
 }
 
 const NO_MEMORY: Refusal = Refusal::Step(StepFault::Device(DeviceFault::NoMemory));
@@ -72,15 +76,13 @@ fn pops(world: &mut World, pop: &[Event]) -> bool {
 }
 
 /// Nothing was noted, and the same pop gives the first job then.
-fn pop_again(world: &mut World, pop: &[Event], refusal: Refusal) -> Result<(), Fail> {
-    check(refusal == NO_MEMORY, "the refusal")?;
-    check(world.popped(0).is_empty(), "nothing is noted")?;
-    check(pops(world, pop), "the same pop")
+fn pop_again(world: &mut World, pop: &[Event], refusal: Refusal) -> bool {
+    refusal == NO_MEMORY && world.popped(0).is_empty() && pops(world, pop)
 }
 
-fn pop_once(world: &mut World, pop: &[Event]) -> Result<(), Fail> {
+fn pop_once(world: &mut World, pop: &[Event]) -> bool {
     match world.run(pop) {
-        None => Ok(()),
+        None => true,
         Some(refusal) => pop_again(world, pop, refusal),
     }
 }
@@ -92,28 +94,30 @@ fn is_first(popped: &[Pop]) -> bool {
     }
 }
 
-fn check_pop(world: &mut World, before: &[Event], pop: &[Event]) -> Result<(), Fail> {
-    check(world.run(before).is_none(), "a refusal")?;
-    pop_once(world, pop)?;
-    check(is_first(world.popped(0)), "the first pop")
+fn check_pop(world: &mut World, before: &[Event], pop: &[Event]) -> bool {
+    world.run(before).is_none() && pop_once(world, pop) && is_first(world.popped(0))
 }
 
 /// A guest whose chain waits to be popped.
-fn asked(alloc: Global) -> Result<Acts, Fail> {
+fn asked(alloc: Global) -> Option<Acts> {
     let mut acts = Acts::new(alloc, None, 0);
-    acts.play(0, &[Move::Open, Move::SetUp])?;
-    acts.ask(0, Asked::Counter(1))?;
-    Ok(acts)
+    if !acts.play(0, &[Move::Open, Move::SetUp]) || !acts.ask(0, Asked::Counter(1)) {
+        return None;
+    }
+    Some(acts)
 }
 
 #[test]
 fn a_refused_pop_leaves_the_world(rt: HostRuntime) -> Result<(), Fail> {
-    let acts = asked(rt.alloc())?;
+    let Some(acts) = asked(rt.alloc()) else {
+        return Err(Fail::from("no acts"));
+    };
     let mut pop = Vec::new(rt.alloc());
-    pop.push(Event::Do(Step::Pop(0)))?;
-    check_pop(
-        &mut world_of(rt.alloc(), 1, Version::One)?,
-        &acts.events,
-        &pop,
+    let Some(mut world) = world_of(rt.alloc(), 1, Version::One) else {
+        return Err(Fail::from("no world"));
+    };
+    check(
+        pop.push(Event::Do(Step::Pop(0))).is_ok() && check_pop(&mut world, &acts.events, &pop),
+        "another outcome",
     )
 }

@@ -35,18 +35,21 @@ fn is_of(collected: Option<Done>, number: u32) -> bool {
 
 /// The read of this number, under its nonce: its receipt is the one that is told, and its reply
 /// leaves.
-fn answer_one(alloc: Global, scene: &mut Scene, first: u128, number: u32) -> Result<(), Fail> {
-    let receipt = scene.submit(alloc, 0, &get_write_counter(u128::from(number)))?;
-    check(receipt == receipt_of(first, number), "another receipt")?;
-    check(is_of(scene.book.collect(0), number), "its reply")
+fn answer_one(alloc: Global, scene: &mut Scene, first: u128, number: u32) -> bool {
+    let Some(receipt) = scene.submit(alloc, 0, &get_write_counter(u128::from(number))) else {
+        return false;
+    };
+    receipt == receipt_of(first, number) && is_of(scene.book.collect(0), number)
 }
 
 /// The reads of guest 0 from one number on, up to another.
-fn answer(alloc: Global, scene: &mut Scene, first: u128, from: u32, to: u32) -> Result<(), Fail> {
+fn answer(alloc: Global, scene: &mut Scene, first: u128, from: u32, to: u32) -> bool {
     for number in from..to {
-        answer_one(alloc, scene, first, number)?;
+        if !answer_one(alloc, scene, first, number) {
+            return false;
+        }
     }
-    Ok(())
+    true
 }
 
 /// Whether the receipt of a read finds its request and its reply, or, of one that was folded,
@@ -69,16 +72,19 @@ fn are_found_from(book: &Book, first: u128, from: u32, to: u32, folded: u32) -> 
 }
 
 /// At the 16,385th and the 32,769th read all before it goes.
-fn answer_40000(alloc: Global, scene: &mut Scene) -> Result<(), Fail> {
-    answer(alloc, scene, 0, 0, 40_000)?;
-    check(scene.book.submit_turns() == 40_000, "all are counted")?;
-    let found = are_found_from(&scene.book, 0, 0, 40_000, 32_768);
-    check(found, "what was folded, or wasn't")
+fn answer_40000(alloc: Global, scene: &mut Scene) -> bool {
+    if !answer(alloc, scene, 0, 0, 40_000) || scene.book.submit_turns() != 40_000 {
+        return false;
+    }
+    are_found_from(&scene.book, 0, 0, 40_000, 32_768)
 }
 
 #[test]
 fn the_book_answers_40000_requests(rt: HostRuntime) -> Result<(), Fail> {
-    answer_40000(rt.alloc(), &mut scene_of(rt.alloc(), 1)?)
+    let Some(mut scene) = scene_of(rt.alloc(), 1) else {
+        return Err(Fail::from("no scene"));
+    };
+    check(answer_40000(rt.alloc(), &mut scene), "another outcome")
 }
 
 /// Whether it is the request of guest 1, which is found.
@@ -97,64 +103,88 @@ fn has_tally(scene: &Scene, guest: usize, count: u64) -> bool {
 }
 
 /// The job of guest 0 that is given back, since the first reply of the history hasn't left.
-fn refuse(alloc: Global, scene: &mut Scene) -> Result<Job, Fail> {
+fn refuse(alloc: Global, scene: &mut Scene) -> Option<Job> {
     let frames = get_write_counter(16_383);
-    let offered = scene.offer(alloc, job_of(alloc, 0, 1, &frames)?);
+    let Some(job) = job_of(alloc, 0, 1, &frames) else {
+        return None;
+    };
+    let offered = scene.offer(alloc, job);
     given_back(offered, 0, &frames, Refused::HistoryFull)
 }
 
 /// A refusal counts nothing and folds nothing.
-fn check_unchanged(scene: &mut Scene, held: &Receipt) -> Result<(), Fail> {
-    check(scene.book.submit_turns() == 16_384, "the turns")?;
-    check(has_tally(scene, 0, 16_383), "the tally")?;
-    check(is_held(&scene.book, held), "the first turn")?;
-    let found = are_found_from(&scene.book, 1, 0, 16_383, 0);
-    check(found, "the other turns")?;
-    check(has_no_reply(scene, 0), "no reply")
+fn check_unchanged(scene: &mut Scene, held: &Receipt) -> bool {
+    if scene.book.submit_turns() != 16_384
+        || !has_tally(scene, 0, 16_383)
+        || !is_held(&scene.book, held)
+    {
+        return false;
+    }
+    are_found_from(&scene.book, 1, 0, 16_383, 0) && has_no_reply(scene, 0)
 }
 
 /// Once the first reply has left, all that was answered goes, and the job is answered.
-fn go_on(alloc: Global, scene: &mut Scene, held: &Receipt, job: Job) -> Result<(), Fail> {
-    check(is_of(scene.book.collect(1), 99), "the first reply")?;
-    let receipt = accepted(scene.offer(alloc, job))?;
+fn go_on(alloc: Global, scene: &mut Scene, held: &Receipt, job: Job) -> bool {
+    if !is_of(scene.book.collect(1), 99) {
+        return false;
+    }
+    let Some(receipt) = accepted(scene.offer(alloc, job)) else {
+        return false;
+    };
     // One turn more than the reads: that reply's Collect.
-    check(receipt == receipt_of(2, 16_383), "the next number")?;
-    check(is_of(scene.book.collect(0), 16_383), "its reply")?;
-    check(scene.book.find(held).is_none(), "the first turn")?;
-    let found = are_found_from(&scene.book, 1, 0, 16_383, 16_383);
-    check(found, "the other turns")?;
-    check(is_found_from(&scene.book, 2, 16_383, 0), "its turn")
+    if receipt != receipt_of(2, 16_383)
+        || !is_of(scene.book.collect(0), 16_383)
+        || scene.book.find(held).is_some()
+    {
+        return false;
+    }
+    are_found_from(&scene.book, 1, 0, 16_383, 16_383) && is_found_from(&scene.book, 2, 16_383, 0)
 }
 
-fn wait_for_one(alloc: Global, scene: &mut Scene) -> Result<(), Fail> {
-    let held = scene.submit(alloc, 1, &get_write_counter(99))?;
-    answer(alloc, scene, 1, 0, 16_383)?;
-    let job = refuse(alloc, scene)?;
-    check_unchanged(scene, &held)?;
-    go_on(alloc, scene, &held, job)
+fn wait_for_one(alloc: Global, scene: &mut Scene) -> bool {
+    let Some(held) = scene.submit(alloc, 1, &get_write_counter(99)) else {
+        return false;
+    };
+    if !answer(alloc, scene, 1, 0, 16_383) {
+        return false;
+    }
+    let Some(job) = refuse(alloc, scene) else {
+        return false;
+    };
+    check_unchanged(scene, &held) && go_on(alloc, scene, &held, job)
 }
 
 #[test]
 fn a_history_waits_for_its_first_reply(rt: HostRuntime) -> Result<(), Fail> {
-    wait_for_one(rt.alloc(), &mut scene_of(rt.alloc(), 2)?)
+    let Some(mut scene) = scene_of(rt.alloc(), 2) else {
+        return Err(Fail::from("no scene"));
+    };
+    check(wait_for_one(rt.alloc(), &mut scene), "another outcome")
 }
 
 /// A reply of guest 1 is held behind 10,000 reads of guest 0: these go, and what stands behind them
 /// stays.
-fn fold_up_to_one(alloc: Global, scene: &mut Scene) -> Result<(), Fail> {
-    answer(alloc, scene, 0, 0, 10_000)?;
-    let held = scene.submit(alloc, 1, &get_write_counter(99))?;
-    answer(alloc, scene, 1, 10_000, 16_384)?;
-    check(is_held(&scene.book, &held), "what is held")?;
-    let found = are_found_from(&scene.book, 0, 0, 10_000, 10_000)
-        && are_found_from(&scene.book, 1, 10_000, 16_384, 0);
-    check(found, "what was folded, or wasn't")?;
-    check(is_of(scene.book.collect(1), 99), "the held reply")
+fn fold_up_to_one(alloc: Global, scene: &mut Scene) -> bool {
+    if !answer(alloc, scene, 0, 0, 10_000) {
+        return false;
+    }
+    let Some(held) = scene.submit(alloc, 1, &get_write_counter(99)) else {
+        return false;
+    };
+    if !answer(alloc, scene, 1, 10_000, 16_384) || !is_held(&scene.book, &held) {
+        return false;
+    }
+    are_found_from(&scene.book, 0, 0, 10_000, 10_000)
+        && are_found_from(&scene.book, 1, 10_000, 16_384, 0)
+        && is_of(scene.book.collect(1), 99)
 }
 
 #[test]
 fn what_stands_behind_a_held_reply_stays(rt: HostRuntime) -> Result<(), Fail> {
-    fold_up_to_one(rt.alloc(), &mut scene_of(rt.alloc(), 2)?)
+    let Some(mut scene) = scene_of(rt.alloc(), 2) else {
+        return Err(Fail::from("no scene"));
+    };
+    check(fold_up_to_one(rt.alloc(), &mut scene), "another outcome")
 }
 
 /// Guest 0 programs its key and writes, and guest 2, which has no key, reads. Of guest 1 a read,

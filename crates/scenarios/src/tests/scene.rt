@@ -1,5 +1,5 @@
 //! A book on fresh partitions of 512 blocks, and the requests that scenes make.
-ghost use Rattle.std.specs.Prelude.{◌≡◌, IfOk, map};
+ghost use Rattle.std.specs.Prelude.{◌≡◌, IfSome, map};
 
 use chains::Range;
 use flusher::Marks;
@@ -25,29 +25,40 @@ pub struct Scene {
 }
 
 /// A board of guests that are all alike.
-pub fn board_of(alloc: Global, guests: usize) -> Result<BoardConfig, Fail> {
-    let mut configs = Vec::with_capacity(alloc, guests)?;
+pub fn board_of(alloc: Global, guests: usize) -> Option<BoardConfig> {
+    let mut configs = Vec::new(alloc);
     for _ in 0..guests {
-        configs.push(GuestConfig::of_capacity(1))?;
+        if configs.push(GuestConfig::of_capacity(1)).is_err() {
+            return None;
+        }
     }
-    Ok(BoardConfig::new(configs)?)
+    BoardConfig::new(configs).ok()
 }
 
 /// A partition for each guest of the board, without a key and with blocks of zeros.
-fn fresh_partitions(alloc: Global, board: &BoardConfig) -> Result<Vec<Partition>, Fail>
-    ensures { IfOk result (λ v. map (λ p. p.capacity) v.items ≡ map (λ g. g.capacity) board.now) }
+fn fresh_partitions(alloc: Global, board: &BoardConfig) -> Option<Vec<Partition>>
+    ensures { IfSome result (λ v. map (λ p. p.capacity) v.items ≡ map (λ g. g.capacity) board.now) }
 {
-    let mut partitions = Vec::with_capacity(alloc, board.guests().len())?;
+    let mut partitions = Vec::new(alloc);
     for guest in board.guests() {
-        partitions.push(Partition::new(alloc, guest.capacity)?)?;
+        let Ok(partition) = Partition::new(alloc, guest.capacity) else {
+            return None;
+        };
+        if partitions.push(partition).is_err() {
+            return None;
+        }
     }
-    Ok(partitions)
+    Some(partitions)
 }
 
-fn scene_on(alloc: Global, board: &BoardConfig) -> Result<Scene, Fail> {
-    let partitions = fresh_partitions(alloc, board)?;
-    let (book, tallies, shares) = Book::open(alloc, LIFE, board, partitions)?;
-    Ok(Scene {
+fn scene_on(alloc: Global, board: &BoardConfig) -> Option<Scene> {
+    let Some(partitions) = fresh_partitions(alloc, board) else {
+        return None;
+    };
+    let Ok((book, tallies, shares)) = Book::open(alloc, LIFE, board, partitions) else {
+        return None;
+    };
+    Some(Scene {
         book,
         tallies,
         shares,
@@ -55,8 +66,11 @@ fn scene_on(alloc: Global, board: &BoardConfig) -> Result<Scene, Fail> {
 }
 
 /// The scene at its opening, with so many guests.
-pub fn scene_of(alloc: Global, guests: usize) -> Result<Scene, Fail> {
-    scene_on(alloc, &board_of(alloc, guests)?)
+pub fn scene_of(alloc: Global, guests: usize) -> Option<Scene> {
+    let Some(board) = board_of(alloc, guests) else {
+        return None;
+    };
+    scene_on(alloc, &board)
 }
 
 impl Scene {
@@ -74,22 +88,17 @@ impl Scene {
     }
 
     /// Has the book answer a request of these frames, in the guest's first session.
-    pub fn submit(
-        &mut self,
-        alloc: Global,
-        guest: u16,
-        frames: &[[u8; 512]],
-    ) -> Result<Receipt, Fail> {
-        accepted(self.offer(alloc, job_of(alloc, guest, 1, frames)?))
+    pub fn submit(&mut self, alloc: Global, guest: u16, frames: &[[u8; 512]]) -> Option<Receipt> {
+        let Some(job) = job_of(alloc, guest, 1, frames) else {
+            return None;
+        };
+        accepted(self.offer(alloc, job))
     }
 }
 
 /// The receipt of a job that is to be answered.
-pub fn accepted(offered: Result<Receipt, (Job, Refused)>) -> Result<Receipt, Fail> {
-    match offered {
-        Ok(receipt) => Ok(receipt),
-        Err((_, refused)) => Err(Fail::from(refused)),
-    }
+pub fn accepted(offered: Result<Receipt, (Job, Refused)>) -> Option<Receipt> {
+    offered.ok()
 }
 
 pub fn check(holds: bool, what: &'static str) -> Result<(), Fail> {
@@ -97,10 +106,14 @@ pub fn check(holds: bool, what: &'static str) -> Result<(), Fail> {
 }
 
 /// A job of these frames with room for one frame, whose id is 5 and which has 3 places.
-pub fn job_of(alloc: Global, guest: u16, session: u64, frames: &[[u8; 512]]) -> Result<Job, Fail> {
-    let request = frames.as_flattened().to_vec(alloc)?;
-    let writable = Vec::from_slice(alloc, &[Range { at: 0, len: 512 }])?;
-    Ok(Job::of(alloc, guest, session, 5, 3, writable, request))
+pub fn job_of(alloc: Global, guest: u16, session: u64, frames: &[[u8; 512]]) -> Option<Job> {
+    let Ok(request) = frames.as_flattened().to_vec(alloc) else {
+        return None;
+    };
+    let Ok(writable) = Vec::from_slice(alloc, &[Range { at: 0, len: 512 }]) else {
+        return None;
+    };
+    Some(Job::of(alloc, guest, session, 5, 3, writable, request))
 }
 
 /// The frame that asks for the result.

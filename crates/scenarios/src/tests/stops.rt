@@ -1,18 +1,18 @@
 //! Three guests whose requests go to the disk side by side, alone or several as one, stopped at and
 //! within each call of the disk, and again at and within the first call after the opening.
+mod again;
 mod ends;
 mod tally;
 
 use crate::tests::image::{Version, formatted_as, give, opened};
 use crate::tests::intents::{Histories, group_of};
-use crate::tests::scene::{board_of, check};
-use crate::tests::stops::tally::{Tally, check_tally, no_tally};
+use crate::tests::scene::board_of;
+use crate::tests::stops::tally::Tally;
 use disk::{CutDisk, Filler};
 use flusher::{Call, Made, Store, StoreFault};
 use rpmb_core::Partition;
 use rpmb_frame::BoardConfig;
 use std::alloc::Global;
-use std::test::Fail;
 
 /// How many calls were made when each guest begins: with one slot one and two syncs after guest 0.
 const BEGINNINGS: [u32; 3] = [0, 2, 5];
@@ -79,15 +79,24 @@ struct Scene {
     histories: Histories,
 }
 
-fn new_scene(alloc: Global, grouping: &Grouping) -> Result<Scene, Fail> {
-    let board = board_of(alloc, 3)?;
-    Ok(Scene {
+fn new_scene(alloc: Global, grouping: &Grouping) -> Option<Scene> {
+    let Some(board) = board_of(alloc, 3) else {
+        return None;
+    };
+    let Some(disk) = formatted_as(alloc, &board, grouping.version) else {
+        return None;
+    };
+    let Ok(bytes) = disk.content().to_vec(alloc) else {
+        return None;
+    };
+    let Some(histories) = Histories::new(alloc) else {
+        return None;
+    };
+    Some(Scene {
         grouping: *grouping,
-        image: formatted_as(alloc, &board, grouping.version)?
-            .content()
-            .to_vec(alloc)?,
+        image: bytes,
         board,
-        histories: Histories::new(alloc)?,
+        histories,
     })
 }
 
@@ -124,24 +133,33 @@ fn sequences_of(partitions: &[Partition]) -> [u64; 3] {
 }
 
 /// What an opening gives. Each guest goes on behind the requests that its partition has.
-fn run_from(alloc: Global, scene: &Scene, disk: CutDisk) -> Result<(Run, Vec<Partition>), Fail> {
-    let (store, partitions) = opened(alloc, disk, &scene.board)?;
+fn run_from(alloc: Global, scene: &Scene, disk: CutDisk) -> Option<(Run, Vec<Partition>)> {
+    let Some((store, partitions)) = opened(alloc, disk, &scene.board) else {
+        return None;
+    };
     let run = Run {
         store,
         sizes: scene.grouping.sizes,
         given: sequences_of(&partitions),
     };
-    Ok((run, partitions))
+    Some((run, partitions))
 }
 
 /// A run on an image.
-fn run_on(alloc: Global, scene: &Scene, image: &[u8]) -> Result<Run, Fail> {
-    let disk = CutDisk::new(alloc, image.to_vec(alloc)?)?;
-    let (run, _) = run_from(alloc, scene, disk)?;
-    Ok(run)
+fn run_on(alloc: Global, scene: &Scene, image: &[u8]) -> Option<Run> {
+    let Ok(bytes) = image.to_vec(alloc) else {
+        return None;
+    };
+    let Ok(disk) = CutDisk::new(alloc, bytes) else {
+        return None;
+    };
+    let Some((run, _)) = run_from(alloc, scene, disk) else {
+        return None;
+    };
+    Some(run)
 }
 
-fn begun(alloc: Global, scene: &Scene) -> Result<Run, Fail> {
+fn begun(alloc: Global, scene: &Scene) -> Option<Run> {
     run_on(alloc, scene, &scene.image)
 }
 
@@ -153,77 +171,90 @@ fn size_after(sizes: &[[u64; 4]; 3], guest: u16, given: u64) -> Option<u64> {
 
 impl Run {
     /// Gives a guest's next requests, if there are some and the guest's slot is free.
-    fn give(&mut self, alloc: Global, guest: u16) -> Result<(), Fail> {
+    fn give(&mut self, alloc: Global, guest: u16) -> bool {
         let Some(given) = self.given.get_mut(usize::from(guest)) else {
-            return Err(Fail::from("no guest"));
+            return false;
         };
         let Some(size) = size_after(&self.sizes, guest, *given) else {
-            return Ok(());
+            return true;
         };
         if !self.store.is_free(guest) {
-            return Ok(());
+            return true;
         }
-        let intent = group_of(alloc, guest, *given, size)?;
+        let Some(intent) = group_of(alloc, guest, *given, size) else {
+            return false;
+        };
         *given = given.saturating_add(size);
         give(&mut self.store, intent)
     }
 
     /// Gives the next requests of all guests that have begun.
-    fn give_all(&mut self, alloc: Global, calls: u32) -> Result<(), Fail> {
+    fn give_all(&mut self, alloc: Global, calls: u32) -> bool {
         for (guest, beginning) in BEGINNINGS.iter().enumerate() {
             if *beginning <= calls {
-                self.give(alloc, guest as u16)?;
+                if !self.give(alloc, guest as u16) {
+                    return false;
+                }
             }
         }
-        Ok(())
+        true
     }
 
     /// Makes so many calls.
-    fn go(&mut self, alloc: Global, calls: u32) -> Result<(), Fail> {
+    fn go(&mut self, alloc: Global, calls: u32) -> bool {
         for call in 0..calls {
-            self.give_all(alloc, call)?;
-            if matches!(self.store.advance()?, Made::Idle) {
-                return Err(Fail::from("idle"));
+            if !self.give_all(alloc, call) {
+                return false;
+            }
+            let Ok(made) = self.store.advance() else {
+                return false;
+            };
+            if matches!(made, Made::Idle) {
+                return false;
             }
         }
-        Ok(())
+        true
     }
 
     /// Makes so many calls, and has the next one fail where the stop is within it.
-    fn go_to(&mut self, alloc: Global, calls: u32, within: bool) -> Result<(), Fail> {
-        self.go(alloc, calls)?;
-        if within {
-            self.give_all(alloc, calls)?;
-            self.fail()?;
+    fn go_to(&mut self, alloc: Global, calls: u32, within: bool) -> bool {
+        if !self.go(alloc, calls) {
+            return false;
         }
-        Ok(())
+        if within {
+            if !self.give_all(alloc, calls) || !self.fail() {
+                return false;
+            }
+        }
+        true
     }
 
     /// Makes the first call after an opening, if there is one, or has it fail.
-    fn call_once(&mut self, alloc: Global, fails: bool, tally: &mut Tally) -> Result<(), Fail> {
-        self.give_all(alloc, MANY)?;
+    fn call_once(&mut self, alloc: Global, fails: bool, tally: &mut Tally) -> bool {
+        if !self.give_all(alloc, MANY) {
+            return false;
+        }
         if self.store.next_call() == Call::None {
-            return Ok(());
+            return true;
         }
         tally.calls = tally.calls.wrapping_add(1);
         self.call(fails)
     }
 
     /// Makes the next call, or has it fail.
-    fn call(&mut self, fails: bool) -> Result<(), Fail> {
+    fn call(&mut self, fails: bool) -> bool {
         if fails {
             return self.fail();
         }
-        self.store.advance()?;
-        Ok(())
+        self.store.advance().is_ok()
     }
 
     /// Makes the next call fail.
-    fn fail(&mut self) -> Result<(), Fail> {
+    fn fail(&mut self) -> bool {
         self.store.fail(1);
         match self.store.advance() {
-            Err(StoreFault::DiskFault) => Ok(()),
-            _ => Err(Fail::from("no call failed")),
+            Err(StoreFault::DiskFault) => true,
+            _ => false,
         }
     }
 }
@@ -248,13 +279,17 @@ impl Run {
     }
 
     /// Compares the partitions that an opening gave.
-    fn compare(&self, histories: &Histories, partitions: &[Partition]) -> Result<(), Fail> {
-        check(partitions.len() == 3, "three partitions")?;
+    fn compare(&self, histories: &Histories, partitions: &[Partition]) -> bool {
+        if partitions.len() != 3 {
+            return false;
+        }
         for guest in 0..3_u16 {
             let same = self.is_one_at(histories, guest, partitions);
-            check(same, "the partition and the mark")?;
+            if !same {
+                return false;
+            }
         }
-        Ok(())
+        true
     }
 }
 
@@ -296,105 +331,13 @@ impl Run {
 
 impl Stopped {
     /// Opens the disk and compares each partition.
-    fn open(self, alloc: Global, scene: &Scene, tally: &mut Tally) -> Result<Run, Fail> {
-        let (run, partitions) = run_from(alloc, scene, self.disk)?;
-        tally.compare(self.least, self.most, &run, &partitions, &scene.histories)?;
-        Ok(run)
+    fn open(self, alloc: Global, scene: &Scene, tally: &mut Tally) -> Option<Run> {
+        let Some((run, partitions)) = run_from(alloc, scene, self.disk) else {
+            return None;
+        };
+        if !tally.compare(self.least, self.most, &run, &partitions, &scene.histories) {
+            return None;
+        }
+        Some(run)
     }
-}
-
-/// A stop after the first call that follows the opening of an image, or within it.
-fn stop_again(
-    alloc: Global,
-    scene: &Scene,
-    image: &[u8],
-    within: bool,
-    filler: &Filler,
-    tally: &mut Tally,
-) -> Result<(), Fail> {
-    let mut run = run_on(alloc, scene, image)?;
-    run.call_once(alloc, within, tally)?;
-    run.stopped(filler).open(alloc, scene, tally)?;
-    Ok(())
-}
-
-/// Both kinds of stop after the opening of an image.
-fn stop_again_twice(
-    alloc: Global,
-    scene: &Scene,
-    image: &[u8],
-    filler: &Filler,
-    tally: &mut Tally,
-) -> Result<(), Fail> {
-    stop_again(alloc, scene, image, false, filler, tally)?;
-    stop_again(alloc, scene, image, true, filler, tally)
-}
-
-/// Compares what a stop has left, and answers the image that it has left.
-fn compared(
-    alloc: Global,
-    scene: &Scene,
-    stopped: Stopped,
-    tally: &mut Tally,
-) -> Result<Vec<u8>, Fail> {
-    let image = stopped.disk.content().to_vec(alloc)?;
-    stopped.open(alloc, scene, tally)?;
-    Ok(image)
-}
-
-fn stop_twice(
-    alloc: Global,
-    scene: &Scene,
-    run: Run,
-    filler: &Filler,
-    tally: &mut Tally,
-) -> Result<(), Fail> {
-    let image = compared(alloc, scene, run.stopped(filler), tally)?;
-    stop_again_twice(alloc, scene, &image, filler, tally)
-}
-
-/// The run after so many calls, or with the next one failed.
-fn run_to(alloc: Global, scene: &Scene, calls: u32, within: bool) -> Result<Run, Fail> {
-    let mut run = begun(alloc, scene)?;
-    run.go_to(alloc, calls, within)?;
-    Ok(run)
-}
-
-fn filler(alloc: Global, number: u8) -> Result<Filler, Fail> {
-    Ok(match number {
-        0 => Filler::Old,
-        1 => Filler::New,
-        2 => Filler::Fill([0x5a, 0xa5].to_vec(alloc)?),
-        _ => Filler::Fill(Vec::new(alloc)),
-    })
-}
-
-/// Stops of every kind after so many calls, or within the next one.
-fn stop_at(
-    alloc: Global,
-    scene: &Scene,
-    calls: u32,
-    within: bool,
-    tally: &mut Tally,
-) -> Result<(), Fail> {
-    for number in 0..4 {
-        let run = run_to(alloc, scene, calls, within)?;
-        stop_twice(alloc, scene, run, &filler(alloc, number)?, tally)?;
-    }
-    Ok(())
-}
-
-/// What is compared at each place in turn: after each number of calls, or within each call.
-fn stopped_at_each(alloc: Global, scene: &Scene, within: bool) -> Result<Tally, Fail> {
-    let places = scene.grouping.calls.saturating_add(u32::from(!within));
-    let mut tally = no_tally();
-    for calls in 0..places {
-        stop_at(alloc, scene, calls, within, &mut tally)?;
-    }
-    Ok(tally)
-}
-
-fn check_stops(alloc: Global, grouping: &Grouping, within: bool) -> Result<(), Fail> {
-    let scene = new_scene(alloc, grouping)?;
-    check_tally(&stopped_at_each(alloc, &scene, within)?, grouping, within)
 }

@@ -28,56 +28,66 @@ static SERVED: [Move; 4] = [Move::HandOver, Move::Advances(3), Move::Reply, Move
 
 /// Guest 0 writes once at a time, guest 1 twice and guest 2 three times, each under the counter
 /// that comes next.
-fn write_some(acts: &mut Acts, guest: u16, round: u32) -> Result<(), Fail> {
+fn write_some(acts: &mut Acts, guest: u16, round: u32) -> bool {
     let byte = 0x40 + (guest % 64) as u8;
     let many = u32::from(guest % 3) + 1;
     for place in 0..many {
-        acts.submit(guest, Asked::Write(byte, many * (round % 2) + place))?;
+        if !acts.submit(guest, Asked::Write(byte, many * (round % 2) + place)) {
+            return false;
+        }
     }
-    Ok(())
+    true
 }
 
 /// A guest's next writes and a read after them.
-fn serve(acts: &mut Acts, guest: u16, round: u8) -> Result<(), Fail> {
-    write_some(acts, guest, u32::from(round))?;
-    acts.submit(guest, Asked::Counter(round))?;
-    acts.play(guest, &SERVED)
+fn serve(acts: &mut Acts, guest: u16, round: u8) -> bool {
+    write_some(acts, guest, u32::from(round))
+        && acts.submit(guest, Asked::Counter(round))
+        && acts.play(guest, &SERVED)
 }
 
 /// The writes of the guests in turn, two rounds of each.
-fn serve_all(acts: &mut Acts) -> Result<(), Fail> {
+fn serve_all(acts: &mut Acts) -> bool {
     for place in 0..6_u8 {
-        serve(acts, u16::from(place % 3), place / 3)?;
+        if !serve(acts, u16::from(place % 3), place / 3) {
+            return false;
+        }
     }
-    Ok(())
+    true
 }
 
 /// The replies that are left leave in turn.
-fn reply_to_all(acts: &mut Acts) -> Result<(), Fail> {
+fn reply_to_all(acts: &mut Acts) -> bool {
     for place in 0..15_u16 {
-        acts.play(place % 3, &[Move::Reply])?;
+        if !acts.play(place % 3, &[Move::Reply]) {
+            return false;
+        }
     }
-    Ok(())
+    true
 }
 
 /// Each guest programs its key, writes in two rounds and reads after each. What it writes in a
 /// round is taken as one, with what was still waiting.
-fn mixed(acts: &mut Acts) -> Result<(), Fail> {
-    acts.play(0, &[Move::Open])?;
-    for guest in 0..3 {
-        acts.play(guest, &KEYED)?;
+fn mixed(acts: &mut Acts) -> bool {
+    if !acts.play(0, &[Move::Open]) {
+        return false;
     }
-    serve_all(acts)?;
-    acts.play(0, &[Move::Advances(40)])?;
-    reply_to_all(acts)
+    for guest in 0..3 {
+        if !acts.play(guest, &KEYED) {
+            return false;
+        }
+    }
+    serve_all(acts) && acts.play(0, &[Move::Advances(40)]) && reply_to_all(acts)
 }
 
 /// The limits of each guest.
-fn limits(alloc: Global) -> Result<Limits, Fail> {
-    let board = board_of(alloc, 1)?;
+fn limits(alloc: Global) -> Option<Limits> {
+    let Some(board) = board_of(alloc, 1) else {
+        return None;
+    };
     match board.guests().first() {
-        Some(guest) => Ok(Limits::of(guest)),
-        None => Err(Fail::from("no guest")),
+        Some(guest) => Some(Limits::of(guest)),
+        None => None,
     }
 }
 
@@ -89,18 +99,22 @@ fn accept(partition: &mut Partition, request: &Request<'_>) {
 }
 
 /// A guest's base after all that was accepted.
-fn replayed(alloc: Global, world: &World, guest: u16) -> Result<Partition, Fail> {
-    let limits = limits(alloc)?;
-    let mut partition = base(alloc, world, guest)?;
+fn replayed(alloc: Global, world: &World, guest: u16) -> Option<Partition> {
+    let Some(limits) = limits(alloc) else {
+        return None;
+    };
+    let Some(mut partition) = base(alloc, world, guest) else {
+        return None;
+    };
     replay(&mut partition, world.accepted(guest), limits);
-    Ok(partition)
+    Some(partition)
 }
 
 /// A copy of a guest's base.
-fn base(alloc: Global, world: &World, guest: u16) -> Result<Partition, Fail> {
+fn base(alloc: Global, world: &World, guest: u16) -> Option<Partition> {
     match world.base(guest) {
-        Some(base) => Ok(base.copy(alloc)?),
-        None => Err(Fail::from("no base")),
+        Some(base) => base.copy(alloc).ok(),
+        None => None,
     }
 }
 
@@ -144,30 +158,29 @@ fn holds(world: &World, guest: u16) -> bool {
 }
 
 /// The guest has the partition after what was accepted, which holds what it was shown.
-pub fn check_guest(alloc: Global, world: &World, guest: u16) -> Result<(), Fail> {
-    check(holds(world, guest), "a need")?;
-    let after = replayed(alloc, world, guest)?;
-    check(is_now(world, guest, &after), "a partition")
+pub fn check_guest(alloc: Global, world: &World, guest: u16) -> bool {
+    if !holds(world, guest) {
+        return false;
+    }
+    let Some(after) = replayed(alloc, world, guest) else {
+        return false;
+    };
+    is_now(world, guest, &after)
 }
 
 /// No guest lost anything by the stops.
-pub fn check_guests(alloc: Global, world: &World) -> Result<(), Fail> {
+pub fn check_guests(alloc: Global, world: &World) -> bool {
     for guest in 0..3 {
-        check_guest(alloc, world, guest)?;
+        if !check_guest(alloc, world, guest) {
+            return false;
+        }
     }
-    Ok(())
+    true
 }
 
 /// So many openings succeed, and what they give holds all that it has to.
-fn check_openings(
-    alloc: Global,
-    world: &mut World,
-    events: &[Event],
-    openings: u64,
-) -> Result<(), Fail> {
-    check(world.run(events).is_none(), "a refusal")?;
-    check(world.openings() == openings, "an opening")?;
-    check_guests(alloc, world)
+fn check_openings(alloc: Global, world: &mut World, events: &[Event], openings: u64) -> bool {
+    world.run(events).is_none() && world.openings() == openings && check_guests(alloc, world)
 }
 
 /// Whether a second stop follows, at the first call after the opening.
@@ -189,72 +202,87 @@ impl Again {
 }
 
 /// The events up to a stop within the advance after `left` others, and to the second stop.
-fn acts_until(alloc: Global, left: u32, filler: u8, again: Again) -> Result<Acts, Fail> {
+fn acts_until(alloc: Global, left: u32, filler: u8, again: Again) -> Option<Acts> {
     let mut acts = Acts::new(alloc, Some(left), filler);
-    mixed(&mut acts)?;
-    match again {
-        Again::No => {}
-        Again::Within => acts.stop_again(true)?,
-        Again::After => acts.stop_again(false)?,
+    if !mixed(&mut acts) {
+        return None;
     }
-    Ok(acts)
+    let added = match again {
+        Again::No => true,
+        Again::Within => acts.stop_again(true),
+        Again::After => acts.stop_again(false),
+    };
+    added.then_some(acts)
 }
 
-fn check_events(
-    alloc: Global,
-    version: Version,
-    events: &[Event],
-    openings: u64,
-) -> Result<(), Fail> {
-    let mut world = world_of(alloc, 3, version)?;
+fn check_events(alloc: Global, version: Version, events: &[Event], openings: u64) -> bool {
+    let Some(mut world) = world_of(alloc, 3, version) else {
+        return false;
+    };
     check_openings(alloc, &mut world, events, openings)
 }
 
-fn stopped(
-    alloc: Global,
-    version: Version,
-    left: u32,
-    filler: u8,
-    again: Again,
-) -> Result<(), Fail> {
-    let acts = acts_until(alloc, left, filler, again)?;
+fn stopped(alloc: Global, version: Version, left: u32, filler: u8, again: Again) -> bool {
+    let Some(acts) = acts_until(alloc, left, filler, again) else {
+        return false;
+    };
     check_events(alloc, version, &acts.events, again.openings())
 }
 
 /// Stops within each advance, with each filler.
-fn stopped_at_each(alloc: Global, version: Version, again: Again) -> Result<(), Fail> {
+fn stopped_at_each(alloc: Global, version: Version, again: Again) -> bool {
     for place in 0..4 * ADVANCES {
-        stopped(alloc, version, place / 4, (place % 4) as u8, again)?;
+        if !stopped(alloc, version, place / 4, (place % 4) as u8, again) {
+            return false;
+        }
     }
-    Ok(())
+    true
 }
 
 #[test]
 fn a_stop_within_each_advance(rt: HostRuntime) -> Result<(), Fail> {
-    stopped_at_each(rt.alloc(), Version::One, Again::No)
+    check(
+        stopped_at_each(rt.alloc(), Version::One, Again::No),
+        "another outcome",
+    )
 }
 
 #[test]
 fn a_stop_within_each_advance_of_two_slots(rt: HostRuntime) -> Result<(), Fail> {
-    stopped_at_each(rt.alloc(), Version::Two, Again::No)
+    check(
+        stopped_at_each(rt.alloc(), Version::Two, Again::No),
+        "another outcome",
+    )
 }
 
 #[test]
 fn a_stop_within_the_next_call_too(rt: HostRuntime) -> Result<(), Fail> {
-    stopped_at_each(rt.alloc(), Version::One, Again::Within)
+    check(
+        stopped_at_each(rt.alloc(), Version::One, Again::Within),
+        "another outcome",
+    )
 }
 
 #[test]
 fn a_stop_within_the_next_call_of_two_slots_too(rt: HostRuntime) -> Result<(), Fail> {
-    stopped_at_each(rt.alloc(), Version::Two, Again::Within)
+    check(
+        stopped_at_each(rt.alloc(), Version::Two, Again::Within),
+        "another outcome",
+    )
 }
 
 #[test]
 fn a_stop_after_the_next_call_too(rt: HostRuntime) -> Result<(), Fail> {
-    stopped_at_each(rt.alloc(), Version::One, Again::After)
+    check(
+        stopped_at_each(rt.alloc(), Version::One, Again::After),
+        "another outcome",
+    )
 }
 
 #[test]
 fn a_stop_after_the_next_call_of_two_slots_too(rt: HostRuntime) -> Result<(), Fail> {
-    stopped_at_each(rt.alloc(), Version::Two, Again::After)
+    check(
+        stopped_at_each(rt.alloc(), Version::Two, Again::After),
+        "another outcome",
+    )
 }

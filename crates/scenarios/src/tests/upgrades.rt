@@ -46,51 +46,73 @@ fn spoil(content: &mut Vec<u8>, guest: usize, byte: u8) {
 }
 
 /// An image of version 1 with such bytes in each second slot.
-fn spoiled(alloc: Global, board: &BoardConfig, case: &Case) -> Result<CutDisk, Fail> {
-    let disk = formatted(alloc, board)?;
-    let mut content = disk.content().to_vec(alloc)?;
+fn spoiled(alloc: Global, board: &BoardConfig, case: &Case) -> Option<CutDisk> {
+    let Some(disk) = formatted(alloc, board) else {
+        return None;
+    };
+    let Ok(mut content) = disk.content().to_vec(alloc) else {
+        return None;
+    };
     for guest in 0..usize::from(case.guests) {
         spoil(&mut content, guest, case.byte);
     }
-    Ok(CutDisk::new(alloc, content)?)
+    CutDisk::new(alloc, content).ok()
 }
 
-fn world_of(alloc: Global, case: &Case) -> Result<World, Fail> {
-    let board = board_of(alloc, usize::from(case.guests))?;
-    let disk = spoiled(alloc, &board, case)?;
-    Ok(World::new(alloc, disk, board))
+fn world_of(alloc: Global, case: &Case) -> Option<World> {
+    let Some(board) = board_of(alloc, usize::from(case.guests)) else {
+        return None;
+    };
+    let Some(disk) = spoiled(alloc, &board, case) else {
+        return None;
+    };
+    Some(World::new(alloc, disk, board))
 }
 
 /// Each guest programs its key and is told so, and then a write of each is under way.
-fn write_under_way(acts: &mut Acts, case: &Case) -> Result<(), Fail> {
-    acts.play(0, &[Move::Open])?;
+fn write_under_way(acts: &mut Acts, case: &Case) -> bool {
+    if !acts.play(0, &[Move::Open]) {
+        return false;
+    }
     for guest in 0..case.guests {
-        acts.play(
+        if !acts.play(
             guest,
             &[Move::SetUp, Move::Submit(Asked::Key(0x11)), Move::HandOver],
-        )?;
+        ) {
+            return false;
+        }
     }
-    acts.play(0, &[Move::Advances(20)])?;
+    if !acts.play(0, &[Move::Advances(20)]) {
+        return false;
+    }
     for guest in 0..case.guests {
-        acts.play(guest, &[Move::Reply, Move::Submit(Asked::Write(0x41, 0))])?;
-        acts.play(guest, &[Move::HandOver])?;
+        if !acts.play(guest, &[Move::Reply, Move::Submit(Asked::Write(0x41, 0))])
+            || !acts.play(guest, &[Move::HandOver])
+        {
+            return false;
+        }
     }
     acts.play(0, &[Move::Advances(case.phase)])
 }
 
 /// What comes to the upgrade, and the upgrade.
-fn upgraded(alloc: Global, case: &Case) -> Result<Acts, Fail> {
+fn upgraded(alloc: Global, case: &Case) -> Option<Acts> {
     let mut acts = Acts::new(alloc, None, 0);
-    write_under_way(&mut acts, case)?;
-    acts.play(0, &[Move::Upgrade(case.call, case.filler)])?;
-    Ok(acts)
+    if !write_under_way(&mut acts, case)
+        || !acts.play(0, &[Move::Upgrade(case.call, case.filler)])
+    {
+        return None;
+    }
+    Some(acts)
 }
 
 /// An upgrade that isn't stopped.
-fn upgraded_again(alloc: Global) -> Result<Acts, Fail> {
+fn upgraded_again(alloc: Global) -> Option<Acts> {
     let mut acts = Acts::new(alloc, None, 0);
-    acts.play(0, &[Move::Upgrade(0, 0)])?;
-    Ok(acts)
+    if !acts.play(0, &[Move::Upgrade(0, 0)]) {
+        return None;
+    }
+    Some(acts)
 }
 
 fn counter_of(world: &World, guest: u16) -> u32 {
@@ -109,7 +131,7 @@ fn counters(world: &World) -> [u32; 3] {
     ]
 }
 
-fn write_on(acts: &mut Acts, guest: u16, counter: u32) -> Result<(), Fail> {
+fn write_on(acts: &mut Acts, guest: u16, counter: u32) -> bool {
     acts.play(
         guest,
         &[Move::Submit(Asked::Write(0x42, counter)), Move::HandOver],
@@ -117,70 +139,92 @@ fn write_on(acts: &mut Acts, guest: u16, counter: u32) -> Result<(), Fail> {
 }
 
 /// Each guest writes twice, the second time while its first write is under way; and the host stops.
-fn written_on(alloc: Global, case: &Case, counters: &[u32; 3]) -> Result<Acts, Fail> {
+fn written_on(alloc: Global, case: &Case, counters: &[u32; 3]) -> Option<Acts> {
     let mut acts = Acts::new(alloc, None, 0);
     for (guest, counter) in counters.iter().enumerate().take(usize::from(case.guests)) {
-        acts.play(guest as u16, &[Move::SetUp])?;
-        write_on(&mut acts, guest as u16, *counter)?;
+        if !acts.play(guest as u16, &[Move::SetUp])
+            || !write_on(&mut acts, guest as u16, *counter)
+        {
+            return None;
+        }
     }
-    acts.play(0, &[Move::Advances(u32::from(case.guests) + 1)])?;
+    if !acts.play(0, &[Move::Advances(u32::from(case.guests) + 1)]) {
+        return None;
+    }
     for (guest, counter) in counters.iter().enumerate().take(usize::from(case.guests)) {
-        write_on(&mut acts, guest as u16, counter.saturating_add(1))?;
+        if !write_on(&mut acts, guest as u16, counter.saturating_add(1)) {
+            return None;
+        }
     }
-    acts.play(0, &[Move::Advances(case.phase), Move::Stop(case.filler)])?;
-    Ok(acts)
+    if !acts.play(0, &[Move::Advances(case.phase), Move::Stop(case.filler)]) {
+        return None;
+    }
+    Some(acts)
 }
 
 /// So many openings have succeeded, and each guest has what was accepted of it.
-fn check_world(alloc: Global, world: &World, case: &Case, openings: u64) -> Result<(), Fail> {
-    check(world.openings() == openings, "an opening")?;
-    for guest in 0..case.guests {
-        check_guest(alloc, world, guest)?;
+fn check_world(alloc: Global, world: &World, case: &Case, openings: u64) -> bool {
+    if world.openings() != openings {
+        return false;
     }
-    Ok(())
+    for guest in 0..case.guests {
+        if !check_guest(alloc, world, guest) {
+            return false;
+        }
+    }
+    true
 }
 
-fn happens(
-    alloc: Global,
-    world: &mut World,
-    case: &Case,
-    events: &[Event],
-    openings: u64,
-) -> Result<(), Fail> {
-    check(world.run(events).is_none(), "a refusal")?;
-    check_world(alloc, world, case, openings)
+fn happens(alloc: Global, world: &mut World, case: &Case, events: &[Event], openings: u64) -> bool {
+    world.run(events).is_none() && check_world(alloc, world, case, openings)
 }
 
-fn check_case(alloc: Global, world: &mut World, case: &Case) -> Result<(), Fail> {
-    let acts = upgraded(alloc, case)?;
-    happens(alloc, world, case, &acts.events, 2)?;
+fn check_case(alloc: Global, world: &mut World, case: &Case) -> bool {
+    let Some(acts) = upgraded(alloc, case) else {
+        return false;
+    };
+    if !happens(alloc, world, case, &acts.events, 2) {
+        return false;
+    }
     let before = counters(world);
-    let acts = upgraded_again(alloc)?;
-    happens(alloc, world, case, &acts.events, 3)?;
-    check(counters(world) == before, "a counter")?;
-    let acts = written_on(alloc, case, &before)?;
+    let Some(acts) = upgraded_again(alloc) else {
+        return false;
+    };
+    if !happens(alloc, world, case, &acts.events, 3) || counters(world) != before {
+        return false;
+    }
+    let Some(acts) = written_on(alloc, case, &before) else {
+        return false;
+    };
     happens(alloc, world, case, &acts.events, 4)
 }
 
-fn check_new_case(alloc: Global, case: &Case) -> Result<(), Fail> {
-    check_case(alloc, &mut world_of(alloc, case)?, case)
+fn check_new_case(alloc: Global, case: &Case) -> bool {
+    let Some(mut world) = world_of(alloc, case) else {
+        return false;
+    };
+    check_case(alloc, &mut world, case)
 }
 
 /// Each filler at a stop within this call.
-fn fill(alloc: Global, case: &Case) -> Result<(), Fail> {
+fn fill(alloc: Global, case: &Case) -> bool {
     for filler in FILLERS {
-        check_new_case(alloc, &Case { filler, ..*case })?;
+        if !check_new_case(alloc, &Case { filler, ..*case }) {
+            return false;
+        }
     }
-    Ok(())
+    true
 }
 
 /// An upgrade makes a sync, two reads, a write for each guest, a sync, the write of the version,
 /// and a sync.
-fn stop_at_each(alloc: Global, case: &Case) -> Result<(), Fail> {
+fn stop_at_each(alloc: Global, case: &Case) -> bool {
     for call in 0..u32::from(case.guests) + 7 {
-        fill(alloc, &Case { call, ..*case })?;
+        if !fill(alloc, &Case { call, ..*case }) {
+            return false;
+        }
     }
-    Ok(())
+    true
 }
 
 #[test]
@@ -193,7 +237,9 @@ fn one_guest_in_each_phase(rt: HostRuntime) -> Result<(), Fail> {
             filler: 0,
             byte: 0xa5,
         };
-        stop_at_each(rt.alloc(), &case)?;
+        if !stop_at_each(rt.alloc(), &case) {
+            return Err(Fail::from("another outcome"));
+        }
     }
     Ok(())
 }
@@ -208,7 +254,9 @@ fn three_guests_in_each_phase(rt: HostRuntime) -> Result<(), Fail> {
             filler: 0,
             byte: 0x5a ^ 0xff * (phase % 2) as u8,
         };
-        fill(rt.alloc(), &case)?;
+        if !fill(rt.alloc(), &case) {
+            return Err(Fail::from("another outcome"));
+        }
     }
     Ok(())
 }
@@ -222,5 +270,5 @@ fn three_guests_stopped_at_each_call(rt: HostRuntime) -> Result<(), Fail> {
         filler: 0,
         byte: 0xa5,
     };
-    stop_at_each(rt.alloc(), &case)
+    check(stop_at_each(rt.alloc(), &case), "another outcome")
 }

@@ -13,14 +13,19 @@ use std::alloc::Global;
 use std::test::Fail;
 use world::{Event, Publication, Refusal, World};
 
-fn world_over(alloc: Global, board: BoardConfig, version: Version) -> Result<World, Fail> {
-    let disk = formatted_as(alloc, &board, version)?;
-    Ok(World::new(alloc, disk, board))
+fn world_over(alloc: Global, board: BoardConfig, version: Version) -> Option<World> {
+    let Some(disk) = formatted_as(alloc, &board, version) else {
+        return None;
+    };
+    Some(World::new(alloc, disk, board))
 }
 
 /// A world over a fresh image of so many guests.
-pub fn world_of(alloc: Global, guests: usize, version: Version) -> Result<World, Fail> {
-    world_over(alloc, board_of(alloc, guests)?, version)
+pub fn world_of(alloc: Global, guests: usize, version: Version) -> Option<World> {
+    let Some(board) = board_of(alloc, guests) else {
+        return None;
+    };
+    world_over(alloc, board, version)
 }
 
 /// What a list of events left of a world of one guest.
@@ -90,8 +95,11 @@ fn run(world: &mut World, events: &[Event]) -> Left {
 
 /// What these events leave of a fresh world. A world is held here alone, since its drop is dear to
 /// prove.
-fn left_by(alloc: Global, events: &[Event]) -> Result<Left, Fail> {
-    Ok(run(&mut world_of(alloc, 1, Version::One)?, events))
+fn left_by(alloc: Global, events: &[Event]) -> Option<Left> {
+    let Some(mut world) = world_of(alloc, 1, Version::One) else {
+        return None;
+    };
+    Some(run(&mut world, events))
 }
 
 impl Left {
@@ -104,10 +112,12 @@ impl Left {
 
 /// What lists of moves of guest 0 leave, one behind the other, where the store's advance after
 /// `left` others is stopped.
-fn left_of(alloc: Global, lists: &[&[Move]], left: Option<u32>, filler: u8) -> Result<Left, Fail> {
+fn left_of(alloc: Global, lists: &[&[Move]], left: Option<u32>, filler: u8) -> Option<Left> {
     let mut acts = Acts::new(alloc, left, filler);
     for moves in lists {
-        acts.play(0, *moves)?;
+        if !acts.play(0, *moves) {
+            return None;
+        }
     }
     left_by(alloc, &acts.events)
 }
@@ -133,19 +143,21 @@ static UNDER_WAY: [Move; 6] = [
 ];
 
 /// What the guest has after a stop of that with this filler.
-fn seen_after(alloc: Global, filler: u8) -> Result<Option<(u32, usize, u64)>, Fail> {
-    let left = left_of(alloc, &[&KEYED, &UNDER_WAY, &[Move::Stop(filler)]], None, 0)?;
-    check(left.refusal.is_none(), "a refusal")?;
-    check(left.replies == 1, "replies")?;
-    Ok(left.seen())
+fn seen_after(alloc: Global, filler: u8) -> Option<Option<(u32, usize, u64)>> {
+    let Some(left) = left_of(alloc, &[&KEYED, &UNDER_WAY, &[Move::Stop(filler)]], None, 0) else {
+        return None;
+    };
+    if left.refusal.is_some() || left.replies != 1 {
+        return None;
+    }
+    Some(left.seen())
 }
 
 #[test]
 fn a_gate_that_is_written_may_be_open(rt: HostRuntime) -> Result<(), Fail> {
-    let old = seen_after(rt.alloc(), 0)?;
-    check(old == Some((0, 1, 1)), "the old")?;
-    let new = seen_after(rt.alloc(), 1)?;
-    check(new == Some((1, 2, 1)), "the new")
+    let old = seen_after(rt.alloc(), 0) == Some(Some((0, 1, 1)));
+    let new = seen_after(rt.alloc(), 1) == Some(Some((1, 2, 1)));
+    check(old && new, "the old, or the new")
 }
 
 /// The sync of that gate fails, the disk is opened again, and the host stops once more.
@@ -153,11 +165,16 @@ static FAILED: [Move; 4] = [Move::FailNext, Move::Advances(1), Move::Open, Move:
 
 #[test]
 fn an_opening_syncs_what_a_failed_sync_left(rt: HostRuntime) -> Result<(), Fail> {
-    let left = left_of(rt.alloc(), &[&KEYED, &UNDER_WAY, &FAILED], None, 0)?;
+    let Some(left) = left_of(rt.alloc(), &[&KEYED, &UNDER_WAY, &FAILED], None, 0) else {
+        return Err(Fail::from("no left"));
+    };
     let fault = StepFault::Store(StoreFault::DiskFault);
-    check(left.refusal == Some(Refusal::Step(fault)), "the refusal")?;
-    check(left.seen() == Some((1, 2, 1)), "the counter")?;
-    check(left.openings == 3, "openings")
+    check(
+        left.refusal == Some(Refusal::Step(fault))
+            && left.seen() == Some((1, 2, 1))
+            && left.openings == 3,
+        "the refusal, the counter, openings",
+    )
 }
 
 /// The opening's sync fails. What is asked then is nothing, since the world is closed; and a stop
@@ -172,24 +189,30 @@ static NOT_OPENED: [Move; 5] = [
 
 #[test]
 fn an_opening_that_fails_closes_the_world(rt: HostRuntime) -> Result<(), Fail> {
-    let left = left_of(
+    let Some(left) = left_of(
         rt.alloc(),
         &[&KEYED, &[Move::FailNext, Move::Open]],
         None,
         0,
-    )?;
+    ) else {
+        return Err(Fail::from("no left"));
+    };
     let fault = Refusal::Open(OpenFault::DiskFault);
-    check(left.refusal == Some(fault), "the refusal")?;
-    check(left.openings == 1, "openings")?;
-    check(left.found.is_none(), "a partition")
+    check(
+        left.refusal == Some(fault) && left.openings == 1 && left.found.is_none(),
+        "the refusal, openings, a partition",
+    )
 }
 
 #[test]
 fn an_opening_that_fails_makes_nothing_durable(rt: HostRuntime) -> Result<(), Fail> {
-    let left = left_of(rt.alloc(), &[&KEYED, &UNDER_WAY, &NOT_OPENED], None, 0)?;
-    check(left.seen() == Some((0, 1, 1)), "the old")?;
-    check(left.openings == 2, "openings")?;
-    check(left.replies == 1, "replies")
+    let Some(left) = left_of(rt.alloc(), &[&KEYED, &UNDER_WAY, &NOT_OPENED], None, 0) else {
+        return Err(Fail::from("no left"));
+    };
+    check(
+        left.seen() == Some((0, 1, 1)) && left.openings == 2 && left.replies == 1,
+        "the old, openings, replies",
+    )
 }
 
 /// The needs of what was published, as digits.
@@ -223,11 +246,13 @@ static ASKED: [Move; 16] = [
 
 #[test]
 fn each_reply_needs_what_was_accepted_before_it(rt: HostRuntime) -> Result<(), Fail> {
-    let left = left_of(rt.alloc(), &[&ASKED], None, 0)?;
-    check(left.refusal.is_none(), "a refusal")?;
-    check(left.replies == 5, "replies")?;
-    check(left.needs == 1122, "needs 0, 1, 1, 2, 2")?;
-    check(left.accepted == 2, "accepted")
+    let Some(left) = left_of(rt.alloc(), &[&ASKED], None, 0) else {
+        return Err(Fail::from("no left"));
+    };
+    check(
+        left.refusal.is_none() && left.replies == 5 && left.needs == 1122 && left.accepted == 2,
+        "a refusal, replies, needs 0, 1, 1, 2, 2, accepted",
+    )
 }
 
 const FIRST: Move = Move::Submit(Asked::Write(0xa0, 0));
@@ -274,41 +299,43 @@ static ALL_THREE: [Move; 5] = [FIRST, SECOND, THIRD, Move::HandOver, Move::Advan
 
 /// What is there after a stop of the store's advance after `left` others: the counter, and the
 /// first byte of the block that all three write.
-fn after_stop(
-    alloc: Global,
-    moves: &[Move],
-    left: u32,
-    filler: u8,
-) -> Result<Option<(u32, u8)>, Fail> {
+fn after_stop(alloc: Global, moves: &[Move], left: u32, filler: u8) -> Option<Option<(u32, u8)>> {
     let lists = [&KEYED, moves, &[Move::Advances(9)]];
-    let left = left_of(alloc, &lists, Some(left), filler)?;
-    check(left.refusal.is_none(), "a refusal")?;
-    check(left.openings == 2, "no stop")?;
-    Ok(left.found)
+    let Some(left) = left_of(alloc, &lists, Some(left), filler) else {
+        return None;
+    };
+    if left.refusal.is_some() || left.openings != 2 {
+        return None;
+    }
+    Some(left.found)
 }
 
 /// The first two writes, or all three, stay over each stop from `from` advances to `to`.
-fn stay(alloc: Global, moves: &[Move], from: u32, to: u32, least: u32) -> Result<(), Fail> {
+fn stay(alloc: Global, moves: &[Move], from: u32, to: u32, least: u32) -> bool {
     for left in from..to {
         for filler in 0..4 {
-            let found = after_stop(alloc, moves, left, filler)?;
+            let Some(found) = after_stop(alloc, moves, left, filler) else {
+                return false;
+            };
             let two = least == 2 && found == Some((2, 0xa1));
-            check(
-                two || found == Some((3, 0xa2)),
-                "the first two, or all three",
-            )?;
+            if !(two || found == Some((3, 0xa2))) {
+                return false;
+            }
         }
     }
-    Ok(())
+    true
 }
 
 /// The key takes 8 advances, and a group is settled by its fourth.
 #[test]
 fn what_is_settled_of_three_writes_stays(rt: HostRuntime) -> Result<(), Fail> {
-    stay(rt.alloc(), &ONE_BY_ONE, 21, 35, 2)?;
-    stay(rt.alloc(), &TWO_AND_ONE, 12, 27, 2)?;
-    stay(rt.alloc(), &ONE_AND_TWO, 21, 27, 3)?;
-    stay(rt.alloc(), &ALL_THREE, 12, 19, 3)
+    check(
+        stay(rt.alloc(), &ONE_BY_ONE, 21, 35, 2)
+            && stay(rt.alloc(), &TWO_AND_ONE, 12, 27, 2)
+            && stay(rt.alloc(), &ONE_AND_TWO, 21, 27, 3)
+            && stay(rt.alloc(), &ALL_THREE, 12, 19, 3),
+        "another outcome",
+    )
 }
 
 /// Four writes of a block each go to the store as one.
@@ -322,20 +349,23 @@ static FOUR_WRITES: [Move; 6] = [
 ];
 
 /// The counter after a stop within the sync of their gate, which is the fourth of their calls.
-fn counter_of_four(alloc: Global, filler: u8) -> Result<Option<u32>, Fail> {
-    let left = left_of(alloc, &[&KEYED, &FOUR_WRITES], Some(11), filler)?;
-    check(left.refusal.is_none(), "a refusal")?;
-    check(
-        left.accepted == left.found.map_or(9, |it| it.0 as usize + 1),
-        "accepted",
-    )?;
-    Ok(left.found.map(|it| it.0))
+fn counter_of_four(alloc: Global, filler: u8) -> Option<Option<u32>> {
+    let Some(left) = left_of(alloc, &[&KEYED, &FOUR_WRITES], Some(11), filler) else {
+        return None;
+    };
+    if left.refusal.is_some() || left.accepted != left.found.map_or(9, |it| it.0 as usize + 1) {
+        return None;
+    }
+    Some(left.found.map(|it| it.0))
 }
 
 #[test]
 fn four_writes_are_there_or_none(rt: HostRuntime) -> Result<(), Fail> {
-    check(counter_of_four(rt.alloc(), 2)? == Some(0), "none")?;
-    check(counter_of_four(rt.alloc(), 4)? == Some(4), "all four")
+    check(
+        counter_of_four(rt.alloc(), 2) == Some(Some(0))
+            && counter_of_four(rt.alloc(), 4) == Some(Some(4)),
+        "none, or all four",
+    )
 }
 
 /// Whether the first eight blocks are of bytes 1, 2, .. 8, and the counter is 1.
@@ -357,7 +387,11 @@ static EIGHT_BLOCKS: [Move; 3] = [
 #[test]
 fn no_write_of_eight_blocks_is_half_there(rt: HostRuntime) -> Result<(), Fail> {
     // Stopped within the write of the blocks: after the key's 8 advances, and four of its own.
-    let left = left_of(rt.alloc(), &[&KEYED, &EIGHT_BLOCKS], Some(12), 3)?;
-    check(left.refusal.is_none(), "a refusal")?;
-    check(left.has_eight, "the blocks")
+    let Some(left) = left_of(rt.alloc(), &[&KEYED, &EIGHT_BLOCKS], Some(12), 3) else {
+        return Err(Fail::from("no left"));
+    };
+    check(
+        left.refusal.is_none() && left.has_eight,
+        "a refusal, the blocks",
+    )
 }

@@ -37,14 +37,13 @@ fn has_all(counts: &[[u32; 4]; 3], sizes: &[[u64; 4]; 3]) -> bool {
 
 impl Tally {
     /// Counts a partition that was found after so many requests.
-    fn count(&mut self, guest: usize, least: u64, found: u64, most: u64) -> Result<(), Fail> {
-        check(
-            found == least || found == most,
-            "all requests that went as one, or none",
-        )?;
+    fn count(&mut self, guest: usize, least: u64, found: u64, most: u64) -> bool {
+        if !(found == least || found == most) {
+            return false;
+        }
         self.partitions = self.partitions.wrapping_add(1);
         if least == most {
-            return Ok(());
+            return true;
         }
         let all = if found == least {
             &mut self.before
@@ -56,17 +55,19 @@ impl Tally {
             .get_mut(4 * guest.min(2) + least as usize % 4)
         {
             Some(count) => *count = count.wrapping_add(1),
-            None => return Err(Fail::from("no request")),
+            None => return false,
         }
-        Ok(())
+        true
     }
 
     /// Counts the partitions of all guests.
-    fn count_all(&mut self, least: [u64; 3], found: [u64; 3], most: [u64; 3]) -> Result<(), Fail> {
+    fn count_all(&mut self, least: [u64; 3], found: [u64; 3], most: [u64; 3]) -> bool {
         for guest in 0..3 {
-            self.count(guest, least[guest], found[guest], most[guest])?;
+            if !self.count(guest, least[guest], found[guest], most[guest]) {
+                return false;
+            }
         }
-        Ok(())
+        true
     }
 
     /// Counts and compares the partitions of all guests.
@@ -77,9 +78,8 @@ impl Tally {
         run: &Run,
         partitions: &[Partition],
         histories: &Histories,
-    ) -> Result<(), Fail> {
-        self.count_all(least, run.given, most)?;
-        run.compare(histories, partitions)
+    ) -> bool {
+        self.count_all(least, run.given, most) && run.compare(histories, partitions)
     }
 
     /// Whether each group was found undone and done while it wasn't settled.
@@ -90,16 +90,10 @@ impl Tally {
 
 /// Three partitions are compared at each place with each of 4 fillers, and then at two second
 /// stops.
-pub fn check_tally(tally: &Tally, grouping: &Grouping, within: bool) -> Result<(), Fail> {
+pub fn check_tally(tally: &Tally, grouping: &Grouping, within: bool) -> bool {
     let places = u64::from(grouping.calls) + u64::from(!within);
     let without = u64::from(grouping.without_calls[usize::from(within)]);
-    check(
-        u64::from(tally.partitions) == places * 36,
-        "all were compared",
-    )?;
-    check(
-        u64::from(tally.calls) + without == places * 8,
-        "calls after openings",
-    )?;
-    check(tally.has_both(&grouping.sizes), "before and after")
+    u64::from(tally.partitions) == places * 36
+        && u64::from(tally.calls) + without == places * 8
+        && tally.has_both(&grouping.sizes)
 }
