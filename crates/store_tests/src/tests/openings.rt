@@ -6,6 +6,7 @@ mod many;
 mod pairs;
 mod payloads;
 mod refusals;
+mod unsynced;
 mod upgrades;
 
 ghost use Rattle.std.specs.Prelude.{◌<◌};
@@ -19,34 +20,40 @@ use recovery::{OpenFault, format, open};
 use rpmb_core::Partition;
 use rpmb_frame::BoardConfig;
 use std::alloc::Global;
-use std::test::Fail;
 
 const KEY: [u8; 32] = [0x4b; 32];
 
 /// The board of one guest.
-fn one_guest(alloc: Global) -> Result<BoardConfig, Fail> {
+fn one_guest(alloc: Global) -> Option<BoardConfig> {
     board(alloc, &[1])
 }
 
 /// Formats a disk of the image's length.
-fn format_all(disk: &mut impl Disk, board: &BoardConfig) -> Result<(), Fail> {
+fn format_all(disk: &mut impl Disk, board: &BoardConfig) -> bool {
     if disk.len() != Layout::of(board).length() {
-        return Err(Fail::from("another length"));
+        return false;
     }
-    Ok(format(disk, board)?)
+    format(disk, board).is_ok()
 }
 
 /// As many other bytes as the image has.
-fn other_bytes(alloc: Global, board: &BoardConfig) -> Result<Vec<u8>, Fail> {
+fn other_bytes(alloc: Global, board: &BoardConfig) -> Option<Vec<u8>> {
     let length = Layout::of(board).length();
-    Ok(vec![in alloc; 0xee; length as usize]?)
+    vec![in alloc; 0xee; length as usize].ok()
 }
 
 /// A formatted disk, on which other bytes stood.
-fn fresh(alloc: Global, board: &BoardConfig) -> Result<CutDisk, Fail> {
-    let mut disk = CutDisk::new(alloc, other_bytes(alloc, board)?)?;
-    format_all(&mut disk, board)?;
-    Ok(disk)
+fn fresh(alloc: Global, board: &BoardConfig) -> Option<CutDisk> {
+    let Some(bytes) = other_bytes(alloc, board) else {
+        return None;
+    };
+    let Ok(mut disk) = CutDisk::new(alloc, bytes) else {
+        return None;
+    };
+    if !format_all(&mut disk, board) {
+        return None;
+    }
+    Some(disk)
 }
 
 /// What a disk opens to: the store, and the guests' partitions.
@@ -54,16 +61,15 @@ fn opened<D: Disk>(
     alloc: Global,
     disk: D,
     board: &BoardConfig,
-) -> Result<(Store<D>, Vec<Partition>), Fail> {
-    match open(alloc, disk, board) {
-        Ok(opened) => Ok(opened),
-        Err((_, fault)) => Err(fault.into()),
-    }
+) -> Option<(Store<D>, Vec<Partition>)> {
+    open(alloc, disk, board).ok()
 }
 
-fn store_of(alloc: Global, disk: CutDisk, board: &BoardConfig) -> Result<Store<CutDisk>, Fail> {
-    let (store, _) = opened(alloc, disk, board)?;
-    Ok(store)
+fn store_of(alloc: Global, disk: CutDisk, board: &BoardConfig) -> Option<Store<CutDisk>> {
+    let Some((store, _)) = opened(alloc, disk, board) else {
+        return None;
+    };
+    Some(store)
 }
 
 /// Whether there is a key, the counter, and the first byte of the blocks 0, 7 and 8.
@@ -94,14 +100,11 @@ fn are_found(partitions: &[Partition], wanted: &[Found]) -> bool {
 }
 
 /// Whether an opening finds these partitions.
-fn finds(
-    alloc: Global,
-    disk: CutDisk,
-    board: &BoardConfig,
-    wanted: &[Found],
-) -> Result<bool, Fail> {
-    let (_, partitions) = opened(alloc, disk, board)?;
-    Ok(are_found(&partitions, wanted))
+fn finds(alloc: Global, disk: CutDisk, board: &BoardConfig, wanted: &[Found]) -> bool {
+    let Some((_, partitions)) = opened(alloc, disk, board) else {
+        return false;
+    };
+    are_found(&partitions, wanted)
 }
 
 fn fault_of(alloc: Global, disk: CutDisk, board: &BoardConfig) -> Option<OpenFault> {
@@ -112,8 +115,10 @@ fn fault_of(alloc: Global, disk: CutDisk, board: &BoardConfig) -> Option<OpenFau
 }
 
 /// The store over a formatted disk.
-fn begun(alloc: Global, board: &BoardConfig) -> Result<Store<CutDisk>, Fail> {
-    let disk = fresh(alloc, board)?;
+fn begun(alloc: Global, board: &BoardConfig) -> Option<Store<CutDisk>> {
+    let Some(disk) = fresh(alloc, board) else {
+        return None;
+    };
     store_of(alloc, disk, board)
 }
 
@@ -144,20 +149,24 @@ fn is_at_rest(store: &Store<CutDisk>) -> bool {
 }
 
 /// Whether the store over a formatted disk is at rest, and its disk has nothing.
-fn has_nothing(alloc: Global, board: &BoardConfig) -> Result<bool, Fail> {
-    let store = begun(alloc, board)?;
+fn has_nothing(alloc: Global, board: &BoardConfig) -> bool {
+    let Some(store) = begun(alloc, board) else {
+        return false;
+    };
     let at_rest = is_at_rest(&store);
-    Ok(finds(alloc, store.into_disk(), board, &[NOTHING, NOTHING])? && at_rest)
+    finds(alloc, store.into_disk(), board, &[NOTHING, NOTHING]) && at_rest
 }
 
-fn two_have_nothing(alloc: Global) -> Result<bool, Fail> {
-    has_nothing(alloc, &board(alloc, &[1, 2])?)
+fn two_have_nothing(alloc: Global) -> bool {
+    let Some(board) = board(alloc, &[1, 2]) else {
+        return false;
+    };
+    has_nothing(alloc, &board)
 }
 
 #[test]
-fn formatted(rt: HostRuntime) -> Result<(), Fail> {
-    assert!(rt; two_have_nothing(rt.alloc())?);
-    Ok(())
+fn formatted(rt: HostRuntime) {
+    assert!(rt; two_have_nothing(rt.alloc()));
 }
 
 /// How many calls follow the key request of each guest.
@@ -182,45 +191,49 @@ fn write_all(store: &mut Store<CutDisk>) {
 
 /// The disk of three guests, whose key requests stand before a sync, in Applying, Opening and
 /// Written.
-fn three_guests(alloc: Global, board: &BoardConfig, more: usize) -> Result<CutDisk, Fail> {
-    let mut store = begun(alloc, board)?;
+fn three_guests(alloc: Global, board: &BoardConfig, more: usize) -> Option<CutDisk> {
+    let Some(mut store) = begun(alloc, board) else {
+        return None;
+    };
     for guest in 0..3 {
         begin(&mut store, guest);
     }
     write_all(&mut store);
     advance(&mut store, more);
-    Ok(store.into_disk())
+    Some(store.into_disk())
 }
 
 /// What a stop before the sync leaves, and what one after it.
 static SYNCED: [[Found; 3]; 2] = [[KEYED, NOTHING, NOTHING], [KEYED, KEYED, NOTHING]];
 
-fn finds_on(
-    alloc: Global,
-    board: &BoardConfig,
-    more: usize,
-    wanted: &[Found; 3],
-) -> Result<bool, Fail> {
-    let mut disk = three_guests(alloc, board, more)?;
+fn finds_on(alloc: Global, board: &BoardConfig, more: usize, wanted: &[Found; 3]) -> bool {
+    let Some(mut disk) = three_guests(alloc, board, more) else {
+        return false;
+    };
     disk.cut(&Filler::Old);
     finds(alloc, disk, board, wanted)
 }
 
-fn finds_three(alloc: Global, more: usize, wanted: &[Found; 3]) -> Result<bool, Fail> {
-    finds_on(alloc, &board(alloc, &[1, 1, 1])?, more, wanted)
+fn finds_three(alloc: Global, more: usize, wanted: &[Found; 3]) -> bool {
+    let Some(board) = board(alloc, &[1, 1, 1]) else {
+        return false;
+    };
+    finds_on(alloc, &board, more, wanted)
 }
 
 #[test]
-fn stopped_at_a_sync(rt: HostRuntime) -> Result<(), Fail> {
+fn stopped_at_a_sync(rt: HostRuntime) {
     for (more, wanted) in SYNCED.iter().enumerate() {
-        assert!(rt; finds_three(rt.alloc(), more, wanted)?, "{more}");
+        assert!(rt; finds_three(rt.alloc(), more, wanted), "{more}");
     }
-    Ok(())
 }
 
 /// The write of eight blocks.
-fn eight(alloc: Global) -> Result<Intent, Fail> {
-    Ok(Intent::write(0, KEY, 1, 0, vec![in alloc; 0x77; 2048]?))
+fn eight(alloc: Global) -> Option<Intent> {
+    let Ok(bytes) = vec![in alloc; 0x77; 2048] else {
+        return None;
+    };
+    Some(Intent::write(0, KEY, 1, 0, bytes))
 }
 
 /// Settles a key request, and gives a write behind it.
@@ -231,131 +244,122 @@ fn give_behind_a_key(store: &mut Store<CutDisk>, write: Intent) {
 }
 
 /// A store that has settled a key request, and was given the write of eight blocks.
-fn eight_given(alloc: Global, board: &BoardConfig) -> Result<Store<CutDisk>, Fail> {
-    let write = eight(alloc)?;
-    let mut store = begun(alloc, board)?;
+fn eight_given(alloc: Global, board: &BoardConfig) -> Option<Store<CutDisk>> {
+    let Some(write) = eight(alloc) else {
+        return None;
+    };
+    let Some(mut store) = begun(alloc, board) else {
+        return None;
+    };
     give_behind_a_key(&mut store, write);
-    Ok(store)
+    Some(store)
 }
 
 /// A disk that was stopped in the write of eight blocks behind an open gate.
-fn eight_blocks(alloc: Global, board: &BoardConfig) -> Result<CutDisk, Fail> {
-    let mut store = eight_given(alloc, board)?;
+fn eight_blocks(alloc: Global, board: &BoardConfig) -> Option<CutDisk> {
+    let Some(mut store) = eight_given(alloc, board) else {
+        return None;
+    };
     advance(&mut store, 5);
-    Ok(store.into_disk())
+    Some(store.into_disk())
 }
 
 /// What a stop leaves that puts this byte into each place that wasn't synced.
-fn filled(alloc: Global, disk: CutDisk, byte: u8) -> Result<CutDisk, Fail> {
+fn filled(alloc: Global, disk: CutDisk, byte: u8) -> Option<CutDisk> {
     let mut disk = disk;
-    disk.cut(&Filler::Fill(vec![in alloc; byte; 1]?));
-    Ok(disk)
+    let Ok(bytes) = vec![in alloc; byte; 1] else {
+        return None;
+    };
+    disk.cut(&Filler::Fill(bytes));
+    Some(disk)
 }
 
 /// Whether an opening after a stop in the write of eight blocks finds them.
-fn finds_eight(alloc: Global, board: &BoardConfig) -> Result<bool, Fail> {
-    let disk = filled(alloc, eight_blocks(alloc, board)?, 0xff)?;
+fn finds_eight(alloc: Global, board: &BoardConfig) -> bool {
+    let Some(eight_blocks) = eight_blocks(alloc, board) else {
+        return false;
+    };
+    let Some(disk) = filled(alloc, eight_blocks, 0xff) else {
+        return false;
+    };
     finds(alloc, disk, board, &[(true, 1, [0x77, 0x77, 0])])
 }
 
-fn one_has_eight(alloc: Global) -> Result<bool, Fail> {
-    finds_eight(alloc, &one_guest(alloc)?)
+fn one_has_eight(alloc: Global) -> bool {
+    let Some(board) = one_guest(alloc) else {
+        return false;
+    };
+    finds_eight(alloc, &board)
 }
 
 #[test]
-fn stopped_in_a_write(rt: HostRuntime) -> Result<(), Fail> {
-    assert!(rt; one_has_eight(rt.alloc())?);
-    Ok(())
+fn stopped_in_a_write(rt: HostRuntime) {
+    assert!(rt; one_has_eight(rt.alloc()));
 }
 
 /// A disk of which a call of the key request failed.
-fn failed(alloc: Global, board: &BoardConfig, k: u64) -> Result<CutDisk, Fail> {
-    let mut store = begun(alloc, board)?;
+fn failed(alloc: Global, board: &BoardConfig, k: u64) -> Option<CutDisk> {
+    let Some(mut store) = begun(alloc, board) else {
+        return None;
+    };
     give(&mut store, Intent::program_key(0, KEY));
     store.fail(k);
     advance(&mut store, 8);
-    Ok(store.into_disk())
+    Some(store.into_disk())
 }
 
-fn finds_failed(alloc: Global, board: &BoardConfig, k: u64) -> Result<bool, Fail> {
+fn finds_failed(alloc: Global, board: &BoardConfig, k: u64) -> bool {
     let wanted = if k < 4 { NOTHING } else { KEYED };
-    let disk = failed(alloc, board, k)?;
+    let Some(disk) = failed(alloc, board, k) else {
+        return false;
+    };
     finds(alloc, disk, board, &[wanted])
 }
 
 /// Whether an opening after the failed call of this number finds the key where it has to.
-fn finds_after(alloc: Global, k: u64) -> Result<bool, Fail> {
-    finds_failed(alloc, &one_guest(alloc)?, k)
+fn finds_after(alloc: Global, k: u64) -> bool {
+    let Some(board) = one_guest(alloc) else {
+        return false;
+    };
+    finds_failed(alloc, &board, k)
 }
 
 /// The same after the third, and a stop that leaves the byte of an open gate.
-fn finds_stopped(alloc: Global, board: &BoardConfig) -> Result<bool, Fail> {
-    let disk = filled(alloc, failed(alloc, board, 3)?, 0xa5)?;
+fn finds_stopped(alloc: Global, board: &BoardConfig) -> bool {
+    let Some(failed) = failed(alloc, board, 3) else {
+        return false;
+    };
+    let Some(disk) = filled(alloc, failed, 0xa5) else {
+        return false;
+    };
     finds(alloc, disk, board, &[KEYED])
 }
 
-fn finds_after_a_stop(alloc: Global) -> Result<bool, Fail> {
-    finds_stopped(alloc, &one_guest(alloc)?)
+fn finds_after_a_stop(alloc: Global) -> bool {
+    let Some(board) = one_guest(alloc) else {
+        return false;
+    };
+    finds_stopped(alloc, &board)
 }
 
 #[test]
-fn failed_calls(rt: HostRuntime) -> Result<(), Fail> {
+fn failed_calls(rt: HostRuntime) {
     for k in 1..9 {
-        assert!(rt; finds_after(rt.alloc(), k)?, "{k}");
+        assert!(rt; finds_after(rt.alloc(), k), "{k}");
     }
-    assert!(rt; finds_after_a_stop(rt.alloc())?);
-    Ok(())
+    assert!(rt; finds_after_a_stop(rt.alloc()));
 }
 
-/// A disk on which the sync of a write's open gate failed: 0xA5 is read there, and a stop may take
-/// it.
-fn gate_unsynced(alloc: Global, board: &BoardConfig) -> Result<CutDisk, Fail> {
-    let mut store = eight_given(alloc, board)?;
-    store.fail(4);
-    advance(&mut store, 4);
-    Ok(store.into_disk())
+fn overwrite(disk: &mut CutDisk, at: u64, bytes: &[u8]) -> bool {
+    write(disk, at, bytes).is_ok()
 }
 
-/// The disk after an opening, which finds the mark 2.
-fn opened_once(alloc: Global, disk: CutDisk, board: &BoardConfig) -> Result<CutDisk, Fail> {
-    let store = store_of(alloc, disk, board)?;
-    if store.marks().get(0) != 2 {
-        return Err("another mark".into());
+fn written(alloc: Global, board: &BoardConfig, at: u64, bytes: &[u8]) -> Option<CutDisk> {
+    let Some(mut disk) = fresh(alloc, board) else {
+        return None;
+    };
+    if !overwrite(&mut disk, at, bytes) {
+        return None;
     }
-    Ok(store.into_disk())
-}
-
-fn finds_unsynced(alloc: Global, board: &BoardConfig, opens: bool) -> Result<bool, Fail> {
-    let mut disk = gate_unsynced(alloc, board)?;
-    let mut wanted = KEYED;
-    if opens {
-        disk = opened_once(alloc, disk, board)?;
-        wanted = (true, 1, [0x77, 0x77, 0]);
-    }
-    disk.cut(&Filler::Old);
-    finds(alloc, disk, board, &[wanted])
-}
-
-fn finds_after_opening(alloc: Global, opens: bool) -> Result<bool, Fail> {
-    finds_unsynced(alloc, &one_guest(alloc)?, opens)
-}
-
-/// What an opening has found, a stop after it leaves: the opening's sync has stored it. A stop
-/// without an opening takes it.
-#[test]
-fn opened_before_a_stop(rt: HostRuntime) -> Result<(), Fail> {
-    for opens in &[false, true] {
-        assert!(rt; finds_after_opening(rt.alloc(), *opens)?, "{opens}");
-    }
-    Ok(())
-}
-
-fn overwrite(disk: &mut CutDisk, at: u64, bytes: &[u8]) -> Result<(), Fail> {
-    Ok(write(disk, at, bytes)?)
-}
-
-fn written(alloc: Global, board: &BoardConfig, at: u64, bytes: &[u8]) -> Result<CutDisk, Fail> {
-    let mut disk = fresh(alloc, board)?;
-    overwrite(&mut disk, at, bytes)?;
-    Ok(disk)
+    Some(disk)
 }

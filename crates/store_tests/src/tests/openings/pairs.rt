@@ -9,21 +9,22 @@ use intent_slots::{Intent, Layout};
 use recovery::format2;
 use rpmb_frame::BoardConfig;
 use std::alloc::Global;
-use std::test::Fail;
 
 /// Formats a disk of the image's length, with two slots a partition.
-pub fn format_two(disk: &mut impl Disk, board: &BoardConfig) -> Result<(), Fail> {
+pub fn format_two(disk: &mut impl Disk, board: &BoardConfig) -> bool {
     if disk.len() != Layout::of(board).length() {
-        return Err(Fail::from("another length"));
+        return false;
     }
-    Ok(format2(disk, board)?)
+    format2(disk, board).is_ok()
 }
 
 /// The write of one block, each byte of which is this counter, at the address below it.
-pub fn one(alloc: Global, counter: u8) -> Result<Intent, Fail> {
+pub fn one(alloc: Global, counter: u8) -> Option<Intent> {
     let address = u16::from(counter).saturating_sub(1);
-    let blocks = vec![in alloc; counter; 256]?;
-    Ok(Intent::write(0, KEY, u32::from(counter), address, blocks))
+    let Ok(blocks) = vec![in alloc; counter; 256] else {
+        return None;
+    };
+    Some(Intent::write(0, KEY, u32::from(counter), address, blocks))
 }
 
 /// The calls of two writes that were given one after the other.
@@ -52,29 +53,40 @@ static MARKS: [u64; 16] = [1, 1, 1, 1, 2, 2, 2, 2, 2, 2, 3, 3, 3, 3, 3, 3];
 type Logging = Store<LogDisk<MemDisk>>;
 
 /// The store over an image of version 2 of one guest.
-fn logging(alloc: Global, board: &BoardConfig) -> Result<Logging, Fail> {
-    let mut inner = MemDisk::new(other_bytes(alloc, board)?);
-    format_two(&mut inner, board)?;
+fn logging(alloc: Global, board: &BoardConfig) -> Option<Logging> {
+    let Some(bytes) = other_bytes(alloc, board) else {
+        return None;
+    };
+    let mut inner = MemDisk::new(bytes);
+    if !format_two(&mut inner, board) {
+        return None;
+    }
     let calls = ArrayVec::new();
-    let (store, _) = opened(alloc, LogDisk { inner, calls }, board)?;
-    Ok(store)
+    let Some((store, _)) = opened(alloc, LogDisk { inner, calls }, board) else {
+        return None;
+    };
+    Some(store)
 }
 
-fn make(store: &mut Logging, times: usize) -> Result<(), Fail> {
+fn make(store: &mut Logging, times: usize) -> bool {
     for _ in 0..times {
-        store.advance()?;
+        if store.advance().is_err() {
+            return false;
+        }
     }
-    Ok(())
+    true
 }
 
 /// Whether each of the calls leaves its mark, and none is left after them.
-fn leaves_marks(store: &mut Logging) -> Result<bool, Fail> {
+fn leaves_marks(store: &mut Logging) -> bool {
     let mut right = true;
     for mark in &MARKS {
-        make(store, 1)?;
+        if !make(store, 1) {
+            return false;
+        }
         right = right && store.marks().get(0) == *mark;
     }
-    Ok(right && matches!(store.advance(), Ok(Made::Idle)))
+    right && matches!(store.advance(), Ok(Made::Idle))
 }
 
 /// Gives the second write beside the first: then no slot is free.
@@ -83,16 +95,24 @@ fn give_both(store: &mut Logging, first: Intent, second: Intent) -> bool {
 }
 
 /// A store that has settled the key, and was given the first two writes.
-fn two_given(alloc: Global, board: &BoardConfig) -> Result<Logging, Fail> {
-    let first = one(alloc, 1)?;
-    let second = one(alloc, 2)?;
-    let mut store = logging(alloc, board)?;
+fn two_given(alloc: Global, board: &BoardConfig) -> Option<Logging> {
+    let Some(first) = one(alloc, 1) else {
+        return None;
+    };
+    let Some(second) = one(alloc, 2) else {
+        return None;
+    };
+    let Some(mut store) = logging(alloc, board) else {
+        return None;
+    };
     give(&mut store, Intent::program_key(0, KEY));
-    make(&mut store, 8)?;
+    if !make(&mut store, 8) {
+        return None;
+    }
     if give_both(&mut store, first, second) {
-        Ok(store)
+        Some(store)
     } else {
-        Err(Fail::from("no room"))
+        None
     }
 }
 
@@ -101,18 +121,22 @@ fn ends_with_them(calls: &[Logged]) -> bool {
     calls.len() >= 16 && &calls[calls.len() - 16..] == &CALLS[..]
 }
 
-fn makes_them(alloc: Global, board: &BoardConfig) -> Result<bool, Fail> {
-    let mut store = two_given(alloc, board)?;
-    let marked = leaves_marks(&mut store)?;
-    Ok(marked && ends_with_them(store.into_disk().calls.as_slice()))
+fn makes_them(alloc: Global, board: &BoardConfig) -> bool {
+    let Some(mut store) = two_given(alloc, board) else {
+        return false;
+    };
+    let marked = leaves_marks(&mut store);
+    marked && ends_with_them(store.into_disk().calls.as_slice())
 }
 
-fn one_makes_them(alloc: Global) -> Result<bool, Fail> {
-    makes_them(alloc, &one_guest(alloc)?)
+fn one_makes_them(alloc: Global) -> bool {
+    let Some(board) = one_guest(alloc) else {
+        return false;
+    };
+    makes_them(alloc, &board)
 }
 
 #[test]
-fn two_writes_at_once(rt: HostRuntime) -> Result<(), Fail> {
-    assert!(rt; one_makes_them(rt.alloc())?);
-    Ok(())
+fn two_writes_at_once(rt: HostRuntime) {
+    assert!(rt; one_makes_them(rt.alloc()));
 }
