@@ -1,19 +1,17 @@
 -- The names that most proofs cite, passed on from one place. Declares nothing.
-pub use Rattle.std.proofs.lemmas.Bool.{cases_eq}
 pub use Rattle.std.proofs.lemmas.Bool.Decides.{nat_tests}
 pub use Rattle.std.proofs.lemmas.List.{length-map, append-nil, append_assoc}
 pub use Rattle.std.proofs.lemmas.Option.{slice_get-get_or, slice_get_cases, slice_get_within, get_or_from_slice_get, slice_get-map}
-pub use Rattle.std.specs.Prelude.{is_some, slice_get, slice_set, slice_index_or, if◌then◌else◌, nat_lt, option_map, ◌==◌, slice_index, replicate, Result, Ok, Err, IfOk, ◌&&◌, option_copied}
+pub use Rattle.std.specs.Prelude.{is_some, slice_get, slice_set, slice_index_or, if◌then◌else◌, option_map, ◌==◌, slice_index, replicate, Result, Ok, Err, IfOk, ◌&&◌}
 pub use Rattle.rpmb_frame.specs.Limits.{limits_of}
 pub use Rattle.rpmb_frame.specs.Partition.{Partition, sequence}
 pub use Rattle.rpmb_frame.specs.Request.{Request}
 pub use Rattle.rpmb_frame.specs.declared.config.GuestConfig.{GuestConfig}
 pub use Rattle.disk.proofs.Ways.{within_weaker}
 pub use Rattle.disk.specs.Content.{Content, content_of}
-pub use Rattle.disk.specs.CutDisk.{CutMakes, CutState, cut_state}
-pub use Rattle.disk.specs.Disk.{DiskCall, DiskState, HasRisen, Within, Effect, MayLeave, Still, Then}
+pub use Rattle.disk.specs.CutDisk.{CutState, cut_state}
+pub use Rattle.disk.specs.Disk.{DiskCall, DiskState, HasRisen, Within, Effect, Still, Then}
 pub use Rattle.disk.specs.OutboxDisk.{outbox_state}
-pub use Rattle.disk.specs.declared.filler.Filler.{Filler}
 unfoldable pub use Rattle.intent_slots.specs.Layout.{capacities_of, region_at}
 pub use Rattle.intent_slots.specs.Payload.{Intent, GroupFits}
 pub use Rattle.intent_slots.specs.Recovered.{Part, part_of}
@@ -26,25 +24,17 @@ pub use Rattle.flusher.specs.Round.{FrontStays, Moves, Round, parts_after, plann
 pub use Rattle.flusher.specs.Slot.{intent_of}
 pub use Rattle.flusher.specs.SlotInvariant.{EachStop, IsHeld, guest_settled}
 unfoldable pub use Rattle.flusher.specs.Store.{is_free, given}
-pub use Rattle.flusher.specs.Store.{StoreState, next_call}
+pub use Rattle.flusher.specs.Store.{StoreState}
 pub use Rattle.flusher.specs.declared.guest.Guest.{Guest}
-pub use Rattle.flusher.specs.declared.progress.Call.{Call}
 pub use Rattle.flusher.specs.declared.progress.StoreFault.{StoreFault}
 pub use Rattle.flusher.specs.declared.progress.StoreFault.TheVariants.{DiskFault}
 unfoldable pub use Rattle.mmio_transport.specs.Device.{first_state}
-pub use Rattle.mmio_transport.specs.Device.{DeviceState, last_count}
+pub use Rattle.mmio_transport.specs.Device.{DeviceState}
 pub use Rattle.mmio_transport.specs.Job.{Job, Done}
-pub use Rattle.mmio_transport.specs.Popping.{GivesJob, GivesFrom, is_stopped, live_queue}
-pub use Rattle.mmio_transport.specs.Publishing.{Publishes, WritesIn}
-pub use Rattle.mmio_transport.specs.Queue.{QueueState}
-pub use Rattle.mmio_transport.specs.declared.done.Published.{Published}
-pub use Rattle.mmio_transport.specs.declared.done.Published.TheVariants.{Wrote, Dropped}
-pub use Rattle.mmio_transport.specs.declared.fault.DeviceFault.{DeviceFault}
 pub use Rattle.rpmb_core.proofs.Following.{capacity_stays, accepted_joined, sequence_of_all}
 pub use Rattle.rpmb_core.proofs.Sequence.{after_refused}
 pub use Rattle.rpmb_core.specs.Requests.{AllAccepted, partition_after_all}
-pub use Rattle.recovery.specs.Opening.{AnswersFault, IsImage, Untouched, parts_of, SyncsFirst}
-pub use Rattle.recovery.specs.Upgrade.{LeavesAsBefore}
+pub use Rattle.recovery.specs.Opening.{Untouched, parts_of, SyncsFirst}
 pub use Rattle.recovery.specs.declared.fault.OpenFault.{OpenFault}
 pub use Rattle.rpmb_book.proofs.ByGuest.{by_guest}
 pub use Rattle.rpmb_book.proofs.Grouping.{intent_is}
@@ -65,7 +55,7 @@ pub use Rattle.board.specs.Board.{IsLinkedBoard, LeavesPrefixes, marks_in, accep
 pub use Rattle.board.specs.Link.{IsLinked, IsPrefix, AreInTurn, HasKeyOf, entries_all, entries_of}
 pub use Rattle.board.specs.Opening.{Begins, GoesOn, bases_of, first_devices, kept_by, kept_of, new_board, CallsRefused, Finds}
 pub use Rattle.board.specs.State.{BoardState, Report, in_place, report_seen, guests, Marks, put, Fault}
-pub use Rattle.board.specs.Steps.{AdvancesUnder, Answer, SubmitsFrom, advance_answer, report_of, Advances, Does, Drives, PopsInto, PublishesFrom, Idles, job_of, pop_answer, CollectsInto, GivesWhere, SettlesBy, TakesInto, answer_by, did_answer}
+pub use Rattle.board.specs.Steps.{AdvancesUnder, Answer, SubmitsFrom, advance_answer, report_of, Advances, Does, Drives, PopsInto, PublishesFrom, Idles, job_of, CollectsInto, GivesWhere, SettlesBy, TakesInto, answer_by, did_answer}
 pub use Rattle.board.specs.declared.step.Act.{Act}
 pub use Rattle.board.specs.declared.step.Seen.TheVariants.{Did}
 pub use Rattle.board.specs.declared.step.Step.{Step}

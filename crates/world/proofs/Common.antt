@@ -2,34 +2,27 @@
 pub use Rattle.std.proofs.lemmas.Bool.{cases_eq}
 pub use Rattle.std.proofs.lemmas.Bool.Decides.{nat_tests}
 pub use Rattle.std.proofs.lemmas.List.{length-map, append-nil, append_assoc}
-pub use Rattle.std.proofs.lemmas.Option.{slice_get-get_or, slice_get_cases, slice_get_within, get_or_from_slice_get, slice_get-map}
-pub use Rattle.std.specs.Prelude.{is_some, slice_get, slice_set, slice_index_or, if◌then◌else◌, nat_lt, option_map, ◌==◌, slice_index, replicate, Result, Ok, Err, IfOk, ◌&&◌, option_copied}
+pub use Rattle.std.proofs.lemmas.Option.{slice_get-get_or, slice_get_cases, slice_get_within, get_or_from_slice_get}
+pub use Rattle.std.specs.Prelude.{is_some, slice_get, slice_set, slice_index_or, if◌then◌else◌, nat_lt, option_map, ◌==◌, replicate, ◌&&◌, option_copied}
 pub use Rattle.rpmb_frame.specs.Limits.{limits_of}
 pub use Rattle.rpmb_frame.specs.Partition.{Partition, sequence}
 pub use Rattle.rpmb_frame.specs.Request.{Request}
 pub use Rattle.rpmb_frame.specs.declared.config.GuestConfig.{GuestConfig}
-pub use Rattle.disk.proofs.Ways.{within_weaker}
 pub use Rattle.disk.specs.Content.{Content, content_of}
 pub use Rattle.disk.specs.CutDisk.{CutMakes, CutState, cut_state}
 pub use Rattle.disk.specs.Disk.{DiskCall, DiskState, HasRisen, Within, Effect, MayLeave, Still, Then}
-pub use Rattle.disk.specs.OutboxDisk.{outbox_state}
 pub use Rattle.disk.specs.declared.filler.Filler.{Filler}
-unfoldable pub use Rattle.intent_slots.specs.Layout.{capacities_of, region_at}
-pub use Rattle.intent_slots.specs.Payload.{Intent, GroupFits}
-pub use Rattle.intent_slots.specs.Recovered.{Part, part_of}
+unfoldable pub use Rattle.intent_slots.specs.Layout.{capacities_of}
+pub use Rattle.intent_slots.specs.Payload.{Intent}
+pub use Rattle.intent_slots.specs.Recovered.{Part}
 pub use Rattle.flusher.proofs.Guests.{get_set_same, get_set_other}
-pub use Rattle.flusher.proofs.Pending.{pending_stays}
 unfoldable pub use Rattle.flusher.specs.Marks.{marks_of}
-pub use Rattle.flusher.specs.Pair.{has_room, mark_of, with_intent, guest_after_sync, guest_after_write, pending_intents}
-pub use Rattle.flusher.specs.Progress.{with_marks, Progress}
-pub use Rattle.flusher.specs.Round.{FrontStays, Moves, Round, parts_after, planned, under_way, settles, MovedBy}
-pub use Rattle.flusher.specs.Slot.{intent_of}
-pub use Rattle.flusher.specs.SlotInvariant.{EachStop, IsHeld, guest_settled}
-unfoldable pub use Rattle.flusher.specs.Store.{is_free, given}
-pub use Rattle.flusher.specs.Store.{StoreState, next_call}
-pub use Rattle.flusher.specs.declared.guest.Guest.{Guest}
+pub use Rattle.flusher.specs.Pair.{mark_of}
+pub use Rattle.flusher.specs.Progress.{with_marks}
+pub use Rattle.flusher.specs.Round.{FrontStays}
+unfoldable pub use Rattle.flusher.specs.Store.{is_free}
+pub use Rattle.flusher.specs.Store.{next_call}
 pub use Rattle.flusher.specs.declared.progress.Call.{Call}
-pub use Rattle.flusher.specs.declared.progress.StoreFault.{StoreFault}
 pub use Rattle.flusher.specs.declared.progress.StoreFault.TheVariants.{DiskFault}
 unfoldable pub use Rattle.mmio_transport.specs.Device.{first_state}
 pub use Rattle.mmio_transport.specs.Device.{DeviceState, last_count}
@@ -40,37 +33,34 @@ pub use Rattle.mmio_transport.specs.Queue.{QueueState}
 pub use Rattle.mmio_transport.specs.declared.done.Published.{Published}
 pub use Rattle.mmio_transport.specs.declared.done.Published.TheVariants.{Wrote, Dropped}
 pub use Rattle.mmio_transport.specs.declared.fault.DeviceFault.{DeviceFault}
-pub use Rattle.rpmb_core.proofs.Following.{capacity_stays, accepted_joined, sequence_of_all}
+pub use Rattle.rpmb_core.proofs.Following.{sequence_of_all}
 pub use Rattle.rpmb_core.proofs.Sequence.{after_refused}
-pub use Rattle.rpmb_core.specs.Requests.{AllAccepted, partition_after_all}
+pub use Rattle.rpmb_core.specs.Requests.{partition_after_all}
 pub use Rattle.recovery.specs.Opening.{AnswersFault, IsImage, Untouched, parts_of, SyncsFirst}
 pub use Rattle.recovery.specs.Upgrade.{LeavesAsBefore}
 pub use Rattle.recovery.specs.declared.fault.OpenFault.{OpenFault}
 pub use Rattle.rpmb_book.proofs.ByGuest.{by_guest}
-pub use Rattle.rpmb_book.proofs.Grouping.{intent_is}
-pub use Rattle.rpmb_book.proofs.IsolationLemmas.{by_test}
 pub use Rattle.rpmb_book.proofs.Replay.{replay-push}
 pub use Rattle.rpmb_book.proofs.Rolling.{submit_rolls}
-pub use Rattle.rpmb_book.proofs.Room.{length-parts}
-pub use Rattle.rpmb_book.specs.Book.{BookView, due_of, due_at, guest_of, is_share, next_intent, refusal_at, state, submit_of, is_full, with_turn, may_settle}
+pub use Rattle.rpmb_book.specs.Book.{due_of, due_at, guest_of, next_intent, refusal_at, state, submit_of, is_full, with_turn, may_settle}
 pub use Rattle.rpmb_book.specs.ByGuest.{guest_after}
 pub use Rattle.rpmb_book.specs.Fold.{after_submit}
-pub use Rattle.rpmb_book.specs.Guest.{GuestState, collected, first_intent, intent_sequence, submitted, took, broken_off, request_of, accepts, first_due}
+pub use Rattle.rpmb_book.specs.Guest.{GuestState, collected, submitted, took, request_of, first_due}
 pub use Rattle.rpmb_book.specs.Job.{Tally}
 pub use Rattle.rpmb_book.specs.Marks.{marks_for, settled_to}
 pub use Rattle.rpmb_book.specs.Replay.{fresh_guests}
-pub use Rattle.rpmb_book.specs.Sound.{AreOfBoard, IsOfBoard}
+pub use Rattle.rpmb_book.specs.Sound.{AreOfBoard}
 pub use Rattle.rpmb_book.specs.Turn.{Turn, Take, Settle, Collect, Break, move_some}
-pub use Rattle.board.specs.Board.{IsLinkedBoard, LeavesPrefixes, marks_in, accepted_by, joined_when, accepted_after, answered, IsSound, StaysLinked}
+pub use Rattle.board.specs.Board.{IsLinkedBoard, LeavesPrefixes, marks_in, accepted_by, joined_when, accepted_after, answered}
 pub use Rattle.world.specs.InOrder.{AreInOrder, IsTied, IsTiedTo, is_of, numbers_of, pops_of}
 pub use Rattle.world.specs.Kept.{IsConsistent, IsConsistentAt, IsNew, IsOpen}
-pub use Rattle.board.specs.Link.{IsLinked, IsPrefix, AreInTurn, HasKeyOf, entries_all, entries_of}
+pub use Rattle.board.specs.Link.{IsPrefix}
 pub use Rattle.world.specs.Logs.{AreCut, AreFresh, GuestLog, cut_log, kept_count, Asked}
 pub use Rattle.world.specs.Noting.{IsGuest, IsNoted}
 pub use Rattle.board.specs.Opening.{Begins, GoesOn, bases_of, first_devices, kept_by, kept_of, new_board, CallsRefused, Finds}
 pub use Rattle.world.specs.Records.{HasRoom, HaveRoom, accepted_in, count_of, popped_in, popped_of, published_in, published_of, asked_by, IsFitWith, home_of, seen_of, world_of}
-pub use Rattle.board.specs.State.{BoardState, Report, in_place, report_seen, guests, Marks, put, Fault}
-pub use Rattle.board.specs.Steps.{AdvancesUnder, Answer, SubmitsFrom, advance_answer, report_of, Advances, Does, Drives, PopsInto, PublishesFrom, Idles, job_of, pop_answer, CollectsInto, GivesWhere, SettlesBy, TakesInto, answer_by, did_answer}
+pub use Rattle.board.specs.State.{BoardState, Report, in_place, guests, Marks, put, Fault}
+pub use Rattle.board.specs.Steps.{AdvancesUnder, Answer, SubmitsFrom, advance_answer, report_of, Advances, Does, Drives, PopsInto, PublishesFrom, Idles, job_of, pop_answer, CollectsInto, GivesWhere, SettlesBy, TakesInto}
 pub use Rattle.board.specs.Telling.{choosing_call}
 unfoldable pub use Rattle.world.specs.World.{raised}
 pub use Rattle.world.specs.World.{CutBy, CutWithin, CutsTo, EndsUpgrade, UpgradesTo, Happens, LacksRoom, OpensOrNot, Runs, StepsAt, WorldState, choosing, disk_of, opened_world, refusal_of, StepsIn, popped_after, publication_of, published_after, with_publication, partition_in}
