@@ -249,8 +249,8 @@ fn print_serve<R: AllocGlobal + Threads + Wait + Sync>(
     board: &BoardConfig,
     extent: Extent,
 ) -> Result<(), Stop> {
-    let served = time_serve(rt, threads, extent);
-    served.and(print_locks(rt, board, extent))
+    time_serve(rt, threads, extent)?;
+    print_locks(rt, board, extent)
 }
 
 /// Does a work that needs a board, of one guest or of 64.

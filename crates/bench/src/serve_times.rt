@@ -289,11 +289,11 @@ fn print_boards<R: Threads + Wait + Sync>(
     places: u16,
     extent: Extent,
 ) -> Result<(), Stop> {
-    let mut all = print_case(rt, case, places, extent);
+    print_case(rt, case, places, extent)?;
     for guests in &GUESTS {
-        all = all.and(print_board(rt, threads, case, *guests, places, extent));
+        print_board(rt, threads, case, *guests, places, extent)?;
     }
-    all
+    Ok(())
 }
 
 fn print_cases<R: Threads + Wait + Sync>(
@@ -302,11 +302,10 @@ fn print_cases<R: Threads + Wait + Sync>(
     places: u16,
     extent: Extent,
 ) -> Result<(), Stop> {
-    let mut all = Ok(());
     for case in &CASES {
-        all = all.and(print_boards(rt, threads, *case, places, extent));
+        print_boards(rt, threads, *case, places, extent)?;
     }
-    all
+    Ok(())
 }
 
 /// Times so many requests of each guest, of each kind, with short queues and long ones.
@@ -315,11 +314,10 @@ fn print_served<R: Threads + Wait + Sync>(
     threads: &R,
     extent: Extent,
 ) -> Result<(), Stop> {
-    let mut all = Ok(());
     for places in &PLACES {
-        all = all.and(print_cases(rt, threads, *places, extent));
+        print_cases(rt, threads, *places, extent)?;
     }
-    all
+    Ok(())
 }
 
 /// What a few writes of two guests came to at once, which were told the same one after another.
