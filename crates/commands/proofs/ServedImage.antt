@@ -1,7 +1,9 @@
 -- What the threads of a serve leave of the image.
-use Rattle.std.proofs.Common.{◌≡◌, ◌⊎◌, inl, inr, ◌∙◌, ℕ, ◌<◌, ◌≤◌, Bool, true, false, List, Option, Some, None, Result, Ok, Err, length, take, refl, ap, ap₂, sym, subst, arith}
+use Rattle.std.proofs.Common.{◌≡◌, ◌⊎◌, inl, inr, ◌∙◌, ℕ, ◌<◌, ◌≤◌, Bool, true, false, List, [], ◌++◌, Option, Some, None, Result, Ok, Err, length, take, drop, append-nil, refl, ap, ap₂, sym, subst, arith}
 use Rattle.commands.proofs.Common.{OnOk, slice_get, length-map, get_or_from_slice_get, slice_get_cases, sequence, GuestConfig, DiskCall, DiskState, HasRisen, Still, Within, within_end, capacities_of, region_at, part_of, Guest, mark_of, Untouched, Begins, bases_of, BoardState, AreOf, Fault}
 use Rattle.std.specs.Prelude.{position, IfSome}
+use Rattle.std.proofs.lemmas.List.{take-append-drop}
+use Rattle.rpmb_frame.specs.Partition.{Partition}
 use Rattle.std.specs.List.{list_any}
 use Rattle.rpmb_frame.specs.Partition.{empty_partition}
 use Rattle.disk.specs.Content.{Content}
@@ -21,8 +23,11 @@ use Rattle.flusher.proofs.Plans.{nothing_where_empty}
 use Rattle.recovery.specs.Opening.{part_or, parts_of}
 use Rattle.rpmb_book.specs.Book.{BookView, state}
 use Rattle.workers.specs.Following.{IsAtRest}
-use Rattle.workers.specs.Keeping.{Keeps, LeavesWhole, Reaches, after_all, to_keep}
-use Rattle.commands.specs.ServedImage.{LeavesOne, ServeKeeps, LeavesOnFrom, ServeMoments, ServesImage}
+use Rattle.workers.specs.Keeping.{AreNext, HasKeys, IsInTurn, Keeps, KeepsGuests, LeavesWhole, Reaches, after_all, to_keep}
+use Rattle.workers.proofs.Following.{first_nothing}
+use Rattle.flusher.specs.Pair.{listed, pending_intents}
+use Rattle.flusher.specs.Slot.{pending_of}
+use Rattle.commands.specs.ServedImage.{HoldsSome, LeavesAll, LeavesSome, ServeKeeps, ServeMoments, ServesImage}
 use Rattle.commands.specs.declared.fault.Fault.TheVariants as fault
 
 there : {X : Type 0} (xs : List X) (n : ℕ) → n < length xs → (y : X) × (slice_get xs n ≡ Some y)
@@ -47,9 +52,20 @@ empty_opening None None first second = refl
 empty_opening None (Some s) first second = absurd (cc)
 empty_opening (Some s) behind first second = absurd (cc)
 
+empty_pending : (slot behind : Option Slot) → is_empty slot ≡ true → is_empty behind ≡ true → listed (pending_of slot) ++ listed (pending_of behind) ≡ []
+empty_pending None None first second = refl
+empty_pending None (Some s) first second = absurd (cc)
+empty_pending (Some s) behind first second = absurd (cc)
+
 -- 2. What is left of an image that was opened and served
 
-module _ {D : Type 0} (shows : D → DiskState) (makes : D → DiskCall → D → Type 0) (board : List GuestConfig) (disk : D) (b : BoardState D) (life : ℕ) (begins : Begins shows life board b) (untouched : Within shows makes (Untouched (shows disk)) disk b.store.disk) (unfailed : (shows b.store.disk).failures ≡ (shows disk).failures) (s : StoreState D) (kept : Keeps shows makes b.store s) where
+module _ {D : Type 0} (shows : D → DiskState) (makes : D → DiskCall → D → Type 0) (board : List GuestConfig) (disk : D) (b : BoardState D) (life : ℕ) (begins : Begins shows life board b) (untouched : Within shows makes (Untouched (shows disk)) disk b.store.disk) (unfailed : (shows b.store.disk).failures ≡ (shows disk).failures) (s : StoreState D) (kept : KeepsGuests shows makes (length board) b.book b.store s) where
+  keys : List (Option (List ℕ))
+  keys = kept.0
+
+  keeps : Keeps shows makes (record { store = b.store; keys = keys }) (record { store = s; keys = kept.2.0 })
+  keeps = kept.2.1
+
   abbrev parts : ℕ → Part
   parts = parts_of begins.partitions
 
@@ -60,8 +76,8 @@ module _ {D : Type 0} (shows : D → DiskState) (makes : D → DiskCall → D �
   known_there : (shows disk).faithful ≡ true → (shows b.store.disk).faithful ≡ true
   known_there known = (within_end shows makes (Untouched (shows disk)) disk b.store.disk untouched).faithful ∙ known
 
-  reached : (shows disk).faithful ≡ true → Reaches shows makes parts b.store s
-  reached known = kept.reaches parts (begins.linked.kept (known_there known))
+  reached : (shows disk).faithful ≡ true → Reaches shows makes parts (record { store = b.store; keys = keys }) (record { store = s; keys = kept.2.0 })
+  reached known = keeps.reaches parts (begins.linked.kept (known_there known))
 
   -- the guest and its partition
   record IsFirst (g : ℕ) : Type 0 where
@@ -70,6 +86,7 @@ module _ {D : Type 0} (shows : D → DiskState) (makes : D → DiskCall → D �
     pub region : region_of held ≡ region_at (capacities_of board) g
     pub part : parts g ≡ part_of (bases_of begins.partitions g)
     pub mark : sequence (bases_of begins.partitions g) ≤ mark_of held
+    pub nothing : pending_intents held ≡ []
 
   first : (g : ℕ) → g < length board → IsFirst g
   first g below =
@@ -81,56 +98,78 @@ module _ {D : Type 0} (shows : D → DiskState) (makes : D → DiskCall → D �
       let base : bases_of begins.partitions g ≡ p.0 = get_or_from_slice_get begins.partitions g p.0 (empty_partition 0) p.1 in
       let mark = one.mark in
       let sequences = ap sequence base in
-      record { held = x.0; at = x.1; region = one.region; part = ap part_or p.1 ∙ ap part_of (sym base); mark = omega (arith, mark, sequences) }
+      record { held = x.0; at = x.1; region = one.region; part = ap part_or p.1 ∙ ap part_of (sym base); mark = omega (arith, mark, sequences); nothing = first_nothing x.0 one.slot one.behind }
 
-  on_from : (given : ℕ → List Intent) (moment : DiskState) → LeavesWhole b.store.guests parts given moment → LeavesOnFrom board begins.partitions moment
-  on_from given moment whole g below c left =
+  -- what each guest is to keep
+  abbrev kept_of : Option Guest → List Intent → List Intent
+  kept_of None given = given
+  kept_of (Some x) given = to_keep x given
+
+  all_given : (ℕ → List Intent) → ℕ → List Intent
+  all_given given g = kept_of (slice_get b.store.guests g) (given g)
+
+  its_given : (given : ℕ → List Intent) (g : ℕ) (x : IsFirst g) → to_keep x.held (given g) ≡ all_given given g
+  its_given given g x = ap (λ o. kept_of o (given g)) (sym x.at)
+
+  holds_some : (given : ℕ → List Intent) (moment : DiskState) → LeavesWhole b.store.guests parts given moment → LeavesSome board begins.partitions (all_given given) moment
+  holds_some given moment whole g below c left =
       let x = first g below in
       let w = whole g x.held x.at c left in
       let mark = x.mark in
-      let enough = w.2.enough in (
-        w.0,
-        subst (λ r. recovered.Stands r c w.0) x.region w.1,
-        record {
-          intents = take w.2.count (to_keep x.held (given g));
-          is = w.2.is ∙ ap (λ v. after_all v (take w.2.count (to_keep x.held (given g)))) x.part;
-          enough = omega (arith, mark, enough);
-        },
-      )
+      let enough = w.2.enough in
+      let is = w.2.is ∙ ap (λ v. after_all v (take w.2.count (to_keep x.held (given g)))) x.part in
+      let same = ap sequence_of_part is in
+      subst (λ l. HoldsSome board begins.partitions g l c) (its_given given g x) (record {
+        count = w.2.count;
+        within = w.2.within;
+        stands = subst (λ (v : Part). recovered.Stands (region_at (capacities_of board) g) c v) is (subst (λ r. recovered.Stands r c w.0) x.region w.1);
+        enough = omega (arith, mark, enough, same);
+      })
+
+  key_known : (keys : List (Option (List ℕ))) → HasKeys (length board) b.book keys → (g : ℕ) → g < length board → slice_get keys g ≡ Some (parts g).key
+  key_known keys has g below =
+      let many_there = begins.linked.many in
+      let u = there (state b.book).guests g (omega (arith, below, many_there)) in
+      let tied = begins.linked.each g u.0 u.1 in
+      has g u.0 below u.1 ∙ ap (λ (q : Partition). Some q.key) tied.link.partition ∙ ap (λ (q : Part). Some q.key) (sym (first g below).part)
+
+  in_turn : (r : ℕ → List Intent) (keys now : List (Option (List ℕ))) → ((g : ℕ) (x : Guest) → slice_get b.store.guests g ≡ Some x → IsInTurn g (parts g) x (pending_intents x) (slice_get keys g) → IsInTurn g (parts g) x (to_keep x (r g)) (slice_get now g))
+      → HasKeys (length board) b.book keys → (g : ℕ) → g < length board → AreNext g (region_at (capacities_of board) g).size (part_of (bases_of begins.partitions g)) (all_given r g)
+  in_turn r keys now turn has g below =
+      let x = first g below in
+      let begun : IsInTurn g (parts g) x.held (pending_intents x.held) (slice_get keys g) =
+              record {
+                each = subst (AreNext g (region_of x.held).size (parts g)) (sym x.nothing) tt;
+                key = key_known keys has g below ∙ ap (λ l. Some (after_all (parts g) l).key) (sym x.nothing);
+              } in
+      let t = turn g x.held x.at begun in
+      subst (AreNext g (region_at (capacities_of board) g).size (part_of (bases_of begins.partitions g))) (its_given r g x)
+      (subst (λ (q : Part). AreNext g (region_at (capacities_of board) g).size q (to_keep x.held (r g))) x.part (subst (λ e. AreNext g e.size (parts g) (to_keep x.held (r g))) x.region t.each))
 
   risen : s.broken ≡ true → HasRisen (shows disk).failures (shows s.disk).failures
-  risen broken = subst (λ n. HasRisen n (shows s.disk).failures) unfailed (by (kept.cause broken))
+  risen broken = subst (λ n. HasRisen n (shows s.disk).failures) unfailed (by (keeps.cause broken))
     where
       by : (b.store.broken ≡ true) ⊎ HasRisen (shows b.store.disk).failures (shows s.disk).failures → HasRisen (shows b.store.disk).failures (shows s.disk).failures
       by (inl was) = absurd (let no : b.store.broken ≡ false = ap (λ v. v.store.broken) begins.is ∙ begins.whole in cc)
       by (inr rose) = rose
 
-  rests_on : s.broken ≡ false → IsAtRest s.broken s.guests → (shows disk).faithful ≡ true → (g : ℕ) → g < length board → LeavesOne board begins.partitions (shows s.disk) g
-  rests_on whole rests known g below =
+  all_kept : (r : Reaches shows makes parts (record { store = b.store; keys = keys }) (record { store = s; keys = kept.2.0 })) → s.broken ≡ false → IsAtRest s.broken s.guests → LeavesAll board begins.partitions (all_given r.given) (shows s.disk)
+  all_kept r whole rests g below c may =
       let x = first g below in
-      let r = reached known in
       let all = begins.linked.held in
-      let as_many = kept.many in
+      let as_many = keeps.many in
       let y = there s.guests g (omega (arith, below, all, as_many)) in
       let a = r.ahead g x.held y.0 x.at y.1 in
-      let stop = stops r.settled s.guests (shows s.disk) (shows s.disk) s.broken r.held g y.0 y.1 in
       let empty = rests_empty s.broken s.guests whole rests g y.0 y.1 in
       let none : opening_of y.0 ≡ None = empty_opening y.0.slot y.0.behind empty.0 empty.1 in
-      let same : (c : Content) → (k : IsKept (r.settled g) y.0 c) → k.part ≡ r.settled g = λ c k. subst (λ o. BeforeOrAfter (r.settled g) o k.part) none k.may in
-      let now = stop (shows s.disk).seen (λ k unsynced. refl) in
-      let marked = now.marked in
-      let least = ap sequence_of_part (same (shows s.disk).seen now) in
-      let marks = a.marks in
-      let mark = x.mark in
-      record {
-        part = r.settled g;
-        is = record {
-          intents = take a.count (to_keep x.held (r.given g));
-          is = a.is ∙ ap (λ v. after_all v (take a.count (to_keep x.held (r.given g)))) x.part;
-          enough = omega (arith, mark, marks, marked, least);
-        };
-        stands = λ c may. (let k = stop c may in subst (λ (v : Part). recovered.Stands (region_at (capacities_of board) g) c v) (same c k) (subst (λ v. recovered.Stands v c k.part) (a.region ∙ x.region) k.stands));
-      }
+      let k = stops r.settled s.guests (shows s.disk) (shows s.disk) s.broken r.held g y.0 y.1 c may in
+      let settled : k.part ≡ r.settled g = subst (λ o. BeforeOrAfter (r.settled g) o k.part) none k.may in
+      let rest : drop a.count (to_keep x.held (r.given g)) ≡ [] = sym a.left ∙ empty_pending y.0.slot y.0.behind empty.0 empty.1 in
+      let whole_list : take a.count (to_keep x.held (r.given g)) ≡ to_keep x.held (r.given g) =
+              sym (append-nil (take a.count (to_keep x.held (r.given g)))) ∙ ap (λ l. take a.count (to_keep x.held (r.given g)) ++ l) (sym rest) ∙ take-append-drop a.count (to_keep x.held (r.given g)) in
+      let is : k.part ≡ after_all (part_of (bases_of begins.partitions g)) (all_given r.given g) =
+              settled ∙ a.is ∙ ap (after_all (parts g)) whole_list ∙ ap (λ v. after_all v (to_keep x.held (r.given g))) x.part ∙ ap (after_all (part_of (bases_of begins.partitions g))) (its_given r.given g x) in
+      subst (λ (v : Part). recovered.Stands (region_at (capacities_of board) g) c v) is (subst (λ v. recovered.Stands v c k.part) (a.region ∙ x.region) k.stands)
 
   pub serves_image : AreOf board (shows disk) begins.partitions → IsAtRest s.broken s.guests → (failed : Bool) → s.broken ≡ failed → ServesImage shows makes board disk failed s.disk
   serves_image of_image rests failed told = record {
@@ -138,12 +177,16 @@ module _ {D : Type 0} (shows : D → DiskState) (makes : D → DiskCall → D �
     of_image = of_image;
     opened = b.store.disk;
     untouched = untouched;
-    len = kept.len ∙ (within_end shows makes (Untouched (shows disk)) disk b.store.disk untouched).len;
-    faithful = kept.faithful ∙ (within_end shows makes (Untouched (shows disk)) disk b.store.disk untouched).faithful;
-    front = λ known. kept.front (known_there known);
-    moments = λ known. (let r = reached known in within_weaker shows makes (LeavesWhole b.store.guests parts r.given) (LeavesOnFrom board begins.partitions) b.store.disk s.disk (on_from r.given) r.moments);
+    len = keeps.len ∙ (within_end shows makes (Untouched (shows disk)) disk b.store.disk untouched).len;
+    faithful = keeps.faithful ∙ (within_end shows makes (Untouched (shows disk)) disk b.store.disk untouched).faithful;
+    front = λ known. keeps.front (known_there known);
+    serves = λ known. (let r = reached known in record {
+      given = all_given r.given;
+      in_turn = in_turn r.given keys kept.2.0 r.in_turn kept.1;
+      moments = within_weaker shows makes (LeavesWhole b.store.guests parts r.given) (LeavesSome board begins.partitions (all_given r.given)) b.store.disk s.disk (holds_some r.given) r.moments;
+      rests = λ is. all_kept r (told ∙ is) rests;
+    });
     cause = λ is. risen (told ∙ is);
-    rests = λ is known. rests_on (told ∙ is) rests known;
   }
 
 -- of a board that was just opened neither book nor store has broken

@@ -1,5 +1,7 @@
 //! The file of an image that is only looked at.
 
+ghost use Rattle.disk.specs.FileDisk.{unknown_effect, unknown_file};
+
 use disk::PositionedFile;
 use std::fs::File;
 use std::io;
@@ -28,7 +30,11 @@ impl ShownFile {
 
 /// No contract says what such a file did.
 impl PositionedFile for ShownFile {
+    ghost shows = { λ file. unknown_file };
+
     ghost made = { λ old call new. Unit {0} };
+
+    ghost effect = { λ old new call made. unknown_effect call };
 
     fn read_at(&mut self, at: u64, out: &mut [u8]) -> io::Result<usize> {
         self.file.read_at(at, out)

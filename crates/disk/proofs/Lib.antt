@@ -1,7 +1,9 @@
 pub mod Choosing
 pub mod CutCalls
+pub mod FileCalls
 pub mod Fills
 pub mod MemCalls
+pub mod OutboxCalls
 pub mod OutboxLemmas
 pub mod Overwriting
 pub mod Reaching

@@ -13,6 +13,11 @@ SyncedWritesStay = (at : ℕ) (bytes : List ℕ) (first second third : DiskState
     → (left : Content) → MayLeave third left
     → (k : ℕ) → k < length bytes → left (at + k) ≡ slice_index bytes k
 
+-- every stop leaves these bytes from a place on
+abbrev pub KeepsBytes : ℕ → List ℕ → DiskState → Type 0
+KeepsBytes at bytes s = (left : Content) → MayLeave s left → (k : ℕ) → k < length bytes
+    → left (at + k) ≡ slice_index bytes k
+
 -- what a stop after a call may leave, a stop within the call may leave
 abbrev pub StopsWithinCover : Type 0
 StopsWithinCover = (old new : DiskState) (call : DiskCall) → old.faithful ≡ true

@@ -2,6 +2,7 @@ pub mod Content
 pub mod CutDisk
 pub mod Disk
 pub mod FileDisk
+pub mod Kept
 pub mod Laws
 pub mod MemDisk
 pub mod Outbox

@@ -1,10 +1,14 @@
 -- The disk whose writes somebody else makes: each one that it takes waits in its outbox, and a sync
--- answers what its owner was told. No contract can say what becomes of the writes that leave it, so
--- it isn't known to be faithful.
-use Rattle.std.specs.Prelude.{◌≡◌, ℕ, ◌+◌, ◌-◌, ◌^◌, Bool, true, false, not, ◌&&◌, nat_lt, nat_le}
-use Rattle.std.specs.Prelude.{if◌then◌else◌, List, [], length}
-use Rattle.disk.specs.Content.{zeros}
+-- answers what its owner was told. What a stop leaves of it is what it leaves of a file to which
+-- each write that was put in is made before the sync that is told, and that such a sync keeps. No
+-- contract can say what becomes of bytes that leave: that the owner's file is such a one is the
+-- owner's part.
+use Rattle.std.specs.Prelude.{◌≡◌, ℕ, ◌<◌, ◌+◌, ◌-◌, ◌^◌, Bool, true, false, not, ◌&&◌, nat_lt, nat_le}
+use Rattle.std.specs.Prelude.{if◌then◌else◌, List, [], ◌∷◌, length}
+use Rattle.disk.specs.Content.{content_of}
 use Rattle.disk.specs.Disk.{DiskState, DiskCall, Read, Write, Sync, Effect}
+use Rattle.disk.specs.FileDisk.{FileShows, shown_as}
+use Rattle.disk.specs.Kept.{Note, file_after, opened, synced, wrote}
 use Rattle.disk.specs.Outbox.{OutboxView, empty_outbox, has_room, is_none, put_in, taken_from}
 use Rattle.disk.specs.declared.outbox_disk.Told.{Told}
 use Rattle.disk.specs.declared.outbox_disk.Told.TheVariants.{Taken, Synced, Failed, Opened}
@@ -12,8 +16,10 @@ use Rattle.disk.specs.declared.outbox_disk.Told.TheVariants.{Taken, Synced, Fail
 pub record OutboxState : Type 0 where
   -- the length in bytes
   pub len : ℕ
-  -- what reads give, while the opening lasts
+  -- what reads give, until the first write or until the opening is told to be over
   pub image : List ℕ
+  -- what came to the owner's file, the newest first: its bytes, each write so far, and each sync
+  pub kept : List Note
   pub outbox : OutboxView
   -- what was told of the next sync, and of the next call of any kind
   pub synced : Bool
@@ -26,22 +32,21 @@ abbrev pub first_disk : List ℕ → OutboxState
 first_disk image = record {
   len = length image;
   image = image;
+  kept = opened image ∷ [];
   outbox = empty_outbox;
   synced = true;
   failed = false;
   failures = 0;
 }
 
--- A stop may leave anything; the zeros are nobody's promise.
+-- what a stop leaves of it is what it leaves of the owner's file
 abbrev pub outbox_state : OutboxState → DiskState
-outbox_state d =
-    record {
-      len = d.len;
-      seen = zeros;
-      unsynced = λ k. true;
-      failures = d.failures;
-      faithful = false;
-    }
+outbox_state d = shown_as (file_after d.kept) d.len d.failures
+
+-- what reads give are the file's bytes
+pub record IsReadable (image : List ℕ) (kept : FileShows) : Type 0 where
+  pub faithful : kept.faithful ≡ true
+  pub same : (k : ℕ) → k < length image → content_of image k ≡ kept.seen k
 
 -- 1. When a call succeeds
 
@@ -71,15 +76,22 @@ failures_after ok failures =
 unfoldable pub counted : Bool → OutboxState → OutboxState
 counted ok d = record d { failed = false; failures = failures_after ok d.failures }
 
--- A write that succeeds waits behind all others; a sync that was told of before isn't of it.
+-- A write that succeeds waits behind all others; a sync that was told of before isn't of it, and
+-- nothing is read any more.
 unfoldable pub after_write : ℕ → List ℕ → Bool → OutboxState → OutboxState
 after_write at bytes true d =
-    record (counted true d) { outbox = put_in at bytes d.outbox; synced = false }
+    record (counted true d) {
+      image = [];
+      kept = wrote at bytes ∷ d.kept;
+      outbox = put_in at bytes d.outbox;
+      synced = false;
+    }
 after_write at bytes false d = counted false d
 
 -- what was told of a sync is of one sync
 unfoldable pub after_sync : Bool → OutboxState → OutboxState
-after_sync ok d = record (counted ok d) { synced = false }
+after_sync true d = record (counted true d) { kept = synced ∷ d.kept; synced = false }
+after_sync false d = record (counted false d) { synced = false }
 
 abbrev pub outbox_after : DiskCall → OutboxState → OutboxState
 outbox_after (Read ok) d = counted ok d

@@ -1,8 +1,9 @@
 ghost use Rattle.std.specs.Prelude.{◌≡◌, ◌↔◌, ◌+◌, ◌-◌, ◌≤◌, ◌<◌, ◌^◌, true, false, length, is_ok};
-ghost use Rattle.std.specs.Prelude.{IfOk, IsTrue, Some};
+ghost use Rattle.std.specs.Prelude.{IfOk, IsTrue, OnOk, Some};
 ghost use Rattle.disk.specs.Disk.{DiskState, DiskCall, Read, Write, Sync, Effect, HasRisen};
 ghost use Rattle.disk.specs.FileDisk.{file_state, FileMakes, SyncAll, ReadsOnce, WritesOnce};
-ghost use Rattle.disk.specs.FileDisk.{IsEnded, Touches, count_of};
+ghost use Rattle.disk.specs.FileDisk.{IsEnded, Touches, count_of, is_all};
+ghost use Rattle.disk.specs.Content.{bytes_at};
 
 use crate::disk::{Disk, DiskFault};
 use crate::positioned_file::PositionedFile;
@@ -17,8 +18,9 @@ use std::marker::Model;
 /// nothing is tried again, a sync that failed neither. On Linux a read or write of more than
 /// 2,147,479,552 bytes ends short. Once 2^64 - 1 calls have failed, none is made any more.
 ///
-/// No contract can say what a file gives and keeps. That it behaves as a disk is a premise, and so
-/// is that a sync which succeeds has stored what an earlier one failed to store.
+/// It gives and keeps what its file does. Of a file of the system no contract says that: that it is
+/// a faithful one is a premise, and so is that a sync which succeeds has stored what an earlier one
+/// failed to store.
 #[derive(Drop)]
 pub struct FileDisk<F: PositionedFile = File> {
     file: F,
@@ -36,7 +38,8 @@ impl<F: PositionedFile> Model for FileDisk<F> {
 
 // How many bytes a call moved, where it didn't fail.
 fn is_whole(outcome: io::Result<usize>, wanted: usize) -> bool
-    ensures { IsTrue result ↔ (count_of outcome ≡ Some wanted) }
+    ensures whole { IsTrue result ↔ (count_of outcome ≡ Some wanted) }
+    ensures value { result ≡ is_all (count_of outcome) wanted }
 {
     match outcome {
         Ok(count) => count == wanted,
@@ -85,9 +88,9 @@ impl FileDisk {
 }
 
 impl<F: PositionedFile> Disk for FileDisk<F> {
-    ghost state = { file_state };
+    ghost state = { file_state F.shows };
 
-    ghost makes = { FileMakes };
+    ghost makes = { FileMakes F.shows };
 
     ghost effect = { λ old new call made. made.effect };
 
@@ -97,7 +100,9 @@ impl<F: PositionedFile> Disk for FileDisk<F> {
 
     fn read_at(&mut self, at: u64, out: &mut [u8]) -> Result<(), DiskFault>
         requires { at + length out.old ≤ self.old.len }
-        ensures call { FileMakes self.old (Read (is_ok result)) self.new }
+        ensures call { FileMakes F.shows self.old (Read (is_ok result)) self.new }
+        ensures ok { OnOk result ((F.shows self.old.file).faithful ≡ true
+            → out.new ≡ bytes_at (F.shows self.old.file).seen at (length out.old)) }
         ensures once { Touches self.old
             (ReadsOnce F.made at out.new self.old.file (is_ok result) self.new.file) }
         ensures ended { IsEnded self.old (is_ok result) self.new }
@@ -112,7 +117,7 @@ impl<F: PositionedFile> Disk for FileDisk<F> {
 
     fn write_at(&mut self, at: u64, bytes: &[u8]) -> Result<(), DiskFault>
         requires { at + length bytes.now ≤ self.old.len }
-        ensures call { FileMakes self.old (Write at bytes.now (is_ok result)) self.new }
+        ensures call { FileMakes F.shows self.old (Write at bytes.now (is_ok result)) self.new }
         ensures once { Touches self.old
             (WritesOnce F.made at bytes.now self.old.file (is_ok result) self.new.file) }
         ensures ended { IsEnded self.old (is_ok result) self.new }
@@ -125,7 +130,7 @@ impl<F: PositionedFile> Disk for FileDisk<F> {
     }
 
     fn sync(&mut self) -> Result<(), DiskFault>
-        ensures call { FileMakes self.old (Sync (is_ok result)) self.new }
+        ensures call { FileMakes F.shows self.old (Sync (is_ok result)) self.new }
         ensures once { Touches self.old
             (F.made self.old.file (SyncAll (is_ok result)) self.new.file) }
         ensures ended { IsEnded self.old (is_ok result) self.new }

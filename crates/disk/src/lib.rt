@@ -8,6 +8,7 @@ mod file_disk;
 mod filler;
 mod filling;
 mod hook_disk;
+mod kept;
 pub mod laws;
 mod mem_disk;
 mod outbox;

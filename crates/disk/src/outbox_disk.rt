@@ -1,4 +1,4 @@
-ghost use Rattle.std.specs.Prelude.{◌≡◌, ◌+◌, ◌≤◌, false, length, is_ok, IfOk, OnOk, OnErr};
+ghost use Rattle.std.specs.Prelude.{◌≡◌, ◌+◌, ◌≤◌, nat_le, true, false, length, is_ok, IfOk, OnOk, OnErr};
 ghost use Rattle.std.specs.Prelude.{option_map};
 ghost use Rattle.disk.specs.Content.{bytes_at, content_of};
 ghost use Rattle.disk.specs.Disk.{DiskState, DiskCall, Read, Write, Sync, Effect};
@@ -9,6 +9,7 @@ ghost use Rattle.disk.specs.OutboxDisk.{ends, failures_after};
 
 use crate::bytes::copy_out;
 use crate::disk::{Disk, DiskFault, NoMemory};
+use crate::kept::Kept;
 use crate::outbox::{Outbox, Waiting};
 use std::alloc::Global;
 use std::marker::Model;
@@ -32,15 +33,18 @@ pub enum Told {
 ///
 /// Each write waits in the outbox, which has room for 256 of them and 65,536 bytes, until its owner
 /// takes it. A sync succeeds where the owner told that one did, and no write waits. Reads give the
-/// bytes with which it was made, until those are freed; a write doesn't show in them.
+/// bytes with which it was made, until the first write or until those are freed.
 ///
-/// That a write which was taken is made before the sync that is told, and that a sync which is told
-/// keeps it, is a premise: no contract says what becomes of bytes that leave.
+/// What a stop may leave of it is what it may leave of the owner's file, where each write that was
+/// taken is made before the sync that is told, and a sync that is told keeps it. That the owner's
+/// file is such a one is a premise: no contract says what becomes of bytes that leave.
 #[derive(Drop)]
 pub struct OutboxDisk {
     alloc: Global,
     len: u64,
     image: Vec<u8>,
+    /// The owner's file, as far as a proof knows it.
+    kept: Kept,
     outbox: Outbox,
     synced: bool,
     failed: bool,
@@ -48,18 +52,29 @@ pub struct OutboxDisk {
 }
 
 impl Model for OutboxDisk {
-    ghost use Rattle.disk.specs.OutboxDisk.{OutboxState};
+    ghost use Rattle.disk.specs.Kept.{file_after};
+    ghost use Rattle.disk.specs.OutboxDisk.{IsReadable, OutboxState};
 
     ghost Value = { OutboxState };
 
     ghost view = { λ d. record {
       len = d.len;
       image = d.image.items;
+      kept = d.kept.log;
       outbox = d.outbox;
       synced = d.synced;
       failed = d.failed;
       failures = d.failures;
     } };
+
+    ghost invariant = { λ d. IsReadable d.image.items (file_after d.kept.log) };
+}
+
+// Whether the image has so many bytes from an offset on.
+fn is_there(image: &[u8], at: u64, count: usize) -> bool
+    ensures { result ≡ nat_le (at + count) (length image.now) }
+{
+    count <= image.len() && at as usize <= image.len() - count
 }
 
 // How a call ends that could succeed where `may` says so. It counts a failure.
@@ -88,10 +103,13 @@ impl OutboxDisk {
         ensures { IfOk result (λ disk. disk ≡ first_disk image.items) }
     {
         let outbox = Outbox::new(alloc)?;
+        let mut kept = Kept::new();
+        kept.note(&[0, 0], image.as_slice());
         Ok(OutboxDisk {
             alloc,
             len: image.len() as u64,
             image,
+            kept,
             outbox,
             synced: true,
             failed: false,
@@ -160,9 +178,11 @@ impl Disk for OutboxDisk {
         ensures succeeds { is_ok result ≡ read_succeeds at (length out.old) self.old }
         ensures value { OnOk result
             (out.new ≡ bytes_at (content_of self.old.image) at (length out.old)) }
+        ensures ok { OnOk result ((outbox_state self.old).faithful ≡ true
+            → out.new ≡ bytes_at (outbox_state self.old).seen at (length out.old)) }
         ensures unchanged { OnErr result (out.new ≡ out.old) }
     {
-        let there = out.len() <= self.image.len() && at as usize <= self.image.len() - out.len();
+        let there = is_there(&self.image, at, out.len());
         ended(there, &mut self.failed, &mut self.failures)?;
         copy_out(&self.image, at, out);
         Ok(())
@@ -176,6 +196,8 @@ impl Disk for OutboxDisk {
         let fits = self.outbox.has_room(bytes.len());
         ended(fits, &mut self.failed, &mut self.failures)?;
         self.outbox.put(at, bytes);
+        self.kept.note(&[at], bytes);
+        self.image = Vec::new(self.alloc);
         self.synced = false;
         Ok(())
     }
@@ -186,7 +208,9 @@ impl Disk for OutboxDisk {
     {
         let synced = self.synced && self.outbox.is_empty();
         self.synced = false;
-        ended(synced, &mut self.failed, &mut self.failures)
+        ended(synced, &mut self.failed, &mut self.failures)?;
+        self.kept.note(&[], &[]);
+        Ok(())
     }
 
     fn failures(&self) -> u64 {

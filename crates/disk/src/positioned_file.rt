@@ -1,6 +1,7 @@
 //! The three calls of a file that a disk makes, each at a place that the caller names.
 ghost use Rattle.std.specs.Prelude.{length};
 ghost use Rattle.disk.specs.FileDisk.{FileCall, ReadAt, WriteAt, SyncAll, count_of, is_done};
+ghost use Rattle.disk.specs.FileDisk.{FileShows, FileEffect, unknown_file, unknown_effect};
 
 use std::fs::File;
 use std::io;
@@ -8,9 +9,13 @@ use std::os::unix::fs::FileExt;
 
 /// A file that is read and written at offsets in bytes from its start, and synced.
 ///
-/// What a file holds is in no contract. What is in one: which call was made, at which offset, of
-/// which bytes, and how many of them it says it moved.
+/// Each call says which call was made, at which offset, of which bytes, and how many of them it
+/// says it moved. What a file gives and keeps is known of one that is faithful, and that is for
+/// whoever implements this to show, or for whoever trusts a file to assume.
 pub trait PositionedFile: Drop {
+    /// What the file is known to give and to keep.
+    ghost shows: { Self → FileShows };
+
     /// One call leads from one value to the other. Only by making the call can a caller show it.
     ghost made: { Self → FileCall → Self → Type 0 };
 
@@ -27,6 +32,10 @@ pub trait PositionedFile: Drop {
     /// away.
     fn sync_all(&mut self) -> io::Result<()>
         ensures { made self.old (SyncAll (is_done result)) self.new };
+
+    /// What a call does to what the file gives and keeps.
+    ghost effect: { (old new : Self) (call : FileCall) → made old call new
+        → FileEffect (shows old) call (shows new) };
 }
 
 // Whether a signal ended the call before it moved a byte.
@@ -38,9 +47,13 @@ fn is_interrupted(outcome: &io::Result<usize>) -> bool {
 }
 
 /// One call of the system each, which is made again where a signal interrupted it before it did
-/// anything (EINTR). No contract says what such a file did.
+/// anything (EINTR). No contract says what such a file did, so nothing is known of it here.
 impl PositionedFile for File {
+    ghost shows = { λ file. unknown_file };
+
     ghost made = { λ old call new. Unit {0} };
+
+    ghost effect = { λ old new call made. unknown_effect call };
 
     fn read_at(&mut self, at: u64, out: &mut [u8]) -> io::Result<usize> {
         for _ in 0..u64::MAX {

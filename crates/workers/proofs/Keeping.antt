@@ -1,13 +1,13 @@
 -- The flusher's calls keep the partitions, and what it gives to the store comes after them.
-use Rattle.std.proofs.Common.{◌≡◌, ◌⊎◌, inl, inr, ◌∙◌, ℕ, zero, suc, ◌+◌, ◌≤◌, ◌<◌, ◌^◌, Bool, true, false, List, [], ◌∷◌, ◌++◌, Option, Some, None, Result, Ok, Err, length, take, drop, refl, ap, sym, subst, arith, append_assoc, append-nil, length-append}
-use Rattle.std.specs.Prelude.{IfOk, if◌then◌else◌, ◌==◌, slice_get}
+use Rattle.std.proofs.Common.{◌≡◌, ◌⊎◌, inl, inr, ◌∙◌, ℕ, zero, suc, ◌+◌, ◌≤◌, ◌<◌, ◌^◌, Bool, true, false, List, [], ◌∷◌, ◌++◌, Option, Some, None, Result, Ok, Err, length, take, drop, refl, ap, ap₂, sym, subst, arith, append_assoc, append-nil, length-append}
+use Rattle.std.specs.Prelude.{IfOk, if◌then◌else◌, ◌==◌, slice_get, slice_set}
 use Rattle.std.proofs.lemmas.Bool.{cases_eq}
 use Rattle.std.proofs.lemmas.Bool.Decides.{nat_tests}
-use Rattle.std.proofs.lemmas.List.{drop-append-le, take-append-le}
+use Rattle.std.proofs.lemmas.List.{drop-append-le, take-append-drop, take-append-le}
 use Rattle.std.proofs.lemmas.Option.{slice_get_cases, slice_get_within}
 use Rattle.disk.specs.Disk.{DiskCall, DiskState, Effect, HasRisen, Still, Within}
 use Rattle.disk.proofs.Ways.{within_end, within_more, within_weaker}
-use Rattle.intent_slots.specs.Payload.{Group, Intent}
+use Rattle.intent_slots.specs.Payload.{Group, GroupFits, Intent}
 use Rattle.intent_slots.specs.Recovered.{Part, Stands, after}
 use Rattle.flusher.specs.declared.guest.Guest.{Guest}
 use Rattle.flusher.specs.Progress.{Progress}
@@ -16,14 +16,17 @@ use Rattle.flusher.specs.Laws.{IsUnderWay, Settles}
 use Rattle.flusher.specs.Pair.{entries_in, guest_after_sync, guest_after_write, has_room, listed, mark_after, mark_of, opening_of, pending_intents, with_intent}
 use Rattle.flusher.specs.Round.{FrontStays, MovedBy, Moves, Round, parts_after, planned, settles, under_way}
 use Rattle.flusher.specs.SlotInvariant.{BeforeOrAfter, Besides, EachStop, Follows, IsHeld, IsMarked, guest_settled, sequence_of_part, settled_by, settled_with}
-use Rattle.flusher.specs.Store.{Gives, MayGive, StoreState, is_free, is_free_of}
+use Rattle.flusher.specs.Store.{FitsOf, Gives, MayGive, StoreState, is_free, is_free_of, next_of, next_sequence, pending}
+use Rattle.flusher.specs.Slot.{pending_of}
+use Rattle.flusher.specs.Pair.{region_of}
+use Rattle.flusher.proofs.Guests.{get_set_other, get_set_same}
 use Rattle.flusher.proofs.Kept.{stops}
 use Rattle.flusher.proofs.Lookups.{given_region}
 use Rattle.flusher.proofs.Pending.{pending_grows, pending_settles, pending_stays, write_keeps}
 use Rattle.flusher.proofs.Table.{region_moved, region_synced}
 use Rattle.flusher.proofs.UnderWay.{as_many_under_way, under_way_by_guest}
 use Rattle.board.proofs.Moving.{ended, failed_round, shown_round}
-use Rattle.workers.specs.Keeping.{IsAfterSome, IsAhead, Keeps, LeavesWhole, Reaches, after_all, to_keep}
+use Rattle.workers.specs.Keeping.{AreNext, ComesNext, IsAfterSome, IsAhead, IsInTurn, Keeps, KeeperState, LeavesWhole, LetsKey, Reaches, after_all, to_keep}
 
 pub if_ok_weaker : {X E : Type 0} {P Q : X → Type 0} (r : Result X E) → ((x : X) → P x → Q x) → IfOk r P → IfOk r Q
 if_ok_weaker (Ok x) f is = f x is
@@ -38,6 +41,30 @@ next_done p zero [] rest i is = absurd (cc)
 next_done p zero (x ∷ xs) rest i is = (let same : x ≡ i = cc in let others : xs ≡ rest = cc in (omega arith, ap (λ (v : Intent). after p v.group) same, others))
 next_done p (suc n) [] rest i is = absurd (cc)
 next_done p (suc n) (x ∷ xs) rest i is = (let one = next_done (after p x.group) n xs rest i is in let within = one.0 in (omega (arith, within), one.1, one.2))
+
+-- one more comes next after them
+more_in_turn : (g size : ℕ) (p : Part) (xs : List Intent) (i : Intent) → AreNext g size p xs → ComesNext g size (after_all p xs) i → AreNext g size p (xs ++ i ∷ [])
+more_in_turn g size p [] i all next = (next, tt)
+more_in_turn g size p (x ∷ xs) i all next = (all.0, more_in_turn g size (after p x.group) xs i all.1 next)
+
+rest_in_turn : (g size : ℕ) (p : Part) (n : ℕ) (xs : List Intent) → AreNext g size p xs → AreNext g size (after_all p (take n xs)) (drop n xs)
+rest_in_turn g size p zero xs all = all
+rest_in_turn g size p (suc n) [] all = tt
+rest_in_turn g size p (suc n) (x ∷ xs) all = rest_in_turn g size (after p x.group) n xs all.1
+
+pub done_after : (p : Part) (xs ys : List Intent) → after_all p (xs ++ ys) ≡ after_all (after_all p xs) ys
+done_after p [] ys = refl
+done_after p (x ∷ xs) ys = done_after (after p x.group) xs ys
+
+one_more : (g size : ℕ) (p : Part) (i : Intent) → ComesNext g size p i → sequence_of_part (after p i.group) ≡ sequence_of_part p + length i.group.entries
+one_more g size p i next = (let one = next.fits.one in let first = next.follows in omega (arith, one, first))
+
+-- the sequence once two slots are done
+two_more : (g size : ℕ) (p : Part) (a b : Option Intent) → AreNext g size p (listed a ++ listed b) → sequence_of_part (after_all p (listed a ++ listed b)) ≡ sequence_of_part p + length (entries_in a) + length (entries_in b)
+two_more g size p None None all = omega arith
+two_more g size p None (Some j) all = (let one = one_more g size p j all.0 in omega (arith, one))
+two_more g size p (Some i) None all = (let one = one_more g size p i all.0 in omega (arith, one))
+two_more g size p (Some i) (Some j) all = (let one = one_more g size p i all.0 in let two = one_more g size (after p i.group) j all.1.0 in omega (arith, one, two))
 
 -- 2. One guest
 
@@ -118,6 +145,34 @@ ahead_given p x given s y i room besides a =
       region = given_region y i y.slot ∙ a.region;
       marks = omega (arith, marks, mark);
     }
+
+-- an intent that may be given comes next after all that the guest is to keep
+comes_next : (g : ℕ) (p : Part) (x y : Guest) (given : List Intent) (s : Part) (i : Intent) (key : Option (Option (List ℕ))) → IsAhead p x given s y → IsMarked s y → IsInTurn g p x (to_keep x given) key → i.guest ≡ g
+    → i.group.first + 1 ≡ y.mark + pending y + 1 → GroupFits (region_of y).size i.group → LetsKey key i.group.key → ComesNext g (region_of x).size (after_all p (to_keep x given)) i
+comes_next g p x y given s i key a m t own first fits lets =
+    let xs = to_keep x given in
+    let settled : after_all p xs ≡ after_all s (pending_intents y) =
+    ap (after_all p) (sym (take-append-drop a.count xs)) ∙ done_after p (take a.count xs) (drop a.count xs) ∙ ap (λ q. after_all q (drop a.count xs)) (sym a.is) ∙ ap (after_all s) (sym a.left) in
+    let rest : AreNext g (region_of x).size s (pending_intents y) =
+    subst (λ q. AreNext g (region_of x).size q (pending_intents y)) (sym a.is)
+    (subst (λ l. AreNext g (region_of x).size (after_all p (take a.count xs)) l) (sym a.left) (rest_in_turn g (region_of x).size p a.count xs t.each)) in
+    let sum = two_more g (region_of x).size s (pending_of y.slot) (pending_of y.behind) rest in
+    let sequences = ap sequence_of_part settled in
+    let mark = m.mark in
+    record {
+      own = own;
+      follows = omega (arith, first, sum, sequences, mark);
+      key = subst (λ o. LetsKey o i.group.key) t.key lets;
+      fits = subst (λ r. GroupFits r.size i.group) a.region fits;
+    }
+
+in_turn_given : (g : ℕ) (p : Part) (x : Guest) (given : List Intent) (i : Intent) (key now : Option (Option (List ℕ))) → IsInTurn g p x (to_keep x given) key → ComesNext g (region_of x).size (after_all p (to_keep x given)) i → now ≡ Some (Some i.group.key)
+    → IsInTurn g p x (to_keep x (given ++ i ∷ [])) now
+in_turn_given g p x given i key now t next is =
+    subst (λ l. IsInTurn g p x l now) (append_assoc (pending_intents x) given (i ∷ [])) (record {
+      each = more_in_turn g (region_of x).size p (to_keep x given) i t.each next;
+      key = is ∙ ap (λ (q : Part). Some q.key) (sym (done_after p (to_keep x given) (i ∷ [])));
+    })
 
 -- what a stop leaves of it
 after_some : (p : Part) (x : Guest) (given : List Intent) (s : Part) (y : Guest) (q : Part) → IsAhead p x given s y → Besides y.slot y.behind → BeforeOrAfter s (opening_of y) q → mark_of y ≤ sequence_of_part q
@@ -202,47 +257,53 @@ room_of : (guests : List Guest) (g : ℕ) (x : Guest) → slice_get guests g ≡
 unfolding is_free
 room_of guests g x at free = ap is_free_of (sym at) ∙ free
 
+next_at : (guests : List Guest) (i : Intent) (y : Guest) → slice_get guests i.guest ≡ Some y → i.group.first + 1 ≡ next_sequence guests i.guest → i.group.first + 1 ≡ y.mark + pending y + 1
+unfolding next_sequence
+next_at guests i y at next = next ∙ ap next_of at
+
 module _ {D : Type 0} (shows : D → DiskState) (makes : D → DiskCall → D → Type 0) where
   besides_of : (parts : ℕ → Part) (guests : List Guest) (broken : Bool) (s : DiskState) → IsHeld parts guests broken s → (g : ℕ) (y : Guest) → slice_get guests g ≡ Some y → Besides y.slot y.behind
   besides_of parts guests broken s held g y at = (held.rows g y at s.seen (λ k known. refl)).1.ordered.besides
 
-  pub keeps_begins : (s : StoreState D) → Keeps shows makes s s
+  pub keeps_begins : (s : KeeperState D) → Keeps shows makes s s
   keeps_begins s = record {
     many = refl;
     len = refl;
     faithful = refl;
     later = omega arith;
     cause = λ broken. inl broken;
-    front = λ known. Still s.disk (λ k below. (refl, λ old. old));
+    front = λ known. Still s.store.disk (λ k below. (refl, λ old. old));
     reaches = λ parts held. record {
       given = λ g. [];
       settled = parts;
       held = held;
       ahead = λ g x y at also. (let same : x ≡ y = cc in subst (IsAhead (parts g) x [] (parts g)) same (ahead_begins (parts g) x));
-      moments = Still s.disk (whole_now s.guests parts parts (λ g. []) s.guests (besides_of parts s.guests s.broken (shows s.disk) held) refl
+      in_turn = λ g x at t. subst (λ l. IsInTurn g (parts g) x l (slice_get s.keys g)) (sym (append-nil (pending_intents x))) t;
+      moments = Still s.store.disk (whole_now s.store.guests parts parts (λ g. []) s.store.guests (besides_of parts s.store.guests s.store.broken (shows s.store.disk) held) refl
           (λ g x y at also. (let same : x ≡ y = cc in subst (IsAhead (parts g) x [] (parts g)) same (ahead_begins (parts g) x)))
-          (shows s.disk) (stops parts s.guests (shows s.disk) (shows s.disk) s.broken held));
+          (shows s.store.disk) (stops parts s.store.guests (shows s.store.disk) (shows s.store.disk) s.store.broken held));
     };
   }
 
   -- an intent is given
-  pub keeps_given : (old mid new : StoreState D) (i : Intent) → Keeps shows makes old mid → new.disk ≡ mid.disk → new.broken ≡ mid.broken → MayGive mid.guests i → Gives i mid.guests new.guests
-      → ((parts : ℕ → Part) → IsHeld parts mid.guests mid.broken (shows mid.disk) → IsHeld parts new.guests new.broken (shows new.disk)) → Keeps shows makes old new
-  keeps_given old mid new i k disk broken may gives keeps = record {
+  pub keeps_given : (old mid new : KeeperState D) (i : Intent) → Keeps shows makes old mid → new.store.disk ≡ mid.store.disk → new.store.broken ≡ mid.store.broken → MayGive mid.store.guests i → LetsKey (slice_get mid.keys i.guest) i.group.key → Gives i mid.store.guests new.store.guests → new.keys ≡ slice_set mid.keys i.guest (Some i.group.key)
+      → ((parts : ℕ → Part) → IsHeld parts mid.store.guests mid.store.broken (shows mid.store.disk) → IsHeld parts new.store.guests new.store.broken (shows new.store.disk)) → Keeps shows makes old new
+  keeps_given old mid new i k disk broken may lets gives keys keeps = record {
     many = gives.count ∙ k.many;
     len = ap (λ d. (shows d).len) disk ∙ k.len;
     faithful = ap (λ d. (shows d).faithful) disk ∙ k.faithful;
     later = (let before = k.later in let same = ap (λ d. (shows d).failures) disk in omega (arith, before, same));
-    cause = λ is. subst (λ d. (old.broken ≡ true) ⊎ HasRisen (shows old.disk).failures (shows d).failures) (sym disk) (k.cause (sym broken ∙ is));
-    front = λ known. subst (λ d. Within shows makes (FrontStays (shows old.disk)) old.disk d) (sym disk) (k.front known);
+    cause = λ is. subst (λ d. (old.store.broken ≡ true) ⊎ HasRisen (shows old.store.disk).failures (shows d).failures) (sym disk) (k.cause (sym broken ∙ is));
+    front = λ known. subst (λ d. Within shows makes (FrontStays (shows old.store.disk)) old.store.disk d) (sym disk) (k.front known);
     reaches = λ parts held. (let r = k.reaches parts held in record {
       given = given_too i r.given;
       settled = r.settled;
       held = keeps r.settled r.held;
       ahead = λ g x y at there. each parts r g x y at there (cases_eq g i.guest);
-      moments = subst (λ d. Within shows makes (LeavesWhole old.guests parts (given_too i r.given)) old.disk d) (sym disk)
-          (within_weaker shows makes (LeavesWhole old.guests parts r.given) (LeavesWhole old.guests parts (given_too i r.given)) old.disk mid.disk
-          (whole_longer old.guests parts r.given (given_too i r.given) (given_more i r.given)) r.moments);
+      in_turn = λ g x at t. turn parts r g x at t (cases_eq g i.guest);
+      moments = subst (λ d. Within shows makes (LeavesWhole old.store.guests parts (given_too i r.given)) old.store.disk d) (sym disk)
+          (within_weaker shows makes (LeavesWhole old.store.guests parts r.given) (LeavesWhole old.store.guests parts (given_too i r.given)) old.store.disk mid.store.disk
+          (whole_longer old.store.guests parts r.given (given_too i r.given) (given_more i r.given)) r.moments);
     });
   }
     where
@@ -258,22 +319,51 @@ module _ {D : Type 0} (shows : D → DiskState) (makes : D → DiskCall → D �
           tells : (a b : ℕ) → (a ≡ b → ⊥) → (a == b) ≡ false
           tells a b e = grind (arith, nat_tests)
 
-      room : (x : Guest) → slice_get mid.guests i.guest ≡ Some x → has_room x ≡ true
-      room x at = room_of mid.guests i.guest x at may.free
+      room : (x : Guest) → slice_get mid.store.guests i.guest ≡ Some x → has_room x ≡ true
+      room x at = room_of mid.store.guests i.guest x at may.free
 
-      each : (parts : ℕ → Part) (r : Reaches shows makes parts old mid) (g : ℕ) (x y : Guest) → slice_get old.guests g ≡ Some x → slice_get new.guests g ≡ Some y → (g ≡ i.guest) ⊎ (g ≡ i.guest → ⊥)
+      each : (parts : ℕ → Part) (r : Reaches shows makes parts old mid) (g : ℕ) (x y : Guest) → slice_get old.store.guests g ≡ Some x → slice_get new.store.guests g ≡ Some y → (g ≡ i.guest) ⊎ (g ≡ i.guest → ⊥)
           → IsAhead (parts g) x (given_too i r.given g) (r.settled g) y
       each parts r g x y at now (inl own) =
-          let below = slice_get_within old.guests g x at in
+          let below = slice_get_within old.store.guests g x at in
           let many = k.many in
-          let z = there mid.guests g (omega (arith, below, many)) in
-          let here : slice_get mid.guests i.guest ≡ Some z.0 = ap (slice_get mid.guests) (sym own) ∙ z.1 in
-          let is : with_intent z.0 i ≡ y = (let put = gives.its_own z.0 here in let a = ap (slice_get new.guests) own in cc) in
+          let z = there mid.store.guests g (omega (arith, below, many)) in
+          let here : slice_get mid.store.guests i.guest ≡ Some z.0 = ap (slice_get mid.store.guests) (sym own) ∙ z.1 in
+          let is : with_intent z.0 i ≡ y = (let put = gives.its_own z.0 here in let a = ap (slice_get new.store.guests) own in cc) in
           subst (IsAhead (parts g) x (given_too i r.given g) (r.settled g)) is
           (subst (λ l. IsAhead (parts g) x l (r.settled g) (with_intent z.0 i)) (chosen r.given g own)
-          (ahead_given (parts g) x (r.given g) (r.settled g) z.0 i (room z.0 here) (besides_of r.settled mid.guests mid.broken (shows mid.disk) r.held g z.0 z.1) (r.ahead g x z.0 at z.1)))
+          (ahead_given (parts g) x (r.given g) (r.settled g) z.0 i (room z.0 here) (besides_of r.settled mid.store.guests mid.store.broken (shows mid.store.disk) r.held g z.0 z.1) (r.ahead g x z.0 at z.1)))
       each parts r g x y at now (inr other) =
           subst (λ l. IsAhead (parts g) x l (r.settled g) y) (unchosen r.given g other) (r.ahead g x y at (sym (gives.others g other) ∙ now))
+
+      -- what the store says of the guest to which it may be given
+      next : (y : Guest) → slice_get mid.store.guests i.guest ≡ Some y → i.group.first + 1 ≡ y.mark + pending y + 1
+      next y at = next_at mid.store.guests i y at may.next
+
+      fits : (y : Guest) → slice_get mid.store.guests i.guest ≡ Some y → GroupFits (region_of y).size i.group
+      fits y at = (let f = may.fits in (subst (λ o. FitsOf o i) at f).inside)
+
+      known : (o : Option (Option (List ℕ))) → LetsKey o i.group.key → (its : Option (List ℕ)) × (o ≡ Some its)
+      known None l = absurd l
+      known (Some its) l = (its, refl)
+
+      turn : (parts : ℕ → Part) (r : Reaches shows makes parts old mid) (g : ℕ) (x : Guest) → slice_get old.store.guests g ≡ Some x → IsInTurn g (parts g) x (pending_intents x) (slice_get old.keys g) → (g ≡ i.guest) ⊎ (g ≡ i.guest → ⊥)
+          → IsInTurn g (parts g) x (to_keep x (given_too i r.given g)) (slice_get new.keys g)
+      turn parts r g x at t (inl own) =
+          let below = slice_get_within old.store.guests g x at in
+          let many = k.many in
+          let y = there mid.store.guests g (omega (arith, below, many)) in
+          let here : slice_get mid.store.guests i.guest ≡ Some y.0 = ap (slice_get mid.store.guests) (sym own) ∙ y.1 in
+          let before = r.in_turn g x at t in
+          let marked = (r.held.rows g y.0 y.1 (shows mid.store.disk).seen (λ place known. refl)).1 in
+          let lets_it = subst (λ n. LetsKey (slice_get mid.keys n) i.group.key) (sym own) lets in
+          let key = known (slice_get mid.keys i.guest) lets in
+          let put : slice_get new.keys g ≡ Some (Some i.group.key) = ap (slice_get new.keys) own ∙ ap (λ l. slice_get l i.guest) keys ∙ get_set_same mid.keys i.guest key.0 (Some i.group.key) key.1 in
+          let next_one = comes_next g (parts g) x y.0 (r.given g) (r.settled g) i (slice_get mid.keys g) (r.ahead g x y.0 at y.1) marked before (sym own) (next y.0 here) (fits y.0 here) lets_it in
+          subst (λ l. IsInTurn g (parts g) x (to_keep x l) (slice_get new.keys g)) (chosen r.given g own) (in_turn_given g (parts g) x (r.given g) i (slice_get mid.keys g) (slice_get new.keys g) before next_one put)
+      turn parts r g x at t (inr other) =
+          subst (λ l. IsInTurn g (parts g) x (to_keep x l) (slice_get new.keys g)) (unchosen r.given g other)
+          (subst (IsInTurn g (parts g) x (to_keep x (r.given g))) (sym (ap (λ l. slice_get l g) keys ∙ get_set_other mid.keys i.guest g (Some i.group.key) other)) (r.in_turn g x at t))
 
   risen : (a b c : DiskState) → a.failures ≤ b.failures → b.failures ≤ c.failures → HasRisen b.failures c.failures → HasRisen a.failures c.failures
   risen a b c first second (inl more) = inl (omega (arith, more, first))
@@ -284,25 +374,25 @@ module _ {D : Type 0} (shows : D → DiskState) (makes : D → DiskCall → D �
   risen_before a b c second (inr end) = inr end
 
   -- a call of the disk
-  module _ (effect : (a b : D) (call : DiskCall) → makes a call b → Effect (shows a) call (shows b)) (old mid new : StoreState D) (result : Result Progress StoreFault) (k : Keeps shows makes old mid) (moves : Moves result mid.guests new.guests) (round : Round makes (planned mid.guests) mid.disk mid.guests result new.disk new.guests new.broken) (front : (shows mid.disk).faithful ≡ true → Within shows makes (FrontStays (shows mid.disk)) mid.disk new.disk) (any_moment : (parts : ℕ → Part) → IsHeld parts mid.guests mid.broken (shows mid.disk) → Within shows makes (EachStop parts (under_way mid.guests)) mid.disk new.disk) (keeps : (parts : ℕ → Part) → IsHeld parts mid.guests mid.broken (shows mid.disk) → IsHeld (parts_after result mid.guests parts) new.guests new.broken (shows new.disk)) where
-    each : (parts settled : ℕ → Part) (given : ℕ → List Intent) → IsHeld settled mid.guests mid.broken (shows mid.disk) → ((g : ℕ) (x y : Guest) → slice_get old.guests g ≡ Some x → slice_get mid.guests g ≡ Some y → IsAhead (parts g) x (given g) (settled g) y)
-        → (g : ℕ) (x z : Guest) → slice_get old.guests g ≡ Some x → slice_get new.guests g ≡ Some z → IsAhead (parts g) x (given g) (parts_after result mid.guests settled g) z
+  module _ (effect : (a b : D) (call : DiskCall) → makes a call b → Effect (shows a) call (shows b)) (old mid new : KeeperState D) (result : Result Progress StoreFault) (k : Keeps shows makes old mid) (keys : new.keys ≡ mid.keys) (moves : Moves result mid.store.guests new.store.guests) (round : Round makes (planned mid.store.guests) mid.store.disk mid.store.guests result new.store.disk new.store.guests new.store.broken) (front : (shows mid.store.disk).faithful ≡ true → Within shows makes (FrontStays (shows mid.store.disk)) mid.store.disk new.store.disk) (any_moment : (parts : ℕ → Part) → IsHeld parts mid.store.guests mid.store.broken (shows mid.store.disk) → Within shows makes (EachStop parts (under_way mid.store.guests)) mid.store.disk new.store.disk) (keeps : (parts : ℕ → Part) → IsHeld parts mid.store.guests mid.store.broken (shows mid.store.disk) → IsHeld (parts_after result mid.store.guests parts) new.store.guests new.store.broken (shows new.store.disk)) where
+    each : (parts settled : ℕ → Part) (given : ℕ → List Intent) → IsHeld settled mid.store.guests mid.store.broken (shows mid.store.disk) → ((g : ℕ) (x y : Guest) → slice_get old.store.guests g ≡ Some x → slice_get mid.store.guests g ≡ Some y → IsAhead (parts g) x (given g) (settled g) y)
+        → (g : ℕ) (x z : Guest) → slice_get old.store.guests g ≡ Some x → slice_get new.store.guests g ≡ Some z → IsAhead (parts g) x (given g) (parts_after result mid.store.guests settled g) z
     each parts settled given held ahead g x z at now =
-        let below = slice_get_within old.guests g x at in
+        let below = slice_get_within old.store.guests g x at in
         let many = k.many in
-        let y = there mid.guests g (omega (arith, below, many)) in
+        let y = there mid.store.guests g (omega (arith, below, many)) in
         by (settles result) y.0 y.1 (moves.each g y.0 z y.1 now)
       where
-        by : (b : Bool) (y : Guest) → slice_get mid.guests g ≡ Some y → MovedBy b y z → IsAhead (parts g) x (given g) (if b then settled_by guest_settled (slice_get mid.guests g) (settled g) else settled g) z
+        by : (b : Bool) (y : Guest) → slice_get mid.store.guests g ≡ Some y → MovedBy b y z → IsAhead (parts g) x (given g) (if b then settled_by guest_settled (slice_get mid.store.guests g) (settled g) else settled g) z
         by true y is moved =
-            let marked = (held.rows g y is (shows mid.disk).seen (λ at_place known. refl)).1 in
+            let marked = (held.rows g y is (shows mid.store.disk).seen (λ at_place known. refl)).1 in
             subst (λ o. IsAhead (parts g) x (given g) (settled_by guest_settled o (settled g)) z) (sym is)
             (subst (IsAhead (parts g) x (given g) (guest_settled y (settled g))) (sym moved) (ahead_synced (parts g) x (given g) (settled g) y (ahead g x y at is) marked))
         by false y is moved = ahead_moved (parts g) x (given g) (settled g) y z moved (ahead g x y at is)
 
     keeps_called : Keeps shows makes old new
     keeps_called =
-        let shown = shown_round shows makes effect _ _ mid.disk mid.guests result new.disk new.guests new.broken round in
+        let shown = shown_round shows makes effect _ _ mid.store.disk mid.store.guests result new.store.disk new.store.guests new.store.broken round in
         let first = k.later in
         let second = shown.later in
         record {
@@ -310,30 +400,31 @@ module _ {D : Type 0} (shows : D → DiskState) (makes : D → DiskCall → D �
           len = shown.len ∙ k.len;
           faithful = shown.faithful ∙ k.faithful;
           later = omega (arith, first, second);
-          cause = λ broken. inr (risen (shows old.disk) (shows mid.disk) (shows new.disk) first second (failed_round shows makes effect result mid.disk mid.guests new.disk new.guests new.broken round broken));
-          front = λ known. (let before = k.front known in within_more shows makes (FrontStays (shows old.disk)) old.disk mid.disk new.disk before
-              (within_weaker shows makes (FrontStays (shows mid.disk)) (FrontStays (shows old.disk)) mid.disk new.disk
-              (λ s. front_on (shows old.disk) (shows mid.disk) s (within_end shows makes (FrontStays (shows old.disk)) old.disk mid.disk before)) (front (k.faithful ∙ known))));
+          cause = λ broken. inr (risen (shows old.store.disk) (shows mid.store.disk) (shows new.store.disk) first second (failed_round shows makes effect result mid.store.disk mid.store.guests new.store.disk new.store.guests new.store.broken round broken));
+          front = λ known. (let before = k.front known in within_more shows makes (FrontStays (shows old.store.disk)) old.store.disk mid.store.disk new.store.disk before
+              (within_weaker shows makes (FrontStays (shows mid.store.disk)) (FrontStays (shows old.store.disk)) mid.store.disk new.store.disk
+              (λ s. front_on (shows old.store.disk) (shows mid.store.disk) s (within_end shows makes (FrontStays (shows old.store.disk)) old.store.disk mid.store.disk before)) (front (k.faithful ∙ known))));
           reaches = λ parts held. (let r = k.reaches parts held in record {
             given = r.given;
-            settled = parts_after result mid.guests r.settled;
+            settled = parts_after result mid.store.guests r.settled;
             held = keeps r.settled r.held;
             ahead = each parts r.settled r.given r.held r.ahead;
-            moments = within_more shows makes (LeavesWhole old.guests parts r.given) old.disk mid.disk new.disk r.moments
-                (within_weaker shows makes (EachStop r.settled (under_way mid.guests)) (LeavesWhole old.guests parts r.given) mid.disk new.disk
-                (whole_meanwhile old.guests parts r.settled r.given mid.guests (besides_of r.settled mid.guests mid.broken (shows mid.disk) r.held) k.many r.ahead) (any_moment r.settled r.held));
+            in_turn = λ g x at t. subst (λ l. IsInTurn g (parts g) x (to_keep x (r.given g)) (slice_get l g)) (sym keys) (r.in_turn g x at t);
+            moments = within_more shows makes (LeavesWhole old.store.guests parts r.given) old.store.disk mid.store.disk new.store.disk r.moments
+                (within_weaker shows makes (EachStop r.settled (under_way mid.store.guests)) (LeavesWhole old.store.guests parts r.given) mid.store.disk new.store.disk
+                (whole_meanwhile old.store.guests parts r.settled r.given mid.store.guests (besides_of r.settled mid.store.guests mid.store.broken (shows mid.store.disk) r.held) k.many r.ahead) (any_moment r.settled r.held));
           });
         }
 
   -- or none, where one has failed before
-  pub keeps_advanced : (effect : (a b : D) (call : DiskCall) → makes a call b → Effect (shows a) call (shows b)) (old mid new : StoreState D) (result : Result Progress StoreFault) → Keeps shows makes old mid → (mid.broken ≡ true → new ≡ mid)
-      → Moves result mid.guests new.guests → (mid.broken ≡ false → Round makes (planned mid.guests) mid.disk mid.guests result new.disk new.guests new.broken)
-      → ((shows mid.disk).faithful ≡ true → Within shows makes (FrontStays (shows mid.disk)) mid.disk new.disk)
-      → ((parts : ℕ → Part) → IsHeld parts mid.guests mid.broken (shows mid.disk) → Within shows makes (EachStop parts (under_way mid.guests)) mid.disk new.disk)
-      → ((parts : ℕ → Part) → IsHeld parts mid.guests mid.broken (shows mid.disk) → IsHeld (parts_after result mid.guests parts) new.guests new.broken (shows new.disk))
+  pub keeps_advanced : (effect : (a b : D) (call : DiskCall) → makes a call b → Effect (shows a) call (shows b)) (old mid new : KeeperState D) (result : Result Progress StoreFault) → Keeps shows makes old mid → new.keys ≡ mid.keys → (mid.store.broken ≡ true → new.store ≡ mid.store)
+      → Moves result mid.store.guests new.store.guests → (mid.store.broken ≡ false → Round makes (planned mid.store.guests) mid.store.disk mid.store.guests result new.store.disk new.store.guests new.store.broken)
+      → ((shows mid.store.disk).faithful ≡ true → Within shows makes (FrontStays (shows mid.store.disk)) mid.store.disk new.store.disk)
+      → ((parts : ℕ → Part) → IsHeld parts mid.store.guests mid.store.broken (shows mid.store.disk) → Within shows makes (EachStop parts (under_way mid.store.guests)) mid.store.disk new.store.disk)
+      → ((parts : ℕ → Part) → IsHeld parts mid.store.guests mid.store.broken (shows mid.store.disk) → IsHeld (parts_after result mid.store.guests parts) new.store.guests new.store.broken (shows new.store.disk))
       → Keeps shows makes old new
-  keeps_advanced effect old mid new result k refused moves round front any_moment keeps = by mid.broken refl
+  keeps_advanced effect old mid new result k keys refused moves round front any_moment keeps = by mid.store.broken refl
     where
-      by : (b : Bool) → mid.broken ≡ b → Keeps shows makes old new
-      by true is = subst (Keeps shows makes old) (sym (refused is)) k
-      by false is = keeps_called effect old mid new result k moves (round is) front any_moment keeps
+      by : (b : Bool) → mid.store.broken ≡ b → Keeps shows makes old new
+      by true is = subst (Keeps shows makes old) (sym (ap₂ (λ (s : StoreState D) (l : List (Option (List ℕ))). record { store = s; keys = l }) (refused is) keys)) k
+      by false is = keeps_called effect old mid new result k keys moves (round is) front any_moment keeps

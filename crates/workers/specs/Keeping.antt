@@ -1,21 +1,67 @@
 -- What the flusher's calls leave of the partitions at each moment: whole intents, one after
 -- another.
-use Rattle.std.specs.Prelude.{◌≡◌, ◌⊎◌, ℕ, ◌≤◌, Bool, true, List, [], ◌∷◌, ◌++◌, length, take, drop}
-use Rattle.std.specs.Prelude.{Some, slice_get}
+use Rattle.std.specs.Prelude.{◌≡◌, ◌⊎◌, ℕ, ◌≤◌, ◌<◌, Bool, true, List, [], ◌∷◌, ◌++◌, length, take}
+use Rattle.std.specs.Prelude.{drop, Option, Some, None, Ok, slice_get}
 use Rattle.disk.specs.Content.{Content}
 use Rattle.disk.specs.Disk.{DiskCall, DiskState, HasRisen, MayLeave, Within}
-use Rattle.intent_slots.specs.Payload.{Intent}
+use Rattle.intent_slots.specs.Payload.{GroupFits, Intent}
 use Rattle.intent_slots.specs.Recovered.{Part, Stands, after}
 use Rattle.flusher.specs.declared.guest.Guest.{Guest}
 use Rattle.flusher.specs.Pair.{mark_of, pending_intents, region_of}
 use Rattle.flusher.specs.Round.{FrontStays}
 use Rattle.flusher.specs.SlotInvariant.{IsHeld, sequence_of_part}
-use Rattle.flusher.specs.Store.{StoreState}
+use Rattle.flusher.specs.Store.{Gives, StoreState}
+use Rattle.rpmb_book.specs.Book.{BookView, guest_of, take_answer}
+use Rattle.rpmb_book.specs.Guest.{GuestState}
+
+-- what a contract sees of a keeper: the store, and each guest's key after all that it was given
+pub record KeeperState (D : Type 0) : Type 0 where
+  pub store : StoreState D
+  pub keys : List (Option (List ℕ))
+
+-- 1. Intents one after another
 
 -- a partition once intents are done, one after another
 abbrev pub after_all : Part → List Intent → Part
 after_all p [] = p
 after_all p (i ∷ is) = after_all (after p i.group) is
+
+-- the partition's key, where it has one
+abbrev pub IsUnder : Option (List ℕ) → List ℕ → Type 0
+IsUnder None key = Unit {0}
+IsUnder (Some its) key = its ≡ key
+
+-- An intent comes next in this partition of guest g, which has so many bytes of blocks: it is that
+-- guest's, its first request follows the partition's last one, its key is the partition's, and
+-- what it writes lies in it.
+pub record ComesNext (g size : ℕ) (p : Part) (i : Intent) : Type 0 where
+  pub own : i.guest ≡ g
+  pub follows : i.group.first ≡ sequence_of_part p
+  pub key : IsUnder p.key i.group.key
+  pub fits : GroupFits size i.group
+
+-- each comes next after those before it
+abbrev pub AreNext : (g size : ℕ) → Part → List Intent → Type 0
+AreNext g size p [] = Unit {0}
+AreNext g size p (i ∷ is) = ComesNext g size p i × AreNext g size (after p i.group) is
+
+-- and a guest's key is known after all of them
+pub record IsInTurn (g : ℕ) (p : Part) (x : Guest) (intents : List Intent)
+    (known : Option (Option (List ℕ))) : Type 0 where
+  pub each : AreNext g (region_of x).size p intents
+  pub key : known ≡ Some (after_all p intents).key
+
+-- a guest's key as it is known lets an intent be under this one
+abbrev pub LetsKey : Option (Option (List ℕ)) → List ℕ → Type 0
+LetsKey None key = ⊥
+LetsKey (Some its) key = IsUnder its key
+
+-- the keys that so many guests of the book have
+abbrev pub HasKeys : ℕ → BookView → List (Option (List ℕ)) → Type 0
+HasKeys many book keys = (g : ℕ) (x : GuestState) → g < many → guest_of book g ≡ Some x
+    → slice_get keys g ≡ Some x.core.partition.key
+
+-- 2. What a guest is to keep
 
 -- the partition after so many of the intents, each done whole, with at least this sequence
 pub record IsAfterSome (p : Part) (intents : List Intent) (least : ℕ) (q : Part) : Type 0 where
@@ -47,44 +93,68 @@ pub record IsAhead (p : Part) (x : Guest) (given : List Intent) (settled : Part)
   pub marks : mark_of x ≤ mark_of y
 
 -- By its calls a store that held these partitions came to hold others: those after some of what it
--- was given, and at each moment between a stop leaves such ones.
+-- was given, each of which came next, and at each moment between a stop leaves such ones.
 pub record Reaches {D : Type 0} (shows : D → DiskState) (makes : D → DiskCall → D → Type 0)
-    (parts : ℕ → Part) (old new : StoreState D) : Type 0 where
+    (parts : ℕ → Part) (old new : KeeperState D) : Type 0 where
   pub given : ℕ → List Intent
   pub settled : ℕ → Part
-  pub held : IsHeld settled new.guests new.broken (shows new.disk)
-  pub ahead : (g : ℕ) (x y : Guest) → slice_get old.guests g ≡ Some x
-      → slice_get new.guests g ≡ Some y
+  pub held : IsHeld settled new.store.guests new.store.broken (shows new.store.disk)
+  pub ahead : (g : ℕ) (x y : Guest) → slice_get old.store.guests g ≡ Some x
+      → slice_get new.store.guests g ≡ Some y
       → IsAhead (parts g) x (given g) (settled g) y
-  pub moments : Within shows makes (LeavesWhole old.guests parts given) old.disk new.disk
+  pub in_turn : (g : ℕ) (x : Guest) → slice_get old.store.guests g ≡ Some x
+      → IsInTurn g (parts g) x (pending_intents x) (slice_get old.keys g)
+      → IsInTurn g (parts g) x (to_keep x (given g)) (slice_get new.keys g)
+  pub moments : Within shows makes (LeavesWhole old.store.guests parts given)
+      old.store.disk new.store.disk
 
 -- The store's own calls led from one to the other, and intents that were given between: the image's
 -- length stays, and its header; it breaks only where a call of the disk failed.
 pub record Keeps {D : Type 0} (shows : D → DiskState) (makes : D → DiskCall → D → Type 0)
-    (old new : StoreState D) : Type 0 where
-  pub many : length new.guests ≡ length old.guests
-  pub len : (shows new.disk).len ≡ (shows old.disk).len
-  pub faithful : (shows new.disk).faithful ≡ (shows old.disk).faithful
-  pub later : (shows old.disk).failures ≤ (shows new.disk).failures
-  pub cause : new.broken ≡ true
-      → (old.broken ≡ true) ⊎ HasRisen (shows old.disk).failures (shows new.disk).failures
-  pub front : (shows old.disk).faithful ≡ true
-      → Within shows makes (FrontStays (shows old.disk)) old.disk new.disk
-  pub reaches : (parts : ℕ → Part) → IsHeld parts old.guests old.broken (shows old.disk)
+    (old new : KeeperState D) : Type 0 where
+  pub many : length new.store.guests ≡ length old.store.guests
+  pub len : (shows new.store.disk).len ≡ (shows old.store.disk).len
+  pub faithful : (shows new.store.disk).faithful ≡ (shows old.store.disk).faithful
+  pub later : (shows old.store.disk).failures ≤ (shows new.store.disk).failures
+  pub cause : new.store.broken ≡ true → (old.store.broken ≡ true)
+      ⊎ HasRisen (shows old.store.disk).failures (shows new.store.disk).failures
+  pub front : (shows old.store.disk).faithful ≡ true
+      → Within shows makes (FrontStays (shows old.store.disk)) old.store.disk new.store.disk
+  pub reaches : (parts : ℕ → Part)
+      → IsHeld parts old.store.guests old.store.broken (shows old.store.disk)
       → Reaches shows makes parts old new
+
+-- a store that begins with these keys
+abbrev pub KeepsFrom : {D : Type 0} → (D → DiskState) → (D → DiskCall → D → Type 0)
+    → List (Option (List ℕ)) → StoreState D → StoreState D → Type 0
+KeepsFrom shows makes keys old new = (now : List (Option (List ℕ)))
+    × Keeps shows makes (record { store = old; keys = keys }) (record { store = new; keys = now })
+
+-- Threads kept the partitions of so many guests, whose keys the book knew.
+abbrev pub KeepsGuests : {D : Type 0} → (D → DiskState) → (D → DiskCall → D → Type 0) → ℕ
+    → BookView → StoreState D → StoreState D → Type 0
+KeepsGuests shows makes many book old new = (keys : List (Option (List ℕ)))
+    × HasKeys many book keys × KeepsFrom shows makes keys old new
+
+-- What the store was given is just what the book gave for it to be kept.
+pub record GivesTaken (book : BookView) (shares : List ℕ) (guest : ℕ)
+    (old new : List Guest) : Type 0 where
+  pub intent : Intent
+  pub taken : take_answer book shares guest ≡ Ok (Some intent)
+  pub gives : Gives intent old new
 
 -- whatever store it began with
 abbrev pub KeepsOn : {D : Type 0} → (D → DiskState) → (D → DiskCall → D → Type 0)
-    → StoreState D → StoreState D → Type 0
+    → KeeperState D → KeeperState D → Type 0
 KeepsOn shows makes old new =
-    (first : StoreState _) → Keeps shows makes first old → Keeps shows makes first new
+    (first : KeeperState _) → Keeps shows makes first old → Keeps shows makes first new
 
 -- a flag that said whether the store had broken says so still
-abbrev pub IsHeard : {D : Type 0} → StoreState D → Bool → StoreState D → Bool → Type 0
-IsHeard old told new now_told = old.broken ≡ told → new.broken ≡ now_told
+abbrev pub IsHeard : {D : Type 0} → KeeperState D → Bool → KeeperState D → Bool → Type 0
+IsHeard old told new now_told = old.store.broken ≡ told → new.store.broken ≡ now_told
 
 -- what a flusher leaves: the store keeps what it kept, and the flag says whether it broke
 abbrev pub LeftBy : {D : Type 0} → (D → DiskState) → (D → DiskCall → D → Type 0)
-    → StoreState D → Bool → StoreState D → Bool → Type 0
+    → KeeperState D → Bool → KeeperState D → Bool → Type 0
 LeftBy shows makes old told new now_told =
     KeepsOn shows makes old new × IsHeard old told new now_told

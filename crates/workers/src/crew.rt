@@ -67,8 +67,8 @@ impl Promise<DriverEnd> for OfScript {
 pub(crate) struct OfFlusher<D: Disk>(Snapshot<Flusher<D>>);
 
 impl<D: Disk> Promise<FlusherEnd<D>> for OfFlusher<D> {
-    ghost kept_by = { λ p e. LeftBy D.state D.makes p.0.value.store p.0.value.broken
-        e.store e.broken };
+    ghost kept_by = { λ p e. LeftBy D.state D.makes p.0.value.keeper p.0.value.broken
+        e.keeper e.broken };
 }
 
 /// What the threads have left.
@@ -152,15 +152,15 @@ fn start_flusher<
     gate: &'s G,
     flusher: Flusher<D>,
 ) -> Result<PromisedHandle<FlusherEnd<D>, OfFlusher<D>>, HostFault>
-    requires { Follow flusher.shares flusher.store.guests }
+    requires { Follow flusher.shares flusher.keeper.store.guests }
     ensures { IfOk result (λ h. h.promise.0.value ≡ flusher) }
 {
     let started = scope.spawn_with(
         OfFlusher(Snapshot::of(&flusher)),
         move || -> FlusherEnd<D>
-            requires { Follow flusher.shares flusher.store.guests }
-            ensures keeps { KeepsOn D.state D.makes flusher.store result.store }
-            ensures heard { IsHeard flusher.store flusher.broken result.store result.broken }
+            requires { Follow flusher.shares flusher.keeper.store.guests }
+            ensures keeps { KeepsOn D.state D.makes flusher.keeper result.keeper }
+            ensures heard { IsHeard flusher.keeper flusher.broken result.keeper result.broken }
         { flusher.run(rt, &hall.desk, &hall.bell, gate) },
     );
     match started {
@@ -238,7 +238,7 @@ fn start_all<
     scripts: &'s [Script],
     flusher: Flusher<D>,
 ) -> Result<Started<L, D>, HostFault>
-    requires { Follow flusher.shares flusher.store.guests }
+    requires { Follow flusher.shares flusher.keeper.store.guests }
     ensures workers { IfOk result (λ s. vec_len s.workers ≡ vec_len workers) }
     ensures guests { IfOk result (λ s. map (λ h. h.promise.0) s.workers.items
         ≡ guests_of workers.items) }
@@ -274,8 +274,8 @@ fn join_all<L: Ledger, D: Disk + Drop, R: Threads>(
     ensures drivers { IfOk result (λ c. vec_len c.drivers ≡ length scripts.now) }
     ensures each { IfOk result (λ c. Left c.drivers.items scripts.now) }
     ensures flusher { IfOk result (λ c. LeftBy D.state D.makes
-        started.flusher.promise.0.value.store started.flusher.promise.0.value.broken
-        c.flusher.store c.flusher.broken) }
+        started.flusher.promise.0.value.keeper started.flusher.promise.0.value.broken
+        c.flusher.keeper c.flusher.broken) }
 {
     let Started {
         workers,
@@ -314,14 +314,14 @@ fn run_in<
     scripts: &'s [Script],
     flusher: Flusher<D>,
 ) -> Result<Crew<L, D>, HostFault>
-    requires { Follow flusher.shares flusher.store.guests }
+    requires { Follow flusher.shares flusher.keeper.store.guests }
     ensures workers { IfOk result (λ c. vec_len c.workers ≡ vec_len workers) }
     ensures guests { IfOk result (λ c. guests_of c.workers.items
         ≡ guests_of workers.items) }
     ensures drivers { IfOk result (λ c. vec_len c.drivers ≡ length scripts.now) }
     ensures each { IfOk result (λ c. Left c.drivers.items scripts.now) }
     ensures flusher { IfOk result (λ c. LeftBy D.state D.makes
-        flusher.store flusher.broken c.flusher.store c.flusher.broken) }
+        flusher.keeper flusher.broken c.flusher.keeper c.flusher.broken) }
 {
     match start_all(scope, rt, alloc, hall, gate, workers, scripts, flusher) {
         Ok(started) => join_all(rt, started, scripts),
@@ -347,27 +347,27 @@ pub(crate) fn run_all<
     scripts: &[Script],
     flusher: Flusher<D>,
 ) -> Result<Crew<L, D>, HostFault>
-    requires { Follow flusher.shares flusher.store.guests }
+    requires { Follow flusher.shares flusher.keeper.store.guests }
     ensures workers { IfOk result (λ c. vec_len c.workers ≡ vec_len workers) }
     ensures guests { IfOk result (λ c. guests_of c.workers.items
         ≡ guests_of workers.items) }
     ensures drivers { IfOk result (λ c. vec_len c.drivers ≡ length scripts.now) }
     ensures each { IfOk result (λ c. Left c.drivers.items scripts.now) }
     ensures flusher { IfOk result (λ c. LeftBy D.state D.makes
-        flusher.store flusher.broken c.flusher.store c.flusher.broken) }
+        flusher.keeper flusher.broken c.flusher.keeper c.flusher.broken) }
 {
     thread::scope(
         thread::scope_env(),
         rt,
         |scope| -> Result<Crew<L, D>, HostFault>
-            requires { Follow flusher.shares flusher.store.guests }
+            requires { Follow flusher.shares flusher.keeper.store.guests }
             ensures workers { IfOk result (λ c. vec_len c.workers ≡ vec_len workers) }
             ensures guests { IfOk result (λ c. guests_of c.workers.items
                 ≡ guests_of workers.items) }
             ensures drivers { IfOk result (λ c. vec_len c.drivers ≡ length scripts.entry.now) }
             ensures each { IfOk result (λ c. Left c.drivers.items scripts.entry.now) }
             ensures flusher { IfOk result (λ c. LeftBy D.state D.makes
-                flusher.store flusher.broken c.flusher.store c.flusher.broken) }
+                flusher.keeper flusher.broken c.flusher.keeper c.flusher.broken) }
         { run_in(scope, rt, alloc, hall, gate, workers, scripts, flusher) },
     )
 }

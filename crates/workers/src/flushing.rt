@@ -2,14 +2,15 @@
 //! settled.
 ghost use Rattle.std.specs.Prelude.{◌≡◌, None, Ok, OnOk, true};
 ghost use Rattle.workers.specs.Following.{Follow, IsAtRest};
-ghost use Rattle.workers.specs.Keeping.{IsHeard, KeepsOn};
+ghost use Rattle.workers.specs.Keeping.{GivesTaken, IsHeard, KeepsOn};
 
 use crate::bell::{Actor, Bell, Rest};
 use crate::desk::Desk;
 use crate::gate::{Gate, Place, Who};
+use crate::keeper::Keeper;
 use crate::seat::Next;
 use disk::Disk;
-use flusher::{Call, Made, Store, StoreFault};
+use flusher::{Call, Made, StoreFault};
 use host::HostFault;
 use rpmb_book::Shares;
 use std::sync::ledger::Ledger;
@@ -19,7 +20,7 @@ use std::sync::{Mutex, Wait};
 /// it last gave to the store.
 #[derive(Drop)]
 pub(crate) struct Flusher<D: Disk> {
-    store: Store<D>,
+    keeper: Keeper<D>,
     shares: Shares,
     guests: u16,
     /// Whether a call of the disk has failed. The book is told before the next look.
@@ -30,7 +31,7 @@ pub(crate) struct Flusher<D: Disk> {
 #[derive(Drop)]
 pub(crate) struct FlusherEnd<D: Disk> {
     /// The store, to which nothing more is given.
-    pub store: Store<D>,
+    pub keeper: Keeper<D>,
     /// What was taken of each guest.
     pub shares: Shares,
     /// Whether a call of the disk has failed.
@@ -39,16 +40,16 @@ pub(crate) struct FlusherEnd<D: Disk> {
     pub complete: bool,
     /// Why it ended before.
     pub fault: Option<HostFault>,
-    ghost follows: { fault ≡ None → Follow shares store.guests },
-    ghost rests: { complete ≡ true → IsAtRest store.broken store.guests },
+    ghost follows: { fault ≡ None → Follow shares keeper.store.guests },
+    ghost rests: { complete ≡ true → IsAtRest keeper.store.broken keeper.store.guests },
 }
 
 impl<D: Disk> Flusher<D> {
-    pub fn new(store: Store<D>, shares: Shares, guests: u16, broken: bool) -> Flusher<D>
-        ensures { (result.shares ≡ shares) × (result.store ≡ store) × (result.broken ≡ broken) }
+    pub fn new(keeper: Keeper<D>, shares: Shares, guests: u16, broken: bool) -> Flusher<D>
+        ensures { (result.shares ≡ shares) × (result.keeper ≡ keeper) × (result.broken ≡ broken) }
     {
         Flusher {
-            store,
+            keeper,
             shares,
             guests,
             broken,
@@ -59,22 +60,23 @@ impl<D: Disk> Flusher<D> {
     /// Whether it did.
     #[tactic(auto, using(crate::proofs::Following::follow_given))]
     fn take<L: Ledger>(&mut self, desk: &mut Desk<L>, guest: u16) -> Result<bool, HostFault>
-        requires { Follow self.old.shares self.old.store.guests }
-        ensures follows { OnOk result (Follow self.new.shares self.new.store.guests) }
-        ensures keeps { KeepsOn D.state D.makes self.old.store self.new.store }
-        ensures heard { IsHeard self.old.store self.old.broken self.new.store self.new.broken }
+        requires { Follow self.old.shares self.old.keeper.store.guests }
+        ensures follows { OnOk result (Follow self.new.shares self.new.keeper.store.guests) }
+        ensures keeps { KeepsOn D.state D.makes self.old.keeper self.new.keeper }
+        ensures heard { IsHeard self.old.keeper self.old.broken self.new.keeper self.new.broken }
+        ensures given { result ≡ Ok true → GivesTaken desk.old self.old.shares guest
+            self.old.keeper.store.guests self.new.keeper.store.guests }
     {
-        if !self.store.is_free(guest) {
+        if !self.keeper.is_free(guest) {
             return Ok(false);
         }
         match desk.take(&mut self.shares, guest) {
             Err(_) => Err(HostFault::Foreign),
             Ok(None) => Ok(false),
             Ok(Some(intent)) => {
-                if intent.guest() != guest || !self.store.takes(&intent) {
+                if intent.guest() != guest || !self.keeper.give(intent) {
                     return Err(HostFault::Foreign);
                 }
-                self.store.give(intent);
                 Ok(true)
             }
         }
@@ -82,10 +84,10 @@ impl<D: Disk> Flusher<D> {
 
     /// Takes what waits for each guest with a free slot. Whether there was something.
     fn take_all<L: Ledger>(&mut self, desk: &mut Desk<L>) -> Result<bool, HostFault>
-        requires { Follow self.old.shares self.old.store.guests }
-        ensures follows { OnOk result (Follow self.new.shares self.new.store.guests) }
-        ensures keeps { KeepsOn D.state D.makes self.old.store self.new.store }
-        ensures heard { IsHeard self.old.store self.old.broken self.new.store self.new.broken }
+        requires { Follow self.old.shares self.old.keeper.store.guests }
+        ensures follows { OnOk result (Follow self.new.shares self.new.keeper.store.guests) }
+        ensures keeps { KeepsOn D.state D.makes self.old.keeper self.new.keeper }
+        ensures heard { IsHeard self.old.keeper self.old.broken self.new.keeper self.new.broken }
     {
         let mut moved = false;
         for guest in 0..self.guests {
@@ -98,13 +100,13 @@ impl<D: Disk> Flusher<D> {
 
     /// Makes the next call of the disk, with no lock held.
     fn call<G: Gate>(&mut self, gate: &G) -> Result<Made, StoreFault>
-        requires { Follow self.old.shares self.old.store.guests }
-        ensures follows { Follow self.new.shares self.new.store.guests }
-        ensures keeps { KeepsOn D.state D.makes self.old.store self.new.store }
-        ensures heard { IsHeard self.old.store self.old.broken self.new.store self.new.broken }
+        requires { Follow self.old.shares self.old.keeper.store.guests }
+        ensures follows { Follow self.new.shares self.new.keeper.store.guests }
+        ensures keeps { KeepsOn D.state D.makes self.old.keeper self.new.keeper }
+        ensures heard { IsHeard self.old.keeper self.old.broken self.new.keeper self.new.broken }
     {
         gate.at(Who::Flusher, Place::BeforeCall);
-        let made = self.store.advance();
+        let made = self.keeper.advance();
         self.broken = made.is_err();
         made
     }
@@ -118,20 +120,20 @@ impl<D: Disk> Flusher<D> {
         bell: &Bell,
         gate: &G,
     ) -> Result<(), HostFault>
-        requires { Follow self.old.shares self.old.store.guests }
-        ensures follows { Follow self.new.shares self.new.store.guests }
-        ensures keeps { KeepsOn D.state D.makes self.old.store self.new.store }
-        ensures heard { IsHeard self.old.store self.old.broken self.new.store self.new.broken }
+        requires { Follow self.old.shares self.old.keeper.store.guests }
+        ensures follows { Follow self.new.shares self.new.keeper.store.guests }
+        ensures keeps { KeepsOn D.state D.makes self.old.keeper self.new.keeper }
+        ensures heard { IsHeard self.old.keeper self.old.broken self.new.keeper self.new.broken }
     {
-        let before = self.store.marks();
+        let before = self.keeper.marks();
         match self.call(gate) {
             Ok(Made::Synced) => {
-                let marks = self.store.marks();
+                let marks = self.keeper.marks();
                 let settled = desk.lock(rt).settle(&self.shares, marks);
                 if settled.is_err() {
                     return Err(HostFault::Foreign);
                 }
-                let now = self.store.marks();
+                let now = self.keeper.marks();
                 bell.ring_settled(rt, before.sequences(), now.sequences());
             }
             Ok(Made::Wrote) => {}
@@ -153,19 +155,19 @@ impl<D: Disk> Flusher<D> {
         gate: &G,
         workers_ended: usize,
     ) -> Result<Next, HostFault>
-        requires { Follow self.old.shares self.old.store.guests }
-        ensures follows { OnOk result (Follow self.new.shares self.new.store.guests) }
+        requires { Follow self.old.shares self.old.keeper.store.guests }
+        ensures follows { OnOk result (Follow self.new.shares self.new.keeper.store.guests) }
         ensures rests { result ≡ Ok Next.End
-            → IsAtRest self.new.store.broken self.new.store.guests }
-        ensures keeps { KeepsOn D.state D.makes self.old.store self.new.store }
-        ensures heard { IsHeard self.old.store self.old.broken self.new.store self.new.broken }
+            → IsAtRest self.new.keeper.store.broken self.new.keeper.store.guests }
+        ensures keeps { KeepsOn D.state D.makes self.old.keeper self.new.keeper }
+        ensures heard { IsHeard self.old.keeper self.old.broken self.new.keeper self.new.broken }
     {
         let taken = if self.broken {
             false
         } else {
             self.take_all(&mut desk.lock(rt))?
         };
-        if self.store.next_call() != Call::None {
+        if self.keeper.next_call() != Call::None {
             self.advance(rt, desk, bell, gate)?;
             return Ok(Next::Again);
         }
@@ -188,11 +190,11 @@ impl<D: Disk> Flusher<D> {
         bell: &Bell,
         gate: &G,
     ) -> Result<bool, HostFault>
-        requires { Follow self.old.shares self.old.store.guests }
-        ensures follows { OnOk result (Follow self.new.shares self.new.store.guests) }
-        ensures rests { result ≡ Ok true → IsAtRest self.new.store.broken self.new.store.guests }
-        ensures keeps { KeepsOn D.state D.makes self.old.store self.new.store }
-        ensures heard { IsHeard self.old.store self.old.broken self.new.store self.new.broken }
+        requires { Follow self.old.shares self.old.keeper.store.guests }
+        ensures follows { OnOk result (Follow self.new.shares self.new.keeper.store.guests) }
+        ensures rests { result ≡ Ok true → IsAtRest self.new.keeper.store.broken self.new.keeper.store.guests }
+        ensures keeps { KeepsOn D.state D.makes self.old.keeper self.new.keeper }
+        ensures heard { IsHeard self.old.keeper self.old.broken self.new.keeper self.new.broken }
     {
         let mut rest = Rest::begin(rt, bell, Actor::flusher());
         for _ in rt.forever() {
@@ -216,9 +218,9 @@ impl<D: Disk> Flusher<D> {
         bell: &Bell,
         gate: &G,
     ) -> FlusherEnd<D>
-        requires { Follow self.shares self.store.guests }
-        ensures keeps { KeepsOn D.state D.makes self.store result.store }
-        ensures heard { IsHeard self.store self.broken result.store result.broken }
+        requires { Follow self.shares self.keeper.store.guests }
+        ensures keeps { KeepsOn D.state D.makes self.keeper result.keeper }
+        ensures heard { IsHeard self.keeper self.broken result.keeper result.broken }
     {
         match self.work(rt, desk, bell, gate) {
             Ok(complete) => self.into_end(complete, None),
@@ -230,18 +232,19 @@ impl<D: Disk> Flusher<D> {
     }
 
     fn into_end(self, complete: bool, fault: Option<HostFault>) -> FlusherEnd<D>
-        requires follows { fault ≡ None → Follow self.shares self.store.guests }
-        requires rests { complete ≡ true → IsAtRest self.store.broken self.store.guests }
-        ensures { (result.store ≡ self.store) × (result.broken ≡ self.broken) }
+        requires follows { fault ≡ None → Follow self.shares self.keeper.store.guests }
+        requires rests { complete ≡ true
+            → IsAtRest self.keeper.store.broken self.keeper.store.guests }
+        ensures { (result.keeper ≡ self.keeper) × (result.broken ≡ self.broken) }
     {
         let Flusher {
-            store,
+            keeper,
             shares,
             guests: _,
             broken,
         } = self;
         FlusherEnd {
-            store,
+            keeper,
             shares,
             broken,
             complete,

@@ -1,4 +1,6 @@
 //! `HookDisk` tells its hook of each sync, before the disk makes it, and of no other call.
+ghost use Rattle.disk.specs.FileDisk.{unknown_effect, unknown_file};
+
 use super::{read, write};
 use disk::{Disk, FileDisk, Hook, HookDisk, PositionedFile};
 use std::io;
@@ -36,7 +38,11 @@ struct Noted<'a> {
 }
 
 impl PositionedFile for Noted<'_> {
+    ghost shows = { λ file. unknown_file };
+
     ghost made = { λ old call new. Unit {0} };
+
+    ghost effect = { λ old new call made. unknown_effect call };
 
     fn read_at(&mut self, at: u64, out: &mut [u8]) -> io::Result<usize> {
         note(self.notes, WAS_READ);

@@ -1,4 +1,3 @@
-use Rattle.std.proofs.Common.{rules}
 use Rattle.disk.proofs.OutboxLemmas.{put_sound, put_view}
 use Rattle.disk.proofs.outbox.Outbox.put.Goals as goal
 
