@@ -19,6 +19,6 @@ pub use Rattle.chains.specs.declared.descriptor.Descriptor.{Descriptor}
 pub use Rattle.chains.specs.declared.fault.ChainFault.{ChainFault}
 pub use Rattle.chains.specs.declared.fault.ChainFault.TheVariants.{TooLong, BadRange, Order, BadTable}
 pub use Rattle.chains.specs.declared.fault.RingFault.{RingFault}
-pub use Rattle.chains.specs.declared.fault.RingFault.TheVariants.{NoMemory, Refused, OldNumber}
+pub use Rattle.chains.specs.declared.fault.RingFault.TheVariants.{NoMemory, Refused}
 pub use Rattle.chains.specs.declared.popped.Outstanding.{Outstanding}
 pub use Rattle.chains.specs.declared.range.Range.{Range}

@@ -119,13 +119,13 @@ impl<R: Rules> Ring<R> {
 
     /// Pops the chain at the place after those popped, or answers `None` where that place isn't
     /// available. Both write for the driver what the ring's kind has them write, and nothing else.
-    /// The chain is known by `number` from then on.
+    /// The chain is known by `number` from then on, which has to be above those of the chains popped
+    /// before: `last` tells the last of them.
     ///
     /// It counts `reads` anew, and reads each descriptor once, up to the first that fails a test:
     /// at most the queue size and 1,024.
     ///
-    /// Answers a fault for what the driver made available against the rules, `NoMemory`, and
-    /// `OldNumber` exactly where the number isn't above those of the chains popped before; then the
+    /// Answers a fault for what the driver made available against the rules, or `NoMemory`; then the
     /// ring and the memory stay as they were.
     pub fn pop(
         &mut self,
@@ -135,20 +135,17 @@ impl<R: Rules> Ring<R> {
         number: u64,
     ) -> Result<Option<Popped>, RingFault>
         requires areas { R.areas (length memory.old) self.old }
+        requires new { self.old.last < number }
         ensures pops { Pops R.next R.members R.event memory.old self.old number result memory.new
             self.new }
         ensures stays { Stays R.areas memory.old memory.new self.new }
-        ensures old_number { number ≤ self.old.last → result ≡ Err RingFault.OldNumber }
         ensures inside { IfOk result (λ popped.
             IfSome popped (λ popped. AreInside (length memory.old) popped.chain.writable)) }
         ensures reads { CountsReads result reads.old reads.new
             (reads_of (length memory.old) false (R.members memory.old self.old)) }
         ensures few { reads.new.count ≤ self.old.size + 1024 }
     {
-        if number <= self.counts.last() {
-            reads.clear();
-            return Err(RingFault::OldNumber);
-        }
+        let _last = self.counts.last();
         let Some(popped) = self.find(alloc, memory, reads)? else {
             R::write_event(&self.counts, memory);
             return Ok(None);

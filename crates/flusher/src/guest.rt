@@ -98,6 +98,13 @@ fn mark_after(slot: &Option<Slot>, mark: u64) -> u64
     }
 }
 
+/// At which side the next intent goes where both slots are empty.
+fn first_side() -> Side
+    ensures { result ≡ Side.A }
+{
+    Side::A
+}
+
 /// Moves a slot as its write does.
 fn move_written(slot: &mut Option<Slot>)
     ensures { slot.new ≡ after_write slot.old }
@@ -117,7 +124,7 @@ impl Guest {
             extent,
             mark: sequence,
             paired,
-            side: Side::A,
+            side: first_side(),
             slot: None,
             behind: None,
         }
@@ -292,7 +299,7 @@ impl Guest {
     {
         if self.slot.is_none() {
             self.side = if self.behind.is_none() {
-                Side::A
+                first_side()
             } else {
                 self.side.other()
             };

@@ -102,6 +102,7 @@ begun_shut cs g key told_key counter told_counter capacity n blocks here p paire
   mark = mark ∙ ap (λ k. sequence_of k counter) (sym same_key) ∙ ap (λ m. sequence_of told_key m) (sym same_counter) ∙ sym (ap (λ v. sequence_of v.key v.counter) q);
   small = subst (λ m. m ≤ 2 ^ 32) (sym mark) (bound key);
   slot = tt;
+  side = λ empty. refl;
   behind = tt;
   number = tt;
   number_behind = tt;
@@ -195,6 +196,7 @@ begun_one cs g redone_blocks key i told_counter capacity here p paired side own 
   mark = ap (λ m. m + 1) (sym same_counter) ∙ sym (ap (λ v. sequence_of v.key v.counter) q);
   small = (let one = fits.one in let counters = fits.counters in omega (arith, one, counters));
   slot = refl;
+  side = λ empty. absurd (cc);
   behind = tt;
   number = own;
   number_behind = tt;
@@ -291,6 +293,7 @@ begun_two cs g blocks key i j told_counter capacity here p side own also fits th
   mark = ap (λ m. m + 1) (sym same_counter) ∙ sym (ap (λ v. sequence_of v.key v.counter) q);
   small = (let one = then.one in let counters = then.counters in omega (arith, one, counters));
   slot = refl;
+  side = λ empty. absurd (cc);
   behind = refl;
   number = own;
   number_behind = also;

@@ -6,6 +6,7 @@ use Rattle.disk.specs.Content.{Content, zeros}
 use Rattle.disk.specs.Disk.{DiskState, DiskCall, Sync, MayLeave}
 use Rattle.intent_slots.specs.Header.{HasMagic, HasCapacities}
 use Rattle.intent_slots.specs.Layout.{region_at, image_length}
+use Rattle.intent_slots.specs.declared.layout.Side.TheVariants.{A}
 use Rattle.intent_slots.specs.Payload.{Intent}
 use Rattle.intent_slots.specs.Recovered.{Part, part_of, Stands}
 use Rattle.flusher.specs.declared.phase.Phase.TheVariants.{Open}
@@ -103,6 +104,8 @@ pub record IsBegun (capacities : List ℕ) (g : ℕ) (x : Guest) (p : Partition)
   pub mark : mark_of x ≡ sequence_of p.key p.counter
   pub small : mark_of x ≤ 2 ^ 32
   pub slot : IsFirst x.slot
+  -- both slots are empty: the next intent goes to slot A
+  pub side : x.slot ≡ None → x.side ≡ A
   pub behind : IsFirst x.behind
   pub number : IsOf g (intent_of x.slot)
   pub number_behind : IsOf g (intent_of x.behind)

@@ -1,5 +1,6 @@
 //! The front of an image: its header, its length and its version.
 ghost use Rattle.std.specs.Prelude.{◌≡◌, ◌≤◌, ℕ, true, false, length, is_ok, not, IfOk, OnOk, Err};
+ghost use Rattle.disk.specs.Disk.{Sync};
 ghost use Rattle.intent_slots.specs.Layout.{image_length};
 ghost use Rattle.intent_slots.specs.Recovered.{is_paired};
 ghost use Rattle.recovery.specs.Front.{SyncsAndReads, TellsVersion};
@@ -37,6 +38,14 @@ fn read_version<D: Disk>(disk: &mut D) -> Result<bool, DiskFault>
     Ok(version[0] == 2)
 }
 
+/// Makes the sync before which nothing of an image is read: until then a stop may take away what
+/// reads give.
+fn sync_first<D: Disk>(disk: &mut D) -> Result<(), DiskFault>
+    ensures call { D.makes disk.old (Sync (is_ok result)) disk.new }
+{
+    disk.sync()
+}
+
 /// Whether the image is of version 2, after a sync: header, length and version byte are looked at,
 /// and nothing else.
 pub(crate) fn check<D: Disk>(disk: &mut D, layout: &Layout) -> Result<bool, OpenFault>
@@ -50,7 +59,7 @@ pub(crate) fn check<D: Disk>(disk: &mut D, layout: &Layout) -> Result<bool, Open
         (λ c. TellsVersion layout.now (D.state disk.old).len c result) }
 {
     let _guests = layout.guests();
-    disk.sync()?;
+    sync_first(disk)?;
     read_header(disk, layout)?;
     if disk.len() != layout.length() {
         return Err(OpenFault::NotFormatted);

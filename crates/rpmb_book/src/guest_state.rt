@@ -1,5 +1,6 @@
 ghost use Rattle.std.specs.Prelude.{◌≡◌, ◌+◌, ◌++◌, ◌-◌, ◌*◌, ◌/◌, ◌<◌, ◌≤◌, ◌^◌, [], IfOk};
-ghost use Rattle.std.specs.Prelude.{if◌then◌else◌, is_some, length, take, drop};
+ghost use Rattle.std.specs.Prelude.{if◌then◌else◌, is_some, length, take, drop, option_to_list};
+ghost use Rattle.std.specs.VecDeque.{deque_capacity};
 ghost use Rattle.intent_slots.specs.Payload.{EntriesFit};
 ghost use Rattle.rpmb_frame.specs.Request.{frames_of};
 ghost use Rattle.rpmb_core.specs.Reply.{closed};
@@ -8,7 +9,7 @@ ghost use Rattle.rpmb_book.specs.Planned.{IsFailure, IsPlanned};
 ghost use Rattle.rpmb_book.specs.GuestPlanned.{IsGuestPlanned, is_failure};
 ghost use Rattle.rpmb_book.specs.Allowed.{HasPlaces};
 ghost use Rattle.rpmb_book.specs.Left.{left_of};
-ghost use Rattle.std.specs.Prelude.{true, false, map};
+ghost use Rattle.std.specs.Prelude.{true, false, map, IsSome, ◌↔◌};
 ghost use Rattle.rpmb_book.specs.Guest.{submitted, answer_when, took, settled_at, collected};
 ghost use Rattle.rpmb_book.specs.Guest.{broken_off, kept_or_failed, first_due, first_intent, fresh};
 
@@ -247,7 +248,7 @@ impl GuestState {
         ensures intent { result ≡ first_intent guest self.old }
         ensures state { self.new ≡ took self.old }
     {
-        let first = self.waiting.pop_front()?;
+        let first = take_oldest(&mut self.waiting)?;
         let mut intent = Intent::new(guest, self.core.key(), self.taken as u32, first);
         let waiting = &mut self.waiting;
         for _ in 1..MOST {
@@ -290,6 +291,15 @@ impl GuestState {
             Some(held) => Some(held.due()),
         }
     }
+}
+
+/// The oldest request that waits for the store, which from then on waits no more.
+fn take_oldest(waiting: &mut VecDeque<Entry>) -> Option<Entry>
+    ensures items { waiting.old.items ≡ option_to_list result ++ waiting.new.items }
+    ensures some { IsSome result ↔ 0 < length waiting.old.items }
+    ensures room { deque_capacity waiting.new ≡ deque_capacity waiting.old }
+{
+    waiting.pop_front()
 }
 
 fn break_held(held: &mut [Held], settled: u64)
