@@ -40,7 +40,7 @@ use Rattle.board.specs.declared.step.Step.{Step}
 use Rattle.board.specs.declared.step.Step.TheVariants as step
 use Rattle.board.specs.declared.step.Seen.TheVariants as seen
 use Rattle.board.specs.declared.step.StepFault.TheVariants as fault
-use Rattle.board.specs.State.{BoardState, HasJob, HasNoJob, guests, in_place}
+use Rattle.board.specs.State.{BoardState, HasJob, guests, in_place}
 use Rattle.board.specs.Steps.{Advances, Answer, Does}
 use Rattle.board.specs.Board.{LeavesPrefixes, accepted_after}
 use Rattle.board.specs.Opening.{AreRequests, Begins, Calls, CallsRefused, GoesOn, Stands, bases_of}
@@ -167,6 +167,10 @@ pub record StepsIn (s : Step) (b : BoardState CutState) (old : WorldState) (told
     popped = popped_after old.openings s answer board old.popped;
   }
 
+-- guest n is there, and no job of it lies between two steps
+abbrev pub HasEmptyPlace : {D : Type 0} → ℕ → BoardState D → Type 0
+HasEmptyPlace n b = slice_get b.jobs n ≡ Some None
+
 -- A Pop into an empty place, or a Submit of a job, is refused where there is no memory for what is
 -- noted of it, and then nothing changes. No other step is.
 abbrev pub LacksRoom : Step → BoardState CutState → WorldState → Option Refusal → WorldState
@@ -174,7 +178,7 @@ abbrev pub LacksRoom : Step → BoardState CutState → WorldState → Option Re
 LacksRoom (step.Submit n) b old told new = HasJob n b
     × (told ≡ Some (refusal.Step (fault.Book refused.NoMemory))) × (new ≡ old)
 LacksRoom (step.Drive n act) b old told new = ⊥
-LacksRoom (step.Pop n) b old told new = HasNoJob n b
+LacksRoom (step.Pop n) b old told new = HasEmptyPlace n b
     × (told ≡ Some (refusal.Step (fault.Device device_fault.NoMemory))) × (new ≡ old)
 LacksRoom (step.Collect n) b old told new = ⊥
 LacksRoom (step.Publish n) b old told new = ⊥
