@@ -251,6 +251,8 @@ pub record Opens (d : CutState) (old : WorldState) (told : Option Refusal)
   -- each guest's partition is what reads of the disk gave
   pub stand : Stands old.config (content_of d.seen) board
   pub calls : Calls CutMakes d (Ok board)
+  -- none of them failed
+  pub unfailed : board.store.disk.failures ≡ d.failures
   -- every stop leaves an image of the board then
   pub rest : IsAtRest (capacities_of old.config) (cut_state board.store.disk)
   pub after : new ≡ opened_world old.openings old board begins.partitions
