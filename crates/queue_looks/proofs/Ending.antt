@@ -1,9 +1,10 @@
 -- A call of the store, and what a host that is finished keeps over it.
-use Rattle.std.proofs.Common.{◌≡◌, ◌<◌, Bool, true, false, None, Some, Result, Ok, Err, refl, ap, sym, subst, ◌∙◌, ◌+◌, ℕ, List, length, take, arith}
-use Rattle.queue_looks.proofs.Common.{DiskCall, DiskState, called, left_of, Progress, Synced, Idle, AllEmpty, StoreFault, IsSound, Moves, BoardState, guests, report_of, sound_moved, GoesBy, GoesOn, Hears, IsListened, book_heard, is_broken, IsCalm, Rests, runner_of, slice_get, option_map, length-map, get_or_from_slice_get, slice_get_within, sequence, sequence_of_all, marks_of, mark_of, GuestState, marks_at, Wrote, Round, planned, round_lowers, marks_in, Advances, AdvancesUnder, SettlesBy, advance_answer, went_by, LeavesAll, take_all, slice_get-map}
+use Rattle.std.proofs.Common.{◌≡◌, ◌<◌, Bool, true, false, None, Some, Result, Ok, Err, refl, ap, ap₂, sym, subst, ◌∙◌, ◌+◌, ℕ, List, length, take, arith}
+use Rattle.queue_looks.proofs.Common.{DiskCall, DiskState, called, left_of, Progress, Synced, Idle, AllEmpty, StoreFault, IsSound, Moves, BoardState, guests, report_of, sound_moved, GoesBy, GoesOn, Hears, IsListened, book_heard, is_broken, IsCalm, Rests, runner_of, runner_since, slice_get, length-map, get_or_from_slice_get, slice_get_within, sequence, sequence_of_all, marks_of, mark_of, GuestState, marks_at, Wrote, Round, planned, round_lowers, marks_in, Advances, AdvancesUnder, SettlesBy, advance_answer, went_by, LeavesAll, take_all, slice_get-map}
 use Rattle.flusher.proofs.Endings.{round_badly, round_idle, round_well}
 use Rattle.board.specs.Steps.{Answer}
-use Rattle.queue_looks.proofs.Settled.{settle_keeps, state_of, also_there, below, cores_in}
+use Rattle.queue_looks.proofs.Settled.{break_breaks, settle_keeps, state_of, also_there, below, cores_in}
+use Rattle.queue_looks.proofs.Since.{runner_twice, since_still, since_whole}
 use Rattle.rpmb_core.specs.Requests.{partition_after_all}
 use Rattle.intent_slots.specs.Layout.{capacities_of, region_at}
 use Rattle.intent_slots.specs.Recovered.{Stands, part_of}
@@ -61,8 +62,26 @@ module _ {D : Type 0} (shows : D → DiskState) (makes : D → DiskCall → D �
   pub heard_lowers : called h.progress ≡ true → left_of h.store.guests < left_of b.store.guests
   heard_lowers made = round_lowers makes b.store.disk b.store.guests h.progress h.store.disk h.store.guests h.store.broken h.round made
 
+  -- what answers depend on stays, where nothing broke
+  stayed : runner_of b' ≡ runner_of b → is_broken b' ≡ is_broken b → runner_of b' ≡ runner_since (is_broken b) (is_broken b') (runner_of b)
+  stayed runner broken = runner ∙ sym (since_still (is_broken b) (runner_of b)) ∙ ap (λ k. runner_since (is_broken b) k (runner_of b)) (sym broken)
+
+  heard_runner : runner_of b' ≡ runner_since (is_broken b) (is_broken b') (runner_of b)
+  heard_runner = by h.progress refl
+    where
+      by : (p : Result Progress StoreFault) → h.progress ≡ p → runner_of b' ≡ runner_since (is_broken b) (is_broken b') (runner_of b)
+      by (Ok Wrote) is = stayed (ap runner_of (heard_at (Ok Wrote) is)) (ap is_broken (heard_at (Ok Wrote) is))
+      by (Ok Idle) is = stayed (ap runner_of (heard_at (Ok Idle) is)) (ap is_broken (heard_at (Ok Idle) is))
+      by (Ok (Synced marks)) is =
+          let kept = settle_keeps b.book b.shares marks in
+          stayed (ap runner_of (heard_at (Ok (Synced marks)) is) ∙ kept.runner) (ap is_broken (heard_at (Ok (Synced marks)) is) ∙ kept.broken)
+      by (Err e) is =
+          let breaks = break_breaks b.book whole in
+          ap runner_of (heard_at (Err e) is) ∙ breaks.runner
+          ∙ ap₂ (λ was now. runner_since was now (runner_of b)) (sym whole) (sym (ap is_broken (heard_at (Err e) is) ∙ breaks.broken))
+
   heard_rests : Rests b b'
-  heard_rests = grind (arith, settle_keeps, heard_well, state_of)
+  heard_rests = grind (arith, settle_keeps, heard_well, state_of, heard_runner)
 
 -- 3. One call more. Where there was none to make, or it failed, no slot holds anything, or the store is broken.
 
@@ -72,10 +91,19 @@ pub record Rested {D : Type 0} (went : Bool) (b b' : BoardState D) : Type 0 wher
   pub idle : went ≡ false → is_broken b' ≡ false → AllEmpty b'.store.guests
 
 pub rests_on : {D : Type 0} (a b c : BoardState D) → Rests a b → Rests b c → Rests a c
-rests_on a b c p q = grind arith
+rests_on {D = D} a b c p q = record {
+  listened = q.listened;
+  others = q.others ∙ ap (λ (v : BoardState D). record v { store = c.store; report = c.report; book = c.book }) p.others;
+  whole = λ known. p.whole (q.whole known);
+  runner = q.runner ∙ ap (runner_since (is_broken b) (is_broken c)) p.runner ∙ runner_twice (is_broken a) (is_broken b) (is_broken c) (runner_of a) p.whole q.whole;
+}
 
 pub rests_still : {D : Type 0} (b : BoardState D) → IsListened b → Rests b b
-rests_still b listened = record { listened = listened; others = refl; whole = λ yes. yes; runner = λ yes. refl }
+rests_still b listened = record { listened = listened; others = refl; whole = λ yes. yes; runner = sym (since_still (is_broken b) (runner_of b)) }
+
+-- where no call failed, all of it stays
+pub rests_whole : {D : Type 0} (b b' : BoardState D) → Rests b b' → is_broken b' ≡ false → runner_of b' ≡ runner_of b
+rests_whole b b' rests known = rests.runner ∙ since_whole (is_broken b) (is_broken b') (runner_of b) known
 
 pub rested : {D : Type 0} (shows : D → DiskState) (makes : D → DiskCall → D → Type 0) (went : Bool) (b b' : BoardState D) → IsListened b → GoesOn shows makes went b b' → Rested went b b'
 rested shows makes went b b' listened goes_on = from (is_broken b) refl goes_on

@@ -1,6 +1,6 @@
 -- Steps over which a guest goes on waiting.
-use Rattle.std.proofs.Common.{◌≡◌, ◌≤◌, ◌<◌, ℕ, zero, suc, ◌+◌, Bool, true, false, ◌||◌, List, [], ◌∷◌, Some, None, length, map, max, refl, ap, ap₂, sym, subst, ◌∙◌, arith}
-use Rattle.queue_looks.proofs.Common.{option_map, Settle, nat_le, nat_lt, slice_get, nat_tests, length-map, slice_get_within, sequence, sequence_of_all, DiskState, Guest, marks_of, mark_of, answered_in, BookView, state, waiting_of, with_turn, GuestCore, GuestState, Held, after_turn, update, IsSound, BoardState, Marks, guests, as_many, there_is, turned, marks_at, is_broken, RunnerView, held_since, runner_of, runner_since, since, IsLate, Waits, StoreState, after_settle, may_settle, broken_off, failed_held, kept_or_failed, settled_at, Break, Turn, move_some, settled_all, may_settle_them, AreMarked}
+use Rattle.std.proofs.Common.{◌≡◌, ◌≤◌, ℕ, suc, ◌+◌, true, false, List, [], ◌∷◌, Some, None, length, map, refl, ap, ap₂, sym, subst, ◌∙◌, arith}
+use Rattle.queue_looks.proofs.Common.{option_map, Settle, slice_get, nat_tests, slice_get_within, sequence, sequence_of_all, DiskState, Guest, marks_of, mark_of, answered_in, BookView, state, waiting_of, with_turn, GuestCore, GuestState, Held, after_turn, update, IsSound, BoardState, Marks, guests, as_many, there_is, turned, marks_at, is_broken, RunnerView, held_since, runner_of, runner_since, since, IsLate, Waits, StoreState, after_settle, may_settle, broken_off, failed_held, kept_or_failed, Break, Turn, move_some, settled_all, may_settle_them, AreMarked}
 use Rattle.rpmb_book.specs.Marks.{settled_to}
 use Rattle.rpmb_book.proofs.ByGuest.{by_guest}
 use Rattle.rpmb_book.proofs.Replay.{replay-push}
@@ -57,6 +57,17 @@ runner_settled gs ms = grind arith
 runner_broken : (gs : List GuestState) → runner_in (map broken_off gs) ≡ runner_since false true (runner_in gs)
 runner_broken [] = refl
 runner_broken (g ∷ gs) = ap (joined (since false true g.core) g.submits) (runner_broken gs)
+
+-- what a book that heard of a failure keeps
+pub record Breaks (b : BookView) : Type 0 where
+  pub broken : (state (with_turn b Break)).broken ≡ true
+  pub runner : runner_in (state (with_turn b Break)).guests ≡ runner_since false true (runner_in (state b).guests)
+
+pub break_breaks : (b : BookView) → (state b).broken ≡ false → Breaks b
+break_breaks b whole = record {
+  broken = ap (λ s. s.broken) (state_of b Break) ∙ rw whole refl;
+  runner = ap (λ s. runner_in s.guests) (state_of b Break) ∙ rw whole (runner_broken (state b).guests);
+}
 
 -- what a book that heard of a sync keeps
 pub record KeepsRunner (b b' : BookView) : Type 0 where
@@ -211,7 +222,7 @@ module _ {D : Type 0} (shows : D → DiskState) (g : ℕ) (start : BoardState D)
     stays = record {
       devices = w.stays.devices;
       jobs = w.stays.jobs;
-      runner = ap (λ s. runner_in s.guests) (state_of b.book Break) ∙ rw whole (runner_broken (guests b))
+      runner = (break_breaks b.book whole).runner
           ∙ ap (runner_since false true) (w.stays.runner ∙ since_whole (is_broken start) (is_broken b) (runner_of start) whole)
           ∙ ap₂ (λ was now. runner_since was now (runner_of start)) (sym started) (sym broke);
       whole = λ known. absurd (unbroken known);
@@ -225,7 +236,7 @@ module _ {D : Type 0} (shows : D → DiskState) (g : ℕ) (start : BoardState D)
       started = w.stays.whole whole
 
       broke : is_broken broken_of ≡ true
-      broke = ap (λ s. s.broken) (state_of b.book Break) ∙ rw whole refl
+      broke = (break_breaks b.book whole).broken
 
       unbroken : is_broken broken_of ≡ false → ⊥
       unbroken known = (let yes = broke in cc)

@@ -20,6 +20,17 @@ since_still was v = ap (λ cs. record v { cores = cs }) (each_same (since was wa
 pub since_whole : (was now : Bool) (v : RunnerView) → now ≡ false → runner_since was now v ≡ v
 since_whole was now v whole = grind (arith, each_same)
 
+-- over one break at most, at one of two moments
+since_twice : (was mid now : Bool) → (mid ≡ false → was ≡ false) → (now ≡ false → mid ≡ false) → (c : GuestCore) → since mid now (since was mid c) ≡ since was now c
+since_twice was mid now before after c = grind arith
+
+each_twice : (f g h : GuestCore → GuestCore) → ((c : GuestCore) → g (f c) ≡ h c) → (cs : List GuestCore) → map g (map f cs) ≡ map h cs
+each_twice f g h same [] = refl
+each_twice f g h same (c ∷ cs) = ap₂ (λ x xs. x ∷ xs) (same c) (each_twice f g h same cs)
+
+pub runner_twice : (was mid now : Bool) (v : RunnerView) → (mid ≡ false → was ≡ false) → (now ≡ false → mid ≡ false) → runner_since mid now (runner_since was mid v) ≡ runner_since was now v
+runner_twice was mid now v before after = ap (λ cs. record v { cores = cs }) (each_twice (since was mid) (since mid now) (since was now) (since_twice was mid now before after) v.cores)
+
 -- after a job, and a break or none since
 pub since_after : (was now : Bool) (v : RunnerView) (job : Job) → runner_since was now (after_when was was v job) ≡ after_when was now v job
 unfolding after_when cores_when

@@ -13,15 +13,16 @@ use Rattle.board.specs.Board.{StaysLinked}
 use Rattle.board.specs.State.{BoardState, guests}
 use Rattle.queue_looks.specs.Advancing.{IsListened}
 use Rattle.queue_looks.specs.Calm.{is_broken}
-use Rattle.queue_looks.specs.Runner.{runner_of}
+use Rattle.queue_looks.specs.Runner.{runner_of, runner_since}
 
--- What the answers to all guests depend on stays, unless the store broke. But for the store, its
--- report and the book, which hears of it, nothing moves.
+-- What the answers to all guests depend on stays, but that a break makes all forget what was asked
+-- last: so no job is answered and no request accepted, also where a call fails. But for the store,
+-- its report and the book, which hears of it, nothing moves.
 pub record Rests {D : Type 0} (b b' : BoardState D) : Type 0 where
   pub listened : IsListened b'
   pub others : b' ≡ record b { store = b'.store; report = b'.report; book = b'.book }
   pub whole : is_broken b' ≡ false → is_broken b ≡ false
-  pub runner : is_broken b' ≡ false → runner_of b' ≡ runner_of b
+  pub runner : runner_of b' ≡ runner_since (is_broken b) (is_broken b') (runner_of b)
 
 -- no call is left, unless the store broke
 pub record Finished {D : Type 0} (b b' : BoardState D) : Type 0 where

@@ -1,7 +1,6 @@
 -- An image of a board stays one.
 use Rattle.std.proofs.Common.{◌≡◌, ◌⊎◌, inl, inr, ℕ, zero, suc, ◌+◌, ◌≤◌, ◌<◌, Bool, true, false, List, [], ◌∷◌, Option, Some, None, Ok, Err, length, refl, ap, sym, subst, ◌∙◌, arith}
 use Rattle.world.proofs.Common.{if◌then◌else◌, nat_lt, nat_tests, length-map, Partition, Request, GuestConfig, Content, content_of, CutMakes, CutState, cut_state, DiskCall, DiskState, Effect, MayLeave, Still, Then, Within, Filler, Call, FrontStays, next_call, Part, Step, capacities_of, AnswersFault, IsImage, Untouched, OpenFault, BoardState, IsLinkedBoard, LeavesPrefixes, marks_in, IsConsistent, IsConsistentAt, Advances, Answer, Does, CutBy, CutWithin, CutsTo, EndsUpgrade, UpgradesTo, Happens, LacksRoom, OpensOrNot, Runs, StepsAt, WorldState, choosing, disk_of, opened_world, refusal_of, Event, Refusal, Home, Up, Down}
-use Rattle.disk.specs.Disk.{Write, Sync}
 use Rattle.flusher.specs.declared.progress.Call.TheVariants as call
 use Rattle.intent_slots.specs.Fields.{Agree}
 use Rattle.intent_slots.specs.Layout.{image_length}
@@ -9,7 +8,13 @@ use Rattle.intent_slots.proofs.ReadsBack.{header_own}
 use Rattle.recovery.specs.Opening.{HasParts, HoldsEach}
 use Rattle.recovery.specs.Format.{IsFormatted}
 use Rattle.recovery.proofs.Fresh.{fresh_image}
-use Rattle.world.specs.Images.{AllKnown, HasImage, IsKnown}
+use Rattle.std.specs.Prelude.{Result}
+use Rattle.std.specs.Option.{option_or}
+use Rattle.recovery.specs.Front.{TellsVersionFault}
+use Rattle.recovery.specs.Upgrade.{AnswersUpgrade}
+use Rattle.recovery.specs.declared.upgrading.Upgraded.{Upgraded}
+use Rattle.world.specs.Images.{AllKnown, HasImage, IsKnown, IsKnownAt}
+use Rattle.world.specs.World.{UpgradesAndOpens, UpgradesDisk, is_met, refusal_of_upgrade}
 use Rattle.world.specs.declared.event.Event.TheVariants as event
 use Rattle.world.specs.declared.event.Refusal.TheVariants as refusal
 use Rattle.board.proofs.Opened.{within_end}
@@ -118,14 +123,21 @@ module _ (config : List GuestConfig) (bases : ℕ → Partition) (accepted : ℕ
 -- 3. What is told
 
 told_nothing : (told : Option Refusal) → told ≡ None → IsKnown told
-told_nothing told is = record { formatted = λ e. absurd (cc); same = λ e. absurd (cc) }
+told_nothing told is = record { formatted = λ e. absurd (cc); same = λ e. absurd (cc); upgrade_formatted = λ e. absurd (cc); upgrade_same = λ e. absurd (cc) }
 
 told_step : (told : Option Refusal) (answer : Answer) → told ≡ refusal_of answer → IsKnown told
 told_step told (Ok seen) is = told_nothing told is
-told_step told (Err fault) is = record { formatted = λ e. absurd (cc); same = λ e. absurd (cc) }
+told_step told (Err fault) is = record { formatted = λ e. absurd (cc); same = λ e. absurd (cc); upgrade_formatted = λ e. absurd (cc); upgrade_same = λ e. absurd (cc) }
 
 told_fault : (fault : OpenFault) (told : Option Refusal) (cs : List ℕ) (len : ℕ) (c : Content) → told ≡ Some (refusal.Open fault) → AnswersFault cs len c fault → IsImage cs len c → IsKnown told
 told_fault fault told cs len c is reason image = grind arith
+
+told_version : (fault : OpenFault) (told : Option Refusal) (cs : List ℕ) (len : ℕ) (c : Content) → told ≡ Some (refusal.Upgrade fault) → TellsVersionFault cs len c fault → IsImage cs len c → IsKnown told
+told_version fault told cs len c is reason image = grind arith
+
+told_first : (said opened : Option Refusal) → IsKnown said → IsKnown opened → IsKnown (option_or said opened)
+told_first None opened one two = two
+told_first (Some r) opened one two = one
 
 -- 4. Events
 
@@ -164,32 +176,48 @@ cut_event (Up b) w filler left few kept images cuts = by (next_call b.store.brok
     by call.None cuts = cut_images (capacities_of w.config) b.store.disk left filler images cuts
 cut_event (Down d) w filler left few kept images cuts = cut_images (capacities_of w.config) d left filler images cuts
 
-ended_images : (cs : List ℕ) (met : Bool) (filler : Filler) (reached left : CutState) → Images cs reached → EndsUpgrade met filler reached left → Images cs left
-ended_images cs true filler reached left images cuts = cut_images cs reached left filler images cuts
-ended_images cs false filler reached left images is = subst (Images cs) (sym is) images
+abbrev KnownOn : List GuestConfig → CutState → Option Refusal → Type 0
+KnownOn config left said = Images (capacities_of config) left × IsKnown said
 
-upgrade_event : (config : List GuestConfig) (d left : CutState) (stop : Option (ℕ × Filler)) → length config ≤ 64 → Images (capacities_of config) d → UpgradesTo config stop d left → Images (capacities_of config) left
-upgrade_event config d left None few images up = images_upgraded config (cut_state d) (cut_state left) few refl up.back images
-upgrade_event config d left (Some stop) few images s =
-    ended_images (capacities_of config) (nat_lt d.failures s.reached.failures) stop.1 s.reached left
-    (images_upgraded config (cut_state (record d { chosen = stop.0 })) (cut_state s.reached) few refl s.upgrades.back images) s.ends
+upgrades_known : (config : List GuestConfig) (d left : CutState) (said : Option Refusal) → Images (capacities_of config) d → UpgradesDisk config d said left → IsKnown said
+upgrades_known config d left said images up = by up.answer up.answers up.tells
+  where
+    by : (answer : Result Upgraded OpenFault) → AnswersUpgrade (capacities_of config) (length d.seen) (content_of d.seen) answer → said ≡ refusal_of_upgrade answer → IsKnown said
+    by (Ok done) reason is = told_nothing said is
+    by (Err fault) reason is = told_version fault said (capacities_of config) (length d.seen) (content_of d.seen) is reason (images (content_of d.seen) (λ k un. refl))
 
-event_images : (old new : WorldState) (e : Event) (told : Option Refusal) → IsConsistent old → HasImage old → Happens old e told new → HasImage new × IsKnown told
+upgrades_disk : (config : List GuestConfig) (d left : CutState) (said : Option Refusal) → length config ≤ 64 → Images (capacities_of config) d → UpgradesDisk config d said left → KnownOn config left said
+upgrades_disk config d left said few images up = (images_upgraded config (cut_state d) (cut_state left) few refl up.back images, upgrades_known config d left said images up)
+
+upgrade_ended : (config : List GuestConfig) (met : Bool) (filler : Filler) (reached left : CutState) (answered said : Option Refusal) → KnownOn config reached answered → EndsUpgrade met filler reached answered said left → KnownOn config left said
+upgrade_ended config true filler reached left answered said up ends = (cut_images (capacities_of config) reached left filler up.0 ends.0, told_nothing said ends.1)
+upgrade_ended config false filler reached left answered said up ends = (subst (Images (capacities_of config)) (sym ends.0) up.0, subst IsKnown (sym ends.1) up.1)
+
+upgrade_event : (config : List GuestConfig) (d left : CutState) (said : Option Refusal) (stop : Option (ℕ × Filler)) → length config ≤ 64 → Images (capacities_of config) d → UpgradesTo config stop d said left → KnownOn config left said
+upgrade_event config d left said None few images up = upgrades_disk config d left said few images up
+upgrade_event config d left said (Some stop) few images s =
+    upgrade_ended config (is_met stop.0 d.failures s.reached.failures) stop.1 s.reached left s.answered said (upgrades_disk config (record d { chosen = stop.0 }) s.reached s.answered few images s.upgrades) s.ends
+
+upgraded_then_opened : (old new : WorldState) (stop : Option (ℕ × Filler)) (told : Option Refusal) → HasImage old → (h : UpgradesAndOpens old stop told new) → HasImage new × (IsKnown told × IsKnown h.opened)
+upgraded_then_opened old new stop told has h =
+    let up = upgrade_event old.config (disk_of old.home) h.left h.said stop has.few has.leaves h.upgrades in
+    let opens = opening_images h.left old new h.opened has.few up.0 h.opens in
+    (opens.0, (subst IsKnown (sym h.tells) (told_first h.said h.opened up.1 opens.1), opens.1))
+
+event_images : (old new : WorldState) (e : Event) (told : Option Refusal) → IsConsistent old → HasImage old → (h : Happens old e told new) → HasImage new × IsKnownAt old e told new h
 event_images old new (event.Do s) told kept has h = step_event s old new told old.home refl has kept has.leaves h
 event_images old new (event.Fail k) told kept has h = (fail_event k old new old.home refl has has.leaves h.1, told_nothing told h.0)
 event_images old new (event.Stop filler) told kept has h = opening_images h.0 old new told has.few (cut_images (capacities_of old.config) (disk_of old.home) h.0 filler has.leaves h.1) h.2
 event_images old new (event.StopIn filler) told kept has h = opening_images h.0 old new told has.few (cut_event old.home old filler h.0 has.few kept has.leaves h.1) h.2
 event_images old new event.Open told kept has h = opening_images (disk_of old.home) old new told has.few has.leaves h
-event_images old new (event.Upgrade stop) told kept has h = opening_images h.0 old new told has.few (upgrade_event old.config (disk_of old.home) h.0 stop has.few has.leaves h.1) h.2
+event_images old new (event.Upgrade stop) told kept has h = upgraded_then_opened old new stop told has h
 
 pub images_of_runs : (old new : WorldState) (events : List Event) (told : Option Refusal) → IsConsistent old → HasImage old → (run : Runs old events told new) → AllKnown old events told new run × HasImage new
 images_of_runs old new [] told kept has run = (tt, subst HasImage (sym run.1) has)
 images_of_runs old new (e ∷ es) told kept has run =
-    grind (
-      arith,
-      event_images,
-      (images_of_runs run.mid new es run.later (event_kept old run.mid e run.first.one kept run.first.happens).0 (event_images old run.mid e run.first.one kept has run.first.happens).0 run.rest),
-    )
+    let now = event_images old run.mid e run.first.one kept has run.first.happens in
+    let later = images_of_runs run.mid new es run.later (event_kept old run.mid e run.first.one kept run.first.happens).0 now.0 run.rest in
+    ((now.1, later.0), later.1)
 
 -- 5. A world over a fresh image
 

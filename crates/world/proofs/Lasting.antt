@@ -226,7 +226,7 @@ event_lasts n old new (event.Fail k) told tied h lasts = fail_event n k old new 
 event_lasts n old new (event.Stop filler) told tied h lasts = opening_event n h.0 old new told h.2 lasts
 event_lasts n old new (event.StopIn filler) told tied h lasts = opening_event n h.0 old new told h.2 lasts
 event_lasts n old new event.Open told tied h lasts = opening_event n _ old new told h lasts
-event_lasts n old new (event.Upgrade stop) told tied h lasts = opening_event n h.0 old new told h.2 lasts
+event_lasts n old new (event.Upgrade stop) told tied h lasts = opening_event n h.left old new h.opened h.opens lasts
 
 -- 6. Runs
 

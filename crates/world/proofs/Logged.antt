@@ -1,5 +1,5 @@
 -- What is noted of a step, in the logs of all guests.
-use Rattle.std.proofs.Common.{◌≡◌, ◌≢◌, ◌⊎◌, inl, inr, ℕ, ◌+◌, ◌≤◌, ◌<◌, Bool, List, [], ◌∷◌, ◌++◌, Option, Some, None, Ok, Err, length, refl, ap, sym, subst, ◌∙◌, arith}
+use Rattle.std.proofs.Common.{◌≡◌, ◌≢◌, ◌⊎◌, inl, inr, ℕ, zero, suc, ◌+◌, ◌≤◌, ◌<◌, Bool, List, [], ◌∷◌, ◌++◌, Option, Some, None, Ok, Err, length, refl, ap, sym, subst, ◌∙◌, arith}
 use Rattle.world.proofs.Common.{option_map, slice_get, slice_index_or, slice_set, cases_eq, nat_tests, slice_get_cases, slice_get-get_or, slice_get_within, limits_of, Request, Partition, GuestConfig, CutMakes, CutState, cut_state, Part, get_set_same, get_set_other, DeviceState, Job, Done, guest_of, refusal_at, state, submit_of, is_full, with_turn, submit_rolls, GuestState, submitted, Tally, BoardState, guests, in_place, Answer, Does, Idles, PublishesFrom, SubmitsFrom, Did, IsLinkedBoard, accepted_after, answered, GuestLog, Up, Pop, Publication, Act, Step, popped_after, published_after, publication_of, with_publication, HasRoom, HaveRoom, accepted_in, count_of, popped_in, popped_of, published_in, published_of, IsGuest, IsNoted}
 use Rattle.rpmb_frame.specs.Limits.{Limits}
 use Rattle.board.specs.State.{HasNoJob}
@@ -11,6 +11,12 @@ use Rattle.board.proofs.Doing.{full_at}
 use Rattle.board.proofs.Linked.{at_each, chosen, in_book, of_guest, other_guest, there_is, turned}
 use Rattle.world.proofs.Noted.{IsQuiet, still_room}
 use Rattle.world.proofs.Rooms.{pops}
+
+-- a place that is there, and in which nothing lies
+empty_there : {X : Type 0} (places : List (Option X)) (n : ℕ) → n < length places → in_place (slice_get places n) ≡ None → slice_get places n ≡ Some None
+empty_there [] n below empty = absurd (omega arith)
+empty_there (x ∷ places) zero below empty = ap Some empty
+empty_there (x ∷ places) (suc n) below empty = empty_there places n (omega arith) empty
 
 -- 1. A Submit and a Publish, in the logs of all guests
 
@@ -220,8 +226,8 @@ module _ (config : List GuestConfig) (life n : ℕ) (answer : Answer) (b b' : Bo
     pop_here : (a : Answer) (ps qs : ℕ → List Pop) → ps n ≡ qs n → popped_after life (step.Pop n) a b' ps n ≡ popped_after life (step.Pop n) a b' qs n
     pop_here a ps qs same = grind arith
 
-    pub pop_noted : NotesPop life n answer b b' log log' → IsNoted config life (step.Pop n) answer b b' logs Logs'
-    pop_noted notes = by notes.made
+    pub pop_noted : n < length b.jobs → NotesPop life n answer b b' log log' → IsNoted config life (step.Pop n) answer b b' logs Logs'
+    pop_noted below notes = by notes.made
       where
         says : log'.popped ≡ popped_after life (step.Pop n) answer b' (λ h. log.popped) n → (g : ℕ) → popped_in Logs' g ≡ popped_after life (step.Pop n) answer b' (popped_in logs) g
         says list = at_each {P = λ g. popped_in Logs' g ≡ popped_after life (step.Pop n) answer b' (popped_in logs) g} n
@@ -241,7 +247,7 @@ module _ (config : List GuestConfig) (life n : ℕ) (answer : Answer) (b b' : Bo
           room = with_log (still_room b b' logs room (pops b n answer b' (slice_get b.jobs n) (slice_get b.devices n) made.0));
         }
         by (inr un) = record {
-          steps = inr ((un.0, un.1), record { board = un.2; accepted = accepted_same notes.accepted; published = published_same notes.published; popped = popped_same un.3 });
+          steps = inr ((empty_there b.jobs n below un.0, un.1), record { board = un.2; accepted = accepted_same notes.accepted; published = published_same notes.published; popped = popped_same un.3 });
           room = with_log (subst (λ v. HaveRoom (Up v) logs) (sym un.2) room);
         }
 
@@ -288,7 +294,7 @@ module _ (config : List GuestConfig) (bases : ℕ → Partition) (accepted : ℕ
       let there : slice_get logs n ≡ Some log = ap (slice_get logs) (sym same) ∙ slice_get-get_or logs at log below ∙ ap Some (sym read) in
       subst (λ k. IsNoted config life s answer b b' logs (slice_set logs k log')) (sym same)
       (subst (λ v. IsNoted config life v answer b b' logs (slice_set logs n log')) (sym is)
-      (pop_noted config life n answer b b' logs log log' there linked.many many (guest_is config bases accepted parts b linked n) room notes))
+      (pop_noted config life n answer b b' logs log log' there linked.many many (guest_is config bases accepted parts b linked n) room (let wide = linked.places.jobs in let count = linked.many in omega (arith, below, same)) notes))
 
   -- no place of a guest that the board lacks is full
   none_there : {X : Type 0} (places : List (Option X)) (n : ℕ) → length places ≡ length config → length logs ≤ n → in_place (slice_get places n) ≡ None

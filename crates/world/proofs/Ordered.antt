@@ -293,7 +293,7 @@ event_tied old new (event.Fail k) told tied h = fail_event k old new old.home re
 event_tied old new (event.Stop filler) told tied h = opening_event h.0 old new told tied h.2
 event_tied old new (event.StopIn filler) told tied h = opening_event h.0 old new told tied h.2
 event_tied old new event.Open told tied h = opening_event _ old new told tied h
-event_tied old new (event.Upgrade stop) told tied h = opening_event h.0 old new told tied h.2
+event_tied old new (event.Upgrade stop) told tied h = opening_event h.left old new h.opened tied h.opens
 
 -- 7. Runs
 

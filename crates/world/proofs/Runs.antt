@@ -1,9 +1,9 @@
 -- The headline over every run.
 use Rattle.std.proofs.Common.{◌≡◌, ◌⊎◌, inl, inr, ℕ, zero, suc, ◌-◌, ◌<◌, ◌≤◌, Bool, true, false, List, [], ◌∷◌, ◌++◌, Option, Some, None, length, drop, get_or, refl, ap, sym, subst, ◌∙◌, arith}
-use Rattle.world.proofs.Common.{slice_get, if◌then◌else◌, ◌==◌, ◌&&◌, is_some, nat_lt, replicate, append-nil, nat_tests, get_or_from_slice_get, slice_get_within, Request, Partition, sequence, GuestConfig, sequence_of_all, Content, CutMakes, CutState, cut_state, DiskCall, Effect, MayLeave, Filler, Call, marks_of, mark_of, next_call, Intent, Part, Job, Done, parts_of, due_of, may_settle, next_intent, state, submit_of, with_turn, submit_rolls, Tally, marks_for, Turn, Collect, Take, Settle, Break, move_some, GuestState, Step, BoardState, Fault, Marks, Report, guests, in_place, Answer, CollectsInto, Does, SettlesBy, SubmitsFrom, TakesInto, IsLinkedBoard, LeavesPrefixes, accepted_after, marks_in, Begins, GoesOn, kept_by, kept_of, Event, Refusal, Home, Up, Down, Publication, CutBy, CutWithin, CutsTo, Happens, LacksRoom, OpensOrNot, StepsAt, StepsIn, EndsUpgrade, UpgradesTo, WorldState, choosing, choosing_call, disk_of, opened_world, popped_after, published_after, raised, with_publication, IsConsistent, IsConsistentAt, IsNew, IsOpen}
+use Rattle.world.proofs.Common.{slice_get, if◌then◌else◌, ◌==◌, ◌&&◌, is_some, replicate, append-nil, nat_tests, get_or_from_slice_get, slice_get_within, Request, Partition, sequence, GuestConfig, sequence_of_all, Content, CutMakes, CutState, cut_state, DiskCall, Effect, MayLeave, Filler, Call, marks_of, mark_of, next_call, Intent, Part, Job, Done, parts_of, due_of, may_settle, next_intent, state, submit_of, with_turn, submit_rolls, Tally, marks_for, Turn, Collect, Take, Settle, Break, move_some, GuestState, Step, BoardState, Fault, Marks, Report, guests, in_place, Answer, CollectsInto, Does, SettlesBy, SubmitsFrom, TakesInto, IsLinkedBoard, LeavesPrefixes, accepted_after, marks_in, Begins, GoesOn, kept_by, kept_of, Event, Refusal, Home, Up, Down, Publication, CutBy, CutWithin, CutsTo, Happens, LacksRoom, OpensOrNot, StepsAt, StepsIn, EndsUpgrade, UpgradesTo, WorldState, choosing, choosing_call, disk_of, opened_world, popped_after, published_after, raised, with_publication, IsConsistent, IsConsistentAt, IsNew, IsOpen}
 use Rattle.flusher.specs.declared.progress.Call.TheVariants as call
 use Rattle.world.specs.declared.event.Event.TheVariants as event
-use Rattle.world.specs.World.{Opens, Refuses, UpgradesDisk}
+use Rattle.world.specs.World.{Opens, Refuses, UpgradesDisk, is_met}
 use Rattle.world.specs.Kept.{AllRequests, IsClosed, WasOpened}
 use Rattle.world.specs.Headline.{Gives, GivesAt, Headline, HeadlineOfRuns, Holds, HoldsAt}
 use Rattle.board.proofs.Linked.{in_book, turned}
@@ -72,32 +72,33 @@ before_cut w d left filler before cuts = elim before [
   | inr was ↦ inr (record { closed = cut_closed w d left filler was.closed cuts; openings = was.openings })
 ]
 
-upgraded_closed : (w : WorldState) (d left : CutState) → IsClosed w d → UpgradesDisk w.config d left → IsClosed w left
-upgraded_closed w d left closed up = record {
+upgraded_closed : (w : WorldState) (d left : CutState) (said : Option Refusal) → IsClosed w d → UpgradesDisk w.config d said left → IsClosed w left
+upgraded_closed w d left said closed up = record {
   least = closed.least;
   leaves = prefixes_upgraded w.config w.bases w.accepted closed.least (cut_state d) (cut_state left) refl up.back closed.leaves;
   requests = closed.requests;
   needs = closed.needs;
 }
 
-before_upgraded : (w : WorldState) (d left : CutState) → Before w d → UpgradesDisk w.config d left → Before w left
-before_upgraded w d left before up = elim before [
+before_upgraded : (w : WorldState) (d left : CutState) (said : Option Refusal) → Before w d → UpgradesDisk w.config d said left → Before w left
+before_upgraded w d left said before up = elim before [
   | inl new ↦ inl new
-  | inr was ↦ inr (record { closed = upgraded_closed w d left was.closed up; openings = was.openings })
+  | inr was ↦ inr (record { closed = upgraded_closed w d left said was.closed up; openings = was.openings })
 ]
 
 -- what call is to fail is nothing that a stop leaves
 before_chosen : (w : WorldState) (d : CutState) (k : ℕ) → Before w d → Before w (record d { chosen = k })
 before_chosen w d k before = grind arith
 
-before_ended : (w : WorldState) (met : Bool) (filler : Filler) (reached left : CutState) → Before w reached → EndsUpgrade met filler reached left → Before w left
-before_ended w true filler reached left before cuts = before_cut w reached left filler before cuts
-before_ended w false filler reached left before is = subst (Before w) (sym is) (before_chosen w reached 0 before)
+before_ended : (w : WorldState) (met : Bool) (filler : Filler) (reached left : CutState) (answered said : Option Refusal) → Before w reached → EndsUpgrade met filler reached answered said left → Before w left
+before_ended w true filler reached left answered said before ends = before_cut w reached left filler before ends.0
+before_ended w false filler reached left answered said before ends = subst (Before w) (sym ends.0) (before_chosen w reached 0 before)
 
-before_upgrade : (w : WorldState) (d left : CutState) (stop : Option (ℕ × Filler)) → Before w d → UpgradesTo w.config stop d left → Before w left
-before_upgrade w d left None before up = before_upgraded w d left before up
-before_upgrade w d left (Some stop) before s =
-    before_ended w (nat_lt d.failures s.reached.failures) stop.1 s.reached left (before_upgraded w (record d { chosen = stop.0 }) s.reached (before_chosen w d stop.0 before) s.upgrades) s.ends
+before_upgrade : (w : WorldState) (d left : CutState) (said : Option Refusal) (stop : Option (ℕ × Filler)) → Before w d → UpgradesTo w.config stop d said left → Before w left
+before_upgrade w d left said None before up = before_upgraded w d left said before up
+before_upgrade w d left said (Some stop) before s =
+    before_ended w (is_met stop.0 d.failures s.reached.failures) stop.1 s.reached left s.answered said
+    (before_upgraded w (record d { chosen = stop.0 }) s.reached s.answered (before_chosen w d stop.0 before) s.upgrades) s.ends
 
 stopped : (w : WorldState) (home : Home) → IsConsistentAt w home → Before w (disk_of home)
 stopped w (Up b) kept = inr (record { closed = closes w b kept.0; openings = kept.1 })
@@ -325,7 +326,7 @@ event_kept old new (event.Fail k) told kept h = fail_kept k old new old.home kep
 event_kept old new (event.Stop filler) told kept h = opening_kept h.0 old new told (before_cut old (disk_of old.home) h.0 filler (stopped old old.home kept) h.1) h.2
 event_kept old new (event.StopIn filler) told kept h = opening_kept h.0 old new told (cut_within old old.home filler h.0 kept h.1) h.2
 event_kept old new event.Open told kept h = opening_kept (disk_of old.home) old new told (stopped old old.home kept) h
-event_kept old new (event.Upgrade stop) told kept h = opening_kept h.0 old new told (before_upgrade old (disk_of old.home) h.0 stop (stopped old old.home kept) h.1) h.2
+event_kept old new (event.Upgrade stop) told kept h = opening_kept h.left old new h.opened (before_upgrade old (disk_of old.home) h.left h.said stop (stopped old old.home kept) h.upgrades) h.opens
 
 pub headline_of_runs : HeadlineOfRuns
 headline_of_runs old new [] told kept run = (tt, subst IsConsistent (sym run.1) kept)

@@ -88,7 +88,7 @@ left_fit s d consistent fit = record {
 
 -- what an opening makes of a world doesn't depend on where its disk was
 pub opened_from : (d : CutState) (w : WorldState) (h : Home) (told : Option Refusal) (new : WorldState) → OpensOrNot d (record w { home = h }) told new → OpensOrNot d w told new
-opened_from d w h told new (inl o) = inl (record { tells = o.tells; board = o.board; begins = o.begins; goes_on = o.goes_on; stand = o.stand; calls = o.calls; rest = o.rest; after = o.after ∙ same w.openings })
+opened_from d w h told new (inl o) = inl (record { tells = o.tells; board = o.board; begins = o.begins; goes_on = o.goes_on; stand = o.stand; calls = o.calls; unfailed = o.unfailed; rest = o.rest; after = o.after ∙ same w.openings })
   where
     same : (n : ℕ) → opened_world n (record w { home = h }) o.board o.begins.partitions ≡ opened_world n w o.board o.begins.partitions
     same zero = refl
@@ -169,16 +169,17 @@ module _ (s t : Stage) (disk : CutState) (b : BoardState CutState) (life : ℕ) 
   opened_now n none new = grind (arith, bases_first, kept_said, none_said)
 
   pub opens_at : (s.openings ≡ 0 → IsNew (world_of (seen_of s)))
-      → Finds cut_state s.config (cut_state disk) b → SyncsFirst CutMakes disk b.store.disk
+      → Finds cut_state s.config (cut_state disk) b → SyncsFirst CutMakes disk b.store.disk → b.store.disk.failures ≡ disk.failures
       → OpensOrNot disk (world_of (seen_of s)) None (world_of (seen_of Opened))
   unfolding begins_now
-  opens_at new found calls = inl (record {
+  opens_at new found calls unfailed = inl (record {
     tells = refl;
     board = b;
     begins = begins_now;
     goes_on = found.goes_on;
     stand = found.stands;
     calls = calls;
+    unfailed = unfailed;
     rest = found.rests;
     after = ap (λ v. world_of (seen_of v)) same_opened ∙ opened_now s.openings refl new;
   })

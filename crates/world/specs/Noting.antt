@@ -18,7 +18,7 @@ use Rattle.board.specs.declared.step.Seen.TheVariants.{Did}
 use Rattle.board.specs.declared.step.StepFault.TheVariants as fault
 use Rattle.world.specs.declared.home.Home.TheVariants.{Up}
 use Rattle.world.specs.Records.{HaveRoom, accepted_in, asked_by, popped_in, published_in}
-use Rattle.world.specs.World.{popped_after, published_after}
+use Rattle.world.specs.World.{HasEmptyPlace, popped_after, published_after}
 
 -- a guest's sequence, 0 for one that the board lacks
 abbrev pub sequence_of : Option GuestState → ℕ
@@ -81,7 +81,8 @@ pub record Notes (config : List GuestConfig) (life : ℕ) (s : Step) (answer : A
 abbrev pub IsUnnoted : Step → BoardState CutState → Answer → Type 0
 IsUnnoted (step.Submit n) b answer = HasJob n b × (answer ≡ Err (fault.Book refused.NoMemory))
 IsUnnoted (step.Drive n act) b answer = ⊥
-IsUnnoted (step.Pop n) b answer = HasNoJob n b × (answer ≡ Err (fault.Device device_fault.NoMemory))
+IsUnnoted (step.Pop n) b answer =
+    HasEmptyPlace n b × (answer ≡ Err (fault.Device device_fault.NoMemory))
 IsUnnoted (step.Collect n) b answer = ⊥
 IsUnnoted (step.Publish n) b answer = ⊥
 IsUnnoted (step.Take n) b answer = ⊥

@@ -40,7 +40,7 @@ use Rattle.board.specs.declared.step.Step.{Step}
 use Rattle.board.specs.declared.step.Step.TheVariants as step
 use Rattle.board.specs.declared.step.Seen.TheVariants as seen
 use Rattle.board.specs.declared.step.StepFault.TheVariants as fault
-use Rattle.board.specs.State.{BoardState, HasJob, HasNoJob, guests, in_place}
+use Rattle.board.specs.State.{BoardState, HasJob, guests, in_place}
 use Rattle.board.specs.Steps.{Advances, Answer, Does}
 use Rattle.board.specs.Board.{LeavesPrefixes, accepted_after}
 use Rattle.board.specs.Opening.{AreRequests, Begins, Calls, CallsRefused, GoesOn, Stands, bases_of}
@@ -167,6 +167,10 @@ pub record StepsIn (s : Step) (b : BoardState CutState) (old : WorldState) (told
     popped = popped_after old.openings s answer board old.popped;
   }
 
+-- guest n is there, and no job of it lies between two steps
+abbrev pub HasEmptyPlace : {D : Type 0} → ℕ → BoardState D → Type 0
+HasEmptyPlace n b = slice_get b.jobs n ≡ Some None
+
 -- A Pop into an empty place, or a Submit of a job, is refused where there is no memory for what is
 -- noted of it, and then nothing changes. No other step is.
 abbrev pub LacksRoom : Step → BoardState CutState → WorldState → Option Refusal → WorldState
@@ -174,7 +178,7 @@ abbrev pub LacksRoom : Step → BoardState CutState → WorldState → Option Re
 LacksRoom (step.Submit n) b old told new = HasJob n b
     × (told ≡ Some (refusal.Step (fault.Book refused.NoMemory))) × (new ≡ old)
 LacksRoom (step.Drive n act) b old told new = ⊥
-LacksRoom (step.Pop n) b old told new = HasNoJob n b
+LacksRoom (step.Pop n) b old told new = HasEmptyPlace n b
     × (told ≡ Some (refusal.Step (fault.Device device_fault.NoMemory))) × (new ≡ old)
 LacksRoom (step.Collect n) b old told new = ⊥
 LacksRoom (step.Publish n) b old told new = ⊥
@@ -247,6 +251,8 @@ pub record Opens (d : CutState) (old : WorldState) (told : Option Refusal)
   -- each guest's partition is what reads of the disk gave
   pub stand : Stands old.config (content_of d.seen) board
   pub calls : Calls CutMakes d (Ok board)
+  -- none of them failed
+  pub unfailed : board.store.disk.failures ≡ d.failures
   -- every stop leaves an image of the board then
   pub rest : IsAtRest (capacities_of old.config) (cut_state board.store.disk)
   pub after : new ≡ opened_world old.openings old board begins.partitions
@@ -271,28 +277,55 @@ OpensOrNot d old told new = Opens d old told new ⊎ Refuses d old told new
 
 -- 4. Upgrades
 
--- an upgrade of the disk: its calls, by its answer; and each content that a stop then leaves has
--- the header and the partitions of one that a stop could leave before
-pub record UpgradesDisk (config : List GuestConfig) (old new : CutState) : Type 0 where
+-- what is told of an upgrade
+abbrev pub refusal_of_upgrade : Result Upgraded OpenFault → Option Refusal
+refusal_of_upgrade (Ok done) = None
+refusal_of_upgrade (Err e) = Some (refusal.Upgrade e)
+
+-- an upgrade of the disk: its calls, by its answer, which is told; and each content that a stop
+-- then leaves has the header and the partitions of one that a stop could leave before
+pub record UpgradesDisk (config : List GuestConfig) (old : CutState) (said : Option Refusal)
+    (new : CutState) : Type 0 where
   pub answer : Result Upgraded OpenFault
   pub calls : UpgradeCalls CutMakes (capacities_of config) old new answer
   pub answers : AnswersUpgrade (capacities_of config) (length old.seen) (content_of old.seen) answer
   pub back : LeavesAsBefore (capacities_of config) (cut_state old) (cut_state new)
+  pub tells : said ≡ refusal_of_upgrade answer
 
--- where the chosen call was made it failed, and the disk is cut; else the choice is taken back
-abbrev pub EndsUpgrade : Bool → Filler → CutState → CutState → Type 0
-EndsUpgrade true filler reached left = CutsTo filler reached left
-EndsUpgrade false filler reached left = left ≡ record reached { chosen = 0 }
+-- Whether an upgrade made its k-th call, which was to fail, by how many calls had failed before it
+-- and after it. Where no further failure can be counted every call fails, so it made one alone.
+abbrev pub is_met : (k before after : ℕ) → Bool
+is_met k before after = if before == 2 ^ 64 - 1 then k == 1 else nat_lt before after
 
-pub record StopsUpgrade (config : List GuestConfig) (k : ℕ) (filler : Filler)
-    (d left : CutState) : Type 0 where
+-- Where the chosen call was made, the disk is cut, and nobody is left to be told anything; else the
+-- choice is taken back, and what the upgrade answered is told.
+abbrev pub EndsUpgrade : Bool → Filler → CutState → (answered said : Option Refusal) → CutState
+    → Type 0
+EndsUpgrade true filler reached answered said left = CutsTo filler reached left × (said ≡ None)
+EndsUpgrade false filler reached answered said left =
+    (left ≡ record reached { chosen = 0 }) × (said ≡ answered)
+
+pub record StopsUpgrade (config : List GuestConfig) (k : ℕ) (filler : Filler) (d : CutState)
+    (said : Option Refusal) (left : CutState) : Type 0 where
   pub reached : CutState
-  pub upgrades : UpgradesDisk config (record d { chosen = k }) reached
-  pub ends : EndsUpgrade (nat_lt d.failures reached.failures) filler reached left
+  pub answered : Option Refusal
+  pub upgrades : UpgradesDisk config (record d { chosen = k }) answered reached
+  pub ends : EndsUpgrade (is_met k d.failures reached.failures) filler reached answered said left
 
-abbrev pub UpgradesTo : List GuestConfig → Option (ℕ × Filler) → CutState → CutState → Type 0
-UpgradesTo config None d left = UpgradesDisk config d left
-UpgradesTo config (Some stop) d left = StopsUpgrade config stop.0 stop.1 d left
+abbrev pub UpgradesTo : List GuestConfig → Option (ℕ × Filler) → CutState → Option Refusal
+    → CutState → Type 0
+UpgradesTo config None d said left = UpgradesDisk config d said left
+UpgradesTo config (Some stop) d said left = StopsUpgrade config stop.0 stop.1 d said left
+
+-- an upgrade, and the opening that follows it: the first refusal of the two is told
+pub record UpgradesAndOpens (old : WorldState) (stop : Option (ℕ × Filler))
+    (told : Option Refusal) (new : WorldState) : Type 0 where
+  pub left : CutState
+  pub said : Option Refusal
+  pub opened : Option Refusal
+  pub upgrades : UpgradesTo old.config stop (disk_of old.home) said left
+  pub opens : OpensOrNot left old opened new
+  pub tells : told ≡ option_or said opened
 
 -- 5. Events
 
@@ -305,9 +338,7 @@ Happens old (event.Stop filler) told new =
 Happens old (event.StopIn filler) told new =
     (left : CutState) × CutWithin old.home filler left × OpensOrNot left old told new
 Happens old event.Open told new = OpensOrNot (disk_of old.home) old told new
-Happens old (event.Upgrade stop) told new =
-    (left : CutState) × UpgradesTo old.config stop (disk_of old.home) left
-    × OpensOrNot left old told new
+Happens old (event.Upgrade stop) told new = UpgradesAndOpens old stop told new
 
 -- The events in turn, each from the world that the one before it left, and the first refusal of
 -- all.

@@ -25,8 +25,8 @@ pub enum Event {
     /// before the opening. With a number the host stops within that call of the disk that the
     /// upgrade makes, counted from 1: the call fails, and then the disk is cut. Where it makes no
     /// such call, also with 0, it runs to its end, and no later call is chosen. With none an
-    /// earlier `Fail` counts its calls. What it refuses, the opening refuses too, but for a call
-    /// that failed.
+    /// earlier `Fail` counts its calls. What it refuses is told before what the opening refuses; of
+    /// one that the host stopped within, nothing is.
     Upgrade(Option<(u32, Filler)>),
 }
 
@@ -39,4 +39,7 @@ pub enum Refusal {
     /// An opening was.
     #[error("{0}")]
     Open(OpenFault),
+    /// An upgrade was.
+    #[error("{0}")]
+    Upgrade(OpenFault),
 }

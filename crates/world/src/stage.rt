@@ -16,7 +16,7 @@ use crate::event::{Event, Refusal};
 use crate::home::Home;
 use crate::log::Log;
 use crate::noting;
-use crate::upgrading::upgraded;
+use crate::upgrading::upgrade_disk;
 use board::{Board, Step};
 use disk::CutDisk;
 use recovery::OpenFault;
@@ -128,9 +128,10 @@ impl Stage {
                 self.open(disk)
             }
             Event::Upgrade(stop) => {
-                let disk = self.leave().into_disk();
-                let disk = upgraded(disk, &self.config, stop);
-                self.open(disk)
+                let mut disk = self.leave().into_disk();
+                let refused = upgrade_disk(&mut disk, &self.config, stop);
+                let opened = self.open(disk);
+                refused.or(opened)
             }
         }
     }

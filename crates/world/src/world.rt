@@ -80,7 +80,7 @@ impl World {
             → AllHeadlines (world_of self.old) events.now result (world_of self.new) run }
 
         // Where each stop leaves an image of the board, so it does after each event, and no opening
-        // is refused for what the image holds.
+        // and no upgrade is refused for what the image holds.
         ensures image { HasImage (world_of self.old) → HasImage (world_of self.new) }
         ensures known { HasImage (world_of self.old)
             → (run : Runs (world_of self.old) events.now result (world_of self.new))

@@ -45,18 +45,23 @@ returns-in-Open-clause-happens c =
     (subst (λ d. OpensOrNot d w c.open-in-Open.result new) (c.into_disk-disk.ensures ∙ ap disk_of c.leave-in-Open.ensures.home)
     (opened_from left w (home_of None) c.open-in-Open.result new (subst (λ v. OpensOrNot left (world_of (seen_of v)) c.open-in-Open.result new) c.leave-in-Open.ensures.rest c.open-in-Open.ensures.opens)))
 
-pub open-requires-in-Upgrade-clause-fit : goal.open-requires-in-Upgrade-clause-fit
-open-requires-in-Upgrade-clause-fit c =
-    subst (IsFitWith (Down c.upgraded-disk.result)) (sym c.leave-in-Upgrade.ensures.rest) (left_fit c.args.self.now c.upgraded-disk.result c.requires.consistent c.requires.fit)
+pub open-opened-requires-clause-fit : goal.open-opened-requires-clause-fit
+open-opened-requires-clause-fit c =
+    subst (IsFitWith (Down c.upgrade_disk-refused.new.disk)) (sym c.leave-in-Upgrade.ensures.rest) (left_fit c.args.self.now c.upgrade_disk-refused.new.disk c.requires.consistent c.requires.fit)
 
 pub returns-in-Upgrade-clause-happens : goal.returns-in-Upgrade-clause-happens
 returns-in-Upgrade-clause-happens c =
     let w = world_of (seen_of c.args.self.now) in
-    let left = c.upgraded-disk.result in
-    let new = world_of (seen_of c.open-in-Upgrade.new.self) in
-    subst (λ e. Happens w e c.open-in-Upgrade.result new) (sym c.in-Upgrade.is) (
-      left,
-      subst (λ d. UpgradesTo c.args.self.now.config c.in-Upgrade.stop d left) (c.into_disk-disk-in-Upgrade.ensures ∙ ap disk_of c.leave-in-Upgrade.ensures.home)
-          (subst (λ g. UpgradesTo g c.in-Upgrade.stop c.into_disk-disk-in-Upgrade.result left) (ap (λ v. v.config) c.leave-in-Upgrade.ensures.rest) c.upgraded-disk.ensures),
-      opened_from left w (home_of None) c.open-in-Upgrade.result new (subst (λ v. OpensOrNot left (world_of (seen_of v)) c.open-in-Upgrade.result new) c.leave-in-Upgrade.ensures.rest c.open-in-Upgrade.ensures.opens),
-    )
+    let left = c.upgrade_disk-refused.new.disk in
+    let said = c.upgrade_disk-refused.result in
+    let opened = c.open-opened.result in
+    let new = world_of (seen_of c.open-opened.new.self) in
+    subst (λ e. Happens w e c.or.result new) (sym c.in-Upgrade.is) (record {
+      left = left;
+      said = said;
+      opened = opened;
+      upgrades = subst (λ d. UpgradesTo c.args.self.now.config c.in-Upgrade.stop d said left) (c.into_disk-disk-in-Upgrade.ensures ∙ ap disk_of c.leave-in-Upgrade.ensures.home)
+          (subst (λ g. UpgradesTo g c.in-Upgrade.stop c.into_disk-disk-in-Upgrade.result said left) (ap (λ v. v.config) c.leave-in-Upgrade.ensures.rest) c.upgrade_disk-refused.ensures);
+      opens = opened_from left w (home_of None) opened new (subst (λ v. OpensOrNot left (world_of (seen_of v)) opened new) c.leave-in-Upgrade.ensures.rest c.open-opened.ensures.opens);
+      tells = c.or.ensures;
+    })

@@ -27,7 +27,7 @@ returns-in-Err-take_over-clause-fit c =
 pub returns-in-Ok-take_over-clause-opens : goal.returns-in-Ok-take_over-clause-opens
 returns-in-Ok-take_over-clause-opens c =
     let t = c.in-Ok-take_over.ensures in
-    opens_at c.args.self.now c.take_over.new.self c.args.disk c.in-Ok.board c.raised-life.result c.raised-life.ensures c.in-Ok.ensures.begins t.rest t.first t.later c.requires.first (c.in-Ok.ensures.found refl) c.in-Ok.ensures.calls
+    opens_at c.args.self.now c.take_over.new.self c.args.disk c.in-Ok.board c.raised-life.result c.raised-life.ensures c.in-Ok.ensures.begins t.rest t.first t.later c.requires.first (c.in-Ok.ensures.found refl) c.in-Ok.ensures.calls (c.in-Ok.ensures.unfailed refl)
 
 pub returns-in-Ok-take_over-clause-fit : goal.returns-in-Ok-take_over-clause-fit
 returns-in-Ok-take_over-clause-fit c =
