@@ -3,6 +3,8 @@ pub mod Awaited
 pub mod Because
 pub mod Devices
 pub mod Ends
+pub mod Formatting
+pub mod Headers
 pub mod Jobs
 pub mod Lower
 pub mod Noted

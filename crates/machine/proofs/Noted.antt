@@ -1,5 +1,5 @@
 -- Ranges that are noted.
-use Rattle.std.proofs.Common.{◌≡◌, ◌≤◌, ◌<◌, ◌+◌, inl, inr, sym, subst, ℕ, zero, suc, true, List, [], ◌∷◌, ◌++◌, length, min, max, arith}
+use Rattle.std.proofs.Common.{◌≡◌, ◌≤◌, ◌<◌, inl, inr, sym, subst, ℕ, zero, suc, true, List, [], ◌∷◌, ◌++◌, length, min, max, arith}
 use Rattle.machine.proofs.Common.{◌&&◌, slice_set, slice_get, Grow, IsCovered, IsIn, Range}
 use Rattle.std.specs.Prelude.{nat_le, Some}
 use Rattle.std.specs.List.{list_any}

@@ -1,7 +1,7 @@
 -- What contracts see of a machine.
 use Rattle.std.specs.Prelude.{◌≡◌, ◌≤◌, ◌-◌, ℕ, Bool, true, false, ◌&&◌, nat_le, List, length}
 use Rattle.std.specs.Prelude.{take, Option}
-use Rattle.std.specs.Prelude.{Some, None, slice_get, slice_set}
+use Rattle.std.specs.Prelude.{Some, None, is_some, slice_get, slice_set}
 use Rattle.std.specs.Prelude.{IfSome}
 use Rattle.disk.specs.Outbox.{WriteAt, is_none}
 use Rattle.guest_memory.specs.Memory.{IsInside, with_bytes}
@@ -10,7 +10,10 @@ use Rattle.disk.specs.OutboxDisk.{OutboxMakes, OutboxState, outbox_state}
 use Rattle.flusher.specs.Store.{next_call}
 use Rattle.flusher.specs.declared.progress.Call.{Call}
 use Rattle.flusher.specs.declared.progress.Call.TheVariants as call
-use Rattle.mmio_transport.specs.Device.{DeviceState}
+use Rattle.mmio_transport.specs.Device.{DeviceState, kick_of}
+use Rattle.mmio_transport.specs.Registers.{interrupt_number}
+use Rattle.mmio_transport.specs.declared.registers.Kick.{Kick}
+use Rattle.mmio_transport.specs.declared.registers.Kick.TheVariants as kick
 use Rattle.board.specs.State.{BoardState}
 use Rattle.board.specs.Telling.{telling}
 use Rattle.board.specs.Moving.{Moves}
@@ -21,7 +24,7 @@ use Rattle.machine.specs.Written.{KeepsUntold, memory_in}
 use Rattle.machine.specs.declared.fault.MachineFault.{MachineFault}
 use Rattle.machine.specs.declared.fault.MachineFault.TheVariants.{NoGuest, OutOfRange}
 use Rattle.machine.specs.declared.ranges.Range.{Range}
-use Rattle.machine.specs.Settings.{value_shown}
+use Rattle.machine.specs.Settings.{device_after, value_shown, value_taken}
 use Rattle.machine.specs.declared.settings.Window.{Window}
 
 pub record MachineState : Type 0 where
@@ -43,6 +46,26 @@ shown_in m guest offset width =
 abbrev pub WhereGuest : MachineState → ℕ → (Window → DeviceState → Type 0) → Type 0
 WhereGuest m guest P =
     IfSome (slice_get m.windows guest) (λ w. IfSome (slice_get m.board.devices guest) (λ d. P w d))
+
+-- whether there is such a guest
+abbrev pub has_guest : MachineState → ℕ → Bool
+has_guest m guest = is_some (slice_get m.windows guest) && is_some (slice_get m.board.devices guest)
+
+-- what a guest's write asks of the monitor; nothing where there is no such guest
+abbrev pub kick_by : Option Window → Option DeviceState → (offset width value : ℕ) → Kick
+kick_by (Some w) (Some d) offset width value =
+    kick_of offset width (value_taken w d offset width value)
+kick_by (Some w) None offset width value = kick.None
+kick_by None d offset width value = kick.None
+
+abbrev pub kick_in : MachineState → ℕ → (offset width value : ℕ) → Kick
+kick_in m guest offset width value =
+    kick_by (slice_get m.windows guest) (slice_get m.board.devices guest) offset width value
+
+-- the guest's InterruptStatus; 0 where there is no such guest
+abbrev pub line_by : Option DeviceState → ℕ
+line_by (Some d) = interrupt_number d.registers.interrupts
+line_by None = 0
 
 -- so many bytes from a guest address on lie in the guest's window
 abbrev pub IsInWindow : Window → DeviceState → ℕ → ℕ → Type 0
@@ -117,6 +140,18 @@ is_awaited b = waits_for_sync b && is_none b.store.disk.outbox.writes
 abbrev pub with_device : MachineState → ℕ → DeviceState → MachineState
 with_device m guest d =
     record m { board = record m.board { devices = slice_set m.board.devices guest d } }
+
+-- the machine after a guest's write; as it was where there is no such guest
+abbrev pub written_by : Option Window → Option DeviceState → MachineState → ℕ
+    → (offset width value : ℕ) → MachineState
+written_by (Some w) (Some d) m guest offset width value =
+    with_device m guest (device_after w d offset width value)
+written_by (Some w) None m guest offset width value = m
+written_by None d m guest offset width value = m
+
+abbrev pub written_in : MachineState → ℕ → (offset width value : ℕ) → MachineState
+written_in m guest offset width value =
+    written_by (slice_get m.windows guest) (slice_get m.board.devices guest) m guest offset width value
 
 -- What taking the oldest write gives, where there is so much room: its offset and how many bytes
 -- it has, and they stand at the front; nothing where no write waits, or it has more bytes.

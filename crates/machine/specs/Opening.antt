@@ -1,18 +1,23 @@
 -- Which guests make a board, and what an image of it is at first and at an opening.
-use Rattle.std.specs.Prelude.{◌≡◌, ℕ, List, length, map, IsTrue, Ok}
+use Rattle.std.specs.Prelude.{◌≡◌, ℕ, List, length, map, IsTrue, Ok, Err}
 use Rattle.std.specs.List.{All}
 use Rattle.rpmb_frame.specs.Config.{IsBoard}
 use Rattle.rpmb_frame.specs.declared.config.GuestConfig.{GuestConfig}
 use Rattle.disk.specs.Content.{content_of}
 use Rattle.disk.specs.OutboxDisk.{OutboxMakes, OutboxState, first_disk, outbox_state}
 use Rattle.disk.specs.declared.outbox_disk.Told.TheVariants.{Opened}
+use Rattle.intent_slots.specs.Header.{HasCapacities, HasMagic}
 use Rattle.intent_slots.specs.Layout.{capacities_of, image_length}
 use Rattle.recovery.specs.Format.{Holds, formatted}
+use Rattle.recovery.specs.declared.fault.OpenFault.{OpenFault}
+use Rattle.recovery.specs.declared.fault.OpenFault.TheVariants as open_fault
 use Rattle.board.specs.Opening.{Begins, Calls}
 use Rattle.board.specs.State.{BoardState}
 use Rattle.board.specs.Telling.{telling}
 use Rattle.machine.specs.Machine.{MachineState}
 use Rattle.machine.specs.Settings.{is_placed}
+use Rattle.machine.specs.declared.fault.MachineFault.{MachineFault}
+use Rattle.machine.specs.declared.fault.MachineFault.TheVariants as fault
 use Rattle.machine.specs.declared.settings.Window.{Window}
 
 abbrev pub configs_of : List Window → List GuestConfig
@@ -43,3 +48,51 @@ pub record IsOpened (windows : List Window) (image : List ℕ) (m : MachineState
   pub begins : Begins outbox_state 1 (configs_of windows) board
   pub calls : Calls OutboxMakes (first_disk image) (Ok board)
   pub told : m.board ≡ telling Opened board
+
+-- how it is told why a board's opening was refused
+abbrev pub opening_reason : OpenFault → MachineFault
+opening_reason open_fault.DiskFault = fault.DiskFault
+opening_reason open_fault.NoMemory = fault.NoMemory
+opening_reason open_fault.NotFormatted = fault.NotFormatted
+opening_reason open_fault.OtherConfig = fault.OtherConfig
+
+-- why these guests are refused: memory was, or they make no board
+pub data HasBoardFault (windows : List Window) (f : MachineFault) : Type 0 where
+  LacksMemory : f ≡ fault.NoMemory → HasBoardFault windows f
+  IsNoBoard : f ≡ fault.BadBoard → ¬ IsMonitored windows → HasBoardFault windows f
+
+-- why so many bytes are refused as an image of these guests
+pub data HasImageFault (windows : List Window) (count : ℕ) (f : MachineFault) : Type 0 where
+  OfGuests : HasBoardFault windows f → HasImageFault windows count f
+  OtherLength : f ≡ fault.BadLength → IsMonitored windows → ¬ (count ≡ length_of windows)
+      → HasImageFault windows count f
+
+-- the bytes begin with the header of this board's image
+pub record IsHeaded (windows : List Window) (image : List ℕ) : Type 0 where
+  pub magic : HasMagic (content_of image)
+  pub capacities : HasCapacities (capacities_of (configs_of windows)) (content_of image)
+
+-- why it isn't: they are no image, or another board's
+pub data HasHeaderFault (windows : List Window) (image : List ℕ) (f : MachineFault)
+    : Type 0 where
+  IsNoImage : f ≡ fault.NotFormatted → ¬ HasMagic (content_of image)
+      → HasHeaderFault windows image f
+  IsOthers : f ≡ fault.OtherConfig → HasMagic (content_of image)
+      → ¬ HasCapacities (capacities_of (configs_of windows)) (content_of image)
+      → HasHeaderFault windows image f
+
+-- why no board was opened over this disk: memory was refused, or it is what the board's opening
+-- answered
+pub data IsOpeningFault (disk : OutboxState) (f : MachineFault) : Type 0 where
+  NoRoom : f ≡ fault.NoMemory → IsOpeningFault disk f
+  Answered : (e : OpenFault) (left : OutboxState) → f ≡ opening_reason e
+      → Calls OutboxMakes disk (Err (left, e)) → IsOpeningFault disk f
+
+-- Why no machine was opened over these bytes. So those of another board are never told as no image.
+pub data HasOpeningFault (windows : List Window) (image : List ℕ) (f : MachineFault)
+    : Type 0 where
+  OfImage : HasImageFault windows (length image) f → HasOpeningFault windows image f
+  OfHeader : IsMonitored windows → length image ≡ length_of windows
+      → HasHeaderFault windows image f → HasOpeningFault windows image f
+  OfBoard : IsMonitored windows → length image ≡ length_of windows → IsHeaded windows image
+      → IsOpeningFault (first_disk image) f → HasOpeningFault windows image f

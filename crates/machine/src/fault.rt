@@ -1,4 +1,5 @@
 ghost use Rattle.std.specs.Prelude.{◌≡◌, ◌≢◌};
+ghost use Rattle.machine.specs.Opening.{opening_reason};
 ghost use Rattle.machine.specs.Stepping.{reason_of};
 
 use board::StepFault;
@@ -67,6 +68,7 @@ impl MachineFault {
 
     /// Why an image wasn't opened.
     pub(crate) fn of_opening(fault: OpenFault) -> MachineFault
+        ensures value { result ≡ opening_reason fault }
         ensures bad { result ≢ MachineFault.BadBoard }
         ensures length { result ≢ MachineFault.BadLength }
     {

@@ -4,7 +4,6 @@
 #![tactic(auto)]
 
 mod fault;
-mod following;
 mod handing;
 mod leaving;
 mod machine;
@@ -16,7 +15,6 @@ mod settings;
 mod stepping;
 
 pub use fault::MachineFault;
-pub use following::make_writes;
 pub use machine::Machine;
 pub use opening::{format_image, image_length};
 pub use ranges::Range;

@@ -1,17 +1,16 @@
 //! A board for a monitor.
-ghost use Rattle.std.specs.Prelude.{◌≡◌, ◌↔◌, ◌≤◌, ◌-◌, true, false, Some, None, Err, IsOk, IfSome};
+ghost use Rattle.std.specs.Prelude.{◌≡◌, ◌↔◌, ◌≤◌, ◌-◌, ◌%◌, true, false, Some, None, Err, IsOk, IfSome};
 ghost use Rattle.std.specs.Prelude.{OnOk, OnErr};
 ghost use Rattle.std.specs.Prelude.{length, slice_get};
 ghost use Rattle.guest_memory.specs.Memory.{IsInside, bytes_at};
 ghost use Rattle.mmio_transport.specs.Device.{after_write, kick_of};
-ghost use Rattle.mmio_transport.specs.Registers.{interrupt_number};
 ghost use Rattle.rpmb_book.specs.Book.{state};
 ghost use Rattle.board.specs.Telling.{telling};
 ghost use Rattle.disk.specs.Outbox.{first_of};
 ghost use Rattle.machine.specs.Machine.{Completes, Copies, IsInWindow, IsServed, TellsFault};
-ghost use Rattle.machine.specs.Machine.{TellsRanges};
-ghost use Rattle.machine.specs.Machine.{WhereGuest, is_awaited, shown_in, stored, waits_for_sync};
-ghost use Rattle.machine.specs.Machine.{with_device, writes_in};
+ghost use Rattle.machine.specs.Machine.{TellsRanges, WhereGuest, has_guest, is_awaited, kick_in};
+ghost use Rattle.machine.specs.Machine.{line_by, shown_in, stored, waits_for_sync, with_device};
+ghost use Rattle.machine.specs.Machine.{writes_in, written_in};
 ghost use Rattle.board.specs.State.{HasNoJob};
 ghost use Rattle.machine.specs.Ending.{HasNoMore};
 ghost use Rattle.machine.specs.Settings.{device_after, is_plain, value_taken};
@@ -67,7 +66,9 @@ impl Machine {
     }
 
     /// How many guests there are.
-    pub fn guests(&self) -> u16 {
+    pub fn guests(&self) -> u16
+        ensures { result ≡ length self.now.windows % 65536 }
+    {
         (self.windows.len() % 65_536) as u16
     }
 
@@ -88,10 +89,8 @@ impl Machine {
     /// What a guest does by writing there, and what that asks of the monitor: after `Notify` the
     /// guest is to be served; after `Reset` nothing more is. Nothing of a guest that there isn't.
     pub fn write(&mut self, guest: u16, offset: u32, width: u8, value: u32) -> Kick
-        ensures kick { WhereGuest self.old guest (λ w d.
-            result ≡ kick_of offset width (value_taken w d offset width value)) }
-        ensures state { WhereGuest self.old guest (λ w d.
-            self.new ≡ with_device self.old guest (device_after w d offset width value)) }
+        ensures kick { result ≡ kick_in self.old guest offset width value }
+        ensures state { self.new ≡ written_in self.old guest offset width value }
         ensures plain { WhereGuest self.old guest (λ w d. is_plain w ≡ true
             → self.new ≡ with_device self.old guest (after_write d offset width value)) }
     {
@@ -112,6 +111,9 @@ impl Machine {
             IsOk result ↔ IsInWindow w d at (length bytes.now)) }
         ensures state { WhereGuest self.old guest (λ w d. OnOk result
             (self.new ≡ with_device self.old guest (stored d (at - w.base) bytes.now))) }
+        ensures absent { has_guest self.old guest ≡ false → result ≡ Err MachineFault.NoGuest }
+        ensures outside { has_guest self.old guest ≡ true
+            → OnErr result (result ≡ Err MachineFault.OutOfRange) }
         ensures unchanged { OnErr result (self.new ≡ self.old) }
     {
         let number = usize::from(guest);
@@ -136,6 +138,9 @@ impl Machine {
             IsOk result ↔ IsInWindow w d at (length out.old)) }
         ensures bytes { WhereGuest self.now guest (λ w d. OnOk result
             (out.new ≡ bytes_at d.memory (at - w.base) (length out.old))) }
+        ensures absent { has_guest self.now guest ≡ false → result ≡ Err MachineFault.NoGuest }
+        ensures outside { has_guest self.now guest ≡ true
+            → OnErr result (result ≡ Err MachineFault.OutOfRange) }
         ensures unchanged { OnErr result (out.new ≡ out.old) }
     {
         let number = usize::from(guest);
@@ -152,8 +157,7 @@ impl Machine {
     /// InterruptStatus of the guest's device (VIRTIO 1.2, 4.2.2): its line is high exactly where
     /// it isn't 0. 0 for a guest that there isn't.
     pub fn interrupt(&self, guest: u16) -> u32
-        ensures line { IfSome (slice_get self.now.board.devices guest) (λ d.
-            result ≡ interrupt_number d.registers.interrupts) }
+        ensures line { result ≡ line_by (slice_get self.now.board.devices guest) }
     {
         match self.board.device_of(guest) {
             Some(device) => device.interrupt_status(),
@@ -206,7 +210,7 @@ impl Machine {
     pub fn outbox(&mut self, out: &mut [u8]) -> Option<(u64, usize)>
         ensures copies { Copies (first_of (writes_in self.old)) (length out.old) result out.new }
         ensures taken { IfSome result (λ w. self.new.board ≡ telling Told.Taken self.old.board) }
-        ensures none { result ≡ None → self.new ≡ self.old }
+        ensures none { result ≡ None → (self.new ≡ self.old) × (out.new ≡ out.old) }
     {
         match copy_oldest(self.board.disk(), out) {
             Some((at, count)) => {
@@ -266,6 +270,7 @@ fn load_from(device: &Device, base: u64, at: u64, out: &mut [u8]) -> Result<(), 
         ↔ ((base ≤ at) × IsInside device.now.memory (at - base) (length out.old)) }
     ensures bytes { OnOk result
         (out.new ≡ bytes_at device.now.memory (at - base) (length out.old)) }
+    ensures outside { OnErr result (result ≡ Err MachineFault.OutOfRange) }
     ensures unchanged { OnErr result (out.new ≡ out.old) }
 {
     if at < base {
@@ -279,7 +284,8 @@ fn load_from(device: &Device, base: u64, at: u64, out: &mut [u8]) -> Result<(), 
 
 /// Copies the oldest write that waits into the front of `out`, where it has room.
 fn copy_oldest(disk: &OutboxDisk, out: &mut [u8]) -> Option<(u64, usize)>
-    ensures { Copies (first_of disk.now.outbox.writes) (length out.old) result out.new }
+    ensures copies { Copies (first_of disk.now.outbox.writes) (length out.old) result out.new }
+    ensures none { result ≡ None → out.new ≡ out.old }
 {
     let Some(waiting) = disk.oldest() else {
         return None;

@@ -1,12 +1,15 @@
 //! Fresh images, and machines over an image that a stop may have left.
-ghost use Rattle.std.specs.Prelude.{◌≡◌, ◌↔◌, Ok, Err, IsTrue, IfOk, OnOk, OnErr, length};
+ghost use Rattle.std.specs.Prelude.{◌≡◌, ◌↔◌, Ok, Err, IsTrue, IfOk, IfErr, OnOk, OnErr};
+ghost use Rattle.std.specs.Prelude.{length};
 ghost use Rattle.std.specs.List.{All};
 ghost use Rattle.disk.specs.Content.{content_of};
 ghost use Rattle.disk.specs.OutboxDisk.{OutboxMakes, first_disk, outbox_state};
 ghost use Rattle.board.specs.Opening.{Begins, Calls};
 ghost use Rattle.intent_slots.specs.Layout as layout;
 ghost use Rattle.recovery.specs.Format.{Holds, formatted};
-ghost use Rattle.machine.specs.Opening.{IsFresh, IsMonitored, IsOpened, configs_of, length_of};
+ghost use Rattle.machine.specs.Opening.{HasBoardFault, HasHeaderFault, HasImageFault};
+ghost use Rattle.machine.specs.Opening.{HasOpeningFault, IsFresh, IsHeaded, IsMonitored, IsOpened};
+ghost use Rattle.machine.specs.Opening.{IsOpeningFault, configs_of, length_of};
 ghost use Rattle.machine.specs.Settings.{is_placed};
 
 use crate::fault::MachineFault;
@@ -15,7 +18,7 @@ use crate::ranges::Range;
 use crate::settings::Window;
 use board::Board;
 use disk::{MemDisk, OutboxDisk, Told};
-use intent_slots::Layout;
+use intent_slots::{HeaderFault, Layout};
 use recovery::format;
 use rpmb_frame::{BoardConfig, GuestConfig};
 use std::alloc::Global;
@@ -51,6 +54,7 @@ fn configs(alloc: Global, windows: &[Window]) -> Result<Vec<GuestConfig>, Machin
 fn board_of(alloc: Global, windows: &[Window]) -> Result<BoardConfig, MachineFault>
     ensures value { IfOk result (λ board. board ≡ configs_of windows.now) }
     ensures monitored { OnOk result (IsMonitored windows.now) }
+    ensures cause { IfErr result (λ f. HasBoardFault windows.now f) }
     ensures bad { result ≡ Err MachineFault.BadBoard → ¬ IsMonitored windows.now }
     ensures length { ¬ (result ≡ Err MachineFault.BadLength) }
 {
@@ -69,6 +73,7 @@ fn board_of(alloc: Global, windows: &[Window]) -> Result<BoardConfig, MachineFau
 pub fn image_length(alloc: Global, windows: &[Window]) -> Result<u64, MachineFault>
     ensures value { IfOk result (λ bytes. bytes ≡ length_of windows.now) }
     ensures monitored { OnOk result (IsMonitored windows.now) }
+    ensures cause { IfErr result (λ f. HasBoardFault windows.now f) }
     ensures bad { result ≡ Err MachineFault.BadBoard → ¬ IsMonitored windows.now }
 {
     Ok(Layout::of(&board_of(alloc, windows)?).length())
@@ -80,7 +85,10 @@ pub fn format_image(alloc: Global, windows: &[Window], image: &mut [u8]) -> Resu
     ensures fresh { OnOk result (IsFresh windows.now image.new) }
     ensures monitored { OnOk result (IsMonitored windows.now) }
     ensures unchanged { OnErr result (image.new ≡ image.old) }
+    ensures cause { IfErr result (λ f. HasImageFault windows.now (length image.old) f) }
     ensures bad { result ≡ Err MachineFault.BadBoard → ¬ IsMonitored windows.now }
+    ensures length { result ≡ Err MachineFault.BadLength
+        → ¬ (length image.old ≡ length_of windows.now) }
 {
     let board = board_of(alloc, windows)?;
     if image.len() as u64 != Layout::of(&board).length() {
@@ -96,7 +104,7 @@ fn format_all(alloc: Global, board: &BoardConfig, image: &mut [u8]) -> Result<()
         (layout.image_length (layout.capacities_of board.now)) (content_of image.new)) }
     ensures count { length image.new ≡ length image.old }
     ensures unchanged { OnErr result (image.new ≡ image.old) }
-    ensures bad { ¬ (result ≡ Err MachineFault.BadBoard) }
+    ensures memory { OnErr result (result ≡ Err MachineFault.NoMemory) }
 {
     let Ok(bytes) = vec![in alloc; 0u8; image.len()] else {
         return Err(MachineFault::NoMemory);
@@ -104,13 +112,10 @@ fn format_all(alloc: Global, board: &BoardConfig, image: &mut [u8]) -> Result<()
     let mut disk = MemDisk::new(bytes);
     match format(&mut disk, board) {
         Ok(()) => {}
-        Err(fault) => return Err(MachineFault::of_opening(fault)),
+        // No call of a disk in memory fails.
+        Err(_) => unreachable!(),
     }
-    let made = disk.content();
-    if made.len() != image.len() {
-        return Err(MachineFault::BadLength);
-    }
-    image.copy_from_slice(made);
+    image.copy_from_slice(disk.content());
     Ok(())
 }
 
@@ -128,6 +133,21 @@ fn disk_over(alloc: Global, image: &[u8]) -> Result<OutboxDisk, MachineFault>
     }
 }
 
+/// Whether an image begins with the header of these guests' image. It is looked at before memory
+/// is taken.
+fn check_header(windows: &[Window], config: &BoardConfig, image: &[u8]) -> Result<(), MachineFault>
+    requires board { config.now ≡ configs_of windows.now }
+    requires long { length image.now ≡ length_of windows.now }
+    ensures headed { OnOk result (IsHeaded windows.now image.now) }
+    ensures cause { IfErr result (λ f. HasHeaderFault windows.now image.now f) }
+{
+    match Layout::of(config).check_header(image) {
+        Ok(()) => Ok(()),
+        Err(HeaderFault::NotFormatted) => Err(MachineFault::NotFormatted),
+        Err(HeaderFault::OtherConfig) => Err(MachineFault::OtherConfig),
+    }
+}
+
 /// The board over an image, and nothing else.
 fn board_over(
     alloc: Global,
@@ -136,6 +156,7 @@ fn board_over(
 ) -> Result<Board<OutboxDisk>, MachineFault>
     ensures begins { IfOk result (λ b. Begins outbox_state 1 config.now b) }
     ensures calls { IfOk result (λ b. Calls OutboxMakes (first_disk image.now) (Ok b)) }
+    ensures cause { IfErr result (λ f. IsOpeningFault (first_disk image.now) f) }
     ensures bad { ¬ (result ≡ Err MachineFault.BadBoard) }
     ensures length { ¬ (result ≡ Err MachineFault.BadLength) }
 {
@@ -171,19 +192,21 @@ impl Machine {
     /// are copied, and freed once it is open.
     ///
     /// `BadBoard` where the guests are none or more than 64, or one is out of its range, or its
-    /// window's base;
-    /// `BadLength` where there are more or fewer bytes than their image has; `NotFormatted`,
-    /// `OtherConfig` and `NoMemory`.
+    /// window's base; `BadLength` where there are more or fewer bytes than their image has; by the
+    /// header `NotFormatted` where they are no image, and `OtherConfig` where they are another
+    /// board's; `NotFormatted` where a partition isn't well formed; and `NoMemory`.
     pub fn open(alloc: Global, windows: &[Window], image: &[u8]) -> Result<Machine, MachineFault>
         ensures opened { IfOk result (λ m. IsOpened windows.now image.now m) }
         ensures bad { result ≡ Err MachineFault.BadBoard → ¬ IsMonitored windows.now }
         ensures length { result ≡ Err MachineFault.BadLength
             → ¬ (length image.now ≡ length_of windows.now) }
+        ensures cause { IfErr result (λ f. HasOpeningFault windows.now image.now f) }
     {
         let config = board_of(alloc, windows)?;
         if image.len() as u64 != Layout::of(&config).length() {
             return Err(MachineFault::BadLength);
         }
+        check_header(windows, &config, image)?;
         let (kept, held, written) = beside(alloc, windows)?;
         let mut board = board_over(alloc, &config, image)?;
         board.tell(Told::Opened);

@@ -2,5 +2,6 @@ mod answers;
 mod offers;
 mod playing;
 mod ranges;
+mod refusals;
 mod rig;
 mod settings;

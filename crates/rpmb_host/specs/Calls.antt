@@ -1,23 +1,22 @@
 -- What the calls answer, and what they leave of the machine in a handle (own).
-use Rattle.std.specs.Prelude.{◌≡◌, ◌-◌, ℕ, true, false, List, Option, Some, None, IfSome}
+use Rattle.std.specs.Prelude.{◌≡◌, ◌↔◌, ◌<◌, ◌-◌, ℕ, true, false, List, Option, Some, None, IfSome}
 use Rattle.std.specs.Prelude.{length, slice_get}
 use Rattle.guest_memory.specs.Memory.{bytes_at, with_bytes}
 use Rattle.disk.specs.Outbox.{first_of}
 use Rattle.disk.specs.declared.outbox_disk.Told.TheVariants.{Failed, Synced, Taken}
 use Rattle.board.specs.Telling.{telling}
-use Rattle.mmio_transport.specs.Device.{DeviceState, after_write, kick_of}
-use Rattle.mmio_transport.specs.Registers.{interrupt_number}
+use Rattle.mmio_transport.specs.Device.{DeviceState, after_write}
 use Rattle.machine.specs.Ending.{HasNoMore}
 use Rattle.machine.specs.Machine.{Completes, Copies, IsInWindow, IsServed, MachineState}
-use Rattle.machine.specs.Machine.{TellsFault, TellsRanges, is_awaited, shown_by, waits_for_sync}
-use Rattle.machine.specs.Machine.{with_device}
+use Rattle.machine.specs.Machine.{TellsFault, TellsRanges, has_guest, is_awaited, kick_in, line_by}
+use Rattle.machine.specs.Machine.{shown_by, waits_for_sync, with_device, written_in}
 use Rattle.board.specs.State.{HasNoJob}
-use Rattle.machine.specs.Settings.{is_plain, value_taken}
-use Rattle.machine.specs.Opening.{IsMonitored, length_of}
+use Rattle.machine.specs.Settings.{is_plain}
+use Rattle.machine.specs.Opening.{HasImageFault, HasOpeningFault, IsMonitored, length_of}
 use Rattle.machine.specs.declared.ranges.Range.{Range}
 use Rattle.machine.specs.declared.settings.Window.{Window}
 use Rattle.machine.specs.declared.fault.MachineFault.{MachineFault}
-use Rattle.rpmb_host.specs.Numbers.{flag, kick_number, told_number}
+use Rattle.rpmb_host.specs.Numbers.{fault_number, flag, kick_number, told_number}
 
 -- a relation of machines, and a fact of one
 abbrev pub Relation : Type 1
@@ -29,6 +28,18 @@ Fact = MachineState → Type 0
 -- the image of these guests' board has so many bytes
 abbrev pub Spans : List Window → ℕ → Type 0
 Spans windows count = IsMonitored windows × (count ≡ length_of windows)
+
+-- the number is that of a fault, for which so many bytes are refused as an image of these guests
+pub record RefusesImage (windows : List Window) (count number : ℕ) : Type 0 where
+  pub fault : MachineFault
+  pub numbered : number ≡ fault_number fault
+  pub cause : HasImageFault windows count fault
+
+-- the number is that of a fault, for which no machine was opened over these bytes
+pub record RefusesOpening (windows : List Window) (image : List ℕ) (number : ℕ) : Type 0 where
+  pub fault : MachineFault
+  pub numbered : number ≡ fault_number fault
+  pub cause : HasOpeningFault windows image fault
 
 -- one machine is held before the call and one after it, and they are related so
 abbrev pub Between : Option MachineState → Option MachineState → Relation → Type 0
@@ -56,13 +67,12 @@ Reads guest offset width value m =
 
 -- a guest's write asks for this
 abbrev pub Kicks : (guest offset width value kick : ℕ) → Fact
-Kicks guest offset width value kick m = OfGuest m guest (λ w d.
-    kick ≡ kick_number (kick_of offset width (value_taken w d offset width value)))
+Kicks guest offset width value kick m =
+    kick ≡ kick_number (kick_in m guest offset width value)
 
--- and does this
+-- and does this; nothing where there is no such guest
 abbrev pub Writes : (guest offset width value : ℕ) → Relation
-Writes guest offset width value old new = OfGuest old guest (λ w d.
-    new ≡ with_device old guest (after_write d offset width (value_taken w d offset width value)))
+Writes guest offset width value old new = new ≡ written_in old guest offset width value
 
 -- where nothing is asked beside the plain device, just what the register table says
 abbrev pub WritesPlainly : (guest offset width value : ℕ) → Relation
@@ -79,10 +89,16 @@ abbrev pub Loads : (guest at : ℕ) → List ℕ → Fact
 Loads guest at bytes m = OfGuest m guest (λ w d. IsInWindow w d at (length bytes)
     × (bytes ≡ bytes_at d.memory (at - w.base) (length bytes)))
 
--- the guest's InterruptStatus
+-- What a store and a load of so many bytes tell: 0 just where they lie in the window of a guest that
+-- there is; else whether it is the guest or the range that there isn't.
+pub record TellsBytes (guest at count number : ℕ) (m : MachineState) : Type 0 where
+  pub succeeds : OfGuest m guest (λ w d. (number ≡ 0) ↔ IsInWindow w d at count)
+  pub absent : has_guest m guest ≡ false → number ≡ 1
+  pub outside : has_guest m guest ≡ true → 0 < number → number ≡ 2
+
+-- the guest's InterruptStatus; 0 where there is no such guest
 abbrev pub Interrupts : (guest status : ℕ) → Fact
-Interrupts guest status m = OfDevice m guest (λ d.
-    status ≡ interrupt_number d.registers.interrupts)
+Interrupts guest status m = status ≡ line_by (slice_get m.board.devices guest)
 
 -- The guest is served: by its steps alone; at each moment a stop leaves, of every guest, the
 -- partition after a prefix of its accepted requests, with all that was settled before; and of
@@ -118,6 +134,13 @@ Awaits sync old new = sync ≡ flag (waits_for_sync new.board)
 abbrev pub Gives : (room at count : ℕ) → List ℕ → Fact
 Gives room at count bytes m =
     Copies (first_of m.board.store.disk.outbox.writes) room (Some (at, count)) bytes
+
+-- Nothing is given: no write waits, or the oldest has more bytes than there is room for, and all
+-- stays; or that write was an empty one, of which the store makes none, and was taken.
+pub data GivesNone (at at' : ℕ) (bytes bytes' : List ℕ) (old new : MachineState) : Type 0 where
+  NoneFits : Copies (first_of old.board.store.disk.outbox.writes) (length bytes) None bytes'
+      → at' ≡ at → bytes' ≡ bytes → new ≡ old → GivesNone at at' bytes bytes' old new
+  EmptyOne : Gives (length bytes) at' 0 bytes' old → GivesNone at at' bytes bytes' old new
 
 -- it was taken out of the outbox
 abbrev pub Takes : Relation

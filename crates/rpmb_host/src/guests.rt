@@ -1,5 +1,5 @@
 //! The guests of a board, as C lays them out.
-ghost use Rattle.std.specs.Prelude.{◌≡◌, IfOk, map};
+ghost use Rattle.std.specs.Prelude.{◌≡◌, IfOk, OnErr, Err, map};
 ghost use Rattle.rpmb_host.specs.Guests.{window_of};
 
 use machine::{MachineFault, Window};
@@ -63,7 +63,8 @@ impl RpmbGuest {
 
 /// The same guests for a machine. Where memory is refused, `NoMemory`.
 pub(crate) fn windows_of(alloc: Global, guests: &[RpmbGuest]) -> Result<Vec<Window>, MachineFault>
-    ensures { IfOk result (λ windows. windows.items ≡ map window_of guests.now) }
+    ensures windows { IfOk result (λ windows. windows.items ≡ map window_of guests.now) }
+    ensures memory { OnErr result (result ≡ Err MachineFault.NoMemory) }
 {
     let mut windows = Vec::new(alloc);
     for guest in guests {

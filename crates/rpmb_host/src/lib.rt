@@ -2,12 +2,13 @@
 //! calls, and what their callers owe.
 #![tactic(auto)]
 
-ghost use Rattle.std.specs.Prelude.{◌≡◌, ◌⊎◌, ◌<◌, IfOk, None, true, is_some, length, map};
-ghost use Rattle.machine.specs.Opening.{IsFresh, IsOpened};
+ghost use Rattle.std.specs.Prelude.{◌≡◌, ◌<◌, IfOk, IfErr, None, true, is_some, length, map};
+ghost use Rattle.machine.specs.Opening.{HasOpeningFault, IsFresh, IsOpened};
 ghost use Rattle.rpmb_host.specs.Calls.{Answered, Awaits, Between, Fails, Faults, Fills};
-ghost use Rattle.rpmb_host.specs.Calls.{Gives, Holds};
-ghost use Rattle.rpmb_host.specs.Calls.{Interrupts, Kicks, Loads, Reads, Refuses, Rests, Serves};
-ghost use Rattle.rpmb_host.specs.Calls.{Spans, Stores, Syncs, Takes, Writes, WritesPlainly};
+ghost use Rattle.rpmb_host.specs.Calls.{Gives, GivesNone, Holds, Interrupts, Kicks, Loads, Reads};
+ghost use Rattle.rpmb_host.specs.Calls.{Refuses, RefusesImage, RefusesOpening, Rests, Serves};
+ghost use Rattle.rpmb_host.specs.Calls.{Spans, Stores, Syncs, Takes, TellsBytes, Writes};
+ghost use Rattle.rpmb_host.specs.Calls.{WritesPlainly};
 ghost use Rattle.rpmb_host.specs.Guests.{window_of};
 
 mod guests;
@@ -44,6 +45,8 @@ pub extern "C" fn rpmb_image_length(alloc: Global, guests: &[RpmbGuest]) -> u64
 pub extern "C" fn rpmb_format(alloc: Global, guests: &[RpmbGuest], image: &mut [u8]) -> u32
     ensures fresh { result ≡ 0 → IsFresh (map window_of guests.now) image.new }
     ensures unchanged { 0 < result → image.new ≡ image.old }
+    ensures told { 0 < result
+        → RefusesImage (map window_of guests.now) (length image.old) result }
 {
     match windows_of(alloc, guests) {
         Ok(windows) => match format_image(alloc, &windows, image) {
@@ -56,7 +59,10 @@ pub extern "C" fn rpmb_format(alloc: Global, guests: &[RpmbGuest], image: &mut [
 
 /// Opens an image over these guests, on the heap.
 fn opened(alloc: Global, guests: &[RpmbGuest], image: &[u8]) -> Result<Box<Machine>, MachineFault>
-    ensures { IfOk result (λ machine. IsOpened (map window_of guests.now) image.now machine.value) }
+    ensures opened { IfOk result
+        (λ machine. IsOpened (map window_of guests.now) image.now machine.value) }
+    ensures cause { IfErr result
+        (λ fault. HasOpeningFault (map window_of guests.now) image.now fault) }
 {
     let windows = windows_of(alloc, guests)?;
     let machine = Machine::open(alloc, &windows, image)?;
@@ -79,6 +85,7 @@ pub extern "C" fn rpmb_open(
     ensures opened { result ≡ 0
         → Holds host.new.value (IsOpened (map window_of guests.now) image.now) }
     ensures refused { 0 < result → host.new.value ≡ None }
+    ensures told { 0 < result → RefusesOpening (map window_of guests.now) image.now result }
 {
     match opened(alloc, guests, image) {
         Ok(machine) => {
@@ -152,6 +159,7 @@ pub extern "C" fn rpmb_store(
     ensures stored { result ≡ 0
         → Between host.old.value host.new.value (Stores guest at bytes.now) }
     ensures unchanged { 0 < result → host.new.value ≡ host.old.value }
+    ensures told { Holds host.old.value (TellsBytes guest at (length bytes.now) result) }
 {
     let mut machine = take(alloc, host);
     let stored = machine.store(guest, at, bytes);
@@ -174,6 +182,7 @@ pub extern "C" fn rpmb_load(
     requires { is_some host.old.value ≡ true }
     ensures loaded { result ≡ 0 → Holds host.old.value (Loads guest at bytes.new) }
     ensures refused { 0 < result → bytes.new ≡ bytes.old }
+    ensures told { Holds host.old.value (TellsBytes guest at (length bytes.old) result) }
     ensures unchanged { host.new.value ≡ host.old.value }
 {
     let machine = take(alloc, host);
@@ -226,8 +235,8 @@ pub extern "C" fn rpmb_outbox(
     ensures gives { 0 < result
         → Holds host.old.value (Gives (length bytes.old) at.new result bytes.new) }
     ensures taken { 0 < result → Between host.old.value host.new.value Takes }
-    ensures nothing { result ≡ 0 → (host.new.value ≡ host.old.value)
-        ⊎ Holds host.old.value (Gives (length bytes.old) at.new 0 bytes.new) }
+    ensures nothing { result ≡ 0 → Between host.old.value host.new.value
+        (GivesNone at.old at.new bytes.old bytes.new) }
 {
     let mut machine = take(alloc, host);
     let taken = machine.outbox(bytes);
