@@ -1,11 +1,16 @@
 -- Which faults end `show` and `upgrade`, and which calls they make.
-use Rattle.std.proofs.Common.{◌≡◌, List, refl}
+use Rattle.std.proofs.Common.{◌≡◌, ℕ, List, Option, Result, Ok, Err, refl}
 use Rattle.commands.proofs.Common.{true, GuestConfig, DiskCall, DiskState, HasRisen, capacities_of, OpenFault, AnswersFault, fault_of_image, Ends, IsReadAlone, Synced, showing, upgrading}
 use Rattle.recovery.specs.declared.fault.OpenFault.TheVariants as image
 use Rattle.recovery.specs.Opening.{CallsFault}
 use Rattle.recovery.specs.Upgrade.{CallsNotDone}
 use Rattle.recovery.specs.Front.{TellsVersionFault}
 use Rattle.commands.specs.Ending.{Uncalled}
+use Rattle.commands.specs.Upgrading.{TellsUpgrade, upgraded_line}
+use Rattle.commands.specs.declared.fault.Fault.{Fault}
+use Rattle.commands.specs.declared.fault.Fault.TheVariants as fault
+use Rattle.recovery.specs.declared.upgrading.Upgraded.{Upgraded}
+use Rattle.commands.proofs.Common.{OnOk, Appends}
 
 -- a fault of an opening ends a listing
 pub show_ends : (board : List GuestConfig) (old new : DiskState) (f : OpenFault) → (f ≡ image.NoMemory → new ≡ old) → (f ≡ image.DiskFault → HasRisen old.failures new.failures)
@@ -22,6 +27,12 @@ upgrade_ends makes board a b old new image.NoMemory calls cause answers = absurd
 upgrade_ends makes board a b old new image.DiskFault calls cause answers = cause refl
 upgrade_ends makes board a b old new image.NotFormatted calls cause answers = answers
 upgrade_ends makes board a b old new image.OtherConfig calls cause answers = answers
+
+-- the line of an upgrade that ended well, or why it wasn't printed
+pub done_told : (done : Upgraded) (ended : Result (Unit {0}) Fault) (start now : Option (List ℕ)) → OnOk ended (Appends start now (upgraded_line done))
+    → ((f : Fault) → ended ≡ Err f → f ≡ fault.FileFault) → TellsUpgrade (Ok done) ended start now
+done_told done (Ok told) start now printed only = printed
+done_told done (Err f) start now printed only = only f refl
 
 pub read_alone : {D : Type 0} (makes : D → DiskCall → D → Type 0) (old new : D) (f : OpenFault) → CallsFault makes old new f → IsReadAlone makes old new
 read_alone makes old new image.NoMemory calls = Uncalled calls

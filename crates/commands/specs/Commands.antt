@@ -9,8 +9,8 @@ use Rattle.rpmb_frame.specs.declared.config.GuestConfig.{GuestConfig}
 use Rattle.disk.specs.Disk.{DiskCall, DiskState, Within}
 use Rattle.intent_slots.specs.Layout.{capacities_of, image_length}
 use Rattle.recovery.specs.Format.{ClearsFirst, IsFormatted}
-use Rattle.recovery.specs.Opening.{IsImage, Untouched}
-use Rattle.recovery.specs.Upgrade.{IsNamed, StandsThroughout}
+use Rattle.recovery.specs.Opening.{IsImage, SyncsFirst, Untouched}
+use Rattle.recovery.specs.Upgrade.{IsNamed, IsUpgradable, StandsThroughout}
 use Rattle.script.specs.Line.{Said}
 use Rattle.commands.specs.Ending.{Ends, IsReadAlone, KeepsUnless, RunPrints, Takes, formatting}
 use Rattle.commands.specs.Ending.{running, serving}
@@ -22,7 +22,7 @@ use Rattle.commands.specs.Moments.{AnyMoment}
 use Rattle.commands.specs.ServedImage.{ServeKeeps}
 use Rattle.commands.specs.Serving.{IsUnservedAt, ServeLeaves, ServePrints, ServesAll}
 use Rattle.commands.specs.Transcript.{IsBadAt, Says, StoresNothing}
-use Rattle.commands.specs.Upgrading.{PrintsUpgrade}
+use Rattle.commands.specs.Upgrading.{CallsAsTold, PrintsUpgrade}
 use Rattle.commands.specs.declared.fault.Fault.{Fault}
 
 pub record FormatDoes {D : Type 0} (shows : D → DiskState) (makes : D → DiskCall → D → Type 0)
@@ -50,6 +50,10 @@ pub record UpgradeDoes {D : Type 0} (shows : D → DiskState) (makes : D → Dis
     (board : List GuestConfig) (old : D) (start : Option (List ℕ)) (ended : Result (Unit {0}) Fault)
     (new : D) (now : Option (List ℕ)) : Type 0 where
   pub stands : StandsThroughout shows makes (capacities_of board) old new
+  pub calls : CallsAsTold shows makes (capacities_of board) old start ended new now
+  pub unwritten : (shows old).faithful ≡ true
+      → ¬ IsUpgradable (capacities_of board) (shows old).len (shows old).seen
+      → SyncsFirst makes old new
   pub named : OnOk ended ((shows old).faithful ≡ true → IsNamed (shows new))
   pub printed : OnOk ended (PrintsUpgrade (capacities_of board) (shows old) start now)
   pub ends : IfErr ended (Ends upgrading board (shows old) (shows new))

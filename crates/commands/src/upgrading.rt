@@ -4,9 +4,10 @@ ghost use Rattle.std.specs.Prelude.{◌≡◌, true, Err, IfErr, OnOk};
 ghost use Rattle.std.specs.Io.KnownBytes.{Appends};
 ghost use Rattle.disk.specs.Disk.{DiskState};
 ghost use Rattle.intent_slots.specs.Layout.{capacities_of};
-ghost use Rattle.recovery.specs.Upgrade.{IsNamed, StandsThroughout};
+ghost use Rattle.recovery.specs.Opening.{SyncsFirst};
+ghost use Rattle.recovery.specs.Upgrade.{IsNamed, IsUpgradable, StandsThroughout};
 ghost use Rattle.commands.specs.Ending.{Ends, KeepsUnless, upgrading};
-ghost use Rattle.commands.specs.Upgrading.{PrintsUpgrade, upgraded_line};
+ghost use Rattle.commands.specs.Upgrading.{CallsAsTold, PrintsUpgrade, upgraded_line};
 
 use crate::fault::Fault;
 use disk::Disk;
@@ -35,7 +36,8 @@ fn write_done<W: Write>(done: Upgraded, out: &mut W) -> Result<(), Fault>
 }
 
 /// Makes the image of the board one of version 2, and prints whether it did. At each moment every
-/// stop leaves what stands for the partitions that stood before.
+/// stop leaves what stands for the partitions that stood before. Nothing is written to an image
+/// that is of version 2 already, nor to what is no image of this board.
 ///
 /// # Errors
 ///
@@ -48,6 +50,12 @@ pub fn upgrade<D: Disk, W: Write>(
     out: &mut W,
 ) -> Result<(), Fault>
     ensures stands { StandsThroughout D.state D.makes (capacities_of board.now) disk.old disk.new }
+    // Which calls it makes, by what was done: none that writes to an image of version 2.
+    ensures calls { CallsAsTold D.state D.makes (capacities_of board.now) disk.old
+        (W.contents out.old) result disk.new (W.contents out.new) }
+    ensures unwritten { (D.state disk.old).faithful ≡ true
+        → ¬ IsUpgradable (capacities_of board.now) (D.state disk.old).len (D.state disk.old).seen
+        → SyncsFirst D.makes disk.old disk.new }
     ensures named { OnOk result ((D.state disk.old).faithful ≡ true → IsNamed (D.state disk.new)) }
     ensures printed { OnOk result (PrintsUpgrade (capacities_of board.now) (D.state disk.old)
         (W.contents out.old) (W.contents out.new)) }

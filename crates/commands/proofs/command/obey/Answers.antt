@@ -19,7 +19,7 @@ pub returns-in-Upgrade : goal.returns-in-Upgrade
 returns-in-Upgrade g c =
     let r = c.upgrade-done in
     subst (λ (k : Command). Does g.D.Disk.state g.D.Disk.makes k c.args.board.now c.args.script.now c.args.disk (g.W.Write.contents c.args.out.now) r.result (Some r.new.disk) (g.W.Write.contents r.new.out)) (sym c.in-Upgrade.is)
-    (record { stands = r.ensures.stands; named = r.ensures.named; printed = r.ensures.printed; ends = r.ensures.ends; silent = r.ensures.silent })
+    (record { stands = r.ensures.stands; calls = r.ensures.calls; unwritten = r.ensures.unwritten; named = r.ensures.named; printed = r.ensures.printed; ends = r.ensures.ends; silent = r.ensures.silent })
 
 pub returns-in-Run : goal.returns-in-Run
 returns-in-Run g c =
