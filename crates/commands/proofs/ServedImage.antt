@@ -1,8 +1,9 @@
 -- What the threads of a serve leave of the image.
-use Rattle.std.proofs.Common.{◌≡◌, ◌⊎◌, inl, inr, ◌∙◌, ℕ, ◌<◌, ◌≤◌, Bool, true, false, List, [], ◌++◌, Option, Some, None, Result, Ok, Err, length, take, drop, append-nil, refl, ap, ap₂, sym, subst, arith}
+use Rattle.std.proofs.Common.{◌≡◌, ◌⊎◌, inl, inr, ◌∙◌, ℕ, ◌<◌, ◌≤◌, ◌%◌, Bool, true, false, List, [], ◌++◌, Option, Some, None, Result, Ok, Err, length, take, drop, append-nil, refl, ap, ap₂, sym, subst, arith}
 use Rattle.commands.proofs.Common.{OnOk, slice_get, length-map, get_or_from_slice_get, slice_get_cases, sequence, GuestConfig, DiskCall, DiskState, HasRisen, Still, Within, within_end, capacities_of, region_at, part_of, Guest, mark_of, Untouched, Begins, bases_of, BoardState, AreOf, Fault}
 use Rattle.std.specs.Prelude.{position, IfSome}
 use Rattle.std.proofs.lemmas.List.{take-append-drop}
+use Rattle.std.proofs.Math.Nat.{mod-eq_of_lt}
 use Rattle.rpmb_frame.specs.Partition.{Partition}
 use Rattle.std.specs.List.{list_any}
 use Rattle.rpmb_frame.specs.Partition.{empty_partition}
@@ -35,6 +36,9 @@ there xs n inside = elim (slice_get_cases xs n).1 [
   | inl found ↦ (found.0, found.2)
   | inr past ↦ (let beyond = past.0 in absurd (omega (arith, beyond, inside)))
 ]
+
+pub few_guests : (n m : ℕ) → n ≡ m → m ≤ 64 → n % 65536 ≡ m
+few_guests n m same few = mod-eq_of_lt (omega (arith, same, few)) ∙ same
 
 -- 1. A store at rest has nothing under way
 

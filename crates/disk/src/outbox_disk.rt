@@ -138,6 +138,11 @@ impl OutboxDisk {
         self.outbox.oldest()
     }
 
+    /// Its owner's file is a faithful one, as far as clauses speak of it. It does nothing.
+    pub fn what_always_holds(&self)
+        ensures { (outbox_state self.now).faithful ≡ true }
+    {}
+
     /// Tells what came of the writes and syncs, or that the opening is over. It makes no call.
     pub fn tell(&mut self, told: Told)
         ensures value { self.new ≡ after_told told self.old }

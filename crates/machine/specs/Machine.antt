@@ -3,7 +3,13 @@ use Rattle.std.specs.Prelude.{◌≡◌, ◌≤◌, ◌-◌, ℕ, Bool, true, fa
 use Rattle.std.specs.Prelude.{take, Option}
 use Rattle.std.specs.Prelude.{Some, None, is_some, slice_get, slice_set}
 use Rattle.std.specs.Prelude.{IfSome}
+use Rattle.disk.specs.Content.{Content}
+use Rattle.disk.specs.Disk.{MayLeave}
 use Rattle.disk.specs.Outbox.{WriteAt, is_none}
+use Rattle.intent_slots.specs.Recovered.{Part, Stands}
+use Rattle.flusher.specs.declared.guest.Guest.{Guest}
+use Rattle.flusher.specs.Pair.{mark_of, region_of}
+use Rattle.flusher.specs.SlotInvariant.{sequence_of_part}
 use Rattle.guest_memory.specs.Memory.{IsInside, with_bytes}
 use Rattle.disk.specs.declared.outbox_disk.Told.{Told}
 use Rattle.disk.specs.OutboxDisk.{OutboxMakes, OutboxState, outbox_state}
@@ -74,6 +80,13 @@ IsInWindow w d at count = (w.base ≤ at) × IsInside d.memory (at - w.base) cou
 -- a device into whose memory its guest has stored
 abbrev pub stored : DeviceState → ℕ → List ℕ → DeviceState
 stored d at bytes = record d { memory = with_bytes d.memory at bytes }
+
+-- A stop at this moment leaves, of the monitor's file, a partition of each guest, and none below its
+-- mark: the sequence up to which it was told that a sync kept all.
+abbrev pub LeavesEach : BoardState OutboxState → Type 0
+LeavesEach b = (c : Content) → MayLeave (outbox_state b.store.disk) c → (g : ℕ) (x : Guest)
+    → slice_get b.store.guests g ≡ Some x
+    → (p : Part) × Stands (region_of x) c p × (mark_of x ≤ sequence_of_part p)
 
 -- the writes that nobody took yet
 abbrev pub writes_in : MachineState → List WriteAt

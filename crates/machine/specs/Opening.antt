@@ -4,14 +4,18 @@ use Rattle.std.specs.List.{All}
 use Rattle.rpmb_frame.specs.Config.{IsBoard}
 use Rattle.rpmb_frame.specs.declared.config.GuestConfig.{GuestConfig}
 use Rattle.disk.specs.Content.{content_of}
+use Rattle.disk.specs.Disk.{DiskState}
+use Rattle.disk.specs.FileDisk.{shown_as}
+use Rattle.disk.specs.Kept.{as_opened}
 use Rattle.disk.specs.OutboxDisk.{OutboxMakes, OutboxState, first_disk, outbox_state}
 use Rattle.disk.specs.declared.outbox_disk.Told.TheVariants.{Opened}
 use Rattle.intent_slots.specs.Header.{HasCapacities, HasMagic}
 use Rattle.intent_slots.specs.Layout.{capacities_of, image_length}
 use Rattle.recovery.specs.Format.{Holds, formatted}
+use Rattle.recovery.specs.Opening.{AnswersFault, IsImage}
 use Rattle.recovery.specs.declared.fault.OpenFault.{OpenFault}
 use Rattle.recovery.specs.declared.fault.OpenFault.TheVariants as open_fault
-use Rattle.board.specs.Opening.{Begins, Calls}
+use Rattle.board.specs.Opening.{Begins, Calls, Finds}
 use Rattle.board.specs.State.{BoardState}
 use Rattle.board.specs.Telling.{telling}
 use Rattle.machine.specs.Machine.{MachineState}
@@ -38,8 +42,20 @@ pub record IsFresh (windows : List Window) (image : List ℕ) : Type 0 where
   pub bytes : Holds (formatted 1 (capacities_of (configs_of windows))) (length_of windows)
       (content_of image)
 
+-- what a disk over these bytes gives and keeps, before it is called
+abbrev pub read_state : List ℕ → DiskState
+read_state image = shown_as (as_opened image) (length image) 0
+
+-- The bytes are an image of these guests' board, the board's partitions are those that they hold,
+-- and every stop leaves them.
+pub record FindsIn (config : List GuestConfig) (image : List ℕ)
+    (board : BoardState OutboxState) : Type 0 where
+  pub is_image : IsImage (capacities_of config) (length image) (content_of image)
+  pub finds : Finds outbox_state config (read_state image) board
+
 -- A machine that was opened over these bytes: its devices are fresh, the book has answered nothing,
 -- and nothing lies between two steps. The first call of the disk was a sync, the others were reads.
+-- The bytes are an image of its board, and each guest's partition is the one that they hold.
 pub record IsOpened (windows : List Window) (image : List ℕ) (m : MachineState) : Type 0 where
   pub monitored : IsMonitored windows
   pub long : length image ≡ length_of windows
@@ -47,6 +63,7 @@ pub record IsOpened (windows : List Window) (image : List ℕ) (m : MachineState
   pub board : BoardState OutboxState
   pub begins : Begins outbox_state 1 (configs_of windows) board
   pub calls : Calls OutboxMakes (first_disk image) (Ok board)
+  pub found : FindsIn (configs_of windows) image board
   pub told : m.board ≡ telling Opened board
 
 -- how it is told why a board's opening was refused
@@ -81,12 +98,15 @@ pub data HasHeaderFault (windows : List Window) (image : List ℕ) (f : MachineF
       → ¬ HasCapacities (capacities_of (configs_of windows)) (content_of image)
       → HasHeaderFault windows image f
 
--- why no board was opened over this disk: memory was refused, or it is what the board's opening
--- answered
-pub data IsOpeningFault (disk : OutboxState) (f : MachineFault) : Type 0 where
-  NoRoom : f ≡ fault.NoMemory → IsOpeningFault disk f
+-- why no board was opened over these bytes: memory was refused, or it is what the board's opening
+-- answered, by what the bytes hold
+pub data IsOpeningFault (config : List GuestConfig) (image : List ℕ)
+    (f : MachineFault) : Type 0 where
+  NoRoom : f ≡ fault.NoMemory → IsOpeningFault config image f
   Answered : (e : OpenFault) (left : OutboxState) → f ≡ opening_reason e
-      → Calls OutboxMakes disk (Err (left, e)) → IsOpeningFault disk f
+      → Calls OutboxMakes (first_disk image) (Err (left, e))
+      → AnswersFault (capacities_of config) (length image) (content_of image) e
+      → IsOpeningFault config image f
 
 -- Why no machine was opened over these bytes. So those of another board are never told as no image.
 pub data HasOpeningFault (windows : List Window) (image : List ℕ) (f : MachineFault)
@@ -95,4 +115,4 @@ pub data HasOpeningFault (windows : List Window) (image : List ℕ) (f : Machine
   OfHeader : IsMonitored windows → length image ≡ length_of windows
       → HasHeaderFault windows image f → HasOpeningFault windows image f
   OfBoard : IsMonitored windows → length image ≡ length_of windows → IsHeaded windows image
-      → IsOpeningFault (first_disk image) f → HasOpeningFault windows image f
+      → IsOpeningFault (configs_of windows) image f → HasOpeningFault windows image f

@@ -7,7 +7,7 @@ ghost use Rattle.mmio_transport.specs.Device.{after_write, kick_of};
 ghost use Rattle.rpmb_book.specs.Book.{state};
 ghost use Rattle.board.specs.Telling.{telling};
 ghost use Rattle.disk.specs.Outbox.{first_of};
-ghost use Rattle.machine.specs.Machine.{Completes, Copies, IsInWindow, IsServed, TellsFault};
+ghost use Rattle.machine.specs.Machine.{Completes, Copies, LeavesEach, IsInWindow, IsServed, TellsFault};
 ghost use Rattle.machine.specs.Machine.{TellsRanges, WhereGuest, has_guest, is_awaited, kick_in};
 ghost use Rattle.machine.specs.Machine.{line_by, shown_in, stored, waits_for_sync, with_device};
 ghost use Rattle.machine.specs.Machine.{writes_in, written_in};
@@ -254,6 +254,16 @@ impl Machine {
             Call::Write => false,
             Call::None => false,
         }
+    }
+
+    /// What a stop leaves of the monitor's file, where the monitor makes each write that it takes
+    /// before the sync that it tells, and such a sync keeps them: of each guest a partition, and
+    /// none below what a told sync kept. It does nothing.
+    pub fn what_stops_leave(&self)
+        ensures { LeavesEach self.now.board }
+    {
+        self.board.what_always_holds();
+        self.board.disk().what_always_holds();
     }
 
     /// Whether a call of the disk has failed, so that nothing more is accepted.

@@ -8,8 +8,8 @@ ghost use Rattle.board.specs.Opening.{Begins, Calls};
 ghost use Rattle.intent_slots.specs.Layout as layout;
 ghost use Rattle.recovery.specs.Format.{Holds, formatted};
 ghost use Rattle.machine.specs.Opening.{HasBoardFault, HasHeaderFault, HasImageFault};
-ghost use Rattle.machine.specs.Opening.{HasOpeningFault, IsFresh, IsHeaded, IsMonitored, IsOpened};
-ghost use Rattle.machine.specs.Opening.{IsOpeningFault, configs_of, length_of};
+ghost use Rattle.machine.specs.Opening.{FindsIn, HasOpeningFault, IsFresh, IsHeaded, IsMonitored};
+ghost use Rattle.machine.specs.Opening.{IsOpened, IsOpeningFault, configs_of, length_of};
 ghost use Rattle.machine.specs.Settings.{is_placed};
 
 use crate::fault::MachineFault;
@@ -156,7 +156,8 @@ fn board_over(
 ) -> Result<Board<OutboxDisk>, MachineFault>
     ensures begins { IfOk result (λ b. Begins outbox_state 1 config.now b) }
     ensures calls { IfOk result (λ b. Calls OutboxMakes (first_disk image.now) (Ok b)) }
-    ensures cause { IfErr result (λ f. IsOpeningFault (first_disk image.now) f) }
+    ensures found { IfOk result (FindsIn config.now image.now) }
+    ensures cause { IfErr result (IsOpeningFault config.now image.now) }
     ensures bad { ¬ (result ≡ Err MachineFault.BadBoard) }
     ensures length { ¬ (result ≡ Err MachineFault.BadLength) }
 {

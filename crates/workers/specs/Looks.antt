@@ -1,5 +1,5 @@
 -- What a driver learns from a look at what its guest has, and which fault ends a run.
-use Rattle.std.specs.Prelude.{Bool, true, false, List, [], ◌∷◌, Option, Some, None, Result, Ok, Err}
+use Rattle.std.specs.Prelude.{◌≡◌, Bool, true, false, List, [], ◌∷◌, Option, Some, None, Result, Ok, Err}
 use Rattle.std.specs.Option.{option_or}
 use Rattle.guest_driver.specs.declared.fault.DriverFault.{DriverFault}
 use Rattle.guest_driver.specs.declared.fault.DriverFault.TheVariants as driver
@@ -7,6 +7,7 @@ use Rattle.guest_driver.specs.declared.reaping.Reaped.{Reaped}
 use Rattle.mmio_transport.specs.Job.{Job}
 use Rattle.mmio_transport.specs.declared.fault.DeviceFault.{DeviceFault}
 use Rattle.mmio_transport.specs.declared.fault.DeviceFault.TheVariants as device
+use Rattle.rpmb_book.specs.Book.{BookView, counted_in}
 use Rattle.queue_looks.specs.declared.fault.HostFault.{HostFault}
 use Rattle.queue_looks.specs.declared.fault.HostFault.TheVariants as host
 use Rattle.host.specs.declared.front.Stuck.TheVariants.{NeedsReset, BadUsed}
@@ -44,3 +45,7 @@ abbrev pub first_fault : List (Option HostFault) → List (Option HostFault) →
 first_fault [] drivers = None
 first_fault (w ∷ ws) [] = option_or w (first_fault ws [])
 first_fault (w ∷ ws) (d ∷ ds) = option_or (option_or w d) (first_fault ws ds)
+
+-- the book has counted 2^64 - 1 jobs: it takes none any more, whatever leaves
+abbrev pub IsSpent : BookView → Type 0
+IsSpent b = counted_in b ≡ 18446744073709551615

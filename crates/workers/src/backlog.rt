@@ -1,8 +1,9 @@
 //! What lies between a guest's device and the book: jobs and replies that are on their way.
-ghost use Rattle.std.specs.Prelude.{◌≡◌, ◌+◌, ◌<◌, ◌⊎◌, [], All, IfErr, IfOk, Ok, Some, true};
-ghost use Rattle.std.specs.Prelude.{false};
+ghost use Rattle.std.specs.Prelude.{◌≡◌, ◌+◌, ◌<◌, ◌⊎◌, [], All, Err, IfErr, IfOk, OnErr, OnOk};
+ghost use Rattle.std.specs.Prelude.{Ok, Some, false, true};
 ghost use Rattle.std.specs.Prelude.{if◌then◌else◌, slice_get, length, vec_len};
 ghost use Rattle.rpmb_book.specs.Fold.{after_submit};
+ghost use Rattle.workers.specs.Looks.{IsSpent};
 ghost use Rattle.workers.specs.Turns.{Collects, Flows, HandsOver, Takes, answered_of};
 
 use crate::desk::Desk;
@@ -66,6 +67,17 @@ pub struct Served {
     pub receipts: Vec<Receipt>,
     ghost received: { vec_len receipts ≡ tally.count },
     ghost own: { All (λ r. r.guest ≡ tally.guest) receipts.items },
+}
+
+/// What a full history means for a job: it waits until a reply leaves, unless none can make room.
+fn wait_for_room<L: Ledger>(desk: &Desk<L>) -> Result<Handed, HostFault>
+    ensures full { OnOk result ((result ≡ Ok Handed.Full) × ¬ IsSpent desk.now) }
+    ensures spent { OnErr result ((result ≡ Err HostFault.HistoryFull) × IsSpent desk.now) }
+{
+    if desk.is_spent() {
+        return Err(HostFault::HistoryFull);
+    }
+    Ok(Handed::Full)
 }
 
 impl<L: Ledger> Backlog<L> {
@@ -173,7 +185,8 @@ impl<L: Ledger> Backlog<L> {
     }
 
     /// Submits the oldest job; room for its receipt is made before. Where the guest is busy, or the
-    /// history waits for its first reply to leave, the job stays.
+    /// history waits for its first reply to leave, the job stays. `HistoryFull` where the book has
+    /// counted its last one: no reply that leaves makes room then.
     fn submit(&mut self, desk: &mut Desk<L>, alloc: Global) -> Result<Handed, HostFault>
         ensures rest { (self.new.tally.guest ≡ self.old.tally.guest)
             × (self.new.dones ≡ self.old.dones) }
@@ -187,7 +200,9 @@ impl<L: Ledger> Backlog<L> {
             → slice_get self.new.receipts.items self.old.tally.count ≡ Some r
             → result ≡ Ok Handed.Answered
             → (r.life ≡ desk.old.life) × (r.number ≡ desk.old.folded + length desk.old.history) }
-        ensures fault { IfErr result (λ f. (f ≡ HostFault.NoMemory) ⊎ (f ≡ HostFault.Foreign)) }
+        ensures fault { IfErr result (λ f. (f ≡ HostFault.NoMemory) ⊎ (f ≡ HostFault.Foreign)
+            ⊎ ((f ≡ HostFault.HistoryFull) × IsSpent desk.old)) }
+        ensures full { result ≡ Ok Handed.Full → ¬ IsSpent desk.old }
     {
         if self.receipts.reserve(1).is_err() || self.jobs.try_reserve(1).is_err() {
             return Err(HostFault::NoMemory);
@@ -205,7 +220,7 @@ impl<L: Ledger> Backlog<L> {
                 self.jobs.push_front_reserved(job);
                 match refused {
                     Refused::Busy => Ok(Handed::Busy),
-                    Refused::HistoryFull => Ok(Handed::Full),
+                    Refused::HistoryFull => wait_for_room(desk),
                     Refused::NoMemory => Err(HostFault::NoMemory),
                     Refused::Foreign => Err(HostFault::Foreign),
                 }

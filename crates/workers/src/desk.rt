@@ -1,5 +1,5 @@
 //! What lies under the book's lock.
-ghost use Rattle.std.specs.Prelude.{◌≡◌, ◌+◌, ◌<◌, IfErr, IfOk, OnErr, OnOk, None, length};
+ghost use Rattle.std.specs.Prelude.{◌≡◌, ◌↔◌, ◌+◌, ◌<◌, IsTrue, IfErr, IfOk, OnErr, OnOk, None, length};
 ghost use Rattle.std.specs.Prelude.{option_map, unwrap_or};
 ghost use Rattle.rpmb_book.specs.Book.{BookView, after_break_off, after_collect, after_settle};
 ghost use Rattle.rpmb_book.specs.Book.{after_take, due_of, found_by, next_intent, refusal};
@@ -8,6 +8,7 @@ ghost use Rattle.rpmb_book.specs.Book.{settle_answer, share_moved, state, counte
 ghost use Rattle.rpmb_book.specs.Fold.{after_submit};
 ghost use Rattle.rpmb_book.specs.Receipt.{submission_seen, turn_seen, HasFrames};
 ghost use Rattle.std.specs.Option.{ForSome};
+ghost use Rattle.workers.specs.Looks.{IsSpent};
 
 use flusher::Marks;
 use hmac256::MacKey;
@@ -138,6 +139,13 @@ impl<L: Ledger> Desk<L> {
         ensures { result ≡ (state self.now).broken }
     {
         self.book.is_broken()
+    }
+
+    /// Whether the book has counted as many jobs as it can: it takes none any more.
+    pub fn is_spent(&self) -> bool
+        ensures { IsTrue result ↔ IsSpent self.now }
+    {
+        self.book.submit_turns() == u64::MAX
     }
 
     /// Whether an accepted request of the guest waits for the store. It says whom to wake, and no
