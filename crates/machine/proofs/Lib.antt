@@ -11,6 +11,7 @@ pub mod Noted
 pub mod Others
 pub mod Replies
 pub mod Shares
+pub mod Stops
 pub mod Taken
 pub mod Told
 pub mod Within
