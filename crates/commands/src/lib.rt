@@ -10,6 +10,7 @@ mod files;
 mod formatting;
 mod fresh;
 mod image_files;
+pub mod laws;
 mod program;
 mod running;
 mod script_by_guest;
