@@ -81,18 +81,14 @@ pub data HasHeaderFault (windows : List Window) (image : List ℕ) (f : MachineF
       → ¬ HasCapacities (capacities_of (configs_of windows)) (content_of image)
       → HasHeaderFault windows image f
 
--- why no board was opened over this disk: memory was refused, or it is what the board's opening
--- answered
-pub data IsOpeningFault (disk : OutboxState) (f : MachineFault) : Type 0 where
-  NoRoom : f ≡ fault.NoMemory → IsOpeningFault disk f
-  Answered : (e : OpenFault) (left : OutboxState) → f ≡ opening_reason e
-      → Calls OutboxMakes disk (Err (left, e)) → IsOpeningFault disk f
-
--- Why no machine was opened over these bytes. So those of another board are never told as no image.
+-- Why no machine was opened over these bytes: the guests, the length or the header, or behind this
+-- board's own header what the board's opening answered. So an image of another board is never told
+-- as none.
 pub data HasOpeningFault (windows : List Window) (image : List ℕ) (f : MachineFault)
     : Type 0 where
   OfImage : HasImageFault windows (length image) f → HasOpeningFault windows image f
   OfHeader : IsMonitored windows → length image ≡ length_of windows
       → HasHeaderFault windows image f → HasOpeningFault windows image f
-  OfBoard : IsMonitored windows → length image ≡ length_of windows → IsHeaded windows image
-      → IsOpeningFault (first_disk image) f → HasOpeningFault windows image f
+  OfBoard : (e : OpenFault) (left : OutboxState) → IsMonitored windows
+      → length image ≡ length_of windows → IsHeaded windows image → f ≡ opening_reason e
+      → Calls OutboxMakes (first_disk image) (Err (left, e)) → HasOpeningFault windows image f

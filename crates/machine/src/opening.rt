@@ -9,7 +9,7 @@ ghost use Rattle.intent_slots.specs.Layout as layout;
 ghost use Rattle.recovery.specs.Format.{Holds, formatted};
 ghost use Rattle.machine.specs.Opening.{HasBoardFault, HasHeaderFault, HasImageFault};
 ghost use Rattle.machine.specs.Opening.{HasOpeningFault, IsFresh, IsHeaded, IsMonitored, IsOpened};
-ghost use Rattle.machine.specs.Opening.{IsOpeningFault, configs_of, length_of};
+ghost use Rattle.machine.specs.Opening.{configs_of, length_of};
 ghost use Rattle.machine.specs.Settings.{is_placed};
 
 use crate::fault::MachineFault;
@@ -133,13 +133,14 @@ fn disk_over(alloc: Global, image: &[u8]) -> Result<OutboxDisk, MachineFault>
     }
 }
 
-/// Whether an image begins with the header of these guests' image. It is looked at before memory
-/// is taken.
+/// Whether an image begins with the header of these guests' image.
 fn check_header(windows: &[Window], config: &BoardConfig, image: &[u8]) -> Result<(), MachineFault>
     requires board { config.now ≡ configs_of windows.now }
     requires long { length image.now ≡ length_of windows.now }
     ensures headed { OnOk result (IsHeaded windows.now image.now) }
     ensures cause { IfErr result (λ f. HasHeaderFault windows.now image.now f) }
+    ensures bad { ¬ (result ≡ Err MachineFault.BadBoard) }
+    ensures length { ¬ (result ≡ Err MachineFault.BadLength) }
 {
     match Layout::of(config).check_header(image) {
         Ok(()) => Ok(()),
@@ -151,15 +152,20 @@ fn check_header(windows: &[Window], config: &BoardConfig, image: &[u8]) -> Resul
 /// The board over an image, and nothing else.
 fn board_over(
     alloc: Global,
+    windows: &[Window],
     config: &BoardConfig,
     image: &[u8],
 ) -> Result<Board<OutboxDisk>, MachineFault>
+    requires board { config.now ≡ configs_of windows.now }
+    requires monitored { IsMonitored windows.now }
+    requires long { length image.now ≡ length_of windows.now }
     ensures begins { IfOk result (λ b. Begins outbox_state 1 config.now b) }
     ensures calls { IfOk result (λ b. Calls OutboxMakes (first_disk image.now) (Ok b)) }
-    ensures cause { IfErr result (λ f. IsOpeningFault (first_disk image.now) f) }
+    ensures cause { IfErr result (λ f. HasOpeningFault windows.now image.now f) }
     ensures bad { ¬ (result ≡ Err MachineFault.BadBoard) }
     ensures length { ¬ (result ≡ Err MachineFault.BadLength) }
 {
+    check_header(windows, config, image)?;
     let disk = disk_over(alloc, image)?;
     match Board::open(alloc, disk, LIFE, config) {
         Ok(board) => Ok(board),
@@ -206,9 +212,8 @@ impl Machine {
         if image.len() as u64 != Layout::of(&config).length() {
             return Err(MachineFault::BadLength);
         }
-        check_header(windows, &config, image)?;
         let (kept, held, written) = beside(alloc, windows)?;
-        let mut board = board_over(alloc, &config, image)?;
+        let mut board = board_over(alloc, windows, &config, image)?;
         board.tell(Told::Opened);
         Ok(Machine::over(board, kept, held, written))
     }
