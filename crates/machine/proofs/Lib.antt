@@ -4,7 +4,6 @@ pub mod Because
 pub mod Devices
 pub mod Ends
 pub mod Formatting
-pub mod Headers
 pub mod Jobs
 pub mod Lower
 pub mod Noted
