@@ -1,5 +1,5 @@
 use Rattle.commands.proofs.Common.{on_ok_weaker}
-use Rattle.commands.proofs.laws.run_in_file.Goals as goal
+use Rattle.commands.proofs.file_run.run_in_file.Goals as goal
 
 pub returns : goal.returns
 returns g c =
