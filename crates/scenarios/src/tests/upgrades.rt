@@ -8,10 +8,11 @@ use crate::tests::image::formatted;
 use crate::tests::scene::{board_of, check};
 use crate::tests::sweeps::check_guest;
 use disk::CutDisk;
+use recovery::OpenFault;
 use rpmb_frame::BoardConfig;
 use std::alloc::Global;
 use std::test::Fail;
-use world::{Event, World};
+use world::{Event, Refusal, World};
 
 /// Old, New, and each byte that a gate or the version may be left with.
 const FILLERS: [u8; 5] = [0, 1, 4, 5, 6];
@@ -271,4 +272,64 @@ fn three_guests_stopped_at_each_call(rt: HostRuntime) -> Result<(), Fail> {
         byte: 0xa5,
     };
     check(stop_at_each(rt.alloc(), &case), "another outcome")
+}
+
+/// An upgrade that isn't stopped, and this call of the disk from here on fails.
+fn upgraded_with(alloc: Global, call: u64) -> Option<Vec<Event>> {
+    let mut events = Vec::new(alloc);
+    if events.push(Event::Fail(call)).is_err() || events.push(Event::Upgrade(None)).is_err() {
+        return None;
+    }
+    Some(events)
+}
+
+/// What is told of it, and how many openings succeeded.
+fn told_of(alloc: Global, world: &mut World, call: u64) -> Option<(Option<Refusal>, u64)> {
+    let Some(events) = upgraded_with(alloc, call) else {
+        return None;
+    };
+    let told = world.run(&events);
+    Some((told, world.openings()))
+}
+
+/// The upgrade's first call fails; the image is as it was, and opens.
+fn told_of_a_failure(alloc: Global) -> Option<(Option<Refusal>, u64)> {
+    let case = Case {
+        guests: 1,
+        phase: 0,
+        call: 0,
+        filler: 0,
+        byte: 0xa5,
+    };
+    let Some(mut world) = world_of(alloc, &case) else {
+        return None;
+    };
+    told_of(alloc, &mut world, 1)
+}
+
+/// The image is that of a board with two guests, and this one has one: upgrade and opening are
+/// refused alike.
+fn told_of_another_board(alloc: Global) -> Option<(Option<Refusal>, u64)> {
+    let Some(two) = board_of(alloc, 2) else {
+        return None;
+    };
+    let Some(disk) = formatted(alloc, &two) else {
+        return None;
+    };
+    let Some(board) = board_of(alloc, 1) else {
+        return None;
+    };
+    let mut world = World::new(alloc, disk, board);
+    told_of(alloc, &mut world, 0)
+}
+
+#[test]
+fn a_refused_upgrade_is_told(rt: HostRuntime) -> Result<(), Fail> {
+    let failed = Refusal::Upgrade(OpenFault::DiskFault);
+    let other = Refusal::Upgrade(OpenFault::OtherConfig);
+    check(
+        told_of_a_failure(rt.alloc()) == Some((Some(failed), 1))
+            && told_of_another_board(rt.alloc()) == Some((Some(other), 0)),
+        "the refusal, openings",
+    )
 }
