@@ -119,14 +119,14 @@ impl<R: Rules> Ring<R> {
 
     /// Pops the chain at the place after those popped, or answers `None` where that place isn't
     /// available. Both write for the driver what the ring's kind has them write, and nothing else.
-    /// The chain is known by `number` from then on, which has to be above those of the chains popped
-    /// before: `last` tells the last of them.
+    /// The chain is known by `number` from then on, which has to be above those of the chains
+    /// popped before: `last` tells the last of them.
     ///
     /// It counts `reads` anew, and reads each descriptor once, up to the first that fails a test:
     /// at most the queue size and 1,024.
     ///
-    /// Answers a fault for what the driver made available against the rules, or `NoMemory`; then the
-    /// ring and the memory stay as they were.
+    /// Answers a fault for what the driver made available against the rules, or `NoMemory`; then
+    /// the ring and the memory stay as they were.
     pub fn pop(
         &mut self,
         alloc: Global,

@@ -45,6 +45,10 @@ spared true broke (Some c) = refl
 spared false true (Some c) = refl
 spared false false (Some c) = refl
 
+-- and a break leaves all of them
+pub parted : (was broke : Bool) (cores : List GuestCore) (g : ℕ) → partition_in (map (since was broke) cores) g ≡ partition_in cores g
+parted was broke cores g = ap (option_map (λ (c : GuestCore). c.partition)) (slice_get-map (since was broke) cores g) ∙ spared was broke (slice_get cores g)
+
 store_rests : (o : Option GuestView) (h h' : HostView) (guest at : ℕ) (bytes : List ℕ) (told : Result (Unit {0}) HostFault) → StoresAt o h guest at bytes told h' → h'.runner ≡ h.runner
 store_rests None h h' guest at bytes told s = ap (λ x. x.runner) s.1
 store_rests (Some g) h h' guest at bytes told s = ap (λ x. x.runner) s.2

@@ -2,7 +2,6 @@
 use Rattle.std.proofs.Common.{◌≡◌, ◌∙◌, ℕ, zero, suc, ◌+◌, ◌<◌, List, [], ◌∷◌, ◌++◌, Option, Some, Result, Ok, Err, take, length, map, get_or, refl, ap, subst, sym, arith, inr}
 use Rattle.commands.proofs.Common.{Appends-nil, Appends-trans, Keeps-refl, append_assoc, append-nil, length-map, slice_get_read, Appends, IfErr, slice_get, slice_index_or, true, GuestConfig, DiskState, capacities_of, Said, served_line_of, lines_of, Line, AnswersFault, OpenFault, HostFault, Answer, HaveAll, chain_orders, Order, Ends, IsOfReading, IsOfTelling, serving, fault_of, fault_of_image, PrintsEach, RanOf, answer_line, answer_lines, asked_of, asks, chains_of, guests_lines, Fault}
 use Rattle.std.proofs.lemmas.List.{get_or-map}
-use Rattle.std.specs.Prelude.{vec_len}
 use Rattle.script.specs.Line.{said}
 use Rattle.recovery.specs.declared.fault.OpenFault.TheVariants as image
 use Rattle.queue_looks.specs.declared.fault.HostFault.TheVariants as host

@@ -1,5 +1,5 @@
 -- Orders that are handed out to guests, one after another.
-use Rattle.std.proofs.Common.{◌≡◌, ◌≢◌, ⊎_elim, ◌∙◌, ◌+◌, ◌<◌, ◌==◌, ◌++◌, ◌∷◌, ℕ, suc, List, [], true, false, if◌then◌else◌, filter, length, map, refl, ap, sym, arith}
+use Rattle.std.proofs.Common.{◌≡◌, ◌≢◌, ⊎_elim, ◌∙◌, ◌<◌, ◌==◌, ◌++◌, ◌∷◌, ℕ, suc, List, [], true, false, if◌then◌else◌, filter, length, map, refl, ap, sym, arith}
 use Rattle.commands.proofs.Common.{cases_eq, append-nil, All, slice_index_or, slice_set, chain_orders, Order, Said, chains_of, is_chain, asks, asked_of}
 use Rattle.std.proofs.lemmas.List.{get_or-set_other, get_or-set_same, map-append}
 use Rattle.workers.specs.declared.order.Order.TheVariants as order

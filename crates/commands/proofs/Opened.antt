@@ -80,7 +80,7 @@ opening_ends capacities old new image.OtherConfig cause answers = answers
 -- the last board of a host, and whether its calls went well
 pub moves_to : {D : Type 0} (shows : D → DiskState) (makes : D → DiskCall → D → Type 0) (h : HostState D) (ended : Result (Unit {0}) DiskFault) (r : Result (Unit {0}) Fault) (disk : D) → HostFinishes shows makes h ended disk
     → is_ok r ≡ is_ok ended → ((e : Fault) → r ≡ Err e → e ≡ fault.DiskFault) → MovesTo shows makes h.board r disk
-moves_to shows makes h ended r disk f same only = record { only = only; last = f.last; moves = f.moves; disk = f.disk; told = same ∙ f.told ∙ ap not (sym f.finished.rests.listened.broken); runner = λ whole. f.finished.rests.runner (sym f.finished.rests.listened.broken ∙ whole) }
+moves_to shows makes h ended r disk f same only = record { only = only; last = f.last; moves = f.moves; disk = f.disk; told = same ∙ f.told ∙ ap not (sym f.finished.rests.listened.broken); runner = f.finished.rests.runner }
 
 -- a store that broke since the image was opened
 pub risen : {D : Type 0} (shows : D → DiskState) (makes : D → DiskCall → D → Type 0) (board : List GuestConfig) (disk : D) (h0 h : HostState D) → IsOpened shows makes board disk h0 → Moves shows makes h0.board h.board

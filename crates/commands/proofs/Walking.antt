@@ -1,6 +1,6 @@
 -- The moments of a run, line by line.
 use Rattle.std.proofs.Common.{◌≡◌, ◌≤◌, ◌<◌, ◌+◌, inl, inr, ℕ, suc, true, false, Bool, List, [], ◌∷◌, ◌++◌, Option, None, Some, Result, Ok, Err, length, map, refl, ap, sym, subst, ◌∙◌, arith}
-use Rattle.commands.proofs.Common.{is_ok, not, slice_get, append_assoc, length-append, get_or_from_slice_get, Appends-nil, Appends-trans, Keeps-refl, Appends, Keeps, IsBoard, Partition, sequence, Request, GuestConfig, partition_after_all, sequence_of_all, DiskCall, DiskState, HasRisen, Still, Within, capacities_of, Untouched, mark_of, GuestCore, GuestState, last_count, IsWithin, Said, Line, StaysLinked, bases_of, BoardState, guests, is_broken, HostState, seen, GoOn, Moves, moves_none, moves_twice, LineDone, LineRuns, KeepsUnless, OpeningEnds, IsFailedIn, text_when, told_when, IsOpened, AnyMoment, Begun, IsTold, MayEnd, Moment, MovesTo, Starts, StopsAt, Trail, Walked, Went, moment_of, AreWithin, IsAt, StoresNothing, Told, first_told, Fault}
+use Rattle.commands.proofs.Common.{is_ok, not, slice_get, append_assoc, length-append, get_or_from_slice_get, Appends-nil, Appends-trans, Keeps-refl, Appends, Keeps, IsBoard, Partition, sequence, Request, GuestConfig, partition_after_all, sequence_of_all, DiskCall, DiskState, HasRisen, Still, Within, capacities_of, Untouched, mark_of, GuestCore, GuestState, last_count, IsWithin, Said, Line, StaysLinked, bases_of, BoardState, guests, is_broken, HostState, seen, GoOn, Moves, moves_none, moves_twice, runner_of, LineDone, LineRuns, KeepsUnless, OpeningEnds, IsFailedIn, text_when, told_when, IsOpened, AnyMoment, Begun, IsTold, MayEnd, Moment, MovesTo, Starts, StopsAt, Trail, Walked, Went, moment_of, AreWithin, IsAt, StoresNothing, Told, first_told, Fault}
 use Rattle.std.proofs.KnownBytes.{Keeps-trans}
 use Rattle.recovery.proofs.Ways.{untouched_here}
 use Rattle.flusher.specs.Marks.{marks_of}
@@ -9,9 +9,9 @@ use Rattle.board.specs.Board.{marks_in}
 use Rattle.board.proofs.Stays.{marks_at}
 use Rattle.queue_looks.specs.Calm.{IsCalm}
 use Rattle.queue_looks.proofs.Settled.{below}
-use Rattle.commands.specs.Moments.{IsDone, Leads, LinesCome, Stopped}
+use Rattle.commands.specs.Moments.{AcceptNoMore, IsDone, Leads, LinesCome, Stopped}
 use Rattle.commands.specs.declared.fault.Fault.TheVariants as fault
-use Rattle.commands.proofs.Accepting.{accepts_own, guest_at, next_own, none_more, partition_in}
+use Rattle.commands.proofs.Accepting.{accepts_own, guest_at, next_own, none_more, parted, partition_in}
 use Rattle.commands.proofs.Cases.{line_cases}
 use Rattle.commands.proofs.Lines.{line_breaks, line_runs}
 use Rattle.commands.proofs.Opened.{found_core, risen}
@@ -199,12 +199,16 @@ module _ {D : Type 0} (shows : D → DiskState) (makes : D → DiskCall → D �
       walked : Walked shows makes board opened.partitions every start first_of [] h' now
       walked = come board opened.partitions (starts calm) within
 
+      none : (n : ℕ → List Request) → StaysLinked shows board (bases_of opened.partitions) n to.last → GoOn walked.accepted n → AcceptNoMore board walked.accepted n
+      none n linked more g inside =
+          none_more shows board (bases_of opened.partitions) walked.accepted n h'.board to.last (done_at walked.trail).tied linked more g inside
+          (ap (λ r. partition_in r.cores g) to.runner ∙ parted (is_broken h'.board) (is_broken to.last) (runner_of h'.board).cores g)
+
       ends : (r : Result (Unit {0}) Fault) → ((f : Fault) → r ≡ Err f → f ≡ fault.DiskFault) → (broken : Bool) → to.last.store.broken ≡ broken → is_ok r ≡ not broken
           → (n : ℕ → List Request) → StaysLinked shows board (bases_of opened.partitions) n to.last → GoOn walked.accepted n → MayEnd board r [] (moment_of walked.accepted h' now) (moment_of n after next) next
-      ends (Ok x) only false same told n linked more =
-          (refl, kept, same, λ g inside. none_more shows board (bases_of opened.partitions) walked.accepted n h'.board to.last (done_at walked.trail).tied linked more g inside (ap (λ r. partition_in r.cores g) (to.runner same)))
+      ends (Ok x) only false same told n linked more = (refl, kept, same, none n linked more)
       ends (Ok x) only true same told n linked more = absurd (cc)
-      ends (Err f) only true same told n linked more = subst (λ e. MayEnd board (Err e) [] (moment_of walked.accepted h' now) (moment_of n after next) next) (sym (only f refl)) (refl, kept, same)
+      ends (Err f) only true same told n linked more = subst (λ e. MayEnd board (Err e) [] (moment_of walked.accepted h' now) (moment_of n after next) next) (sym (only f refl)) (refl, kept, same, none n linked more)
       ends (Err f) only false same told n linked more = absurd (cc)
 
   -- the line that ended the run, and what it had accepted

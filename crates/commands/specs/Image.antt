@@ -36,6 +36,15 @@ pub record Ran (board : List GuestConfig) (old new : DiskState) (lines : List Sa
   pub left : old.faithful ≡ true → (c : Content) → MayLeave new c
       → AreHeld (capacities_of board) c (partitions_after board partitions lines)
 
+-- The partitions that reads of the old disk gave, and those after the lines in whatever a stop
+-- leaves of the new one.
+pub record LeavesRun (board : List GuestConfig) (old new : DiskState)
+    (lines : List Said) : Type 0 where
+  pub partitions : List Partition
+  pub held : AreHeld (capacities_of board) old.seen partitions
+  pub left : (c : Content) → MayLeave new c
+      → AreHeld (capacities_of board) c (partitions_after board partitions lines)
+
 -- 1. Within a run
 
 -- The guests of an image, each in its first session, as a run begins with them.

@@ -17,10 +17,10 @@ use Rattle.script.specs.declared.line.Line.{Line}
 use Rattle.board.specs.Board.{LeavesPrefixes, StaysLinked, marks_in}
 use Rattle.board.specs.Opening.{bases_of}
 use Rattle.board.specs.State.{BoardState}
-use Rattle.queue_looks.specs.Calm.{IsCalm}
+use Rattle.queue_looks.specs.Calm.{IsCalm, is_broken}
 use Rattle.host.specs.Host.{HostState, seen}
 use Rattle.board.specs.Moving.{GoOn, Moves}
-use Rattle.queue_looks.specs.Runner.{runner_of}
+use Rattle.queue_looks.specs.Runner.{runner_of, runner_since}
 use Rattle.commands.specs.Calling.{LineDone, NextFails}
 use Rattle.commands.specs.Ending.{KeepsUnless, NextEnds, OpeningEnds}
 use Rattle.commands.specs.Failing.{IsFailedIn, text_when, told_when}
@@ -134,10 +134,10 @@ pub record StopsAt {D : Type 0} (board : List GuestConfig) (f : Fault) (rest : L
   pub call : NextFails rest last.host f after.host
   pub accepts : NextAccepts board rest last.accepted after.accepted
 
--- How the lines of a run ended: with the last one, and whether a call of the disk has failed by the
--- end says which status the run has, and nothing more is accepted where none failed; or with one
--- that came to a fault, for a reason, and printed nothing; or in one of these ways, and standard
--- output took no more.
+-- How the lines of a run ended: with the last one, and then nothing more is accepted, and whether a
+-- call of the disk has failed by the end says which status the run has; or with one that came to a
+-- fault, for a reason, and printed nothing; or in one of these ways, and standard output took no
+-- more.
 abbrev pub MayEnd : {D : Type 0} → List GuestConfig → Result (Unit {0}) Fault → List Said → Moment D
     → Moment D → Option (List ℕ) → Type 0
 MayEnd board (Ok done) rest last after now =
@@ -145,6 +145,7 @@ MayEnd board (Ok done) rest last after now =
     × AcceptNoMore board last.accepted after.accepted
 MayEnd board (Err fault.DiskFault) rest last after now =
     (rest ≡ []) × Keeps last.printed now × (broken_at after ≡ true)
+    × AcceptNoMore board last.accepted after.accepted
 MayEnd board (Err fault.FileFault) rest last after now =
     ((rest ≡ []) × AcceptNoMore board last.accepted after.accepted)
     ⊎ ((f : Fault) × StopsAt board f rest last after)
@@ -256,7 +257,7 @@ LinesCome shows makes read old start ended new now =
     (moment_of (λ g. []) old start) ended new now
 
 -- A host's last board, and its disk. The calls went well exactly where none has failed, and are
--- told so; then what its answers depend on stayed.
+-- told so; and what its answers depend on stayed, but for what a break makes of it.
 pub record MovesTo {D : Type 0} (shows : D → DiskState) (makes : D → DiskCall → D → Type 0)
     (old : BoardState D) (ended : Result (Unit {0}) Fault) (back : D) : Type 0 where
   pub last : BoardState D
@@ -264,4 +265,4 @@ pub record MovesTo {D : Type 0} (shows : D → DiskState) (makes : D → DiskCal
   pub disk : back ≡ last.store.disk
   pub told : is_ok ended ≡ not last.store.broken
   pub only : (f : Fault) → ended ≡ Err f → f ≡ fault.DiskFault
-  pub runner : last.store.broken ≡ false → runner_of last ≡ runner_of old
+  pub runner : runner_of last ≡ runner_since (is_broken old) (is_broken last) (runner_of old)

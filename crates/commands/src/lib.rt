@@ -6,6 +6,7 @@
 mod command;
 mod fault;
 mod fault_lines;
+mod file_run;
 mod files;
 mod formatting;
 mod fresh;
@@ -22,6 +23,7 @@ mod used_lines;
 pub use command::perform;
 pub use fault::Fault;
 pub use fault_lines::report;
+pub use file_run::run_in_file;
 pub use files::{read_board_file, read_image_board, read_text};
 pub use formatting::format;
 pub use image_files::{create_image, open_image, open_shown};

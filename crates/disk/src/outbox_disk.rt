@@ -141,7 +141,9 @@ impl OutboxDisk {
     /// Its owner's file is a faithful one, as far as clauses speak of it. It does nothing.
     pub fn what_always_holds(&self)
         ensures { (outbox_state self.now).faithful ≡ true }
-    {}
+    {
+        let _failures = self.failures; // a look inside gives what holds of it
+    }
 
     /// Tells what came of the writes and syncs, or that the opening is over. It makes no call.
     pub fn tell(&mut self, told: Told)

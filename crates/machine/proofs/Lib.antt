@@ -4,13 +4,13 @@ pub mod Because
 pub mod Devices
 pub mod Ends
 pub mod Formatting
-pub mod Headers
 pub mod Jobs
 pub mod Lower
 pub mod Noted
 pub mod Others
 pub mod Replies
 pub mod Shares
+pub mod Stops
 pub mod Taken
 pub mod Told
 pub mod Within

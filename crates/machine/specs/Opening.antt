@@ -9,7 +9,6 @@ use Rattle.disk.specs.FileDisk.{shown_as}
 use Rattle.disk.specs.Kept.{as_opened}
 use Rattle.disk.specs.OutboxDisk.{OutboxMakes, OutboxState, first_disk, outbox_state}
 use Rattle.disk.specs.declared.outbox_disk.Told.TheVariants.{Opened}
-use Rattle.intent_slots.specs.Header.{HasCapacities, HasMagic}
 use Rattle.intent_slots.specs.Layout.{capacities_of, image_length}
 use Rattle.recovery.specs.Format.{Holds, formatted}
 use Rattle.recovery.specs.Opening.{AnswersFault, IsImage}
@@ -84,20 +83,6 @@ pub data HasImageFault (windows : List Window) (count : ℕ) (f : MachineFault) 
   OtherLength : f ≡ fault.BadLength → IsMonitored windows → ¬ (count ≡ length_of windows)
       → HasImageFault windows count f
 
--- the bytes begin with the header of this board's image
-pub record IsHeaded (windows : List Window) (image : List ℕ) : Type 0 where
-  pub magic : HasMagic (content_of image)
-  pub capacities : HasCapacities (capacities_of (configs_of windows)) (content_of image)
-
--- why it isn't: they are no image, or another board's
-pub data HasHeaderFault (windows : List Window) (image : List ℕ) (f : MachineFault)
-    : Type 0 where
-  IsNoImage : f ≡ fault.NotFormatted → ¬ HasMagic (content_of image)
-      → HasHeaderFault windows image f
-  IsOthers : f ≡ fault.OtherConfig → HasMagic (content_of image)
-      → ¬ HasCapacities (capacities_of (configs_of windows)) (content_of image)
-      → HasHeaderFault windows image f
-
 -- why no board was opened over these bytes: memory was refused, or it is what the board's opening
 -- answered, by what the bytes hold
 pub data IsOpeningFault (config : List GuestConfig) (image : List ℕ)
@@ -108,11 +93,10 @@ pub data IsOpeningFault (config : List GuestConfig) (image : List ℕ)
       → AnswersFault (capacities_of config) (length image) (content_of image) e
       → IsOpeningFault config image f
 
--- Why no machine was opened over these bytes. So those of another board are never told as no image.
+-- Why no machine was opened over these bytes: their number, or what they hold. So an image of
+-- another board is never told as none, nor the other way round.
 pub data HasOpeningFault (windows : List Window) (image : List ℕ) (f : MachineFault)
     : Type 0 where
   OfImage : HasImageFault windows (length image) f → HasOpeningFault windows image f
-  OfHeader : IsMonitored windows → length image ≡ length_of windows
-      → HasHeaderFault windows image f → HasOpeningFault windows image f
-  OfBoard : IsMonitored windows → length image ≡ length_of windows → IsHeaded windows image
+  OfBoard : IsMonitored windows → length image ≡ length_of windows
       → IsOpeningFault (configs_of windows) image f → HasOpeningFault windows image f

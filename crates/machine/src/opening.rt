@@ -7,8 +7,8 @@ ghost use Rattle.disk.specs.OutboxDisk.{OutboxMakes, first_disk, outbox_state};
 ghost use Rattle.board.specs.Opening.{Begins, Calls};
 ghost use Rattle.intent_slots.specs.Layout as layout;
 ghost use Rattle.recovery.specs.Format.{Holds, formatted};
-ghost use Rattle.machine.specs.Opening.{HasBoardFault, HasHeaderFault, HasImageFault};
-ghost use Rattle.machine.specs.Opening.{FindsIn, HasOpeningFault, IsFresh, IsHeaded, IsMonitored};
+ghost use Rattle.machine.specs.Opening.{HasBoardFault, HasImageFault};
+ghost use Rattle.machine.specs.Opening.{FindsIn, HasOpeningFault, IsFresh, IsMonitored};
 ghost use Rattle.machine.specs.Opening.{IsOpened, IsOpeningFault, configs_of, length_of};
 ghost use Rattle.machine.specs.Settings.{is_placed};
 
@@ -18,7 +18,7 @@ use crate::ranges::Range;
 use crate::settings::Window;
 use board::Board;
 use disk::{MemDisk, OutboxDisk, Told};
-use intent_slots::{HeaderFault, Layout};
+use intent_slots::Layout;
 use recovery::format;
 use rpmb_frame::{BoardConfig, GuestConfig};
 use std::alloc::Global;
@@ -133,21 +133,6 @@ fn disk_over(alloc: Global, image: &[u8]) -> Result<OutboxDisk, MachineFault>
     }
 }
 
-/// Whether an image begins with the header of these guests' image. It is looked at before memory
-/// is taken.
-fn check_header(windows: &[Window], config: &BoardConfig, image: &[u8]) -> Result<(), MachineFault>
-    requires board { config.now ≡ configs_of windows.now }
-    requires long { length image.now ≡ length_of windows.now }
-    ensures headed { OnOk result (IsHeaded windows.now image.now) }
-    ensures cause { IfErr result (λ f. HasHeaderFault windows.now image.now f) }
-{
-    match Layout::of(config).check_header(image) {
-        Ok(()) => Ok(()),
-        Err(HeaderFault::NotFormatted) => Err(MachineFault::NotFormatted),
-        Err(HeaderFault::OtherConfig) => Err(MachineFault::OtherConfig),
-    }
-}
-
 /// The board over an image, and nothing else.
 fn board_over(
     alloc: Global,
@@ -207,7 +192,6 @@ impl Machine {
         if image.len() as u64 != Layout::of(&config).length() {
             return Err(MachineFault::BadLength);
         }
-        check_header(windows, &config, image)?;
         let (kept, held, written) = beside(alloc, windows)?;
         let mut board = board_over(alloc, &config, image)?;
         board.tell(Told::Opened);

@@ -1,5 +1,5 @@
 //! What lies between a guest's device and the book: jobs and replies that are on their way.
-ghost use Rattle.std.specs.Prelude.{◌≡◌, ◌+◌, ◌<◌, ◌⊎◌, [], All, Err, IfErr, IfOk, OnErr, OnOk};
+ghost use Rattle.std.specs.Prelude.{◌≡◌, ◌+◌, ◌<◌, ◌⊎◌, [], All, Err, IfErr, IfOk};
 ghost use Rattle.std.specs.Prelude.{Ok, Some, false, true};
 ghost use Rattle.std.specs.Prelude.{if◌then◌else◌, slice_get, length, vec_len};
 ghost use Rattle.rpmb_book.specs.Fold.{after_submit};
@@ -67,17 +67,6 @@ pub struct Served {
     pub receipts: Vec<Receipt>,
     ghost received: { vec_len receipts ≡ tally.count },
     ghost own: { All (λ r. r.guest ≡ tally.guest) receipts.items },
-}
-
-/// What a full history means for a job: it waits until a reply leaves, unless none can make room.
-fn wait_for_room<L: Ledger>(desk: &Desk<L>) -> Result<Handed, HostFault>
-    ensures full { OnOk result ((result ≡ Ok Handed.Full) × ¬ IsSpent desk.now) }
-    ensures spent { OnErr result ((result ≡ Err HostFault.HistoryFull) × IsSpent desk.now) }
-{
-    if desk.is_spent() {
-        return Err(HostFault::HistoryFull);
-    }
-    Ok(Handed::Full)
 }
 
 impl<L: Ledger> Backlog<L> {
@@ -220,7 +209,12 @@ impl<L: Ledger> Backlog<L> {
                 self.jobs.push_front_reserved(job);
                 match refused {
                     Refused::Busy => Ok(Handed::Busy),
-                    Refused::HistoryFull => wait_for_room(desk),
+                    Refused::HistoryFull => {
+                        if desk.is_spent() {
+                            return Err(HostFault::HistoryFull);
+                        }
+                        Ok(Handed::Full)
+                    }
                     Refused::NoMemory => Err(HostFault::NoMemory),
                     Refused::Foreign => Err(HostFault::Foreign),
                 }

@@ -20,7 +20,7 @@ use Rattle.mmio_transport.specs.declared.fault.DeviceFault.TheVariants as device
 use Rattle.intent_slots.specs.Layout.{capacities_of}
 use Rattle.recovery.specs.Opening.{AnswersFault, IsAtRest, Untouched}
 use Rattle.recovery.specs.Reading.{is_disk}
-use Rattle.recovery.specs.Upgrade.{AnswersUpgrade, LeavesAsBefore, UpgradeCalls}
+use Rattle.recovery.specs.Upgrade.{AnswersUpgrade, CountsFailures, LeavesAsBefore, UpgradeCalls}
 use Rattle.recovery.specs.declared.upgrading.Upgraded.{Upgraded}
 use Rattle.recovery.specs.declared.fault.OpenFault.{OpenFault}
 use Rattle.recovery.specs.declared.fault.OpenFault.TheVariants as open_fault
@@ -282,13 +282,15 @@ abbrev pub refusal_of_upgrade : Result Upgraded OpenFault → Option Refusal
 refusal_of_upgrade (Ok done) = None
 refusal_of_upgrade (Err e) = Some (refusal.Upgrade e)
 
--- an upgrade of the disk: its calls, by its answer, which is told; and each content that a stop
--- then leaves has the header and the partitions of one that a stop could leave before
+-- an upgrade of the disk: its calls, by its answer, which is told, and is DiskFault exactly where
+-- one of them failed; and each content that a stop then leaves has the header and the partitions of
+-- one that a stop could leave before
 pub record UpgradesDisk (config : List GuestConfig) (old : CutState) (said : Option Refusal)
     (new : CutState) : Type 0 where
   pub answer : Result Upgraded OpenFault
   pub calls : UpgradeCalls CutMakes (capacities_of config) old new answer
   pub answers : AnswersUpgrade (capacities_of config) (length old.seen) (content_of old.seen) answer
+  pub failures : CountsFailures (cut_state old) (cut_state new) answer
   pub back : LeavesAsBefore (capacities_of config) (cut_state old) (cut_state new)
   pub tells : said ≡ refusal_of_upgrade answer
 

@@ -1,5 +1,10 @@
-use Rattle.flusher.proofs.Kept.{stops}
+use Rattle.std.proofs.Common.{◌∙◌, ap, subst, sym}
+use Rattle.disk.specs.OutboxDisk.{outbox_state}
+use Rattle.machine.specs.Machine.{LeavesEach}
+use Rattle.machine.proofs.Stops.{leaves_each}
 use Rattle.machine.proofs.machine.Machine.what_stops_leave.Goals as goal
 
 pub returns : goal.returns
-returns c d may g x at = ?
+returns c =
+    let known = sym (ap (λ d. (outbox_state d).faithful) c.disk.ensures) ∙ c.what_always_holds-2.ensures in
+    subst (λ m. LeavesEach m.board) c.self.view_is (leaves_each c.self.inside.board c.what_always_holds.ensures.tied known)

@@ -16,8 +16,8 @@ returns-in-Ok-clause-receipt g c r there is =
 pub returns-in-Busy-clause-jobs : goal.returns-in-Busy-clause-jobs
 returns-in-Busy-clause-jobs g c = flows_same _ _ (c.push_front_reserved.ensures.items ∙ ap (λ j. j ∷ c.pop_front.new.self.items) c.in-Err.ensures.refused.0 ∙ sym c.in-Some.ensures.items ∙ c.try_reserve.ensures.items)
 
-pub returns-in-HistoryFull-clause-jobs : goal.returns-in-HistoryFull-clause-jobs
-returns-in-HistoryFull-clause-jobs g c = flows_same _ _ (c.push_front_reserved.ensures.items ∙ ap (λ j. j ∷ c.pop_front.new.self.items) c.in-Err.ensures.refused.0 ∙ sym c.in-Some.ensures.items ∙ c.try_reserve.ensures.items)
+pub returns-else-is_spent-clause-jobs : goal.returns-else-is_spent-clause-jobs
+returns-else-is_spent-clause-jobs g c = flows_same _ _ (c.push_front_reserved.ensures.items ∙ ap (λ j. j ∷ c.pop_front.new.self.items) c.in-Err.ensures.refused.0 ∙ sym c.in-Some.ensures.items ∙ c.try_reserve.ensures.items)
 
 pub invariant_of-self-in-Ok-clause-own : goal.invariant_of-self-in-Ok-clause-own
 invariant_of-self-in-Ok-clause-own g c =
