@@ -7,7 +7,6 @@ use Rattle.std.proofs.Math.Nat.{mod-eq_of_lt}
 use Rattle.rpmb_frame.specs.Partition.{Partition}
 use Rattle.std.specs.List.{list_any}
 use Rattle.rpmb_frame.specs.Partition.{empty_partition}
-use Rattle.disk.specs.Content.{Content}
 use Rattle.disk.proofs.Ways.{within_weaker}
 use Rattle.intent_slots.specs.Payload.{Intent}
 use Rattle.intent_slots.specs.Recovered as recovered
@@ -16,7 +15,7 @@ use Rattle.flusher.specs.declared.progress.Call.TheVariants as call
 use Rattle.flusher.specs.Pair.{guest_awaits, guest_has_write, opening_of, or_else, region_of}
 use Rattle.flusher.specs.Round.{AllEmpty, call_of, plan_at}
 use Rattle.flusher.specs.Slot.{is_empty, opening_in}
-use Rattle.flusher.specs.SlotInvariant.{BeforeOrAfter, IsKept, sequence_of_part}
+use Rattle.flusher.specs.SlotInvariant.{BeforeOrAfter, sequence_of_part}
 use Rattle.flusher.specs.Store.{StoreState}
 use Rattle.flusher.specs.declared.slot.Slot.{Slot}
 use Rattle.flusher.proofs.Kept.{stops}
@@ -64,7 +63,7 @@ empty_pending (Some s) behind first second = absurd (cc)
 -- 2. What is left of an image that was opened and served
 
 module _ {D : Type 0} (shows : D → DiskState) (makes : D → DiskCall → D → Type 0) (board : List GuestConfig) (disk : D) (b : BoardState D) (life : ℕ) (begins : Begins shows life board b) (untouched : Within shows makes (Untouched (shows disk)) disk b.store.disk) (unfailed : (shows b.store.disk).failures ≡ (shows disk).failures) (s : StoreState D) (kept : KeepsGuests shows makes (length board) b.book b.store s) where
-  keys : List (Option (List ℕ))
+  abbrev keys : List (Option (List ℕ))
   keys = kept.0
 
   keeps : Keeps shows makes (record { store = b.store; keys = keys }) (record { store = s; keys = kept.2.0 })
@@ -109,7 +108,7 @@ module _ {D : Type 0} (shows : D → DiskState) (makes : D → DiskCall → D �
   kept_of None given = given
   kept_of (Some x) given = to_keep x given
 
-  all_given : (ℕ → List Intent) → ℕ → List Intent
+  abbrev all_given : (ℕ → List Intent) → ℕ → List Intent
   all_given given g = kept_of (slice_get b.store.guests g) (given g)
 
   its_given : (given : ℕ → List Intent) (g : ℕ) (x : IsFirst g) → to_keep x.held (given g) ≡ all_given given g
@@ -142,10 +141,10 @@ module _ {D : Type 0} (shows : D → DiskState) (makes : D → DiskCall → D �
   in_turn r keys now turn has g below =
       let x = first g below in
       let begun : IsInTurn g (parts g) x.held (pending_intents x.held) (slice_get keys g) =
-              record {
-                each = subst (AreNext g (region_of x.held).size (parts g)) (sym x.nothing) tt;
-                key = key_known keys has g below ∙ ap (λ l. Some (after_all (parts g) l).key) (sym x.nothing);
-              } in
+      record {
+        each = subst (AreNext g (region_of x.held).size (parts g)) (sym x.nothing) tt;
+        key = key_known keys has g below ∙ ap (λ l. Some (after_all (parts g) l).key) (sym x.nothing);
+      } in
       let t = turn g x.held x.at begun in
       subst (AreNext g (region_at (capacities_of board) g).size (part_of (bases_of begins.partitions g))) (its_given r g x)
       (subst (λ (q : Part). AreNext g (region_at (capacities_of board) g).size q (to_keep x.held (r g))) x.part (subst (λ e. AreNext g e.size (parts g) (to_keep x.held (r g))) x.region t.each))
@@ -170,9 +169,9 @@ module _ {D : Type 0} (shows : D → DiskState) (makes : D → DiskCall → D �
       let settled : k.part ≡ r.settled g = subst (λ o. BeforeOrAfter (r.settled g) o k.part) none k.may in
       let rest : drop a.count (to_keep x.held (r.given g)) ≡ [] = sym a.left ∙ empty_pending y.0.slot y.0.behind empty.0 empty.1 in
       let whole_list : take a.count (to_keep x.held (r.given g)) ≡ to_keep x.held (r.given g) =
-              sym (append-nil (take a.count (to_keep x.held (r.given g)))) ∙ ap (λ l. take a.count (to_keep x.held (r.given g)) ++ l) (sym rest) ∙ take-append-drop a.count (to_keep x.held (r.given g)) in
+      sym (append-nil (take a.count (to_keep x.held (r.given g)))) ∙ ap (λ l. take a.count (to_keep x.held (r.given g)) ++ l) (sym rest) ∙ take-append-drop a.count (to_keep x.held (r.given g)) in
       let is : k.part ≡ after_all (part_of (bases_of begins.partitions g)) (all_given r.given g) =
-              settled ∙ a.is ∙ ap (after_all (parts g)) whole_list ∙ ap (λ v. after_all v (to_keep x.held (r.given g))) x.part ∙ ap (after_all (part_of (bases_of begins.partitions g))) (its_given r.given g x) in
+      settled ∙ a.is ∙ ap (after_all (parts g)) whole_list ∙ ap (λ v. after_all v (to_keep x.held (r.given g))) x.part ∙ ap (after_all (part_of (bases_of begins.partitions g))) (its_given r.given g x) in
       subst (λ (v : Part). recovered.Stands (region_at (capacities_of board) g) c v) is (subst (λ v. recovered.Stands v c k.part) (a.region ∙ x.region) k.stands)
 
   pub serves_image : AreOf board (shows disk) begins.partitions → IsAtRest s.broken s.guests → (failed : Bool) → s.broken ≡ failed → ServesImage shows makes board disk failed s.disk

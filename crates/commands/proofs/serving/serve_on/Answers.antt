@@ -62,10 +62,10 @@ returns-in-Ok-serve-clause-keeps g c =
     let b = c.in-Ok-open.opened in
     let guests : length c.guests.result.now ≡ length c.args.board.now = ap length c.guests.ensures.value in
     let parted : length c.as_slice.result.now ≡ length c.in-Ok.scripts.items = ap length c.as_slice.ensures.value in
-    let many : length c.as_slice.result.now % 65536 ≡ length c.args.board.now = few_guests _ _ (omega (arith, c.in-Ok.scripts.ok, c.in-Ok.ensures.many, guests, parted)) c.requires.in_range.count.1 in
+    let many : length c.as_slice.result.now % 65536 ≡ length c.args.board.now = few_guests _ _ (omega (arith, c.in-Ok.scripts.ok, c.in-Ok.ensures.many, guests, parted)) c.requires.servable.in_range.count.1 in
     let kept = subst (λ n. KeepsGuests shows makes n b.book b.store ended.store) many
-            (subst (λ v. KeepsGuests shows makes (length c.as_slice.result.now % 65536) v b.store ended.store) parts.ensures.book
-            (subst (λ s. KeepsGuests shows makes (length c.as_slice.result.now % 65536) parts.result.book s ended.store) parts.ensures.store left.keeps)) in
+    (subst (λ v. KeepsGuests shows makes (length c.as_slice.result.now % 65536) v b.store ended.store) parts.ensures.book
+    (subst (λ s. KeepsGuests shows makes (length c.as_slice.result.now % 65536) parts.result.book s ended.store) parts.ensures.store left.keeps)) in
     let heard = left.heard (told_of shows c.args.board.now b parts.result.book parts.result.store 1 e.begins parts.ensures.book parts.ensures.store) in
     told_keeps shows makes c.args.board.now c.args.disk c.tell.result.0 c.tell.result.1 ended.store.disk ended.broken c.tell.ensures.back c.tell.ensures.whole c.tell.ensures.cause
     (serves_image shows makes c.args.board.now c.args.disk b 1 e.begins e.any_moment (e.unfailed refl) ended.store kept

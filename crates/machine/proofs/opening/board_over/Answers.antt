@@ -1,4 +1,4 @@
-use Rattle.std.proofs.Common.{◌≡◌, true, List, ℕ, Ok, Err, Result, refl, subst, ap, sym}
+use Rattle.std.proofs.Common.{◌≡◌, true, List, ℕ, Ok, Err, Result, refl, subst, ap}
 use Rattle.rpmb_frame.specs.declared.config.GuestConfig.{GuestConfig}
 use Rattle.disk.specs.Disk.{DiskState}
 use Rattle.disk.specs.Kept.{file_after}
