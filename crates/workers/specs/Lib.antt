@@ -1,3 +1,4 @@
+pub mod Bell
 pub mod Driving
 pub mod Ends
 pub mod Following

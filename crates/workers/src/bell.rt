@@ -1,5 +1,7 @@
 //! What threads wait on.
-ghost use Rattle.std.specs.Prelude.{◌<◌};
+ghost use Rattle.std.specs.Prelude.{◌≡◌, ◌↔◌, ◌<◌, ◌≤◌, true, false, min, ◌+◌, ◌^◌, ◌-◌};
+ghost use Rattle.std.specs.Prelude.{IsTrue, length, slice_index_or};
+ghost use Rattle.workers.specs.Bell.{TellsAll, TellsWorkers, has_moved, rung, rung_at};
 
 use std::sync::{Condvar, Mutex, Wait};
 use std::{hint, thread};
@@ -49,7 +51,9 @@ impl Actor {
         }
     }
 
-    pub fn flusher() -> Actor {
+    pub fn flusher() -> Actor
+        ensures { result.line ≡ 128 }
+    {
         Actor { line: LINES - 1 }
     }
 }
@@ -65,7 +69,10 @@ struct Line {
 
 impl Line {
     /// Rings for the thread. Whether it waits.
-    fn tell(&mut self) -> bool {
+    fn tell(&mut self) -> bool
+        ensures counts { self.new ≡ rung self.old }
+        ensures waits { result ≡ self.old.waits }
+    {
         self.count = self.count.wrapping_add(1);
         self.waits
     }
@@ -95,7 +102,12 @@ struct Rings {
 }
 
 impl Rings {
-    fn look(&self, who: Actor) -> Look {
+    fn look(&self, who: Actor) -> Look
+        ensures count { (l : _)
+            → result.count ≡ (slice_index_or self.now.lines who.line l).count }
+        ensures ends { result.workers_ended ≡ self.now.workers_ended }
+        ensures stops { result.stopped ≡ self.now.stopped }
+    {
         Look {
             count: self.lines[who.line].count,
             stopped: self.stopped,
@@ -103,7 +115,14 @@ impl Rings {
         }
     }
 
-    fn tell(&mut self, who: Actor) -> bool {
+    fn tell(&mut self, who: Actor) -> bool
+        ensures counts { (l : _) → self.new.lines
+            ≡ rung_at self.old.lines who.line (slice_index_or self.old.lines who.line l) }
+        ensures waits { (l : _) → result ≡ (slice_index_or self.old.lines who.line l).waits }
+        ensures rest { (self.new.stopped ≡ self.old.stopped)
+            × (self.new.workers_ended ≡ self.old.workers_ended)
+            × (self.new.wants_room ≡ self.old.wants_room) }
+    {
         self.lines[who.line].tell()
     }
 
@@ -111,13 +130,25 @@ impl Rings {
         self.lines[who.line].waits = waits;
     }
 
-    fn tell_workers(&mut self) -> bool {
-        tell_each(&mut self.lines[GUESTS..2 * GUESTS])
+    fn tell_workers(&mut self) -> bool
+        ensures tells { TellsAll 64 128 self.old.lines result self.new.lines }
+        ensures rest { (self.new.stopped ≡ self.old.stopped)
+            × (self.new.workers_ended ≡ self.old.workers_ended)
+            × (self.new.wants_room ≡ self.old.wants_room) }
+    {
+        tell_each(&mut self.lines, GUESTS, 2 * GUESTS)
     }
 
     /// Replies have left the book: there is something for this driver, and room for each worker
     /// that asked for it.
-    fn tell_left(&mut self, driver: Actor) -> bool {
+    fn tell_left(&mut self, driver: Actor) -> bool
+        ensures room { self.new.wants_room ≡ false }
+        ensures alone { self.old.wants_room ≡ false → (l : _) → self.new.lines
+            ≡ rung_at self.old.lines driver.line (slice_index_or self.old.lines driver.line l) }
+        ensures workers { self.old.wants_room ≡ true → (l : _) → (told : _)
+            × TellsAll 64 128 (rung_at self.old.lines driver.line
+            (slice_index_or self.old.lines driver.line l)) told self.new.lines }
+    {
         let waits = self.tell(driver);
         if !self.wants_room {
             return waits;
@@ -127,44 +158,69 @@ impl Rings {
     }
 
     /// More is settled of those guests whose mark has moved.
-    fn tell_settled(&mut self, before: &[u64], now: &[u64]) -> bool {
-        tell_moved(&mut self.lines[GUESTS..2 * GUESTS], before, now)
+    fn tell_settled(&mut self, before: &[u64], now: &[u64]) -> bool
+        ensures { TellsWorkers (has_moved before.now now.now) self.old.lines result
+            self.new.lines }
+    {
+        tell_moved(&mut self.lines, before, now)
     }
 
-    fn stop(&mut self) -> bool {
+    fn stop(&mut self) -> bool
+        ensures stopped { self.new.stopped ≡ true }
+        ensures all { TellsAll 0 129 self.old.lines result self.new.lines }
+    {
         self.stopped = true;
-        tell_each(&mut self.lines)
+        tell_each(&mut self.lines, 0, LINES)
     }
 
-    fn leave(&mut self) -> bool {
+    fn leave(&mut self) -> bool
+        ensures ended { self.new.workers_ended
+            ≡ min (self.old.workers_ended + 1) (2 ^ 64 - 1) }
+        ensures flusher { (l : _) → self.new.lines
+            ≡ rung_at self.old.lines 128 (slice_index_or self.old.lines 128 l) }
+    {
         self.workers_ended = self.workers_ended.saturating_add(1);
         self.tell(Actor::flusher())
     }
 
     /// Whether nothing rang for a thread since its look.
-    fn stands(&self, who: Actor, seen: u64) -> bool {
+    fn stands(&self, who: Actor, seen: u64) -> bool
+        ensures { (l : _) → IsTrue result ↔ (self.now.stopped ≡ false)
+            × ((slice_index_or self.now.lines who.line l).count ≡ seen) }
+    {
         !self.stopped && self.lines[who.line].count == seen
     }
 }
 
-/// Rings for each thread. Whether one of them waits.
-fn tell_each(lines: &mut [Line]) -> bool {
+/// Rings for each thread from one line up to another. Whether one of them waits.
+fn tell_each(lines: &mut [Line], from: usize, until: usize) -> bool
+    requires order { from ≤ until }
+    requires inside { until ≤ length lines.old }
+    ensures { TellsAll from until lines.old result lines.new }
+{
     let mut waits = false;
-    for line in lines.iter_mut() {
-        if line.tell() {
-            waits = true;
-        }
+    for i in from..until {
+        waits = lines[i].tell() || waits;
     }
     waits
 }
 
-/// Rings for each thread of a guest whose number has changed. Whether one of them waits.
-fn tell_moved(lines: &mut [Line], before: &[u64], now: &[u64]) -> bool {
+/// Whether the number of this place has changed.
+fn has_moved(before: &[u64], now: &[u64], i: usize) -> bool
+    ensures { result ≡ has_moved before.now now.now i }
+{
+    i < before.len() && i < now.len() && before[i] != now[i]
+}
+
+/// Rings for the worker of each guest whose number has changed. Whether one of them waits.
+fn tell_moved(lines: &mut [Line], before: &[u64], now: &[u64]) -> bool
+    requires { 128 ≤ length lines.old }
+    ensures { TellsWorkers (has_moved before.now now.now) lines.old result lines.new }
+{
     let mut waits = false;
-    for i in 0..lines.len() {
-        let moved = i < before.len() && i < now.len() && before[i] != now[i];
-        if moved && lines[i].tell() {
-            waits = true;
+    for i in GUESTS..2 * GUESTS {
+        if has_moved(before, now, i - GUESTS) {
+            waits = lines[i].tell() || waits;
         }
     }
     waits
