@@ -303,6 +303,7 @@ int statx(int folder, const char *path, int flags, unsigned mask, struct statx *
     if (fails_as(OPEN) || real_statx(folder, path, flags, mask, found))
         return -1;
     if (getenv("REFUSE_TWINS")) {
+        found->stx_dev_major = found->stx_dev_minor;
         found->stx_dev_minor = (unsigned)found->stx_ino;
         found->stx_ino = 1;
     }
