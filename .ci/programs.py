@@ -50,10 +50,11 @@ class Room:
                 it.write(content if isinstance(content, bytes) else content.encode())
         return made
 
-    def run(self, folder, words, refuse="", **how):
-        """What a program printed, and how many calls of each kind it made."""
+    def run(self, folder, words, refuse="", settings=(), **how):
+        """What a program printed, and how many calls of each kind it made. Settings are further names of `refuse.c`,
+        with their values."""
         count = f"{folder}/count"
-        env = {"LD_PRELOAD": self.shim, "REFUSE": refuse, "REFUSE_COUNT": count}
+        env = {"LD_PRELOAD": self.shim, "REFUSE": refuse, "REFUSE_COUNT": count, **dict(settings)}
         if refuse.startswith("disk"):
             env["REFUSE_STOP"] = f"{folder}/stop"
         how = {"stdin": subprocess.DEVNULL, "stdout": subprocess.PIPE, "stderr": subprocess.PIPE, **how}

@@ -8,7 +8,10 @@
  * "io 7+", each later one fails too. No write to standard error is counted: what failed is told there.
  * REFUSE_COUNT names a file into which the number of calls of each kind goes at the end. Threads count as one.
  * For stops, REFUSE_STOP names a file: with the ending ".synced" it has what the last sync that succeeded left, and
- * with ".places" a line for each write since, its place and its length, also for one that failed.
+ * with ".places" a line for each write since, its place and its length, also for one that failed; with ".folders" it
+ * has the number of each folder that was synced.
+ * REFUSE_LENGTH is a length that a file has once its lock is taken, as if another program had held the lock and given
+ * the file that length. With REFUSE_TWINS all files have one number, each on a device of its own.
  */
 #define _GNU_SOURCE
 #include <dlfcn.h>
@@ -190,10 +193,26 @@ static void note_write(size_t size, off_t at)
     close(to);
 }
 
+static void note_folder(ino_t number)
+{
+    char line[32];
+    int to = stop_file(".folders", O_APPEND), length = snprintf(line, sizeof line, "%lu\n", (unsigned long)number);
+    if (to < 0)
+        return;
+    if (real_write(to, line, (size_t)length) != length)
+        abort();
+    close(to);
+}
+
 static void note_sync(int file)
 {
     char bytes[65536];
     ssize_t count;
+    struct stat it;
+    if (!fstat(file, &it) && S_ISDIR(it.st_mode)) {
+        note_folder(it.st_ino);
+        return;
+    }
     int to = stop_file(".synced", O_TRUNC), places = stop_file(".places", O_TRUNC);
     if (to < 0)
         return;
@@ -271,10 +290,22 @@ int fcntl(int file, int command, ...)
 
 int flock(int file, int operation)
 {
-    return fails_as(OPEN) ? -1 : real_flock(file, operation);
+    const char *length = getenv("REFUSE_LENGTH");
+    if (fails_as(OPEN) || real_flock(file, operation))
+        return -1;
+    if (length && real_ftruncate(file, atol(length)))
+        abort();
+    return 0;
 }
 
 int statx(int folder, const char *path, int flags, unsigned mask, struct statx *found)
 {
-    return fails_as(OPEN) ? -1 : real_statx(folder, path, flags, mask, found);
+    if (fails_as(OPEN) || real_statx(folder, path, flags, mask, found))
+        return -1;
+    if (getenv("REFUSE_TWINS")) {
+        found->stx_dev_major = found->stx_dev_minor;
+        found->stx_dev_minor = (unsigned)found->stx_ino;
+        found->stx_ino = 1;
+    }
+    return 0;
 }

@@ -1,7 +1,9 @@
-"""Closed and full streams, which of two faults is told, a limit of a file's length, and a stop by TERM."""
+"""Closed and full streams, lines told as they come, which of two faults is told, a limit of a file's length, and a
+stop by TERM."""
 import collections
 import itertools
 import os
+import select
 import signal
 import subprocess
 import time
@@ -103,6 +105,25 @@ def sweep_streams(room, image):
         files = {"board.toml": BOARD, "script.txt": script(rounds), "board.img": image}
         count += sweep_closed(room, files) + sweep_untold(room, files) + sweep_unwritten(room, files)
     print(f"streams: {count} runs with some of them closed, full or without a reader")
+
+
+def sweep_coming(room):
+    """`rpmb explain` says of each line what it is before the next one comes."""
+    pairs = [("a note", "a note"), ("used 0 0 -", "guest 0, 0 bytes are no frames"), ("", "")] * 3
+    how = {"stdin": subprocess.PIPE, "stdout": subprocess.PIPE, "bufsize": 0}
+    program = subprocess.Popen([f"{room.top}/rpmb", "explain"], **how)
+    with program:
+        for line, wanted in pairs:
+            program.stdin.write(f"{line}\n".encode())
+            is_told = select.select([program.stdout], [], [], SECONDS)[0]
+            told = program.stdout.readline().decode() if is_told else "nothing"
+            if told != f"{wanted}\n":
+                program.kill()
+                raise Wrong(f"rpmb explain, of {line!r} alone: {told!r}")
+        program.stdin.close()
+        if program.wait(SECONDS):
+            raise Wrong(f"rpmb explain, of lines that come one by one: {program.returncode}")
+    print(f"coming: {len(pairs)} lines explained, each before the next one came")
 
 
 def sweep_order(room, image):

@@ -1,0 +1,75 @@
+"""The file of an image: its folder is synced where it is made, its length counts under its lock, and no other file is
+taken for it by the number alone."""
+import itertools
+import os
+
+from failing import ONE, fresh, listings, words
+from programs import DISK_FAULT, FILE_FAULT, Wrong, each
+
+FORMATTED = (0, "formatted 167424\n", "")
+NOT_FORMATTED = (1, "", "rpmbd: 12 NotFormatted\n")
+
+
+def folders(folder):
+    """The numbers of the folders that were synced."""
+    path = f"{folder}/stop.folders"
+    if not os.path.exists(path):
+        return []
+    with open(path, encoding="ascii") as it:
+        return [int(line) for line in it]
+
+
+def check_made(room, image, call):
+    """A format whose file isn't there yet, of which this call fails. The first call is the sync of the file's folder;
+    behind it come the 18 of any format."""
+    folder = room.folder({"board.toml": ONE.replace("board.img", image)})
+    os.mkdir(f"{folder}/images")
+    ran = room.run(folder, words("format"), f"disk {call}")
+    fault = FILE_FAULT if call == 1 else DISK_FAULT
+    wanted = (1, "", fault) if call <= 19 else FORMATTED
+    synced = [] if call == 1 else [os.stat(os.path.dirname(f"{folder}/{image}")).st_ino]
+    if ran[:3] != wanted or (ran[3]["disk"] >= call) != (call <= 19) or folders(folder) != synced:
+        raise Wrong(f"rpmbd format of no file {image}, disk {call}: {ran}, and folders synced: {folders(folder)}")
+
+
+def check_kept(room):
+    """Where the file is there, no folder is synced."""
+    folder = room.folder({"board.toml": ONE, "board.img": b"short"})
+    ran = room.run(folder, words("format"), "disk 0")
+    if ran[:3] != FORMATTED or folders(folder):
+        raise Wrong(f"rpmbd format of a file: {ran}, and folders synced: {folders(folder)}")
+
+
+def check_length(room, verb, before, after):
+    """The program that held the image until now has given it another length: it counts what it is under the lock."""
+    content = (fresh() + b"\0")[:before]
+    folder = room.folder({"board.toml": ONE, "script.txt": "", "board.img": content})
+    ran = room.run(folder, words(verb), settings=[("REFUSE_LENGTH", str(after))])
+    told = {"show": listings()[0], "upgrade": "upgraded\n"}.get(verb, "")
+    if ran[:3] != ((0, told, "") if after == len(fresh()) else NOT_FORMATTED):
+        raise Wrong(f"rpmbd {verb}, of {before} bytes, and of {after} under the lock: {ran}")
+
+
+def check_twins(room, has_image):
+    """Neither the board file nor what standard output writes into is the image, though each has its number on another
+    device."""
+    folder = room.folder({"board.toml": ONE, **({"board.img": fresh()} if has_image else {})})
+    for verb, wanted in (("format", FORMATTED), ("show", (0, listings()[0], ""))):
+        ran = room.run(folder, words(verb), settings=[("REFUSE_TWINS", "1")])
+        if ran[:3] != wanted:
+            raise Wrong(f"rpmbd {verb}, where all files have one number, each on a device of its own: {ran}")
+
+
+def sweep_image_files(room):
+    """How an image's file is made, held and told from others."""
+    made = [(image, call) for image in ("board.img", "images/board.img") for call in range(1, 21)]
+    for _ in each(lambda it: check_made(room, *it), made):
+        pass
+    check_kept(room)
+    length = len(fresh())
+    lengths = list(itertools.product(("run", "serve", "show", "upgrade"), ((length + 1, length), (length, 5))))
+    for verb, (before, after) in lengths:
+        check_length(room, verb, before, after)
+    for has_image in (False, True):
+        check_twins(room, has_image)
+    print(f"image files: {len(made)} made, {len(lengths)} given another length by who held them, 4 beside their twins")
