@@ -29,6 +29,10 @@ use Rattle.flusher.specs.Pair.{listed, pending_intents}
 use Rattle.flusher.specs.Slot.{pending_of}
 use Rattle.commands.specs.ServedImage.{HoldsSome, LeavesAll, LeavesSome, ServeKeeps, ServeMoments, ServesImage}
 use Rattle.commands.specs.declared.fault.Fault.TheVariants as fault
+use Rattle.commands.specs.Ending.{IsOfReading}
+use Rattle.commands.specs.Fault.{fault_of_image}
+use Rattle.recovery.specs.declared.fault.OpenFault.{OpenFault}
+use Rattle.recovery.specs.declared.fault.OpenFault.TheVariants as image
 
 there : {X : Type 0} (xs : List X) (n : ℕ) → n < length xs → (y : X) × (slice_get xs n ≡ Some y)
 there xs n inside = elim (slice_get_cases xs n).1 [
@@ -208,8 +212,21 @@ module _ {D : Type 0} (shows : D → DiskState) (makes : D → DiskCall → D �
       subst (λ o. IfSome o (ServeMoments shows makes board disk f)) (sym is) (inr (failed, (λ e. cause (ap Err e)), served))
 
   -- the image wasn't opened
-  pub unserved_keeps : (f : Fault) (back : D) → Within shows makes (Untouched (shows disk)) disk back → ServeKeeps shows makes board disk (Err f) (Some back)
-  unserved_keeps f back way = inl way
+  pub unserved_keeps : (e : OpenFault) (f : Fault) (back : D) → f ≡ fault_of_image e → Within shows makes (Untouched (shows disk)) disk back → (e ≡ image.DiskFault → HasRisen (shows disk).failures (shows back).failures) → ServeKeeps shows makes board disk (Err f) (Some back)
+  unserved_keeps e f back is way cause = inl (record { untouched = way; cause = λ told. cause (of_disk e (sym is ∙ told)) })
+    where
+      of_disk : (e : OpenFault) → fault_of_image e ≡ fault.DiskFault → e ≡ image.DiskFault
+      of_disk image.DiskFault told = refl
+      of_disk image.NoMemory told = absurd (cc)
+      of_disk image.NotFormatted told = absurd (cc)
+      of_disk image.OtherConfig told = absurd (cc)
 
-  pub uncalled_keeps : (f : Fault) → ServeKeeps shows makes board disk (Err f) (Some disk)
-  uncalled_keeps f = inl (Still disk (record { len = refl; faithful = refl; later = omega arith; seen = λ known k. refl; unsynced = λ known k old. old }))
+  pub uncalled_keeps : (f : Fault) → (f ≡ fault.DiskFault → ⊥) → ServeKeeps shows makes board disk (Err f) (Some disk)
+  uncalled_keeps f other = inl (record {
+    untouched = Still disk (record { len = refl; faithful = refl; later = omega arith; seen = λ known k. refl; unsynced = λ known k old. old });
+    cause = λ told. absurd (other told);
+  })
+
+-- a fault of reading is no disk's
+pub reading_is_no_call : (f : Fault) → IsOfReading f → f ≡ fault.DiskFault → ⊥
+reading_is_no_call f of is = subst IsOfReading is of

@@ -67,21 +67,22 @@ pub record ServesImage {D : Type 0} (shows : D → DiskState) (makes : D → Dis
       → ServesPartitions shows makes board partitions failed opened back
   pub cause : failed ≡ true → HasRisen (shows disk).failures (shows back).failures
 
--- The image wasn't opened, and is as it was, or it was and guests were served.
-abbrev pub MayServe : {D : Type 0} → (D → DiskState) → (D → DiskCall → D → Type 0)
-    → List GuestConfig
-    → D → (Bool → Type 0) → D → Type 0
-MayServe shows makes board disk Is back = Within shows makes (Untouched (shows disk)) disk back
-    ⊎ ((failed : Bool) × Is failed × ServesImage shows makes board disk failed back)
-
 -- whether a call of the disk has failed where that is the fault
 abbrev pub TellsFailed : Fault → Bool → Type 0
 TellsFailed f failed = f ≡ fault.DiskFault → failed ≡ true
 
--- what a serve that ended so leaves of the image, where its disk comes back
+-- The image wasn't opened, and is as it was; where that was for a call of the disk, one has failed.
+pub record IsUnserved {D : Type 0} (shows : D → DiskState) (makes : D → DiskCall → D → Type 0)
+    (disk : D) (f : Fault) (back : D) : Type 0 where
+  pub untouched : Within shows makes (Untouched (shows disk)) disk back
+  pub cause : f ≡ fault.DiskFault → HasRisen (shows disk).failures (shows back).failures
+
+-- What a serve that ended so leaves of the image, where its disk comes back: the image wasn't
+-- opened, or it was and guests were served.
 abbrev pub ServeMoments : {D : Type 0} → (D → DiskState) → (D → DiskCall → D → Type 0)
     → List GuestConfig → D → Fault → D → Type 0
-ServeMoments shows makes board disk f back = MayServe shows makes board disk (TellsFailed f) back
+ServeMoments shows makes board disk f back = IsUnserved shows makes disk f back
+    ⊎ ((failed : Bool) × TellsFailed f failed × ServesImage shows makes board disk failed back)
 
 -- and one that ended either way
 abbrev pub ServeKeeps : {D : Type 0} → (D → DiskState) → (D → DiskCall → D → Type 0)

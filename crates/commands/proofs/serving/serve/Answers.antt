@@ -1,7 +1,7 @@
 use Rattle.std.proofs.Common.{Err, ap, length, subst, sym}
 use Rattle.commands.proofs.Common.{on_ok_weaker, served_line_of, lines_of, PrintsEach, IfErr-weaker, DiskState, Ends, serving}
 use Rattle.commands.proofs.EachTold.{EndsServe, serve_prints, unread_ends, unread_prints}
-use Rattle.commands.proofs.ServedImage.{uncalled_keeps}
+use Rattle.commands.proofs.ServedImage.{reading_is_no_call, uncalled_keeps}
 use Rattle.commands.proofs.Printing.{none_bad, not_bad, says_same}
 use Rattle.commands.proofs.serving.serve.Goals as goal
 
@@ -33,4 +33,4 @@ pub returns-in-Err-clause-prints : goal.returns-in-Err-clause-prints
 returns-in-Err-clause-prints g c = unread_prints c.args.board.now c.args.script.now c.in-Err.fault (g.W.Write.contents c.args.out.now) c.in-Err.ensures.reads
 
 pub returns-in-Err-clause-keeps : goal.returns-in-Err-clause-keeps
-returns-in-Err-clause-keeps g c = uncalled_keeps g.D.Disk.state g.D.Disk.makes c.args.board.now c.args.disk c.in-Err.fault
+returns-in-Err-clause-keeps g c = uncalled_keeps g.D.Disk.state g.D.Disk.makes c.args.board.now c.args.disk c.in-Err.fault (reading_is_no_call c.in-Err.fault c.in-Err.ensures.reads)

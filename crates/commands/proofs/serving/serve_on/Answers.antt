@@ -45,11 +45,11 @@ returns-in-Ok-serve-clause-prints g c =
     (omega (arith, c.in-Ok-serve.ensures.leaves.drivers, drivers.ok, parted, as_many)) as_many (subst (HaveAll drivers.items) c.as_slice.ensures.value c.in-Ok-serve.ensures.leaves.answers) (λ k below. c.in-Ok.ensures.each k (omega (arith, guests, below))) (c.tell.ensures.failed failed))
 
 pub returns-in-Err-clause-keeps : goal.returns-in-Err-clause-keeps
-returns-in-Err-clause-keeps g c = uncalled_keeps g.D.Disk.state g.D.Disk.makes c.args.board.now c.args.disk c.in-Err.fault
+returns-in-Err-clause-keeps g c = uncalled_keeps g.D.Disk.state g.D.Disk.makes c.args.board.now c.args.disk c.in-Err.fault (λ told. (let memory = c.in-Err.ensures.memory in absurd (cc)))
 
 pub returns-in-Err-open-clause-keeps : goal.returns-in-Err-open-clause-keeps
 returns-in-Err-open-clause-keeps g c =
-    unserved_keeps g.D.Disk.state g.D.Disk.makes c.args.board.now c.args.disk c.of_image.result c.in-Err-open.disk c.in-Err-open.ensures.any_moment
+    unserved_keeps g.D.Disk.state g.D.Disk.makes c.args.board.now c.args.disk c.in-Err-open.fault c.of_image.result c.in-Err-open.disk c.of_image.ensures c.in-Err-open.ensures.any_moment c.in-Err-open.ensures.cause
 
 pub returns-in-Ok-serve-clause-keeps : goal.returns-in-Ok-serve-clause-keeps
 returns-in-Ok-serve-clause-keeps g c =
