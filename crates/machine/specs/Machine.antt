@@ -130,10 +130,11 @@ pub record TellsFault (guest room : ℕ) (told : Option MachineFault)
   pub reason : (f : MachineFault) → told ≡ Some f → HasFault guest room f old new
 
 -- The disk was told of its writes and its sync, and just one call of it was made then: the book
--- heard of the one before it and of this one.
+-- heard of the one before it and of this one. At each moment a stop leaves what a serve may leave.
 pub record Completes (told : Told) (old new : MachineState) : Type 0 where
   pub runs : (guest : ℕ) → GoesOn guest (telling told old.board) new.board
   pub hears : Hears outbox_state OutboxMakes (telling told old.board) new.board
+  pub moves : Moves outbox_state OutboxMakes (telling told old.board) new.board
   pub windows : new.windows ≡ old.windows
 
 abbrev pub is_sync : Call → Bool

@@ -1,6 +1,7 @@
 //! Handing what was accepted to the store, and its writes to the disk.
 ghost use Rattle.std.specs.Prelude.{◌≡◌, ℕ};
 ghost use Rattle.disk.specs.OutboxDisk.{OutboxMakes, outbox_state};
+ghost use Rattle.board.specs.Moving.{Moves};
 ghost use Rattle.machine.specs.Serving.{Serves};
 ghost use Rattle.machine.specs.Stepping.{Hears};
 
@@ -88,9 +89,11 @@ pub(crate) fn write_out(board: &mut Board<OutboxDisk>)
 pub(crate) fn go_on<D: Disk>(board: &mut Board<D>)
     ensures serves { (guest : ℕ) → Serves D.state D.makes guest board.old board.new }
     ensures hears { Hears D.state D.makes board.old board.new }
+    ensures moves { Moves D.state D.makes board.old board.new }
     ensures jobs { board.new.jobs ≡ board.old.jobs }
     ensures devices { board.new.devices ≡ board.old.devices }
 {
+    board.what_always_holds();
     let _ = make(board, Step::Settle);
     let _ = make(board, Step::Advance); // the call that was told of
     let _ = make(board, Step::Settle);

@@ -19,3 +19,6 @@ returns-clause-hears g c = record {
   makes_it = c.make-2.ensures.goes.does;
   hears_it = c.make-3.ensures.goes.does;
 }
+
+pub returns-clause-moves : goal.returns-clause-moves
+returns-clause-moves g c = (returns-clause-serves g c 0).moves c.what_always_holds.ensures.tied
