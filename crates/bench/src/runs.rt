@@ -51,7 +51,7 @@ fn runs<R: AllocGlobal + Threads + Wait + Sync>(
 ) -> Result<(), Stop> {
     let mut err = Vec::new(threads.alloc());
     match perform(threads, RUN, config, script, disk, out, &mut err) {
-        (0, _) => Ok(()),
+        (Ok(()), _) => Ok(()),
         _ => Err("a run that came to a fault"),
     }
 }

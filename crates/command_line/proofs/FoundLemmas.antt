@@ -6,7 +6,7 @@ use Rattle.clap.specs.Simple.{subcommand_rows}
 use Rattle.clap.specs.declared.parser.matches.ArgMatches.{ArgMatches}
 use Rattle.clap.specs.declared.parser.matches.ArgMatches.TheViews.{out-ArgMatches, out-SubCommand}
 use Rattle.clap.proofs.WalkLemmas.{first_value-rows}
-use Rattle.command_line.specs.Program.{AsksFor, IsAskedBy}
+use Rattle.command_line.specs.Program.{AsksFor, IsAskedBy, Texts, texts_in}
 use Rattle.command_line.specs.declared.command.Command.{Command}
 
 name_in_rows : (m : ArgMatches) → subcommand_name_of m ≡ option_map (λ f. f.0) (subcommand_rows_of m)
@@ -25,39 +25,35 @@ found_some (Some f) name rows n r =
     let second : f.1 ≡ rows = cc in
     ap₂ (λ (x : Text) (y : List Row). Some (x, y)) first second
 
--- what a subcommand's matches ask for
-abbrev Asks : ArgMatches → Text → Command → Type 0
-Asks inner name t =
-    AsksFor name (first_value (found_of inner) (codes "BOARD")) (first_value (found_of inner) (codes "SCRIPT")) t
-
-same_asks : (m inner : ArgMatches) (name : Text) (t : Command) → Some name ≡ subcommand_name_of m
-    → Some (rows_of (found_of inner)) ≡ option_map (λ f. f.1) (subcommand_rows_of m)
-    → IsAskedBy (subcommand_rows_of m) t ≡ Asks inner name t
-same_asks m inner name t n r =
-    ap (λ (f : Option (Text × List Row)). IsAskedBy f t) (found_some (subcommand_rows_of m) name _ (n ∙ name_in_rows m) r)
-    ∙ rw (first_value-rows (found_of inner) (codes "BOARD"), first_value-rows (found_of inner) (codes "SCRIPT")) refl
-
 -- the facts that the getters give of a subcommand
-pub record Reads (m inner : ArgMatches) (name : Text) (board script : Option Text) : Type 0 where
+pub record Reads (m inner : ArgMatches) (name : Text) (texts : Texts) : Type 0 where
   pub called : Some name ≡ subcommand_name_of m
   pub rows : Some (rows_of (found_of inner)) ≡ option_map (λ f. f.1) (subcommand_rows_of m)
-  pub first : board ≡ first_value (found_of inner) (codes "BOARD")
-  pub second : script ≡ first_value (found_of inner) (codes "SCRIPT")
+  pub found : texts ≡ texts_in (rows_of (found_of inner))
 
-same_task : (m inner : ArgMatches) (name : Text) (board script : Option Text) (t : Command) → Reads m inner name board script
-    → AsksFor name board script t ≡ IsAskedBy (subcommand_rows_of m) t
-same_task m inner name board script t reads =
-    ap₂ (λ (b s : Option Text). AsksFor name b s t) reads.first reads.second
-    ∙ sym (same_asks m inner name t reads.called reads.rows)
+same_task : (m inner : ArgMatches) (name : Text) (texts : Texts) (t : Command) → Reads m inner name texts
+    → AsksFor name texts t ≡ IsAskedBy (subcommand_rows_of m) t
+same_task m inner name texts t reads =
+    ap (λ (x : Texts). AsksFor name x t) reads.found
+    ∙ sym (ap (λ (f : Option (Text × List Row)). IsAskedBy f t) (found_some (subcommand_rows_of m) name _ (reads.called ∙ name_in_rows m) reads.rows))
 
-pub some_asked : (m inner : ArgMatches) (name : Text) (board script : Option Text) (r : Option Command) → Reads m inner name board script
-    → IfSome r (AsksFor name board script) → IfSome r (IsAskedBy (subcommand_rows_of m))
-some_asked m inner name board script None reads asks = asks
-some_asked m inner name board script (Some t) reads asks =
-    subst (λ (X : Type 0). X) (same_task m inner name board script t reads) asks
+pub some_asked : (m inner : ArgMatches) (name : Text) (texts : Texts) (r : Option Command) → Reads m inner name texts
+    → IfSome r (AsksFor name texts) → IfSome r (IsAskedBy (subcommand_rows_of m))
+some_asked m inner name texts None reads asks = asks
+some_asked m inner name texts (Some t) reads asks =
+    subst (λ (X : Type 0). X) (same_task m inner name texts t reads) asks
 
-pub none_asked : (m inner : ArgMatches) (name : Text) (board script : Option Text) (r : Option Command) → Reads m inner name board script
-    → IfNone r ((t : Command) → ¬ AsksFor name board script t) → IfNone r ((t : Command) → ¬ IsAskedBy (subcommand_rows_of m) t)
-none_asked m inner name board script (Some t) reads never = never
-none_asked m inner name board script None reads never =
-    λ t by. never t (subst (λ (X : Type 0). X) (sym (same_task m inner name board script t reads)) by)
+pub none_asked : (m inner : ArgMatches) (name : Text) (texts : Texts) (r : Option Command) → Reads m inner name texts
+    → IfNone r ((t : Command) → ¬ AsksFor name texts t) → IfNone r ((t : Command) → ¬ IsAskedBy (subcommand_rows_of m) t)
+none_asked m inner name texts (Some t) reads never = never
+none_asked m inner name texts None reads never =
+    λ t by. never t (subst (λ (X : Type 0). X) (sym (same_task m inner name texts t reads)) by)
+
+-- the values that the getters give are those of the rows
+pub all_found : (m : ArgMatches) (b s n v : Option Text) → b ≡ first_value (found_of m) (codes "BOARD")
+    → s ≡ first_value (found_of m) (codes "SCRIPT") → n ≡ first_value (found_of m) (codes "new")
+    → v ≡ first_value (found_of m) (codes "image-version")
+    → record { board = b; script = s; only_new = n; version = v } ≡ texts_in (rows_of (found_of m))
+all_found m b s n v is-b is-s is-n is-v =
+    let rows = first_value-rows (found_of m) in
+    rw (is-b ∙ rows (codes "BOARD"), is-s ∙ rows (codes "SCRIPT"), is-n ∙ rows (codes "new"), is-v ∙ rows (codes "image-version")) refl

@@ -1,5 +1,14 @@
 //! The commands.
 
+/// A version of an image: how a partition's blocks stand in it.
+#[derive(Clone, Copy, Debug, PartialEq, Eq)]
+pub enum ImageVersion {
+    /// A write is logged, and then made in place: four syncs.
+    One,
+    /// A write goes into the slot that isn't read: two syncs.
+    Two,
+}
+
 /// What the program is to do, with the paths of the files that the words name.
 #[derive(Clone, Copy, Debug, PartialEq, Eq)]
 pub enum Command<'a> {
@@ -7,6 +16,10 @@ pub enum Command<'a> {
     Format {
         /// The path of the board file.
         board: &'a str,
+        /// Whether a file that is there is refused.
+        only_new: bool,
+        /// The version that the image is to have.
+        version: ImageVersion,
     },
     /// Prints what the image of a board holds.
     Show {
@@ -32,4 +45,23 @@ pub enum Command<'a> {
         /// The path of the script.
         script: &'a str,
     },
+}
+
+impl<'a> Command<'a> {
+    /// The path of the board file.
+    pub fn board(self) -> &'a str {
+        match self {
+            Command::Format { board, .. } => board,
+            Command::Show { board } | Command::Upgrade { board } => board,
+            Command::Run { board, .. } | Command::Serve { board, .. } => board,
+        }
+    }
+
+    /// The path of the script, of a command that has one.
+    pub fn script(self) -> Option<&'a str> {
+        match self {
+            Command::Run { script, .. } | Command::Serve { script, .. } => Some(script),
+            _ => None,
+        }
+    }
 }

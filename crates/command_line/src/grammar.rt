@@ -1,11 +1,11 @@
 //! The commands as `clap` reads them, with the texts of their help.
-ghost use Rattle.std.specs.Prelude.{◌≡◌, IfOk, false};
-ghost use Rattle.clap.specs.Words.{app_of, rule_of, with_subcommand};
+ghost use Rattle.std.specs.Prelude.{◌≡◌, IfOk, codes, false};
+ghost use Rattle.clap.specs.Words.{app_of, rule_of, with_rule, with_subcommand};
 ghost use Rattle.clap.specs.declared.builder.command.Command.TheViews.{out-Command as fields_of};
-ghost use Rattle.command_line.specs.Program.{bare, command_of, program, required};
+ghost use Rattle.command_line.specs.Program.{bare, command_of, flag, option, program, required};
 
 use crate::help;
-use clap::{Arg, Command};
+use clap::{Arg, ArgAction, Command};
 use std::alloc::{AllocError, Global};
 
 /// An argument that has to be given.
@@ -16,11 +16,54 @@ fn required<'a>(alloc: Global, id: &'a str, help: &'a str) -> Arg<'a>
     Arg::new(alloc, id).required(true).help(help)
 }
 
-/// The files that a command takes.
+/// An option that is there or not.
+fn flag<'a>(alloc: Global, id: &'a str, help: &'a str) -> Arg<'a>
+    ensures rule { rule_of result ≡ flag id.entry.now }
+    ensures local { result.global ≡ false }
+{
+    Arg::new(alloc, id)
+        .long(id)
+        .action(ArgAction::SetTrue)
+        .help(help)
+}
+
+/// An option that has a value, which help calls `value`.
+fn option<'a>(alloc: Global, id: &'a str, value: &'a str, help: &'a str) -> Arg<'a>
+    ensures rule { rule_of result ≡ option id.entry.now }
+    ensures local { result.global ≡ false }
+{
+    Arg::new(alloc, id).long(id).value_name(value).help(help)
+}
+
+/// The files that a command takes, and its options.
 #[derive(Clone, Copy)]
 enum Files {
+    Fresh,
     Board,
     BoardAndScript,
+}
+
+/// A command with one argument more.
+fn with_argument<'a>(command: Command<'a>, argument: Arg<'a>) -> Result<Command<'a>, AllocError>
+    requires { argument.global ≡ false }
+    ensures shape { IfOk result
+        (λ c. app_of c ≡ with_rule (app_of command.entry) (rule_of argument.entry)) }
+    ensures local { (fields_of command.entry).has_globals ≡ false
+        → IfOk result (λ c. (fields_of c).has_globals ≡ false) }
+{
+    command.arg(argument)
+}
+
+/// A command with the options of what makes an image.
+fn with_fresh<'a>(alloc: Global, command: Command<'a>) -> Result<Command<'a>, AllocError>
+    ensures shape { IfOk result (λ c. app_of c ≡ with_rule (with_rule (app_of command.entry)
+        (flag (codes "new"))) (option (codes "image-version"))) }
+    ensures local { (fields_of command.entry).has_globals ≡ false
+        → IfOk result (λ c. (fields_of c).has_globals ≡ false) }
+{
+    let command = with_argument(command, flag(alloc, "new", "Refuses a file that is there"))?;
+    let help = "1, or 2, whose writes take two syncs and not four [default: 1]";
+    with_argument(command, option(alloc, "image-version", "VERSION", help))
 }
 
 /// A command that takes files; `more` stands below its usage.
@@ -38,6 +81,7 @@ fn command<'a>(
     let command = Command::new(alloc, name).about(about).after_help(more);
     let command = command.arg(board)?;
     match files {
+        Files::Fresh => with_fresh(alloc, command),
         Files::Board => Ok(command),
         Files::BoardAndScript => command.arg(required(
             alloc,
@@ -81,7 +125,7 @@ pub fn program<'a>(alloc: Global) -> Result<Command<'a>, AllocError>
     let program = with_command(
         alloc,
         bare(alloc),
-        Files::Board,
+        Files::Fresh,
         "format",
         "Makes a fresh image of the board, over what its file holds",
         help::FORMAT,

@@ -7,6 +7,6 @@ mod grammar;
 mod help;
 mod words;
 
-pub use command::Command;
+pub use command::{Command, ImageVersion};
 pub use given::{GivenError, given_words};
 pub use words::{WordsError, read_words};

@@ -3,11 +3,12 @@ ghost use Rattle.std.specs.Prelude.{◌≡◌, IfErr, IfNone, IfOk, IfSome, OnOk
 ghost use Rattle.std.specs.Option.{option_copied};
 ghost use Rattle.clap.specs.Kinds.{HasKind, Kinds};
 ghost use Rattle.clap.specs.Values.{kind_of};
-ghost use Rattle.clap.specs.Words.{fault_of, subcommand_of, subcommand_rows_of};
+ghost use Rattle.clap.specs.Words.{fault_of, found_of, rows_of, subcommand_of, subcommand_rows_of};
 ghost use Rattle.command_line.specs.declared.command.Command.{Command};
-ghost use Rattle.command_line.specs.Program.{AsksFor, IsAskedBy, IsRefusal, IsToldBy, program};
+ghost use Rattle.command_line.specs.Program.{AsksFor, IsAskedBy, IsRefusal, IsToldBy};
+ghost use Rattle.command_line.specs.Program.{is_given, program, texts_in, texts_of, version_of};
 
-use crate::command::Command;
+use crate::command::{Command, ImageVersion};
 use crate::grammar::program;
 use clap::ArgMatches;
 use clap::error::ErrorKind;
@@ -20,24 +21,52 @@ pub enum WordsError {
     /// They are wrong, or ask for help. The error has the text, and says by `use_stderr` to which
     /// stream it goes and by `exit_code` the status: 0 for help, else 2.
     Refused(clap::Error),
-    /// They name a command, but not all of its files.
+    /// They name a command, but not all of its files, or a version of an image that there isn't.
     Incomplete,
     /// Memory was refused.
     NoMemory,
 }
 
-fn command_of<'a>(
-    name: &str,
+/// The values of a command's arguments, of those that have one.
+#[derive(Clone, Copy)]
+struct Values<'a> {
     board: Option<&'a str>,
     script: Option<&'a str>,
-) -> Option<Command<'a>>
-    ensures some { IfSome result
-        (AsksFor name.now (option_copied board.entry) (option_copied script.entry)) }
-    ensures none { IfNone result ((c : Command)
-        → ¬ AsksFor name.now (option_copied board.entry) (option_copied script.entry) c) }
+    only_new: Option<&'a str>,
+    version: Option<&'a str>,
+}
+
+/// The version that a word names; that of a fresh image where there is none.
+fn version_of(word: Option<&str>) -> Option<ImageVersion>
+    ensures { result ≡ version_of (option_copied word.entry) }
 {
-    match (name, board, script) {
-        ("format", Some(board), _) => Some(Command::Format { board }),
+    match word {
+        None | Some("1") => Some(ImageVersion::One),
+        Some("2") => Some(ImageVersion::Two),
+        _ => None,
+    }
+}
+
+/// Whether a flag is given.
+fn is_given(word: Option<&str>) -> bool
+    ensures { result ≡ is_given (option_copied word.entry) }
+{
+    match word {
+        Some("true") => true,
+        _ => false,
+    }
+}
+
+fn command_of<'a>(name: &str, values: Values<'a>) -> Option<Command<'a>>
+    ensures some { IfSome result (AsksFor name.now (texts_of values.entry)) }
+    ensures none { IfNone result ((c : Command) → ¬ AsksFor name.now (texts_of values.entry) c) }
+{
+    match (name, values.board, values.script) {
+        ("format", Some(board), _) => Some(Command::Format {
+            board,
+            only_new: is_given(values.only_new),
+            version: version_of(values.version)?,
+        }),
         ("show", Some(board), _) => Some(Command::Show { board }),
         ("upgrade", Some(board), _) => Some(Command::Upgrade { board }),
         ("run", Some(board), Some(script)) => Some(Command::Run { board, script }),
@@ -46,12 +75,23 @@ fn command_of<'a>(
     }
 }
 
+fn values_of<'a>(matches: &ArgMatches<'a>) -> Values<'a>
+    ensures { texts_of result ≡ texts_in (rows_of (found_of matches.now)) }
+{
+    Values {
+        board: matches.get_str("BOARD"),
+        script: matches.get_str("SCRIPT"),
+        only_new: matches.get_str("new"),
+        version: matches.get_str("image-version"),
+    }
+}
+
 fn command_found<'a>(matches: &ArgMatches<'a>) -> Option<Command<'a>>
     ensures some { IfSome result (IsAskedBy (subcommand_rows_of matches.now)) }
     ensures none { IfNone result ((c : Command) → ¬ IsAskedBy (subcommand_rows_of matches.now) c) }
 {
     match matches.subcommand() {
-        Some((name, inner)) => command_of(name, inner.get_str("BOARD"), inner.get_str("SCRIPT")),
+        Some((name, inner)) => command_of(name, values_of(inner)),
         None => None,
     }
 }

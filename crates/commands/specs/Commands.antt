@@ -84,7 +84,7 @@ pub record ServeDoes {D : Type 0} (shows : D → DiskState) (makes : D → DiskC
       × (given ≡ Some old)
 
 abbrev pub IsFormat : Command → Type 0
-IsFormat (command.Format b) = Unit {0}
+IsFormat (command.Format b only_new version) = Unit {0}
 IsFormat c = ⊥
 
 -- the disk is given back, and this holds of it
@@ -96,7 +96,7 @@ GivesBack P (Some d) = P d
 abbrev pub Does : {D : Type 0} → (D → DiskState) → (D → DiskCall → D → Type 0) → Command
     → List GuestConfig → List ℕ
     → D → Option (List ℕ) → Result (Unit {0}) Fault → Option D → Option (List ℕ) → Type 0
-Does shows makes (command.Format b) board script old start ended back now =
+Does shows makes (command.Format b only_new version) board script old start ended back now =
     GivesBack (λ new. FormatDoes shows makes board old start ended new now) back
 Does shows makes (command.Show b) board script old start ended back now =
     GivesBack (λ new. ShowDoes shows makes board old start ended new now) back
@@ -107,16 +107,21 @@ Does shows makes (command.Run b s) board script old start ended back now =
 Does shows makes (command.Serve b s) board script old start ended back now =
     ServeDoes shows makes board script old start ended back now
 
--- The status that tells of an end, and what standard error has taken: nothing, or the line of the
--- fault, as far as that went out.
-abbrev pub TellsEnd : Result (Unit {0}) Fault → ℕ → Option (List ℕ) → Option (List ℕ) → Type 0
-TellsEnd (Ok done) status start now = (status ≡ 0) × Keeps start now
-TellsEnd (Err f) status start now = (status ≡ 1) × Takes start now (fault_line f)
+-- What standard error has taken of an end: nothing, or the line of the fault, as far as that went
+-- out.
+abbrev pub TellsEnd : Result (Unit {0}) Fault → Option (List ℕ) → Option (List ℕ) → Type 0
+TellsEnd (Ok done) start now = Keeps start now
+TellsEnd (Err f) start now = Takes start now (fault_line f)
+
+-- the status that the program ends with then
+abbrev pub status_after : Result (Unit {0}) Fault → ℕ
+status_after (Ok done) = 0
+status_after (Err f) = 1
 
 -- A command was performed, and its end told.
 pub record Performs {D : Type 0} (shows : D → DiskState) (makes : D → DiskCall → D → Type 0)
     (c : Command) (board : List GuestConfig) (script : List ℕ) (old : D) (start : Option (List ℕ))
-    (status : ℕ) (back : Option D) (now err_start err_now : Option (List ℕ)) : Type 0 where
-  pub ended : Result (Unit {0}) Fault
+    (ended : Result (Unit {0}) Fault) (back : Option D)
+    (now err_start err_now : Option (List ℕ)) : Type 0 where
   pub does : Does shows makes c board script old start ended back now
-  pub told : TellsEnd ended status err_start err_now
+  pub told : TellsEnd ended err_start err_now

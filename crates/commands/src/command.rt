@@ -5,7 +5,7 @@ ghost use Rattle.intent_slots.specs.Layout.{capacities_of, image_length};
 ghost use Rattle.commands.specs.Commands.{Does, IsFormat, Performs};
 
 use crate::fault::Fault;
-use crate::fault_lines::status_after;
+use crate::fault_lines::tell_end;
 use crate::formatting::format;
 use crate::running::run;
 use crate::serving::serve;
@@ -54,10 +54,10 @@ fn obey<R: AllocGlobal + Threads + Wait + Sync, D: Disk + Send + Drop, W: Write>
     }
 }
 
-/// Performs the command, and gives the status that the program ends with, and the disk: 0, or 1
-/// after the line of a fault on standard error. All work on the disk's content, `run` and `serve`
-/// with the text of a script. What was printed is flushed before the status is decided. The disk is
-/// lost where the threads of `serve` came to a fault.
+/// Performs the command, tells on standard error the fault that ended it, if one did, and gives back
+/// how it ended, and the disk. All work on the disk's content, `run` and `serve` with the text of a
+/// script. What was printed is flushed before its end is decided. The disk is lost where the threads
+/// of `serve` came to a fault.
 pub fn perform<R: AllocGlobal + Threads + Wait + Sync, D: Disk + Send + Drop, W: Write, E: Write>(
     rt: &R,
     command: Command<'_>,
@@ -66,14 +66,15 @@ pub fn perform<R: AllocGlobal + Threads + Wait + Sync, D: Disk + Send + Drop, W:
     disk: D,
     out: &mut W,
     err: &mut E,
-) -> (u8, Option<D>)
+) -> (Result<(), Fault>, Option<D>)
     // An image is made on a disk of its length.
     requires { IsFormat command → (D.state disk).len ≡ image_length (capacities_of board.now) }
-    // It did what its own function promises, and the status and standard error tell how that ended.
+    // It did what its own function promises, and standard error tells how that ended.
     ensures { Performs D.state D.makes command.entry board.now script.now disk
         (W.contents out.old) result.0 result.1 (W.contents out.new)
         (E.contents err.old) (E.contents err.new) }
 {
     let (ended, disk) = obey(rt, command, board, script, disk, out);
-    (status_after(ended, err), disk)
+    tell_end(ended, err);
+    (ended, disk)
 }

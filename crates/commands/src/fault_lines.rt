@@ -5,6 +5,7 @@ ghost use Rattle.commands.specs.Ending.{Takes};
 ghost use Rattle.commands.specs.Fault.{fault_line};
 
 use crate::fault::Fault;
+use crate::reason::Refusal;
 use arrayvec::ArrayString;
 use std::fmt::Write as _;
 use std::io;
@@ -50,13 +51,29 @@ pub fn report<E: Write>(fault: Fault, err: &mut E) -> u8
     1
 }
 
-/// Gives the status that tells how a command ended, and writes the line of the fault that ended it,
-/// if there is one.
-pub(crate) fn status_after<E: Write>(ended: Result<(), Fault>, err: &mut E) -> u8
-    ensures { TellsEnd ended result (E.contents err.old) (E.contents err.new) }
+/// Writes the line of the fault that ended a command, if there is one.
+pub(crate) fn tell_end<E: Write>(ended: Result<(), Fault>, err: &mut E)
+    ensures { TellsEnd ended (E.contents err.old) (E.contents err.new) }
 {
-    match ended {
-        Ok(()) => 0,
-        Err(fault) => report(fault, err),
+    if let Err(fault) = ended {
+        report(fault, err);
+    }
+}
+
+/// Writes the lines of a refusal, the fault's and then, where it is known, which file it is of and
+/// why, and gives the status that the program ends with.
+pub(crate) fn report_refusal<E: Write>(refusal: &Refusal, err: &mut E) -> u8
+    ensures { result ≡ 1 }
+{
+    let status = report(refusal.fault, err);
+    write_reason(refusal.reason.as_ref(), err);
+    status
+}
+
+/// Writes the line of a reason, where there is one, as far as standard error takes it.
+pub(crate) fn write_reason<E: Write>(reason: Option<&String>, err: &mut E) {
+    if let Some(reason) = reason {
+        write_front(reason.as_bytes(), err);
+        write_front(b"\n", err);
     }
 }

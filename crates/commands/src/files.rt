@@ -1,44 +1,108 @@
-//! The texts that the words name: the board and the script.
+//! The texts that the words name: the board and the script. Each is read as far as such a file can
+//! be long, and no further.
 
 use crate::fault::Fault;
+use crate::reason::Refusal;
 use board_file::{BoardError, read_board};
 use rpmb_frame::BoardConfig;
 use std::alloc::Global;
+use std::fs::File;
+use std::io;
+use std::io::{BufRead, BufReader, Read};
 use std::rt::Files;
-use std::{fs, io};
 
-/// The fault of a file that can't be read, opened or made.
-pub(crate) fn fault_of(error: &io::Error) -> Fault {
-    match error.kind() {
-        io::ErrorKind::OutOfMemory => Fault::NoMemory,
-        _ => Fault::FileFault,
-    }
-}
+/// The most bytes of a board file: 1 MiB, where 64 guests with every key take some 10 KiB.
+const BOARD_BYTES: u64 = 1_048_576;
 
-fn board_of(alloc: Global, text: &str) -> Result<(BoardConfig, Option<String>), Fault> {
-    match read_board(alloc, text) {
-        Ok(board) => Ok(board),
-        Err(BoardError::BadBoard) => Err(Fault::BadBoard),
-        Err(BoardError::NoMemory) => Err(Fault::NoMemory),
-    }
-}
+/// The most bytes of a script's line with its line feed: a store of 64 MiB, which is the largest
+/// memory of a guest, at two digits a byte.
+const LINE_BYTES: u64 = 134_217_760;
 
-/// The text of a file. `FileFault` where it can't be read or isn't UTF-8; `NoMemory`.
-pub fn read_text<R: Files + AllocGlobal>(rt: &R, path: &str) -> Result<String, Fault> {
-    match fs::read_to_string(rt, path) {
+/// A file's bytes as a text.
+fn text_of(alloc: Global, path: &str, bytes: Vec<u8>) -> Result<String, Refusal> {
+    match String::from_utf8(bytes) {
         Ok(text) => Ok(text),
-        Err(error) => Err(fault_of(&error)),
+        Err(_) => {
+            let why = "isn't text in UTF-8";
+            Err(Refusal::of_file(alloc, Fault::FileFault, path, why))
+        }
     }
 }
 
-/// The board of a file, and the path of its image, where it names one. Refused as by `read_text`,
-/// and with `BadBoard` where the text is no board.
+/// The bytes of a file, at most one more than `limit`.
+fn read_up_to<R: Files + AllocGlobal>(rt: &R, path: &str, limit: u64) -> io::Result<Vec<u8>> {
+    let file = File::open(rt, path)?;
+    let mut bytes = Vec::new(rt.alloc());
+    file.take(limit.saturating_add(1)).read_to_end(&mut bytes)?;
+    Ok(bytes)
+}
+
+/// The text of a board file.
+fn read_board_text<R: Files + AllocGlobal>(rt: &R, path: &str) -> Result<String, Refusal> {
+    let alloc = rt.alloc();
+    match read_up_to(rt, path, BOARD_BYTES) {
+        Ok(bytes) if bytes.len() as u64 > BOARD_BYTES => {
+            let why = "is no board file, which has at most 1048576 bytes";
+            Err(Refusal::of_file(alloc, Fault::FileFault, path, why))
+        }
+        Ok(bytes) => text_of(alloc, path, bytes),
+        Err(error) => Err(Refusal::of_call(alloc, path, &error)),
+    }
+}
+
+/// Reads lines to the end, and says whether each is short enough.
+fn read_lines<B: BufRead>(input: &mut B, bytes: &mut Vec<u8>) -> io::Result<bool> {
+    for _ in 0..u64::MAX {
+        match input.take(LINE_BYTES).read_until(b'\n', bytes)? as u64 {
+            0 => return Ok(true),
+            LINE_BYTES if !bytes.ends_with(b"\n") => return Ok(false),
+            _ => {}
+        }
+    }
+    Ok(false)
+}
+
+fn read_script_bytes<R: Files + AllocGlobal>(
+    rt: &R,
+    path: &str,
+    bytes: &mut Vec<u8>,
+) -> io::Result<bool> {
+    let file = File::open(rt, path)?;
+    let mut input = BufReader::new(rt.alloc(), file)?;
+    read_lines(&mut input, bytes)
+}
+
+/// The text of a script. `FileFault` where it can't be read, isn't UTF-8, or has a line that is
+/// longer than any; `NoMemory`.
+pub fn read_script_text<R: Files + AllocGlobal>(rt: &R, path: &str) -> Result<String, Refusal> {
+    let alloc = rt.alloc();
+    let mut bytes = Vec::new(alloc);
+    match read_script_bytes(rt, path, &mut bytes) {
+        Ok(true) => text_of(alloc, path, bytes),
+        Ok(false) => {
+            let why = "has a line of 134217760 bytes and more, and is no script";
+            Err(Refusal::of_file(alloc, Fault::FileFault, path, why))
+        }
+        Err(error) => Err(Refusal::of_call(alloc, path, &error)),
+    }
+}
+
+/// The board of a file, and the path of its image, where it names one. `FileFault` where the file
+/// can't be read, isn't UTF-8, or is longer than 1 MiB; `BadBoard` where the text is no board;
+/// `NoMemory`.
 pub fn read_board_file<R: Files + AllocGlobal>(
     rt: &R,
     path: &str,
-) -> Result<(BoardConfig, Option<String>), Fault> {
-    let text = read_text(rt, path)?;
-    board_of(rt.alloc(), text.as_str())
+) -> Result<(BoardConfig, Option<String>), Refusal> {
+    let text = read_board_text(rt, path)?;
+    match read_board(rt.alloc(), text.as_str()) {
+        Ok(board) => Ok(board),
+        Err(BoardError::BadBoard) => {
+            let why = "is no board; rpmb check says why";
+            Err(Refusal::of_file(rt.alloc(), Fault::BadBoard, path, why))
+        }
+        Err(BoardError::NoMemory) => Err(Refusal::no_memory()),
+    }
 }
 
 /// The board of a file, and the path of the image that it has to name. Refused as by
@@ -46,9 +110,12 @@ pub fn read_board_file<R: Files + AllocGlobal>(
 pub fn read_image_board<R: Files + AllocGlobal>(
     rt: &R,
     path: &str,
-) -> Result<(BoardConfig, String), Fault> {
+) -> Result<(BoardConfig, String), Refusal> {
     match read_board_file(rt, path)? {
         (board, Some(image)) => Ok((board, image)),
-        (_, None) => Err(Fault::BadBoard),
+        (_, None) => {
+            let why = "names no image: its guests are in memory, and nothing of them is kept";
+            Err(Refusal::of_file(rt.alloc(), Fault::BadBoard, path, why))
+        }
     }
 }

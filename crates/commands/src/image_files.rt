@@ -2,7 +2,7 @@
 ghost use Rattle.std.specs.Prelude.{◌≡◌, IfOk};
 
 use crate::fault::Fault;
-use crate::files::fault_of;
+use crate::reason::Refusal;
 use crate::shown_file::ShownFile;
 use disk::FileDisk;
 use std::fs::{File, Metadata, OpenOptions, TryLockError};
@@ -29,14 +29,14 @@ fn open_there(rt: &HostRuntime, path: &str, writable: bool) -> io::Result<File> 
 }
 
 /// Opens a file, and says whether it was made for that: for its owner alone, since keys will stand
-/// in it. A file that is there keeps its mode.
-fn open_or_make(rt: &HostRuntime, path: &str) -> io::Result<(File, bool)> {
+/// in it. A file that is there keeps its mode, and is refused where it has to be a new one.
+fn open_or_make(rt: &HostRuntime, path: &str, only_new: bool) -> io::Result<(File, bool)> {
     let mut options = File::options();
     options.read(true).write(true).create_new(true).mode(0o600);
     match open_above_streams(rt, path, &options) {
         Ok(file) => Ok((file, true)),
         Err(error) => match error.kind() {
-            io::ErrorKind::AlreadyExists => Ok((open_there(rt, path, true)?, false)),
+            io::ErrorKind::AlreadyExists if !only_new => Ok((open_there(rt, path, true)?, false)),
             _ => Err(error),
         },
     }
@@ -50,28 +50,43 @@ fn leads_to(rt: &HostRuntime, path: &str, file: &Metadata) -> bool {
     }
 }
 
+/// The refusal of a file for what is wrong with it.
+fn refused(rt: &HostRuntime, path: &str, why: &str) -> Refusal {
+    Refusal::of_file(rt.alloc(), Fault::FileFault, path, why)
+}
+
 /// Takes the lock of the file for as long as it is open: alone, or beside others that only look at
-/// it. `FileFault` where another program has it, which isn't waited for, or where what is printed
-/// would go into the file.
-fn hold(rt: &HostRuntime, file: File, alone: bool) -> Result<(File, Metadata), Fault> {
+/// it. Another program that has it isn't waited for.
+fn lock(rt: &HostRuntime, path: &str, file: &File, alone: bool) -> Result<(), Refusal> {
     let locked = if alone {
         file.try_lock()
     } else {
         file.try_lock_shared()
     };
     match locked {
-        Ok(()) => {}
-        Err(TryLockError::WouldBlock) => return Err(Fault::FileFault),
-        Err(TryLockError::Error(error)) => return Err(fault_of(&error)),
+        Ok(()) => Ok(()),
+        Err(TryLockError::WouldBlock) => Err(refused(rt, path, "another program has it")),
+        Err(TryLockError::Error(error)) => Err(Refusal::of_call(rt.alloc(), path, &error)),
     }
+}
+
+/// Locks the file of an image. `FileFault` where another program has it, or where what is printed
+/// would go into the file.
+fn hold(
+    rt: &HostRuntime,
+    path: &str,
+    file: File,
+    alone: bool,
+) -> Result<(File, Metadata), Refusal> {
+    lock(rt, path, &file, alone)?;
     match file.metadata() {
         Ok(metadata) => {
             if leads_to(rt, OUTPUT, &metadata) {
-                return Err(Fault::FileFault);
+                return Err(refused(rt, path, "standard output writes into it"));
             }
             Ok((file, metadata))
         }
-        Err(error) => Err(fault_of(&error)),
+        Err(error) => Err(Refusal::of_call(rt.alloc(), path, &error)),
     }
 }
 
@@ -84,41 +99,65 @@ fn sync_folder(rt: &HostRuntime, path: &str) -> io::Result<()> {
     File::open(rt, folder)?.sync_all()
 }
 
+/// Why the file of an image isn't made.
+fn not_made(rt: &HostRuntime, path: &str, error: &io::Error) -> Refusal {
+    match error.kind() {
+        io::ErrorKind::NotFound => refused(rt, path, "its folder isn't there"),
+        io::ErrorKind::AlreadyExists => refused(rt, path, "is there, and --new makes none over it"),
+        _ => Refusal::of_call(rt.alloc(), path, error),
+    }
+}
+
+/// Why the file of an image isn't opened.
+fn not_opened(rt: &HostRuntime, path: &str, error: &io::Error) -> Refusal {
+    match error.kind() {
+        io::ErrorKind::NotFound => refused(rt, path, "isn't there; rpmbd format makes it"),
+        _ => Refusal::of_call(rt.alloc(), path, error),
+    }
+}
+
 /// The file of an image that is to be made, cut or made longer to `len` bytes, and no other
 /// program's until it is closed. It is made where it isn't there, for its owner alone, and the
-/// folder is synced then; a file that is there keeps its mode. `FileFault` where it can't be opened
+/// folder is synced then; a file that is there keeps its mode, and is refused where `only_new` says
+/// so, with `FileFault` as all that follows. It is refused where it can't be opened
 /// for reading and writing, where another program holds it, where it is the board file, whose path
 /// is `board`, or what standard output writes into: then its bytes stay; or where the folder can't
 /// be synced, or the length can't be set.
-pub fn create_image(rt: &HostRuntime, path: &str, board: &str, len: u64) -> Result<FileDisk, Fault>
+pub fn create_image(
+    rt: &HostRuntime,
+    path: &str,
+    board: &str,
+    only_new: bool,
+    len: u64,
+) -> Result<FileDisk, Refusal>
     ensures { IfOk result (λ disk. disk.len ≡ len) }
 {
-    let (file, is_new) = match open_or_make(rt, path) {
+    let (file, is_new) = match open_or_make(rt, path, only_new) {
         Ok(opened) => opened,
-        Err(error) => return Err(fault_of(&error)),
+        Err(error) => return Err(not_made(rt, path, &error)),
     };
-    let (file, metadata) = hold(rt, file, true)?;
+    let (file, metadata) = hold(rt, path, file, true)?;
     if leads_to(rt, board, &metadata) {
-        return Err(Fault::FileFault);
+        return Err(refused(rt, path, "is the board file"));
     }
     if is_new && sync_folder(rt, path).is_err() {
-        return Err(Fault::FileFault);
+        return Err(refused(rt, path, "its folder can't be synced"));
     }
     match file.set_len(len) {
         Ok(()) => Ok(FileDisk::new(file, len)),
-        Err(error) => Err(fault_of(&error)),
+        Err(error) => Err(Refusal::of_call(rt.alloc(), path, &error)),
     }
 }
 
 /// The file of an image that is there, and no other program's until it is closed. `FileFault` where
 /// it can't be opened for reading and writing, where another program holds it or looks at it, or
 /// where standard output writes into it.
-pub fn open_image(rt: &HostRuntime, path: &str) -> Result<FileDisk, Fault> {
+pub fn open_image(rt: &HostRuntime, path: &str) -> Result<FileDisk, Refusal> {
     let file = match open_there(rt, path, true) {
         Ok(file) => file,
-        Err(error) => return Err(fault_of(&error)),
+        Err(error) => return Err(not_opened(rt, path, &error)),
     };
-    let (file, metadata) = hold(rt, file, true)?;
+    let (file, metadata) = hold(rt, path, file, true)?;
     Ok(FileDisk::new(file, metadata.len()))
 }
 
@@ -140,12 +179,12 @@ fn open_to_look(rt: &HostRuntime, path: &str) -> io::Result<(File, bool)> {
 /// Where writing is refused it is opened for reading alone, and isn't synced then. `FileFault`
 /// where it can't be opened for reading, where another program holds it, or where standard output
 /// writes into it.
-pub fn open_shown(rt: &HostRuntime, path: &str) -> Result<FileDisk<ShownFile>, Fault> {
+pub fn open_shown(rt: &HostRuntime, path: &str) -> Result<FileDisk<ShownFile>, Refusal> {
     let (file, may_be_synced) = match open_to_look(rt, path) {
         Ok(opened) => opened,
-        Err(error) => return Err(fault_of(&error)),
+        Err(error) => return Err(not_opened(rt, path, &error)),
     };
-    let (file, metadata) = hold(rt, file, false)?;
+    let (file, metadata) = hold(rt, path, file, false)?;
     let file = ShownFile::new(file, may_be_synced);
     Ok(FileDisk::new(file, metadata.len()))
 }

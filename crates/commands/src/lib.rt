@@ -3,7 +3,9 @@
 //! from its words and files to its status stand here too.
 #![tactic(auto)]
 
+mod asking;
 mod command;
+mod end_reason;
 mod fault;
 mod fault_lines;
 mod file_run;
@@ -12,6 +14,7 @@ mod formatting;
 mod fresh;
 mod image_files;
 mod program;
+mod reason;
 mod running;
 mod script_by_guest;
 mod serving;
@@ -24,10 +27,11 @@ pub use command::perform;
 pub use fault::Fault;
 pub use fault_lines::report;
 pub use file_run::run_in_file;
-pub use files::{read_board_file, read_image_board, read_text};
+pub use files::{read_board_file, read_image_board, read_script_text};
 pub use formatting::format;
 pub use image_files::{create_image, open_image, open_shown};
 pub use program::{REFUSED, status_of};
+pub use reason::Refusal;
 pub use running::run;
 pub use serving::serve;
 pub use showing::show;

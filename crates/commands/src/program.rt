@@ -2,63 +2,160 @@
 ghost use Rattle.std.specs.Prelude.{◌≡◌};
 ghost use Rattle.disk.specs.Disk.{DiskState};
 ghost use Rattle.intent_slots.specs.Layout.{capacities_of, image_length};
-ghost use Rattle.commands.specs.Commands.{IsFormat};
+ghost use Rattle.commands.specs.Commands.{IsFormat, status_after};
 
+use crate::asking::ask_before_keys_go;
 use crate::command::perform;
+use crate::end_reason::{Paths, reason_of_end};
 use crate::fault::Fault;
-use crate::fault_lines::report;
-use crate::files::{read_board_file, read_image_board, read_text};
+use crate::fault_lines::{report, report_refusal, write_reason};
+use crate::files::{read_board_file, read_image_board, read_script_text};
 use crate::fresh::fresh_disk;
 use crate::image_files::{create_image, open_image, open_shown};
-use command_line::{Command, WordsError, read_words};
-use disk::Disk;
+use crate::reason::{OUTPUT, Refusal};
+use command_line::{Command, ImageVersion, WordsError, read_words};
+use disk::{Disk, FileDisk};
 use intent_slots::Layout;
 use rpmb_frame::BoardConfig;
-use std::io::{BufWriter, IsTerminal, LineWriter, Write};
+use std::io::{LineWriter, Write};
 use std::sync::Wait;
 use std::thread::Threads;
 
 /// The status of a command line that is refused.
 pub const REFUSED: u8 = 2;
 
-/// Performs a command on what its files hold. Files and streams are the runtime's, and `threads`
-/// starts threads.
+/// Room for the longest line, that of a reply of 8,192 bytes: two digits a byte, and 14 beside them.
+const LINE_ROOM: usize = 16_400;
+
+/// What a command works on, once its files are read.
+#[derive(Clone, Copy)]
+struct Task<'a> {
+    command: Command<'a>,
+    board: &'a BoardConfig,
+    /// The script's text; empty where the command has none.
+    script: &'a str,
+    /// The path of the image, where the board names one.
+    image: Option<&'a str>,
+}
+
+/// The status that tells how a command ended.
+fn status_after(ended: Result<(), Fault>) -> u8
+    ensures { result ≡ status_after ended }
+{
+    match ended {
+        Ok(()) => 0,
+        Err(_) => 1,
+    }
+}
+
+/// Performs a command on what its files hold, and says why where it came to a fault. Files and
+/// streams are the runtime's, and `threads` starts threads.
 fn perform_on<R: AllocGlobal + Threads + Wait + Sync, D: Disk + Send + Drop, W: Write>(
     rt: &HostRuntime,
     threads: &R,
-    command: Command<'_>,
-    board: &BoardConfig,
-    script: &str,
+    task: Task<'_>,
     disk: D,
     out: &mut W,
-) -> u8
-    requires { IsFormat command → (D.state disk).len ≡ image_length (capacities_of board.now) }
+) -> (u8, Option<D>)
+    requires { IsFormat task.command
+        → (D.state disk).len ≡ image_length (capacities_of task.board.now) }
 {
     let mut err = rt.stderr();
-    let (status, _) = perform(threads, command, board, script, disk, out, &mut err);
-    status
+    let Task {
+        command,
+        board,
+        script,
+        image,
+    } = task;
+    let (ended, disk) = perform(threads, command, board, script, disk, out, &mut err);
+    if let Err(fault) = ended {
+        let paths = Paths::of(command, image);
+        let reason = reason_of_end(rt.alloc(), paths, board, fault, disk.as_ref(), out);
+        write_reason(reason.as_ref(), &mut err);
+    }
+    (status_after(ended), disk)
 }
 
 /// Performs a script on the image in the file that the board names, or on a fresh one in memory.
 fn perform_script<R: AllocGlobal + Threads + Wait + Sync, W: Write>(
     rt: &HostRuntime,
     threads: &R,
-    command: Command<'_>,
-    board: &BoardConfig,
-    script: &str,
-    image: Option<String>,
+    task: Task<'_>,
     out: &mut W,
-) -> Result<u8, Fault>
-    requires { ¬ IsFormat command }
+) -> Result<u8, Refusal>
+    requires { ¬ IsFormat task.command }
 {
-    match image {
+    match task.image {
         Some(path) => {
-            let disk = open_image(rt, path.as_str())?;
-            Ok(perform_on(rt, threads, command, board, script, disk, out))
+            let disk = open_image(rt, path)?;
+            Ok(perform_on(rt, threads, task, disk, out).0)
         }
-        None => {
-            let disk = fresh_disk(rt.alloc(), board)?;
-            Ok(perform_on(rt, threads, command, board, script, disk, out))
+        None => match fresh_disk(rt.alloc(), task.board) {
+            Ok(disk) => Ok(perform_on(rt, threads, task, disk, out).0),
+            Err(_) => Err(Refusal::no_memory()),
+        },
+    }
+}
+
+/// Makes an image of the board, of the version that is asked for: a fresh image is of version 1, and
+/// becomes one of version 2 by what `upgrade` does.
+fn perform_format<R: AllocGlobal + Threads + Wait + Sync, W: Write>(
+    rt: &HostRuntime,
+    threads: &R,
+    task: Task<'_>,
+    version: ImageVersion,
+    disk: FileDisk,
+    out: &mut W,
+) -> u8
+    requires { disk.len ≡ image_length (capacities_of task.board.now) }
+{
+    let (status, disk) = perform_on(rt, threads, task, disk, out);
+    match (status, version, disk) {
+        (0, ImageVersion::Two, Some(disk)) => {
+            let board = task.command.board();
+            let task = Task {
+                command: Command::Upgrade { board },
+                ..task
+            };
+            perform_on(rt, threads, task, disk, out).0
+        }
+        _ => status,
+    }
+}
+
+/// Performs a command that works on an image alone.
+fn perform_on_image<R: AllocGlobal + Threads + Wait + Sync, W: Write>(
+    rt: &HostRuntime,
+    threads: &R,
+    command: Command<'_>,
+    out: &mut W,
+) -> Result<u8, Refusal> {
+    let path = command.board();
+    let (board, image) = read_image_board(rt, path)?;
+    let image = image.as_str();
+    let task = Task {
+        command,
+        board: &board,
+        script: "",
+        image: Some(image),
+    };
+    match command {
+        Command::Format {
+            only_new,
+            version,
+            ..
+        } => {
+            ask_before_keys_go(rt, image, &board)?;
+            let disk = create_image(rt, image, path, only_new, Layout::of(&board).length())?;
+            Ok(perform_format(rt, threads, task, version, disk, out))
+        }
+        Command::Show { .. } => {
+            let disk = open_shown(rt, image)?;
+            Ok(perform_on(rt, threads, task, disk, out).0)
+        }
+        _ => {
+            let disk = open_image(rt, image)?;
+            Ok(perform_on(rt, threads, task, disk, out).0)
         }
     }
 }
@@ -69,49 +166,36 @@ fn perform_on_files<R: AllocGlobal + Threads + Wait + Sync, W: Write>(
     threads: &R,
     command: Command<'_>,
     out: &mut W,
-) -> Result<u8, Fault> {
+) -> Result<u8, Refusal> {
     match command {
-        Command::Format { board: path } => {
-            let (board, image) = read_image_board(rt, path)?;
-            let length = Layout::of(&board).length();
-            let disk = create_image(rt, image.as_str(), path, length)?;
-            Ok(perform_on(rt, threads, command, &board, "", disk, out))
-        }
-        Command::Show { board } => {
-            let (board, image) = read_image_board(rt, board)?;
-            let disk = open_shown(rt, image.as_str())?;
-            Ok(perform_on(rt, threads, command, &board, "", disk, out))
-        }
-        Command::Upgrade { board } => {
-            let (board, image) = read_image_board(rt, board)?;
-            let disk = open_image(rt, image.as_str())?;
-            Ok(perform_on(rt, threads, command, &board, "", disk, out))
+        Command::Format { .. } | Command::Show { .. } | Command::Upgrade { .. } => {
+            perform_on_image(rt, threads, command, out)
         }
         Command::Run { board, script } | Command::Serve { board, script } => {
             let (board, image) = read_board_file(rt, board)?;
-            let script = read_text(rt, script)?;
-            perform_script(rt, threads, command, &board, script.as_str(), image, out)
+            let script = read_script_text(rt, script)?;
+            let task = Task {
+                command,
+                board: &board,
+                script: script.as_str(),
+                image: image.as_deref(),
+            };
+            perform_script(rt, threads, task, out)
         }
     }
 }
 
-/// Performs the command with what it prints held back: to the end of each line where a person reads
-/// it at a terminal, else until there is much of it. All room is taken before a file is looked at.
+/// Performs the command. Each line goes out as soon as it is whole, in one write. All room is taken
+/// before a file is looked at.
 fn perform_with_output<R: AllocGlobal + Threads + Wait + Sync>(
     rt: &HostRuntime,
     threads: &R,
     command: Command<'_>,
-) -> Result<u8, Fault> {
-    if rt.stdout().is_terminal() {
-        let Ok(mut out) = LineWriter::new(rt.alloc(), rt.stdout()) else {
-            return Err(Fault::NoMemory);
-        };
-        return perform_on_files(rt, threads, command, &mut out);
+) -> Result<u8, Refusal> {
+    match LineWriter::with_capacity(rt.alloc(), LINE_ROOM, rt.stdout()) {
+        Ok(mut out) => perform_on_files(rt, threads, command, &mut out),
+        Err(_) => Err(Refusal::no_memory()),
     }
-    let Ok(mut out) = BufWriter::new(rt.alloc(), rt.stdout()) else {
-        return Err(Fault::NoMemory);
-    };
-    perform_on_files(rt, threads, command, &mut out)
 }
 
 /// Prints why the words give no command, or the help that they ask for.
@@ -124,11 +208,14 @@ fn refuse(rt: &HostRuntime, error: WordsError) -> u8 {
             }
             match printed {
                 Ok(()) => 0,
-                Err(_) => report(Fault::FileFault, &mut rt.stderr()),
+                Err(error) => {
+                    let refusal = Refusal::of_call(rt.alloc(), OUTPUT, &error);
+                    report_refusal(&refusal, &mut rt.stderr())
+                }
             }
         }
         WordsError::Incomplete => {
-            let _ = eprintln!(rt; "error: the command lacks a file");
+            let _ = eprintln!(rt; "error: a file is missing, or the version is neither 1 nor 2");
             REFUSED
         }
         WordsError::NoMemory => report(Fault::NoMemory, &mut rt.stderr()),
@@ -146,7 +233,7 @@ pub fn status_of<R: AllocGlobal + Threads + Wait + Sync>(
     match read_words(rt.alloc(), words) {
         Ok(command) => match perform_with_output(rt, threads, command) {
             Ok(status) => status,
-            Err(fault) => report(fault, &mut rt.stderr()),
+            Err(refusal) => report_refusal(&refusal, &mut rt.stderr()),
         },
         Err(error) => refuse(rt, error),
     }

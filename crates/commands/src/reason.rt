@@ -1,0 +1,82 @@
+//! Why a command didn't reach its end, in words: the line behind the one of its fault.
+
+use crate::fault::Fault;
+use std::alloc::Global;
+use std::io;
+
+/// What is said of in the place of a file where what is printed isn't taken.
+pub(crate) const OUTPUT: &str = "standard output";
+
+/// What ended the program before its command began: the fault, and of which file it is and why.
+#[derive(Debug, Drop)]
+pub struct Refusal {
+    /// The fault that is told.
+    pub fault: Fault,
+    /// The file and what is wrong with it; None where memory was refused for the words.
+    pub reason: Option<String>,
+}
+
+/// What an error says of a file, where that can be said better than the system does.
+fn words_of(kind: io::ErrorKind) -> Option<&'static str> {
+    match kind {
+        io::ErrorKind::NotFound => Some("isn't there"),
+        io::ErrorKind::IsADirectory => Some("is a folder"),
+        io::ErrorKind::NotADirectory => Some("a part of its path is no folder"),
+        io::ErrorKind::PermissionDenied => Some("permission denied"),
+        io::ErrorKind::ReadOnlyFilesystem => Some("stands where nothing can be written"),
+        io::ErrorKind::FilesystemLoop => Some("leads round in links"),
+        io::ErrorKind::InvalidFilename => Some("the path is too long"),
+        io::ErrorKind::InvalidInput => Some("no path has a zero byte"),
+        io::ErrorKind::InvalidData => Some("isn't text in UTF-8"),
+        io::ErrorKind::StorageFull => Some("no space left"),
+        io::ErrorKind::BrokenPipe => Some("who read it is gone"),
+        _ => None,
+    }
+}
+
+/// The fault of a file that can't be read, opened or made.
+fn fault_of(error: &io::Error) -> Fault {
+    match error.kind() {
+        io::ErrorKind::OutOfMemory => Fault::NoMemory,
+        _ => Fault::FileFault,
+    }
+}
+
+/// `WHAT: WHY`, where there is memory for it.
+pub(crate) fn said(alloc: Global, what: &str, why: &str) -> Option<String> {
+    format!(in alloc; "{what}: {why}").ok()
+}
+
+/// What is wrong with a file or a stream by an error of a call.
+pub(crate) fn said_by(alloc: Global, what: &str, error: &io::Error) -> Option<String> {
+    match words_of(error.kind()) {
+        Some(why) => said(alloc, what, why),
+        None => format!(in alloc; "{what}: {error}").ok(),
+    }
+}
+
+impl Refusal {
+    /// Memory was refused: there is none for words either.
+    pub(crate) fn no_memory() -> Refusal {
+        Refusal {
+            fault: Fault::NoMemory,
+            reason: None,
+        }
+    }
+
+    /// A fault of a file, and why.
+    pub(crate) fn of_file(alloc: Global, fault: Fault, path: &str, why: &str) -> Refusal {
+        Refusal {
+            fault,
+            reason: said(alloc, path, why),
+        }
+    }
+
+    /// The fault of a call on a file that failed.
+    pub(crate) fn of_call(alloc: Global, path: &str, error: &io::Error) -> Refusal {
+        Refusal {
+            fault: fault_of(error),
+            reason: said_by(alloc, path, error),
+        }
+    }
+}
