@@ -2,17 +2,18 @@
 use crate::refusal::Refusal;
 use crate::source::{Source, text_of};
 use crate::words::Words;
-use flaws::{BoardVerdict, ScriptVerdict, judge_board, judge_script};
+use board_file::{BoardError, read_board};
 use rpmb_client::OptionRefusal;
+use script::{ScriptError, read_script};
 use std::alloc::Global;
 use std::io::Write;
 
 /// How many guests the board of a text has, which is that of a file.
 fn guests_of<'a>(alloc: Global, file: &'a str, text: &str) -> Result<u16, Refusal<'a>> {
-    match judge_board(alloc, text) {
-        Ok(BoardVerdict::Good(guests)) => Ok(guests),
-        Ok(BoardVerdict::Bad(flaw)) => Err(Refusal::BadBoard(file, flaw)),
-        Err(_) => Err(Refusal::NoMemory),
+    match read_board(alloc, text) {
+        Ok((board, _)) => Ok(board.guests().len() as u16),
+        Err(BoardError::BadBoard(flaw)) => Err(Refusal::BadBoard(file, flaw)),
+        Err(BoardError::NoMemory) => Err(Refusal::NoMemory),
     }
 }
 
@@ -26,16 +27,26 @@ fn check_board<'a, S: Source>(
     guests_of(alloc, file, text.as_str())
 }
 
+/// The refusal of the script of a file for its line of this number.
+fn bad_line<'a>(alloc: Global, file: &'a str, line: usize, flaw: &str) -> Refusal<'a> {
+    match format!(in alloc; "line {line}: {flaw}") {
+        Ok(words) => Refusal::BadScript(file, words),
+        Err(_) => Refusal::NoMemory,
+    }
+}
+
 fn check_text<'a>(
     alloc: Global,
     file: &'a str,
     text: &str,
     guests: u16,
 ) -> Result<(), Refusal<'a>> {
-    match judge_script(alloc, text, guests) {
-        Ok(ScriptVerdict::Good) => Ok(()),
-        Ok(ScriptVerdict::Bad(flaw)) => Err(Refusal::BadScript(file, flaw)),
-        Err(_) => Err(Refusal::NoMemory),
+    match read_script(alloc, text, guests) {
+        Ok(_) => Ok(()),
+        Err(ScriptError::BadScript { line, flaw }) => {
+            Err(bad_line(alloc, file, line, flaw.as_str()))
+        }
+        Err(ScriptError::NoMemory) => Err(Refusal::NoMemory),
     }
 }
 

@@ -1,8 +1,11 @@
--- Lines that say nothing, and the first bad line of a script.
+-- Lines that say nothing, refusals, and the first bad line of a script.
 use Rattle.std.proofs.Common.{◌≡◌, ◌≢◌, ◌∙◌, ◌<◌, ◌+◌, ℕ, zero, suc, Bor, List, Option, [], ◌∷◌, length, map, take, get_or, Some, None, refl, ap, arith, sym}
 use Rattle.std.proofs.lemmas.List.{length-map}
 use Rattle.script.specs.Line.{Said, line_of_words, said}
+use Rattle.script.specs.Refusal.{IfBad}
 use Rattle.script.specs.Script.{first_none}
+use Rattle.script.specs.declared.fault.LineError.{LineError}
+use Rattle.script.specs.declared.fault.LineError.TheVariants as refusal
 use Rattle.script.specs.declared.line.Line.{Line}
 
 -- a line that says something has two words or four
@@ -52,3 +55,8 @@ all_read reads (l ∷ ls) (x ∷ xs) done =
     let rest : map (λ x. Some (said x)) xs ≡ map reads ls = cc in
     let later = all_read reads ls xs rest in
     rw (← here) (rw later refl)
+
+-- what holds, holds where the line is refused for what it says
+pub if_bad : (holds : Type 0) (why : LineError) → holds → IfBad holds why
+if_bad holds (refusal.BadScript flaw) is = is
+if_bad holds refusal.NoMemory is = tt

@@ -1,3 +1,4 @@
 pub mod Line
+pub mod Refusal
 pub mod Script
 pub mod Words

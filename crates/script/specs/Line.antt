@@ -43,8 +43,8 @@ chain_of g bytes w = if nat_lt 0 (length bytes + w) then Some (chain g bytes w) 
 -- the words G, HEX and W after the word `chain`
 abbrev pub chain_line : ℕ → List ℕ → List ℕ → List ℕ → Option Said
 chain_line guests g hex w =
-    option_and_then (λ guest. option_and_then (λ writable. option_and_then (λ readable.
-    chain_of guest readable writable) (readable_of hex)) (writable_of w)) (guest_of guests g)
+    option_and_then (λ guest. option_and_then (λ readable. option_and_then (λ writable.
+    chain_of guest readable writable) (writable_of w)) (readable_of hex)) (guest_of guests g)
 
 -- the bytes of a store, at least one
 abbrev pub stored_of : List ℕ → Option (List ℕ)

@@ -11,6 +11,7 @@
 #![tactic(auto)]
 
 mod fault;
+mod flaw;
 mod line;
 mod reader;
 mod word;

@@ -1,13 +1,17 @@
 //! One line of a script.
-ghost use Rattle.std.specs.Prelude.{◌≡◌, IfOk, Err, None, Ok, Some, map, option_map, true};
+ghost use Rattle.std.specs.Prelude.{◌≡◌, ◌∷◌, [], IfErr, IfOk, None, Ok, Some, map, true};
 ghost use Rattle.script.specs.Line.{IsWithin, chain_line, guest_of, is_skipped, line_of};
 ghost use Rattle.script.specs.Line.{line_of_words};
-ghost use Rattle.script.specs.Line.{readable_of, reset_line, said, store_line, stored_of};
+ghost use Rattle.script.specs.Line.{readable_of, said, store_line, stored_of};
 ghost use Rattle.script.specs.Line.{writable_of};
+ghost use Rattle.script.specs.Refusal.{IfBad};
+ghost use Rattle.script.specs.Words.{bytes_of, number_of};
 
 use crate::fault::LineError;
-use crate::word::{first_words, read_bytes, read_number};
-use std::alloc::{AllocError, Global};
+use crate::flaw;
+use crate::word::{decoded, first_words, read_number};
+use hex::FromHexError;
+use std::alloc::Global;
 
 /// What one line asks for.
 #[derive(Debug, Drop)]
@@ -45,36 +49,47 @@ const READABLE_LIMIT: usize = 8704;
 /// The longest writable part of a chain, in bytes: 16 frames of 512.
 const WRITABLE_LIMIT: u64 = 8192;
 
-fn read_guest(word: &str, guests: u16) -> Option<u16>
-    ensures { result ≡ guest_of guests word.now }
+fn read_guest(alloc: Global, word: &str, guests: u16) -> Result<u16, LineError>
+    ensures ok { IfOk result (λ guest. guest_of guests word.now ≡ Some guest) }
+    ensures bad { IfErr result (IfBad (guest_of guests word.now ≡ None)) }
 {
-    let number = read_number(word)?;
-    if number >= u64::from(guests) {
-        return None;
+    match read_number(word) {
+        Some(number) if number < u64::from(guests) => Ok(number as u16),
+        _ => Err(flaw::no_guest(alloc, word, guests)),
     }
-    Some(number as u16)
 }
 
-fn read_readable(alloc: Global, word: &str) -> Result<Option<Vec<u8>>, AllocError>
-    ensures { IfOk result (λ read. option_map (λ bytes. bytes.items) read ≡ readable_of word.now) }
+/// The bytes of the word at a place, counted from 1.
+fn read_hex(alloc: Global, place: usize, word: &str) -> Result<Vec<u8>, LineError>
+    ensures ok { IfOk result (λ bytes. bytes_of word.now ≡ Some bytes.items) }
+    ensures bad { IfErr result (IfBad (bytes_of word.now ≡ None)) }
 {
-    let Some(bytes) = read_bytes(alloc, word)? else {
-        return Ok(None);
-    };
+    match decoded(alloc, word) {
+        Ok(bytes) => Ok(bytes),
+        Err(FromHexError::OutOfMemory) => Err(LineError::NoMemory),
+        Err(why) => Err(flaw::no_hex(alloc, place, why)),
+    }
+}
+
+fn read_readable(alloc: Global, word: &str) -> Result<Vec<u8>, LineError>
+    ensures ok { IfOk result (λ bytes. readable_of word.now ≡ Some bytes.items) }
+    ensures bad { IfErr result (IfBad (readable_of word.now ≡ None)) }
+{
+    let bytes = read_hex(alloc, 3, word)?;
     if bytes.len() > READABLE_LIMIT {
-        return Ok(None);
+        return Err(flaw::too_long(alloc, READABLE_LIMIT, bytes.len()));
     }
-    Ok(Some(bytes))
+    Ok(bytes)
 }
 
-fn read_writable(word: &str) -> Option<u32>
-    ensures { result ≡ writable_of word.now }
+fn read_writable(alloc: Global, word: &str) -> Result<u32, LineError>
+    ensures ok { IfOk result (λ length. writable_of word.now ≡ Some length) }
+    ensures bad { IfErr result (IfBad (writable_of word.now ≡ None)) }
 {
-    let number = read_number(word)?;
-    if number > WRITABLE_LIMIT {
-        return None;
+    match read_number(word) {
+        Some(number) if number <= WRITABLE_LIMIT => Ok(number as u32),
+        _ => Err(flaw::no_number(alloc, 4, word, WRITABLE_LIMIT)),
     }
-    Some(number as u32)
 }
 
 fn read_chain(
@@ -87,41 +102,41 @@ fn read_chain(
     ensures ok { IfOk result (λ line. chain_line guests guest.now hex.now writable.now
         ≡ Some (said line)) }
     ensures within { IfOk result (λ line. IsWithin guests (said line)) }
-    ensures bad { result ≡ Err LineError.BadScript
-        → chain_line guests guest.now hex.now writable.now ≡ None }
+    ensures bad { IfErr result (IfBad
+        (chain_line guests guest.now hex.now writable.now ≡ None)) }
 {
-    let Some(guest) = read_guest(guest, guests) else {
-        return Err(LineError::BadScript);
-    };
-    let Some(writable) = read_writable(writable) else {
-        return Err(LineError::BadScript);
-    };
-    match read_readable(alloc, hex) {
-        Ok(Some(readable)) => {
-            if readable.is_empty() && writable == 0 {
-                return Err(LineError::BadScript);
-            }
-            Ok(Line::Chain {
-                guest,
-                readable,
-                writable,
-            })
-        }
-        Ok(None) => Err(LineError::BadScript),
-        Err(_) => Err(LineError::NoMemory),
+    let guest = read_guest(alloc, guest, guests)?;
+    let readable = read_readable(alloc, hex)?;
+    let writable = read_writable(alloc, writable)?;
+    if readable.is_empty() && writable == 0 {
+        return Err(flaw::empty_chain(alloc));
+    }
+    Ok(Line::Chain {
+        guest,
+        readable,
+        writable,
+    })
+}
+
+fn read_address(alloc: Global, word: &str) -> Result<u64, LineError>
+    ensures ok { IfOk result (λ address. number_of word.now ≡ Some address) }
+    ensures bad { IfErr result (IfBad (number_of word.now ≡ None)) }
+{
+    match read_number(word) {
+        Some(address) => Ok(address),
+        None => Err(flaw::no_number(alloc, 3, word, u64::MAX)),
     }
 }
 
-fn read_stored(alloc: Global, word: &str) -> Result<Option<Vec<u8>>, AllocError>
-    ensures { IfOk result (λ read. option_map (λ bytes. bytes.items) read ≡ stored_of word.now) }
+fn read_stored(alloc: Global, word: &str) -> Result<Vec<u8>, LineError>
+    ensures ok { IfOk result (λ bytes. stored_of word.now ≡ Some bytes.items) }
+    ensures bad { IfErr result (IfBad (stored_of word.now ≡ None)) }
 {
-    let Some(bytes) = read_bytes(alloc, word)? else {
-        return Ok(None);
-    };
+    let bytes = read_hex(alloc, 4, word)?;
     if bytes.is_empty() {
-        return Ok(None);
+        return Err(flaw::empty_store(alloc));
     }
-    Ok(Some(bytes))
+    Ok(bytes)
 }
 
 fn read_store(
@@ -134,30 +149,49 @@ fn read_store(
     ensures ok { IfOk result (λ line. store_line guests guest.now at.now hex.now
         ≡ Some (said line)) }
     ensures within { IfOk result (λ line. IsWithin guests (said line)) }
-    ensures bad { result ≡ Err LineError.BadScript
-        → store_line guests guest.now at.now hex.now ≡ None }
+    ensures bad { IfErr result (IfBad (store_line guests guest.now at.now hex.now ≡ None)) }
 {
-    let Some(guest) = read_guest(guest, guests) else {
-        return Err(LineError::BadScript);
-    };
-    let Some(at) = read_number(at) else {
-        return Err(LineError::BadScript);
-    };
-    match read_stored(alloc, hex) {
-        Ok(Some(bytes)) => Ok(Line::Store { guest, at, bytes }),
-        Ok(None) => Err(LineError::BadScript),
-        Err(_) => Err(LineError::NoMemory),
+    let guest = read_guest(alloc, guest, guests)?;
+    let at = read_address(alloc, at)?;
+    let bytes = read_stored(alloc, hex)?;
+    Ok(Line::Store { guest, at, bytes })
+}
+
+/// Reads a line of two words.
+fn read_pair(alloc: Global, guests: u16, command: &str, guest: &str) -> Result<Line, LineError>
+    ensures ok { IfOk result (λ line. line_of_words guests (command.now ∷ guest.now ∷ [])
+        ≡ Some (said line)) }
+    ensures within { IfOk result (λ line. IsWithin guests (said line)) }
+    ensures bad { IfErr result (IfBad
+        (line_of_words guests (command.now ∷ guest.now ∷ []) ≡ None)) }
+{
+    if command == "reset" {
+        let guest = read_guest(alloc, guest, guests)?;
+        Ok(Line::Reset { guest })
+    } else {
+        Err(flaw::misshapen(alloc, command, 1))
     }
 }
 
-fn read_reset(guests: u16, guest: &str) -> Result<Line, LineError>
-    ensures ok { IfOk result (λ line. reset_line guests guest.now ≡ Some (said line)) }
+/// Reads a line of four words.
+fn read_four(
+    alloc: Global,
+    guests: u16,
+    command: &str,
+    guest: &str,
+    second: &str,
+    third: &str,
+) -> Result<Line, LineError>
+    ensures ok { IfOk result (λ line. line_of_words guests
+        (command.now ∷ guest.now ∷ second.now ∷ third.now ∷ []) ≡ Some (said line)) }
     ensures within { IfOk result (λ line. IsWithin guests (said line)) }
-    ensures bad { result ≡ Err LineError.BadScript → reset_line guests guest.now ≡ None }
+    ensures bad { IfErr result (IfBad (line_of_words guests
+        (command.now ∷ guest.now ∷ second.now ∷ third.now ∷ []) ≡ None)) }
 {
-    match read_guest(guest, guests) {
-        Some(guest) => Ok(Line::Reset { guest }),
-        None => Err(LineError::BadScript),
+    match command {
+        "chain" => read_chain(alloc, guests, guest, second, third),
+        "store" => read_store(alloc, guests, guest, second, third),
+        _ => Err(flaw::misshapen(alloc, command, 3)),
     }
 }
 
@@ -165,27 +199,15 @@ fn read_words(alloc: Global, words: &[&str], guests: u16) -> Result<Line, LineEr
     ensures ok { IfOk result (λ line. line_of_words guests (map (λ w. w.now) words.now)
         ≡ Some (said line)) }
     ensures within { IfOk result (λ line. IsWithin guests (said line)) }
-    ensures bad { result ≡ Err LineError.BadScript
-        → line_of_words guests (map (λ w. w.now) words.now) ≡ None }
+    ensures bad { IfErr result (IfBad
+        (line_of_words guests (map (λ w. w.now) words.now) ≡ None)) }
 {
     match words {
-        [command, guest] => {
-            if *command == "reset" {
-                read_reset(guests, guest)
-            } else {
-                Err(LineError::BadScript)
-            }
-        }
+        [command, guest] => read_pair(alloc, guests, command, guest),
         [command, guest, second, third] => {
-            if *command == "chain" {
-                read_chain(alloc, guests, guest, second, third)
-            } else if *command == "store" {
-                read_store(alloc, guests, guest, second, third)
-            } else {
-                Err(LineError::BadScript)
-            }
+            read_four(alloc, guests, command, guest, second, third)
         }
-        _ => Err(LineError::BadScript),
+        _ => Err(flaw::other_count(alloc, words)),
     }
 }
 
@@ -201,20 +223,23 @@ fn is_skipped(line: &str) -> bool
 /// # Errors
 ///
 /// `BadScript` where the line isn't empty, no comment and no `chain`, `store` or `reset` line for
-/// one of the guests; `NoMemory` where memory is refused. An empty line or a comment takes no
-/// memory.
+/// one of the guests: it names the first word that isn't what it has to be, and what stands there.
+/// `NoMemory` where memory is refused. An empty line or a comment takes no memory.
 #[tactic(auto, unfolding(crate::specs::Line::line_of))]
 pub fn read_line(alloc: Global, line: &str, guests: u16) -> Result<Line, LineError>
     ensures ok { IfOk result (λ read. line_of guests line.now ≡ Some (said read)) }
     ensures within { IfOk result (λ read. IsWithin guests (said read)) }
     ensures skipped { is_skipped line.now ≡ true → result ≡ Ok Line.Nothing }
-    ensures bad { result ≡ Err LineError.BadScript → line_of guests line.now ≡ None }
+    ensures bad { IfErr result (IfBad (line_of guests line.now ≡ None)) }
 {
     if is_skipped(line) {
         return Ok(Line::Nothing);
     }
-    match first_words(alloc, line) {
-        Ok(words) => read_words(alloc, words.as_slice(), guests),
-        Err(_) => Err(LineError::NoMemory),
+    let Ok(words) = first_words(alloc, line) else {
+        return Err(LineError::NoMemory);
+    };
+    match read_words(alloc, words.as_slice(), guests) {
+        Err(LineError::BadScript(flaw)) => Err(flaw::told(alloc, line, flaw)),
+        read => read,
     }
 }

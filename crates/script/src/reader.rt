@@ -1,9 +1,11 @@
 //! A whole script.
-ghost use Rattle.std.specs.Prelude.{◌≡◌, IfOk, All, Err, Some, None, map, ℕ, true, false};
+ghost use Rattle.std.specs.Prelude.{◌≡◌, IfErr, IfOk, All, Some, None, map, true, false};
 ghost use Rattle.script.specs.Line.{IsServed, IsWithin, line_of, line_when, said, served_line_of};
+ghost use Rattle.script.specs.Refusal.{IfBad, IfBadLine};
 ghost use Rattle.script.specs.Script.{first_bad, first_none, first_unserved, lines_of};
 
 use crate::fault::{LineError, ScriptError};
+use crate::flaw;
 use crate::line::{Line, read_line};
 use std::alloc::Global;
 
@@ -12,10 +14,10 @@ fn read_when(alloc: Global, served: bool, text: &str, guests: u16) -> Result<Lin
     ensures ok { IfOk result (λ line. line_when served guests text.now ≡ Some (said line)) }
     ensures within { IfOk result (λ line. IsWithin guests (said line)) }
     ensures served { served ≡ true → IfOk result (λ line. IsServed (said line)) }
-    ensures bad { result ≡ Err LineError.BadScript → line_when served guests text.now ≡ None }
+    ensures bad { IfErr result (IfBad (line_when served guests text.now ≡ None)) }
 {
     match read_line(alloc, text, guests) {
-        Ok(Line::Store { .. }) if served => Err(LineError::BadScript),
+        Ok(Line::Store { .. }) if served => Err(flaw::served_store(alloc)),
         read => read,
     }
 }
@@ -32,8 +34,8 @@ fn read_lines(
     ensures within { IfOk result (λ lines. All (λ line. IsWithin guests (said line)) lines.items) }
     ensures served { served ≡ true
         → IfOk result (λ lines. All (λ line. IsServed (said line)) lines.items) }
-    ensures bad { (n : ℕ) → result ≡ Err (ScriptError.BadScript n)
-        → first_none (line_when served guests) (lines_of script.now) ≡ Some n }
+    ensures bad { IfErr result (IfBadLine
+        (λ n. first_none (line_when served guests) (lines_of script.now) ≡ Some n)) }
 {
     let mut lines = Vec::new(alloc);
     for text in script.split('\n') {
@@ -43,9 +45,10 @@ fn read_lines(
                     return Err(ScriptError::NoMemory);
                 }
             }
-            Err(LineError::BadScript) => {
+            Err(LineError::BadScript(flaw)) => {
                 return Err(ScriptError::BadScript {
                     line: lines.len() + 1,
+                    flaw,
                 });
             }
             Err(LineError::NoMemory) => return Err(ScriptError::NoMemory),
@@ -61,14 +64,14 @@ fn read_lines(
 ///
 /// # Errors
 ///
-/// `BadScript` with the number of the first line, counted from 1, that `read_line` refuses;
-/// `NoMemory` where memory is refused.
+/// `BadScript` with the number of the first line, counted from 1, that `read_line` refuses, and why
+/// it does; `NoMemory` where memory is refused.
 pub fn read_script(alloc: Global, script: &str, guests: u16) -> Result<Vec<Line>, ScriptError>
     ensures ok { IfOk result (λ lines. map (λ line. Some (said line)) lines.items
         ≡ map (line_of guests) (lines_of script.now)) }
     ensures within { IfOk result (λ lines. All (λ line. IsWithin guests (said line)) lines.items) }
-    ensures bad { (n : ℕ) → result ≡ Err (ScriptError.BadScript n)
-        → first_bad guests (lines_of script.now) ≡ Some n }
+    ensures bad { IfErr result (IfBadLine
+        (λ n. first_bad guests (lines_of script.now) ≡ Some n)) }
 {
     read_lines(alloc, false, script, guests)
 }
@@ -79,7 +82,7 @@ pub fn read_script(alloc: Global, script: &str, guests: u16) -> Result<Vec<Line>
 /// # Errors
 ///
 /// `BadScript` with the number of the first line, counted from 1, that `read_line` refuses or that
-/// is a `store` line; `NoMemory` where memory is refused.
+/// is a `store` line, and why; `NoMemory` where memory is refused.
 pub fn read_served_script(
     alloc: Global,
     script: &str,
@@ -89,8 +92,8 @@ pub fn read_served_script(
         ≡ map (served_line_of guests) (lines_of script.now)) }
     ensures within { IfOk result (λ lines. All (λ line. IsWithin guests (said line)) lines.items) }
     ensures served { IfOk result (λ lines. All (λ line. IsServed (said line)) lines.items) }
-    ensures bad { (n : ℕ) → result ≡ Err (ScriptError.BadScript n)
-        → first_unserved guests (lines_of script.now) ≡ Some n }
+    ensures bad { IfErr result (IfBadLine
+        (λ n. first_unserved guests (lines_of script.now) ≡ Some n)) }
 {
     read_lines(alloc, true, script, guests)
 }

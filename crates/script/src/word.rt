@@ -1,5 +1,6 @@
 //! The words of a line.
-ghost use Rattle.std.specs.Prelude.{◌≡◌, IfOk, map, option_map, string_bytes, take};
+ghost use Rattle.std.specs.Prelude.{◌≡◌, ◌≢◌, IfErr, IfOk, None, Some, map, option_map};
+ghost use Rattle.std.specs.Prelude.{string_bytes, take};
 ghost use Rattle.script.specs.Words.{bytes_of, number_of, shown, words_of};
 
 use hex::FromHexError;
@@ -24,17 +25,27 @@ pub fn read_number(word: &str) -> Option<u64>
     word.parse::<u64>().ok()
 }
 
-/// The bytes that a word writes in hex digits of either case, or as `-` where there are none.
+/// The bytes that a word writes in hex digits of either case, or as `-` where there are none; or why
+/// it writes none.
+pub(crate) fn decoded(alloc: Global, word: &str) -> Result<Vec<u8>, FromHexError>
+    ensures ok { IfOk result (λ bytes. bytes_of word.now ≡ Some bytes.items) }
+    ensures bad { IfErr result (λ why. why ≢ FromHexError.OutOfMemory
+        → bytes_of word.now ≡ None) }
+{
+    if word == "-" {
+        return Ok(Vec::new(alloc));
+    }
+    if word.is_empty() {
+        return Err(FromHexError::InvalidStringLength);
+    }
+    hex::decode(alloc, word)
+}
+
+/// The same bytes; None where the word writes none.
 pub fn read_bytes(alloc: Global, word: &str) -> Result<Option<Vec<u8>>, AllocError>
     ensures { IfOk result (λ read. option_map (λ bytes. bytes.items) read ≡ bytes_of word.now) }
 {
-    if word == "-" {
-        return Ok(Some(Vec::new(alloc)));
-    }
-    if word.is_empty() {
-        return Ok(None);
-    }
-    match hex::decode(alloc, word) {
+    match decoded(alloc, word) {
         Ok(bytes) => Ok(Some(bytes)),
         Err(FromHexError::OutOfMemory) => Err(AllocError),
         Err(_) => Ok(None),

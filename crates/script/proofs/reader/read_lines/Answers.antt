@@ -8,16 +8,16 @@ use Rattle.script.proofs.reader.read_lines.Goals as goal
 
 pub returns-in-Err-BadScript-clause-bad : goal.returns-in-Err-BadScript-clause-bad
 unfolding lines_of
-returns-in-Err-BadScript-clause-bad c n is =
-    let bad : line_when c.args.served c.args.guests c.in-Some.text.now ≡ None = c.in-Err-BadScript.ensures.bad (search rules) in
-    let number : length c.loop-text.lines.items + 1 ≡ n = search rules in
+returns-in-Err-BadScript-clause-bad c =
+    let bad : line_when c.args.served c.args.guests c.in-Some.text.now ≡ None = (search rules) in
+    let number : length c.loop-text.lines.items ≡ c.len.result = search rules in
     let split = c.split-text-items in
     let road = YieldsList-at (cc)
     (YieldsList-from_str_split {s = split.result} 10 c.args.script.now (lit< tt) split.ensures.text split.ensures.has_more split.ensures.pattern) in
     let before = YieldsList-so_far road c.loop-text.yielded _ c.loop-text.yielded_by in
     let turn = YieldsList-turn road c.loop-text.yielded _ c.loop-text.yielded_by _ _ c.in-Some.text c.in-Some.is c.next.ensures.steps in
     first_none_next (line_when c.args.served c.args.guests) _ _ c.in-Some.text.now c.loop-text.lines.items c.loop-text.invariant.read before turn.0 turn.1 bad
-    ∙ ap Some number
+    ∙ ap (λ n. Some (n + 1)) number
 
 pub returns-clause-ok : goal.returns-clause-ok
 unfolding lines_of

@@ -1,0 +1,198 @@
+//! Why a board file isn't read, in words. No contract speaks of them: whether a text is read,
+//! `board` says, and `guest` and `keys` of each guest.
+
+use crate::fault::BoardError;
+use crate::guest::GUEST_KEYS;
+use crate::keys::is_among;
+use rpmb_frame::GuestConfig;
+use std::alloc::{AllocError, Global};
+use strsim::damerau_levenshtein;
+use toml::{Table, Value};
+
+/// What a value is, as a message shows it.
+fn shown(alloc: Global, value: &Value) -> Result<String, AllocError> {
+    if let Some(number) = value.as_integer() {
+        return format!(in alloc; "{number}");
+    }
+    if let Some(truth) = value.as_bool() {
+        return format!(in alloc; "{truth}");
+    }
+    if let Some(text) = value.as_str() {
+        return format!(in alloc; "the text {text:?}");
+    }
+    let kind = value.type_str();
+    format!(in alloc; "a value of the kind {kind}")
+}
+
+/// The first key of a table that isn't among those that are known.
+fn unknown_key<'a>(table: &'a Table, known: &[&str]) -> Option<&'a str> {
+    for key in table.keys() {
+        if !is_among(key.as_str(), known) {
+            return Some(key.as_str());
+        }
+    }
+    None
+}
+
+/// The first key of those known that one letter makes of a key, which is missing there, is added or
+/// changed, or is swapped with the next one.
+fn nearest<'a>(alloc: Global, key: &str, known: &[&'a str]) -> Result<Option<&'a str>, AllocError> {
+    for other in known {
+        if damerau_levenshtein(alloc, key, *other)? == 1 {
+            return Ok(Some(*other));
+        }
+    }
+    Ok(None)
+}
+
+/// The document has a key but `image` and `guest`, of which these are known.
+pub(crate) fn unknown_board_key(alloc: Global, table: &Table, known: &[&str]) -> BoardError {
+    let key = unknown_key(table, known).unwrap_or("");
+    let Ok(near) = nearest(alloc, key, known) else {
+        return BoardError::NoMemory;
+    };
+    let text = "isn't known, expected image and [[guest]] alone";
+    BoardError::of(match near {
+        Some(near) => format!(in alloc; "the key {key:?} {text}; {near}?"),
+        None if is_among(key, GUEST_KEYS.as_slice()) => {
+            format!(in alloc; "the key {key:?} {text}; it stands below a line [[guest]]")
+        }
+        None => format!(in alloc; "the key {key:?} {text}"),
+    })
+}
+
+/// The table of a guest has a key that isn't one of a guest's.
+pub(crate) fn unknown_guest_key(alloc: Global, table: &Table, known: &[&str]) -> BoardError {
+    let key = unknown_key(table, known).unwrap_or("");
+    let Ok(near) = nearest(alloc, key, known) else {
+        return BoardError::NoMemory;
+    };
+    BoardError::of(match near {
+        Some(near) => format!(in alloc; "the key {key:?} isn't known; {near}?"),
+        None if key == "image" => format!(in alloc;
+            "the key {key:?} isn't known; it stands above the first line [[guest]]"
+        ),
+        None => format!(in alloc; "the key {key:?} isn't known"),
+    })
+}
+
+/// A key is missing, or has another value than this.
+fn no_such_value(alloc: Global, key: &str, expected: &str, value: Option<&Value>) -> BoardError {
+    let Some(value) = value else {
+        return BoardError::of(format!(in alloc; "the key {key} is missing, expected {expected}"));
+    };
+    match shown(alloc, value) {
+        Ok(got) => BoardError::of(format!(in alloc;
+            "the key {key}: expected {expected}, got {got}"
+        )),
+        Err(_) => BoardError::NoMemory,
+    }
+}
+
+/// A key has no whole number of its range.
+pub(crate) fn no_number(
+    alloc: Global,
+    key: &str,
+    least: u64,
+    most: u64,
+    value: Option<&Value>,
+) -> BoardError {
+    let unit = match key {
+        "capacity" => " (units of 128 KiB)",
+        _ => "",
+    };
+    match format!(in alloc; "a whole number from {least} to {most}{unit}") {
+        Ok(expected) => no_such_value(alloc, key, expected.as_str(), value),
+        Err(_) => BoardError::NoMemory,
+    }
+}
+
+/// A key has no truth value.
+pub(crate) fn no_truth(alloc: Global, key: &str, value: &Value) -> BoardError {
+    no_such_value(alloc, key, "true or false", Some(value))
+}
+
+/// A key has no name of a ring.
+pub(crate) fn no_ring(alloc: Global, key: &str) -> BoardError {
+    BoardError::of(format!(in alloc; "the key {key}: expected the text \"split\" or \"packed\""))
+}
+
+/// The key `image` has no text.
+pub(crate) fn no_path(alloc: Global, value: Option<&Value>) -> BoardError {
+    no_such_value(alloc, "image", "the text of a path", value)
+}
+
+/// A guest's queue has a size that a split ring can't have.
+pub(crate) fn no_queue_size(alloc: Global, queue: u16) -> BoardError {
+    BoardError::of(format!(in alloc;
+        "the key queue: expected a power of two, as the ring is split, got {queue}"
+    ))
+}
+
+/// A guest's memory is too small for a driver's layout of this length in bytes.
+pub(crate) fn no_room(alloc: Global, guest: &GuestConfig, least: u64) -> BoardError {
+    let (queue, memory) = (guest.queue, guest.memory);
+    BoardError::of(format!(in alloc;
+        "the key memory: expected at least {least} bytes for a queue of {queue}, got {memory}"
+    ))
+}
+
+/// An entry of the array of guests is no table.
+pub(crate) fn no_table(alloc: Global) -> BoardError {
+    BoardError::of(String::from_str(alloc, "expected a table"))
+}
+
+/// The document has no array of guests.
+pub(crate) fn no_guests(alloc: Global, table: &Table) -> BoardError {
+    let tables = "1 to 64 tables [[guest]]";
+    match table.get("guest") {
+        Some(value) if value.as_table().is_some() => BoardError::of(format!(in alloc;
+            "the key guest: expected {tables}, got one table; write [[guest]] for [guest]"
+        )),
+        None if table.is_empty() => BoardError::of(format!(in alloc;
+            "no key is there, expected {tables}, each with its capacity"
+        )),
+        None => BoardError::of(format!(in alloc;
+            "the key guest is missing, expected {tables}, each with its capacity"
+        )),
+        value => no_such_value(alloc, "guest", tables, value),
+    }
+}
+
+/// The guests are none, or too many.
+pub(crate) fn no_count(alloc: Global, count: usize) -> BoardError {
+    BoardError::of(format!(in alloc; "expected 1 to 64 tables [[guest]], got {count}"))
+}
+
+/// The guest of this number is refused, for what these words say.
+pub(crate) fn bad_guest(alloc: Global, number: usize, flaw: &str) -> BoardError {
+    BoardError::of(format!(in alloc; "guest {number}: {flaw}"))
+}
+
+/// The line of an error, counted from 1, and its text; the error stands behind so many bytes.
+fn line_at(text: &str, place: usize) -> (usize, &str) {
+    let before = text.as_bytes().iter().take(place);
+    let number = before.filter(|byte| **byte == b'\n').count();
+    (
+        number.saturating_add(1),
+        text.split('\n').nth(number).unwrap_or(""),
+    )
+}
+
+/// The text is no TOML.
+pub(crate) fn no_toml(alloc: Global, text: &str, error: &toml::de::Error) -> BoardError {
+    let place = error.span().map_or(0, |span| span.start);
+    let (number, line) = line_at(text, place);
+    let message = error.message();
+    let is_of_script = ["chain ", "store ", "reset "]
+        .iter()
+        .any(|word| line.starts_with(*word));
+    BoardError::of(format!(in alloc;
+        "line {number} is no TOML: {message}{}",
+        if is_of_script {
+            "; it looks like a script, and the board comes first"
+        } else {
+            ""
+        }
+    ))
+}

@@ -1,2 +1,0 @@
-pub mod JudgedBoard
-pub mod JudgedScript

@@ -1,0 +1,119 @@
+//! Why a line isn't read, in words. No contract speaks of them: whether a line is read, `line` says.
+
+use crate::fault::LineError;
+use hex::FromHexError;
+use std::alloc::Global;
+
+/// The second word is no guest of the board.
+pub(crate) fn no_guest(alloc: Global, word: &str, guests: u16) -> LineError {
+    let last = guests.saturating_sub(1);
+    LineError::of(format!(in alloc;
+        "word 2: expected a guest of the board, 0 to {last}, got {word:?}"
+    ))
+}
+
+/// The word at a place, counted from 1, is no number up to this one.
+pub(crate) fn no_number(alloc: Global, place: usize, word: &str, most: u64) -> LineError {
+    LineError::of(format!(in alloc;
+        "word {place}: expected decimal digits of a number from 0 to {most}, got {word:?}"
+    ))
+}
+
+/// The word at a place is no hex digits, and no dash.
+pub(crate) fn no_hex(alloc: Global, place: usize, why: FromHexError) -> LineError {
+    LineError::of(format!(in alloc;
+        "word {place}: expected two hex digits for each byte, or -, got: {why}"
+    ))
+}
+
+/// The readable part of a chain has too many bytes.
+pub(crate) fn too_long(alloc: Global, most: usize, count: usize) -> LineError {
+    LineError::of(format!(in alloc; "word 3: expected at most {most} bytes, got {count}"))
+}
+
+/// A chain has no bytes.
+pub(crate) fn empty_chain(alloc: Global) -> LineError {
+    LineError::of(String::from_str(alloc, "expected a chain of at least one byte, got `- 0`"))
+}
+
+/// A store has no bytes.
+pub(crate) fn empty_store(alloc: Global) -> LineError {
+    LineError::of(String::from_str(
+        alloc,
+        "word 4: expected hex digits of at least one byte, got -",
+    ))
+}
+
+/// A line stores, in a script whose guests are served at once.
+pub(crate) fn served_store(alloc: Global) -> LineError {
+    LineError::of(String::from_str(
+        alloc,
+        "word 1: expected chain or reset, as the guests are served at once, got \"store\"",
+    ))
+}
+
+/// How many words stand behind a command that a script may say.
+fn wanted_behind(command: &str) -> Option<usize> {
+    match command {
+        "chain" | "store" => Some(3),
+        "reset" => Some(1),
+        _ => None,
+    }
+}
+
+/// The first word is no command, or none that so many words stand behind.
+pub(crate) fn misshapen(alloc: Global, command: &str, given: usize) -> LineError {
+    LineError::of(match wanted_behind(command) {
+        Some(wanted) => format!(in alloc;
+            "expected {wanted} words behind the first, got {given}{}",
+            if given > 3 { " or more" } else { "" }
+        ),
+        None => format!(in alloc;
+            "word 1: expected chain, store or reset, got {command:?}{}",
+            if command.starts_with('[') || command == "image" {
+                "; it looks like a board file, which comes first"
+            } else {
+                ""
+            }
+        ),
+    })
+}
+
+/// No line has so many words.
+pub(crate) fn other_count(alloc: Global, words: &[&str]) -> LineError {
+    match words {
+        [command, behind @ ..] => misshapen(alloc, command, behind.len()),
+        [] => LineError::of(String::from_str(alloc, "expected a word")),
+    }
+}
+
+/// What is wrong with the bytes of a line, whatever its words are.
+fn flaw_of_bytes(line: &str) -> Option<&'static str> {
+    if line.starts_with('\u{feff}') {
+        return Some("it begins with a byte order mark, expected the line's first word");
+    }
+    if line.ends_with('\r') {
+        return Some("it ends with a carriage return, expected a line feed alone");
+    }
+    if line.contains('\t') {
+        return Some("it has a tab, expected one space between words");
+    }
+    if line.starts_with(' ') {
+        return Some("it begins with a space, expected the line's first word");
+    }
+    if line.ends_with(' ') {
+        return Some("it ends with a space, expected none behind the last word");
+    }
+    if line.contains("  ") {
+        return Some("it has two spaces, expected one between words");
+    }
+    None
+}
+
+/// The refusal of a line whose words are refused: what is wrong with its bytes is told first.
+pub(crate) fn told(alloc: Global, line: &str, flaw: String) -> LineError {
+    match flaw_of_bytes(line) {
+        Some(first) => LineError::of(String::from_str(alloc, first)),
+        None => LineError::BadScript(flaw),
+    }
+}
