@@ -8,6 +8,7 @@ use Rattle.flusher.specs.Round.{plan_at}
 use Rattle.flusher.specs.Pair.{guest_awaits, guest_has_write}
 use Rattle.rpmb_book.specs.Audit.{HasHistory}
 use Rattle.rpmb_book.specs.Sound.{IsSound as IsSoundBook}
+use Rattle.board.proofs.Headers.{header_stays, header_still, header_twice}
 use Rattle.board.proofs.Linked.{in_book}
 use Rattle.board.proofs.Prefixes.{does_moments, leaves_now}
 use Rattle.board.proofs.Stays.{does_stay}
@@ -105,6 +106,7 @@ module _ {D : Type 0} (shows : D → DiskState) (makes : D → DiskCall → D �
         whole = go.whole;
         cause = go.cause;
         marks = go.marks;
+        header = header_stays shows makes s answer old new does;
         reaches = λ config bases accepted was. (
             let more = accepted_goes (state old.book) (answered s answer old) accepted in record {
               now = accepted_after s answer old accepted;
@@ -125,6 +127,7 @@ still_moves shows makes old devices' jobs' many wide = record {
   whole = λ whole. whole;
   cause = λ broken. inl broken;
   marks = λ g. omega arith;
+  header = header_still shows makes old.store.disk old.store.disk refl;
   reaches = λ config bases accepted was. record {
     now = accepted;
     more = goes_none accepted;
@@ -153,6 +156,7 @@ moves_twice {D = D} shows makes a b c p q = record {
   whole = λ whole. p.whole (q.whole whole);
   cause = λ broken. from (q.cause broken);
   marks = up;
+  header = header_twice shows makes a.store.disk b.store.disk c.store.disk p.faithful p.header q.header;
   reaches = λ config bases accepted was. (
       let r = p.reaches config bases accepted was in
       let s = q.reaches config bases r.now r.linked in record {

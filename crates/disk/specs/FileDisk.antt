@@ -80,17 +80,31 @@ pub unknown_effect : (call : FileCall) → FileEffect unknown_file call unknown_
 unknown_effect (ReadAt at out count) = record {
   faithful = λ i. false;
   gives = λ known. absurd (cc);
-  effect = λ len before now counts. record { counts = counts; seen = λ known. absurd (cc); unsynced = λ known. absurd (cc) };
+  effect = λ len before now counts. record {
+    counts = counts;
+    seen = λ known. absurd (cc);
+    unsynced = λ known. absurd (cc);
+  };
 }
 unknown_effect (WriteAt at bytes count) = record {
   faithful = λ i. false;
   gives = λ known. tt;
-  effect = λ len before now counts. record { counts = counts; written = λ known. absurd (cc); outside = λ known. absurd (cc); unsynced = λ known. absurd (cc) };
+  effect = λ len before now counts. record {
+    counts = counts;
+    written = λ known. absurd (cc);
+    outside = λ known. absurd (cc);
+    unsynced = λ known. absurd (cc);
+  };
 }
 unknown_effect (SyncAll done) = record {
   faithful = λ i. false;
   gives = λ known. tt;
-  effect = λ len before now counts. record { counts = counts; seen = λ known. absurd (cc); unsynced = λ known. absurd (cc); durable = λ known. absurd (cc) };
+  effect = λ len before now counts. record {
+    counts = counts;
+    seen = λ known. absurd (cc);
+    unsynced = λ known. absurd (cc);
+    durable = λ known. absurd (cc);
+  };
 }
 
 -- 2. The disk over it

@@ -3,7 +3,8 @@
 -- each write that was put in is made before the sync that is told, and that such a sync keeps. No
 -- contract can say what becomes of bytes that leave: that the owner's file is such a one is the
 -- owner's part.
-use Rattle.std.specs.Prelude.{◌≡◌, ℕ, ◌<◌, ◌+◌, ◌-◌, ◌^◌, Bool, true, false, not, ◌&&◌, nat_lt, nat_le}
+use Rattle.std.specs.Prelude.{◌≡◌, ℕ, ◌<◌, ◌+◌, ◌-◌, ◌^◌, Bool, true, false, not, ◌&&◌}
+use Rattle.std.specs.Prelude.{nat_lt, nat_le}
 use Rattle.std.specs.Prelude.{if◌then◌else◌, List, [], ◌∷◌, length}
 use Rattle.disk.specs.Content.{content_of}
 use Rattle.disk.specs.Disk.{DiskState, DiskCall, Read, Write, Sync, Effect}

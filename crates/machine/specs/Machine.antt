@@ -81,8 +81,8 @@ IsInWindow w d at count = (w.base ≤ at) × IsInside d.memory (at - w.base) cou
 abbrev pub stored : DeviceState → ℕ → List ℕ → DeviceState
 stored d at bytes = record d { memory = with_bytes d.memory at bytes }
 
--- A stop at this moment leaves, of the monitor's file, a partition of each guest, and none below its
--- mark: the sequence up to which it was told that a sync kept all.
+-- A stop at this moment leaves, of the monitor's file, a partition of each guest, and none below
+-- its mark: the sequence up to which it was told that a sync kept all.
 abbrev pub LeavesEach : BoardState OutboxState → Type 0
 LeavesEach b = (c : Content) → MayLeave (outbox_state b.store.disk) c → (g : ℕ) (x : Guest)
     → slice_get b.store.guests g ≡ Some x
@@ -165,7 +165,8 @@ written_by None d m guest offset width value = m
 
 abbrev pub written_in : MachineState → ℕ → (offset width value : ℕ) → MachineState
 written_in m guest offset width value =
-    written_by (slice_get m.windows guest) (slice_get m.board.devices guest) m guest offset width value
+    written_by (slice_get m.windows guest) (slice_get m.board.devices guest) m guest offset width
+    value
 
 -- What taking the oldest write gives, where there is so much room: its offset and how many bytes
 -- it has, and they stand at the front; nothing where no write waits, or it has more bytes.

@@ -1,5 +1,6 @@
 //! A board for a monitor.
-ghost use Rattle.std.specs.Prelude.{◌≡◌, ◌↔◌, ◌≤◌, ◌-◌, ◌%◌, true, false, Some, None, Err, IsOk, IfSome};
+ghost use Rattle.std.specs.Prelude.{◌≡◌, ◌↔◌, ◌≤◌, ◌-◌, ◌%◌, true, false, Some, None, Err};
+ghost use Rattle.std.specs.Prelude.{IsOk, IfSome};
 ghost use Rattle.std.specs.Prelude.{OnOk, OnErr};
 ghost use Rattle.std.specs.Prelude.{length, slice_get};
 ghost use Rattle.guest_memory.specs.Memory.{IsInside, bytes_at};
@@ -7,7 +8,8 @@ ghost use Rattle.mmio_transport.specs.Device.{after_write, kick_of};
 ghost use Rattle.rpmb_book.specs.Book.{state};
 ghost use Rattle.board.specs.Telling.{telling};
 ghost use Rattle.disk.specs.Outbox.{first_of};
-ghost use Rattle.machine.specs.Machine.{Completes, Copies, LeavesEach, IsInWindow, IsServed, TellsFault};
+ghost use Rattle.machine.specs.Machine.{Completes, Copies, LeavesEach, IsInWindow, IsServed};
+ghost use Rattle.machine.specs.Machine.{TellsFault};
 ghost use Rattle.machine.specs.Machine.{TellsRanges, WhereGuest, has_guest, is_awaited, kick_in};
 ghost use Rattle.machine.specs.Machine.{line_by, shown_in, stored, waits_for_sync, with_device};
 ghost use Rattle.machine.specs.Machine.{writes_in, written_in};

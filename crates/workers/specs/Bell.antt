@@ -1,5 +1,6 @@
 -- What threads wait on: how often each was rung for.
-use Rattle.std.specs.Prelude.{◌≡◌, ℕ, ◌+◌, ◌%◌, ◌<◌, ◌==◌, ◌&&◌, ◌-◌, not, nat_le, nat_lt, Bool, true, false}
+use Rattle.std.specs.Prelude.{◌≡◌, ℕ, ◌+◌, ◌%◌, ◌<◌, ◌==◌, ◌&&◌, ◌-◌, not, nat_le, nat_lt, Bool}
+use Rattle.std.specs.Prelude.{true, false}
 use Rattle.std.specs.Prelude.{if◌then◌else◌, List, length, slice_index, slice_index_or, slice_set}
 use Rattle.workers.specs.declared.bell.Line.{Line}
 
@@ -30,8 +31,8 @@ pub record TellsBelow (n : ℕ) (said : ℕ → Bool) (old : List Line) (told : 
   pub quiet : told ≡ false → (i : ℕ) (l : Line) → i < n → i < length old → said i ≡ true
       → (slice_index_or old i l).waits ≡ false
 
--- Of the workers' lines, which stand from 64 on behind those of as many drivers, just those are rung
--- for of whose guest that is said.
+-- Of the workers' lines, which stand from 64 on behind those of as many drivers, just those are
+-- rung for of whose guest that is said.
 abbrev pub TellsWorkers : (ℕ → Bool) → List Line → Bool → List Line → Type 0
 TellsWorkers said old told new = TellsBelow 128 (λ i. nat_le 64 i && said (i - 64)) old told new
 

@@ -197,8 +197,8 @@ pub record GoesTo (script : List Order) (from to : At) : Type 0 where
   pub moves : List Move
   pub went : Went script from moves to
 
--- A driver ran its script: it negotiated with its device, and went by steps, from what that told, to
--- the end of the script. Each chain of it has its answer.
+-- A driver ran its script: it negotiated with its device, and went by steps, from what that told,
+-- to the end of the script. Each chain of it has its answer.
 pub record Ran (script : List Order) (answers : List Answer) : Type 0 where
   pub found : Guest
   pub guest : Guest

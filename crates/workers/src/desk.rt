@@ -1,5 +1,6 @@
 //! What lies under the book's lock.
-ghost use Rattle.std.specs.Prelude.{◌≡◌, ◌↔◌, ◌+◌, ◌<◌, IsTrue, IfErr, IfOk, OnErr, OnOk, None, length};
+ghost use Rattle.std.specs.Prelude.{◌≡◌, ◌↔◌, ◌+◌, ◌<◌, IsTrue, IfErr, IfOk, OnErr, OnOk, None};
+ghost use Rattle.std.specs.Prelude.{length};
 ghost use Rattle.std.specs.Prelude.{option_map, unwrap_or};
 ghost use Rattle.rpmb_book.specs.Book.{BookView, after_break_off, after_collect, after_settle};
 ghost use Rattle.rpmb_book.specs.Book.{after_take, due_of, found_by, next_intent, refusal};

@@ -192,7 +192,8 @@ impl<D: Disk> Flusher<D> {
     ) -> Result<bool, HostFault>
         requires { Follow self.old.shares self.old.keeper.store.guests }
         ensures follows { OnOk result (Follow self.new.shares self.new.keeper.store.guests) }
-        ensures rests { result ≡ Ok true → IsAtRest self.new.keeper.store.broken self.new.keeper.store.guests }
+        ensures rests { result ≡ Ok true
+            → IsAtRest self.new.keeper.store.broken self.new.keeper.store.guests }
         ensures keeps { KeepsOn D.state D.makes self.old.keeper self.new.keeper }
         ensures heard { IsHeard self.old.keeper self.old.broken self.new.keeper self.new.broken }
     {

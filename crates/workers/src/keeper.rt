@@ -17,8 +17,8 @@ use rpmb_book::Book;
 use std::alloc::Global;
 use std::marker::Model;
 
-/// The store of all guests, and each guest's key after all that the store was given: an intent under
-/// another key isn't given to it. The store itself compares it only with those in its slots.
+/// The store of all guests, and each guest's key after all that the store was given: an intent
+/// under another key isn't given to it. The store itself compares it only with those in its slots.
 #[derive(Drop)]
 pub(crate) struct Keeper<D: Disk> {
     store: Store<D>,
