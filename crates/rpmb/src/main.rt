@@ -12,13 +12,15 @@ use std::process::ExitCode;
 /// The status of a command line that is refused.
 const REFUSED: u8 = 2;
 
-/// The files of the system.
+/// The files of the system, of which no contract says what they give.
 #[derive(Drop)]
 struct System<'a> {
     rt: &'a HostRuntime,
 }
 
 impl<'a> Source for System<'a> {
+    ghost gives = { λ source name bytes. Unit {0} };
+
     fn content(&self, _alloc: Global, name: &str) -> Result<Vec<u8>, SourceError> {
         read_file(self.rt, name)
     }

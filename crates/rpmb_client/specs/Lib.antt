@@ -4,6 +4,7 @@ pub mod Answer
 pub mod Explained
 pub mod Seen
 pub mod Lines
+pub mod Keeping
 pub mod Laws
 pub mod Values
 pub mod Options

@@ -1,7 +1,8 @@
 //! The lines of a script that offer chains.
-ghost use Rattle.std.specs.Prelude.{◌∷◌, ◌++◌, OnOk, []};
+ghost use Rattle.std.specs.Prelude.{◌∷◌, ◌++◌, IfErr, OnOk, []};
 ghost use Rattle.std.specs.Io.KnownBytes.{Appends};
 ghost use Rattle.rpmb_client.specs.Chain.{chain_text};
+ghost use Rattle.rpmb_client.specs.Keeping.{KeepsUnless};
 
 use crate::fault::ClientFault;
 use script::shown_bytes;
@@ -22,10 +23,17 @@ pub fn write_chain<W: Write>(
     writable: u32,
     out: &mut W,
 ) -> Result<(), ClientFault>
-    ensures { OnOk result (Appends (W.contents out.old) (W.contents out.new)
+    ensures written { OnOk result (Appends (W.contents out.old) (W.contents out.new)
         (chain_text guest readable.now writable ++ 10 ∷ [])) }
+    ensures silent { IfErr result
+        (λ fault. KeepsUnless fault (W.contents out.old) (W.contents out.new)) }
 {
-    let text = shown_bytes(alloc, readable)?;
-    writeln!(out, "chain {guest} {text} {writable}")?;
-    Ok(())
+    let text = match shown_bytes(alloc, readable) {
+        Ok(text) => text,
+        Err(_) => return Err(ClientFault::NoMemory),
+    };
+    match writeln!(out, "chain {guest} {text} {writable}") {
+        Ok(()) => Ok(()),
+        Err(_) => Err(ClientFault::FileFault),
+    }
 }

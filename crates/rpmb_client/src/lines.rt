@@ -1,6 +1,8 @@
 //! The lines of requests.
-ghost use Rattle.std.specs.Prelude.{◌≡◌, ◌<◌, ◌≤◌, ◌+◌, ◌-◌, ◌*◌, ◌/◌, ◌^◌, ◌∷◌, OnOk, [], length};
+ghost use Rattle.std.specs.Prelude.{◌≡◌, ◌<◌, ◌≤◌, ◌+◌, ◌-◌, ◌*◌, ◌/◌, ◌^◌, ◌∷◌, IfErr, OnOk, []};
+ghost use Rattle.std.specs.Prelude.{length};
 ghost use Rattle.std.specs.Io.KnownBytes.{Appends};
+ghost use Rattle.rpmb_client.specs.Keeping.{KeepsUnless, WritesFirstUnless};
 ghost use Rattle.rpmb_client.specs.Lines.{counter_line, key_line, read_line, request_line};
 ghost use Rattle.rpmb_client.specs.Lines.{result_line, write_line, write_lines, writes_of};
 
@@ -19,8 +21,10 @@ fn write_request<W: Write>(
     replied: u16,
     out: &mut W,
 ) -> Result<(), ClientFault>
-    ensures { OnOk result (Appends (W.contents out.old) (W.contents out.new)
+    ensures written { OnOk result (Appends (W.contents out.old) (W.contents out.new)
         (request_line guest frames.now replied)) }
+    ensures silent { IfErr result
+        (λ fault. KeepsUnless fault (W.contents out.old) (W.contents out.new)) }
 {
     match join(alloc, frames) {
         Ok(bytes) => write_chain(
@@ -41,8 +45,10 @@ pub fn write_program_key<W: Write>(
     key: &[u8; 32],
     out: &mut W,
 ) -> Result<(), ClientFault>
-    ensures { OnOk result
+    ensures written { OnOk result
         (Appends (W.contents out.old) (W.contents out.new) (key_line guest key.now)) }
+    ensures silent { IfErr result
+        (λ fault. KeepsUnless fault (W.contents out.old) (W.contents out.new)) }
 {
     write_request(alloc, guest, &program_key(key), 1, out)
 }
@@ -54,8 +60,10 @@ pub fn write_read_counter<W: Write>(
     nonce: &[u8; 16],
     out: &mut W,
 ) -> Result<(), ClientFault>
-    ensures { OnOk result
+    ensures written { OnOk result
         (Appends (W.contents out.old) (W.contents out.new) (counter_line guest nonce.now)) }
+    ensures silent { IfErr result
+        (λ fault. KeepsUnless fault (W.contents out.old) (W.contents out.new)) }
 {
     write_request(alloc, guest, &[read_counter(nonce)], 1, out)
 }
@@ -69,8 +77,10 @@ pub fn write_read<W: Write>(
     nonce: &[u8; 16],
     out: &mut W,
 ) -> Result<(), ClientFault>
-    ensures { OnOk result (Appends (W.contents out.old) (W.contents out.new)
+    ensures written { OnOk result (Appends (W.contents out.old) (W.contents out.new)
         (read_line guest address count nonce.now)) }
+    ensures silent { IfErr result
+        (λ fault. KeepsUnless fault (W.contents out.old) (W.contents out.new)) }
 {
     write_request(
         alloc,
@@ -83,7 +93,10 @@ pub fn write_read<W: Write>(
 
 /// Writes the line that asks for the result of the last PROGRAM_KEY or DATA_WRITE.
 pub fn write_result<W: Write>(alloc: Global, guest: u16, out: &mut W) -> Result<(), ClientFault>
-    ensures { OnOk result (Appends (W.contents out.old) (W.contents out.new) (result_line guest)) }
+    ensures written { OnOk result
+        (Appends (W.contents out.old) (W.contents out.new) (result_line guest)) }
+    ensures silent { IfErr result
+        (λ fault. KeepsUnless fault (W.contents out.old) (W.contents out.new)) }
 {
     write_request(alloc, guest, &[ask_for_result()], 1, out)
 }
@@ -113,8 +126,10 @@ fn write_one<W: Write>(
 ) -> Result<(), ClientFault>
     requires some { 1 ≤ length blocks.now }
     requires few { length blocks.now ≤ 16 }
-    ensures { OnOk result (Appends (W.contents out.old) (W.contents out.new)
+    ensures written { OnOk result (Appends (W.contents out.old) (W.contents out.new)
         (write_line writer.guest writer.key writer.counter writer.address blocks.now writer.asks)) }
+    ensures silent { IfErr result
+        (λ fault. KeepsUnless fault (W.contents out.old) (W.contents out.new)) }
 {
     let frames = write_blocks(
         alloc,
@@ -149,9 +164,12 @@ pub fn write_all<W: Write>(
     requires most { most ≤ 16 }
     requires inside { writer.address + length blocks.now ≤ 65536 }
     requires counted { writer.counter + writes_of most (length blocks.now) ≤ 2 ^ 32 }
-    ensures { OnOk result (Appends (W.contents out.old) (W.contents out.new)
+    ensures written { OnOk result (Appends (W.contents out.old) (W.contents out.new)
         (write_lines (writes_of most (length blocks.now)) writer.guest writer.key writer.counter
         writer.address most blocks.now writer.asks)) }
+    ensures stopped { IfErr result (λ fault. WritesFirstUnless fault
+        (writes_of most (length blocks.now)) writer.guest writer.key writer.counter
+        writer.address most blocks.now writer.asks (W.contents out.old) (W.contents out.new)) }
 {
     let most = usize::from(most);
     let count = (blocks.len() + most - 1) / most;

@@ -2,6 +2,7 @@
 //! writers.
 #![tactic(auto)]
 
+mod asked;
 mod checking;
 mod grammar;
 mod help;
@@ -12,7 +13,9 @@ mod reading;
 mod refusal;
 mod source;
 mod telling;
+mod values;
 mod words;
+mod writing;
 
 pub use performing::{perform, report};
 pub use refusal::Refusal;

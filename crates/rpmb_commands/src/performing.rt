@@ -1,10 +1,15 @@
 //! What a command does.
+ghost use Rattle.std.specs.Prelude.{◌≡◌};
+ghost use Rattle.rpmb_commands.specs.Performing.{Does, Performs, after_flush, asked_of, status_of};
+
+use crate::asked::{Asked, asked_of};
 use crate::checking::check;
-use crate::making::{make_program_key, make_read, make_read_counter, make_result, make_write};
+use crate::making::{make_program_key, make_read, make_read_counter, make_result};
 use crate::refusal::Refusal;
 use crate::source::Source;
 use crate::telling::{give_data, tell};
 use crate::words::Words;
+use crate::writing::make_write;
 use rpmb_client::OptionRefusal;
 use std::alloc::Global;
 use std::io::{BufRead, Write};
@@ -15,24 +20,49 @@ fn perform_on<'a, S: Source, B: BufRead, W: Write>(
     words: &Words<'a>,
     input: &mut B,
     out: &mut W,
-) -> Result<(), Refusal<'a>> {
-    match words.command {
-        "program-key" => make_program_key(alloc, source, words, out),
-        "read-counter" => make_read_counter(alloc, words, out),
-        "write" => make_write(alloc, source, words, out),
-        "read" => make_read(alloc, words, out),
-        "result" => make_result(alloc, words, out),
-        "explain" => tell(alloc, source, words, input, out),
-        "read-data" => give_data(alloc, source, words, input, out),
-        "check" => check(alloc, source, words, out),
-        _ => Err(OptionRefusal::Incomplete.into()),
+) -> Result<(), Refusal<'a>>
+    ensures { Does (S.gives source.now) (asked_of words.now.command.now) words.now
+        (W.contents out.old) result (W.contents out.new) }
+{
+    match asked_of(words.command) {
+        Asked::ProgramKey => make_program_key(alloc, source, words, out),
+        Asked::ReadCounter => make_read_counter(alloc, words, out),
+        Asked::Write => make_write(alloc, source, words, out),
+        Asked::Read => make_read(alloc, words, out),
+        Asked::Outcome => make_result(alloc, words, out),
+        Asked::Explain => tell(alloc, source, words, input, out),
+        Asked::ReadData => give_data(alloc, source, words, input, out),
+        Asked::Check => check(alloc, source, words, out),
+        Asked::Unknown => Err(Refusal::Option(OptionRefusal::Incomplete)),
     }
 }
 
-/// Writes the line of a refusal, and gives the status 1.
-pub fn report<E: Write>(refusal: Refusal<'_>, err: &mut E) -> u8 {
+/// Writes the line of a refusal, and gives its status.
+pub fn report<E: Write>(refusal: Refusal<'_>, err: &mut E) -> u8
+    ensures { result ≡ 1 }
+{
     let _ = writeln!(err, "rpmb: {refusal}");
     1
+}
+
+/// How a command ends, once all is flushed, or standard output took no more.
+fn after_flush<'a>(is_flushed: bool, ended: Result<(), Refusal<'a>>) -> Result<(), Refusal<'a>>
+    ensures { result ≡ after_flush is_flushed ended.entry }
+{
+    match ended {
+        Ok(()) if !is_flushed => Err(Refusal::NoRoom),
+        _ => ended,
+    }
+}
+
+/// The status that tells how a command ended, with a line on standard error where it was refused.
+fn status_of<E: Write>(ended: Result<(), Refusal<'_>>, err: &mut E) -> u8
+    ensures { result ≡ status_of ended.entry }
+{
+    match ended {
+        Ok(()) => 0,
+        Err(refusal) => report(refusal, err),
+    }
 }
 
 /// Performs a command, and gives the status that it ends with: 0, or 1 with one line on standard
@@ -44,12 +74,11 @@ pub fn perform<S: Source, B: BufRead, W: Write, E: Write>(
     input: &mut B,
     out: &mut W,
     err: &mut E,
-) -> u8 {
-    let done = perform_on(alloc, source, words, input, out);
+) -> u8
+    ensures { Performs (S.gives source.now) words.now (W.contents out.old) result
+        (W.contents out.new) }
+{
+    let ended = perform_on(alloc, source, words, input, out);
     let is_flushed = out.flush().is_ok();
-    match done {
-        Ok(()) if is_flushed => 0,
-        Ok(()) => report(Refusal::NoRoom, err),
-        Err(refusal) => report(refusal, err),
-    }
+    status_of(after_flush(is_flushed, ended), err)
 }

@@ -1,23 +1,98 @@
 //! The keys that words write or name.
+ghost use Rattle.std.specs.Prelude.{◌≡◌, IfErr, IfOk, Some};
+ghost use Rattle.rpmb_client.specs.Options.{IsWhyNoDigits};
+ghost use Rattle.rpmb_client.specs.Values.{array_said};
+ghost use Rattle.rpmb_commands.specs.KeySaid.{IsKey, IsKeyInFile, IsKeyWord, IsNamed};
+ghost use Rattle.rpmb_commands.specs.KeySaid.{IsRefusedFor, IsWhyNoKeyFile, IsWhyNoKeySaid};
+ghost use Rattle.rpmb_commands.specs.KeySaid.{IsWhyNoRawKeyFile, IsWhyNot, SaysKey};
+
 use crate::refusal::Refusal;
 use crate::source::{Source, content_of};
 use rpmb_client::{OptionRefusal, key_of_file, key_of_raw_file, key_of_word};
 use std::alloc::Global;
 
-fn key_named<'a, S: Source>(
+/// How a word says a key.
+#[derive(Clone, Copy)]
+pub enum KeyWord<'a> {
+    /// By its own hex digits.
+    Digits(&'a str),
+    /// By the file with its digits: `@FILE`.
+    File(&'a str),
+    /// By the file that has its bytes: `@raw:FILE`.
+    RawFile(&'a str),
+}
+
+/// The file of a word behind its `@`.
+fn named_file<'a>(name: &'a str) -> KeyWord<'a>
+    ensures { IsNamed name.now result }
+{
+    match name.strip_prefix("raw:") {
+        Some(file) => KeyWord::RawFile(file),
+        None => KeyWord::File(name),
+    }
+}
+
+fn key_word<'a>(word: &'a str) -> KeyWord<'a>
+    ensures { IsKeyWord word.now result }
+{
+    match word.strip_prefix('@') {
+        Some(name) => named_file(name),
+        None => KeyWord::Digits(word),
+    }
+}
+
+fn key_in_file<'a, S: Source>(
     alloc: Global,
     source: &S,
     name: &'a str,
-) -> Result<[u8; 32], Refusal<'a>> {
-    match name.strip_prefix("raw:") {
-        Some(file) => {
-            let content = content_of(alloc, source, file)?;
-            Ok(key_of_raw_file(file, content.as_slice())?)
-        }
-        None => {
-            let content = content_of(alloc, source, name)?;
-            Ok(key_of_file(alloc, name, content.as_slice())?)
-        }
+) -> Result<[u8; 32], Refusal<'a>>
+    ensures ok { IfOk result (IsKeyInFile (S.gives source.now) name.now) }
+    ensures err { IfErr result (IsWhyNoKeyFile (S.gives source.now) name.entry) }
+{
+    let content = content_of(alloc, source, name)?;
+    match key_of_file(alloc, name, content.as_slice()) {
+        Ok(key) => Ok(key),
+        Err(told) => Err(Refusal::from(told)),
+    }
+}
+
+fn key_in_raw_file<'a, S: Source>(
+    alloc: Global,
+    source: &S,
+    name: &'a str,
+) -> Result<[u8; 32], Refusal<'a>>
+    ensures ok { IfOk result (λ key. S.gives source.now name.now key) }
+    ensures err { IfErr result (IsWhyNoRawKeyFile (S.gives source.now) name.entry) }
+{
+    let content = content_of(alloc, source, name)?;
+    match key_of_raw_file(name, content.as_slice()) {
+        Ok(key) => Ok(key),
+        Err(told) => Err(Refusal::from(told)),
+    }
+}
+
+fn key_in_digits<'a>(alloc: Global, word: &'a str) -> Result<[u8; 32], Refusal<'a>>
+    ensures ok { IfOk result (λ key. array_said 32 word.now ≡ Some key) }
+    ensures err { IfErr result (IsRefusedFor (IsWhyNoDigits word.now)) }
+{
+    match key_of_word(alloc, word) {
+        Ok(key) => Ok(key),
+        Err(told) => Err(Refusal::from(told)),
+    }
+}
+
+fn key_said<'a, S: Source>(
+    alloc: Global,
+    source: &S,
+    word: KeyWord<'a>,
+) -> Result<[u8; 32], Refusal<'a>>
+    ensures ok { IfOk result (IsKey (S.gives source.now) word.entry) }
+    ensures err { IfErr result (IsWhyNot (S.gives source.now) word.entry) }
+{
+    match word {
+        KeyWord::Digits(digits) => key_in_digits(alloc, digits),
+        KeyWord::File(name) => key_in_file(alloc, source, name),
+        KeyWord::RawFile(name) => key_in_raw_file(alloc, source, name),
     }
 }
 
@@ -26,12 +101,12 @@ pub fn key<'a, S: Source>(
     alloc: Global,
     source: &S,
     word: Option<&'a str>,
-) -> Result<[u8; 32], Refusal<'a>> {
+) -> Result<[u8; 32], Refusal<'a>>
+    ensures ok { IfOk result (SaysKey (S.gives source.now) word.entry) }
+    ensures err { IfErr result (IsWhyNoKeySaid (S.gives source.now) word.entry) }
+{
     let Some(word) = word else {
-        return Err(OptionRefusal::Incomplete.into());
+        return Err(Refusal::Option(OptionRefusal::Incomplete));
     };
-    match word.strip_prefix('@') {
-        Some(name) => key_named(alloc, source, name),
-        None => Ok(key_of_word(alloc, word)?),
-    }
+    key_said(alloc, source, key_word(word))
 }

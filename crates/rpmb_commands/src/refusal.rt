@@ -1,4 +1,7 @@
 //! Why a command of `rpmb` is refused.
+ghost use Rattle.std.specs.Prelude.{◌≡◌};
+ghost use Rattle.rpmb_commands.specs.Refusing.{refusal_of, refusal_of_fault};
+
 use rpmb_client::{ClientFault, OptionRefusal};
 use std::convert::From;
 use thiserror::Error;
@@ -59,7 +62,10 @@ pub enum Refusal<'a> {
 }
 
 impl<'a> Refusal<'a> {
-    pub(crate) fn of(fault: ClientFault) -> Refusal<'a> {
+    /// The refusal of what a client couldn't do.
+    pub(crate) fn of(fault: ClientFault) -> Refusal<'a>
+        ensures { result ≡ refusal_of_fault fault }
+    {
         match fault {
             ClientFault::NoMemory => Refusal::NoMemory,
             ClientFault::FileFault => Refusal::NoRoom,
@@ -68,6 +74,10 @@ impl<'a> Refusal<'a> {
 }
 
 impl<'a> From<OptionRefusal<'a>> for Refusal<'a> {
+    ghost use Rattle.rpmb_commands.specs.Refusing.{refusal_of};
+
+    ghost from_gives = { λ told refused. refused ≡ refusal_of told };
+
     fn from(refusal: OptionRefusal<'a>) -> Refusal<'a> {
         match refusal {
             OptionRefusal::NoMemory => Refusal::NoMemory,

@@ -1,4 +1,7 @@
 //! Where the files are that words name.
+ghost use Rattle.std.specs.Prelude.{ℕ, IfErr, IfOk, List};
+ghost use Rattle.rpmb_commands.specs.KeySaid.{IsWhyNoContent};
+
 use crate::refusal::Refusal;
 use std::alloc::Global;
 use std::rt::Files;
@@ -15,12 +18,16 @@ pub enum SourceError {
 
 /// Gives what files hold, by the names that words give them.
 pub trait Source {
+    /// What a file of a name may give. A file may change, so one name may give more than one.
+    ghost gives: { Self → List ℕ → List ℕ → Type 0 };
+
     /// What a file holds.
     ///
     /// # Errors
     ///
     /// `NoFile` where it can't be read, `NoMemory` where memory is refused for its bytes.
-    fn content(&self, alloc: Global, name: &str) -> Result<Vec<u8>, SourceError>;
+    fn content(&self, alloc: Global, name: &str) -> Result<Vec<u8>, SourceError>
+        ensures { IfOk result (λ bytes. gives self.now name.now bytes.items) };
 }
 
 /// What the file of a path holds. Refused as by `Source::content`.
@@ -39,7 +46,10 @@ pub(crate) fn content_of<'a, S: Source>(
     alloc: Global,
     source: &S,
     name: &'a str,
-) -> Result<Vec<u8>, Refusal<'a>> {
+) -> Result<Vec<u8>, Refusal<'a>>
+    ensures ok { IfOk result (λ bytes. S.gives source.now name.now bytes.items) }
+    ensures err { IfErr result (IsWhyNoContent name.entry) }
+{
     match source.content(alloc, name) {
         Ok(bytes) => Ok(bytes),
         Err(SourceError::NoFile) => Err(Refusal::NoFile(name)),

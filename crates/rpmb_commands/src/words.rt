@@ -1,4 +1,7 @@
 //! From words to a command's name and the values of its options.
+ghost use Rattle.std.specs.Prelude.{◌≡◌};
+ghost use Rattle.rpmb_commands.specs.Said.{first_word, key_word};
+
 use crate::grammar::program;
 use clap::ArgMatches;
 use clap::error::ErrorKind;
@@ -27,7 +30,10 @@ pub struct Words<'a> {
 
 impl<'a> Words<'a> {
     /// The key of a command that has one.
-    pub fn key(&self) -> Option<&'a str> {
+    #[tactic(auto, unfolding(crate::specs::Said::key_word))]
+    pub fn key(&self) -> Option<&'a str>
+        ensures { result ≡ key_word self.now }
+    {
         match self.keys.as_slice() {
             [key, ..] => Some(*key),
             [] => None,

@@ -1,0 +1,6 @@
+pub mod Refusing
+pub mod Said
+pub mod KeySaid
+pub mod Making
+pub mod Writing
+pub mod Performing

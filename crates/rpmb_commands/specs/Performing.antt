@@ -1,0 +1,55 @@
+-- What a command has done, by its name.
+use Rattle.std.specs.Prelude.{ℕ, ◌≡◌, Bool, true, false, List, [], ◌∷◌, Option, Result, Ok, Err, codes}
+use Rattle.std.specs.Str.{bytes_eq}
+use Rattle.std.specs.Io.KnownBytes.{Keeps}
+use Rattle.rpmb_frame.specs.Table.{first_row}
+use Rattle.rpmb_commands.specs.Making.{ProgramKeyDoes, ReadCounterDoes, ReadDoes, ResultDoes}
+use Rattle.rpmb_commands.specs.Writing.{WriteDoes}
+use Rattle.rpmb_commands.specs.declared.asked.Asked.{Asked}
+use Rattle.rpmb_commands.specs.declared.asked.Asked.TheVariants as asked
+use Rattle.rpmb_commands.specs.declared.refusal.Refusal.{Refusal}
+use Rattle.rpmb_commands.specs.declared.refusal.Refusal.TheVariants as refusal
+use Rattle.rpmb_commands.specs.declared.words.Words.{Words}
+
+-- the command of a name
+unfoldable pub asked_of : List ℕ → Asked
+asked_of name = first_row (
+    (bytes_eq name (codes "program-key"), asked.ProgramKey)
+    ∷ (bytes_eq name (codes "read-counter"), asked.ReadCounter)
+    ∷ (bytes_eq name (codes "write"), asked.Write)
+    ∷ (bytes_eq name (codes "read"), asked.Read)
+    ∷ (bytes_eq name (codes "result"), asked.Outcome)
+    ∷ (bytes_eq name (codes "explain"), asked.Explain)
+    ∷ (bytes_eq name (codes "read-data"), asked.ReadData)
+    ∷ (bytes_eq name (codes "check"), asked.Check)
+    ∷ []) asked.Unknown
+
+-- What a command has done. Nothing is said here of those that make no requests.
+abbrev pub Does : (List ℕ → List ℕ → Type 0) → Asked → Words → Option (List ℕ)
+    → Result (Unit {0}) Refusal → Option (List ℕ) → Type 0
+Does gives asked.ProgramKey words start ended now = ProgramKeyDoes gives words start ended now
+Does gives asked.ReadCounter words start ended now = ReadCounterDoes words start ended now
+Does gives asked.Write words start ended now = WriteDoes gives words start ended now
+Does gives asked.Read words start ended now = ReadDoes words start ended now
+Does gives asked.Outcome words start ended now = ResultDoes words start ended now
+Does gives other words start ended now = Unit {0}
+
+-- how it ends, once all is flushed or standard output took no more
+abbrev pub after_flush : Bool → Result (Unit {0}) Refusal → Result (Unit {0}) Refusal
+after_flush true ended = ended
+after_flush false (Ok done) = Err refusal.NoRoom
+after_flush false (Err r) = Err r
+
+abbrev pub status_of : Result (Unit {0}) Refusal → ℕ
+status_of (Ok done) = 0
+status_of (Err r) = 1
+
+-- A command was performed, and its end told by a status.
+pub record Performs (gives : List ℕ → List ℕ → Type 0) (words : Words) (start : Option (List ℕ))
+    (status : ℕ) (now : Option (List ℕ)) : Type 0 where
+  pub ended : Result (Unit {0}) Refusal
+  pub flushed : Bool
+  pub written : Option (List ℕ)
+  pub does : Does gives (asked_of words.command.now) words start ended written
+  pub kept : Keeps written now
+  pub told : status ≡ status_of (after_flush flushed ended)
