@@ -4,7 +4,8 @@
  *     example FILE      it is in this file, which is made anew
  *
  * The guest's half plays a driver by hand: it brings the device into service by its registers (VIRTIO 1.2, 3.1.1 and
- * 4.2.3), and offers chains of a request and an answer in a split queue of 2 places (2.7). */
+ * 4.2.3), and offers chains of a request and an answer in a split queue of 2 places (2.7). It breaks its queue too, and
+ * the disk is full for a while: the monitor goes on. */
 #include "rpmb_host.h"
 #include <fcntl.h>
 #include <stdio.h>
@@ -24,7 +25,9 @@ static unsigned char ram[WINDOW]; /* the guest's memory, all of which is the win
 static unsigned char *image;      /* the image's bytes */
 static size_t length;
 static int file = -1;             /* its file; -1: it is in memory alone */
-static int writes, syncs, stops;  /* made since the last request; whether the monitor stops before the next sync */
+static int writes, syncs;         /* made since the last request */
+static int stops, is_full;        /* the monitor stops before the next sync; the disk takes no more */
+static uint32_t fault;            /* that the last serve told */
 
 static void check(int holds, const char *what)
 {
@@ -41,13 +44,17 @@ static void check_fault(uint32_t fault)
 
 /* The monitor's half. */
 
-/* A monitor that stops before its next sync may have made none of its writes: here it makes none. */
-static void keep(uint64_t at, const unsigned char *bytes, size_t len)
+/* Whether the write is made. A monitor that stops before its next sync may have made none: here it makes none. */
+static int keep(uint64_t at, const unsigned char *bytes, size_t len)
 {
+	if (stops)
+		return 1;
+	if (is_full)
+		return 0;
 	if (file >= 0)
-		check(pwrite(file, bytes, len, (off_t)at) == (ssize_t)len, "pwrite");
-	else
-		memcpy(image + at, bytes, len);
+		return pwrite(file, bytes, len, (off_t)at) == (ssize_t)len;
+	memcpy(image + at, bytes, len);
+	return 1;
 }
 
 static void open_board(void)
@@ -57,37 +64,46 @@ static void open_board(void)
 	check_fault(rpmb_open(board, 1, image, length, &host));
 }
 
-/* Whether a sync is awaited. */
-static int serve(void)
+/* Makes all writes that wait. Whether each was made. */
+static int empty_outbox(void)
 {
 	static unsigned char bytes[RPMB_LARGEST_WRITE];
-	struct rpmb_range ranges[64];
-	struct rpmb_served served;
 	uint64_t at;
 	size_t len;
+	int all = 1;
+
+	for (; (len = rpmb_outbox(&host, &at, bytes, sizeof bytes)) != 0; writes++)
+		all = keep(at, bytes, len) && all;
+	return all;
+}
+
+/* Serves the guest to its next sync. A fault ends nothing: what was written is loaded, and the guest goes on. Where
+ * memory was refused, its chain is tried first at the next serve. Whether a sync is awaited. */
+static int serve(int *all)
+{
+	struct rpmb_range ranges[64];
+	struct rpmb_served served;
 
 	do {
 		rpmb_serve(&host, 0, ranges, 64, &served);
-		check_fault(served.fault);
+		fault = served.fault;
 		for (uint32_t i = 0; i < served.ranges; i++)
 			check_fault(rpmb_load(&host, 0, ranges[i].at, ram + ranges[i].at, ranges[i].len));
-		for (; (len = rpmb_outbox(&host, &at, bytes, sizeof bytes)) != 0; writes++)
-			if (!stops)
-				keep(at, bytes, len);
+		*all = empty_outbox() && *all;
 	} while (served.again);
 	return served.sync;
 }
 
 static void on_notify(void)
 {
+	int all = 1;
+
 	/* all of the window, since this guest stands still meanwhile: a monitor stores the pages that were written */
 	check_fault(rpmb_store(&host, 0, 0, ram, WINDOW));
-	while (serve()) {
-		if (stops)
-			return;
-		check(file < 0 || fsync(file) == 0, "fsync");
-		check_fault(rpmb_completed(&host, 1));
-		syncs++;
+	while (serve(&all) && !stops) {
+		all = all && (file < 0 || fsync(file) == 0);
+		check_fault(rpmb_completed(&host, all ? 1 : 0));
+		syncs += all;
 	}
 }
 
@@ -181,6 +197,18 @@ static void ask_counter(unsigned result)
 	check(memcmp(ram + ANSWER + 484, ram + REQUEST + 484, 16) == 0, "the answer has the request's nonce");
 }
 
+/* A guest that offers what it never made: the device stops, and waits for a reset. The monitor goes on. */
+static void break_queue(void)
+{
+	put(DRIVER + 4, 999, 2), put(DRIVER + 2, get16(DRIVER + 2) + 1, 2); /* there is no place 999 */
+	set_register(0x050, 0);
+	check(fault == RPMB_STOPPED, "the device waits for a reset");
+	check(get_register(0x070) == (15 | 64), "Status has DEVICE_NEEDS_RESET");
+	printf("the guest broke its queue: %s\n", rpmb_fault_text(fault));
+	negotiate();
+	ask_counter(7);
+}
+
 static int program_key(void)
 {
 	memset(ram + REQUEST, 0, 1024);
@@ -200,8 +228,7 @@ int main(int argc, char **argv)
 	if (argc > 1) {
 		file = open(argv[1], O_RDWR | O_CREAT | O_TRUNC, 0600);
 		check(file >= 0, "open");
-		keep(0, image, length);
-		check(fsync(file) == 0, "fsync");
+		check(keep(0, image, length) && fsync(file) == 0, "the image is kept");
 	}
 	printf("formatted an image of %zu bytes\n", length);
 
@@ -212,6 +239,7 @@ int main(int argc, char **argv)
 
 	stops = 1;
 	check(!program_key(), "no answer before its key is kept");
+	check(rpmb_waiting(&host, 0) == 1, "the guest waits");
 	printf("key programmed: the monitor stops, with %d write taken and not made\n", writes);
 	rpmb_close(&host);
 	stops = 0;
@@ -220,6 +248,18 @@ int main(int argc, char **argv)
 	negotiate();
 	printf("opened again\n");
 	ask_counter(7);
+	break_queue();
+
+	is_full = 1;
+	check(program_key(), "the failure's answer comes");
+	show("the disk is full");
+	check(get_be16(ANSWER + 508) != 0, "the key isn't programmed");
+	rpmb_close(&host);
+	is_full = 0;
+
+	open_board();
+	negotiate();
+	printf("there is room: opened again\n");
 	check(program_key(), "the key's answer comes");
 	show("key programmed");
 	check(get_be16(ANSWER + 510) == 0x0100 && get_be16(ANSWER + 508) == 0, "the key's answer");

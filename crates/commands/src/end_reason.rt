@@ -6,37 +6,56 @@ use command_line::Command;
 use disk::Disk;
 use intent_slots::Layout;
 use rpmb_frame::BoardConfig;
+use script::{ScriptError, read_script, read_served_script};
 use std::alloc::Global;
 use std::io::Write;
 
-/// The paths that a command works on.
+/// What a command works on, once its files are read.
 #[derive(Clone, Copy)]
-pub(crate) struct Paths<'a> {
-    pub board: &'a str,
-    /// Empty where the command has none.
+pub(crate) struct Task<'a> {
+    pub command: Command<'a>,
+    pub board: &'a BoardConfig,
+    /// The script's text; empty where the command has none.
     pub script: &'a str,
-    /// What stands for it where the board names none.
-    pub image: &'a str,
+    /// The path of the image, where the board names one.
+    pub image: Option<&'a str>,
 }
 
-impl<'a> Paths<'a> {
-    pub(crate) fn of(command: Command<'a>, image: Option<&'a str>) -> Paths<'a> {
-        Paths {
-            board: command.board(),
-            script: command.script().unwrap_or(""),
-            image: image.unwrap_or("the image in memory"),
+impl<'a> Task<'a> {
+    /// What is said in the place of the image's file.
+    fn place(self) -> &'a str {
+        self.image.unwrap_or("the image in memory")
+    }
+
+    /// What is said in the place of the script's file.
+    fn script_path(self) -> &'a str {
+        self.command.script().unwrap_or("the script")
+    }
+}
+
+/// Why the script isn't read: its reader, asked again, says which line it is and why.
+fn misread(alloc: Global, task: Task<'_>) -> Option<String> {
+    let guests = task.board.guests().len() as u16;
+    let read = match task.command {
+        Command::Serve { .. } => read_served_script(alloc, task.script, guests),
+        _ => read_script(alloc, task.script, guests),
+    };
+    let path = task.script_path();
+    match read {
+        Err(ScriptError::BadScript { line, flaw }) => {
+            format!(in alloc; "{path}: line {line}: {flaw}").ok()
         }
+        _ => None,
     }
 }
 
 /// Why the disk holds no image of the board: by its length, where that is another one.
 fn unformatted<D: Disk>(
     alloc: Global,
-    paths: Paths<'_>,
-    board: &BoardConfig,
+    task: Task<'_>,
     disk: Option<&D>,
 ) -> Option<String> {
-    let (image, whole) = (paths.image, Layout::of(board).length());
+    let (image, whole) = (task.place(), Layout::of(task.board).length());
     match disk {
         Some(disk) if disk.len() != whole => {
             let length = disk.len();
@@ -44,11 +63,10 @@ fn unformatted<D: Disk>(
                 "{image}: has {length} bytes, an image of this board {whole}; rpmbd format makes one"
             ).ok()
         }
-        _ => said(
-            alloc,
-            image,
-            "holds no image, or one that isn't whole; rpmbd format makes one",
-        ),
+        _ => {
+            let why = "holds no image, or one that isn't whole; rpmbd format makes one";
+            said(alloc, image, why)
+        }
     }
 }
 
@@ -64,37 +82,28 @@ fn unwritten<W: Write>(alloc: Global, out: &mut W) -> Option<String> {
 /// memory is refused for the words.
 pub(crate) fn reason_of_end<D: Disk, W: Write>(
     alloc: Global,
-    paths: Paths<'_>,
-    board: &BoardConfig,
+    task: Task<'_>,
     fault: Fault,
     disk: Option<&D>,
     out: &mut W,
 ) -> Option<String> {
     match fault {
-        Fault::NotFormatted => unformatted(alloc, paths, board, disk),
+        Fault::NotFormatted => unformatted(alloc, task, disk),
         Fault::OtherConfig => {
             let why = "holds the image of a board with other guests or other capacities";
-            said(alloc, paths.image, why)
+            said(alloc, task.place(), why)
         }
-        Fault::DiskFault => said(alloc, paths.image, "a read, a write or a sync of it failed"),
-        Fault::BadScript { line } => format!(in alloc;
-            "{}: line {line} says nothing that a script may say; rpmb check says why",
-            paths.script
-        )
-        .ok(),
+        Fault::DiskFault => said(alloc, task.place(), "a read, a write or a sync of it failed"),
+        Fault::BadScript { .. } => misread(alloc, task),
         Fault::OutOfRange => {
-            said(
-                alloc,
-                paths.script,
-                "a store reaches beyond its guest's memory",
-            )
+            let why = "a store reaches beyond its guest's memory";
+            said(alloc, task.script_path(), why)
         }
         Fault::FileFault => unwritten(alloc, out),
-        Fault::HistoryFull => said(
-            alloc,
-            paths.board,
-            "2^64 - 1 requests are answered; run again",
-        ),
+        Fault::HistoryFull => {
+            let why = "a run answers no more than 2^64 - 1 requests; a new one goes on";
+            said(alloc, task.script_path(), why)
+        }
         _ => None,
     }
 }

@@ -97,9 +97,8 @@ pub fn read_board_file<R: Files + AllocGlobal>(
     let text = read_board_text(rt, path)?;
     match read_board(rt.alloc(), text.as_str()) {
         Ok(board) => Ok(board),
-        Err(BoardError::BadBoard) => {
-            let why = "is no board; rpmb check says why";
-            Err(Refusal::of_file(rt.alloc(), Fault::BadBoard, path, why))
+        Err(BoardError::BadBoard(flaw)) => {
+            Err(Refusal::of_file(rt.alloc(), Fault::BadBoard, path, flaw.as_str()))
         }
         Err(BoardError::NoMemory) => Err(Refusal::no_memory()),
     }

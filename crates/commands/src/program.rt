@@ -6,7 +6,7 @@ ghost use Rattle.commands.specs.Commands.{IsFormat, status_after};
 
 use crate::asking::ask_before_keys_go;
 use crate::command::perform;
-use crate::end_reason::{Paths, reason_of_end};
+use crate::end_reason::{Task, reason_of_end};
 use crate::fault::Fault;
 use crate::fault_lines::{report, report_refusal, write_reason};
 use crate::files::{read_board_file, read_image_board, read_script_text};
@@ -26,17 +26,6 @@ pub const REFUSED: u8 = 2;
 
 /// Room for the longest line, that of a reply of 8,192 bytes: two digits a byte, and 14 beside them.
 const LINE_ROOM: usize = 16_400;
-
-/// What a command works on, once its files are read.
-#[derive(Clone, Copy)]
-struct Task<'a> {
-    command: Command<'a>,
-    board: &'a BoardConfig,
-    /// The script's text; empty where the command has none.
-    script: &'a str,
-    /// The path of the image, where the board names one.
-    image: Option<&'a str>,
-}
 
 /// The status that tells how a command ended.
 fn status_after(ended: Result<(), Fault>) -> u8
@@ -61,16 +50,10 @@ fn perform_on<R: AllocGlobal + Threads + Wait + Sync, D: Disk + Send + Drop, W: 
         → (D.state disk).len ≡ image_length (capacities_of task.board.now) }
 {
     let mut err = rt.stderr();
-    let Task {
-        command,
-        board,
-        script,
-        image,
-    } = task;
-    let (ended, disk) = perform(threads, command, board, script, disk, out, &mut err);
+    let (command, board) = (task.command, task.board);
+    let (ended, disk) = perform(threads, command, board, task.script, disk, out, &mut err);
     if let Err(fault) = ended {
-        let paths = Paths::of(command, image);
-        let reason = reason_of_end(rt.alloc(), paths, board, fault, disk.as_ref(), out);
+        let reason = reason_of_end(rt.alloc(), task, fault, disk.as_ref(), out);
         write_reason(reason.as_ref(), &mut err);
     }
     (status_after(ended), disk)

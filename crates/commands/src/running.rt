@@ -41,7 +41,7 @@ fn read_lines(alloc: Global, script: &str, board: &BoardConfig) -> Result<Vec<Li
 {
     match read_script(alloc, script, board.guests().len() as u16) {
         Ok(lines) => Ok(lines),
-        Err(ScriptError::BadScript { line }) => Err(Fault::BadScript { line }),
+        Err(ScriptError::BadScript { line, .. }) => Err(Fault::BadScript { line }),
         Err(ScriptError::NoMemory) => Err(Fault::NoMemory),
     }
 }

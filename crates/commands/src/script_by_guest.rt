@@ -27,7 +27,7 @@ pub(crate) fn read_served(
 {
     match read_served_script(alloc, script, board.guests().len() as u16) {
         Ok(lines) => Ok(lines),
-        Err(ScriptError::BadScript { line }) => Err(Fault::BadScript { line }),
+        Err(ScriptError::BadScript { line, .. }) => Err(Fault::BadScript { line }),
         Err(ScriptError::NoMemory) => Err(Fault::NoMemory),
     }
 }

@@ -13,7 +13,7 @@ ghost use Rattle.machine.specs.Machine.{TellsFault};
 ghost use Rattle.machine.specs.Machine.{TellsRanges, WhereGuest, has_guest, is_awaited, kick_in};
 ghost use Rattle.machine.specs.Machine.{line_by, shown_in, stored, waits_for_sync, with_device};
 ghost use Rattle.machine.specs.Machine.{writes_in, written_in};
-ghost use Rattle.board.specs.State.{HasNoJob};
+ghost use Rattle.board.specs.State.{HasNoJob, owes};
 ghost use Rattle.machine.specs.Ending.{HasNoMore};
 ghost use Rattle.machine.specs.Settings.{device_after, is_plain, value_taken};
 
@@ -165,6 +165,14 @@ impl Machine {
             Some(device) => device.interrupt_status(),
             None => 0,
         }
+    }
+
+    /// Whether a chain of the guest was taken and isn't answered yet: what the guest waits for comes
+    /// by a serve, once the sync that is awaited was told. Not so of a guest that there isn't.
+    pub fn is_waiting(&self, guest: u16) -> bool
+        ensures { result ≡ owes guest self.now.board }
+    {
+        self.board.owes(guest)
     }
 
     /// Serves a guest: takes the chains that it offered, puts what they had accepted into the

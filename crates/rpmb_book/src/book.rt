@@ -299,6 +299,17 @@ impl Book {
         }
     }
 
+    /// How many replies of a guest are held until they may leave, at most 64; None for a guest that
+    /// the book lacks.
+    pub fn held(&self, guest: u16) -> Option<usize>
+        ensures { result ≡ option_map (λ g. length g.held) (guest_of self.now guest) }
+    {
+        match self.guests.get(usize::from(guest)) {
+            Some(known) => Some(known.held_len()),
+            None => None,
+        }
+    }
+
     /// What holds of every book, for proofs: it does nothing.
     pub fn what_always_holds(&self)
         // Each turn of the history is one that the book makes in the state where it stands.

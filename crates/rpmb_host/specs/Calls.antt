@@ -10,7 +10,7 @@ use Rattle.machine.specs.Ending.{HasNoMore}
 use Rattle.machine.specs.Machine.{Completes, Copies, IsInWindow, IsServed, MachineState}
 use Rattle.machine.specs.Machine.{TellsFault, TellsRanges, has_guest, is_awaited, kick_in, line_by}
 use Rattle.machine.specs.Machine.{shown_by, waits_for_sync, with_device, written_in}
-use Rattle.board.specs.State.{HasNoJob}
+use Rattle.board.specs.State.{HasNoJob, owes}
 use Rattle.machine.specs.Settings.{is_plain}
 use Rattle.machine.specs.Opening.{HasImageFault, HasOpeningFault, IsMonitored, length_of}
 use Rattle.machine.specs.declared.ranges.Range.{Range}
@@ -97,6 +97,10 @@ pub record TellsBytes (guest at count number : ℕ) (m : MachineState) : Type 0 
   pub outside : has_guest m guest ≡ true → 0 < number → number ≡ 2
 
 -- the guest's InterruptStatus; 0 where there is no such guest
+-- whether a chain of the guest was taken and isn't answered yet
+abbrev pub Waits : (guest waits : ℕ) → Fact
+Waits guest waits m = waits ≡ flag (owes guest m.board)
+
 abbrev pub Interrupts : (guest status : ℕ) → Fact
 Interrupts guest status m = status ≡ line_by (slice_get m.board.devices guest)
 

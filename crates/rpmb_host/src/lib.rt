@@ -7,7 +7,7 @@ ghost use Rattle.machine.specs.Opening.{HasOpeningFault, IsFresh, IsOpened};
 ghost use Rattle.rpmb_host.specs.Calls.{Answered, Awaits, Between, Fails, Faults, Fills};
 ghost use Rattle.rpmb_host.specs.Calls.{Gives, GivesNone, Holds, Interrupts, Kicks, Loads, Reads};
 ghost use Rattle.rpmb_host.specs.Calls.{Refuses, RefusesImage, RefusesOpening, Rests, Serves};
-ghost use Rattle.rpmb_host.specs.Calls.{Spans, Stores, Syncs, Takes, TellsBytes, Writes};
+ghost use Rattle.rpmb_host.specs.Calls.{Spans, Stores, Syncs, Takes, TellsBytes, Waits, Writes};
 ghost use Rattle.rpmb_host.specs.Calls.{WritesPlainly};
 ghost use Rattle.rpmb_host.specs.Guests.{window_of};
 
@@ -266,6 +266,19 @@ pub extern "C" fn rpmb_completed(alloc: Global, host: &mut Handle, succeeded: u3
         Ok(()) => 0,
         Err(fault) => fault_number(fault),
     }
+}
+
+/// Whether the guest waits for an answer: 1 where it does, else 0.
+#[unsafe(no_mangle)]
+pub extern "C" fn rpmb_waiting(alloc: Global, host: &mut Handle, guest: u16) -> u32
+    requires { is_some host.old.value ≡ true }
+    ensures waits { Holds host.old.value (Waits guest result) }
+    ensures unchanged { host.new.value ≡ host.old.value }
+{
+    let machine = take(alloc, host);
+    let waits = machine.is_waiting(guest);
+    put(host, machine);
+    u32::from(waits)
 }
 
 /// The guest's InterruptStatus.
