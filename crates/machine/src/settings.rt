@@ -79,10 +79,7 @@ impl Window {
     }
 
     /// What a driver reads at an offset from its device's base.
-    #[tactic(auto, unfolding(
-        crate::specs::Settings::value_shown,
-        crate::specs::Settings::is_plain
-    ))]
+    #[tactic(auto, unfolding(crate::specs::Settings::value_shown, crate::specs::Settings::is_plain))]
     pub(crate) fn read(&self, device: &Device, offset: u32, width: u8) -> u32
         ensures value { result ≡ value_shown self.now device.now offset width }
         ensures plain { is_plain self.now ≡ true → result ≡ read_value device.now offset width }
@@ -107,10 +104,7 @@ impl Window {
     }
 
     /// What the device gets where its driver writes this value.
-    #[tactic(auto, unfolding(
-        crate::specs::Settings::value_taken,
-        crate::specs::Settings::is_plain
-    ))]
+    #[tactic(auto, unfolding(crate::specs::Settings::value_taken, crate::specs::Settings::is_plain))]
     pub(crate) fn taken(&self, device: &Device, offset: u32, width: u8, value: u32) -> u32
         ensures value { result ≡ value_taken self.now device.now offset width value }
         ensures plain { is_plain self.now ≡ true → result ≡ value }

@@ -63,11 +63,7 @@ fn found_after(answered: u16) -> Look
 ///
 /// `NoMemory` where memory was refused; `HistoryFull` where 2^64 - 1 jobs were answered. A job that
 /// the book refused stays in the guest's place, and the next look takes it first.
-#[tactic(auto, using(
-    crate::proofs::Looks::share_then,
-    crate::proofs::Looks::add_one,
-    crate::proofs::Looks::looks_all
-))]
+#[tactic(auto, using(crate::proofs::Looks::share_then, crate::proofs::Looks::add_one, crate::proofs::Looks::looks_all))]
 pub fn look_on<D: Disk>(board: &mut Board<D>, guest: u16, times: u16) -> Result<Look, HostFault>
     requires calm { IsCalm D.state board.old }
     requires there { guest < length board.old.devices }

@@ -25,48 +25,16 @@ use Rattle.flusher.proofs.Lookups.{given_region}
 use Rattle.flusher.proofs.Pending.{pending_grows, pending_settles, pending_stays, write_keeps}
 use Rattle.flusher.proofs.Table.{region_moved, region_synced}
 use Rattle.flusher.proofs.UnderWay.{as_many_under_way, under_way_by_guest}
+use Rattle.board.proofs.Headers.{header_still, header_twice}
 use Rattle.board.proofs.Moving.{ended, failed_round, shown_round}
+use Rattle.workers.proofs.InTurn.{done_after, more_in_turn, next_done, rest_in_turn, two_more}
 use Rattle.workers.specs.Keeping.{AreNext, ComesNext, IsAfterSome, IsAhead, IsInTurn, Keeps, KeeperState, LeavesWhole, LetsKey, Reaches, after_all, to_keep}
 
 pub if_ok_weaker : {X E : Type 0} {P Q : X → Type 0} (r : Result X E) → ((x : X) → P x → Q x) → IfOk r P → IfOk r Q
 if_ok_weaker (Ok x) f is = f x is
 if_ok_weaker (Err e) f is = tt
 
--- 1. Intents one after another
-
--- the next of them is done
-next_done : (p : Part) (n : ℕ) (xs rest : List Intent) (i : Intent) → drop n xs ≡ i ∷ rest
-    → (suc n ≤ length xs) × (after_all p (take (suc n) xs) ≡ after (after_all p (take n xs)) i.group) × (drop (suc n) xs ≡ rest)
-next_done p zero [] rest i is = absurd (cc)
-next_done p zero (x ∷ xs) rest i is = (let same : x ≡ i = cc in let others : xs ≡ rest = cc in (omega arith, ap (λ (v : Intent). after p v.group) same, others))
-next_done p (suc n) [] rest i is = absurd (cc)
-next_done p (suc n) (x ∷ xs) rest i is = (let one = next_done (after p x.group) n xs rest i is in let within = one.0 in (omega (arith, within), one.1, one.2))
-
--- one more comes next after them
-more_in_turn : (g size : ℕ) (p : Part) (xs : List Intent) (i : Intent) → AreNext g size p xs → ComesNext g size (after_all p xs) i → AreNext g size p (xs ++ i ∷ [])
-more_in_turn g size p [] i all next = (next, tt)
-more_in_turn g size p (x ∷ xs) i all next = (all.0, more_in_turn g size (after p x.group) xs i all.1 next)
-
-rest_in_turn : (g size : ℕ) (p : Part) (n : ℕ) (xs : List Intent) → AreNext g size p xs → AreNext g size (after_all p (take n xs)) (drop n xs)
-rest_in_turn g size p zero xs all = all
-rest_in_turn g size p (suc n) [] all = tt
-rest_in_turn g size p (suc n) (x ∷ xs) all = rest_in_turn g size (after p x.group) n xs all.1
-
-pub done_after : (p : Part) (xs ys : List Intent) → after_all p (xs ++ ys) ≡ after_all (after_all p xs) ys
-done_after p [] ys = refl
-done_after p (x ∷ xs) ys = done_after (after p x.group) xs ys
-
-one_more : (g size : ℕ) (p : Part) (i : Intent) → ComesNext g size p i → sequence_of_part (after p i.group) ≡ sequence_of_part p + length i.group.entries
-one_more g size p i next = (let one = next.fits.one in let first = next.follows in omega (arith, one, first))
-
--- the sequence once two slots are done
-two_more : (g size : ℕ) (p : Part) (a b : Option Intent) → AreNext g size p (listed a ++ listed b) → sequence_of_part (after_all p (listed a ++ listed b)) ≡ sequence_of_part p + length (entries_in a) + length (entries_in b)
-two_more g size p None None all = omega arith
-two_more g size p None (Some j) all = (let one = one_more g size p j all.0 in omega (arith, one))
-two_more g size p (Some i) None all = (let one = one_more g size p i all.0 in omega (arith, one))
-two_more g size p (Some i) (Some j) all = (let one = one_more g size p i all.0 in let two = one_more g size (after p i.group) j all.1.0 in omega (arith, one, two))
-
--- 2. One guest
+-- 1. One guest
 
 pub ahead_begins : (p : Part) (x : Guest) → IsAhead p x [] p x
 ahead_begins p x = record {
@@ -189,7 +157,7 @@ after_some p x given s y q a besides may marked = by (opening_of y) (pending_set
         let one = next_done p a.count (to_keep x given) (pending_intents (guest_after_sync y)) settled.0 (sym a.left ∙ settled.1) in
         some (suc a.count) one.0 (done ∙ ap (λ (v : Part). after v g) a.is ∙ ap (after (after_all p (take a.count (to_keep x given)))) (sym settled.2) ∙ sym one.1)
 
--- 3. All guests at a moment
+-- 2. All guests at a moment
 
 there : {X : Type 0} (xs : List X) (n : ℕ) → n < length xs → (y : X) × (slice_get xs n ≡ Some y)
 there xs n inside = elim (slice_get_cases xs n).1 [
@@ -237,7 +205,7 @@ whole_longer old parts before now more s all g x at c left =
     let r = more g in
     (w.0, w.1, some_longer (parts g) x (before g) r.0 (now g) (mark_of x) w.0 r.1 w.2)
 
--- 4. The store
+-- 3. The store
 
 -- what is given to one guest
 abbrev given_too : Intent → (ℕ → List Intent) → ℕ → List Intent
@@ -249,9 +217,6 @@ given_more i given g = by (g == i.guest)
     by : (b : Bool) → (rest : List Intent) × ((if b then given g ++ i ∷ [] else given g) ≡ given g ++ rest)
     by true = (i ∷ [], refl)
     by false = ([], sym (append-nil (given g)))
-
-front_on : (a b c : DiskState) → FrontStays a b → FrontStays b c → FrontStays a c
-front_on a b c first second k below = (let one = first k below in let two = second k below in (two.0 ∙ one.0, λ old. two.1 (one.1 old)))
 
 room_of : (guests : List Guest) (g : ℕ) (x : Guest) → slice_get guests g ≡ Some x → is_free guests g ≡ true → has_room x ≡ true
 unfolding is_free
@@ -272,7 +237,7 @@ module _ {D : Type 0} (shows : D → DiskState) (makes : D → DiskCall → D �
     faithful = refl;
     later = omega arith;
     cause = λ broken. inl broken;
-    front = λ known. Still s.store.disk (λ k below. (refl, λ old. old));
+    front = header_still shows makes s.store.disk s.store.disk refl;
     reaches = λ parts held. record {
       given = λ g. [];
       settled = parts;
@@ -401,9 +366,7 @@ module _ {D : Type 0} (shows : D → DiskState) (makes : D → DiskCall → D �
           faithful = shown.faithful ∙ k.faithful;
           later = omega (arith, first, second);
           cause = λ broken. inr (risen (shows old.store.disk) (shows mid.store.disk) (shows new.store.disk) first second (failed_round shows makes effect result mid.store.disk mid.store.guests new.store.disk new.store.guests new.store.broken round broken));
-          front = λ known. (let before = k.front known in within_more shows makes (FrontStays (shows old.store.disk)) old.store.disk mid.store.disk new.store.disk before
-              (within_weaker shows makes (FrontStays (shows mid.store.disk)) (FrontStays (shows old.store.disk)) mid.store.disk new.store.disk
-              (λ s. front_on (shows old.store.disk) (shows mid.store.disk) s (within_end shows makes (FrontStays (shows old.store.disk)) old.store.disk mid.store.disk before)) (front (k.faithful ∙ known))));
+          front = header_twice shows makes old.store.disk mid.store.disk new.store.disk k.faithful k.front front;
           reaches = λ parts held. (let r = k.reaches parts held in record {
             given = r.given;
             settled = parts_after result mid.store.guests r.settled;

@@ -162,9 +162,10 @@ GoesOn answers next Rest answers' next' = (answers' ≡ answers) × (next' ≡ n
 GoesOn answers next End answers' next' = (answers ≤ answers') × (next ≤ next')
 
 -- A step: it looks for the answer to its oldest chain, and then at its next order. What it did says
--- whether it goes on.
-pub record Steps (script : List Order) (old : At) (guest : Guest) (next : Next) (new : At)
-    (guest' : Guest) : Type 0 where
+-- whether it goes on. The device is that of the guest of this number.
+pub record Steps (number : ℕ) (script : List Order) (old : At) (guest : Guest) (next : Next)
+    (new : At) (guest' : Guest) : Type 0 where
+  pub own : guest.device.guest ≡ number
   pub answered : Bool
   pub taken : Bool
   pub between : At
@@ -186,26 +187,32 @@ pub record Move : Type 0 where
   pub to : At
   pub guest' : Guest
 
--- these steps of a script, one after another
-abbrev pub Went : List Order → At → List Move → At → Type 0
-Went script from [] to = to ≡ from
-Went script from (m ∷ moves) to =
-    Steps script from m.guest m.next m.to m.guest' × Went script m.to moves to
+-- these steps of a guest's script, one after another
+abbrev pub Went : ℕ → List Order → At → List Move → At → Type 0
+Went number script from [] to = to ≡ from
+Went number script from (m ∷ moves) to =
+    Steps number script from m.guest m.next m.to m.guest' × Went number script m.to moves to
 
--- steps of a script led from one to the other
-pub record GoesTo (script : List Order) (from to : At) : Type 0 where
+-- steps of a guest's script led from one to the other
+pub record GoesTo (number : ℕ) (script : List Order) (from to : At) : Type 0 where
   pub moves : List Move
-  pub went : Went script from moves to
+  pub went : Went number script from moves to
 
--- A driver ran its script: it negotiated with its device, and went by steps, from what that told,
--- to the end of the script. Each chain of it has its answer.
-pub record Ran (script : List Order) (answers : List Answer) : Type 0 where
+-- A driver found the device of the guest of this number, and negotiated with it.
+pub record Finds (number : ℕ) (stuck : Option Stuck) : Type 0 where
   pub found : Guest
   pub guest : Guest
+  pub own : found.device.guest ≡ number
+  pub begins : IsBegun found guest stuck
+
+-- A driver ran its script: it negotiated with the device of its own guest, whose number this is,
+-- and went by steps on that guest's device, from what that told, to the end of the script. Each
+-- chain of it has its answer.
+pub record Ran (number : ℕ) (script : List Order) (answers : List Answer) : Type 0 where
   pub first : Option Stuck
   pub last : At
-  pub begins : IsBegun found guest first
-  pub goes : GoesTo script (begun first) last
+  pub begins : Finds number first
+  pub goes : GoesTo number script (begun first) last
   pub whole : last.next ≡ length script
   pub none : last.outstanding ≡ 0
   pub told : last.answers ≡ answers

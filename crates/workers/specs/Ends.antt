@@ -16,17 +16,18 @@ abbrev pub fault_in : Result Bool HostFault → Option HostFault
 fault_in (Ok complete) = None
 fault_in (Err fault) = Some fault
 
--- a driver that came to the end of its script ran it
-pub record LeavesAll (complete : Bool) (answers : List Answer) (script : List Order) : Type 0 where
-  pub ran : complete ≡ true → Ran script answers
+-- a driver of this guest that came to the end of its script ran it
+pub record LeavesAll (number : ℕ) (complete : Bool) (answers : List Answer) (script : List Order)
+    : Type 0 where
+  pub ran : complete ≡ true → Ran number script answers
 
--- the same of each driver and its script
+-- the same of each guest's driver and its script
 abbrev pub Left : List DriverEnd → List (List Order) → Type 0
 Left ends scripts = (i : ℕ) (d : DriverEnd) → i < length scripts
-    → LeavesAll (slice_index_or ends i d).complete (slice_index_or ends i d).answers.items
+    → LeavesAll i (slice_index_or ends i d).complete (slice_index_or ends i d).answers.items
     (slice_index_or scripts i [])
 
--- each driver ran its script
+-- each guest's driver ran its script
 abbrev pub HaveAll : List DriverEnd → List (List Order) → Type 0
 HaveAll ends scripts = (i : ℕ) (d : DriverEnd) → i < length scripts
-    → Ran (slice_index_or scripts i []) (slice_index_or ends i d).answers.items
+    → Ran i (slice_index_or scripts i []) (slice_index_or ends i d).answers.items

@@ -1,5 +1,6 @@
 //! The threads of a scope: started, run to their end, and joined.
-ghost use Rattle.std.specs.Prelude.{◌≡◌, ◌<◌, ℕ, [], IfOk, vec_len, slice_index_or, length, map};
+ghost use Rattle.std.specs.Prelude.{◌≡◌, ◌<◌, ℕ, [], IfOk, IfSome, vec_len, slice_index_or, length};
+ghost use Rattle.std.specs.Prelude.{map};
 ghost use Rattle.workers.specs.Crew.{guests_of};
 ghost use Rattle.workers.specs.Following.{Follow};
 ghost use Rattle.workers.specs.Keeping.{IsHeard, KeepsOn, LeftBy};
@@ -33,10 +34,16 @@ pub(crate) struct Hall<L: Ledger> {
 }
 
 impl<L: Ledger> Hall<L> {
-    /// What a guest's threads share with others.
-    fn seat(&self, number: usize) -> Option<Seat<'_, L>> {
+    /// What the threads of the guest of this number share with others.
+    fn seat(&self, number: usize) -> Option<Seat<'_, L>>
+        ensures { IfSome result (λ s. s.number ≡ number) }
+    {
+        let Ok(named) = u16::try_from(number) else {
+            return None;
+        };
         let guest = self.guests.get(number)?;
         Some(Seat {
+            number: named,
             guest,
             desk: &self.desk,
             bell: &self.bell,
@@ -54,12 +61,12 @@ impl<L: Ledger> Promise<Worker<L>> for OfGuest {
     ghost kept_by = { λ p w. w.backlog.tally.guest ≡ p.0 };
 }
 
-/// A driver of this script.
+/// A driver of the guest of this number, and of this script.
 #[derive(Drop)]
-pub(crate) struct OfScript(Snapshot<Script>);
+pub(crate) struct OfScript(u16, Snapshot<Script>);
 
 impl Promise<DriverEnd> for OfScript {
-    ghost kept_by = { λ p e. LeavesAll e.complete e.answers.items p.0.value };
+    ghost kept_by = { λ p e. LeavesAll p.0 e.complete e.answers.items p.1.value };
 }
 
 /// The end of this flusher.
@@ -115,10 +122,12 @@ fn start_driver<'s, E, L: Ledger + Send + Sync, R: Wait + Sync>(
     seat: Seat<'s, L>,
     script: &'s Script,
 ) -> Result<PromisedHandle<DriverEnd, OfScript>, HostFault>
-    ensures { IfOk result (λ h. h.promise.0.value ≡ script.now) }
+    ensures { IfOk result (λ h. (h.promise.0 ≡ seat.entry.number)
+        × (h.promise.1.value ≡ script.now)) }
 {
     let orders = script.orders();
     let Seat {
+        number,
         guest,
         desk: _,
         bell,
@@ -126,10 +135,10 @@ fn start_driver<'s, E, L: Ledger + Send + Sync, R: Wait + Sync>(
         worker,
     } = seat;
     let started = scope.spawn_with(
-        OfScript(Snapshot::of(script)),
+        OfScript(number, Snapshot::of(script)),
         move || -> DriverEnd
-            ensures { LeavesAll result.complete result.answers.items orders.entry.now }
-        { drive(rt, alloc, guest, bell, me, worker, orders) },
+            ensures { LeavesAll number result.complete result.answers.items orders.entry.now }
+        { drive(rt, alloc, number, guest, bell, me, worker, orders) },
     );
     match started {
         Ok(handle) => Ok(handle),
@@ -205,7 +214,8 @@ fn start_drivers<'s, E, L: Ledger + Send + Sync, R: Wait + Sync>(
 ) -> Result<Vec<PromisedHandle<DriverEnd, OfScript>>, HostFault>
     ensures len { IfOk result (λ v. vec_len v ≡ length scripts.now) }
     ensures each { IfOk result (λ v. (i : ℕ) (d : _) → i < length scripts.now
-        → slice_index_or scripts.now i [] ≡ (slice_index_or v.items i d).promise.0.value) }
+        → ((slice_index_or v.items i d).promise.0 ≡ i)
+        × (slice_index_or scripts.now i [] ≡ (slice_index_or v.items i d).promise.1.value)) }
 {
     let mut started = Vec::new(alloc);
     for i in 0..scripts.len() {
@@ -244,8 +254,9 @@ fn start_all<
         ≡ guests_of workers.items) }
     ensures drivers { IfOk result (λ s. vec_len s.drivers ≡ length scripts.now) }
     ensures each { IfOk result (λ s. (i : ℕ) (d : _) → i < length scripts.now
-        → slice_index_or scripts.now i []
-        ≡ (slice_index_or s.drivers.items i d).promise.0.value) }
+        → ((slice_index_or s.drivers.items i d).promise.0 ≡ i)
+        × (slice_index_or scripts.now i []
+        ≡ (slice_index_or s.drivers.items i d).promise.1.value)) }
     ensures flusher { IfOk result (λ s. s.flusher.promise.0.value ≡ flusher) }
 {
     let workers = start_workers(scope, rt, alloc, hall, gate, workers)?;
@@ -266,8 +277,9 @@ fn join_all<L: Ledger, D: Disk + Drop, R: Threads>(
 ) -> Result<Crew<L, D>, HostFault>
     requires len { vec_len started.drivers ≡ length scripts.now }
     requires each { (i : ℕ) (d : _) → i < length scripts.now
-        → slice_index_or scripts.now i []
-        ≡ (slice_index_or started.drivers.items i d).promise.0.value }
+        → ((slice_index_or started.drivers.items i d).promise.0 ≡ i)
+        × (slice_index_or scripts.now i []
+        ≡ (slice_index_or started.drivers.items i d).promise.1.value) }
     ensures workers { IfOk result (λ c. vec_len c.workers ≡ vec_len started.workers) }
     ensures guests { IfOk result (λ c. guests_of c.workers.items
         ≡ map (λ h. h.promise.0) started.workers.items) }

@@ -1,6 +1,6 @@
 //! What a guest's driver does: it offers the chains of its script, and answers each.
 ghost use Rattle.std.specs.Prelude.{◌≡◌, IfOk, OnOk, Ok, Some, true, length, slice_get, vec_len};
-ghost use Rattle.workers.specs.Driving.{Answers, Drives, GoesOn, GoesTo, Offers, OffersBy};
+ghost use Rattle.workers.specs.Driving.{Answers, Drives, Finds, GoesOn, GoesTo, Offers, OffersBy};
 ghost use Rattle.workers.specs.Driving.{Steps, TakesOrder, at, begun};
 ghost use Rattle.workers.specs.Ends.{LeavesAll, completes, fault_in};
 ghost use Rattle.workers.specs.Orders.{chains_in};
@@ -96,8 +96,9 @@ impl<'a> Driver<'a> {
         Ok(true)
     }
 
-    /// One answer, and one order.
-    fn step(&mut self, guest: &mut Guest) -> Result<Next, HostFault>
+    /// One answer, and one order, of the guest of this number; of another one's device it is
+    /// `Foreign`.
+    fn step(&mut self, number: u16, guest: &mut Guest) -> Result<Next, HostFault>
         ensures script { self.new.script ≡ self.old.script }
         ensures drives { IfOk result (λ next.
             Drives (vec_len self.old.answers) self.old.next next (vec_len self.new.answers)
@@ -105,8 +106,12 @@ impl<'a> Driver<'a> {
         ensures end { result ≡ Ok Next.End
             → (self.new.next ≡ length self.new.script.now) × (self.new.outstanding ≡ 0) }
         ensures steps { IfOk result (λ next.
-            Steps self.old.script.now (at self.old) guest.old next (at self.new) guest.new) }
+            Steps number self.old.script.now (at self.old) guest.old next (at self.new)
+            guest.new) }
     {
+        if guest.number() != number {
+            return Err(HostFault::Foreign);
+        }
         let reaped = self.reap(guest)?;
         let offered = self.offer(guest)?;
         if reaped || offered {
@@ -121,18 +126,19 @@ impl<'a> Driver<'a> {
 
     /// One look for work, under one lock: answers and orders as long as there are some.
     #[tactic(auto, using(crate::proofs::Going::nowhere, crate::proofs::Going::one_more))]
-    fn turn(&mut self, rt: &impl Wait, guest: &Mutex<Guest>) -> Result<Next, HostFault>
+    fn turn(&mut self, rt: &impl Wait, number: u16, guest: &Mutex<Guest>) -> Result<Next, HostFault>
         ensures script { self.new.script ≡ self.old.script }
         ensures goes_on { IfOk result (λ next.
             GoesOn (vec_len self.old.answers) self.old.next next (vec_len self.new.answers)
             self.new.next) }
         ensures end { result ≡ Ok Next.End
             → (self.new.next ≡ length self.new.script.now) × (self.new.outstanding ≡ 0) }
-        ensures goes { OnOk result (GoesTo self.old.script.now (at self.old) (at self.new)) }
+        ensures goes { OnOk result
+            (GoesTo number self.old.script.now (at self.old) (at self.new)) }
     {
         let mut held = guest.lock(rt);
         for i in 0..PLACES {
-            match self.step(&mut held)? {
+            match self.step(number, &mut held)? {
                 Next::Again => {}
                 Next::Rest => return Ok(if i == 0 { Next::Rest } else { Next::Again }),
                 Next::End => return Ok(Next::End),
@@ -146,6 +152,7 @@ impl<'a> Driver<'a> {
     fn work<R: Wait>(
         &mut self,
         rt: &R,
+        number: u16,
         guest: &Mutex<Guest>,
         bell: &Bell,
         me: Actor,
@@ -154,14 +161,15 @@ impl<'a> Driver<'a> {
         ensures script { self.new.script ≡ self.old.script }
         ensures end { result ≡ Ok true
             → (self.new.next ≡ length self.new.script.now) × (self.new.outstanding ≡ 0) }
-        ensures goes { OnOk result (GoesTo self.old.script.now (at self.old) (at self.new)) }
+        ensures goes { OnOk result
+            (GoesTo number self.old.script.now (at self.old) (at self.new)) }
     {
         let mut rest = Rest::begin(rt, bell, me);
         for _ in rt.forever() {
             if rest.is_stopped() {
                 break;
             }
-            match self.turn(rt, guest)? {
+            match self.turn(rt, number, guest)? {
                 Next::Again => {
                     bell.ring(rt, worker);
                     rest.went_on(rt, bell);
@@ -173,27 +181,54 @@ impl<'a> Driver<'a> {
         Ok(false)
     }
 
-    /// Brings the device into service, and works. A fault stops all.
+    /// Brings the device into service. The number of the guest whose device it is.
+    fn begin(&mut self, rt: &impl Wait, guest: &Mutex<Guest>) -> u16
+        ensures script { (self.new.script ≡ self.old.script) × (self.new.next ≡ self.old.next)
+            × (self.new.outstanding ≡ self.old.outstanding)
+            × (self.new.answers ≡ self.old.answers) }
+        ensures finds { Finds result self.new.stuck }
+    {
+        let mut held = guest.lock(rt);
+        let number = held.number();
+        let in_service = held.begin();
+        self.renew(in_service);
+        number
+    }
+
+    /// Brings the device into service, and works. A fault stops all; so does a device that isn't
+    /// that of the guest of this number, at the latest at the script's end: the worker refuses its
+    /// first job.
     fn run<R: Wait>(
         mut self,
         rt: &R,
+        number: u16,
         guest: &Mutex<Guest>,
         bell: &Bell,
         me: Actor,
         worker: Actor,
     ) -> DriverEnd
         requires { at self ≡ begun self.stuck }
-        ensures { LeavesAll result.complete result.answers.items self.entry.script.now }
+        ensures { LeavesAll number result.complete result.answers.items self.entry.script.now }
     {
-        let in_service = guest.lock(rt).begin();
-        self.renew(in_service);
-        let worked = self.work(rt, guest, bell, me, worker);
+        let found = self.begin(rt, guest);
+        let worked = on_own(found, number, self.work(rt, found, guest, bell, me, worker));
         if worked.is_err() {
             bell.stop(rt);
         }
         guest.lock(rt).finish();
         bell.ring(rt, worker);
         end_of(self.into_answers(), worked)
+    }
+}
+
+/// How a driver of the guest of this number worked that found the device of that one.
+fn on_own(found: u16, number: u16, worked: Result<bool, HostFault>) -> Result<bool, HostFault>
+    ensures own { found ≡ number → result ≡ worked }
+    ensures foreign { OnOk result (found ≡ number) }
+{
+    match worked {
+        Ok(_) if found != number => Err(HostFault::Foreign),
+        worked => worked,
     }
 }
 
@@ -214,17 +249,19 @@ fn end_of(answers: Vec<Answer>, worked: Result<bool, HostFault>) -> DriverEnd
     }
 }
 
-/// Runs the script to its end, or until all are to end.
+/// Runs the script of the guest of this number to its end, or until all are to end. It is `Foreign`
+/// where the device is another guest's.
 pub(crate) fn drive<R: Wait>(
     rt: &R,
     alloc: Global,
+    number: u16,
     guest: &Mutex<Guest>,
     bell: &Bell,
     me: Actor,
     worker: Actor,
     script: &[Order],
 ) -> DriverEnd
-    ensures { LeavesAll result.complete result.answers.items script.now }
+    ensures { LeavesAll number result.complete result.answers.items script.now }
 {
-    Driver::new(alloc, script).run(rt, guest, bell, me, worker)
+    Driver::new(alloc, script).run(rt, number, guest, bell, me, worker)
 }
