@@ -1,6 +1,6 @@
 //! The command that says whether `rpmbd` reads a board file and a script.
 use crate::refusal::Refusal;
-use crate::source::{Source, text_of};
+use crate::source::{BOARD_FILE, SCRIPT_FILE, Source, text_of};
 use crate::words::Words;
 use flaws::{BoardVerdict, ScriptVerdict, judge_board, judge_script};
 use rpmb_client::OptionRefusal;
@@ -22,7 +22,7 @@ fn check_board<'a, S: Source>(
     source: &S,
     file: &'a str,
 ) -> Result<u16, Refusal<'a>> {
-    let text = text_of(alloc, source, file)?;
+    let text = text_of(alloc, source, file, BOARD_FILE)?;
     guests_of(alloc, file, text.as_str())
 }
 
@@ -45,7 +45,7 @@ fn check_script<'a, S: Source>(
     file: &'a str,
     guests: u16,
 ) -> Result<(), Refusal<'a>> {
-    let text = text_of(alloc, source, file)?;
+    let text = text_of(alloc, source, file, SCRIPT_FILE)?;
     check_text(alloc, file, text.as_str(), guests)
 }
 
