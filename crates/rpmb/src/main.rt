@@ -3,7 +3,7 @@
 
 use command_line::{GivenError, given_words};
 use rpmb_commands::{
-    Refusal, Source, SourceError, Words, WordsError, perform, read_file, read_words, report,
+    Refusal, Source, SourceError, Words, WordsError, is_file, perform, read_file, read_words, report,
 };
 use std::alloc::Global;
 use std::io::{BufReader, BufWriter};
@@ -21,8 +21,12 @@ struct System<'a> {
 impl<'a> Source for System<'a> {
     ghost gives = { λ source name bytes. Unit {0} };
 
-    fn content(&self, _alloc: Global, name: &str) -> Result<Vec<u8>, SourceError> {
-        read_file(self.rt, name)
+    fn content(&self, _alloc: Global, name: &str, most: usize) -> Result<Vec<u8>, SourceError> {
+        read_file(self.rt, name, most)
+    }
+
+    fn is_file(&self, name: &str) -> bool {
+        is_file(self.rt, name)
     }
 }
 

@@ -77,6 +77,13 @@ is_wrong reply key asked =
     let frames = frames_of reply in
     is_whole reply && (has_wrong_mac key frames || has_wrong_nonce asked frames)
 
+-- whether a frame has another result than OK, and a reply one of them
+abbrev pub has_refusal : List ℕ → Bool
+has_refusal frame = not (result_of frame == res_ok)
+
+unfoldable pub is_refused : List ℕ → Bool
+is_refused reply = is_whole reply && list_any has_refusal (frames_of reply)
+
 -- the last frame has the MAC of all of them; the others have zeros there
 abbrev pub mac_text : Bool → Option (List ℕ) → List (List ℕ) → List ℕ → List ℕ
 mac_text false key frames frame =

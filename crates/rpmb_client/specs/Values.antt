@@ -1,9 +1,11 @@
 -- The values that the words of a client's options say.
 use Rattle.std.specs.Prelude.{ℕ, ◌≡◌, ◌≢◌, ◌-◌, ◌==◌, ◌&&◌, ⊤, nat_le, not, if◌then◌else◌, List, []}
-use Rattle.std.specs.Prelude.{◌∷◌}
+use Rattle.std.specs.Prelude.{◌∷◌, Bool, false, take, true}
 use Rattle.std.specs.Prelude.{length, slice_index, slice_range, Option, Some, None, option_and_then}
 use Rattle.std.specs.Prelude.{Ok, Err}
+use Rattle.std.specs.List.{list_any}
 use Rattle.std.specs.Result.{result_ok}
+use Rattle.std.specs.Str.{bytes_eq}
 use Rattle.hex.specs.Hex.{decode_of}
 use Rattle.rpmb_frame.specs.Table.{first_row}
 use Rattle.script.specs.Words.{number_of}
@@ -57,8 +59,21 @@ digits_of content = slice_range content 0 (length content - end_length content)
 abbrev pub key_said : List ℕ → Option (List ℕ)
 key_said content = if length content == 32 then None else array_said 32 (digits_of content)
 
--- why the content of a file says no key
+-- a byte order mark before a text, and a line feed in it
+abbrev pub has_mark : List ℕ → Bool
+has_mark content = bytes_eq (take 3 content) (239 ∷ 187 ∷ 191 ∷ [])
+
+abbrev pub has_line_feed : List ℕ → Bool
+has_line_feed digits = list_any (λ b. b == 10) digits
+
+-- why the content of a file says no key: the first that is so
 abbrev pub IsWhyNoKey : List ℕ → KeyFault → Type 0
 IsWhyNoKey content key_fault.RawKey = length content ≡ 32
+IsWhyNoKey content key_fault.ByteOrderMark =
+    (length content ≢ 32) × (has_mark content ≡ true)
+IsWhyNoKey content key_fault.SecondLine =
+    (length content ≢ 32) × (has_mark content ≡ false)
+    × (has_line_feed (digits_of content) ≡ true)
 IsWhyNoKey content (key_fault.BadDigits why) =
-    (length content ≢ 32) × IsWhyNot 32 (digits_of content) why
+    (length content ≢ 32) × (has_mark content ≡ false)
+    × (has_line_feed (digits_of content) ≡ false) × IsWhyNot 32 (digits_of content) why

@@ -23,7 +23,7 @@ pub use chain::write_chain;
 pub use choosing::{Choice, find_answer};
 pub use explaining::{explain, kind_text, result_text};
 pub use fault::ClientFault;
-pub use judging::is_wrong;
+pub use judging::{is_refused, is_wrong};
 pub use keys::{GuestKey, Keys, key_at};
 pub use lines::{
     Writer, write_all, write_program_key, write_read, write_read_counter, write_result,

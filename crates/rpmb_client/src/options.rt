@@ -92,6 +92,8 @@ fn refused_file<'a>(file: &'a str, fault: KeyFault) -> OptionRefusal<'a>
 {
     match fault {
         KeyFault::RawKey => OptionRefusal::RawKey(file),
+        KeyFault::ByteOrderMark => OptionRefusal::ByteOrderMark(file),
+        KeyFault::SecondLine => OptionRefusal::SecondLine(file),
         KeyFault::BadDigits(ValueFault::NoMemory) => OptionRefusal::NoMemory,
         KeyFault::BadDigits(ValueFault::BadHex(why)) => OptionRefusal::BadHexFile(file, why),
         KeyFault::BadDigits(ValueFault::BadLength(count)) => OptionRefusal::BadKeyFile(file, count),

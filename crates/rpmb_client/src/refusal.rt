@@ -1,6 +1,22 @@
 //! Why the value of an option is refused.
 use hex::FromHexError;
+use std::fmt;
 use thiserror::Error;
+
+/// Why digits say no bytes, as it is told: of a letter that isn't ASCII no byte is shown as one.
+#[derive(Clone, Copy)]
+struct Told<'a>(&'a FromHexError);
+
+impl<'a> fmt::Display for Told<'a> {
+    fn fmt<W: fmt::Write>(&self, f: &mut fmt::Formatter<W>) -> fmt::Result {
+        match *self.0 {
+            FromHexError::InvalidHexCharacter { c, index } if !c.is_ascii() => {
+                write!(f, "A letter that isn't ASCII at position {index}")
+            }
+            why => write!(f, "{why}"),
+        }
+    }
+}
 
 /// What an option's number is of, told as its range.
 #[derive(Clone, Copy, Debug, Error)]
@@ -37,13 +53,17 @@ pub enum OptionRefusal<'a> {
     #[error("BadKey: expected 64 hex digits in the file {0:?}, got 32 bytes; \
          if these are the key itself, say @raw:FILE")]
     RawKey(&'a str),
+    #[error("BadKey: expected 64 hex digits in the file {0:?}, got a byte order mark before them")]
+    ByteOrderMark(&'a str),
+    #[error("BadKey: expected one line of 64 hex digits in the file {0:?}, got a second line feed")]
+    SecondLine(&'a str),
     #[error("BadKey: expected 32 bytes in the file {0:?}, got {1}")]
     BadRawKey(&'a str, usize),
     #[error("BadNonce: expected 16 bytes in hex digits, got {0}")]
     BadNonce(usize),
-    #[error("BadHex: expected two hex digits for each byte, got: {0}")]
+    #[error("BadHex: expected two hex digits for each byte, got: {why}", why = Told(.0))]
     BadHex(FromHexError),
-    #[error("BadHex: expected two hex digits for each byte in the file {0:?}, got: {1}")]
+    #[error("BadHex: expected two hex digits for each byte in the file {0:?}, got: {why}", why = Told(.1))]
     BadHexFile(&'a str, FromHexError),
     /// Memory was refused.
     #[error("NoMemory")]

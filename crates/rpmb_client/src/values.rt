@@ -3,7 +3,8 @@ ghost use Rattle.std.specs.Prelude.{◌≡◌, ◌⊎◌, ◌≤◌, Err, IfErr,
 ghost use Rattle.hex.specs.Hex.{decode_of};
 ghost use Rattle.hex.specs.declared.error.FromHexError.{FromHexError};
 ghost use Rattle.rpmb_client.specs.Values.{IsWhyNot, IsWhyNoKey, array_said, bytes_said, digits_of};
-ghost use Rattle.rpmb_client.specs.Values.{end_length, key_said, number_said, sized_said};
+ghost use Rattle.rpmb_client.specs.Values.{end_length, has_line_feed, has_mark, key_said};
+ghost use Rattle.rpmb_client.specs.Values.{number_said, sized_said};
 
 use hex::FromHexError;
 use script::read_number;
@@ -30,6 +31,12 @@ pub enum KeyFault {
     /// It has 32 bytes, which may be a key itself, and so are never taken for its digits.
     #[error("RawKey")]
     RawKey,
+    /// A byte order mark stands before its digits.
+    #[error("ByteOrderMark")]
+    ByteOrderMark,
+    /// A line feed stands in it that isn't its last byte.
+    #[error("SecondLine")]
+    SecondLine,
     /// It hasn't just the digits of 32 bytes, behind which a line may end.
     #[error("BadDigits")]
     BadDigits(ValueFault),
@@ -114,8 +121,21 @@ pub fn digits_of(content: &[u8]) -> &[u8]
     &content[..content.len() - end_length(content)]
 }
 
+/// Whether a text begins with a byte order mark.
+fn has_mark(content: &[u8]) -> bool
+    ensures { result ≡ has_mark content.now }
+{
+    matches!(content, [0xef, 0xbb, 0xbf, ..])
+}
+
+fn has_line_feed(digits: &[u8]) -> bool
+    ensures { result ≡ has_line_feed digits.now }
+{
+    digits.iter().any(|byte| *byte == b'\n')
+}
+
 /// The key in a file: its 64 hex digits, behind which a line may end. A file of 32 bytes is
-/// refused.
+/// refused, and one with a byte order mark or a second line feed by that name.
 pub fn key_in_file(alloc: Global, content: &[u8]) -> Result<[u8; 32], KeyFault>
     ensures ok { IfOk result (λ key. key_said content.now ≡ Some key) }
     ensures err { IfErr result (IsWhyNoKey content.now) }
@@ -123,7 +143,14 @@ pub fn key_in_file(alloc: Global, content: &[u8]) -> Result<[u8; 32], KeyFault>
     if content.len() == 32 {
         return Err(KeyFault::RawKey);
     }
-    match array_of(alloc, digits_of(content)) {
+    if has_mark(content) {
+        return Err(KeyFault::ByteOrderMark);
+    }
+    let digits = digits_of(content);
+    if has_line_feed(digits) {
+        return Err(KeyFault::SecondLine);
+    }
+    match array_of(alloc, digits) {
         Ok(key) => Ok(key),
         Err(fault) => Err(KeyFault::BadDigits(fault)),
     }

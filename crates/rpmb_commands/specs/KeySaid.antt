@@ -51,9 +51,11 @@ SaysKey gives (Some said) key = SaysKeyIn gives said.now key
 
 -- 3. Why there is none
 
--- why a file gives nothing
-abbrev pub IsWhyNoContent : Bor (List ℕ) → Refusal → Type 0
-IsWhyNoContent name r = (r ≡ refusal.NoFile name) ⊎ (r ≡ refusal.NoMemory)
+-- why a file gives nothing, of which at most so many bytes are wanted
+pub data IsWhyNoContent (name : Bor (List ℕ)) (most : ℕ) (r : Refusal) : Type 0 where
+  content_file : r ≡ refusal.NoFile name → IsWhyNoContent name most r
+  content_length : r ≡ refusal.TooLong name most → IsWhyNoContent name most r
+  content_memory : r ≡ refusal.NoMemory → IsWhyNoContent name most r
 
 -- an option's refusal, for such a reason
 pub record IsRefusedFor (Why : OptionRefusal → Type 0) (r : Refusal) : Type 0 where
@@ -61,21 +63,27 @@ pub record IsRefusedFor (Why : OptionRefusal → Type 0) (r : Refusal) : Type 0 
   pub refused : r ≡ refusal_of told
   pub why : Why told
 
+-- the digits are wrong, and are told so, or as the name of a file
+pub data IsWhyNoKeyDigits (digits : Bor (List ℕ)) (r : Refusal) : Type 0 where
+  digits_wrong : IsRefusedFor (IsWhyNoDigits digits.now) r → IsWhyNoKeyDigits digits r
+  digits_file : (told : OptionRefusal) → IsWhyNoDigits digits.now told
+      → r ≡ refusal.FileName digits → IsWhyNoKeyDigits digits r
+
 -- the file isn't read, or has no key
 pub data IsWhyNoKeyFile (gives : List ℕ → List ℕ → Type 0) (name : Bor (List ℕ)) (r : Refusal)
     : Type 0 where
-  file_unread : IsWhyNoContent name r → IsWhyNoKeyFile gives name r
+  file_unread : IsWhyNoContent name 128 r → IsWhyNoKeyFile gives name r
   file_no_key : (content : List ℕ) → gives name.now content → IsRefusedFor (IsWhyNoKey name content) r
       → IsWhyNoKeyFile gives name r
 
 pub data IsWhyNoRawKeyFile (gives : List ℕ → List ℕ → Type 0) (name : Bor (List ℕ)) (r : Refusal)
     : Type 0 where
-  raw_unread : IsWhyNoContent name r → IsWhyNoRawKeyFile gives name r
+  raw_unread : IsWhyNoContent name 128 r → IsWhyNoRawKeyFile gives name r
   raw_no_key : (content : List ℕ) → gives name.now content
       → IsRefusedFor (IsWhyNoRawKey name content) r → IsWhyNoRawKeyFile gives name r
 
 abbrev pub IsWhyNot : (List ℕ → List ℕ → Type 0) → KeyWord → Refusal → Type 0
-IsWhyNot gives (word.Digits digits) r = IsRefusedFor (IsWhyNoDigits digits.now) r
+IsWhyNot gives (word.Digits digits) r = IsWhyNoKeyDigits digits r
 IsWhyNot gives (word.File name) r = IsWhyNoKeyFile gives name r
 IsWhyNot gives (word.RawFile name) r = IsWhyNoRawKeyFile gives name r
 

@@ -4,6 +4,7 @@ use Rattle.std.specs.Str.{bytes_eq}
 use Rattle.std.specs.Io.KnownBytes.{Keeps}
 use Rattle.rpmb_frame.specs.Table.{first_row}
 use Rattle.rpmb_commands.specs.Making.{ProgramKeyDoes, ReadCounterDoes, ReadDoes, ResultDoes}
+use Rattle.rpmb_commands.specs.Refusing.{refusal_status}
 use Rattle.rpmb_commands.specs.Writing.{WriteDoes}
 use Rattle.rpmb_commands.specs.declared.asked.Asked.{Asked}
 use Rattle.rpmb_commands.specs.declared.asked.Asked.TheVariants as asked
@@ -42,7 +43,7 @@ after_flush false (Err r) = Err r
 
 abbrev pub status_of : Result (Unit {0}) Refusal → ℕ
 status_of (Ok done) = 0
-status_of (Err r) = 1
+status_of (Err r) = refusal_status r
 
 -- A command was performed, and its end told by a status.
 pub record Performs (gives : List ℕ → List ℕ → Type 0) (words : Words) (start : Option (List ℕ))

@@ -29,7 +29,7 @@ SaysContent gives None None content = ⊥
 -- and why there are none
 abbrev pub IsWhyNoData : Option (Bor (List ℕ)) → Option (Bor (List ℕ)) → Refusal → Type 0
 IsWhyNoData (Some digits) None r = IsRefusedFor (IsWhyNoBytes digits.now) r
-IsWhyNoData None (Some name) r = IsWhyNoContent name r
+IsWhyNoData None (Some name) r = IsWhyNoContent name 16777216 r
 IsWhyNoData (Some digits) (Some name) r =
     (got : Bor (List ℕ)) × (r ≡ refusal.NoData got) × (got.now ≡ codes "both")
 IsWhyNoData None None r =

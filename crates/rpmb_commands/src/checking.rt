@@ -1,6 +1,6 @@
 //! The command that says whether `rpmbd` reads a board file and a script.
 use crate::refusal::Refusal;
-use crate::source::{Source, text_of};
+use crate::source::{BOARD_FILE, SCRIPT_FILE, Source, text_of};
 use crate::words::Words;
 use board_file::{BoardError, read_board};
 use rpmb_client::OptionRefusal;
@@ -23,7 +23,7 @@ fn check_board<'a, S: Source>(
     source: &S,
     file: &'a str,
 ) -> Result<u16, Refusal<'a>> {
-    let text = text_of(alloc, source, file)?;
+    let text = text_of(alloc, source, file, BOARD_FILE)?;
     guests_of(alloc, file, text.as_str())
 }
 
@@ -56,7 +56,7 @@ fn check_script<'a, S: Source>(
     file: &'a str,
     guests: u16,
 ) -> Result<(), Refusal<'a>> {
-    let text = text_of(alloc, source, file)?;
+    let text = text_of(alloc, source, file, SCRIPT_FILE)?;
     check_text(alloc, file, text.as_str(), guests)
 }
 

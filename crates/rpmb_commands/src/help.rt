@@ -60,10 +60,12 @@ pub const EXPLAIN: &str = "\
 Prints for each line `used G LEN HEX` of standard input a line for each frame of the\n\
 reply: its type, result and fields, whether the nonce is right (with --nonce) and whether\n\
 the MAC is (with --key), and a block in hex digits, and as text where it is one. Any other\n\
-line is printed as it is. Each is printed as it comes.\n\
+line is printed as it is; one that begins with `used` was torn, and (torn: ..) stands\n\
+behind it. Each is printed as it comes.\n\
 \n\
-Status: 0, or 1 where a MAC or a nonce was wrong or a value is refused, with a line on\n\
-standard error, or 2 for words that aren't understood.";
+Status: 0; 1 where a MAC or a nonce was wrong or a value is refused, 2 for words that\n\
+aren't understood, and 3 where an answer has another result than OK and none was wrong.\n\
+With 1 and 3 a line on standard error says why.";
 
 pub const READ_DATA: &str = "\
 Prints the bytes of the blocks that a read gave, and nothing else. Of several lines\n\

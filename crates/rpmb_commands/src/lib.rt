@@ -4,20 +4,21 @@
 
 mod asked;
 mod checking;
+mod explaining;
 mod grammar;
 mod help;
 mod keys;
 mod making;
 mod performing;
+mod read_data;
 mod reading;
 mod refusal;
 mod source;
-mod telling;
 mod values;
 mod words;
 mod writing;
 
 pub use performing::{perform, report};
 pub use refusal::Refusal;
-pub use source::{Source, SourceError, read_file};
+pub use source::{Source, SourceError, is_file, read_file};
 pub use words::{Words, WordsError, read_words};

@@ -1,13 +1,15 @@
 //! What a command does.
 ghost use Rattle.std.specs.Prelude.{◌≡◌};
 ghost use Rattle.rpmb_commands.specs.Performing.{Does, Performs, after_flush, asked_of, status_of};
+ghost use Rattle.rpmb_commands.specs.Refusing.{refusal_status};
 
 use crate::asked::{Asked, asked_of};
 use crate::checking::check;
+use crate::explaining::tell;
 use crate::making::{make_program_key, make_read, make_read_counter, make_result};
+use crate::read_data::give_data;
 use crate::refusal::Refusal;
 use crate::source::Source;
-use crate::telling::{give_data, tell};
 use crate::words::Words;
 use crate::writing::make_write;
 use rpmb_client::OptionRefusal;
@@ -37,12 +39,14 @@ fn perform_on<'a, S: Source, B: BufRead, W: Write>(
     }
 }
 
-/// Writes the line of a refusal, and gives its status.
+/// Writes the line of a refusal, and gives its status: 3 where `explain` found each answer right and
+/// a request refused, else 1.
 pub fn report<E: Write>(refusal: Refusal<'_>, err: &mut E) -> u8
-    ensures { result ≡ 1 }
+    ensures { result ≡ refusal_status refusal.entry }
 {
+    let status = refusal.status();
     let _ = writeln!(err, "rpmb: {refusal}");
-    1
+    status
 }
 
 /// How a command ends, once all is flushed, or standard output took no more.
@@ -65,8 +69,8 @@ fn status_of<E: Write>(ended: Result<(), Refusal<'_>>, err: &mut E) -> u8
     }
 }
 
-/// Performs a command, and gives the status that it ends with: 0, or 1 with one line on standard
-/// error. `source` gives the files that its words name, and `input` the lines of `rpmbd run`.
+/// Performs a command, and gives the status that it ends with: 0, or 1 or 3 with one line on
+/// standard error. `source` gives the files that its words name, and `input` the lines of `rpmbd run`.
 pub fn perform<S: Source, B: BufRead, W: Write, E: Write>(
     alloc: Global,
     source: &S,

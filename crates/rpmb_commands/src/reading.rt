@@ -1,13 +1,12 @@
 //! The keys that words write or name.
 ghost use Rattle.std.specs.Prelude.{◌≡◌, IfErr, IfOk, Some};
-ghost use Rattle.rpmb_client.specs.Options.{IsWhyNoDigits};
 ghost use Rattle.rpmb_client.specs.Values.{array_said};
 ghost use Rattle.rpmb_commands.specs.KeySaid.{IsKey, IsKeyInFile, IsKeyWord, IsNamed};
-ghost use Rattle.rpmb_commands.specs.KeySaid.{IsRefusedFor, IsWhyNoKeyFile, IsWhyNoKeySaid};
+ghost use Rattle.rpmb_commands.specs.KeySaid.{IsWhyNoKeyDigits, IsWhyNoKeyFile, IsWhyNoKeySaid};
 ghost use Rattle.rpmb_commands.specs.KeySaid.{IsWhyNoRawKeyFile, IsWhyNot, SaysKey};
 
 use crate::refusal::Refusal;
-use crate::source::{Source, content_of};
+use crate::source::{KEY_FILE, Source, content_of};
 use rpmb_client::{OptionRefusal, key_of_file, key_of_raw_file, key_of_word};
 use std::alloc::Global;
 
@@ -49,7 +48,7 @@ fn key_in_file<'a, S: Source>(
     ensures ok { IfOk result (IsKeyInFile (S.gives source.now) name.now) }
     ensures err { IfErr result (IsWhyNoKeyFile (S.gives source.now) name.entry) }
 {
-    let content = content_of(alloc, source, name)?;
+    let content = content_of(alloc, source, name, KEY_FILE)?;
     match key_of_file(alloc, name, content.as_slice()) {
         Ok(key) => Ok(key),
         Err(told) => Err(Refusal::from(told)),
@@ -64,19 +63,26 @@ fn key_in_raw_file<'a, S: Source>(
     ensures ok { IfOk result (λ key. S.gives source.now name.now key) }
     ensures err { IfErr result (IsWhyNoRawKeyFile (S.gives source.now) name.entry) }
 {
-    let content = content_of(alloc, source, name)?;
+    let content = content_of(alloc, source, name, KEY_FILE)?;
     match key_of_raw_file(name, content.as_slice()) {
         Ok(key) => Ok(key),
         Err(told) => Err(Refusal::from(told)),
     }
 }
 
-fn key_in_digits<'a>(alloc: Global, word: &'a str) -> Result<[u8; 32], Refusal<'a>>
+/// The key of a word's own digits. A word that is no key and the name of a file is told as one.
+fn key_in_digits<'a, S: Source>(
+    alloc: Global,
+    source: &S,
+    word: &'a str,
+) -> Result<[u8; 32], Refusal<'a>>
     ensures ok { IfOk result (λ key. array_said 32 word.now ≡ Some key) }
-    ensures err { IfErr result (IsRefusedFor (IsWhyNoDigits word.now)) }
+    ensures err { IfErr result (IsWhyNoKeyDigits word.entry) }
 {
     match key_of_word(alloc, word) {
         Ok(key) => Ok(key),
+        Err(OptionRefusal::NoMemory) => Err(Refusal::NoMemory),
+        Err(_) if source.is_file(word) => Err(Refusal::FileName(word)),
         Err(told) => Err(Refusal::from(told)),
     }
 }
@@ -90,7 +96,7 @@ fn key_said<'a, S: Source>(
     ensures err { IfErr result (IsWhyNot (S.gives source.now) word.entry) }
 {
     match word {
-        KeyWord::Digits(digits) => key_in_digits(alloc, digits),
+        KeyWord::Digits(digits) => key_in_digits(alloc, source, digits),
         KeyWord::File(name) => key_in_file(alloc, source, name),
         KeyWord::RawFile(name) => key_in_raw_file(alloc, source, name),
     }

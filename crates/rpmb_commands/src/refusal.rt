@@ -1,6 +1,6 @@
 //! Why a command of `rpmb` is refused.
 ghost use Rattle.std.specs.Prelude.{◌≡◌};
-ghost use Rattle.rpmb_commands.specs.Refusing.{refusal_of, refusal_of_fault};
+ghost use Rattle.rpmb_commands.specs.Refusing.{refusal_of_fault, refusal_status};
 
 use rpmb_client::{ClientFault, OptionRefusal};
 use std::convert::From;
@@ -13,6 +13,9 @@ pub enum Refusal<'a> {
     /// An option that the command needs gives no value.
     #[error(transparent)]
     Option(OptionRefusal<'a>),
+    /// A word of a key isn't one, and a file has its name.
+    #[error("BadKey: expected 32 bytes in hex digits, got the name of a file; for a file say @{0}")]
+    FileName(&'a str),
     #[error("BadKey: expected one key for each guest, got a second one for guest {0}")]
     SecondKey(u64),
     #[error("BadKey: expected one key for all other guests, got a second one")]
@@ -28,6 +31,8 @@ pub enum Refusal<'a> {
     CounterEnd(u64),
     #[error("FileFault: expected a file that can be read, got {0:?}")]
     NoFile(&'a str),
+    #[error("FileFault: expected at most {1} bytes in the file {0:?}, got more")]
+    TooLong(&'a str, usize),
     #[error("FileFault: expected text in UTF-8 in the file {0:?}")]
     NoText(&'a str),
     #[error("FileFault: expected lines in UTF-8 on standard input")]
@@ -55,6 +60,9 @@ pub enum Refusal<'a> {
     #[error("WrongAnswer: expected a right MAC and nonce in each of {0} replies, \
         got {1} with a wrong one")]
     WrongAnswer(u64, u64),
+    /// The answers are right, and say of some requests that they were refused.
+    #[error("Refused: expected the result OK in each of {0} replies, got {1} with another")]
+    RefusedAnswer(u64, u64),
     #[error("BadBoard: the board file {0:?}: {1}")]
     BadBoard(&'a str, String),
     #[error("BadScript: the script {0:?}: {1}")]
@@ -62,6 +70,16 @@ pub enum Refusal<'a> {
 }
 
 impl<'a> Refusal<'a> {
+    /// The status that a command ends with where it is refused.
+    pub(crate) fn status(&self) -> u8
+        ensures { result ≡ refusal_status self.now }
+    {
+        match self {
+            Refusal::RefusedAnswer(_, _) => 3,
+            _ => 1,
+        }
+    }
+
     /// The refusal of what a client couldn't do.
     pub(crate) fn of(fault: ClientFault) -> Refusal<'a>
         ensures { result ≡ refusal_of_fault fault }

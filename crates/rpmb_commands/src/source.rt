@@ -1,17 +1,33 @@
 //! Where the files are that words name.
-ghost use Rattle.std.specs.Prelude.{ℕ, IfErr, IfOk, List};
+ghost use Rattle.std.specs.Prelude.{◌≤◌, ℕ, IfErr, IfOk, List, length};
 ghost use Rattle.rpmb_commands.specs.KeySaid.{IsWhyNoContent};
 
 use crate::refusal::Refusal;
 use std::alloc::Global;
+use std::io::Read;
 use std::rt::Files;
 use std::{fs, io};
+
+/// The most bytes of a file with a key: room for whatever is nearly one, so that it is told by what
+/// is wrong with it.
+pub(crate) const KEY_FILE: usize = 128;
+
+/// The most bytes of a file of blocks: 65,536 blocks of 256 bytes, more than any partition has.
+pub(crate) const BLOCKS_FILE: usize = 16_777_216;
+
+/// The most bytes of a board file: 1 MiB.
+pub(crate) const BOARD_FILE: usize = 1_048_576;
+
+/// The most bytes of a script: 64 MiB.
+pub(crate) const SCRIPT_FILE: usize = 67_108_864;
 
 /// Why a file isn't read.
 #[derive(Clone, Copy, Debug)]
 pub enum SourceError {
     /// It can't be read.
     NoFile,
+    /// It has more bytes than were asked for, or no end.
+    TooLong,
     /// Memory was refused for its bytes.
     NoMemory,
 }
@@ -21,23 +37,60 @@ pub trait Source {
     /// What a file of a name may give. A file may change, so one name may give more than one.
     ghost gives: { Self → List ℕ → List ℕ → Type 0 };
 
-    /// What a file holds.
+    /// What a file holds, where that is at most `most` bytes. No more than one byte behind them is
+    /// read.
     ///
     /// # Errors
     ///
-    /// `NoFile` where it can't be read, `NoMemory` where memory is refused for its bytes.
-    fn content(&self, alloc: Global, name: &str) -> Result<Vec<u8>, SourceError>
-        ensures { IfOk result (λ bytes. gives self.now name.now bytes.items) };
+    /// `NoFile` where it can't be read, `TooLong` where it holds more, `NoMemory` where memory is
+    /// refused for its bytes.
+    fn content(&self, alloc: Global, name: &str, most: usize) -> Result<Vec<u8>, SourceError>
+        ensures given { IfOk result (λ bytes. gives self.now name.now bytes.items) }
+        ensures most { IfOk result (λ bytes. length bytes.items ≤ most) };
+
+    /// Whether there is a file of the name, which isn't opened.
+    fn is_file(&self, name: &str) -> bool;
+}
+
+fn error_of(error: &io::Error) -> SourceError {
+    match error.kind() {
+        io::ErrorKind::OutOfMemory => SourceError::NoMemory,
+        _ => SourceError::NoFile,
+    }
+}
+
+/// What a reader gives, up to one byte behind `most`.
+fn read_most<A: Read + Drop>(alloc: Global, from: A, most: usize) -> Result<Vec<u8>, SourceError>
+    ensures { IfOk result (λ bytes. length bytes.items ≤ most) }
+{
+    let mut bytes = Vec::new(alloc);
+    let mut front = from.take((most as u64).saturating_add(1));
+    match front.read_to_end(&mut bytes) {
+        Ok(_) if bytes.len() > most => Err(SourceError::TooLong),
+        Ok(_) => Ok(bytes),
+        Err(error) => Err(error_of(&error)),
+    }
 }
 
 /// What the file of a path holds. Refused as by `Source::content`.
-pub fn read_file<R: Files + AllocGlobal>(rt: &R, path: &str) -> Result<Vec<u8>, SourceError> {
-    match fs::read(rt, path) {
-        Ok(bytes) => Ok(bytes),
-        Err(error) => match error.kind() {
-            io::ErrorKind::OutOfMemory => Err(SourceError::NoMemory),
-            _ => Err(SourceError::NoFile),
-        },
+pub fn read_file<R: Files + AllocGlobal>(
+    rt: &R,
+    path: &str,
+    most: usize,
+) -> Result<Vec<u8>, SourceError>
+    ensures { IfOk result (λ bytes. length bytes.items ≤ most) }
+{
+    match fs::open(rt, path) {
+        Ok(file) => read_most(rt.alloc(), file, most),
+        Err(error) => Err(error_of(&error)),
+    }
+}
+
+/// Whether there is a file of the path, which isn't opened.
+pub fn is_file<R: Files>(rt: &R, path: &str) -> bool {
+    match fs::metadata(rt, path) {
+        Ok(found) => found.is_file(),
+        Err(_) => false,
     }
 }
 
@@ -46,13 +99,16 @@ pub(crate) fn content_of<'a, S: Source>(
     alloc: Global,
     source: &S,
     name: &'a str,
+    most: usize,
 ) -> Result<Vec<u8>, Refusal<'a>>
     ensures ok { IfOk result (λ bytes. S.gives source.now name.now bytes.items) }
-    ensures err { IfErr result (IsWhyNoContent name.entry) }
+    ensures most { IfOk result (λ bytes. length bytes.items ≤ most) }
+    ensures err { IfErr result (IsWhyNoContent name.entry most) }
 {
-    match source.content(alloc, name) {
+    match source.content(alloc, name, most) {
         Ok(bytes) => Ok(bytes),
         Err(SourceError::NoFile) => Err(Refusal::NoFile(name)),
+        Err(SourceError::TooLong) => Err(Refusal::TooLong(name, most)),
         Err(SourceError::NoMemory) => Err(Refusal::NoMemory),
     }
 }
@@ -62,8 +118,9 @@ pub(crate) fn text_of<'a, S: Source>(
     alloc: Global,
     source: &S,
     name: &'a str,
+    most: usize,
 ) -> Result<String, Refusal<'a>> {
-    let bytes = content_of(alloc, source, name)?;
+    let bytes = content_of(alloc, source, name, most)?;
     match String::from_utf8(bytes) {
         Ok(text) => Ok(text),
         Err(_) => Err(Refusal::NoText(name)),

@@ -11,7 +11,7 @@ ghost use Rattle.rpmb_commands.specs.Writing.{WritesAll};
 use crate::making::told;
 use crate::reading::key;
 use crate::refusal::Refusal;
-use crate::source::{Source, content_of};
+use crate::source::{BLOCKS_FILE, Source, content_of};
 use crate::values::{address_of, counter_of, guest_of, most_of};
 use crate::words::Words;
 use rpmb_client::{Writer, option_bytes, pad, write_all};
@@ -40,7 +40,7 @@ fn content<'a, S: Source>(
 {
     match (words.bytes, words.file) {
         (Some(word), None) => bytes_of_word(alloc, word),
-        (None, Some(name)) => content_of(alloc, source, name),
+        (None, Some(name)) => content_of(alloc, source, name, BLOCKS_FILE),
         (Some(_), Some(_)) => Err(Refusal::NoData("both")),
         (None, None) => Err(Refusal::NoData("neither")),
     }
