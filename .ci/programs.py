@@ -24,6 +24,16 @@ class Wrong(Exception):
     """A run that isn't as it has to be."""
 
 
+def fault_in(told):
+    """What standard error told, but for the line behind a fault's, which says of which file it is and why."""
+    first, *rest = told.splitlines(True)[:3] or [""]
+    if not first.startswith("rpmbd: "):
+        return told
+    if len(rest) > 1 or (rest and ": " not in rest[0]):
+        raise Wrong(f"no fault and its reason: {told!r}")
+    return first
+
+
 class Room:
     """A folder with the programs and the library that lets calls fail."""
 
@@ -68,7 +78,7 @@ class Room:
         except OSError:
             calls = {}
         decode = lambda it: (it or b"").decode(errors="replace")
-        return ran.returncode, decode(ran.stdout), decode(ran.stderr), calls
+        return ran.returncode, decode(ran.stdout), fault_in(decode(ran.stderr)), calls
 
 
 def each(tried, numbers):

@@ -6,9 +6,23 @@ import os
 import select
 import signal
 import subprocess
-import time
+import threading
 
-from programs import BOARD, DISK_FAULT, FILE_FAULT, KEY, SECONDS, VERBS, Wrong, check_held, key_line, script, shown
+from programs import (
+    BOARD,
+    DISK_FAULT,
+    FILE_FAULT,
+    KEY,
+    SECONDS,
+    VERBS,
+    Wrong,
+    check_held,
+    fault_in,
+    key_line,
+    script,
+    shown,
+    told_of,
+)
 
 
 def closing(closed, words):
@@ -22,7 +36,7 @@ def bare(room, folder, words, **how):
     how = {"stdin": subprocess.DEVNULL, "stdout": subprocess.PIPE, "stderr": subprocess.PIPE, **how}
     env = {"PATH": f"{room.top}:{os.environ['PATH']}"}
     ran = subprocess.run(words, cwd=folder, env=env, timeout=SECONDS, **how)
-    return ran.returncode, (ran.stdout or b"").decode(), (ran.stderr or b"").decode()
+    return ran.returncode, (ran.stdout or b"").decode(), fault_in((ran.stderr or b"").decode())
 
 
 def check_image(room, folder, name):
@@ -171,31 +185,32 @@ def sweep_limits(room, image):
 
 
 def stopped(room, folder, after):
-    """Ends a run by TERM so many seconds after its first line; whether that ended it."""
-    with open(f"{folder}/printed", "wb") as out:
-        words = [f"{room.top}/rpmbd", "run", "board.toml", "script.txt"]
-        program = subprocess.Popen(words, cwd=folder, stdin=subprocess.DEVNULL, stdout=out, stderr=subprocess.DEVNULL)
-        end = time.time() + SECONDS
-        while not os.path.getsize(f"{folder}/printed") and program.poll() is None and time.time() < end:
-            time.sleep(0.001)
-        time.sleep(after)
-        program.terminate()
-        return program.wait(SECONDS) == -signal.SIGTERM
+    """Ends a run into a pipe by TERM so many seconds after its first byte: the whole lines, and whether TERM ended it."""
+    words = [f"{room.top}/rpmbd", "run", "board.toml", "script.txt"]
+    how = {"stdin": subprocess.DEVNULL, "stdout": subprocess.PIPE, "stderr": subprocess.DEVNULL}
+    with subprocess.Popen(words, cwd=folder, **how) as program:
+        printed = program.stdout.read(1)
+        threading.Timer(after, program.terminate).start()
+        printed += program.stdout.read()
+        ended = program.wait(SECONDS) == -signal.SIGTERM
+    # (the last line may have been cut by the stop)
+    return printed[: printed.rfind(b"\n") + 1].decode(), ended
 
 
 def sweep_stops(room, image):
-    """A TERM in the middle of a run: what was printed is held by the image."""
-    lines, ended = 0, 0
+    """A TERM in the middle of a run: what was printed is held by the image, and of what it holds the line of one request
+    at most wasn't printed."""
+    lines, ended, missed = 0, 0, 0
     files = {"board.toml": BOARD, "script.txt": script(3_000), "board.img": image}
-    for after in (0, 0.01, 0.03, 0.1, 0.3):
+    for after in (0, 0.003, 0.01, 0.02, 0.03, 0.04, 0.06, 0.1, 0.15, 0.2, 0.3):
         folder = room.folder(files)
-        ended += stopped(room, folder, after)
-        with open(f"{folder}/printed", encoding="ascii") as it:
-            printed = it.read()
-        # (the last line may have been cut by the stop)
-        printed = printed[: printed.rfind("\n") + 1]
-        lines += printed.count("\n")
+        printed, is_ended = stopped(room, folder, after)
         check_held(room, folder, printed)
+        told = sum(kind in (0x100, 0x300) for _, _, _, kind in map(told_of, printed.splitlines()))
+        kept = sum(has_key + counter for has_key, counter in shown(room, folder)[0].values())
+        if not told <= kept <= told + 1:
+            raise Wrong(f"TERM after {after} s: {kept} requests are kept, and {told} lines printed")
+        lines, ended, missed = lines + told, ended + is_ended, missed + kept - told
     if not ended or not lines:
         raise Wrong("no run was stopped by TERM after a line")
-    print(f"stops: {ended} runs ended by TERM, after {lines} lines")
+    print(f"stops: {ended} runs ended by TERM, after {lines} lines; {missed} requests kept whose line wasn't printed")

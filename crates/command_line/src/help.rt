@@ -4,10 +4,10 @@
 pub const PROGRAM: &str =
     r#"A board file says what the guests are, and in which file their image is kept:
 
-    image = "board.img"
+    image = "board.img"     # counts from the folder that rpmbd is started in
 
     [[guest]]
-    capacity = 1
+    capacity = 1            # 1 to 128, in units of 128 KiB
 
 A script says what they do. Here guest 0 offers a request of no bytes, with 512 bytes
 for the reply, and then its device is reset; rpmb makes the lines of real requests:
@@ -15,11 +15,14 @@ for the reply, and then its device is reset; rpmb makes the lines of real reques
     chain 0 - 512
     reset 0
 
-One image is for one program at a time. Status 0; 1 for a fault, which is told on
-standard error as 'rpmbd: N NAME'; 2 for words that are no command."#;
+A board without 'image' is in memory, and nothing of it is kept. One image is for one
+program at a time. Status 0; 1 for a fault, which is told on standard error as 'rpmbd: N
+NAME', and behind that in words; 2 for words that are no command."#;
 
-pub const FORMAT: &str = r"Prints 'formatted LEN', the length of the image in bytes.
-It asks nothing: the keys, counters and blocks that the file held are gone.
+pub const FORMAT: &str =
+    r"Prints 'formatted LEN', the length of the image in bytes, and of version 2 'upgraded'.
+What the file held is gone. Where keys would be and a person types this at a terminal, it
+asks before; elsewhere it asks nothing.
 Status 0; 1 for a fault, told on standard error; 2 for words that are no command.";
 
 pub const SHOW: &str =
@@ -29,14 +32,16 @@ Status 0; 1 for a fault, told on standard error; 2 for words that are no command
 
 pub const UPGRADE: &str =
     r"Prints 'upgraded', or 'already 2' for an image of version 2, which it leaves as it is.
-Keys, counters and blocks stay, wherever it is stopped; it may be called again. There is
-no way back to version 1.
+Keys, counters and blocks stay, wherever it is stopped; it may be called again. A write
+takes four syncs of the file on version 1, and two on version 2. There is no way back to
+version 1.
 Status 0; 1 for a fault, told on standard error; 2 for words that are no command.";
 
 pub const RUN: &str =
     r"Prints for each chain 'used G LEN HEX': the guest, and the length and bytes of the reply,
 or '-' for none. Where the guest has spoiled its rings: 'needs-reset G', 'no-answer G',
-'bad-used G'. What a printed line tells is settled in the image.
+'bad-used G'. What a printed line tells is settled in the image. Each line goes out as it
+comes. Of a board without 'image' nothing is kept once the run has ended.
 Status 0; 1 for a fault, told on standard error; 2 for words that are no command.";
 
 pub const SERVE: &str =

@@ -4,27 +4,24 @@ use crate::source::{BOARD_FILE, SCRIPT_FILE, Source, text_of};
 use crate::words::Words;
 use board_file::{BoardError, read_board};
 use rpmb_client::OptionRefusal;
+use rpmb_frame::BoardConfig;
 use script::{ScriptError, read_script};
 use std::alloc::Global;
+use std::io;
 use std::io::Write;
 
-/// How many guests the board of a text has, which is that of a file.
-fn guests_of<'a>(alloc: Global, file: &'a str, text: &str) -> Result<u16, Refusal<'a>> {
-    match read_board(alloc, text) {
-        Ok((board, _)) => Ok(board.guests().len() as u16),
-        Err(BoardError::BadBoard(flaw)) => Err(Refusal::BadBoard(file, flaw)),
-        Err(BoardError::NoMemory) => Err(Refusal::NoMemory),
-    }
-}
-
-/// How many guests the board of a file has.
+/// The board of a file, and the path of its image, where it names one.
 fn check_board<'a, S: Source>(
     alloc: Global,
     source: &S,
     file: &'a str,
-) -> Result<u16, Refusal<'a>> {
+) -> Result<(BoardConfig, Option<String>), Refusal<'a>> {
     let text = text_of(alloc, source, file, BOARD_FILE)?;
-    guests_of(alloc, file, text.as_str())
+    match read_board(alloc, text.as_str()) {
+        Ok(board) => Ok(board),
+        Err(BoardError::BadBoard(flaw)) => Err(Refusal::BadBoard(file, flaw)),
+        Err(BoardError::NoMemory) => Err(Refusal::NoMemory),
+    }
 }
 
 /// The refusal of the script of a file for its line of this number.
@@ -60,21 +57,46 @@ fn check_script<'a, S: Source>(
     check_text(alloc, file, text.as_str(), guests)
 }
 
-/// Writes `ok` where `rpmbd run` reads the board file, and the script where one is named.
+/// Writes what a board is good for, and of each guest its capacity.
+fn write_board<W: Write>(
+    board: &BoardConfig,
+    image: Option<&str>,
+    out: &mut W,
+) -> io::Result<()> {
+    let count = board.guests().len();
+    let guests = if count == 1 { "guest" } else { "guests" };
+    match image {
+        Some(path) => writeln!(out, "ok: {count} {guests}, image {path:?}")?,
+        None => {
+            let kept = "in memory: format, show and upgrade refuse it";
+            writeln!(out, "ok: {count} {guests}, {kept}")?;
+        }
+    }
+    let mut number = 0u16;
+    for guest in board.guests() {
+        let units = guest.capacity;
+        writeln!(out, "guest {number}: capacity {units} ({} KiB)", 128 * u32::from(units))?;
+        number = number.saturating_add(1);
+    }
+    Ok(())
+}
+
+/// Writes `ok`, and what the board is good for, where `rpmbd run` reads the board file, and the
+/// script where one is named.
 pub fn check<'a, S: Source, W: Write>(
     alloc: Global,
     source: &S,
     words: &Words<'a>,
     out: &mut W,
 ) -> Result<(), Refusal<'a>> {
-    let Some(board) = words.board else {
+    let Some(file) = words.board else {
         return Err(OptionRefusal::Incomplete.into());
     };
-    let guests = check_board(alloc, source, board)?;
+    let (board, image) = check_board(alloc, source, file)?;
     if let Some(script) = words.script {
-        check_script(alloc, source, script, guests)?;
+        check_script(alloc, source, script, board.guests().len() as u16)?;
     }
-    match writeln!(out, "ok") {
+    match write_board(&board, image.as_deref(), out) {
         Ok(()) => Ok(()),
         Err(_) => Err(Refusal::NoRoom),
     }
