@@ -4,7 +4,7 @@ import itertools
 import os
 
 from failing import ONE, fresh, listings, words
-from programs import DISK_FAULT, FILE_FAULT, Wrong, each
+from programs import DISK_FAULT, FILE_FAULT, Wrong, each, key_line
 
 FORMATTED = (0, "formatted 167424\n", "")
 NOT_FORMATTED = (1, "", "rpmbd: 12 NotFormatted\n")
@@ -60,6 +60,27 @@ def check_twins(room, has_image):
             raise Wrong(f"rpmbd {verb}, where all files have one number, each on a device of its own: {ran}")
 
 
+def check_asked(room, answer, script):
+    """A person who types `format` over an image with a key is asked first; an image without one is made at once."""
+    folder = room.folder({"board.toml": ONE, "script.txt": script, "board.img": fresh()})
+    if room.run(folder, words("run"))[0]:
+        raise Wrong("rpmbd run makes no image with a key")
+    with open(f"{folder}/board.img", "rb") as it:
+        before = it.read()
+    person, terminal = os.openpty()
+    os.write(person, f"{answer}\n".encode())
+    ran = room.run(folder, words("format"), stdin=terminal)
+    os.close(terminal)
+    os.close(person)
+    with open(f"{folder}/board.img", "rb") as it:
+        after = it.read()
+    told = "board.img holds 1 key, gone after this. Type yes to go on: " if script else ""
+    is_made = not script or answer == "yes"
+    wanted = (0, FORMATTED[1], told) if is_made else (1, "", f"{told}{FILE_FAULT}board.img: is left as it is\n")
+    if ran[:3] != wanted or after != (fresh() if is_made else before):
+        raise Wrong(f"rpmbd format at a terminal, answered {answer}: {ran}")
+
+
 def sweep_image_files(room):
     """How an image's file is made, held and told from others."""
     made = [(image, call) for image in ("board.img", "images/board.img") for call in range(1, 21)]
@@ -72,4 +93,6 @@ def sweep_image_files(room):
         check_length(room, verb, before, after)
     for has_image in (False, True):
         check_twins(room, has_image)
+    for answer, script in (("yes", key_line(0)), ("no", key_line(0)), ("", key_line(0)), ("no", "")):
+        check_asked(room, answer, script)
     print(f"image files: {len(made)} made, {len(lengths)} given another length by who held them, 4 beside their twins")

@@ -42,7 +42,8 @@ pub(crate) fn ask_before_keys_go(
     if keys == 0 {
         return Ok(());
     }
-    let _ = eprint!(rt; "{path} holds the keys of {keys} guests, which will be gone. Type yes: ");
+    let named = if keys == 1 { "key" } else { "keys" };
+    let _ = eprint!(rt; "{path} holds {keys} {named}, gone after this. Type yes to go on: ");
     match is_agreed(rt) {
         Ok(true) => Ok(()),
         Ok(false) => {
