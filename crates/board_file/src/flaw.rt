@@ -24,18 +24,8 @@ fn shown(alloc: Global, value: &Value) -> Result<String, AllocError> {
     format!(in alloc; "a value of the kind {kind}")
 }
 
-/// The first key of a table that isn't among those that are known.
-fn unknown_key<'a>(table: &'a Table, known: &[&str]) -> Option<&'a str> {
-    for key in table.keys() {
-        if !is_among(key.as_str(), known) {
-            return Some(key.as_str());
-        }
-    }
-    None
-}
-
-/// The first key of those known that one letter makes of a key, which is missing there, is added or
-/// changed, or is swapped with the next one.
+/// The first known key that is one letter away from a key: one is missing there, added or changed,
+/// or swapped with the next.
 fn nearest<'a>(alloc: Global, key: &str, known: &[&'a str]) -> Result<Option<&'a str>, AllocError> {
     for other in known {
         if damerau_levenshtein(alloc, key, *other)? == 1 {
@@ -46,8 +36,7 @@ fn nearest<'a>(alloc: Global, key: &str, known: &[&'a str]) -> Result<Option<&'a
 }
 
 /// The document has a key but `image` and `guest`, of which these are known.
-pub(crate) fn unknown_board_key(alloc: Global, table: &Table, known: &[&str]) -> BoardError {
-    let key = unknown_key(table, known).unwrap_or("");
+pub(crate) fn unknown_board_key(alloc: Global, key: &str, known: &[&str]) -> BoardError {
     let Ok(near) = nearest(alloc, key, known) else {
         return BoardError::NoMemory;
     };
@@ -62,8 +51,7 @@ pub(crate) fn unknown_board_key(alloc: Global, table: &Table, known: &[&str]) ->
 }
 
 /// The table of a guest has a key that isn't one of a guest's.
-pub(crate) fn unknown_guest_key(alloc: Global, table: &Table, known: &[&str]) -> BoardError {
-    let key = unknown_key(table, known).unwrap_or("");
+pub(crate) fn unknown_guest_key(alloc: Global, key: &str, known: &[&str]) -> BoardError {
     let Ok(near) = nearest(alloc, key, known) else {
         return BoardError::NoMemory;
     };
