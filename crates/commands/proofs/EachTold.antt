@@ -88,7 +88,7 @@ ran_each (d ∷ drivers) scripts lines n many as_many all each g below =
     record {
       script = slice_index_or scripts g [];
       asked = each g below;
-      ran = subst (Ran (slice_index_or scripts g []))
+      ran = subst (Ran g (slice_index_or scripts g []))
           (sym (get_or-map (λ (e : DriverEnd). e.answers.items) (d ∷ drivers) g d [] inside))
           (all g d (omega (arith, as_many, below)));
     }

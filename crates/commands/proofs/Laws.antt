@@ -4,6 +4,7 @@ use Rattle.commands.proofs.Common.{IfErr, OnOk, slice_get, Appends-kept, append-
 use Rattle.std.specs.Prelude.{take}
 use Rattle.std.proofs.lemmas.List.{take_all}
 use Rattle.disk.specs.Disk.{MayLeave}
+use Rattle.flusher.specs.Round.{FrontStays}
 use Rattle.intent_slots.specs.Recovered as recovered
 use Rattle.board.specs.Board.{LeavesPrefixes}
 use Rattle.commands.specs.Ending.{IsReadable, OneEnds, PrintsAllOn, PrintsFirstOn}
@@ -164,6 +165,7 @@ module _ {D : Type 0} (shows : D → DiskState) (makes : D → DiskCall → D �
                 let all_of : take q.2.count (w.after.accepted g) ≡ w.last.accepted g = take_all q.2.count (w.after.accepted g) (omega (arith, least, enough, long)) ∙ same in
                 let is_q : q.0 ≡ part_of p = q.2.is ∙ ap (λ rs. part_of (partition_after_all base rs)) all_of ∙ ap part_of (sym is_p) in
                 subst (λ v. recovered.Stands (region_at (capacities_of board) g) c v) is_q q.1;
+            header = λ known. within_end shows makes (FrontStays s) old new (w.header known);
           }
         where
           inside : (t : IsTold board w.partitions start w.done w.last) → t.failed ≡ None → (g : ℕ) (p : Partition) → slice_get (partitions_after board w.partitions w.done) g ≡ Some p → g < length board

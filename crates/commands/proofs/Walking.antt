@@ -2,10 +2,13 @@
 use Rattle.std.proofs.Common.{◌≡◌, ◌≤◌, ◌<◌, ◌+◌, inl, inr, ℕ, suc, true, false, Bool, List, [], ◌∷◌, ◌++◌, Option, None, Some, Result, Ok, Err, length, map, refl, ap, sym, subst, ◌∙◌, arith}
 use Rattle.commands.proofs.Common.{is_ok, not, slice_get, append_assoc, length-append, get_or_from_slice_get, Appends-nil, Appends-trans, Keeps-refl, Appends, Keeps, IsBoard, Partition, sequence, Request, GuestConfig, partition_after_all, sequence_of_all, DiskCall, DiskState, HasRisen, Still, Within, capacities_of, Untouched, mark_of, GuestCore, GuestState, last_count, IsWithin, Said, Line, StaysLinked, bases_of, BoardState, guests, is_broken, HostState, seen, GoOn, Moves, moves_none, moves_twice, runner_of, LineDone, LineRuns, KeepsUnless, OpeningEnds, IsFailedIn, text_when, told_when, IsOpened, AnyMoment, Begun, IsTold, MayEnd, Moment, MovesTo, Starts, StopsAt, Trail, Walked, Went, moment_of, AreWithin, IsAt, StoresNothing, Told, first_told, Fault}
 use Rattle.std.proofs.KnownBytes.{Keeps-trans}
+use Rattle.disk.proofs.Ways.{within_end}
 use Rattle.recovery.proofs.Ways.{untouched_here}
 use Rattle.flusher.specs.Marks.{marks_of}
 use Rattle.script.specs.Line.{said}
 use Rattle.board.specs.Board.{marks_in}
+use Rattle.board.specs.Moving.{KeepsHeader}
+use Rattle.board.proofs.Headers.{header_opened, header_twice}
 use Rattle.board.proofs.Stays.{marks_at}
 use Rattle.queue_looks.specs.Calm.{IsCalm}
 use Rattle.queue_looks.proofs.Settled.{below}
@@ -180,6 +183,8 @@ module _ {D : Type 0} (shows : D → DiskState) (makes : D → DiskCall → D �
         leads = l.1;
         tied = l.2;
         disk = is;
+        header = subst (KeepsHeader shows makes disk) (sym is) (header_twice shows makes disk h.board.store.disk c.board.store.disk
+            (within_end shows makes (Untouched (shows disk)) disk h.board.store.disk opened.untouched).faithful (header_opened shows makes disk h.board.store.disk opened.untouched) total.header);
         cause = λ broke. subst (λ d. HasRisen (shows disk).failures (shows d).failures) (sym is) (risen shows makes board disk h c opened total broke);
         ends = ends l.0 l.2 l.1.more;
       })

@@ -7,6 +7,7 @@ use Rattle.rpmb_frame.specs.declared.config.GuestConfig.{GuestConfig}
 use Rattle.disk.specs.Content.{Content}
 use Rattle.disk.specs.Disk.{DiskCall, DiskState, MayLeave, Within}
 use Rattle.intent_slots.specs.Layout.{capacities_of}
+use Rattle.flusher.specs.Round.{FrontStays}
 use Rattle.recovery.specs.Opening.{IsImage, Untouched}
 use Rattle.script.specs.Line.{Said}
 use Rattle.board.specs.Board.{StaysLinked}
@@ -27,7 +28,8 @@ pub record AreOf (board : List GuestConfig) (s : DiskState)
   pub held : s.faithful ≡ true → AreHeld (capacities_of board) s.seen partitions
 
 -- A run that reached its end has printed the replies to its lines on the partitions of the image;
--- and whatever a stop leaves of the disk then holds the partitions after them.
+-- whatever a stop leaves of the disk then holds the partitions after them; and the image's header
+-- is as it was.
 pub record Ran (board : List GuestConfig) (old new : DiskState) (lines : List Said)
     (start now : Option (List ℕ)) : Type 0 where
   pub partitions : List Partition
@@ -35,15 +37,17 @@ pub record Ran (board : List GuestConfig) (old new : DiskState) (lines : List Sa
   pub printed : Appends start now (output_of board partitions lines)
   pub left : old.faithful ≡ true → (c : Content) → MayLeave new c
       → AreHeld (capacities_of board) c (partitions_after board partitions lines)
+  pub header : old.faithful ≡ true → FrontStays old new
 
 -- The partitions that reads of the old disk gave, and those after the lines in whatever a stop
--- leaves of the new one.
+-- leaves of the new one; and the image's header is as it was.
 pub record LeavesRun (board : List GuestConfig) (old new : DiskState)
     (lines : List Said) : Type 0 where
   pub partitions : List Partition
   pub held : AreHeld (capacities_of board) old.seen partitions
   pub left : (c : Content) → MayLeave new c
       → AreHeld (capacities_of board) c (partitions_after board partitions lines)
+  pub header : FrontStays old new
 
 -- 1. Within a run
 

@@ -19,7 +19,7 @@ use Rattle.board.specs.Opening.{bases_of}
 use Rattle.board.specs.State.{BoardState}
 use Rattle.queue_looks.specs.Calm.{IsCalm, is_broken}
 use Rattle.host.specs.Host.{HostState, seen}
-use Rattle.board.specs.Moving.{GoOn, Moves}
+use Rattle.board.specs.Moving.{GoOn, KeepsHeader, Moves}
 use Rattle.queue_looks.specs.Runner.{runner_of, runner_since}
 use Rattle.commands.specs.Calling.{LineDone, NextFails}
 use Rattle.commands.specs.Ending.{KeepsUnless, NextEnds, OpeningEnds}
@@ -152,7 +152,7 @@ MayEnd board (Err fault.FileFault) rest last after now =
 MayEnd board (Err f) rest last after now = StopsAt board f rest last after × Keeps last.printed now
 
 -- The moments of a run over an image: those of its opening, which leaves all as it was; those of
--- its lines; and those after the last line that was done.
+-- its lines; and those after the last line that was done. At each of them the header is as it was.
 pub record WholeRun {D : Type 0} (shows : D → DiskState) (makes : D → DiskCall → D → Type 0)
     (board : List GuestConfig) (all : List Said) (old : D) (start : Option (List ℕ))
     (ended : Result (Unit {0}) Fault) (new : D) (now : Option (List ℕ)) : Type 0 where
@@ -176,6 +176,7 @@ pub record WholeRun {D : Type 0} (shows : D → DiskState) (makes : D → DiskCa
   -- what is accepted by then is what the book has, too
   pub tied : StaysLinked shows board (bases_of partitions) after.accepted after.host.board
   pub disk : new ≡ disk_at after
+  pub header : KeepsHeader shows makes old new
   pub cause : broken_at after ≡ true → HasRisen (shows old).failures (shows new).failures
   pub ends : MayEnd board ended rest last after now
 

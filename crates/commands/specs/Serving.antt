@@ -73,12 +73,12 @@ unfoldable pub guests_lines : ℕ → List (List Answer) → List ℕ
 guests_lines guest [] = []
 guests_lines guest (answers ∷ rest) = answer_lines guest answers ++ guests_lines (guest + 1) rest
 
--- A guest's driver ran just what the lines ask of its guest, chains and resets in their order, and
--- was told these answers.
+-- A guest's driver ran just what the lines ask of its guest, chains and resets in their order, on
+-- that guest's device, and was told these answers.
 pub record RanOf (guest : ℕ) (lines : List Said) (answers : List Answer) : Type 0 where
   pub script : List Order
   pub asked : map (asks guest) script ≡ asked_of guest lines
-  pub ran : Ran script answers
+  pub ran : Ran guest script answers
 
 -- What lines print whose guests are served at once: guest by guest, a line for each chain that they
 -- offer of it, of what its driver was told.

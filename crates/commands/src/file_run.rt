@@ -14,8 +14,8 @@ use std::alloc::Global;
 use std::io::Write;
 
 /// `run` over a file. Where the file is faithful and the run comes to its end, the partitions that
-/// it began with are those that reads of the file gave, and every stop leaves those after its
-/// lines.
+/// it began with are those that reads of the file gave, every stop leaves those after its lines,
+/// and the image's header is as it was.
 pub fn run_in_file<F: PositionedFile, W: Write>(
     alloc: Global,
     board: &BoardConfig,
