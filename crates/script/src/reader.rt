@@ -1,5 +1,6 @@
 //! A whole script.
-ghost use Rattle.std.specs.Prelude.{◌≡◌, IfErr, IfOk, All, Some, None, map, true, false};
+ghost use Rattle.std.specs.Prelude.{◌≡◌, IfErr, IfOk, OnOk, All, Some, None, map};
+ghost use Rattle.std.specs.Prelude.{false, true};
 ghost use Rattle.script.specs.Line.{IsServed, IsWithin, line_of, line_when, said, served_line_of};
 ghost use Rattle.script.specs.Refusal.{IfBad, IfBadLine};
 ghost use Rattle.script.specs.Script.{first_bad, first_none, first_unserved, lines_of};
@@ -67,6 +68,7 @@ fn read_lines(
 /// `BadScript` with the number of the first line, counted from 1, that `read_line` refuses, and why
 /// it does; `NoMemory` where memory is refused.
 pub fn read_script(alloc: Global, script: &str, guests: u16) -> Result<Vec<Line>, ScriptError>
+    ensures good { OnOk result (first_bad guests (lines_of script.now) ≡ None) }
     ensures ok { IfOk result (λ lines. map (λ line. Some (said line)) lines.items
         ≡ map (line_of guests) (lines_of script.now)) }
     ensures within { IfOk result (λ lines. All (λ line. IsWithin guests (said line)) lines.items) }
@@ -88,6 +90,7 @@ pub fn read_served_script(
     script: &str,
     guests: u16,
 ) -> Result<Vec<Line>, ScriptError>
+    ensures good { OnOk result (first_unserved guests (lines_of script.now) ≡ None) }
     ensures ok { IfOk result (λ lines. map (λ line. Some (said line)) lines.items
         ≡ map (served_line_of guests) (lines_of script.now)) }
     ensures within { IfOk result (λ lines. All (λ line. IsWithin guests (said line)) lines.items) }
