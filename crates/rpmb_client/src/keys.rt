@@ -1,5 +1,5 @@
 //! The keys of several guests.
-ghost use Rattle.std.specs.Prelude.{◌≡◌, Some};
+ghost use Rattle.std.specs.Prelude.{◌≡◌, [], None, Some};
 ghost use Rattle.rpmb_client.specs.Keys.{key_at, key_for, pairs_of};
 
 use std::alloc::Global;
@@ -36,7 +36,10 @@ pub fn key_at(keys: &[GuestKey], guest: u64) -> Option<[u8; 32]>
 
 impl Keys {
     /// No keys.
-    pub fn none(alloc: Global) -> Keys {
+    pub fn none(alloc: Global) -> Keys
+        ensures own { result.own.items ≡ [] }
+        ensures others { result.others ≡ None }
+    {
         Keys {
             own: Vec::new(alloc),
             others: None,

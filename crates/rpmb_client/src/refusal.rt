@@ -63,7 +63,8 @@ pub enum OptionRefusal<'a> {
     BadNonce(usize),
     #[error("BadHex: expected two hex digits for each byte, got: {why}", why = Told(.0))]
     BadHex(FromHexError),
-    #[error("BadHex: expected two hex digits for each byte in the file {0:?}, got: {why}", why = Told(.1))]
+    #[error("BadHex: expected two hex digits for each byte in the file {0:?}, \
+         got: {why}", why = Told(.1))]
     BadHexFile(&'a str, FromHexError),
     /// Memory was refused.
     #[error("NoMemory")]

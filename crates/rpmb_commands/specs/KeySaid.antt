@@ -1,5 +1,5 @@
 -- The key that a word says: its own digits, or what a file has.
-use Rattle.std.specs.Prelude.{ℕ, ◌≡◌, ◌≢◌, ◌⊎◌, ◌++◌, List, Option, Some, None, codes}
+use Rattle.std.specs.Prelude.{ℕ, ◌≡◌, ◌≢◌, ◌++◌, List, Option, Some, None, codes}
 use Rattle.std.specs.Borrow.{Bor}
 use Rattle.rpmb_client.specs.Options.{IsWhyNoDigits, IsWhyNoKey, IsWhyNoRawKey}
 use Rattle.rpmb_client.specs.Values.{array_said, key_said}
@@ -73,8 +73,8 @@ pub data IsWhyNoKeyDigits (digits : Bor (List ℕ)) (r : Refusal) : Type 0 where
 pub data IsWhyNoKeyFile (gives : List ℕ → List ℕ → Type 0) (name : Bor (List ℕ)) (r : Refusal)
     : Type 0 where
   file_unread : IsWhyNoContent name 128 r → IsWhyNoKeyFile gives name r
-  file_no_key : (content : List ℕ) → gives name.now content → IsRefusedFor (IsWhyNoKey name content) r
-      → IsWhyNoKeyFile gives name r
+  file_no_key : (content : List ℕ) → gives name.now content
+      → IsRefusedFor (IsWhyNoKey name content) r → IsWhyNoKeyFile gives name r
 
 pub data IsWhyNoRawKeyFile (gives : List ℕ → List ℕ → Type 0) (name : Bor (List ℕ)) (r : Refusal)
     : Type 0 where

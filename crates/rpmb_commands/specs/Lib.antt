@@ -1,6 +1,9 @@
 pub mod Refusing
 pub mod Said
 pub mod KeySaid
+pub mod KeysSaid
+pub mod Explaining
 pub mod Making
 pub mod Writing
+pub mod ReadingData
 pub mod Performing

@@ -20,7 +20,8 @@ pub record KeyLine (gives : List ℕ → List ℕ → Type 0) (words : Words) (s
   pub printed : Appends start now (key_line guest key)
 
 -- why it isn't printed: the first of these that is so
-pub data WhyNoKeyLine (gives : List ℕ → List ℕ → Type 0) (words : Words) (r : Refusal) : Type 0 where
+pub data WhyNoKeyLine (gives : List ℕ → List ℕ → Type 0) (words : Words) (r : Refusal)
+    : Type 0 where
   key_guest : guest_said words ≡ Err r → WhyNoKeyLine gives words r
   key_key : IsOk (guest_said words) → IsWhyNoKeySaid gives (key_word words) r
       → WhyNoKeyLine gives words r

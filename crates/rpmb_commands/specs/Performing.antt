@@ -1,8 +1,11 @@
 -- What a command has done, by its name.
-use Rattle.std.specs.Prelude.{ℕ, ◌≡◌, Bool, true, false, List, [], ◌∷◌, Option, Result, Ok, Err, codes}
+use Rattle.std.specs.Prelude.{ℕ, ◌≡◌, Bool, true, false, List, [], ◌∷◌, Option, Result, Ok, Err}
+use Rattle.std.specs.Prelude.{codes}
 use Rattle.std.specs.Str.{bytes_eq}
 use Rattle.std.specs.Io.KnownBytes.{Keeps}
 use Rattle.rpmb_frame.specs.Table.{first_row}
+use Rattle.rpmb_commands.specs.Explaining.{ExplainDoes}
+use Rattle.rpmb_commands.specs.ReadingData.{ReadDataDoes}
 use Rattle.rpmb_commands.specs.Making.{ProgramKeyDoes, ReadCounterDoes, ReadDoes, ResultDoes}
 use Rattle.rpmb_commands.specs.Refusing.{refusal_status}
 use Rattle.rpmb_commands.specs.Writing.{WriteDoes}
@@ -25,15 +28,20 @@ asked_of name = first_row (
     ∷ (bytes_eq name (codes "check"), asked.Check)
     ∷ []) asked.Unknown
 
--- What a command has done. Nothing is said here of those that make no requests.
-abbrev pub Does : (List ℕ → List ℕ → Type 0) → Asked → Words → Option (List ℕ)
+-- What a command has done, that was given these lines. Nothing is said here of `check`.
+abbrev pub Does : (List ℕ → List ℕ → Type 0) → Asked → Words → (given start : Option (List ℕ))
     → Result (Unit {0}) Refusal → Option (List ℕ) → Type 0
-Does gives asked.ProgramKey words start ended now = ProgramKeyDoes gives words start ended now
-Does gives asked.ReadCounter words start ended now = ReadCounterDoes words start ended now
-Does gives asked.Write words start ended now = WriteDoes gives words start ended now
-Does gives asked.Read words start ended now = ReadDoes words start ended now
-Does gives asked.Outcome words start ended now = ResultDoes words start ended now
-Does gives other words start ended now = Unit {0}
+Does gives asked.ProgramKey words given start ended now =
+    ProgramKeyDoes gives words start ended now
+Does gives asked.ReadCounter words given start ended now = ReadCounterDoes words start ended now
+Does gives asked.Write words given start ended now = WriteDoes gives words start ended now
+Does gives asked.Read words given start ended now = ReadDoes words start ended now
+Does gives asked.Outcome words given start ended now = ResultDoes words start ended now
+Does gives asked.Explain words given start ended now =
+    ExplainDoes gives words given start ended now
+Does gives asked.ReadData words given start ended now =
+    ReadDataDoes gives words given start ended now
+Does gives other words given start ended now = Unit {0}
 
 -- how it ends, once all is flushed or standard output took no more
 abbrev pub after_flush : Bool → Result (Unit {0}) Refusal → Result (Unit {0}) Refusal
@@ -46,11 +54,11 @@ status_of (Ok done) = 0
 status_of (Err r) = refusal_status r
 
 -- A command was performed, and its end told by a status.
-pub record Performs (gives : List ℕ → List ℕ → Type 0) (words : Words) (start : Option (List ℕ))
-    (status : ℕ) (now : Option (List ℕ)) : Type 0 where
+pub record Performs (gives : List ℕ → List ℕ → Type 0) (words : Words)
+    (given start : Option (List ℕ)) (status : ℕ) (now : Option (List ℕ)) : Type 0 where
   pub ended : Result (Unit {0}) Refusal
   pub flushed : Bool
   pub written : Option (List ℕ)
-  pub does : Does gives (asked_of words.command.now) words start ended written
+  pub does : Does gives (asked_of words.command.now) words given start ended written
   pub kept : Keeps written now
   pub told : status ≡ status_of (after_flush flushed ended)

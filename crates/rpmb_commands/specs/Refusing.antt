@@ -33,7 +33,7 @@ abbrev pub told_as : Result (Unit {0}) ClientFault → Result (Unit {0}) Refusal
 told_as (Ok done) = Ok done
 told_as (Err f) = Err (refusal_of_fault f)
 
--- the status of a command that is refused: 3 where only the requests were, and all answers are right
+-- the status of a command that is refused: 3 where only requests were, and all answers are right
 abbrev pub refusal_status : Refusal → ℕ
 refusal_status (refusal.RefusedAnswer replies refused) = 3
 refusal_status r = 1

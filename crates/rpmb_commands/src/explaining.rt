@@ -1,4 +1,15 @@
 //! The command that says of the lines of `rpmbd run` what each is.
+ghost use Rattle.std.specs.Prelude.{◌≡◌, ◌++◌, ◌∷◌, ◌||◌, [], IfErr, IfOk, IfSome, OnOk, nat_lt};
+ghost use Rattle.std.specs.Prelude.{Some, string_bytes};
+ghost use Rattle.std.specs.Io.KnownBytes.{Appends, Keeps};
+ghost use Rattle.rpmb_client.specs.Seen.{used_seen};
+ghost use Rattle.rpmb_commands.specs.Explaining.{AsksNonce, ExplainDoes, Explains, IsJudging};
+ghost use Rattle.rpmb_commands.specs.Explaining.{IsNext, IsOther, SaysAll, has_refused, has_wrong};
+ghost use Rattle.rpmb_commands.specs.Explaining.{is_refused_of, is_wrong_of, judging_of};
+ghost use Rattle.rpmb_commands.specs.Explaining.{line_told, mark_of, told_counts, told_of};
+ghost use Rattle.rpmb_commands.specs.Explaining.{without_feed};
+
+use crate::counts::Counts;
 use crate::keys::keys_of;
 use crate::refusal::Refusal;
 use crate::source::Source;
@@ -9,36 +20,11 @@ use std::alloc::Global;
 use std::io;
 use std::io::{BufRead, Write};
 
-/// How many replies were explained, in how many of them a MAC or a nonce is wrong, and how many say
-/// that a request was refused.
-#[derive(Clone, Copy)]
-struct Counts {
-    replies: u64,
-    wrong: u64,
-    refused: u64,
-}
-
 /// What answers are judged by.
 #[derive(Drop)]
 struct Judge {
     keys: Keys,
     nonce: Option<[u8; 16]>,
-}
-
-impl Counts {
-    fn none() -> Counts {
-        Counts {
-            replies: 0,
-            wrong: 0,
-            refused: 0,
-        }
-    }
-
-    fn add(&mut self, is_wrong: bool, is_refused: bool) {
-        self.replies = self.replies.saturating_add(1);
-        self.wrong = self.wrong.saturating_add(u64::from(is_wrong));
-        self.refused = self.refused.saturating_add(u64::from(is_refused));
-    }
 }
 
 /// Says what the reply of a `used` line is, and counts it.
@@ -48,7 +34,15 @@ fn explain_used<'a, W: Write>(
     judge: &Judge,
     counts: &mut Counts,
     out: &mut W,
-) -> Result<(), Refusal<'a>> {
+) -> Result<(), Refusal<'a>>
+    ensures told { OnOk result (Appends (W.contents out.old) (W.contents out.new)
+        (told_of (judging_of judge.now) (Some (used_seen used.now)) [])) }
+    ensures wrong { OnOk result (nat_lt 0 counts.new.wrong ≡ (nat_lt 0 counts.old.wrong
+        || is_wrong_of (judging_of judge.now) (Some (used_seen used.now)))) }
+    ensures refused { OnOk result (nat_lt 0 counts.new.refused ≡ (nat_lt 0 counts.old.refused
+        || is_refused_of (Some (used_seen used.now)))) }
+    ensures other { IfErr result IsOther }
+{
     let key = judge.keys.key_of(used.guest);
     match explain(alloc, used, key, judge.nonce, out) {
         Ok(()) => {
@@ -60,7 +54,9 @@ fn explain_used<'a, W: Write>(
 }
 
 /// What stands behind a line that gives no reply: one that begins as those that do was torn.
-fn mark_of(line: &str) -> &'static str {
+fn mark_of(line: &str) -> &'static str
+    ensures { result.now ≡ mark_of line.now }
+{
     if line.starts_with("used") {
         " (torn: expected `used G LEN HEX`)"
     } else {
@@ -69,21 +65,35 @@ fn mark_of(line: &str) -> &'static str {
 }
 
 /// Writes a line that gives no reply as it is, and says where it is torn.
-fn pass_on<'a, W: Write>(line: &str, out: &mut W) -> Result<(), Refusal<'a>> {
-    match writeln!(out, "{line}{}", mark_of(line)) {
+fn pass_on<'a, W: Write>(line: &str, out: &mut W) -> Result<(), Refusal<'a>>
+    ensures told { OnOk result (Appends (W.contents out.old) (W.contents out.new)
+        (line.now ++ (mark_of line.now ++ 10 ∷ []))) }
+    ensures other { IfErr result IsOther }
+{
+    let mark = mark_of(line);
+    match writeln!(out, "{line}{mark}") {
         Ok(()) => Ok(()),
         Err(_) => Err(Refusal::NoRoom),
     }
 }
 
 /// Says of a line what it is, and counts it where it gives a reply.
+#[tactic(auto, unfolding(crate::specs::Explaining::line_told))]
 fn explain_line<'a, W: Write>(
     alloc: Global,
     line: &str,
     judge: &Judge,
     counts: &mut Counts,
     out: &mut W,
-) -> Result<(), Refusal<'a>> {
+) -> Result<(), Refusal<'a>>
+    ensures told { OnOk result (Appends (W.contents out.old) (W.contents out.new)
+        (line_told (judging_of judge.now) line.now)) }
+    ensures wrong { OnOk result (nat_lt 0 counts.new.wrong ≡ (nat_lt 0 counts.old.wrong
+        || has_wrong (judging_of judge.now) line.now)) }
+    ensures refused { OnOk result (nat_lt 0 counts.new.refused ≡ (nat_lt 0 counts.old.refused
+        || has_refused line.now)) }
+    ensures other { IfErr result IsOther }
+{
     match read_used(alloc, line) {
         Ok(Some(used)) => explain_used(alloc, &used, judge, counts, out),
         Ok(None) => pass_on(line, out),
@@ -91,7 +101,9 @@ fn explain_line<'a, W: Write>(
     }
 }
 
-pub(crate) fn input_fault<'a>(error: &io::Error) -> Refusal<'a> {
+pub(crate) fn input_fault<'a>(error: &io::Error) -> Refusal<'a>
+    ensures { IsOther result }
+{
     match error.kind() {
         io::ErrorKind::OutOfMemory => Refusal::NoMemory,
         _ => Refusal::NoInput,
@@ -99,7 +111,11 @@ pub(crate) fn input_fault<'a>(error: &io::Error) -> Refusal<'a> {
 }
 
 /// Reads the next line with its end, and says whether there is one.
-fn next_line<'a, B: BufRead>(input: &mut B, line: &mut String) -> Result<bool, Refusal<'a>> {
+fn next_line<'a, B: BufRead>(input: &mut B, line: &mut String) -> Result<bool, Refusal<'a>>
+    ensures next { IfOk result (λ some. IfSome (B.remaining input.old)
+        (λ text. IsNext text some (string_bytes line.new) (B.remaining input.new))) }
+    ensures other { IfErr result IsOther }
+{
     line.clear();
     match input.read_line(line) {
         Ok(count) => Ok(count > 0),
@@ -107,18 +123,43 @@ fn next_line<'a, B: BufRead>(input: &mut B, line: &mut String) -> Result<bool, R
     }
 }
 
-fn without_end(line: &str) -> &str {
+fn without_end(line: &str) -> &str
+    ensures { result.now ≡ without_feed line.now }
+{
     match line.strip_suffix('\n') {
         Some(line) => line,
         None => line,
     }
 }
 
-fn flush<'a, W: Write>(out: &mut W) -> Result<(), Refusal<'a>> {
+fn flush<'a, W: Write>(out: &mut W) -> Result<(), Refusal<'a>>
+    ensures kept { Keeps (W.contents out.old) (W.contents out.new) }
+    ensures other { IfErr result IsOther }
+{
     match out.flush() {
         Ok(()) => Ok(()),
         Err(_) => Err(Refusal::NoRoom),
     }
+}
+
+/// Says of a line what it is, and lets it go out.
+fn explain_now<'a, W: Write>(
+    alloc: Global,
+    line: &str,
+    judge: &Judge,
+    counts: &mut Counts,
+    out: &mut W,
+) -> Result<(), Refusal<'a>>
+    ensures told { OnOk result (Appends (W.contents out.old) (W.contents out.new)
+        (line_told (judging_of judge.now) (without_feed line.now))) }
+    ensures wrong { OnOk result (nat_lt 0 counts.new.wrong ≡ (nat_lt 0 counts.old.wrong
+        || has_wrong (judging_of judge.now) (without_feed line.now))) }
+    ensures refused { OnOk result (nat_lt 0 counts.new.refused ≡ (nat_lt 0 counts.old.refused
+        || has_refused (without_feed line.now))) }
+    ensures other { IfErr result IsOther }
+{
+    explain_line(alloc, without_end(line), judge, counts, out)?;
+    flush(out)
 }
 
 /// Explains line after line, each as it comes and in the same `line`.
@@ -128,16 +169,20 @@ fn tell_each<'a, B: BufRead, W: Write>(
     line: &mut String,
     input: &mut B,
     out: &mut W,
-) -> Result<Counts, Refusal<'a>> {
+) -> Result<Counts, Refusal<'a>>
+    ensures told { IfOk result (λ counts. SaysAll (judging_of judge.now) (B.remaining input.old)
+        (W.contents out.old) (W.contents out.new) counts.wrong counts.refused) }
+    ensures other { IfErr result IsOther }
+{
     let mut counts = Counts::none();
     for _ in 0..u64::MAX {
         if !next_line(input, line)? {
             return Ok(counts);
         }
-        explain_line(alloc, without_end(line.as_str()), judge, &mut counts, out)?;
-        flush(out)?;
+        explain_now(alloc, line.as_str(), judge, &mut counts, out)?;
     }
-    Ok(counts)
+    // No input has so many lines.
+    Err(Refusal::NoInput)
 }
 
 fn tell_lines<'a, B: BufRead, W: Write>(
@@ -145,12 +190,19 @@ fn tell_lines<'a, B: BufRead, W: Write>(
     judge: &Judge,
     input: &mut B,
     out: &mut W,
-) -> Result<Counts, Refusal<'a>> {
+) -> Result<Counts, Refusal<'a>>
+    ensures told { IfOk result (λ counts. SaysAll (judging_of judge.now) (B.remaining input.old)
+        (W.contents out.old) (W.contents out.new) counts.wrong counts.refused) }
+    ensures other { IfErr result IsOther }
+{
     let mut line = String::new(alloc);
     tell_each(alloc, judge, &mut line, input, out)
 }
 
-fn asked_nonce<'a>(alloc: Global, words: &Words<'a>) -> Result<Option<[u8; 16]>, Refusal<'a>> {
+fn asked_nonce<'a>(alloc: Global, words: &Words<'a>) -> Result<Option<[u8; 16]>, Refusal<'a>>
+    ensures ok { IfOk result (AsksNonce words.now) }
+    ensures other { IfErr result IsOther }
+{
     match words.nonce {
         Some(_) => Ok(Some(nonce_of(alloc, words)?)),
         None => Ok(None),
@@ -161,14 +213,20 @@ fn judge_of<'a, S: Source>(
     alloc: Global,
     source: &S,
     words: &Words<'a>,
-) -> Result<Judge, Refusal<'a>> {
+) -> Result<Judge, Refusal<'a>>
+    ensures ok { IfOk result
+        (λ judge. IsJudging (S.gives source.now) words.now (judging_of judge)) }
+    ensures other { IfErr result IsOther }
+{
     let keys = keys_of(alloc, source, words)?;
     let nonce = asked_nonce(alloc, words)?;
     Ok(Judge { keys, nonce })
 }
 
 /// Refused where one of the replies is wrong, and else where one says that a request was refused.
-fn told<'a>(counts: Result<Counts, Refusal<'a>>) -> Result<(), Refusal<'a>> {
+fn told<'a>(counts: Result<Counts, Refusal<'a>>) -> Result<(), Refusal<'a>>
+    ensures { result ≡ told_counts counts.entry }
+{
     match counts {
         Ok(counts) if counts.wrong > 0 => Err(Refusal::WrongAnswer(counts.replies, counts.wrong)),
         Ok(counts) if counts.refused > 0 => {
@@ -179,6 +237,21 @@ fn told<'a>(counts: Result<Counts, Refusal<'a>>) -> Result<(), Refusal<'a>> {
     }
 }
 
+fn tell_all<'a, S: Source, B: BufRead, W: Write>(
+    alloc: Global,
+    source: &S,
+    words: &Words<'a>,
+    input: &mut B,
+    out: &mut W,
+) -> Result<Counts, Refusal<'a>>
+    ensures told { IfOk result (Explains (S.gives source.now) words.now (B.remaining input.old)
+        (W.contents out.old) (W.contents out.new)) }
+    ensures other { IfErr result IsOther }
+{
+    let judge = judge_of(alloc, source, words)?;
+    tell_lines(alloc, &judge, input, out)
+}
+
 /// Says of each `used` line what its reply is, and writes each other line as it is. Refused at the
 /// end where a MAC or a nonce was wrong, or a request was refused.
 pub fn tell<'a, S: Source, B: BufRead, W: Write>(
@@ -187,7 +260,9 @@ pub fn tell<'a, S: Source, B: BufRead, W: Write>(
     words: &Words<'a>,
     input: &mut B,
     out: &mut W,
-) -> Result<(), Refusal<'a>> {
-    let judge = judge_of(alloc, source, words)?;
-    told(tell_lines(alloc, &judge, input, out))
+) -> Result<(), Refusal<'a>>
+    ensures { ExplainDoes (S.gives source.now) words.now (B.remaining input.old)
+        (W.contents out.old) result (W.contents out.new) }
+{
+    told(tell_all(alloc, source, words, input, out))
 }

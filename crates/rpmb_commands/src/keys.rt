@@ -1,4 +1,9 @@
 //! The keys that answers are judged by.
+ghost use Rattle.std.specs.Prelude.{◌≡◌, IfErr, IfOk, MatchOption, OnErr, OnOk};
+ghost use Rattle.rpmb_commands.specs.Explaining.{IsOther};
+ghost use Rattle.rpmb_commands.specs.KeysSaid.{AddsKey, AddsKeys, AddsOthers, AddsOwn};
+ghost use Rattle.rpmb_commands.specs.KeysSaid.{IsForOthers, IsParted, keys_seen, no_keys};
+
 use crate::reading::key;
 use crate::refusal::Refusal;
 use crate::source::Source;
@@ -7,11 +12,14 @@ use rpmb_client::{GuestKey, Keys, Number, key_at, option_number};
 use std::alloc::Global;
 
 /// The guest of a word `G=KEY`, and the key's word; none where the key is for all other guests.
-fn guest_part<'a>(word: &'a str) -> Option<(&'a str, &'a str)> {
-    if word.starts_with('@') {
-        return None;
+fn guest_part<'a>(word: &'a str) -> Option<(&'a str, &'a str)>
+    ensures { MatchOption result (IsForOthers word.now)
+        (λ parts. IsParted word.now parts.0.now parts.1.now) }
+{
+    match word.strip_prefix('@') {
+        Some(_) => None,
+        None => word.split_once('='),
     }
-    word.split_once('=')
 }
 
 fn add_own<'a, S: Source>(
@@ -20,7 +28,11 @@ fn add_own<'a, S: Source>(
     keys: &mut Keys,
     guest: &'a str,
     word: &'a str,
-) -> Result<(), Refusal<'a>> {
+) -> Result<(), Refusal<'a>>
+    ensures ok { OnOk result (AddsOwn (S.gives source.now) guest.now word.now
+        (keys_seen keys.old) (keys_seen keys.new)) }
+    ensures other { IfErr result IsOther }
+{
     let guest = option_number(Some(guest), 0, 63, Number::Guest)?;
     if key_at(keys.own.as_slice(), guest).is_some() {
         return Err(Refusal::SecondKey(guest));
@@ -32,15 +44,16 @@ fn add_own<'a, S: Source>(
     }
 }
 
-fn add<'a, S: Source>(
+fn add_others<'a, S: Source>(
     alloc: Global,
     source: &S,
     keys: &mut Keys,
     word: &'a str,
-) -> Result<(), Refusal<'a>> {
-    if let Some((guest, word)) = guest_part(word) {
-        return add_own(alloc, source, keys, guest, word);
-    }
+) -> Result<(), Refusal<'a>>
+    ensures ok { OnOk result (AddsOthers (S.gives source.now) word.now
+        (keys_seen keys.old) (keys_seen keys.new)) }
+    ensures other { IfErr result IsOther }
+{
     if keys.others.is_some() {
         return Err(Refusal::SecondOfOthers);
     }
@@ -48,12 +61,32 @@ fn add<'a, S: Source>(
     Ok(())
 }
 
+fn add<'a, S: Source>(
+    alloc: Global,
+    source: &S,
+    keys: &mut Keys,
+    word: &'a str,
+) -> Result<(), Refusal<'a>>
+    ensures ok { OnOk result (AddsKey (S.gives source.now) word.now
+        (keys_seen keys.old) (keys_seen keys.new)) }
+    ensures other { IfErr result IsOther }
+{
+    match guest_part(word) {
+        Some((guest, word)) => add_own(alloc, source, keys, guest, word),
+        None => add_others(alloc, source, keys, word),
+    }
+}
+
 /// The keys that the words name, at most one for each guest and one for all others.
 pub fn keys_of<'a, S: Source>(
     alloc: Global,
     source: &S,
     words: &Words<'a>,
-) -> Result<Keys, Refusal<'a>> {
+) -> Result<Keys, Refusal<'a>>
+    ensures ok { IfOk result
+        (λ keys. AddsKeys (S.gives source.now) words.now.keys.items no_keys (keys_seen keys)) }
+    ensures other { IfErr result IsOther }
+{
     let mut keys = Keys::none(alloc);
     for word in words.keys.as_slice() {
         add(alloc, source, &mut keys, *word)?;

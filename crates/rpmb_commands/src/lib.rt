@@ -4,6 +4,7 @@
 
 mod asked;
 mod checking;
+mod counts;
 mod explaining;
 mod grammar;
 mod help;

@@ -24,7 +24,7 @@ fn perform_on<'a, S: Source, B: BufRead, W: Write>(
     out: &mut W,
 ) -> Result<(), Refusal<'a>>
     ensures { Does (S.gives source.now) (asked_of words.now.command.now) words.now
-        (W.contents out.old) result (W.contents out.new) }
+        (B.remaining input.old) (W.contents out.old) result (W.contents out.new) }
 {
     match asked_of(words.command) {
         Asked::ProgramKey => make_program_key(alloc, source, words, out),
@@ -39,8 +39,8 @@ fn perform_on<'a, S: Source, B: BufRead, W: Write>(
     }
 }
 
-/// Writes the line of a refusal, and gives its status: 3 where `explain` found each answer right and
-/// a request refused, else 1.
+/// Writes the line of a refusal, and gives its status: 3 where `explain` found each answer right
+/// and a request refused, else 1.
 pub fn report<E: Write>(refusal: Refusal<'_>, err: &mut E) -> u8
     ensures { result ≡ refusal_status refusal.entry }
 {
@@ -70,7 +70,8 @@ fn status_of<E: Write>(ended: Result<(), Refusal<'_>>, err: &mut E) -> u8
 }
 
 /// Performs a command, and gives the status that it ends with: 0, or 1 or 3 with one line on
-/// standard error. `source` gives the files that its words name, and `input` the lines of `rpmbd run`.
+/// standard error. `source` gives the files that its words name, and `input` the lines of
+/// `rpmbd run`.
 pub fn perform<S: Source, B: BufRead, W: Write, E: Write>(
     alloc: Global,
     source: &S,
@@ -79,8 +80,8 @@ pub fn perform<S: Source, B: BufRead, W: Write, E: Write>(
     out: &mut W,
     err: &mut E,
 ) -> u8
-    ensures { Performs (S.gives source.now) words.now (W.contents out.old) result
-        (W.contents out.new) }
+    ensures { Performs (S.gives source.now) words.now (B.remaining input.old)
+        (W.contents out.old) result (W.contents out.new) }
 {
     let ended = perform_on(alloc, source, words, input, out);
     let is_flushed = out.flush().is_ok();

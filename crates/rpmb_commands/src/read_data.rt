@@ -1,12 +1,21 @@
 //! The command that writes the blocks of a read.
+ghost use Rattle.std.specs.Prelude.{◌≡◌, IfErr, IfOk, IfSome, OnOk, Some};
+ghost use Rattle.std.specs.Io.KnownBytes.{Appends};
+ghost use Rattle.script.specs.Script.{lines_of};
+ghost use Rattle.rpmb_client.specs.Answer.{answer_of, blocks, read_of};
+ghost use Rattle.rpmb_client.specs.Seen.{read_seen, used_seen};
+ghost use Rattle.rpmb_commands.specs.ReadingData.{AreFirst, GivesData, GivesFirst, IsAnswered};
+ghost use Rattle.rpmb_commands.specs.Refusing.{KeepsUnless};
+
 use crate::explaining::input_fault;
 use crate::reading::key;
 use crate::refusal::Refusal;
 use crate::source::Source;
+use crate::values::nonce_of;
 use crate::words::Words;
 use rpmb_client::{
-    Choice, Number, ReadAnswer, Used, cut, find_answer, kind_text, option_nonce, option_number,
-    read_data, result_text,
+    Choice, Number, ReadAnswer, Used, cut, find_answer, kind_text, option_number, read_data,
+    result_text,
 };
 use std::alloc::Global;
 use std::io::{BufRead, Write};
@@ -16,7 +25,10 @@ fn answer_of<'a, B: BufRead>(
     alloc: Global,
     nonce: &[u8; 16],
     input: &mut B,
-) -> Result<Used, Refusal<'a>> {
+) -> Result<Used, Refusal<'a>>
+    ensures { IfOk result (λ used. IfSome (B.remaining input.old)
+        (λ text. answer_of nonce.now (lines_of text) ≡ Some (used_seen used))) }
+{
     let mut lines = String::new(alloc);
     match input.read_to_string(&mut lines) {
         Ok(_) => {}
@@ -29,19 +41,32 @@ fn answer_of<'a, B: BufRead>(
     }
 }
 
-/// The first bytes of blocks, so many as `--length` says, or all of them.
-fn first_bytes<'a, 'b>(words: &Words<'a>, blocks: &'b [u8]) -> Result<&'b [u8], Refusal<'a>> {
-    if words.length.is_none() {
-        return Ok(blocks);
-    }
-    let length = option_number(words.length, 0, 4096, Number::Length)?;
+/// The first bytes of blocks, so many as a word says.
+fn cut_at<'a, 'b>(word: &'a str, blocks: &'b [u8]) -> Result<&'b [u8], Refusal<'a>>
+    ensures { IfOk result (λ bytes. AreFirst (Some word.entry) blocks.now bytes.now) }
+{
+    let length = option_number(Some(word), 0, 4096, Number::Length)?;
     match cut(blocks, length as usize) {
         Some(bytes) => Ok(bytes),
         None => Err(Refusal::TooShort(length, blocks.len())),
     }
 }
 
-fn give<'a, W: Write>(bytes: &[u8], out: &mut W) -> Result<(), Refusal<'a>> {
+/// The first bytes of blocks, so many as `--length` says, or all of them.
+fn first_bytes<'a, 'b>(words: &Words<'a>, blocks: &'b [u8]) -> Result<&'b [u8], Refusal<'a>>
+    ensures { IfOk result (λ bytes. AreFirst words.now.length blocks.now bytes.now) }
+{
+    match words.length {
+        None => Ok(blocks),
+        Some(word) => cut_at(word, blocks),
+    }
+}
+
+fn give<'a, W: Write>(bytes: &[u8], out: &mut W) -> Result<(), Refusal<'a>>
+    ensures printed { OnOk result (Appends (W.contents out.old) (W.contents out.new) bytes.now) }
+    ensures silent { IfErr result
+        (λ refused. KeepsUnless refused (W.contents out.old) (W.contents out.new)) }
+{
     match out.write_all(bytes) {
         Ok(()) => Ok(()),
         Err(_) => Err(Refusal::NoRoom),
@@ -53,12 +78,19 @@ fn give_first<'a, W: Write>(
     words: &Words<'a>,
     blocks: &[u8],
     out: &mut W,
-) -> Result<(), Refusal<'a>> {
+) -> Result<(), Refusal<'a>>
+    ensures printed { OnOk result (GivesFirst words.now.length blocks.now
+        (W.contents out.old) (W.contents out.new)) }
+    ensures silent { IfErr result
+        (λ refused. KeepsUnless refused (W.contents out.old) (W.contents out.new)) }
+{
     give(first_bytes(words, blocks)?, out)
 }
 
 /// The blocks that a read gives, or why none, of a reply of so many bytes.
-fn blocks_of<'a>(read: ReadAnswer, count: usize) -> Result<Vec<u8>, Refusal<'a>> {
+fn blocks_of<'a>(read: ReadAnswer, count: usize) -> Result<Vec<u8>, Refusal<'a>>
+    ensures { IfOk result (λ all. read_seen read ≡ blocks all.items) }
+{
     match read {
         ReadAnswer::Blocks(blocks) => Ok(blocks),
         ReadAnswer::NoFrames => Err(Refusal::NoFrames(count)),
@@ -75,7 +107,9 @@ fn blocks_read<'a>(
     key: &[u8; 32],
     nonce: &[u8; 16],
     reply: &[u8],
-) -> Result<Vec<u8>, Refusal<'a>> {
+) -> Result<Vec<u8>, Refusal<'a>>
+    ensures { IfOk result (λ all. read_of key.now nonce.now reply.now ≡ blocks all.items) }
+{
     match read_data(alloc, key, nonce, reply) {
         Ok(read) => blocks_of(read, reply.len()),
         Err(_) => Err(Refusal::NoMemory),
@@ -88,7 +122,10 @@ fn blocks_answered<'a, B: BufRead>(
     key: &[u8; 32],
     nonce: &[u8; 16],
     input: &mut B,
-) -> Result<Vec<u8>, Refusal<'a>> {
+) -> Result<Vec<u8>, Refusal<'a>>
+    ensures { IfOk result (λ all. IfSome (B.remaining input.old)
+        (λ text. IsAnswered key.now nonce.now text all.items)) }
+{
     let used = answer_of(alloc, nonce, input)?;
     blocks_read(alloc, key, nonce, used.reply.as_slice())
 }
@@ -100,9 +137,14 @@ pub fn give_data<'a, S: Source, B: BufRead, W: Write>(
     words: &Words<'a>,
     input: &mut B,
     out: &mut W,
-) -> Result<(), Refusal<'a>> {
+) -> Result<(), Refusal<'a>>
+    ensures printed { OnOk result (GivesData (S.gives source.now) words.now
+        (B.remaining input.old) (W.contents out.old) (W.contents out.new)) }
+    ensures silent { IfErr result
+        (λ refused. KeepsUnless refused (W.contents out.old) (W.contents out.new)) }
+{
     let key = key(alloc, source, words.key())?;
-    let nonce = option_nonce(alloc, words.nonce)?;
+    let nonce = nonce_of(alloc, words)?;
     let blocks = blocks_answered(alloc, &key, &nonce, input)?;
     give_first(words, blocks.as_slice(), out)
 }

@@ -1,0 +1,139 @@
+-- What `explain` prints of the lines of a run.
+use Rattle.std.specs.Prelude.{ℕ, ◌≡◌, ◌≢◌, ◌++◌, ◌∷◌, [], Bool, false, true, if◌then◌else◌, nat_eq}
+use Rattle.std.specs.Prelude.{List, Option, Some, None, codes, Result, Ok, Err, IfErr, IfOk}
+use Rattle.std.specs.Prelude.{IfSome, nat_lt, ◌==◌}
+use Rattle.std.specs.Io.BufRead.{drop_through, take_through}
+use Rattle.std.specs.Io.KnownBytes.{Appends}
+use Rattle.std.specs.List.{flat_map, list_any, starts_with}
+use Rattle.rpmb_client.specs.Answer.{Used, used_of}
+use Rattle.rpmb_client.specs.Explained.{is_refused, is_wrong, reply_lines}
+use Rattle.rpmb_client.specs.Keys.{key_for}
+use Rattle.rpmb_commands.specs.KeysSaid.{AddsKeys, KeysSaid, keys_seen, no_keys}
+use Rattle.rpmb_commands.specs.Said.{nonce_of}
+use Rattle.rpmb_commands.specs.declared.counts.Counts.{Counts}
+use Rattle.rpmb_commands.specs.declared.explaining.Judge.{Judge}
+use Rattle.rpmb_commands.specs.declared.refusal.Refusal.{Refusal}
+use Rattle.rpmb_commands.specs.declared.refusal.Refusal.TheVariants as refusal
+use Rattle.rpmb_commands.specs.declared.words.Words.{Words}
+
+-- 1. A line
+
+-- what replies are judged by: the keys of guests, and the nonce that was asked with
+pub record Judging : Type 0 where
+  pub keys : KeysSaid
+  pub nonce : Option (List ℕ)
+
+abbrev pub judging_of : Judge → Judging
+judging_of judge = record { keys = keys_seen judge.keys; nonce = judge.nonce }
+
+abbrev pub key_of : Judging → ℕ → Option (List ℕ)
+key_of by guest = key_for by.keys.own by.keys.others guest
+
+-- what stands behind a line that gives no reply: one that begins as those that do was torn
+abbrev pub mark_of : List ℕ → List ℕ
+mark_of line =
+    if starts_with nat_eq line (codes "used") then codes " (torn: expected `used G LEN HEX`)"
+    else []
+
+abbrev pub told_of : Judging → Option Used → List ℕ → List ℕ
+told_of by None line = line ++ (mark_of line ++ 10 ∷ [])
+told_of by (Some used) line =
+    reply_lines used.guest used.reply (key_of by used.guest) by.nonce
+
+unfoldable pub line_told : Judging → List ℕ → List ℕ
+line_told by line = told_of by (used_of line) line
+
+-- whether a MAC or a nonce of its reply is wrong, and whether it says that a request was refused
+abbrev pub is_wrong_of : Judging → Option Used → Bool
+is_wrong_of by None = false
+is_wrong_of by (Some used) = is_wrong used.reply (key_of by used.guest) by.nonce
+
+abbrev pub is_refused_of : Option Used → Bool
+is_refused_of None = false
+is_refused_of (Some used) = is_refused used.reply
+
+abbrev pub has_wrong : Judging → List ℕ → Bool
+has_wrong by line = is_wrong_of by (used_of line)
+
+abbrev pub has_refused : List ℕ → Bool
+has_refused line = is_refused_of (used_of line)
+
+-- 2. All lines
+
+-- a line without its line feed
+abbrev pub without_feed : List ℕ → List ℕ
+without_feed [] = []
+without_feed (x ∷ []) = if x == 10 then [] else x ∷ []
+without_feed (x ∷ y ∷ rest) = x ∷ without_feed (y ∷ rest)
+
+-- what is read next of a text: its first line with its line feed, or nothing where it ends
+abbrev pub IsNext : List ℕ → Bool → List ℕ → Option (List ℕ) → Type 0
+IsNext text true line after =
+    (text ≢ []) × (line ≡ take_through 10 text) × (after ≡ Some (drop_through 10 text))
+IsNext text false line after = text ≡ []
+
+-- these are the first lines of a text, and this the rest
+abbrev pub IsCut : List ℕ → List (List ℕ) → List ℕ → Type 0
+IsCut text [] rest = text ≡ rest
+IsCut text (line ∷ lines) rest =
+    (text ≢ []) × (line ≡ without_feed (take_through 10 text))
+    × IsCut (drop_through 10 text) lines rest
+
+-- they were told, and so many of them are wrong, or say that a request was refused: none, or some
+pub record Said (by : Judging) (text rest : List ℕ) (start now : Option (List ℕ))
+    (wrong refused : ℕ) : Type 0 where
+  pub lines : List (List ℕ)
+  pub cut : IsCut text lines rest
+  pub printed : Appends start now (flat_map (line_told by) lines)
+  pub wrong_is : nat_lt 0 wrong ≡ list_any (has_wrong by) lines
+  pub refused_is : nat_lt 0 refused ≡ list_any has_refused lines
+
+-- all lines of what is read, where that is known
+abbrev pub SaysAll : Judging → Option (List ℕ) → (start now : Option (List ℕ)) → (wrong refused : ℕ)
+    → Type 0
+SaysAll by given start now wrong refused =
+    IfSome given (λ text. Said by text [] start now wrong refused)
+
+-- 3. How it ends
+
+-- any refusal but those that tell of answers
+abbrev pub IsOther : Refusal → Type 0
+IsOther (refusal.WrongAnswer replies wrong) = ⊥
+IsOther (refusal.RefusedAnswer replies refused) = ⊥
+IsOther r = Unit {0}
+
+-- a wrong answer is told before a refused request
+abbrev pub told_numbers : ℕ → ℕ → ℕ → Result (Unit {0}) Refusal
+told_numbers replies wrong refused =
+    if nat_lt 0 wrong then Err (refusal.WrongAnswer replies wrong)
+    else (if nat_lt 0 refused then Err (refusal.RefusedAnswer replies refused) else Ok tt)
+
+abbrev pub told_counts : Result Counts Refusal → Result (Unit {0}) Refusal
+told_counts (Ok counts) = told_numbers counts.replies counts.wrong counts.refused
+told_counts (Err r) = Err r
+
+-- the nonce of the words, where there is one
+abbrev pub AsksNonce : Words → Option (List ℕ) → Type 0
+AsksNonce words None = words.nonce ≡ None
+AsksNonce words (Some nonce) = nonce_of words ≡ Some nonce
+
+pub record IsJudging (gives : List ℕ → List ℕ → Type 0) (words : Words) (by : Judging)
+    : Type 0 where
+  pub keys : AddsKeys gives words.keys.items no_keys by.keys
+  pub nonce : AsksNonce words by.nonce
+
+-- by what the words say all lines were told
+pub record Explains (gives : List ℕ → List ℕ → Type 0) (words : Words) (given : Option (List ℕ))
+    (start now : Option (List ℕ)) (counts : Counts) : Type 0 where
+  pub by : Judging
+  pub by_is : IsJudging gives words by
+  pub told : SaysAll by given start now counts.wrong counts.refused
+
+-- It ends by what was found in them; with any other refusal nothing is said of what it printed.
+pub record ExplainDoes (gives : List ℕ → List ℕ → Type 0) (words : Words)
+    (given : Option (List ℕ)) (start : Option (List ℕ)) (ended : Result (Unit {0}) Refusal)
+    (now : Option (List ℕ)) : Type 0 where
+  pub counted : Result Counts Refusal
+  pub told : ended ≡ told_counts counted
+  pub explained : IfOk counted (Explains gives words given start now)
+  pub other : IfErr counted IsOther
