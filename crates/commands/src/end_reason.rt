@@ -50,11 +50,7 @@ fn misread(alloc: Global, task: Task<'_>) -> Option<String> {
 }
 
 /// Why the disk holds no image of the board: by its length, where that is another one.
-fn unformatted<D: Disk>(
-    alloc: Global,
-    task: Task<'_>,
-    disk: Option<&D>,
-) -> Option<String> {
+fn unformatted<D: Disk>(alloc: Global, task: Task<'_>, disk: Option<&D>) -> Option<String> {
     let (image, whole) = (task.place(), Layout::of(task.board).length());
     match disk {
         Some(disk) if disk.len() != whole => {
@@ -93,7 +89,11 @@ pub(crate) fn reason_of_end<D: Disk, W: Write>(
             let why = "holds the image of a board with other guests or other capacities";
             said(alloc, task.place(), why)
         }
-        Fault::DiskFault => said(alloc, task.place(), "a read, a write or a sync of it failed"),
+        Fault::DiskFault => said(
+            alloc,
+            task.place(),
+            "a read, a write or a sync of it failed",
+        ),
         Fault::BadScript { .. } => misread(alloc, task),
         Fault::OutOfRange => {
             let why = "a store reaches beyond its guest's memory";
