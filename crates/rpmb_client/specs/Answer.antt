@@ -3,6 +3,7 @@ use Rattle.std.specs.Prelude.{ℕ, ◌==◌, ◌/◌, ◌*◌, ◌&&◌, not, Bo
 use Rattle.std.specs.Prelude.{length, codes, Option, Some, None, option_and_then}
 use Rattle.std.specs.List.{flat_map}
 use Rattle.std.specs.Str.{bytes_eq}
+use Rattle.script.specs.Script.{lines_of}
 use Rattle.script.specs.Words.{bytes_of, number_of, words_of}
 use Rattle.rpmb_frame.specs.Codes.{res_ok, resp_data_read}
 use Rattle.rpmb_frame.specs.Table.{first_row}
@@ -100,3 +101,7 @@ unfoldable pub answer_of : List ℕ → List (List ℕ) → Option Used
 answer_of nonce lines =
     if length (replies_of None lines) == 1 then only (replies_of None lines)
     else only (replies_of (Some nonce) lines)
+
+-- and among those of a text
+abbrev pub answer_in : List ℕ → List ℕ → Option Used
+answer_in nonce text = answer_of nonce (lines_of text)

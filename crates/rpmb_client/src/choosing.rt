@@ -1,7 +1,7 @@
 //! The answer to a request among the lines of a run.
 ghost use Rattle.std.specs.Prelude.{◌≡◌, ℕ, IfOk, None, Option, Some, map, option_map};
 ghost use Rattle.script.specs.Script.{lines_of};
-ghost use Rattle.rpmb_client.specs.Answer.{answer_of, is_asked, replies_of, reply_of};
+ghost use Rattle.rpmb_client.specs.Answer.{answer_in, is_asked, replies_of, reply_of};
 ghost use Rattle.rpmb_client.specs.Seen.{chosen, used_seen};
 
 use crate::answer::{Used, has_nonce, is_whole, read_used};
@@ -56,7 +56,7 @@ fn replies_of(alloc: Global, asked: Option<[u8; 16]>, lines: &str) -> Result<Vec
 /// The answer among lines: their only reply, or else the only one with the nonce.
 #[tactic(auto, unfolding(crate::specs::Answer::answer_of))]
 pub fn find_answer(alloc: Global, nonce: &[u8; 16], lines: &str) -> Result<Choice, AllocError>
-    ensures { IfOk result (λ choice. chosen choice ≡ answer_of nonce.now (lines_of lines.now)) }
+    ensures { IfOk result (λ choice. chosen choice ≡ answer_in nonce.now lines.now) }
 {
     let mut all = replies_of(alloc, None, lines)?;
     let count = all.len();

@@ -1,5 +1,5 @@
 -- The keys that words say, one after another.
-use Rattle.std.proofs.Common.{◌≡◌, ◌≢◌, ◌<◌, ℕ, List, [], ◌∷◌, ◌++◌, Bor, Option, Some, None, MatchOption, Result, Ok, Err, OnOk, length, get_or, refl, inr, subst, sym}
+use Rattle.std.proofs.Common.{◌≡◌, ◌≢◌, ◌<◌, ℕ, List, [], ◌∷◌, ◌++◌, Bor, Option, Some, None, MatchOption, Result, Ok, Err, OnOk, length, get_or, refl, inr, subst}
 use Rattle.rpmb_client.specs.declared.keys.Keys.{Keys}
 use Rattle.rpmb_commands.specs.KeysSaid.{AddsKey, AddsKeys, IsForOthers, IsParted, KeysSaid, keys_seen, no_keys}
 

@@ -1,3 +1,4 @@
 mod Refused
 mod Lines
 mod KeyLemmas
+mod DataLemmas

@@ -1,9 +1,8 @@
 -- What a command has done, by its name.
-use Rattle.std.specs.Prelude.{ℕ, ◌≡◌, Bool, true, false, List, [], ◌∷◌, Option, Result, Ok, Err}
+use Rattle.std.specs.Prelude.{if◌then◌else◌, ℕ, ◌≡◌, Bool, true, false, List, Option, Result, Ok, Err}
 use Rattle.std.specs.Prelude.{codes}
 use Rattle.std.specs.Str.{bytes_eq}
 use Rattle.std.specs.Io.KnownBytes.{Keeps}
-use Rattle.rpmb_frame.specs.Table.{first_row}
 use Rattle.rpmb_commands.specs.Explaining.{ExplainDoes}
 use Rattle.rpmb_commands.specs.ReadingData.{ReadDataDoes}
 use Rattle.rpmb_commands.specs.Making.{ProgramKeyDoes, ReadCounterDoes, ReadDoes, ResultDoes}
@@ -17,16 +16,16 @@ use Rattle.rpmb_commands.specs.declared.words.Words.{Words}
 
 -- the command of a name
 unfoldable pub asked_of : List ℕ → Asked
-asked_of name = first_row (
-    (bytes_eq name (codes "program-key"), asked.ProgramKey)
-    ∷ (bytes_eq name (codes "read-counter"), asked.ReadCounter)
-    ∷ (bytes_eq name (codes "write"), asked.Write)
-    ∷ (bytes_eq name (codes "read"), asked.Read)
-    ∷ (bytes_eq name (codes "result"), asked.Outcome)
-    ∷ (bytes_eq name (codes "explain"), asked.Explain)
-    ∷ (bytes_eq name (codes "read-data"), asked.ReadData)
-    ∷ (bytes_eq name (codes "check"), asked.Check)
-    ∷ []) asked.Unknown
+asked_of name =
+    if bytes_eq name (codes "program-key") then asked.ProgramKey
+    else (if bytes_eq name (codes "read-counter") then asked.ReadCounter
+    else (if bytes_eq name (codes "write") then asked.Write
+    else (if bytes_eq name (codes "read") then asked.Read
+    else (if bytes_eq name (codes "result") then asked.Outcome
+    else (if bytes_eq name (codes "explain") then asked.Explain
+    else (if bytes_eq name (codes "read-data") then asked.ReadData
+    else (if bytes_eq name (codes "check") then asked.Check
+    else asked.Unknown)))))))
 
 -- What a command has done, that was given these lines. Nothing is said here of `check`.
 abbrev pub Does : (List ℕ → List ℕ → Type 0) → Asked → Words → (given start : Option (List ℕ))

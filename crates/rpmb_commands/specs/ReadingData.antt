@@ -1,24 +1,32 @@
 -- The bytes that `read-data` writes, by its words and the lines that it is given.
-use Rattle.std.specs.Prelude.{ℕ, ◌≡◌, List, Option, None, Some, Result, Ok, IfErr, IfSome}
-use Rattle.std.specs.Prelude.{OnOk}
+use Rattle.std.specs.Prelude.{ℕ, ◌≡◌, ◌<◌, List, Option, None, Some, Result, Ok, Err, IfErr}
+use Rattle.std.specs.Prelude.{IfSome, OnOk, length}
 use Rattle.std.specs.Borrow.{Bor}
 use Rattle.std.specs.Io.KnownBytes.{Appends}
-use Rattle.script.specs.Script.{lines_of}
-use Rattle.rpmb_client.specs.Answer.{Used, answer_of, blocks, read_of}
+use Rattle.rpmb_client.specs.Answer.{Read, Used, answer_in, blocks, no_frames, other_response}
+use Rattle.rpmb_client.specs.Answer.{read_of, refused, wrong_mac, wrong_nonce}
 use Rattle.rpmb_client.specs.Blocks.{cut}
+use Rattle.rpmb_client.specs.Explained.{kind_text, result_text}
 use Rattle.rpmb_client.specs.Options.{number_said}
 use Rattle.rpmb_client.specs.declared.refusal.Number.TheVariants as number
-use Rattle.rpmb_commands.specs.KeySaid.{SaysKey}
-use Rattle.rpmb_commands.specs.Refusing.{KeepsUnless}
-use Rattle.rpmb_commands.specs.Said.{key_word, nonce_of}
+use Rattle.rpmb_commands.specs.KeySaid.{IsWhyNoKeySaid, SaysKey}
+use Rattle.rpmb_commands.specs.Refusing.{IsOfReading, KeepsUnless}
+use Rattle.rpmb_commands.specs.Said.{IsWhyNonce, key_word, nonce_of, or_refusal}
 use Rattle.rpmb_commands.specs.declared.refusal.Refusal.{Refusal}
+use Rattle.rpmb_commands.specs.declared.refusal.Refusal.TheVariants as refusal
 use Rattle.rpmb_commands.specs.declared.words.Words.{Words}
+
+-- 1. What is written
+
+-- the number of --length, or its refusal
+unfoldable pub length_said : Bor (List ℕ) → Result ℕ Refusal
+length_said word = or_refusal (number_said (Some word) 0 4096 number.Length)
 
 -- all bytes, or as many as --length says
 abbrev pub AreFirst : Option (Bor (List ℕ)) → List ℕ → List ℕ → Type 0
 AreFirst None all bytes = bytes ≡ all
 AreFirst (Some word) all bytes =
-    (n : ℕ) × (number_said (Some word) 0 4096 number.Length ≡ Ok n) × (cut n all ≡ Some bytes)
+    (n : ℕ) × (length_said word ≡ Ok n) × (cut n all ≡ Some bytes)
 
 -- these are written
 pub record GivesFirst (length : Option (Bor (List ℕ))) (all : List ℕ)
@@ -30,7 +38,7 @@ pub record GivesFirst (length : Option (Bor (List ℕ))) (all : List ℕ)
 -- the answer among lines, which a read's it is, with its MAC and its nonce
 pub record IsAnswered (key nonce text all : List ℕ) : Type 0 where
   pub used : Used
-  pub answer : answer_of nonce (lines_of text) ≡ Some used
+  pub answer : answer_in nonce text ≡ Some used
   pub right : read_of key nonce used.reply ≡ blocks all
 
 pub record GivesData (gives : List ℕ → List ℕ → Type 0) (words : Words) (given : Option (List ℕ))
@@ -43,9 +51,66 @@ pub record GivesData (gives : List ℕ → List ℕ → Type 0) (words : Words) 
   pub answered : IfSome given (λ text. IsAnswered key nonce text all)
   pub printed : GivesFirst words.length all start now
 
+-- 2. Why nothing is written
+
+-- the lines aren't read, or have no answer
+pub data WhyNoAnswer (nonce text : List ℕ) (r : Refusal) : Type 0 where
+  answer_unread : IsOfReading r → WhyNoAnswer nonce text r
+  answer_none : answer_in nonce text ≡ None → (count asked : ℕ)
+      → r ≡ refusal.NoAnswer count asked → WhyNoAnswer nonce text r
+
+-- how a read that gives no blocks is told, of a reply of so many bytes
+abbrev pub IsTold : ℕ → Read → Refusal → Type 0
+IsTold count (blocks all) r = ⊥
+IsTold count no_frames r = r ≡ refusal.NoFrames count
+IsTold count wrong_mac r = r ≡ refusal.WrongMac
+IsTold count wrong_nonce r = r ≡ refusal.WrongNonce
+IsTold count (other_response kind) r =
+    (text : Bor (List ℕ)) × (r ≡ refusal.OtherResponse text) × (text.now ≡ kind_text kind)
+IsTold count (refused code) r =
+    (text : Bor (List ℕ)) × (r ≡ refusal.Refused text) × (text.now ≡ result_text code)
+
+pub data WhyNotRead (key nonce reply : List ℕ) (r : Refusal) : Type 0 where
+  read_memory : r ≡ refusal.NoMemory → WhyNotRead key nonce reply r
+  read_refused : IsTold (length reply) (read_of key nonce reply) r → WhyNotRead key nonce reply r
+
+-- the answer that there is gives no blocks
+pub data WhyNoBlocks (key nonce text : List ℕ) (r : Refusal) : Type 0 where
+  blocks_answer : WhyNoAnswer nonce text r → WhyNoBlocks key nonce text r
+  blocks_read : (used : Used) → answer_in nonce text ≡ Some used
+      → WhyNotRead key nonce used.reply r → WhyNoBlocks key nonce text r
+
+-- as many bytes as --length says aren't there, or it says no number
+pub data WhyNotSoMany (word : Bor (List ℕ)) (all : List ℕ) (r : Refusal) : Type 0 where
+  many_number : length_said word ≡ Err r → WhyNotSoMany word all r
+  many_short : (n : ℕ) → length_said word ≡ Ok n → length all < n
+      → r ≡ refusal.TooShort n (length all) → WhyNotSoMany word all r
+
+abbrev pub WhyNotFirst : Option (Bor (List ℕ)) → List ℕ → Refusal → Type 0
+WhyNotFirst None all r = ⊥
+WhyNotFirst (Some word) all r = WhyNotSoMany word all r
+
+pub data WhyNotGiven (length : Option (Bor (List ℕ))) (all : List ℕ) (r : Refusal) : Type 0 where
+  given_first : WhyNotFirst length all r → WhyNotGiven length all r
+  given_room : r ≡ refusal.NoRoom → WhyNotGiven length all r
+
+-- the first of these that is so
+pub data WhyNoData (gives : List ℕ → List ℕ → Type 0) (words : Words) (given : Option (List ℕ))
+    (r : Refusal) : Type 0 where
+  data_key : IsWhyNoKeySaid gives (key_word words) r → WhyNoData gives words given r
+  data_nonce : (key : List ℕ) → SaysKey gives (key_word words) key → IsWhyNonce words r
+      → WhyNoData gives words given r
+  data_blocks : (key nonce : List ℕ) → SaysKey gives (key_word words) key
+      → nonce_of words ≡ Some nonce → IfSome given (λ text. WhyNoBlocks key nonce text r)
+      → WhyNoData gives words given r
+  data_first : (key nonce all : List ℕ) → SaysKey gives (key_word words) key
+      → nonce_of words ≡ Some nonce → IfSome given (λ text. IsAnswered key nonce text all)
+      → WhyNotGiven words.length all r → WhyNoData gives words given r
+
 -- nothing is written where it is refused, unless standard output took no more
 pub record ReadDataDoes (gives : List ℕ → List ℕ → Type 0) (words : Words)
     (given : Option (List ℕ)) (start : Option (List ℕ)) (ended : Result (Unit {0}) Refusal)
     (now : Option (List ℕ)) : Type 0 where
   pub printed : OnOk ended (GivesData gives words given start now)
+  pub refused : IfErr ended (WhyNoData gives words given)
   pub silent : IfErr ended (λ r. KeepsUnless r start now)

@@ -24,6 +24,12 @@ IsOfWriting refusal.NoMemory = Unit {0}
 IsOfWriting refusal.NoRoom = Unit {0}
 IsOfWriting r = ⊥
 
+-- memory was refused, or standard input wasn't read
+abbrev pub IsOfReading : Refusal → Type 0
+IsOfReading refusal.NoInput = Unit {0}
+IsOfReading refusal.NoMemory = Unit {0}
+IsOfReading r = ⊥
+
 -- nothing was printed, unless standard output took no more
 abbrev pub KeepsUnless : Refusal → Option (List ℕ) → Option (List ℕ) → Type 0
 KeepsUnless r start now = r ≢ refusal.NoRoom → Keeps start now

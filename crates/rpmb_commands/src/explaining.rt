@@ -8,6 +8,7 @@ ghost use Rattle.rpmb_commands.specs.Explaining.{IsNext, IsOther, SaysAll, has_r
 ghost use Rattle.rpmb_commands.specs.Explaining.{is_refused_of, is_wrong_of, judging_of};
 ghost use Rattle.rpmb_commands.specs.Explaining.{line_told, mark_of, told_counts, told_of};
 ghost use Rattle.rpmb_commands.specs.Explaining.{without_feed};
+ghost use Rattle.rpmb_commands.specs.Refusing.{IsOfReading};
 
 use crate::counts::Counts;
 use crate::keys::keys_of;
@@ -102,7 +103,8 @@ fn explain_line<'a, W: Write>(
 }
 
 pub(crate) fn input_fault<'a>(error: &io::Error) -> Refusal<'a>
-    ensures { IsOther result }
+    ensures reading { IsOfReading result }
+    ensures other { IsOther result }
 {
     match error.kind() {
         io::ErrorKind::OutOfMemory => Refusal::NoMemory,

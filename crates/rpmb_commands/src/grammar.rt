@@ -1,6 +1,6 @@
 //! The commands as `clap` reads them: a row for each, with a row for each of its options.
 use crate::help::{
-    CHECK, EXPLAIN, PROGRAM, PROGRAM_KEY, READ, READ_COUNTER, READ_DATA, RESULT, WRITE,
+    CHECK, EXPLAIN, PROGRAM, PROGRAM_KEY, READ, READ_COUNTER, READ_DATA, RESULT, VERSION, WRITE,
 };
 use clap::{Arg, ArgAction, Command};
 use std::alloc::{AllocError, Global};
@@ -272,6 +272,7 @@ fn commands_of<'a>(alloc: Global, rows: &[CommandRow]) -> Result<Vec<Command<'a>
 pub fn program<'a>(alloc: Global) -> Result<Command<'a>, AllocError> {
     let commands = commands_of(alloc, &COMMANDS)?;
     Command::new(alloc, "rpmb")
+        .version(VERSION)
         .about("Makes the requests of scripts for rpmbd, and says what its answers are")
         .subcommand_required(true)
         .after_help(PROGRAM)

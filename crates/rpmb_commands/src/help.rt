@@ -1,5 +1,8 @@
 //! What stands behind the help of each command: what it prints, and its statuses.
 
+/// The version, and the logic that the program was proved with, as `rt version` names it.
+pub const VERSION: &str = "0.1 (logic dac8208d650f15bf)";
+
 pub const PROGRAM: &str = "\
 The lines that these commands make go into a script, and the lines that `rpmbd run`\n\
 prints of it into explain or read-data:\n\

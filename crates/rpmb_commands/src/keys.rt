@@ -1,5 +1,5 @@
 //! The keys that answers are judged by.
-ghost use Rattle.std.specs.Prelude.{◌≡◌, IfErr, IfOk, MatchOption, OnErr, OnOk};
+ghost use Rattle.std.specs.Prelude.{IfErr, IfOk, MatchOption, OnOk};
 ghost use Rattle.rpmb_commands.specs.Explaining.{IsOther};
 ghost use Rattle.rpmb_commands.specs.KeysSaid.{AddsKey, AddsKeys, AddsOthers, AddsOwn};
 ghost use Rattle.rpmb_commands.specs.KeysSaid.{IsForOthers, IsParted, keys_seen, no_keys};

@@ -1,5 +1,5 @@
 //! The commands that make the line of one request.
-ghost use Rattle.std.specs.Prelude.{◌≡◌, IfErr, IfOk, OnOk};
+ghost use Rattle.std.specs.Prelude.{◌≡◌, IfErr, OnOk};
 ghost use Rattle.rpmb_commands.specs.Making.{CounterLine, KeyLine, ReadLine, ResultLine};
 ghost use Rattle.rpmb_commands.specs.Making.{WhyNoCounterLine, WhyNoKeyLine, WhyNoReadLine};
 ghost use Rattle.rpmb_commands.specs.Making.{WhyNoResultLine};

@@ -1,22 +1,21 @@
 //! The command that writes the blocks of a read.
 ghost use Rattle.std.specs.Prelude.{◌≡◌, IfErr, IfOk, IfSome, OnOk, Some};
 ghost use Rattle.std.specs.Io.KnownBytes.{Appends};
-ghost use Rattle.script.specs.Script.{lines_of};
-ghost use Rattle.rpmb_client.specs.Answer.{answer_of, blocks, read_of};
+ghost use Rattle.rpmb_client.specs.Answer.{answer_in, blocks, read_of};
 ghost use Rattle.rpmb_client.specs.Seen.{read_seen, used_seen};
 ghost use Rattle.rpmb_commands.specs.ReadingData.{AreFirst, GivesData, GivesFirst, IsAnswered};
+ghost use Rattle.rpmb_commands.specs.ReadingData.{IsTold, WhyNoAnswer, WhyNoBlocks, WhyNoData};
+ghost use Rattle.rpmb_commands.specs.ReadingData.{WhyNotFirst, WhyNotGiven, WhyNotRead};
+ghost use Rattle.rpmb_commands.specs.ReadingData.{WhyNotSoMany};
 ghost use Rattle.rpmb_commands.specs.Refusing.{KeepsUnless};
 
 use crate::explaining::input_fault;
 use crate::reading::key;
 use crate::refusal::Refusal;
 use crate::source::Source;
-use crate::values::nonce_of;
+use crate::values::{length_of, nonce_of};
 use crate::words::Words;
-use rpmb_client::{
-    Choice, Number, ReadAnswer, Used, cut, find_answer, kind_text, option_number, read_data,
-    result_text,
-};
+use rpmb_client::{Choice, ReadAnswer, Used, cut, find_answer, kind_text, read_data, result_text};
 use std::alloc::Global;
 use std::io::{BufRead, Write};
 
@@ -26,8 +25,10 @@ fn answer_of<'a, B: BufRead>(
     nonce: &[u8; 16],
     input: &mut B,
 ) -> Result<Used, Refusal<'a>>
-    ensures { IfOk result (λ used. IfSome (B.remaining input.old)
-        (λ text. answer_of nonce.now (lines_of text) ≡ Some (used_seen used))) }
+    ensures ok { IfOk result (λ used. IfSome (B.remaining input.old)
+        (λ text. answer_in nonce.now text ≡ Some (used_seen used))) }
+    ensures err { IfErr result (λ refused. IfSome (B.remaining input.old)
+        (λ text. WhyNoAnswer nonce.now text refused)) }
 {
     let mut lines = String::new(alloc);
     match input.read_to_string(&mut lines) {
@@ -43,9 +44,10 @@ fn answer_of<'a, B: BufRead>(
 
 /// The first bytes of blocks, so many as a word says.
 fn cut_at<'a, 'b>(word: &'a str, blocks: &'b [u8]) -> Result<&'b [u8], Refusal<'a>>
-    ensures { IfOk result (λ bytes. AreFirst (Some word.entry) blocks.now bytes.now) }
+    ensures ok { IfOk result (λ bytes. AreFirst (Some word.entry) blocks.now bytes.now) }
+    ensures err { IfErr result (WhyNotSoMany word.entry blocks.now) }
 {
-    let length = option_number(Some(word), 0, 4096, Number::Length)?;
+    let length = length_of(word)?;
     match cut(blocks, length as usize) {
         Some(bytes) => Ok(bytes),
         None => Err(Refusal::TooShort(length, blocks.len())),
@@ -54,7 +56,8 @@ fn cut_at<'a, 'b>(word: &'a str, blocks: &'b [u8]) -> Result<&'b [u8], Refusal<'
 
 /// The first bytes of blocks, so many as `--length` says, or all of them.
 fn first_bytes<'a, 'b>(words: &Words<'a>, blocks: &'b [u8]) -> Result<&'b [u8], Refusal<'a>>
-    ensures { IfOk result (λ bytes. AreFirst words.now.length blocks.now bytes.now) }
+    ensures ok { IfOk result (λ bytes. AreFirst words.now.length blocks.now bytes.now) }
+    ensures err { IfErr result (WhyNotFirst words.now.length blocks.now) }
 {
     match words.length {
         None => Ok(blocks),
@@ -64,8 +67,7 @@ fn first_bytes<'a, 'b>(words: &Words<'a>, blocks: &'b [u8]) -> Result<&'b [u8], 
 
 fn give<'a, W: Write>(bytes: &[u8], out: &mut W) -> Result<(), Refusal<'a>>
     ensures printed { OnOk result (Appends (W.contents out.old) (W.contents out.new) bytes.now) }
-    ensures silent { IfErr result
-        (λ refused. KeepsUnless refused (W.contents out.old) (W.contents out.new)) }
+    ensures err { IfErr result (λ refused. refused ≡ Refusal.NoRoom) }
 {
     match out.write_all(bytes) {
         Ok(()) => Ok(()),
@@ -81,6 +83,7 @@ fn give_first<'a, W: Write>(
 ) -> Result<(), Refusal<'a>>
     ensures printed { OnOk result (GivesFirst words.now.length blocks.now
         (W.contents out.old) (W.contents out.new)) }
+    ensures err { IfErr result (WhyNotGiven words.now.length blocks.now) }
     ensures silent { IfErr result
         (λ refused. KeepsUnless refused (W.contents out.old) (W.contents out.new)) }
 {
@@ -89,7 +92,8 @@ fn give_first<'a, W: Write>(
 
 /// The blocks that a read gives, or why none, of a reply of so many bytes.
 fn blocks_of<'a>(read: ReadAnswer, count: usize) -> Result<Vec<u8>, Refusal<'a>>
-    ensures { IfOk result (λ all. read_seen read ≡ blocks all.items) }
+    ensures ok { IfOk result (λ all. read_seen read ≡ blocks all.items) }
+    ensures err { IfErr result (IsTold count (read_seen read)) }
 {
     match read {
         ReadAnswer::Blocks(blocks) => Ok(blocks),
@@ -108,7 +112,8 @@ fn blocks_read<'a>(
     nonce: &[u8; 16],
     reply: &[u8],
 ) -> Result<Vec<u8>, Refusal<'a>>
-    ensures { IfOk result (λ all. read_of key.now nonce.now reply.now ≡ blocks all.items) }
+    ensures ok { IfOk result (λ all. read_of key.now nonce.now reply.now ≡ blocks all.items) }
+    ensures err { IfErr result (WhyNotRead key.now nonce.now reply.now) }
 {
     match read_data(alloc, key, nonce, reply) {
         Ok(read) => blocks_of(read, reply.len()),
@@ -123,8 +128,10 @@ fn blocks_answered<'a, B: BufRead>(
     nonce: &[u8; 16],
     input: &mut B,
 ) -> Result<Vec<u8>, Refusal<'a>>
-    ensures { IfOk result (λ all. IfSome (B.remaining input.old)
+    ensures ok { IfOk result (λ all. IfSome (B.remaining input.old)
         (λ text. IsAnswered key.now nonce.now text all.items)) }
+    ensures err { IfErr result (λ refused. IfSome (B.remaining input.old)
+        (λ text. WhyNoBlocks key.now nonce.now text refused)) }
 {
     let used = answer_of(alloc, nonce, input)?;
     blocks_read(alloc, key, nonce, used.reply.as_slice())
@@ -140,6 +147,8 @@ pub fn give_data<'a, S: Source, B: BufRead, W: Write>(
 ) -> Result<(), Refusal<'a>>
     ensures printed { OnOk result (GivesData (S.gives source.now) words.now
         (B.remaining input.old) (W.contents out.old) (W.contents out.new)) }
+    ensures refused { IfErr result
+        (WhyNoData (S.gives source.now) words.now (B.remaining input.old)) }
     ensures silent { IfErr result
         (λ refused. KeepsUnless refused (W.contents out.old) (W.contents out.new)) }
 {

@@ -1,6 +1,7 @@
 //! The values of options, or the refusal of the command.
 ghost use Rattle.std.specs.Prelude.{◌≡◌, ◌≤◌, ◌+◌, IfErr, IfOk, Some};
 ghost use Rattle.rpmb_client.specs.Options.{number_said};
+ghost use Rattle.rpmb_commands.specs.ReadingData.{length_said};
 ghost use Rattle.rpmb_commands.specs.Said.{IsWhyNonce, address_said, count_said, counter_said};
 ghost use Rattle.rpmb_commands.specs.Said.{guest_said, most_said, nonce_of, or_refusal, range_said};
 
@@ -93,4 +94,12 @@ pub fn nonce_of<'a>(alloc: Global, words: &Words<'a>) -> Result<[u8; 16], Refusa
         Ok(nonce) => Ok(nonce),
         Err(told) => Err(Refusal::from(told)),
     }
+}
+
+/// How many bytes of a read are wanted.
+#[tactic(auto, unfolding(crate::specs::ReadingData::length_said))]
+pub fn length_of<'a>(word: &'a str) -> Result<u64, Refusal<'a>>
+    ensures { result ≡ length_said word.entry }
+{
+    number(Some(word), 0, 4096, Number::Length)
 }

@@ -1,6 +1,6 @@
 //! From words to a command's name and the values of its options.
 ghost use Rattle.std.specs.Prelude.{◌≡◌};
-ghost use Rattle.rpmb_commands.specs.Said.{first_word, key_word};
+ghost use Rattle.rpmb_commands.specs.Said.{key_word};
 
 use crate::grammar::program;
 use clap::ArgMatches;

@@ -1,4 +1,4 @@
-use Rattle.std.proofs.Common.{length, take, ◌<◌, ◌∙◌, arith, refl, rules, subst, sym, ap, ap₂}
+use Rattle.std.proofs.Common.{take, ◌∙◌, subst, sym}
 use Rattle.std.proofs.lemmas.List.{take_all, take_more}
 use Rattle.rpmb_commands.specs.KeysSaid.{AddsKeys, keys_seen, no_keys}
 use Rattle.rpmb_commands.proofs.KeyLemmas.{AddsKeys-push, no_keys_seen}
