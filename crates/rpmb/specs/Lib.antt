@@ -1,1 +1,2 @@
+pub mod System
 pub mod Counter

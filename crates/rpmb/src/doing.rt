@@ -1,5 +1,10 @@
 //! `rpmb do`: one operation on the image of a board, from its request to what the answer says. Its
 //! request and its answer are lines in memory, made and read by the program's other commands.
+ghost use Rattle.std.specs.Prelude.{◌≡◌, ◌≢◌, IfErr, IfOk, OnOk, [], Some, string_bytes};
+ghost use Rattle.rpmb_commands.specs.Performing.{Performs};
+ghost use Rattle.rpmb.specs.Counter.{IsCounterSaid};
+ghost use Rattle.rpmb.specs.System.{any_file};
+
 use crate::counter::counter_of;
 use crate::image::Place;
 use crate::nonce::random_nonce;
@@ -22,7 +27,12 @@ fn command<W: Write>(
     words: &Words<'_>,
     lines: &[u8],
     out: &mut W,
-) -> Result<(), Stop> {
+) -> Result<(), Stop>
+    ensures ok { OnOk result
+        (Performs any_file words.now (W.contents out.old) 0 (W.contents out.new)) }
+    ensures err { IfErr result (λ stop. (stop.status ≢ 0)
+        × Performs any_file words.now (W.contents out.old) stop.status (W.contents out.new)) }
+{
     let mut input = lines;
     let source = System { rt };
     match perform(
@@ -38,15 +48,24 @@ fn command<W: Write>(
     }
 }
 
+/// Lines as a text. It never comes to a refusal, since all lines are ASCII.
+fn text_of(rt: &HostRuntime, lines: Vec<u8>) -> Result<String, Stop>
+    ensures { IfOk result (λ text. string_bytes text ≡ lines.items) }
+{
+    match String::from_utf8(lines) {
+        Ok(text) => Ok(text),
+        Err(_) => Err(told(rt, Refusal::NoText("lines in memory"))),
+    }
+}
+
 /// The script that a command makes.
-fn script_of(rt: &HostRuntime, words: &Words<'_>) -> Result<String, Stop> {
+fn script_of(rt: &HostRuntime, words: &Words<'_>) -> Result<String, Stop>
+    ensures { IfOk result
+        (λ script. Performs any_file words.now (Some []) 0 (Some (string_bytes script))) }
+{
     let mut script = Vec::new(rt.alloc());
     command(rt, words, b"", &mut script)?;
-    match String::from_utf8(script) {
-        Ok(script) => Ok(script),
-        // It never comes to this: the lines are ASCII.
-        Err(_) => Err(told(rt, Refusal::NoText("the request"))),
-    }
+    text_of(rt, script)
 }
 
 /// Performs the requests that a command makes. Where a fault ends them, it is told, and the answers
@@ -104,17 +123,16 @@ fn read<W: Write>(
     command(rt, &words, answers.as_slice(), out)
 }
 
-/// The write counter that the lines of an answer say, where its MAC and its nonce are right.
+/// The write counter that the answer among lines says, where its MAC and its nonce are right.
 fn counter_said<'a>(
     rt: &HostRuntime,
     words: &Words<'a>,
-    lines: &[u8],
-) -> Result<Option<u32>, Refusal<'a>> {
+    lines: &str,
+) -> Result<Option<u32>, Refusal<'a>>
+    ensures { IfOk result (IsCounterSaid any_file words.now lines.now) }
+{
     let key = key(rt.alloc(), &System { rt }, words.key())?;
     let nonce = option_nonce(rt.alloc(), words.nonce)?;
-    let Ok(lines) = str::from_utf8(lines) else {
-        return Ok(None);
-    };
     match find_answer(rt.alloc(), &nonce, lines) {
         Ok(Choice::Answer(used)) => Ok(counter_of(&key, &nonce, used.reply.as_slice())),
         Ok(Choice::Replies(_, _)) => Ok(None),
@@ -122,18 +140,21 @@ fn counter_said<'a>(
     }
 }
 
-/// The write counter that the lines of an answer say, or else what that answer is.
+/// The write counter that the answer among lines says, or else what that answer is.
 fn counter_or_why<W: Write>(
     rt: &HostRuntime,
     words: &mut Words<'_>,
-    lines: &[u8],
+    lines: &str,
     out: &mut W,
-) -> Result<u32, Stop> {
+) -> Result<u32, Stop>
+    ensures { IfOk result
+        (λ counter. IsCounterSaid any_file words.old lines.now (Some counter)) }
+{
     match counter_said(rt, words, lines) {
         Ok(Some(counter)) => Ok(counter),
         Ok(None) => {
             words.command = "explain";
-            command(rt, words, lines, out)?;
+            command(rt, words, lines.as_bytes(), out)?;
             Err(told(rt, Refusal::NoCounter))
         }
         Err(refusal) => Err(told(rt, refusal)),
@@ -154,7 +175,8 @@ fn write<W: Write>(
     };
     let mut lines = Vec::new(rt.alloc());
     let disk = answer(rt, place, disk, &words, &mut lines)?;
-    let counter = counter_or_why(rt, &mut words, lines.as_slice(), out)?;
+    let lines = text_of(rt, lines)?;
+    let counter = counter_or_why(rt, &mut words, lines.as_str(), out)?;
     let Ok(digits) = format!(in rt.alloc(); "{counter}") else {
         return Err(told(rt, Refusal::NoMemory));
     };

@@ -1,12 +1,17 @@
 //! The image of a board, on which scripts are performed in this process: the program may start no
 //! other, and so not `rpmbd` either.
+ghost use Rattle.std.specs.Prelude.{IfOk, List, Some};
+ghost use Rattle.script.specs.Line.{Said};
+ghost use Rattle.commands.specs.Image.{Ran};
+ghost use Rattle.commands.specs.Transcript.{Says, StoresNothing};
+
 use crate::stop::Stop;
 use command_line::Command;
 use commands::{
     Fault, Task, open_image, read_image_board, reason_of_end, report, report_refusal, run,
     write_reason,
 };
-use disk::FileDisk;
+use disk::{Disk, FileDisk};
 use rpmb_frame::BoardConfig;
 
 /// What a script of requests is called where it is told of.
@@ -46,12 +51,12 @@ impl<'a> Place<'a> {
     }
 
     /// Tells in the words of `rpmbd` the fault that ended a script, and why.
-    fn tell_fault(
+    fn tell_fault<D: Disk>(
         &self,
         rt: &HostRuntime,
         script: &str,
         fault: Fault,
-        disk: &FileDisk,
+        disk: &D,
         answers: &mut Vec<u8>,
     ) -> Stop {
         let task = Task {
@@ -72,13 +77,17 @@ impl<'a> Place<'a> {
 
     /// Performs a script on the image, gives the lines of its answers, and gives the image back. A
     /// fault that ends it is told; the lines are those before it then.
-    pub fn perform(
+    pub fn perform<D: Disk>(
         &self,
         rt: &HostRuntime,
         script: &str,
-        disk: FileDisk,
+        disk: D,
         answers: &mut Vec<u8>,
-    ) -> Result<FileDisk, Stop> {
+    ) -> Result<D, Stop>
+        ensures { IfOk result (λ left. (lines : List Said) → Says self.now.board script.now lines
+            → StoresNothing lines → Ran self.now.board (D.state disk) (D.state left) lines
+            (Some answers.old.items) (Some answers.new.items)) }
+    {
         let (ended, disk) = run(rt.alloc(), &self.board, script, disk, answers);
         match ended {
             Ok(()) => Ok(disk),

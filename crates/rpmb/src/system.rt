@@ -9,7 +9,9 @@ pub struct System<'a> {
 }
 
 impl<'a> Source for System<'a> {
-    ghost gives = { λ source name bytes. Unit {0} };
+    ghost use Rattle.rpmb.specs.System.{any_file};
+
+    ghost gives = { λ source. any_file };
 
     fn content(&self, _alloc: Global, name: &str, most: usize) -> Result<Vec<u8>, SourceError> {
         read_file(self.rt, name, most)

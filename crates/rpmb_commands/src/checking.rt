@@ -58,11 +58,7 @@ fn check_script<'a, S: Source>(
 }
 
 /// Writes what a board is good for, and of each guest its capacity.
-fn write_board<W: Write>(
-    board: &BoardConfig,
-    image: Option<&str>,
-    out: &mut W,
-) -> io::Result<()> {
+fn write_board<W: Write>(board: &BoardConfig, image: Option<&str>, out: &mut W) -> io::Result<()> {
     let count = board.guests().len();
     let guests = if count == 1 { "guest" } else { "guests" };
     match image {
@@ -75,7 +71,11 @@ fn write_board<W: Write>(
     let mut number = 0u16;
     for guest in board.guests() {
         let units = guest.capacity;
-        writeln!(out, "guest {number}: capacity {units} ({} KiB)", 128 * u32::from(units))?;
+        writeln!(
+            out,
+            "guest {number}: capacity {units} ({} KiB)",
+            128 * u32::from(units)
+        )?;
         number = number.saturating_add(1);
     }
     Ok(())

@@ -310,6 +310,8 @@ fn doing<'a>(alloc: Global) -> Result<Command<'a>, AllocError> {
     Command::new(alloc, "do")
         .about("Performs one operation on the image of a board, from its request to its answer")
         .subcommand_required(true)
+        .subcommand_value_name("OPERATION")
+        .subcommand_help_heading("Operations")
         .after_help(DO)
         .arg(option_of(alloc, &BOARD))?
         .subcommands(operations)

@@ -106,19 +106,20 @@ image came to a fault, which is told in the two lines of rpmbd; 2 for words that
 understood; 3 where the device refused the request in a right answer.";
 
 pub const DO_KEY: &str = "\
-Prints what explain says of the answer.\n\
+Prints what explain says of the answer. Where another key stands there, its MAC is wrong.\n\
 \n\
-Status: 0 where the key is programmed; 1 where a value is refused, the MAC or the nonce\n\
-was wrong, or the board or its image came to a fault; 2 for words that aren't understood;\n\
-3 where the device refused the request: another key stands there.";
+Status: 0 where the key is programmed; 1 where a value is refused, the MAC was wrong, or\n\
+the board or its image came to a fault; 2 for words that aren't understood; 3 where this\n\
+very key stood there already.";
 
 pub const DO_READ_COUNTER: &str = "\
 Prints what explain says of the answer, with the write counter. The MAC is looked at\n\
-where a key is given.\n\
+where a key is given. Without a key on the device the result is NO_AUTH_KEY, and no MAC\n\
+is right.\n\
 \n\
 Status: 0; 1 where a value is refused, the MAC or the nonce was wrong, or the board or\n\
 its image came to a fault; 2 for words that aren't understood; 3 where the device refused\n\
-the request in a right answer.";
+the request and none of these was wrong.";
 
 pub const DO_WRITE: &str = "\
 Reads the write counter, and writes under it where the MAC and the nonce of that answer\n\
