@@ -12,7 +12,7 @@ use std::io::Write;
 
 /// What a command works on, once its files are read.
 #[derive(Clone, Copy)]
-pub(crate) struct Task<'a> {
+pub struct Task<'a> {
     pub command: Command<'a>,
     pub board: &'a BoardConfig,
     /// The script's text; empty where the command has none.
@@ -76,7 +76,7 @@ fn unwritten<W: Write>(alloc: Global, out: &mut W) -> Option<String> {
 
 /// Which file or stream ended a command that had begun, and why. None where nothing helps, or where
 /// memory is refused for the words.
-pub(crate) fn reason_of_end<D: Disk, W: Write>(
+pub fn reason_of_end<D: Disk, W: Write>(
     alloc: Global,
     task: Task<'_>,
     fault: Fault,

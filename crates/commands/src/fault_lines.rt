@@ -62,7 +62,7 @@ pub(crate) fn tell_end<E: Write>(ended: Result<(), Fault>, err: &mut E)
 
 /// Writes the lines of a refusal, the fault's and then, where it is known, which file it is of and
 /// why, and gives the status that the program ends with.
-pub(crate) fn report_refusal<E: Write>(refusal: &Refusal, err: &mut E) -> u8
+pub fn report_refusal<E: Write>(refusal: &Refusal, err: &mut E) -> u8
     ensures { result ≡ 1 }
 {
     let status = report(refusal.fault, err);
@@ -71,7 +71,7 @@ pub(crate) fn report_refusal<E: Write>(refusal: &Refusal, err: &mut E) -> u8
 }
 
 /// Writes the line of a reason, where there is one, as far as standard error takes it.
-pub(crate) fn write_reason<E: Write>(reason: Option<&String>, err: &mut E) {
+pub fn write_reason<E: Write>(reason: Option<&String>, err: &mut E) {
     if let Some(reason) = reason {
         write_front(reason.as_bytes(), err);
         write_front(b"\n", err);

@@ -24,8 +24,9 @@ mod upgrading;
 mod used_lines;
 
 pub use command::perform;
+pub use end_reason::{Task, reason_of_end};
 pub use fault::Fault;
-pub use fault_lines::report;
+pub use fault_lines::{report, report_refusal, write_reason};
 pub use file_run::run_in_file;
 pub use files::{read_board_file, read_image_board, read_script_text};
 pub use formatting::format;

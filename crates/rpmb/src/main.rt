@@ -1,34 +1,22 @@
 //! `rpmb`: makes the requests of scripts for `rpmbd`, and says what its answers are.
 #![tactic(auto)]
 
+mod counter;
+mod doing;
+mod image;
+mod nonce;
+mod stop;
+mod system;
+
+use crate::doing::perform_operation;
+use crate::system::System;
 use command_line::{GivenError, given_words};
-use rpmb_commands::{
-    Refusal, Source, SourceError, Words, WordsError, is_file, perform, read_file, read_words, report,
-};
-use std::alloc::Global;
+use rpmb_commands::{Refusal, Words, WordsError, perform, read_words, report};
 use std::io::{BufReader, BufWriter};
 use std::process::ExitCode;
 
 /// The status of a command line that is refused.
 const REFUSED: u8 = 2;
-
-/// The files of the system, of which no contract says what they give.
-#[derive(Drop)]
-struct System<'a> {
-    rt: &'a HostRuntime,
-}
-
-impl<'a> Source for System<'a> {
-    ghost gives = { λ source name bytes. Unit {0} };
-
-    fn content(&self, _alloc: Global, name: &str, most: usize) -> Result<Vec<u8>, SourceError> {
-        read_file(self.rt, name, most)
-    }
-
-    fn is_file(&self, name: &str) -> bool {
-        is_file(self.rt, name)
-    }
-}
 
 fn perform_on_streams<'a>(rt: &HostRuntime, words: &Words<'_>) -> Result<u8, Refusal<'a>> {
     let Ok(mut input) = BufReader::new(rt.alloc(), rt.stdin()) else {
@@ -67,6 +55,7 @@ fn refuse(rt: &HostRuntime, error: WordsError) -> u8 {
 
 fn status_of(rt: &HostRuntime, words: &[String]) -> u8 {
     match read_words(rt.alloc(), words) {
+        Ok(words) if words.command == "do" => perform_operation(rt, words),
         Ok(words) => match perform_on_streams(rt, &words) {
             Ok(status) => status,
             Err(refusal) => report(refusal, &mut rt.stderr()),

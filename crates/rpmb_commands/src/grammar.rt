@@ -1,6 +1,7 @@
 //! The commands as `clap` reads them: a row for each, with a row for each of its options.
 use crate::help::{
-    CHECK, EXPLAIN, PROGRAM, PROGRAM_KEY, READ, READ_COUNTER, READ_DATA, RESULT, VERSION, WRITE,
+    CHECK, DO, DO_KEY, DO_READ, DO_READ_COUNTER, DO_WRITE, EXPLAIN, PROGRAM, PROGRAM_KEY, READ,
+    READ_COUNTER, READ_DATA, RESULT, VERSION, WRITE,
 };
 use clap::{Arg, ArgAction, Command};
 use std::alloc::{AllocError, Global};
@@ -30,7 +31,8 @@ struct OptionRow {
     help: &'static str,
 }
 
-/// A command, with what stands behind its help: what it prints, and its statuses.
+/// A command, or an operation of `do`, with what stands behind its help: what it prints, and its
+/// statuses.
 struct CommandRow {
     name: &'static str,
     about: &'static str,
@@ -227,6 +229,40 @@ static COMMANDS: [CommandRow; 8] = [
     },
 ];
 
+/// What `do` performs.
+static OPERATIONS: [CommandRow; 4] = [
+    CommandRow {
+        name: "program-key",
+        about: "Programs the key, which can't be taken back",
+        options: &[GUEST, KEY],
+        more: DO_KEY,
+    },
+    CommandRow {
+        name: "read-counter",
+        about: "Reads the write counter",
+        options: &[
+            GUEST,
+            OptionRow {
+                is_needed: false,
+                ..KEY
+            },
+        ],
+        more: DO_READ_COUNTER,
+    },
+    CommandRow {
+        name: "write",
+        about: "Writes blocks, under the write counter that it reads first",
+        options: &[GUEST, KEY, ADDRESS, DATA, FILE, PAD, MOST],
+        more: DO_WRITE,
+    },
+    CommandRow {
+        name: "read",
+        about: "Reads blocks, and writes their bytes",
+        options: &[GUEST, KEY, ADDRESS, COUNT, LENGTH],
+        more: DO_READ,
+    },
+];
+
 /// An option with a name before its value.
 fn named<'a>(arg: Arg<'a>, row: &OptionRow) -> Arg<'a> {
     arg.long(row.id).value_name(row.value)
@@ -268,9 +304,23 @@ fn commands_of<'a>(alloc: Global, rows: &[CommandRow]) -> Result<Vec<Command<'a>
     Ok(commands)
 }
 
+/// The command that performs an operation on the image of a board.
+fn doing<'a>(alloc: Global) -> Result<Command<'a>, AllocError> {
+    let operations = commands_of(alloc, &OPERATIONS)?;
+    Command::new(alloc, "do")
+        .about("Performs one operation on the image of a board, from its request to its answer")
+        .subcommand_required(true)
+        .subcommand_value_name("OPERATION")
+        .subcommand_help_heading("Operations")
+        .after_help(DO)
+        .arg(option_of(alloc, &BOARD))?
+        .subcommands(operations)
+}
+
 /// The program with all its commands.
 pub fn program<'a>(alloc: Global) -> Result<Command<'a>, AllocError> {
-    let commands = commands_of(alloc, &COMMANDS)?;
+    let mut commands = commands_of(alloc, &COMMANDS)?;
+    commands.push(doing(alloc)?)?;
     Command::new(alloc, "rpmb")
         .version(VERSION)
         .about("Makes the requests of scripts for rpmbd, and says what its answers are")

@@ -14,6 +14,12 @@ rpmbd run BOARD script.txt | rpmb explain --key @key.hex\n\
 rpmb read --guest 0 --address 0 --count 4 --nonce HEX > read.txt\n  \
 rpmbd run BOARD read.txt | rpmb read-data --key @key.hex --nonce HEX --length 1000\n\
 \n\
+On a board that names an image, do makes the request, performs it and reads the answer:\n\
+\n  \
+rpmb do BOARD program-key --guest 0 --key @key.hex\n  \
+rpmb do BOARD write --guest 0 --key @key.hex --address 0 --file FILE --pad\n  \
+rpmb do BOARD read --guest 0 --key @key.hex --address 0 --count 4 --length 1000\n\
+\n\
 A block has 256 bytes. A key is programmed once, and can't be taken back. explain and\n\
 read-counter tell the write counter, which the next write has to name. The help of each\n\
 command says what it prints, and its statuses.";
@@ -86,3 +92,52 @@ board without the key image.\n\
 Status: 0 for ok; 1 where a file isn't read, with a line on standard error that says which\n\
 key or which line and word, what was expected, and what stands there; 2 for words that\n\
 aren't understood.";
+
+pub const DO: &str = "\
+Works on the image that the board file names, and holds its lock from before the first\n\
+request to the end: it is not for an image that a running rpmbd or a monitor has, which\n\
+is refused. A board without an image is refused too, since nothing would be kept. Nonces\n\
+are random.\n\
+\n  \
+rpmb do BOARD program-key --guest 0 --key @key.hex\n  \
+rpmb do BOARD read-counter --guest 0 --key @key.hex\n  \
+rpmb do BOARD write --guest 0 --key @key.hex --address 0 --file FILE --pad\n  \
+rpmb do BOARD read --guest 0 --key @key.hex --address 0 --count 4\n\
+\n\
+Status: 0; 1 where a value is refused, a MAC or a nonce was wrong, or the board or its\n\
+image came to a fault, which is told in the two lines of rpmbd; 2 for words that aren't\n\
+understood; 3 where the device refused the request in a right answer.";
+
+pub const DO_KEY: &str = "\
+Prints what explain says of the answer. Where another key stands there, its MAC is wrong.\n\
+\n\
+Status: 0 where the key is programmed; 1 where a value is refused, the MAC was wrong, or\n\
+the board or its image came to a fault; 2 for words that aren't understood; 3 where this\n\
+very key stood there already.";
+
+pub const DO_READ_COUNTER: &str = "\
+Prints what explain says of the answer, with the write counter. The MAC is looked at\n\
+where a key is given. Without a key on the device the result is NO_AUTH_KEY, and no MAC\n\
+is right.\n\
+\n\
+Status: 0; 1 where a value is refused, the MAC or the nonce was wrong, or the board or\n\
+its image came to a fault; 2 for words that aren't understood; 3 where the device refused\n\
+the request and none of these was wrong.";
+
+pub const DO_WRITE: &str = "\
+Reads the write counter, and writes under it where the MAC and the nonce of that answer\n\
+are right: at most N blocks a request (16, where --max-blocks isn't given). The bytes come\n\
+from just one of --data and --file. They are whole blocks, unless --pad is given. Prints\n\
+what explain says of each answer to a write, or of the answer with the counter, where it\n\
+isn't used.\n\
+\n\
+Status: 0 where all is written; 1 where a value is refused, a MAC or a nonce was wrong,\n\
+or the board or its image came to a fault; 2 for words that aren't understood; 3 where the\n\
+device refused a write in a right answer.";
+
+pub const DO_READ: &str = "\
+Prints the bytes of the blocks, and nothing else.\n\
+\n\
+Status: 0 where they are printed; 1, and nothing is printed, where a value is refused, the\n\
+MAC or the nonce was wrong, the device refused the read, or the board or its image came to\n\
+a fault; 2 for words that aren't understood.";

@@ -20,6 +20,7 @@ mod words;
 mod writing;
 
 pub use performing::{perform, report};
+pub use reading::key;
 pub use refusal::Refusal;
 pub use source::{Source, SourceError, is_file, read_file};
 pub use words::{Words, WordsError, read_words};

@@ -55,6 +55,9 @@ pub enum Refusal<'a> {
     /// The read has another result than OK.
     #[error("Refused: expected the result OK, got {0}")]
     Refused(&'static str),
+    /// A reading of the write counter whose MAC, nonce and result are right has none.
+    #[error("NoCounter: expected the write counter in the reply, got another one")]
+    NoCounter,
     #[error("TooShort: expected blocks of at least {0} bytes, got {1}")]
     TooShort(u64, usize),
     #[error("WrongAnswer: expected a right MAC and nonce in each of {0} replies, \

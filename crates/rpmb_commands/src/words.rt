@@ -12,6 +12,8 @@ use std::convert::AsStr;
 #[derive(Drop)]
 pub struct Words<'a> {
     pub command: &'a str,
+    /// What `do` performs.
+    pub operation: Option<&'a str>,
     pub guest: Option<&'a str>,
     pub keys: Vec<&'a str>,
     pub nonce: Option<&'a str>,
@@ -69,6 +71,7 @@ fn found<'a>(
 ) -> Result<Words<'a>, AllocError> {
     Ok(Words {
         command,
+        operation: None,
         guest: matches.get_str("guest"),
         keys: keys(alloc, matches)?,
         nonce: matches.get_str("nonce"),
@@ -84,6 +87,22 @@ fn found<'a>(
         no_result: matches.get_flag("no-result"),
         pad: matches.get_flag("pad"),
     })
+}
+
+/// The words of a command, or those of an operation of `do` on its board.
+fn all_found<'a>(
+    alloc: Global,
+    command: &'a str,
+    matches: &ArgMatches<'a>,
+) -> Result<Words<'a>, AllocError> {
+    match matches.subcommand() {
+        Some((operation, inner)) => Ok(Words {
+            operation: Some(operation),
+            board: matches.get_str("BOARD"),
+            ..found(alloc, command, inner)?
+        }),
+        None => found(alloc, command, matches),
+    }
 }
 
 fn refused(error: clap::Error) -> WordsError {
@@ -105,7 +124,7 @@ pub fn read_words<'a, S: AsStr>(alloc: Global, words: &'a [S]) -> Result<Words<'
     };
     match command.try_get_matches_from(words) {
         Ok(matches) => match matches.subcommand() {
-            Some((name, inner)) => match found(alloc, name, inner) {
+            Some((name, inner)) => match all_found(alloc, name, inner) {
                 Ok(words) => Ok(words),
                 Err(_) => Err(WordsError::NoMemory),
             },

@@ -1,0 +1,97 @@
+//! The image of a board, on which scripts are performed in this process: the program may start no
+//! other, and so not `rpmbd` either.
+ghost use Rattle.std.specs.Prelude.{IfOk, List, Some};
+ghost use Rattle.script.specs.Line.{Said};
+ghost use Rattle.commands.specs.Image.{Ran};
+ghost use Rattle.commands.specs.Transcript.{Says, StoresNothing};
+
+use crate::stop::Stop;
+use command_line::Command;
+use commands::{
+    Fault, Task, open_image, read_image_board, reason_of_end, report, report_refusal, run,
+    write_reason,
+};
+use disk::{Disk, FileDisk};
+use rpmb_frame::BoardConfig;
+
+/// What a script of requests is called where it is told of.
+const REQUEST: &str = "the request";
+
+/// A board, and the paths of its file and of its image.
+#[derive(Drop)]
+pub struct Place<'a> {
+    file: &'a str,
+    board: BoardConfig,
+    image: String,
+}
+
+/// Tells in the words of `rpmbd` why no board or no image is opened.
+fn told(rt: &HostRuntime, refusal: &commands::Refusal) -> Stop {
+    Stop {
+        status: report_refusal(refusal, &mut rt.stderr()),
+    }
+}
+
+impl<'a> Place<'a> {
+    /// Reads a board file. Stop where it can't be read, is no board, or names no image.
+    pub fn of(rt: &HostRuntime, file: &'a str) -> Result<Place<'a>, Stop> {
+        match read_image_board(rt, file) {
+            Ok((board, image)) => Ok(Place { file, board, image }),
+            Err(refusal) => Err(told(rt, &refusal)),
+        }
+    }
+
+    /// Opens the image, which no other program has until it is closed. Stop where it isn't there, or
+    /// another program has it.
+    pub fn open(&self, rt: &HostRuntime) -> Result<FileDisk, Stop> {
+        match open_image(rt, self.image.as_str()) {
+            Ok(disk) => Ok(disk),
+            Err(refusal) => Err(told(rt, &refusal)),
+        }
+    }
+
+    /// Tells in the words of `rpmbd` the fault that ended a script, and why.
+    fn tell_fault<D: Disk>(
+        &self,
+        rt: &HostRuntime,
+        script: &str,
+        fault: Fault,
+        disk: &D,
+        answers: &mut Vec<u8>,
+    ) -> Stop {
+        let task = Task {
+            command: Command::Run {
+                board: self.file,
+                script: REQUEST,
+            },
+            board: &self.board,
+            script,
+            image: Some(self.image.as_str()),
+        };
+        let mut err = rt.stderr();
+        let status = report(fault, &mut err);
+        let reason = reason_of_end(rt.alloc(), task, fault, Some(disk), answers);
+        write_reason(reason.as_ref(), &mut err);
+        Stop { status }
+    }
+
+    /// Performs a script on the image, gives the lines of its answers, and gives the image back. A
+    /// fault that ends it is told; the lines are those before it then.
+    pub fn perform<D: Disk>(
+        &self,
+        rt: &HostRuntime,
+        script: &str,
+        disk: D,
+        answers: &mut Vec<u8>,
+    ) -> Result<D, Stop>
+        ensures { IfOk result (λ left. (lines : List Said) → Says self.now.board script.now lines
+            → StoresNothing lines → Ran self.now.board (D.state disk) (D.state left) lines
+            (Some answers.old.items) (Some answers.new.items)) }
+    {
+        let (ended, disk) = run(rt.alloc(), &self.board, script, disk, answers);
+        match ended {
+            Ok(()) => Ok(disk),
+            Err(fault) => Err(self.tell_fault(rt, script, fault, &disk, answers)),
+        }
+    }
+}
