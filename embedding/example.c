@@ -200,7 +200,9 @@ static void ask_counter(unsigned result)
 /* A guest that offers what it never made: the device stops, and waits for a reset. The monitor goes on. */
 static void break_queue(void)
 {
-	put(DRIVER + 4, 999, 2), put(DRIVER + 2, get16(DRIVER + 2) + 1, 2); /* there is no place 999 */
+	unsigned next = get16(DRIVER + 2);
+
+	put(DRIVER + 4 + 2 * (next % PLACES), 999, 2), put(DRIVER + 2, next + 1, 2); /* there is no place 999 */
 	set_register(0x050, 0);
 	check(fault == RPMB_STOPPED, "the device waits for a reset");
 	check(get_register(0x070) == (15 | 64), "Status has DEVICE_NEEDS_RESET");
