@@ -41,8 +41,8 @@ impl<'a> Place<'a> {
         }
     }
 
-    /// Opens the image, which no other program has until it is closed. Refused where it isn't there,
-    /// or another program has it.
+    /// Opens the image, which no other program has until it is closed. Refused where it is not
+    /// there, or another program has it.
     pub fn open(&self, rt: &HostRuntime) -> Result<FileDisk, Stop> {
         match open_image(rt, self.image.as_str()) {
             Ok(disk) => Ok(disk),
