@@ -33,7 +33,7 @@ fn told(rt: &HostRuntime, refusal: &commands::Refusal) -> Stop {
 }
 
 impl<'a> Place<'a> {
-    /// Reads a board file. Stop where it can't be read, is no board, or names no image.
+    /// Reads a board file. Refused where it can't be read, is no board, or names no image.
     pub fn of(rt: &HostRuntime, file: &'a str) -> Result<Place<'a>, Stop> {
         match read_image_board(rt, file) {
             Ok((board, image)) => Ok(Place { file, board, image }),
@@ -41,8 +41,8 @@ impl<'a> Place<'a> {
         }
     }
 
-    /// Opens the image, which no other program has until it is closed. Stop where it isn't there, or
-    /// another program has it.
+    /// Opens the image, which no other program has until it is closed. Refused where it is not
+    /// there, or another program has it.
     pub fn open(&self, rt: &HostRuntime) -> Result<FileDisk, Stop> {
         match open_image(rt, self.image.as_str()) {
             Ok(disk) => Ok(disk),
