@@ -44,7 +44,11 @@ fn fault_of(error: &io::Error) -> Fault {
 
 /// `WHAT: WHY`, where there is memory for it.
 pub(crate) fn said(alloc: Global, what: &str, why: &str) -> Option<String> {
-    let what = if what.is_empty() { "an empty path" } else { what };
+    let what = if what.is_empty() {
+        "an empty path"
+    } else {
+        what
+    };
     format!(in alloc; "{what}: {why}").ok()
 }
 
