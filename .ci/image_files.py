@@ -60,10 +60,11 @@ def check_twins(room, has_image):
             raise Wrong(f"rpmbd {verb}, where all files have one number, each on a device of its own: {ran}")
 
 
-def check_asked(room, answer, script):
-    """A person who types `format` over an image with a key is asked first; an image without one is made at once."""
-    folder = room.folder({"board.toml": ONE, "script.txt": script, "board.img": fresh()})
-    if room.run(folder, words("run"))[0]:
+def check_asked(room, answer, script, content):
+    """A person who types `format` over an image with a key, or what is no image, is asked first; over an image without
+    a key, or an empty file, it is made at once."""
+    folder = room.folder({"board.toml": ONE, "script.txt": script, "board.img": content})
+    if script and room.run(folder, words("run"))[0]:
         raise Wrong("rpmbd run makes no image with a key")
     with open(f"{folder}/board.img", "rb") as it:
         before = it.read()
@@ -74,8 +75,9 @@ def check_asked(room, answer, script):
     os.close(person)
     with open(f"{folder}/board.img", "rb") as it:
         after = it.read()
-    told = "board.img holds 1 key, gone after this. Type yes to go on: " if script else ""
-    is_made = not script or answer == "yes"
+    lost = "a key" if script else "" if content in (fresh(), b"") else "what is no image of this board"
+    told = f"board.img holds {lost}, gone after this. Type yes to go on: " if lost else ""
+    is_made = not lost or answer == "yes"
     wanted = (0, FORMATTED[1], told) if is_made else (1, "", f"{told}{FILE_FAULT}board.img: is left as it is\n")
     if ran[:3] != wanted or after != (fresh() if is_made else before):
         raise Wrong(f"rpmbd format at a terminal, answered {answer}: {ran}")
@@ -93,6 +95,8 @@ def sweep_image_files(room):
         check_length(room, verb, before, after)
     for has_image in (False, True):
         check_twins(room, has_image)
-    for answer, script in (("yes", key_line(0)), ("no", key_line(0)), ("", key_line(0)), ("no", "")):
-        check_asked(room, answer, script)
+    for answer in ("yes", "no", ""):
+        check_asked(room, answer, key_line(0), fresh())
+        for content in (fresh(), b"", b"a letter", fresh() + b"\0"):
+            check_asked(room, answer, "", content)
     print(f"image files: {len(made)} made, {len(lengths)} given another length by who held them, 4 beside their twins")

@@ -1,22 +1,31 @@
-//! What `format` asks a person before keys are gone.
+//! What `format` asks a person before something is gone.
 
 use crate::fault::Fault;
 use crate::image_files::open_shown;
 use crate::reason::Refusal;
+use disk::Disk;
 use recovery::open;
 use rpmb_frame::BoardConfig;
 use std::io;
 use std::io::{BufRead, BufReader, IsTerminal};
 
-/// How many partitions of the board's image in a file have a key; 0 where the file holds no such
-/// image.
-fn keys_in(rt: &HostRuntime, path: &str, board: &BoardConfig) -> usize {
-    let Ok(disk) = open_shown(rt, path) else {
-        return 0;
-    };
-    match open(rt.alloc(), disk, board) {
-        Ok((_, partitions)) => partitions.iter().filter(|p| p.key().is_some()).count(),
-        Err(_) => 0,
+/// What a person would lose with what a file holds: nothing where it isn't there, is empty, or holds
+/// an image of the board without a key. None stands for a want of memory too.
+fn loss(rt: &HostRuntime, path: &str, board: &BoardConfig) -> Option<String> {
+    let alloc = rt.alloc();
+    let disk = open_shown(rt, path).ok()?;
+    if disk.len() == 0 {
+        return None;
+    }
+    match open(alloc, disk, board) {
+        Ok((_, partitions)) => {
+            match partitions.iter().filter(|p| p.key().is_some()).count() {
+                0 => None,
+                1 => format!(in alloc; "{path} holds a key").ok(),
+                keys => format!(in alloc; "{path} holds {keys} keys").ok(),
+            }
+        }
+        Err(_) => format!(in alloc; "{path} holds what is no image of this board").ok(),
     }
 }
 
@@ -27,10 +36,10 @@ fn is_agreed(rt: &HostRuntime) -> io::Result<bool> {
     Ok(line.as_str().trim() == "yes")
 }
 
-/// Where a person types the command and the file holds an image of the board with keys, says how
-/// many and asks whether they may go. `FileFault` where the answer isn't `yes`; a script, whose
-/// standard input is no terminal, isn't asked.
-pub(crate) fn ask_before_keys_go(
+/// Where a person types the command, and the file holds an image of the board with keys, or anything
+/// that is no image of the board, says so and asks whether that may go. `FileFault` where the answer
+/// isn't `yes`; a script, whose standard input is no terminal, isn't asked.
+pub(crate) fn ask_before_a_loss(
     rt: &HostRuntime,
     path: &str,
     board: &BoardConfig,
@@ -38,12 +47,10 @@ pub(crate) fn ask_before_keys_go(
     if !rt.stdin().is_terminal() {
         return Ok(());
     }
-    let keys = keys_in(rt, path, board);
-    if keys == 0 {
+    let Some(loss) = loss(rt, path, board) else {
         return Ok(());
-    }
-    let named = if keys == 1 { "key" } else { "keys" };
-    let _ = eprint!(rt; "{path} holds {keys} {named}, gone after this. Type yes to go on: ");
+    };
+    let _ = eprint!(rt; "{loss}, gone after this. Type yes to go on: ");
     match is_agreed(rt) {
         Ok(true) => Ok(()),
         Ok(false) => {

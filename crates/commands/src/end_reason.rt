@@ -56,11 +56,11 @@ fn unformatted<D: Disk>(alloc: Global, task: Task<'_>, disk: Option<&D>) -> Opti
         Some(disk) if disk.len() != whole => {
             let length = disk.len();
             format!(in alloc;
-                "{image}: has {length} bytes, an image of this board {whole}; rpmbd format makes one"
+                "{image}: has {length} bytes, an image of this board {whole}: cut, or another file"
             ).ok()
         }
         _ => {
-            let why = "holds no image, or one that isn't whole; rpmbd format makes one";
+            let why = "holds no whole image of this board; put a copy back: format empties it";
             said(alloc, image, why)
         }
     }
@@ -86,7 +86,8 @@ pub fn reason_of_end<D: Disk, W: Write>(
     match fault {
         Fault::NotFormatted => unformatted(alloc, task, disk),
         Fault::OtherConfig => {
-            let why = "holds the image of a board with other guests or other capacities";
+            let why =
+                "is the image of a board with other guests or capacities; mend the board file";
             said(alloc, task.place(), why)
         }
         Fault::DiskFault => said(

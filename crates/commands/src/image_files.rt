@@ -102,7 +102,13 @@ fn sync_folder(rt: &HostRuntime, path: &str) -> io::Result<()> {
 /// Why the file of an image isn't made.
 fn not_made(rt: &HostRuntime, path: &str, error: &io::Error) -> Refusal {
     match error.kind() {
-        io::ErrorKind::NotFound => refused(rt, path, "its folder isn't there"),
+        io::ErrorKind::NotFound => {
+            refused(
+                rt,
+                path,
+                "its folder, or the file that it links to, isn't there",
+            )
+        }
         io::ErrorKind::AlreadyExists => refused(rt, path, "is there, and --new makes none over it"),
         _ => Refusal::of_call(rt.alloc(), path, error),
     }
@@ -111,7 +117,13 @@ fn not_made(rt: &HostRuntime, path: &str, error: &io::Error) -> Refusal {
 /// Why the file of an image isn't opened.
 fn not_opened(rt: &HostRuntime, path: &str, error: &io::Error) -> Refusal {
     match error.kind() {
-        io::ErrorKind::NotFound => refused(rt, path, "isn't there; rpmbd format makes it"),
+        io::ErrorKind::NotFound => {
+            refused(
+                rt,
+                path,
+                "isn't there, from this folder; rpmbd format makes a new one",
+            )
+        }
         _ => Refusal::of_call(rt.alloc(), path, error),
     }
 }
@@ -145,7 +157,10 @@ pub fn create_image(
     }
     match file.set_len(len) {
         Ok(()) => Ok(FileDisk::new(file, len)),
-        Err(error) => Err(Refusal::of_call(rt.alloc(), path, &error)),
+        Err(error) => match error.kind() {
+            io::ErrorKind::InvalidInput => Err(refused(rt, path, "is no plain file")),
+            _ => Err(Refusal::of_call(rt.alloc(), path, &error)),
+        },
     }
 }
 

@@ -4,7 +4,7 @@ ghost use Rattle.disk.specs.Disk.{DiskState};
 ghost use Rattle.intent_slots.specs.Layout.{capacities_of, image_length};
 ghost use Rattle.commands.specs.Commands.{IsFormat, status_after};
 
-use crate::asking::ask_before_keys_go;
+use crate::asking::ask_before_a_loss;
 use crate::command::perform;
 use crate::end_reason::{Task, reason_of_end};
 use crate::fault::Fault;
@@ -128,7 +128,7 @@ fn perform_on_image<R: AllocGlobal + Threads + Wait + Sync, W: Write>(
             version,
             ..
         } => {
-            ask_before_keys_go(rt, image, &board)?;
+            ask_before_a_loss(rt, image, &board)?;
             let disk = create_image(rt, image, path, only_new, Layout::of(&board).length())?;
             Ok(perform_format(rt, threads, task, version, disk, out))
         }

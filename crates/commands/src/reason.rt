@@ -26,7 +26,6 @@ fn words_of(kind: io::ErrorKind) -> Option<&'static str> {
         io::ErrorKind::ReadOnlyFilesystem => Some("stands where nothing can be written"),
         io::ErrorKind::FilesystemLoop => Some("leads round in links"),
         io::ErrorKind::InvalidFilename => Some("the path is too long"),
-        io::ErrorKind::InvalidInput => Some("no path has a zero byte"),
         io::ErrorKind::InvalidData => Some("isn't text in UTF-8"),
         io::ErrorKind::StorageFull => Some("no space left"),
         io::ErrorKind::BrokenPipe => Some("who read it is gone"),
