@@ -39,11 +39,12 @@ pub record Ran (board : List GuestConfig) (old new : DiskState) (lines : List Sa
       → AreHeld (capacities_of board) c (partitions_after board partitions lines)
   pub header : old.faithful ≡ true → FrontStays old new
 
--- The partitions that reads of the old disk gave, and those after the lines in whatever a stop
--- leaves of the new one; and the image's header is as it was.
+-- The partitions of all guests that reads of the old disk gave, and those after the lines in
+-- whatever a stop leaves of the new one; and the image's header is as it was.
 pub record LeavesRun (board : List GuestConfig) (old new : DiskState)
     (lines : List Said) : Type 0 where
   pub partitions : List Partition
+  pub count : length partitions ≡ length board
   pub held : AreHeld (capacities_of board) old.seen partitions
   pub left : (c : Content) → MayLeave new c
       → AreHeld (capacities_of board) c (partitions_after board partitions lines)
