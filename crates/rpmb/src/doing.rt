@@ -91,8 +91,9 @@ fn ask<W: Write>(
     words: Words<'_>,
     out: &mut W,
 ) -> Result<(), Stop> {
+    let script = script_of(rt, &words)?;
     let mut answers = Vec::new(rt.alloc());
-    let ended = answer(rt, place, disk, &words, &mut answers);
+    let ended = place.perform(rt, script.as_str(), disk, &mut answers);
     let words = Words {
         command: "explain",
         ..words
