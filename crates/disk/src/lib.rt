@@ -21,6 +21,6 @@ pub use file_disk::FileDisk;
 pub use filler::Filler;
 pub use hook_disk::{Hook, HookDisk};
 pub use mem_disk::MemDisk;
-pub use outbox::Waiting;
+pub use outbox::{MOST_WRITES, Waiting};
 pub use outbox_disk::{OutboxDisk, Told};
 pub use positioned_file::PositionedFile;

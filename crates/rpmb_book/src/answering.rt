@@ -13,7 +13,7 @@ ghost use Rattle.rpmb_book.specs.Allowed.{IsAllowed};
 use crate::book::Book;
 use crate::checked::Checked;
 use crate::did::Did;
-use crate::guest_state::{GuestPlan, Said};
+use crate::guest_state::{GuestPlan, HELD, Said};
 use crate::history::{Filed, SUBMITS};
 use crate::receipt::Receipt;
 use crate::refused::Refused;
@@ -22,9 +22,6 @@ use crate::tally::Tally;
 use mmio_transport::Job;
 use rpmb_core::{MacCheck, NoMemory};
 use std::alloc::Global;
-
-/// How many replies of one guest may wait to leave.
-const HELD: usize = 64;
 
 /// How many Submits a book may answer in one life.
 const COUNTED: u64 = u64::MAX;

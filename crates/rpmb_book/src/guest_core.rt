@@ -124,8 +124,7 @@ impl GuestCore {
         ensures { IfOk result (IsPlanned self.now job.now) }
     {
         let request = Request::classify(job.request(), job.writable(), self.limits);
-        // No reply has more than 16 frames.
-        let _most = self.limits.max_rd_cnt();
+        let _most = self.limits.max_rd_cnt(); // for the checker: a reply has at most 16 frames
         let code = self.partition.verdict_by(&request, check);
         let is_accepted = is_accepted(&request, code);
         let len = Partition::reply_len(&request, code);

@@ -27,7 +27,7 @@ use std::collections::VecDeque;
 use std::marker::Model;
 
 /// How many replies of one guest may wait to leave.
-const HELD: usize = 64;
+pub const HELD: usize = 64;
 
 /// How many requests the store is given as one, at most.
 const MOST: usize = 4;

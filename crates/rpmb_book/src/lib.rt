@@ -23,6 +23,7 @@ mod told;
 pub use book::Book;
 pub use checked::Checked;
 pub use due::Due;
+pub use guest_state::HELD;
 pub use receipt::{Receipt, TurnView};
 pub use refused::Refused;
 pub use rooms::Rooms;

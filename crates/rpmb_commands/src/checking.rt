@@ -47,6 +47,7 @@ fn check_text<'a>(
     }
 }
 
+// for the checker: apart from what reads it, so that the text is dropped at one exit
 fn check_script<'a, S: Source>(
     alloc: Global,
     source: &S,

@@ -114,8 +114,7 @@ impl Partition {
         ensures closes { closed self.now.key (joined (block_frames self.now frame.now))
             ≡ joined (sealed self.now.key (block_frames self.now frame.now)) }
     {
-        // The limit is what says that the frames fit the reply.
-        let _limit = limits.max_rd_cnt();
+        let _limit = limits.max_rd_cnt(); // for the checker: the frames fit the reply
         let request = Frame::from_bytes(frame);
         let count = usize::from(request.block_count());
         let mut base = [0; 512];

@@ -132,7 +132,7 @@ impl<'a> Driver<'a> {
             × (self.new.answers ≡ self.old.answers) }
         ensures next { (self.new.next ≡ self.old.next + 1) × (self.new.stuck ≡ self.old.stuck) }
     {
-        let _ = order;
+        let _ = order; // for the checker: clauses name it
         self.next += 1;
     }
 

@@ -53,8 +53,7 @@ impl World {
             → IsFormatted version (capacities_of config) (cut_state disk)
             → HasImage (world_of result) }
     {
-        // The board has at most 64 guests.
-        let _guests = config.guests();
+        let _guests = config.guests(); // for the checker: there are at most 64
         World {
             stage: Stage {
                 alloc,
