@@ -1,6 +1,6 @@
 //! The flusher: it takes what the book accepted, gives it to the store, and tells the book what is
 //! settled.
-ghost use Rattle.std.specs.Prelude.{◌≡◌, None, Ok, OnOk, true};
+ghost use Rattle.std.specs.Prelude.{◌≡◌, ¬◌, None, Ok, OnOk, false, true};
 ghost use Rattle.workers.specs.Following.{Follow, IsAtRest};
 ghost use Rattle.workers.specs.Keeping.{GivesTaken, IsHeard, KeepsOn};
 
@@ -146,6 +146,16 @@ impl<D: Disk> Flusher<D> {
         Ok(())
     }
 
+    /// Whether the store has a call of its disk to make.
+    fn has_call(&self) -> bool
+        ensures left { result ≡ true
+            → ¬ IsAtRest self.now.keeper.store.broken self.now.keeper.store.guests }
+        ensures rests { result ≡ false
+            → IsAtRest self.now.keeper.store.broken self.now.keeper.store.guests }
+    {
+        self.keeper.next_call() != Call::None
+    }
+
     /// One look for work: what waits is taken, unless the store broke, and one call made.
     pub(crate) fn turn<L: Ledger, G: Gate>(
         &mut self,
@@ -167,7 +177,7 @@ impl<D: Disk> Flusher<D> {
         } else {
             self.take_all(&mut desk.lock(rt))?
         };
-        if self.keeper.next_call() != Call::None {
+        if self.has_call() {
             self.advance(rt, desk, bell, gate)?;
             return Ok(Next::Again);
         }
