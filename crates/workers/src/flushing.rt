@@ -1,6 +1,6 @@
 //! The flusher: it takes what the book accepted, gives it to the store, and tells the book what is
 //! settled.
-ghost use Rattle.std.specs.Prelude.{◌≡◌, ¬◌, None, Ok, OnOk, false, true};
+ghost use Rattle.std.specs.Prelude.{◌≡◌, None, Ok, OnOk, false, true};
 ghost use Rattle.workers.specs.Following.{Follow, IsAtRest};
 ghost use Rattle.workers.specs.Keeping.{GivesTaken, IsHeard, KeepsOn};
 
