@@ -46,6 +46,15 @@ fn sync_first<D: Disk>(disk: &mut D) -> Result<(), DiskFault>
     disk.sync()
 }
 
+/// Whether the disk is shorter or longer than the image of this layout.
+fn has_other_length<D: Disk>(disk: &D, layout: &Layout) -> bool
+    requires { length layout.now ≤ 64 }
+    ensures other { result ≡ true → ¬ (D.state disk.now).len ≡ image_length layout.now }
+    ensures same { result ≡ false → (D.state disk.now).len ≡ image_length layout.now }
+{
+    disk.len() != layout.length()
+}
+
 /// Whether the image is of version 2, after a sync: header, length and version byte are looked at,
 /// and nothing else.
 pub(crate) fn check<D: Disk>(disk: &mut D, layout: &Layout) -> Result<bool, OpenFault>
@@ -61,7 +70,7 @@ pub(crate) fn check<D: Disk>(disk: &mut D, layout: &Layout) -> Result<bool, Open
     let _guests = layout.guests(); // for the checker: there are at most 64
     sync_first(disk)?;
     read_header(disk, layout)?;
-    if disk.len() != layout.length() {
+    if has_other_length(disk, layout) {
         return Err(OpenFault::NotFormatted);
     }
     Ok(read_version(disk)?)
