@@ -5,7 +5,7 @@ use crate::tests::groups::OF_A_WRITE;
 use crate::tests::image::fresh_store;
 use crate::tests::limits::{hold_64, is_busy};
 use crate::tests::lines::{Line, fails, play, play_all};
-use crate::tests::scene::{Scene, check, scene_of};
+use crate::tests::scene::{Scene, Tail, check, scene_of};
 use disk::CutDisk;
 use flusher::{Marks, Store};
 use rpmb_book::{Book, Refused, Shares};
@@ -29,25 +29,15 @@ static BROKEN: [Line; 22] = [
     Line::IsBroken(true),
     // What is settled leaves as it was made; of the others each is a failure with the type of its
     // request.
-    Line::Reply {
-        guest: 0,
-        session: 1,
-        need: 0,
-        tail: [0, 0, 0, 0, 0, 0, 0, 1, 0, 7, 2, 0],
-    },
-    Line::Reply {
-        guest: 0,
-        session: 1,
-        need: 1,
-        tail: [0, 0, 0, 0, 0, 0, 0, 1, 0, 0, 1, 0],
-    },
-    Line::Failure(0, [0, 5, 3, 0]),
-    Line::Failure(0, [0, 1, 2, 0]),
-    Line::Failure(0, [0, 1, 0, 0]),
+    Line::Reply(0, 1, 0, Tail(0, 0, 1, 7, 0x0200)),
+    Line::Reply(0, 1, 1, Tail(0, 0, 1, 0, 0x0100)),
+    Line::Failure(0, 5, 0x0300),
+    Line::Failure(0, 1, 0x0200),
+    Line::Failure(0, 1, 0x0000),
     Line::NoReply(0),
     // A broken book accepts nothing, and what waited still waits.
     Line::Ask(0, Asked::Write(0x66, 1)),
-    Line::Failure(0, [0, 1, 3, 0]),
+    Line::Failure(0, 1, 0x0300),
     Line::Counter(0, 1),
     Line::GiveThis {
         guest: 0,
@@ -130,12 +120,12 @@ static EACH_KIND: [Line; 16] = [
     Line::Ask(1, Asked::LastResult),
     Line::Ask(1, Asked::Zeros),
     Line::AskWithoutRoom(1),
-    Line::Failure(1, [0, 1, 1, 0]),
-    Line::Failure(1, [0, 1, 2, 0]),
-    Line::Failure(1, [0, 1, 3, 0]),
-    Line::Failure(1, [0, 1, 4, 0]),
-    Line::Failure(1, [0, 1, 0, 0]),
-    Line::Failure(1, [0, 1, 0, 0]),
+    Line::Failure(1, 1, 0x0100),
+    Line::Failure(1, 1, 0x0200),
+    Line::Failure(1, 1, 0x0300),
+    Line::Failure(1, 1, 0x0400),
+    Line::Failure(1, 1, 0x0000),
+    Line::Failure(1, 1, 0x0000),
     Line::EmptyReply(1),
     Line::NoReply(1),
 ];
@@ -143,7 +133,7 @@ static EACH_KIND: [Line; 16] = [
 /// Whether each of 64 held replies to guest 0 is a failure, and there are no more.
 fn each_of_64_fails(scene: &mut Scene) -> bool {
     for _ in 0..64 {
-        if !fails(scene, 0, [0, 1, 2, 0]) {
+        if !fails(scene, 0, 1, 0x0200) {
             return false;
         }
     }

@@ -4,7 +4,7 @@ use crate::tests::asked::Asked;
 use crate::tests::image::fresh_store;
 use crate::tests::lines::{Line, play_all};
 use crate::tests::scene::{
-    KEY, Scene, accepted, check, get_write_counter, job_of, nonce_of, program_key, scene_of,
+    KEY, Scene, Tail, accepted, check, get_write_counter, job_of, nonce_of, program_key, scene_of,
 };
 use flusher::Marks;
 use mmio_transport::{Done, Job};
@@ -211,30 +211,10 @@ static RESULTS: [Line; 11] = [
     Line::Give(0),
     Line::Run,
     Line::Settle,
-    Line::Reply {
-        guest: 0,
-        session: 1,
-        need: 1,
-        tail: [0, 0, 0, 0, 0, 0, 0, 1, 0, 0, 1, 0],
-    },
-    Line::Reply {
-        guest: 0,
-        session: 1,
-        need: 1,
-        tail: [0, 0, 0, 0, 0, 0, 0, 1, 0, 0, 1, 0],
-    },
-    Line::Reply {
-        guest: 0,
-        session: 2,
-        need: 1,
-        tail: [0, 0, 0, 0, 0, 0, 0, 0, 0, 1, 0, 0],
-    },
-    Line::Reply {
-        guest: 1,
-        session: 1,
-        need: 0,
-        tail: [0, 0, 0, 0, 0, 0, 0, 0, 0, 1, 0, 0],
-    },
+    Line::Reply(0, 1, 1, Tail(0, 0, 1, 0, 0x0100)),
+    Line::Reply(0, 1, 1, Tail(0, 0, 1, 0, 0x0100)),
+    Line::Reply(0, 2, 1, Tail(0, 0, 0, 1, 0x0000)),
+    Line::Reply(1, 1, 0, Tail(0, 0, 0, 1, 0x0000)),
 ];
 
 #[test]
