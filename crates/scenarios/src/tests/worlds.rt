@@ -38,8 +38,6 @@ struct Left {
     replies: usize,
     /// The needs of the replies, as digits.
     needs: u64,
-    /// What the last reply needed.
-    last_need: Option<u64>,
     /// The counter, and the first byte of the first block.
     found: Option<(u32, u8)>,
     has_eight: bool,
@@ -49,10 +47,6 @@ struct Left {
 fn found(world: &World) -> Option<(u32, u8)> {
     let partition = world.partition(0)?;
     Some((partition.counter(), partition.block(0)[0]))
-}
-
-fn last_need(world: &World) -> Option<u64> {
-    Some(world.published(0).last()?.need)
 }
 
 fn accepted(world: &World) -> usize {
@@ -80,7 +74,6 @@ fn left_in(world: &World, refusal: Option<Refusal>) -> Left {
         accepted: accepted(world),
         replies,
         needs,
-        last_need: last_need(world),
         found: found(world),
         has_eight: holds_eight(world),
     }
@@ -105,7 +98,7 @@ impl Left {
     /// The counter, how many requests were accepted, and what the last reply needed.
     fn seen(&self) -> Option<(u32, usize, u64)> {
         let (counter, _) = self.found?;
-        Some((counter, self.accepted, self.last_need?))
+        Some((counter, self.accepted, self.needs % 10))
     }
 }
 
