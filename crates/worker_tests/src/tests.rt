@@ -1,9 +1,6 @@
 mod alone;
 mod asking;
-mod behind;
-mod broken;
 mod devices;
-mod failing;
 mod faults;
 mod full;
 mod gates;

@@ -126,17 +126,12 @@ impl Acts {
         true
     }
 
-    /// Once more a stop, within the first call after the opening, or after that call.
-    pub fn stop_again(&mut self, within: bool) -> bool {
+    /// Once more a stop, within the first call after the opening.
+    pub fn stop_again(&mut self) -> bool {
         let Some(filler) = filler_of(self.alloc, self.filler) else {
             return false;
         };
-        if within {
-            return self.events.push(Event::StopIn(filler)).is_ok();
-        }
-        self.events.push(Event::Do(Step::Advance)).is_ok()
-            && self.events.push(Event::Do(Step::Settle)).is_ok()
-            && self.events.push(Event::Stop(filler)).is_ok()
+        self.events.push(Event::StopIn(filler)).is_ok()
     }
 
     fn step(&mut self, step: Step) -> bool {

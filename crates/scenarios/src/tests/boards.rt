@@ -1,18 +1,16 @@
 //! Boards that make lists of steps, and what is seen of their guests.
 
-use crate::tests::metered::MeteredDisk;
 use crate::tests::scene::check;
 use board::{Board, Seen, Step, StepFault};
 use disk::CutDisk;
-use flusher::Call;
 use mmio_transport::{Device, Done, Published};
 use rpmb_frame::BoardConfig;
 use std::alloc::Global;
 use std::test::Fail;
 use world::Event;
 
-/// A board over a disk that counts its calls. Its methods promise nothing, so that what stands
-/// above them is proved without a board's contracts.
+/// A board. Its methods promise nothing, so that what stands above them is proved without a
+/// board's contracts.
 pub trait Table: Drop {
     fn make(&mut self, step: &Step) -> Result<Seen, StepFault>;
 
@@ -20,15 +18,9 @@ pub trait Table: Drop {
     fn reply(&self, guest: u16) -> Option<&Done>;
 
     fn device_seen(&self, guest: u16) -> Option<&Device>;
-
-    /// Whether the store has no call to make.
-    fn is_idle(&self) -> bool;
-
-    /// The disk, with whatever is on it.
-    fn end(self) -> MeteredDisk<CutDisk>;
 }
 
-impl Table for Board<MeteredDisk<CutDisk>> {
+impl Table for Board<CutDisk> {
     fn make(&mut self, step: &Step) -> Result<Seen, StepFault> {
         self.step(step)
     }
@@ -40,23 +32,11 @@ impl Table for Board<MeteredDisk<CutDisk>> {
     fn device_seen(&self, guest: u16) -> Option<&Device> {
         self.device_of(guest)
     }
-
-    fn is_idle(&self) -> bool {
-        self.next_call() == Call::None
-    }
-
-    fn end(self) -> MeteredDisk<CutDisk> {
-        self.into_disk()
-    }
 }
 
 /// The board that a disk opens to.
-pub fn opened_board(
-    alloc: Global,
-    inner: CutDisk,
-    config: &BoardConfig,
-) -> Option<Board<MeteredDisk<CutDisk>>> {
-    match Board::open(alloc, MeteredDisk::of(inner), 1, config) {
+pub fn opened_board(alloc: Global, disk: CutDisk, config: &BoardConfig) -> Option<Board<CutDisk>> {
+    match Board::open(alloc, disk, 1, config) {
         Ok(board) => Some(board),
         Err((_, fault)) => None,
     }

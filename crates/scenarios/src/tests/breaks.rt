@@ -1,14 +1,13 @@
-//! What a book tells after its store broke, and which marks it takes.
+//! What a book tells after its store broke.
 
 use crate::tests::asked::Asked;
 use crate::tests::groups::OF_A_WRITE;
 use crate::tests::image::fresh_store;
 use crate::tests::limits::{hold_64, is_busy};
 use crate::tests::lines::{Line, fails, play, play_all};
-use crate::tests::scene::{Scene, check, scene_of};
+use crate::tests::scene::{Scene, Tail, check, scene_of};
 use disk::CutDisk;
-use flusher::{Marks, Store};
-use rpmb_book::{Book, Refused, Shares};
+use flusher::Store;
 use std::alloc::Global;
 use std::test::Fail;
 
@@ -29,25 +28,15 @@ static BROKEN: [Line; 22] = [
     Line::IsBroken(true),
     // What is settled leaves as it was made; of the others each is a failure with the type of its
     // request.
-    Line::Reply {
-        guest: 0,
-        session: 1,
-        need: 0,
-        tail: [0, 0, 0, 0, 0, 0, 0, 1, 0, 7, 2, 0],
-    },
-    Line::Reply {
-        guest: 0,
-        session: 1,
-        need: 1,
-        tail: [0, 0, 0, 0, 0, 0, 0, 1, 0, 0, 1, 0],
-    },
-    Line::Failure(0, [0, 5, 3, 0]),
-    Line::Failure(0, [0, 1, 2, 0]),
-    Line::Failure(0, [0, 1, 0, 0]),
+    Line::Reply(0, 1, 0, Tail(0, 0, 1, 7, 0x0200)),
+    Line::Reply(0, 1, 1, Tail(0, 0, 1, 0, 0x0100)),
+    Line::Failure(0, 5, 0x0300),
+    Line::Failure(0, 1, 0x0200),
+    Line::Failure(0, 1, 0x0000),
     Line::NoReply(0),
     // A broken book accepts nothing, and what waited still waits.
     Line::Ask(0, Asked::Write(0x66, 1)),
-    Line::Failure(0, [0, 1, 3, 0]),
+    Line::Failure(0, 1, 0x0300),
     Line::Counter(0, 1),
     Line::GiveThis {
         guest: 0,
@@ -58,65 +47,6 @@ static BROKEN: [Line; 22] = [
 #[test]
 fn a_break_fails_what_is_not_settled(rt: HostRuntime) -> Result<(), Fail> {
     play_all(rt.alloc(), 1, &BROKEN)
-}
-
-/// Marks of a store that was given nothing move nothing; then it keeps the key.
-static KEEPS_ONE: [Line; 8] = [
-    Line::Ask(0, Asked::Counter(1)),
-    Line::Ask(0, Asked::Key(0x11)),
-    Line::Settle,
-    Line::Give(0),
-    Line::Ask(0, Asked::Write(0xa5, 0)),
-    Line::Ask(0, Asked::Counter(2)),
-    Line::Ask(0, Asked::LastResult),
-    Line::Run,
-];
-
-/// The book's own marks settle it, and may come once more.
-static SETTLES_TWICE: [Line; 4] = [
-    Line::Settled(0, 0),
-    Line::Settle,
-    Line::Settle,
-    Line::Settled(0, 1),
-];
-
-fn is_foreign(book: &mut Book, shares: &Shares, marks: Marks) -> bool {
-    book.settle(shares, marks) == Err(Refused::Foreign)
-}
-
-/// Marks above what was taken, and shares of another book, move nothing.
-fn refuses_both(scene: &mut Scene, other: &mut Scene, store: &Store<CutDisk>) -> bool {
-    let above = is_foreign(&mut other.book, &other.shares, store.marks());
-    let others = is_foreign(&mut scene.book, &other.shares, store.marks());
-    above && others
-}
-
-fn refuses(alloc: Global, scene: &mut Scene, store: &Store<CutDisk>) -> bool {
-    let Some(mut other) = scene_of(alloc, 1) else {
-        return false;
-    };
-    refuses_both(scene, &mut other, store)
-}
-
-fn take_marks(alloc: Global, scene: &mut Scene, store: &mut Store<CutDisk>) -> bool {
-    play(alloc, scene, store, &KEEPS_ONE) == KEEPS_ONE.len()
-        && refuses(alloc, scene, store)
-        && play(alloc, scene, store, &SETTLES_TWICE) == SETTLES_TWICE.len()
-}
-
-fn take_marks_of(alloc: Global, store: &mut Store<CutDisk>) -> bool {
-    let Some(mut scene) = scene_of(alloc, 1) else {
-        return false;
-    };
-    take_marks(alloc, &mut scene, store)
-}
-
-#[test]
-fn marks_above_what_was_taken_are_foreign(rt: HostRuntime) -> Result<(), Fail> {
-    let Some(mut store) = fresh_store(rt.alloc(), 1) else {
-        return Err(Fail::from("no store"));
-    };
-    check(take_marks_of(rt.alloc(), &mut store), "another outcome")
 }
 
 /// One request of each kind, of guest 1, to a book that is broken: a failure of each, with the type
@@ -130,12 +60,12 @@ static EACH_KIND: [Line; 16] = [
     Line::Ask(1, Asked::LastResult),
     Line::Ask(1, Asked::Zeros),
     Line::AskWithoutRoom(1),
-    Line::Failure(1, [0, 1, 1, 0]),
-    Line::Failure(1, [0, 1, 2, 0]),
-    Line::Failure(1, [0, 1, 3, 0]),
-    Line::Failure(1, [0, 1, 4, 0]),
-    Line::Failure(1, [0, 1, 0, 0]),
-    Line::Failure(1, [0, 1, 0, 0]),
+    Line::Failure(1, 1, 0x0100),
+    Line::Failure(1, 1, 0x0200),
+    Line::Failure(1, 1, 0x0300),
+    Line::Failure(1, 1, 0x0400),
+    Line::Failure(1, 1, 0x0000),
+    Line::Failure(1, 1, 0x0000),
     Line::EmptyReply(1),
     Line::NoReply(1),
 ];
@@ -143,7 +73,7 @@ static EACH_KIND: [Line; 16] = [
 /// Whether each of 64 held replies to guest 0 is a failure, and there are no more.
 fn each_of_64_fails(scene: &mut Scene) -> bool {
     for _ in 0..64 {
-        if !fails(scene, 0, [0, 1, 2, 0]) {
+        if !fails(scene, 0, 1, 0x0200) {
             return false;
         }
     }

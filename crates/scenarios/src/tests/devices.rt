@@ -3,7 +3,7 @@
 
 use super::image::{fresh_store, keep_next};
 use super::scene::{
-    Scene, accepted, check, get_write_counter, has_tail, program_key, result_read, scene_of,
+    Scene, Tail, accepted, check, get_write_counter, has_tail, program_key, result_read, scene_of,
     write_of,
 };
 use disk::CutDisk;
@@ -179,11 +179,11 @@ fn drop_a_reply(alloc: Global, guest: &mut Guest) -> bool {
 }
 
 /// Asks, and looks at the tail of the reply.
-fn ask_for(alloc: Global, guest: &mut Guest, frames: &[[u8; 512]], tail: [u8; 12]) -> bool {
+fn ask_for(alloc: Global, guest: &mut Guest, frames: &[[u8; 512]], tail: Tail) -> bool {
     let Some(reply) = guest.ask(alloc, frames) else {
         return false;
     };
-    has_tail(reply.as_slice(), &tail)
+    has_tail(reply.as_slice(), tail)
 }
 
 /// Comes into service, and programs its key.
@@ -191,17 +191,17 @@ fn begin(alloc: Global, guest: &mut Guest) -> bool {
     if !guest.negotiate() {
         return false;
     }
-    let programmed = [0, 0, 0, 0, 0, 0, 0, 1, 0, 0, 1, 0];
+    let programmed = Tail(0, 0, 1, 0, 0x0100);
     ask_for(alloc, guest, &program_key(&[0x11; 32]), programmed)
 }
 
 /// The write was accepted, whatever became of its reply; what its session could ask for is gone.
 fn ask_after_the_reset(alloc: Global, guest: &mut Guest) -> bool {
-    let counter = [0, 0, 0, 1, 0, 0, 0, 1, 0, 0, 2, 0];
+    let counter = Tail(1, 0, 1, 0, 0x0200);
     if !ask_for(alloc, guest, &get_write_counter(5), counter) {
         return false;
     }
-    let no_result = [0, 0, 0, 0, 0, 0, 0, 0, 0, 1, 0, 0];
+    let no_result = Tail(0, 0, 0, 1, 0x0000);
     ask_for(alloc, guest, &[result_read()], no_result)
 }
 
@@ -249,8 +249,8 @@ fn look_at_the_reply(guest: &Guest, request: &[u8; 512]) -> bool {
     if &reply[484..500] != &request[484..500] {
         return false;
     }
-    let counter = [0, 0, 0, 0, 0, 0, 0, 1, 0, 0, 2, 0];
-    has_tail(&reply, &counter)
+    let counter = Tail(0, 0, 1, 0, 0x0200);
+    has_tail(&reply, counter)
 }
 
 /// It goes back under the id that was popped: it is the ring's second.

@@ -3,7 +3,7 @@
 use crate::tests::asked::Asked;
 use crate::tests::groups::{Group, OF_A_KEY, OF_A_WRITE};
 use crate::tests::lines::{Line, play_all};
-use crate::tests::scene::LIFE;
+use crate::tests::scene::{LIFE, Tail};
 use std::test::Fail;
 
 /// Guest 1 reads the counter, programs its key, writes and reads the counter once more. What it
@@ -20,23 +20,13 @@ static REPLIES: [Line; 22] = [
     Line::Ask(1, Asked::Write(0xa5, 0)),
     Line::Ask(1, Asked::Counter(2)),
     // What was asked before the key needs nothing; the reply to the key waits.
-    Line::Reply {
-        guest: 1,
-        session: 1,
-        need: 0,
-        tail: [0, 0, 0, 0, 0, 0, 0, 1, 0, 7, 2, 0],
-    },
+    Line::Reply(1, 1, 0, Tail(0, 0, 1, 7, 0x0200)),
     Line::NoReply(1),
     Line::Run,
     Line::NoReply(1),
     // It leaves once the key is settled.
     Line::Settle,
-    Line::Reply {
-        guest: 1,
-        session: 1,
-        need: 1,
-        tail: [0, 0, 0, 0, 0, 0, 0, 1, 0, 0, 1, 0],
-    },
+    Line::Reply(1, 1, 1, Tail(0, 0, 1, 0, 0x0100)),
     // While the write isn't settled, neither its reply leaves nor that to what was asked after it.
     Line::NoReply(1),
     Line::NoIntent(0),
@@ -49,18 +39,8 @@ static REPLIES: [Line; 22] = [
     Line::Run,
     // Both leave then.
     Line::Settle,
-    Line::Reply {
-        guest: 1,
-        session: 1,
-        need: 2,
-        tail: [0, 0, 0, 1, 0, 0, 0, 1, 0, 0, 3, 0],
-    },
-    Line::Reply {
-        guest: 1,
-        session: 1,
-        need: 2,
-        tail: [0, 0, 0, 1, 0, 0, 0, 1, 0, 0, 2, 0],
-    },
+    Line::Reply(1, 1, 2, Tail(1, 0, 1, 0, 0x0300)),
+    Line::Reply(1, 1, 2, Tail(1, 0, 1, 0, 0x0200)),
     Line::NoReply(1),
 ];
 

@@ -8,7 +8,6 @@ use crate::tests::acts::{Acts, Move};
 use crate::tests::asked::Asked;
 use crate::tests::boards::{Table, opened_board};
 use crate::tests::image::formatted;
-use crate::tests::metered::MeteredDisk;
 use crate::tests::scene::{board_of, check};
 use board::{Board, Seen, Step, StepFault};
 use disk::CutDisk;
@@ -165,7 +164,7 @@ impl Hostile for Absent {
     }
 }
 
-type Three = Board<MeteredDisk<CutDisk>>;
+type Three = Board<CutDisk>;
 
 fn new_board(alloc: Global) -> Option<Three> {
     let Some(config) = board_of(alloc, 3) else {

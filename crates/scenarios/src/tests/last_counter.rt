@@ -1,7 +1,7 @@
 //! The write that leaves a partition its last counter, and the one after it.
 
 use crate::tests::image::{formatted, give, opened, settle};
-use crate::tests::scene::{KEY, board_of, check, has_tail, write_of};
+use crate::tests::scene::{KEY, Tail, board_of, check, has_tail, write_of};
 use disk::{CutDisk, Disk};
 use flusher::Store;
 use intent_slots::{Home, Intent, Layout};
@@ -67,21 +67,21 @@ fn answers(
     partition: &mut Partition,
     limits: Limits,
     write: (u8, u32),
-    wanted: (u16, [u8; 12]),
+    wanted: (u16, Tail),
 ) -> bool {
     let frames = write_of(write.0, write.1);
     let request = Request::classify(frames.as_flattened(), 512, limits);
     let mut out = [0; 8192];
     let (code, len) = answer(partition, &request, &mut out);
     match out.get(..len) {
-        Some(reply) => code == wanted.0 && len == 512 && has_tail(reply, &wanted.1),
+        Some(reply) => code == wanted.0 && len == 512 && has_tail(reply, wanted.1),
         None => false,
     }
 }
 
-const WRITTEN: [u8; 12] = *b"\xff\xff\xff\xff\0\0\0\x01\0\0\x03\0";
+const WRITTEN: Tail = Tail(0xffff_ffff, 0, 1, 0x0000, 0x0300);
 
-const EXPIRED: [u8; 12] = *b"\xff\xff\xff\xff\0\0\0\x01\0\x80\x03\0";
+const EXPIRED: Tail = Tail(0xffff_ffff, 0, 1, 0x0080, 0x0300);
 
 fn limits_of(board: &BoardConfig) -> Option<Limits> {
     match board.guests().first() {

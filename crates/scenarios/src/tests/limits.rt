@@ -1,12 +1,10 @@
 //! How many replies a guest may have held, and whom a book knows.
 
 use crate::tests::asked::Asked;
-use crate::tests::image::fresh_store;
 use crate::tests::lines::{Line, play_all};
 use crate::tests::scene::{
-    KEY, Scene, accepted, check, get_write_counter, job_of, nonce_of, program_key, scene_of,
+    Scene, Tail, accepted, check, get_write_counter, job_of, nonce_of, scene_of,
 };
-use flusher::Marks;
 use mmio_transport::{Done, Job};
 use rpmb_book::{Receipt, Refused};
 use std::alloc::Global;
@@ -132,20 +130,6 @@ fn knows_no_guest_2(scene: &mut Scene) -> bool {
     scene.book.take(&mut scene.shares, 2).is_err() && scene.book.collect(2).is_none()
 }
 
-/// The shares of a book that counted otherwise.
-fn refuses_shares_of(scene: &mut Scene, other: &mut Scene, marks: Marks) -> bool {
-    scene.book.take(&mut other.shares, 1).is_err()
-        && scene.book.settle(&other.shares, marks) == Err(Refused::Foreign)
-}
-
-/// An intent of guest 1 is taken.
-fn take_one(alloc: Global, other: &mut Scene) -> bool {
-    if other.submit(alloc, 1, &program_key(&KEY)).is_none() {
-        return false;
-    }
-    other.book.take(&mut other.shares, 1).is_ok()
-}
-
 fn offer_of_no_guest(alloc: Global, scene: &mut Scene) -> bool {
     foreign(alloc, scene, 2).is_some() && counts_none(scene) && knows_no_guest_2(scene)
 }
@@ -172,35 +156,6 @@ fn strangers_are_foreign(rt: HostRuntime) -> Result<(), Fail> {
     )
 }
 
-/// Marks of which none is above what either book took.
-fn fresh_marks(alloc: Global) -> Option<Marks> {
-    let Some(store) = fresh_store(alloc, 2) else {
-        return None;
-    };
-    Some(store.marks())
-}
-
-fn refuse_shares_of(alloc: Global, other: &mut Scene) -> bool {
-    if !take_one(alloc, other) {
-        return false;
-    }
-    let Some(marks) = fresh_marks(alloc) else {
-        return false;
-    };
-    let Some(mut scene) = scene_of(alloc, 2) else {
-        return false;
-    };
-    refuses_shares_of(&mut scene, other, marks)
-}
-
-#[test]
-fn shares_of_another_book_are_foreign(rt: HostRuntime) -> Result<(), Fail> {
-    let Some(mut scene) = scene_of(rt.alloc(), 2) else {
-        return Err(Fail::from("no scene"));
-    };
-    check(refuse_shares_of(rt.alloc(), &mut scene), "another outcome")
-}
-
 /// Guest 0 programs a key, and the result is asked for by guest 1, and by guest 0 in this session
 /// and in the next. Each reply has write counter, address, block count, result and type.
 static RESULTS: [Line; 11] = [
@@ -211,30 +166,10 @@ static RESULTS: [Line; 11] = [
     Line::Give(0),
     Line::Run,
     Line::Settle,
-    Line::Reply {
-        guest: 0,
-        session: 1,
-        need: 1,
-        tail: [0, 0, 0, 0, 0, 0, 0, 1, 0, 0, 1, 0],
-    },
-    Line::Reply {
-        guest: 0,
-        session: 1,
-        need: 1,
-        tail: [0, 0, 0, 0, 0, 0, 0, 1, 0, 0, 1, 0],
-    },
-    Line::Reply {
-        guest: 0,
-        session: 2,
-        need: 1,
-        tail: [0, 0, 0, 0, 0, 0, 0, 0, 0, 1, 0, 0],
-    },
-    Line::Reply {
-        guest: 1,
-        session: 1,
-        need: 0,
-        tail: [0, 0, 0, 0, 0, 0, 0, 0, 0, 1, 0, 0],
-    },
+    Line::Reply(0, 1, 1, Tail(0, 0, 1, 0, 0x0100)),
+    Line::Reply(0, 1, 1, Tail(0, 0, 1, 0, 0x0100)),
+    Line::Reply(0, 2, 1, Tail(0, 0, 0, 1, 0x0000)),
+    Line::Reply(1, 1, 0, Tail(0, 0, 0, 1, 0x0000)),
 ];
 
 #[test]

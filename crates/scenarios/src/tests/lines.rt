@@ -4,7 +4,7 @@ use crate::tests::asked::{Asked, frames_of};
 use crate::tests::groups::{Group, group_of};
 use crate::tests::image::{fresh_store, keep_next, settle};
 use crate::tests::scene::{
-    KEY, Scene, accepted, get_write_counter, has_tail, job_of, nonce_of, result_read, scene_of,
+    KEY, Scene, Tail, get_write_counter, has_tail, job_of, nonce_of, result_read, scene_of,
     write_of,
 };
 use disk::CutDisk;
@@ -33,10 +33,7 @@ pub enum Line {
     /// The guest's next intent goes to the store.
     Give(u16),
     /// It is this one.
-    GiveThis {
-        guest: u16,
-        intent: Group,
-    },
+    GiveThis { guest: u16, intent: Group },
     /// No intent of the guest waits.
     NoIntent(u16),
     /// The store makes its calls, until it is idle.
@@ -59,15 +56,10 @@ pub enum Line {
     IsBroken(bool),
     /// The life that the book was opened with.
     Life(u64),
-    /// The guest's next reply, of this session, has this need and these last twelve bytes.
-    Reply {
-        guest: u16,
-        session: u64,
-        need: u64,
-        tail: [u8; 12],
-    },
-    /// It is a failure in the first session, with need 0: zeros but for these last four bytes.
-    Failure(u16, [u8; 4]),
+    /// The guest's next reply, of this session, has this need and this end.
+    Reply(u16, u64, u64, Tail),
+    /// It is a failure in the first session, with need 0: zeros but for this result and type.
+    Failure(u16, u16, u16),
     /// It has no bytes.
     EmptyReply(u16),
     /// No reply to the guest leaves.
@@ -115,7 +107,7 @@ fn is_read(scene: &mut Scene, guest: u16, nonce: u128) -> bool {
 fn read(alloc: Global, scene: &mut Scene, guest: u16, nonce: u128, broken: bool) -> bool {
     ask_frames(alloc, scene, guest, 1, &get_write_counter(nonce))
         && if broken {
-            fails(scene, guest, [0, 1, 2, 0])
+            fails(scene, guest, 1, 0x0200)
         } else {
             is_read(scene, guest, nonce)
         }
@@ -147,10 +139,9 @@ fn write(
 
 /// Whether the guest's next reply is to a write under this counter.
 fn writes_reply(scene: &mut Scene, guest: u16, counter: u32) -> bool {
-    let mut tail = [0, 0, 0, 0, 0, 0, 0, 1, 0, 0, 3, 0];
-    tail[..4].copy_from_slice(&counter.wrapping_add(1).to_be_bytes());
+    let tail = Tail(counter.wrapping_add(1), 0, 1, 0, 0x0300);
     match scene.book.collect(guest) {
-        Some(done) => has_tail(done.reply(), &tail),
+        Some(done) => has_tail(done.reply(), tail),
         None => false,
     }
 }
@@ -247,27 +238,28 @@ fn is_answer(done: &Done, guest: u16, session: u64, need: u64) -> bool {
     (ticket.guest, ticket.session, ticket.id, done.need()) == (guest, session, 5, need)
 }
 
-fn replies(scene: &mut Scene, guest: u16, session: u64, need: u64, tail: &[u8; 12]) -> bool {
+fn replies(scene: &mut Scene, guest: u16, session: u64, need: u64, tail: Tail) -> bool {
     match scene.book.collect(guest) {
         Some(done) => is_answer(&done, guest, session, need) && has_tail(done.reply(), tail),
         None => false,
     }
 }
 
-/// The bytes of a failure: zeros but for the last four.
-pub fn failure_of(end: [u8; 4]) -> [u8; 512] {
+/// The bytes of a failure: zeros but for its result and its type.
+fn failure_of(code: u16, kind: u16) -> [u8; 512] {
     let mut bytes = [0; 512];
-    bytes[508..].copy_from_slice(&end);
+    bytes[500..].copy_from_slice(&Tail(0, 0, 0, code, kind).bytes());
     bytes
 }
 
-fn is_failure(done: &Done, guest: u16, end: [u8; 4]) -> bool {
-    is_answer(done, guest, 1, 0) && done.reply() == failure_of(end).as_slice()
+fn is_failure(done: &Done, guest: u16, code: u16, kind: u16) -> bool {
+    is_answer(done, guest, 1, 0) && done.reply() == failure_of(code, kind).as_slice()
 }
 
-pub fn fails(scene: &mut Scene, guest: u16, end: [u8; 4]) -> bool {
+/// Whether the guest's next reply is a failure of this result and type.
+pub fn fails(scene: &mut Scene, guest: u16, code: u16, kind: u16) -> bool {
     match scene.book.collect(guest) {
-        Some(done) => is_failure(&done, guest, end),
+        Some(done) => is_failure(&done, guest, code, kind),
         None => false,
     }
 }
@@ -301,13 +293,8 @@ fn happens(alloc: Global, scene: &mut Scene, store: &mut Store<CutDisk>, line: L
         Line::BreakOff => break_off(scene),
         Line::IsBroken(broken) => scene.book.is_broken() == broken,
         Line::Life(life) => scene.book.life() == life,
-        Line::Reply {
-            guest,
-            session,
-            need,
-            tail,
-        } => replies(scene, guest, session, need, &tail),
-        Line::Failure(guest, end) => fails(scene, guest, end),
+        Line::Reply(guest, session, need, tail) => replies(scene, guest, session, need, tail),
+        Line::Failure(guest, code, kind) => fails(scene, guest, code, kind),
         Line::EmptyReply(guest) => replies_nothing(scene, guest),
         Line::NoReply(guest) => has_no_reply(scene, guest),
     }

@@ -1,16 +1,13 @@
-//! The pops that a world notes, and what a refusal of memory leaves of one: `rt try --test
-//! --fail-alloc` has each allocation fail once.
+//! The pops that a world notes.
 
 use crate::tests::acts::{Acts, Move};
 use crate::tests::asked::Asked;
 use crate::tests::image::Version;
 use crate::tests::scene::check;
 use crate::tests::worlds::{KEYED, world_of};
-use board::{Step, StepFault};
-use mmio_transport::DeviceFault;
 use std::alloc::Global;
 use std::test::Fail;
-use world::{Event, Pop, Publication, Refusal, World};
+use world::{Event, Pop, Publication, World};
 
 /// A second life, in which two requests are answered, each before the next.
 static SECOND_LIFE: [Move; 6] = [
@@ -65,59 +62,6 @@ fn replies_tell_their_pops(rt: HostRuntime) -> Result<(), Fail> {
     };
     check(
         acts.play(0, &KEYED) && acts.play(0, &SECOND_LIFE) && check_told(&mut world, &acts.events),
-        "another outcome",
-    )
-}
-
-const NO_MEMORY: Refusal = Refusal::Step(StepFault::Device(DeviceFault::NoMemory));
-
-fn pops(world: &mut World, pop: &[Event]) -> bool {
-    world.run(pop).is_none() && world.popped(0).len() == 1
-}
-
-/// Nothing was noted, and the same pop gives the first job then.
-fn pop_again(world: &mut World, pop: &[Event], refusal: Refusal) -> bool {
-    refusal == NO_MEMORY && world.popped(0).is_empty() && pops(world, pop)
-}
-
-fn pop_once(world: &mut World, pop: &[Event]) -> bool {
-    match world.run(pop) {
-        None => true,
-        Some(refusal) => pop_again(world, pop, refusal),
-    }
-}
-
-fn is_first(popped: &[Pop]) -> bool {
-    match popped.first() {
-        Some(pop) => popped.len() == 1 && pop.number == 1,
-        None => false,
-    }
-}
-
-fn check_pop(world: &mut World, before: &[Event], pop: &[Event]) -> bool {
-    world.run(before).is_none() && pop_once(world, pop) && is_first(world.popped(0))
-}
-
-/// A guest whose chain waits to be popped.
-fn asked(alloc: Global) -> Option<Acts> {
-    let mut acts = Acts::new(alloc, None, 0);
-    if !acts.play(0, &[Move::Open, Move::SetUp]) || !acts.ask(0, Asked::Counter(1)) {
-        return None;
-    }
-    Some(acts)
-}
-
-#[test]
-fn a_refused_pop_leaves_the_world(rt: HostRuntime) -> Result<(), Fail> {
-    let Some(acts) = asked(rt.alloc()) else {
-        return Err(Fail::from("no acts"));
-    };
-    let mut pop = Vec::new(rt.alloc());
-    let Some(mut world) = world_of(rt.alloc(), 1, Version::One) else {
-        return Err(Fail::from("no world"));
-    };
-    check(
-        pop.push(Event::Do(Step::Pop(0))).is_ok() && check_pop(&mut world, &acts.events, &pop),
         "another outcome",
     )
 }

@@ -1,6 +1,6 @@
 //! Receipts, and the turns that they name.
 
-use crate::tests::scene::{LIFE, Scene, check, get_write_counter, nonce_of, scene_of};
+use crate::tests::scene::{Scene, check, get_write_counter, nonce_of, scene_of};
 use rpmb_book::{Book, Receipt, TurnView};
 use std::alloc::Global;
 use std::test::Fail;
@@ -65,67 +65,4 @@ fn each_of_64_held_replies_of_64_guests_is_found(rt: HostRuntime) -> Result<(), 
         return Err(Fail::from("no scene"));
     };
     check(find_4096(rt.alloc(), &mut scene), "another outcome")
-}
-
-/// Receipts of another life, of other guests, of the turn that collected the reply, and of turns
-/// that aren't there.
-fn strangers(receipt: Receipt) -> [Receipt; 7] {
-    [
-        Receipt {
-            life: LIFE + 1,
-            ..receipt
-        },
-        Receipt {
-            guest: 1,
-            ..receipt
-        },
-        Receipt {
-            guest: 64,
-            ..receipt
-        },
-        Receipt {
-            number: 1,
-            ..receipt
-        },
-        Receipt {
-            number: 2,
-            ..receipt
-        },
-        Receipt {
-            number: 1 << 64,
-            ..receipt
-        },
-        Receipt {
-            number: u128::MAX,
-            ..receipt
-        },
-    ]
-}
-
-fn finds_none(book: &Book, receipts: &[Receipt]) -> bool {
-    for receipt in receipts {
-        if book.find(receipt).is_some() {
-            return false;
-        }
-    }
-    true
-}
-
-fn finds_its_own(book: &mut Book, receipt: &Receipt) -> bool {
-    book.collect(0).is_some() && book.find(receipt).is_some()
-}
-
-fn find_only_its_own(alloc: Global, scene: &mut Scene) -> bool {
-    let Some(receipt) = scene.submit(alloc, 0, &get_write_counter(1)) else {
-        return false;
-    };
-    finds_its_own(&mut scene.book, &receipt) && finds_none(&scene.book, &strangers(receipt))
-}
-
-#[test]
-fn receipts_of_no_request_find_nothing(rt: HostRuntime) -> Result<(), Fail> {
-    let Some(mut scene) = scene_of(rt.alloc(), 2) else {
-        return Err(Fail::from("no scene"));
-    };
-    check(find_only_its_own(rt.alloc(), &mut scene), "another outcome")
 }

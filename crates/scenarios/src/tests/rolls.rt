@@ -7,7 +7,7 @@ use crate::tests::limits::given_back;
 use crate::tests::lines::{Line, has_no_reply, play_all};
 use crate::tests::receipts::is_of_nonce;
 use crate::tests::scene::{
-    LIFE, Scene, accepted, check, get_write_counter, job_of, nonce_of, scene_of,
+    LIFE, Scene, Tail, accepted, check, get_write_counter, job_of, nonce_of, scene_of,
 };
 use mmio_transport::{Done, Job};
 use rpmb_book::{Book, Receipt, Refused};
@@ -195,12 +195,7 @@ static KEPT: [Line; 43] = [
     Line::Give(0),
     Line::Run,
     Line::Settle,
-    Line::Reply {
-        guest: 0,
-        session: 1,
-        need: 1,
-        tail: [0, 0, 0, 0, 0, 0, 0, 1, 0, 0, 1, 0],
-    },
+    Line::Reply(0, 1, 1, Tail(0, 0, 1, 0, 0x0100)),
     Line::Reads(2, 8_000),
     Line::Writes(0, 0, 6),
     // Two writes are taken as one.
@@ -219,18 +214,8 @@ static KEPT: [Line; 43] = [
     },
     Line::Run,
     Line::Settle,
-    Line::Reply {
-        guest: 0,
-        session: 1,
-        need: 8,
-        tail: [0, 0, 0, 7, 0, 0, 0, 1, 0, 0, 3, 0],
-    },
-    Line::Reply {
-        guest: 0,
-        session: 1,
-        need: 9,
-        tail: [0, 0, 0, 8, 0, 0, 0, 1, 0, 0, 3, 0],
-    },
+    Line::Reply(0, 1, 8, Tail(7, 0, 1, 0, 0x0300)),
+    Line::Reply(0, 1, 9, Tail(8, 0, 1, 0, 0x0300)),
     Line::Reads(2, 8_200),
     Line::Ask(1, Asked::Counter(6)),
     Line::Ask(1, Asked::Key(0x11)),
@@ -245,25 +230,10 @@ static KEPT: [Line; 43] = [
     // The last write's outcome is told in its session alone.
     Line::Ask(0, Asked::LastResult),
     Line::AskNext(0, Asked::LastResult),
-    Line::Reply {
-        guest: 0,
-        session: 1,
-        need: 12,
-        tail: [0, 0, 0, 11, 0, 0, 0, 1, 0, 0, 3, 0],
-    },
-    Line::Reply {
-        guest: 0,
-        session: 2,
-        need: 12,
-        tail: [0, 0, 0, 0, 0, 0, 0, 0, 0, 1, 0, 0],
-    },
+    Line::Reply(0, 1, 12, Tail(11, 0, 1, 0, 0x0300)),
+    Line::Reply(0, 2, 12, Tail(0, 0, 0, 1, 0x0000)),
     Line::Writes(0, 11, 1),
-    Line::Reply {
-        guest: 1,
-        session: 1,
-        need: 0,
-        tail: [0, 0, 0, 0, 0, 0, 0, 1, 0, 7, 2, 0],
-    },
+    Line::Reply(1, 1, 0, Tail(0, 0, 1, 7, 0x0200)),
     Line::NoReply(1),
     Line::GiveThis {
         guest: 1,
@@ -271,18 +241,8 @@ static KEPT: [Line; 43] = [
     },
     Line::Run,
     Line::Settle,
-    Line::Reply {
-        guest: 1,
-        session: 1,
-        need: 1,
-        tail: [0, 0, 0, 0, 0, 0, 0, 1, 0, 0, 1, 0],
-    },
-    Line::Reply {
-        guest: 1,
-        session: 1,
-        need: 1,
-        tail: [0, 0, 0, 0, 0, 0, 0, 1, 0, 0, 2, 0],
-    },
+    Line::Reply(1, 1, 1, Tail(0, 0, 1, 0, 0x0100)),
+    Line::Reply(1, 1, 1, Tail(0, 0, 1, 0, 0x0200)),
     Line::NoReply(1),
     Line::Reads(2, 16_384),
     Line::Writes(1, 0, 2),
@@ -311,14 +271,9 @@ static BROKEN: [&[Line]; 2] = [
         Line::FailedReads(0, 400),
         Line::Turns(16_403),
         Line::IsBroken(true),
-        Line::Reply {
-            guest: 1,
-            session: 1,
-            need: 1,
-            tail: [0, 0, 0, 0, 0, 0, 0, 1, 0, 0, 1, 0],
-        },
-        Line::Failure(1, [0, 5, 3, 0]),
-        Line::Failure(1, [0, 1, 2, 0]),
+        Line::Reply(1, 1, 1, Tail(0, 0, 1, 0, 0x0100)),
+        Line::Failure(1, 5, 0x0300),
+        Line::Failure(1, 1, 0x0200),
         Line::NoReply(1),
     ],
     &[
@@ -334,21 +289,16 @@ static BROKEN: [&[Line]; 2] = [
         Line::IsBroken(false),
         Line::BreakOff,
         Line::FailedReads(0, 10),
-        Line::Reply {
-            guest: 1,
-            session: 1,
-            need: 1,
-            tail: [0, 0, 0, 0, 0, 0, 0, 1, 0, 0, 1, 0],
-        },
-        Line::Failure(1, [0, 5, 3, 0]),
-        Line::Failure(1, [0, 1, 2, 0]),
+        Line::Reply(1, 1, 1, Tail(0, 0, 1, 0, 0x0100)),
+        Line::Failure(1, 5, 0x0300),
+        Line::Failure(1, 1, 0x0200),
         Line::NoReply(1),
         // It rolls once more, over the Break.
         Line::FailedReads(0, 16_384),
         Line::IsBroken(true),
         // What waited still waits, and nothing more is accepted.
         Line::Ask(1, Asked::Write(0x66, 1)),
-        Line::Failure(1, [0, 1, 3, 0]),
+        Line::Failure(1, 1, 0x0300),
         Line::Counter(1, 1),
         Line::Holds(1, 0xa5),
         Line::GiveThis {

@@ -165,14 +165,25 @@ fn sealed(frame: Frame) -> [[u8; 512]; 2] {
     [frame.with_key_mac(&mac).to_bytes(), result_read()]
 }
 
-/// Whether the last twelve bytes of a reply are these.
-pub fn has_tail(reply: &[u8], tail: &[u8; 12]) -> bool {
-    tail_of(reply) == tail.as_slice()
+/// The last twelve bytes of a reply: write counter, address, block count, result and type.
+#[derive(Clone, Copy)]
+pub struct Tail(pub u32, pub u16, pub u16, pub u16, pub u16);
+
+impl Tail {
+    pub fn bytes(&self) -> [u8; 12] {
+        let Tail(counter, address, count, code, kind) = *self;
+        let mut bytes = [0; 12];
+        bytes[..4].copy_from_slice(&counter.to_be_bytes());
+        for (place, number) in [address, count, code, kind].iter().enumerate() {
+            bytes[4 + 2 * place..6 + 2 * place].copy_from_slice(&number.to_be_bytes());
+        }
+        bytes
+    }
 }
 
-/// The last twelve bytes of a reply: write counter, address, block count, result and type.
-fn tail_of(reply: &[u8]) -> &[u8] {
-    &reply[reply.len().saturating_sub(12)..]
+/// Whether a reply ends so.
+pub fn has_tail(reply: &[u8], tail: Tail) -> bool {
+    reply.ends_with(&tail.bytes())
 }
 
 /// The nonce of the first frame of a request or a reply.

@@ -1,343 +1,271 @@
-//! Three guests whose requests go to the disk side by side, alone or several as one, stopped at and
-//! within each call of the disk, and again at and within the first call after the opening.
-mod again;
-mod ends;
-mod tally;
+//! Three guests that program their keys and write 1, 3 and 8 blocks, each request on its own or
+//! several as one, on images of both versions: stopped within each call of the store in turn, and
+//! once more within the first call after the opening; or with each call failing in turn. Each reply
+//! leaves as soon as it may.
 
-use crate::tests::image::{Version, formatted_as, give, opened};
-use crate::tests::intents::{Histories, group_of};
-use crate::tests::scene::board_of;
-use crate::tests::stops::tally::Tally;
-use disk::{CutDisk, Filler};
-use flusher::{Call, Made, Store, StoreFault};
-use rpmb_core::Partition;
-use rpmb_frame::BoardConfig;
+use crate::tests::acts::{Acts, Move};
+use crate::tests::asked::Asked;
+use crate::tests::image::Version;
+use crate::tests::prefixes::check_guests;
+use crate::tests::scene::check;
+use crate::tests::worlds::world_of;
+use board::StepFault;
+use flusher::StoreFault;
 use std::alloc::Global;
+use std::test::Fail;
+use world::{Event, Publication, Refusal, World};
 
-/// How many calls were made when each guest begins: with one slot one and two syncs after guest 0.
-const BEGINNINGS: [u32; 3] = [0, 2, 5];
+/// What a stop leaves in the places that weren't synced, by the numbers of `acts`: what the last
+/// sync left, what reads gave, and 0x5a and 0xa5 in turn.
+const FILLERS: [u8; 3] = [0, 1, 7];
 
-/// More calls than any run has.
-const MANY: u32 = 1000;
-
-/// How the requests of the guests go to the store, and how many calls that takes.
+/// When the guests ask: guest g makes its request n in turn `at[n] + 3 * g`. In each turn what may
+/// go to the store does, then the store makes a call, and then the replies leave that may.
 #[derive(Clone, Copy)]
-struct Grouping {
+struct Pace {
     version: Version,
-    /// By guest and request, how many go as one from it on; 0 where it goes with one before it.
-    sizes: [[u64; 4]; 3],
-    calls: u32,
-    /// After how many stops between calls, and within them, no call follows an opening.
-    without_calls: [u32; 2],
+    at: [u32; 4],
+    /// As many turns as the guests need until all their replies have left and the store is idle.
+    turns: u32,
 }
 
-/// One at a time: 4 writes for each of 3 keys, 5 for each of 9 writes of blocks, and 18 syncs,
-/// since each request takes four, and guests 1 and 2 begin one and two syncs after guest 0.
-///
-/// No call follows an opening after the last call, nor before the last sync where 3 of the 4
-/// fillers leave the last gate shut. Nor does one where 3 of them leave it shut in the last sync,
-/// and 2 in the last write, which what reads give then lacks.
-static SINGLE: Grouping = Grouping {
+/// Each request goes on its own.
+static ALONE: Pace = Pace {
     version: Version::One,
-    sizes: [[1; 4]; 3],
-    calls: 75,
-    without_calls: [14, 10],
+    at: [0, 20, 40, 60],
+    turns: 84,
 };
 
-/// A key, a write and two as one; a key and three writes as one; a key and three writes, all as
-/// one. A group takes 4 writes, and one for each write of blocks: 15, 11 and 7, and 12 syncs, four
-/// for each group of guest 0.
-static MIXED: Grouping = Grouping {
+/// A guest's three writes wait behind its key, and go as one.
+static TOGETHER: Pace = Pace {
     version: Version::One,
-    sizes: [[1, 1, 2, 0], [1, 3, 0, 0], [4, 0, 0, 0]],
-    calls: 45,
-    without_calls: [14, 10],
+    at: [0, 1, 1, 1],
+    turns: 45,
 };
 
-/// With two slots a guest's next payload and gate go beside those of the request before it, so each
-/// but the first takes two syncs: 10 for each guest. Guest 2 begins one sync after the others.
-static PAIRED_SINGLE: Grouping = Grouping {
+/// A guest's next request goes into the other slot while the one before is on its way.
+static BESIDE: Pace = Pace {
     version: Version::Two,
-    calls: 68,
-    ..SINGLE
+    at: [0, 8, 16, 24],
+    turns: 72,
 };
 
-/// Guest 0 takes four syncs for its key, and two for each of its other groups.
-static PAIRED_MIXED: Grouping = Grouping {
+/// A guest's three writes go as one beside its key.
+static TOGETHER_BESIDE: Pace = Pace {
     version: Version::Two,
-    calls: 41,
-    ..MIXED
+    at: [0, 1, 1, 1],
+    turns: 42,
 };
 
-/// What a run begins from, and what its partitions are compared with.
-#[derive(Drop)]
-struct Scene {
-    grouping: Grouping,
-    board: BoardConfig,
-    /// A formatted image.
-    image: Vec<u8>,
-    histories: Histories,
-}
-
-fn new_scene(alloc: Global, grouping: &Grouping) -> Option<Scene> {
-    let Some(board) = board_of(alloc, 3) else {
-        return None;
-    };
-    let Some(disk) = formatted_as(alloc, &board, grouping.version) else {
-        return None;
-    };
-    let Ok(bytes) = disk.content().to_vec(alloc) else {
-        return None;
-    };
-    let Some(histories) = Histories::new(alloc) else {
-        return None;
-    };
-    Some(Scene {
-        grouping: *grouping,
-        image: bytes,
-        board,
-        histories,
-    })
-}
-
-/// A store under way, and how many requests each guest has given it.
-#[derive(Drop)]
-struct Run {
-    store: Store<CutDisk>,
-    sizes: [[u64; 4]; 3],
-    given: [u64; 3],
-}
-
-/// What a stop has left, and of each guest the least and the most requests that it may have kept:
-/// those that are settled, and besides the group that comes next.
-#[derive(Drop)]
-struct Stopped {
-    disk: CutDisk,
-    least: [u64; 3],
-    most: [u64; 3],
-}
-
-fn sequence_of(partition: Option<&Partition>) -> u64 {
-    match partition {
-        Some(partition) => partition.sequence(),
-        None => 0,
+/// A guest's request of this number: its key, and writes of 1, 3 and 8 blocks, which overlap in
+/// part. Those of guest 2 reach the last block.
+fn request_of(guest: u16, number: usize) -> Asked {
+    let first = if guest == 2 { 504 } else { guest };
+    match number {
+        0 => Asked::Key(0x11),
+        1 => Asked::BlocksUnder(first, 1, 0),
+        2 => Asked::BlocksUnder(first.saturating_add(1), 3, 1),
+        _ => Asked::BlocksUnder(first, 8, 2),
     }
 }
 
-fn sequences_of(partitions: &[Partition]) -> [u64; 3] {
-    [
-        sequence_of(partitions.first()),
-        sequence_of(partitions.get(1)),
-        sequence_of(partitions.get(2)),
-    ]
+/// What a guest asks in this turn, where it asks something.
+fn ask_in(acts: &mut Acts, pace: &Pace, guest: u16, turn: u32) -> bool {
+    for (number, at) in pace.at.iter().enumerate() {
+        if turn == at.saturating_add(3 * u32::from(guest)) {
+            if !acts.play(guest, &[Move::Submit(request_of(guest, number))]) {
+                return false;
+            }
+        }
+    }
+    acts.play(guest, &[Move::HandOver])
 }
 
-/// What an opening gives. Each guest goes on behind the requests that its partition has.
-fn run_from(alloc: Global, scene: &Scene, disk: CutDisk) -> Option<(Run, Vec<Partition>)> {
-    let Some((store, partitions)) = opened(alloc, disk, &scene.board) else {
+fn turn(acts: &mut Acts, pace: &Pace, turn: u32) -> bool {
+    for guest in 0..3 {
+        if !ask_in(acts, pace, guest, turn) {
+            return false;
+        }
+    }
+    if !acts.play(0, &[Move::Advances(1)]) {
+        return false;
+    }
+    for guest in 0..3 {
+        if !acts.play(guest, &[Move::Reply]) {
+            return false;
+        }
+    }
+    true
+}
+
+/// The opening, and all turns of three guests up to the stop. With a number behind the opening,
+/// that call of the disk fails.
+fn turns(acts: &mut Acts, pace: &Pace, failing: Option<u64>) -> bool {
+    let fail = Event::Fail(failing.unwrap_or(0));
+    if !acts.play(0, &[Move::Open]) || acts.events.push(fail).is_err() {
+        return false;
+    }
+    for guest in 0..3 {
+        if !acts.play(guest, &[Move::SetUp]) {
+            return false;
+        }
+    }
+    for number in 0..pace.turns {
+        if !turn(acts, pace, number) {
+            return false;
+        }
+    }
+    true
+}
+
+/// The turns of a world up to a stop within the call of turn `left`.
+fn stopped_in(alloc: Global, pace: &Pace, left: u32, filler: u8) -> Option<Acts> {
+    let mut acts = Acts::new(alloc, Some(left), filler);
+    if !turns(&mut acts, pace, None) {
         return None;
-    };
-    let run = Run {
-        store,
-        sizes: scene.grouping.sizes,
-        given: sequences_of(&partitions),
-    };
-    Some((run, partitions))
+    }
+    Some(acts)
 }
 
-/// A run on an image.
-fn run_on(alloc: Global, scene: &Scene, image: &[u8]) -> Option<Run> {
-    let Ok(bytes) = image.to_vec(alloc) else {
-        return None;
-    };
-    let Ok(disk) = CutDisk::new(alloc, bytes) else {
-        return None;
-    };
-    let Some((run, _)) = run_from(alloc, scene, disk) else {
-        return None;
-    };
-    Some(run)
+/// Nothing is refused, and each guest has all that it was shown.
+fn happens(alloc: Global, world: &mut World, events: &[Event], openings: u64) -> bool {
+    world.run(events).is_none() && check_guests(alloc, world, 3, openings)
 }
 
-fn begun(alloc: Global, scene: &Scene) -> Option<Run> {
-    run_on(alloc, scene, &scene.image)
+/// A stop within the call of this turn, and one within the first call after the opening.
+fn stop(alloc: Global, world: &mut World, pace: &Pace, left: u32, filler: u8) -> bool {
+    let Some(acts) = stopped_in(alloc, pace, left, filler) else {
+        return false;
+    };
+    if !happens(alloc, world, &acts.events, 2) {
+        return false;
+    }
+    let mut again = Acts::new(alloc, None, filler);
+    again.stop_again() && happens(alloc, world, &again.events, 3)
 }
 
-/// How many of a guest's requests go as one after so many: none where all were given.
-fn size_after(sizes: &[[u64; 4]; 3], guest: u16, given: u64) -> Option<u64> {
-    let of_guest = sizes.get(usize::from(guest))?;
-    of_guest.get(given as usize).copied()
-}
-
-impl Run {
-    /// Gives a guest's next requests, if there are some and the guest's slot is free.
-    fn give(&mut self, alloc: Global, guest: u16) -> bool {
-        let Some(given) = self.given.get_mut(usize::from(guest)) else {
+/// Stops within the call of each turn, with this filler.
+fn stop_in_each(alloc: Global, pace: &Pace, filler: u8) -> bool {
+    for left in 0..pace.turns {
+        let Some(mut world) = world_of(alloc, 3, pace.version) else {
             return false;
         };
-        let Some(size) = size_after(&self.sizes, guest, *given) else {
-            return true;
-        };
-        if !self.store.is_free(guest) {
-            return true;
-        }
-        let Some(intent) = group_of(alloc, guest, *given, size) else {
-            return false;
-        };
-        *given = given.saturating_add(size);
-        give(&mut self.store, intent)
-    }
-
-    /// Gives the next requests of all guests that have begun.
-    fn give_all(&mut self, alloc: Global, calls: u32) -> bool {
-        for (guest, beginning) in BEGINNINGS.iter().enumerate() {
-            if *beginning <= calls {
-                if !self.give(alloc, guest as u16) {
-                    return false;
-                }
-            }
-        }
-        true
-    }
-
-    /// Makes so many calls.
-    fn go(&mut self, alloc: Global, calls: u32) -> bool {
-        for call in 0..calls {
-            if !self.give_all(alloc, call) {
-                return false;
-            }
-            let Ok(made) = self.store.advance() else {
-                return false;
-            };
-            if matches!(made, Made::Idle) {
-                return false;
-            }
-        }
-        true
-    }
-
-    /// Makes so many calls, and has the next one fail where the stop is within it.
-    fn go_to(&mut self, alloc: Global, calls: u32, within: bool) -> bool {
-        if !self.go(alloc, calls) {
+        if !stop(alloc, &mut world, pace, left, filler) {
             return false;
         }
-        if within {
-            if !self.give_all(alloc, calls) || !self.fail() {
-                return false;
-            }
-        }
-        true
     }
+    true
+}
 
-    /// Makes the first call after an opening, if there is one, or has it fail.
-    fn call_once(&mut self, alloc: Global, fails: bool, tally: &mut Tally) -> bool {
-        if !self.give_all(alloc, MANY) {
+/// The same with each filler.
+fn check_stops(alloc: Global, pace: &Pace) -> Result<(), Fail> {
+    for filler in FILLERS {
+        if !stop_in_each(alloc, pace, filler) {
+            return Err(Fail::from("something that was shown is gone"));
+        }
+    }
+    Ok(())
+}
+
+#[test]
+fn stops_lose_nothing_that_was_shown(rt: HostRuntime) -> Result<(), Fail> {
+    check_stops(rt.alloc(), &ALONE)
+}
+
+#[test]
+fn stops_lose_nothing_of_several_as_one(rt: HostRuntime) -> Result<(), Fail> {
+    check_stops(rt.alloc(), &TOGETHER)
+}
+
+#[test]
+fn stops_lose_nothing_of_two_slots(rt: HostRuntime) -> Result<(), Fail> {
+    check_stops(rt.alloc(), &BESIDE)
+}
+
+#[test]
+fn stops_lose_nothing_of_several_as_one_in_two_slots(rt: HostRuntime) -> Result<(), Fail> {
+    check_stops(rt.alloc(), &TOGETHER_BESIDE)
+}
+
+/// The k-th call behind the opening fails, all turns are made, and the disk is opened again.
+fn failing_at(alloc: Global, pace: &Pace, k: u64) -> Option<Acts> {
+    let mut acts = Acts::new(alloc, None, 0);
+    if !turns(&mut acts, pace, Some(k))
+        || acts.events.push(Event::Fail(0)).is_err()
+        || !acts.play(0, &[Move::Open])
+    {
+        return None;
+    }
+    Some(acts)
+}
+
+/// Whether a guest was told of each of its four requests: a reply needs all up to its request. Where
+/// a call has failed, failures may come from some request on, and need nothing.
+fn are_told(published: &[Publication], failed: bool) -> bool {
+    let mut right = true;
+    for (publication, need) in published.iter().zip(1..5_u64) {
+        right = right && publication.need == need;
+        let is_failure = failed && publication.need == 0;
+        if publication.length != 512 || !(right || is_failure) {
             return false;
         }
-        if self.store.next_call() == Call::None {
-            return true;
-        }
-        tally.calls = tally.calls.wrapping_add(1);
-        self.call(fails)
     }
-
-    /// Makes the next call, or has it fail.
-    fn call(&mut self, fails: bool) -> bool {
-        if fails {
-            return self.fail();
-        }
-        self.store.advance().is_ok()
-    }
-
-    /// Makes the next call fail.
-    fn fail(&mut self) -> bool {
-        self.store.fail(1);
-        match self.store.advance() {
-            Err(StoreFault::DiskFault) => true,
-            _ => false,
-        }
-    }
+    published.len() == 4
 }
 
-impl Run {
-    /// Whether this guest's partition is that after its requests, and the mark too.
-    fn is_at(&self, histories: &Histories, guest: u16, partition: &Partition) -> bool {
-        match self.given.get(usize::from(guest)) {
-            Some(given) => {
-                self.store.marks().get(guest) == *given
-                    && histories.is_after(partition, guest, *given)
-            }
-            None => false,
-        }
-    }
-
-    fn is_one_at(&self, histories: &Histories, guest: u16, partitions: &[Partition]) -> bool {
-        match partitions.get(usize::from(guest)) {
-            Some(partition) => self.is_at(histories, guest, partition),
-            None => false,
-        }
-    }
-
-    /// Compares the partitions that an opening gave.
-    fn compare(&self, histories: &Histories, partitions: &[Partition]) -> bool {
-        if partitions.len() != 3 {
+/// What the guests were told and find behind a failed call, or where none has failed.
+fn check_told(alloc: Global, world: &World, failed: bool) -> bool {
+    for guest in 0..3 {
+        if !are_told(world.published(guest), failed) {
             return false;
         }
-        for guest in 0..3_u16 {
-            let same = self.is_one_at(histories, guest, partitions);
-            if !same {
-                return false;
-            }
-        }
-        true
     }
+    check_guests(alloc, world, 3, 2)
 }
 
-/// How many requests a guest may have kept: of those given and not settled the next group, whose
-/// gate may be read as open.
-fn most_of(sizes: &[[u64; 4]; 3], guest: u16, settled: u64, given: u64) -> u64 {
-    match size_after(sizes, guest, settled) {
-        Some(size) if settled < given => settled.saturating_add(size),
-        _ => settled,
+/// Whether the k-th call failed, which is all that may be refused.
+fn fails(alloc: Global, world: &mut World, pace: &Pace, k: u64) -> Option<bool> {
+    let Some(acts) = failing_at(alloc, pace, k) else {
+        return None;
+    };
+    let fault = Refusal::Step(StepFault::Store(StoreFault::DiskFault));
+    let refusal = world.run(&acts.events);
+    let failed = refusal == Some(fault);
+    if refusal.is_some() != failed || !check_told(alloc, world, failed) {
+        return None;
     }
+    Some(failed)
 }
 
-impl Run {
-    /// How many of a guest's requests are settled, and how many it may have kept.
-    fn bounds(&self, guest: u16) -> (u64, u64) {
-        let settled = self.store.marks().get(guest);
-        let given = self.given.get(usize::from(guest));
-        let given = given.copied().unwrap_or(settled);
-        (settled, most_of(&self.sizes, guest, settled, given))
-    }
-
-    /// What stands on the disk when no more calls are made, without a stop.
-    fn left(self) -> Stopped {
-        let bounds = [self.bounds(0), self.bounds(1), self.bounds(2)];
-        Stopped {
-            disk: self.store.into_disk(),
-            least: [bounds[0].0, bounds[1].0, bounds[2].0],
-            most: [bounds[0].1, bounds[1].1, bounds[2].1],
-        }
-    }
-
-    /// What a stop leaves.
-    fn stopped(self, filler: &Filler) -> Stopped {
-        let mut stopped = self.left();
-        stopped.disk.cut(filler);
-        stopped
-    }
-}
-
-impl Stopped {
-    /// Opens the disk and compares each partition.
-    fn open(self, alloc: Global, scene: &Scene, tally: &mut Tally) -> Option<Run> {
-        let Some((run, partitions)) = run_from(alloc, scene, self.disk) else {
+/// One call after another fails, until a run meets no failure. How many there are.
+fn failures(alloc: Global, pace: &Pace) -> Option<u64> {
+    for k in 1..100_u64 {
+        let Some(mut world) = world_of(alloc, 3, pace.version) else {
             return None;
         };
-        if !tally.compare(self.least, self.most, &run, &partitions, &scene.histories) {
-            return None;
+        match fails(alloc, &mut world, pace, k) {
+            Some(true) => {}
+            Some(false) => return Some(k - 1),
+            None => return None,
         }
-        Some(run)
     }
+    None
+}
+
+/// Three guests' keys and writes take more than thirty calls, however they are grouped.
+fn check_failures(alloc: Global, pace: &Pace) -> Result<(), Fail> {
+    let Some(calls) = failures(alloc, pace) else {
+        return Err(Fail::from("another outcome"));
+    };
+    check(calls > 30, "the calls")
+}
+
+#[test]
+fn each_call_fails(rt: HostRuntime) -> Result<(), Fail> {
+    check_failures(rt.alloc(), &TOGETHER)
+}
+
+#[test]
+fn each_call_of_two_slots_fails(rt: HostRuntime) -> Result<(), Fail> {
+    check_failures(rt.alloc(), &BESIDE)
 }

@@ -6,7 +6,6 @@ use crate::tests::image::{Version, formatted_as};
 use crate::tests::scene::{board_of, check};
 use board::StepFault;
 use flusher::StoreFault;
-use recovery::OpenFault;
 use rpmb_core::Partition;
 use rpmb_frame::BoardConfig;
 use std::alloc::Global;
@@ -39,8 +38,6 @@ struct Left {
     replies: usize,
     /// The needs of the replies, as digits.
     needs: u64,
-    /// What the last reply needed.
-    last_need: Option<u64>,
     /// The counter, and the first byte of the first block.
     found: Option<(u32, u8)>,
     has_eight: bool,
@@ -50,10 +47,6 @@ struct Left {
 fn found(world: &World) -> Option<(u32, u8)> {
     let partition = world.partition(0)?;
     Some((partition.counter(), partition.block(0)[0]))
-}
-
-fn last_need(world: &World) -> Option<u64> {
-    Some(world.published(0).last()?.need)
 }
 
 fn accepted(world: &World) -> usize {
@@ -81,7 +74,6 @@ fn left_in(world: &World, refusal: Option<Refusal>) -> Left {
         accepted: accepted(world),
         replies,
         needs,
-        last_need: last_need(world),
         found: found(world),
         has_eight: holds_eight(world),
     }
@@ -106,7 +98,7 @@ impl Left {
     /// The counter, how many requests were accepted, and what the last reply needed.
     fn seen(&self) -> Option<(u32, usize, u64)> {
         let (counter, _) = self.found?;
-        Some((counter, self.accepted, self.last_need?))
+        Some((counter, self.accepted, self.needs % 10))
     }
 }
 
@@ -122,13 +114,16 @@ fn left_of(alloc: Global, lists: &[&[Move]], left: Option<u32>, filler: u8) -> O
     left_by(alloc, &acts.events)
 }
 
+/// How many calls the store makes of a key.
+const KEY_CALLS: u32 = 8;
+
 /// The guest has its key, and the reply to it; the store is idle.
 pub(crate) static KEYED: [Move; 6] = [
     Move::Open,
     Move::SetUp,
     Move::Submit(Asked::Key(0x11)),
     Move::HandOver,
-    Move::Advances(8),
+    Move::Advances(KEY_CALLS),
     Move::Reply,
 ];
 
@@ -174,44 +169,6 @@ fn an_opening_syncs_what_a_failed_sync_left(rt: HostRuntime) -> Result<(), Fail>
             && left.seen() == Some((1, 2, 1))
             && left.openings == 3,
         "the refusal, the counter, openings",
-    )
-}
-
-/// The opening's sync fails. What is asked then is nothing, since the world is closed; and a stop
-/// leaves what it could leave before.
-static NOT_OPENED: [Move; 5] = [
-    Move::FailNext,
-    Move::Open,
-    Move::Submit(Asked::Counter(3)),
-    Move::Reply,
-    Move::Stop(0),
-];
-
-#[test]
-fn an_opening_that_fails_closes_the_world(rt: HostRuntime) -> Result<(), Fail> {
-    let Some(left) = left_of(
-        rt.alloc(),
-        &[&KEYED, &[Move::FailNext, Move::Open]],
-        None,
-        0,
-    ) else {
-        return Err(Fail::from("no left"));
-    };
-    let fault = Refusal::Open(OpenFault::DiskFault);
-    check(
-        left.refusal == Some(fault) && left.openings == 1 && left.found.is_none(),
-        "the refusal, openings, a partition",
-    )
-}
-
-#[test]
-fn an_opening_that_fails_makes_nothing_durable(rt: HostRuntime) -> Result<(), Fail> {
-    let Some(left) = left_of(rt.alloc(), &[&KEYED, &UNDER_WAY, &NOT_OPENED], None, 0) else {
-        return Err(Fail::from("no left"));
-    };
-    check(
-        left.seen() == Some((0, 1, 1)) && left.openings == 2 && left.replies == 1,
-        "the old, openings, replies",
     )
 }
 
@@ -262,80 +219,59 @@ const SECOND: Move = Move::Submit(Asked::Write(0xa1, 1));
 const THIRD: Move = Move::Submit(Asked::Write(0xa2, 2));
 
 /// Three writes are answered before any sync, and go to the store in each grouping that a Take can
-/// give. A write takes 9 calls, and each further one of its group one more.
-static ONE_BY_ONE: [Move; 9] = [
-    FIRST,
-    Move::HandOver,
-    SECOND,
-    Move::HandOver,
-    THIRD,
-    Move::Advances(9),
-    Move::HandOver,
-    Move::Advances(9),
-    Move::HandOver,
+/// give.
+static GROUPINGS: [&[Move]; 4] = [
+    &[FIRST, Move::HandOver, SECOND, Move::HandOver, THIRD],
+    &[FIRST, SECOND, Move::HandOver, THIRD],
+    &[FIRST, Move::HandOver, SECOND, THIRD],
+    &[FIRST, SECOND, THIRD],
 ];
 
-static TWO_AND_ONE: [Move; 7] = [
-    FIRST,
-    SECOND,
-    Move::HandOver,
-    THIRD,
-    Move::Advances(10),
-    Move::HandOver,
-    Move::Advances(9),
-];
+/// What waits goes to the store, which makes a call, and a reply leaves where it may.
+static TURN: [Move; 3] = [Move::HandOver, Move::Advances(1), Move::Reply];
 
-static ONE_AND_TWO: [Move; 7] = [
-    FIRST,
-    Move::HandOver,
-    SECOND,
-    THIRD,
-    Move::Advances(9),
-    Move::HandOver,
-    Move::Advances(10),
-];
+/// More turns than three writes take.
+const TURNS: u32 = 32;
 
-static ALL_THREE: [Move; 5] = [FIRST, SECOND, THIRD, Move::HandOver, Move::Advances(11)];
-
-/// What is there after a stop of the store's advance after `left` others: the counter, and the
-/// first byte of the block that all three write.
-fn after_stop(alloc: Global, moves: &[Move], left: u32, filler: u8) -> Option<Option<(u32, u8)>> {
-    let lists = [&KEYED, moves, &[Move::Advances(9)]];
-    let Some(left) = left_of(alloc, &lists, Some(left), filler) else {
-        return None;
-    };
-    if left.refusal.is_some() || left.openings != 2 {
+/// What is left by a stop within the store's call of one of these turns.
+fn after_stop(alloc: Global, moves: &[Move], turn: u32, filler: u8) -> Option<Left> {
+    let mut acts = Acts::new(alloc, Some(turn.saturating_add(KEY_CALLS)), filler);
+    let mut played = acts.play(0, &KEYED) && acts.play(0, moves);
+    for _ in 0..TURNS {
+        played = played && acts.play(0, &TURN);
+    }
+    if !played {
         return None;
     }
-    Some(left.found)
+    left_by(alloc, &acts.events)
 }
 
-/// The first two writes, or all three, stay over each stop from `from` advances to `to`.
-fn stay(alloc: Global, moves: &[Move], from: u32, to: u32, least: u32) -> bool {
-    for left in from..to {
-        for filler in 0..4 {
-            let Some(found) = after_stop(alloc, moves, left, filler) else {
-                return false;
+/// The partition is that after one of the writes or none, and has what the last reply needed, which
+/// is one more than its counter.
+fn keeps_what_was_shown(left: &Left) -> bool {
+    let Some((counter, _, need)) = left.seen() else {
+        return false;
+    };
+    let wanted = [0, 0xa0, 0xa1, 0xa2].get(counter as usize);
+    left.refusal.is_none()
+        && left.openings == 2
+        && left.found.map(|it| it.1) == wanted.copied()
+        && u64::from(counter) + 1 >= need
+}
+
+#[test]
+fn what_is_settled_of_three_writes_stays(rt: HostRuntime) -> Result<(), Fail> {
+    for moves in &GROUPINGS {
+        for place in 0..4 * TURNS {
+            let Some(left) = after_stop(rt.alloc(), *moves, place / 4, (place % 4) as u8) else {
+                return Err(Fail::from("no left"));
             };
-            let two = least == 2 && found == Some((2, 0xa1));
-            if !(two || found == Some((3, 0xa2))) {
-                return false;
+            if !keeps_what_was_shown(&left) {
+                return Err(Fail::from("another outcome"));
             }
         }
     }
-    true
-}
-
-/// The key takes 8 advances, and a group is settled by its fourth.
-#[test]
-fn what_is_settled_of_three_writes_stays(rt: HostRuntime) -> Result<(), Fail> {
-    check(
-        stay(rt.alloc(), &ONE_BY_ONE, 21, 35, 2)
-            && stay(rt.alloc(), &TWO_AND_ONE, 12, 27, 2)
-            && stay(rt.alloc(), &ONE_AND_TWO, 21, 27, 3)
-            && stay(rt.alloc(), &ALL_THREE, 12, 19, 3),
-        "another outcome",
-    )
+    Ok(())
 }
 
 /// Four writes of a block each go to the store as one.
@@ -350,7 +286,7 @@ static FOUR_WRITES: [Move; 6] = [
 
 /// The counter after a stop within the sync of their gate, which is the fourth of their calls.
 fn counter_of_four(alloc: Global, filler: u8) -> Option<Option<u32>> {
-    let Some(left) = left_of(alloc, &[&KEYED, &FOUR_WRITES], Some(11), filler) else {
+    let Some(left) = left_of(alloc, &[&KEYED, &FOUR_WRITES], Some(KEY_CALLS + 3), filler) else {
         return None;
     };
     if left.refusal.is_some() || left.accepted != left.found.map_or(9, |it| it.0 as usize + 1) {
@@ -386,8 +322,8 @@ static EIGHT_BLOCKS: [Move; 3] = [
 
 #[test]
 fn no_write_of_eight_blocks_is_half_there(rt: HostRuntime) -> Result<(), Fail> {
-    // Stopped within the write of the blocks: after the key's 8 advances, and four of its own.
-    let Some(left) = left_of(rt.alloc(), &[&KEYED, &EIGHT_BLOCKS], Some(12), 3) else {
+    // Stopped within the write of the blocks, the fifth of its own calls.
+    let Some(left) = left_of(rt.alloc(), &[&KEYED, &EIGHT_BLOCKS], Some(KEY_CALLS + 4), 3) else {
         return Err(Fail::from("no left"));
     };
     check(

@@ -1,12 +1,8 @@
 //! Images that stops left, and what an opening finds.
 mod calls;
 mod gates;
-mod last_counter;
-mod many;
-mod pairs;
 mod payloads;
 mod refusals;
-mod unsynced;
 mod upgrades;
 
 ghost use Rattle.std.specs.Prelude.{◌<◌};
@@ -228,40 +224,11 @@ fn stopped_at_a_sync(rt: HostRuntime) {
     }
 }
 
-/// The write of eight blocks.
-fn eight(alloc: Global) -> Option<Intent> {
-    let Ok(bytes) = vec![in alloc; 0x77; 2048] else {
-        return None;
-    };
-    Some(Intent::write(0, KEY, 1, 0, bytes))
-}
-
 /// Settles a key request, and gives a write behind it.
 fn give_behind_a_key(store: &mut Store<CutDisk>, write: Intent) {
     give(store, Intent::program_key(0, KEY));
     advance(store, 8);
     give(store, write);
-}
-
-/// A store that has settled a key request, and was given the write of eight blocks.
-fn eight_given(alloc: Global, board: &BoardConfig) -> Option<Store<CutDisk>> {
-    let Some(write) = eight(alloc) else {
-        return None;
-    };
-    let Some(mut store) = begun(alloc, board) else {
-        return None;
-    };
-    give_behind_a_key(&mut store, write);
-    Some(store)
-}
-
-/// A disk that was stopped in the write of eight blocks behind an open gate.
-fn eight_blocks(alloc: Global, board: &BoardConfig) -> Option<CutDisk> {
-    let Some(mut store) = eight_given(alloc, board) else {
-        return None;
-    };
-    advance(&mut store, 5);
-    Some(store.into_disk())
 }
 
 /// What a stop leaves that puts this byte into each place that wasn't synced.
@@ -272,29 +239,6 @@ fn filled(alloc: Global, disk: CutDisk, byte: u8) -> Option<CutDisk> {
     };
     disk.cut(&Filler::Fill(bytes));
     Some(disk)
-}
-
-/// Whether an opening after a stop in the write of eight blocks finds them.
-fn finds_eight(alloc: Global, board: &BoardConfig) -> bool {
-    let Some(eight_blocks) = eight_blocks(alloc, board) else {
-        return false;
-    };
-    let Some(disk) = filled(alloc, eight_blocks, 0xff) else {
-        return false;
-    };
-    finds(alloc, disk, board, &[(true, 1, [0x77, 0x77, 0])])
-}
-
-fn one_has_eight(alloc: Global) -> bool {
-    let Some(board) = one_guest(alloc) else {
-        return false;
-    };
-    finds_eight(alloc, &board)
-}
-
-#[test]
-fn stopped_in_a_write(rt: HostRuntime) {
-    assert!(rt; one_has_eight(rt.alloc()));
 }
 
 /// A disk of which a call of the key request failed.

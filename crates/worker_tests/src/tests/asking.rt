@@ -33,7 +33,7 @@ fn ask_of(turn: u8) -> Ask {
 
 /// The frames that write one block of this byte there, under the guest's key, and ask for the
 /// result.
-pub fn write_of(key: &[u8; 32], counter: u32, address: u16, byte: u8) -> [[u8; 512]; 2] {
+fn write_of(key: &[u8; 32], counter: u32, address: u16, byte: u8) -> [[u8; 512]; 2] {
     let frame = Frame::zeros()
         .with_block_data(&[byte; 256])
         .with_write_counter(counter)
@@ -45,7 +45,7 @@ pub fn write_of(key: &[u8; 32], counter: u32, address: u16, byte: u8) -> [[u8; 5
 }
 
 /// The frame that reads the block there.
-pub fn read_of(nonce: u128, address: u16) -> [[u8; 512]; 1] {
+fn read_of(nonce: u128, address: u16) -> [[u8; 512]; 1] {
     let frame = Frame::zeros()
         .with_nonce(&nonce.to_be_bytes())
         .with_address(address)

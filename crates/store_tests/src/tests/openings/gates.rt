@@ -1,5 +1,5 @@
 //! Images of version 2 that stops left between the gates of two writes, and what an opening finds.
-use super::pairs::{format_two, one};
+use super::calls::{format_two, one};
 use super::{KEY, advance, give, one_guest, opened, other_bytes, store_of};
 use disk::{CutDisk, Filler};
 use flusher::Store;
