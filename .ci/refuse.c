@@ -6,7 +6,8 @@
  * moves one; "open 7" the seventh opening, second number, lock or look at the metadata of a file, which answers
  * EIO; "disk 7" the seventh read or write at a place, or sync, which does nothing and answers EIO. With a plus,
  * "io 7+", each later one fails too. No write to standard error is counted: what failed is told there.
- * REFUSE_COUNT names a file into which the number of calls of each kind goes at the end. Threads count as one.
+ * REFUSE_COUNT names a file into which the number of calls of each kind goes at the end, and behind these how many
+ * writes at a place, bytes of them and syncs there were. Threads count as one.
  * For stops, REFUSE_STOP names a file: with the ending ".synced" it has what the last sync that succeeded left, and
  * with ".places" a line for each write since, its place and its length, also for one that failed; with ".folders" it
  * has the number of each folder that was synced.
@@ -34,6 +35,7 @@ static atomic_ulong calls[KINDS];
 static unsigned long chosen[KINDS];
 static int and_later[KINDS];
 static atomic_int counting;
+static atomic_ulong writes, bytes_written, syncs;
 
 /* The functions of the C library. While dlsym looks them up it may itself ask for memory. */
 static void *(*real_malloc)(size_t);
@@ -93,9 +95,9 @@ __attribute__((destructor)) static void end(void)
     int file = path ? real_open(path, O_WRONLY | O_CREAT | O_TRUNC, 0600) : -1;
     if (file < 0)
         return;
-    char line[128];
-    int length = snprintf(line, sizeof line, "%lu %lu %lu %lu %lu\n", calls[ALLOC], calls[IO], calls[SHORT],
-                          calls[OPEN], calls[DISK]);
+    char line[256];
+    int length = snprintf(line, sizeof line, "%lu %lu %lu %lu %lu %lu %lu %lu\n", calls[ALLOC], calls[IO],
+                          calls[SHORT], calls[OPEN], calls[DISK], writes, bytes_written, syncs);
     if (real_write(file, line, (size_t)length) != length)
         abort();
     close(file);
@@ -246,11 +248,14 @@ ssize_t pread(int file, void *to, size_t size, off_t at)
 ssize_t pwrite(int file, const void *from, size_t size, off_t at)
 {
     note_write(size, at);
+    writes++;
+    bytes_written += size;
     return fails_at(file) ? -1 : real_pwrite(file, from, moved(file, size), at);
 }
 
 int fsync(int file)
 {
+    syncs++;
     if (fails_at(file) || real_fsync(file))
         return -1;
     note_sync(file);

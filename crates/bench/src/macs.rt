@@ -1,21 +1,9 @@
-//! MACs of frames, by a key whose pads are hashed once or anew.
+//! MACs of frames, by a key whose pads are hashed once.
 ghost use Rattle.std.specs.Prelude.{◌≤◌};
 
-use crate::clock::{Row, now, since};
+use crate::clock::{Extent, Row, Stop, Times, Took, now, print_row, since};
 use crate::requests::KEY;
-use hmac256::{MacKey, mac_of};
-
-/// So many MACs of one frame, each with the pads hashed anew; the answer is their first bytes,
-/// mixed.
-fn plain_macs(count: u32) -> u8 {
-    let mut frame = [0x5au8; 512];
-    let mut all = 0u8;
-    for _ in 0..count {
-        frame[228] = all;
-        all ^= mac_of(&KEY, &[frame])[0];
-    }
-    all
-}
+use hmac256::MacKey;
 
 /// So many MACs of this many frames, with the pads hashed once; the answer is their first bytes,
 /// mixed.
@@ -32,26 +20,24 @@ fn keyed_macs(count: u32, frames: usize) -> u8
     all
 }
 
-/// Times so many MACs of one frame with the pads hashed anew.
-pub fn time_plain(rt: &HostRuntime, name: &'static str, count: u32) -> Row {
+/// Times so many MACs of this many frames, at most 16, with the pads hashed once; and what they
+/// came to.
+pub fn time_keyed(rt: &HostRuntime, count: u32, frames: usize) -> (Took, u8) {
     let start = now(rt);
-    let sum = u64::from(plain_macs(count));
-    Row {
-        name,
-        count: u64::from(count),
-        took: since(rt, start),
-        sum,
-    }
+    let sum = keyed_macs(count, frames.min(16));
+    (since(rt, start), sum)
 }
 
-/// Times so many MACs of this many frames, at most 16, with the pads hashed once.
-pub fn time_keyed(rt: &HostRuntime, name: &'static str, count: u32, frames: usize) -> Row {
-    let start = now(rt);
-    let sum = u64::from(keyed_macs(count, frames.min(16)));
-    Row {
-        name,
-        count: u64::from(count),
-        took: since(rt, start),
-        sum,
-    }
+/// Times so many MACs of one frame, beside as many frames of MACs of 16.
+pub fn time_macs(rt: &HostRuntime, extent: Extent) -> Result<(), Stop> {
+    let (own, sum) = time_keyed(rt, extent.count, 1);
+    let (base, _) = time_keyed(rt, extent.count.div_ceil(16), 16);
+    let row = Row {
+        name: "MAC of one frame",
+        base: "a frame of a MAC of 16",
+        count: extent.count,
+        times: Times { own, base },
+        sum: u32::from(sum),
+    };
+    print_row(rt, extent, &row)
 }

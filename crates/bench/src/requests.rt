@@ -4,7 +4,6 @@ ghost use Rattle.std.specs.Prelude.{◌<◌, ◌≤◌};
 use crate::clock::{NO_MEMORY, Stop};
 use hmac256::mac_of;
 use rpmb_frame::{DATA_READ, DATA_WRITE, Frame, GET_WRITE_COUNTER, PROGRAM_KEY, RESULT_READ};
-use std::alloc::Global;
 
 pub const KEY: [u8; 32] = [0x11; 32];
 
@@ -21,19 +20,7 @@ pub enum Kind {
     Read,
 }
 
-/// Those that are asked again and again.
-pub static KINDS: [Kind; 3] = [Kind::Counter, Kind::Write, Kind::Read];
-
 impl Kind {
-    pub fn name(self) -> &'static str {
-        match self {
-            Kind::Key => "key",
-            Kind::Counter => "counter",
-            Kind::Write => "write of 1 block with its store",
-            Kind::Read => "read of 16 blocks",
-        }
-    }
-
     /// The bytes of its reply.
     pub fn writable(self) -> u32
         ensures some { 0 < result }
@@ -65,74 +52,59 @@ impl Kind {
         }
     }
 
-    fn is_stored(self) -> bool {
-        matches!(self, Kind::Key | Kind::Write)
-    }
-
     /// Its frame, under a write counter.
     fn frame(self, counter: u32) -> [u8; 512] {
-        let frame = Frame::zeros();
+        let frame = Frame::zeros().with_block_count(1);
         match self {
-            Kind::Key => frame
-                .with_key_mac(&KEY)
-                .with_block_count(1)
-                .with_req_resp(PROGRAM_KEY)
-                .to_bytes(),
-            Kind::Counter => frame
-                .with_block_count(1)
-                .with_req_resp(GET_WRITE_COUNTER)
-                .to_bytes(),
+            Kind::Key => frame.with_key_mac(&KEY).with_req_resp(PROGRAM_KEY),
+            Kind::Counter => frame.with_req_resp(GET_WRITE_COUNTER),
+            Kind::Read => frame.with_block_count(16).with_req_resp(DATA_READ),
             Kind::Write => write_frame(counter),
-            Kind::Read => frame
-                .with_block_count(16)
-                .with_req_resp(DATA_READ)
-                .to_bytes(),
         }
+        .to_bytes()
     }
 
     /// The bytes of its request.
     pub fn length(self) -> usize
         ensures some { 0 < result }
     {
-        if self.is_stored() { 1024 } else { 512 }
+        match self {
+            Kind::Key | Kind::Write => 1024,
+            _ => 512,
+        }
     }
 
     /// Puts a request under a write counter behind others: its frame, and the one that asks for its
     /// result.
     pub fn put(self, requests: &mut Vec<u8>, counter: u32) -> Result<(), Stop> {
-        put_frame(requests, &self.frame(counter))?;
-        if self.is_stored() {
+        let frame = self.frame(counter);
+        requests.extend_from_slice(&frame).ok().ok_or(NO_MEMORY)?;
+        if self.length() > 512 {
             let closing = Frame::zeros().with_req_resp(RESULT_READ).to_bytes();
-            put_frame(requests, &closing)?;
+            requests.extend_from_slice(&closing).ok().ok_or(NO_MEMORY)?;
         }
         Ok(())
     }
-
-    /// A request under a write counter.
-    pub fn request(self, alloc: Global, counter: u32) -> Result<Vec<u8>, Stop> {
-        let request = Vec::with_capacity(alloc, self.length());
-        let mut request = request.ok().ok_or(NO_MEMORY)?;
-        self.put(&mut request, counter)?;
-        Ok(request)
-    }
-}
-
-fn put_frame(requests: &mut Vec<u8>, frame: &[u8; 512]) -> Result<(), Stop> {
-    requests.extend_from_slice(frame).ok().ok_or(NO_MEMORY)
 }
 
 /// The write of block 0 under a counter, with its MAC.
-fn write_frame(counter: u32) -> [u8; 512] {
+fn write_frame(counter: u32) -> Frame {
     let frame = Frame::zeros()
         .with_block_data(&[0x5a; 256])
         .with_write_counter(counter)
         .with_block_count(1)
         .with_req_resp(DATA_WRITE);
     let mac = mac_of(&KEY, &[frame.to_bytes()]);
-    frame.with_key_mac(&mac).to_bytes()
+    frame.with_key_mac(&mac)
 }
 
-/// What was mixed before, and one byte more.
-pub fn mixed(all: u32, byte: u8) -> u32 {
-    all.wrapping_mul(31).wrapping_add(u32::from(byte))
+/// What was mixed before, and the first byte of the MAC of a good reply to a request of this kind.
+/// A MAC stands 316 bytes before the end of the last frame.
+pub fn mixed(kind: Kind, reply: &[u8], before: u32) -> Result<u32, Stop> {
+    if !reply.ends_with(&kind.end()) {
+        return Err("a refusal");
+    }
+    let at = reply.len().saturating_sub(316);
+    let byte = reply.get(at).copied().unwrap_or(0);
+    Ok(before.wrapping_mul(31).wrapping_add(u32::from(byte)))
 }

@@ -1,0 +1,83 @@
+//! Requests that are asked batch by batch, behind those that warm what answers them.
+use crate::clock::{Extent, Row, Stop, Times};
+use crate::requests::Kind;
+
+/// So many requests are made before the clock runs for them, since making a write costs a MAC: as
+/// many as a worker of `rpmbd serve` takes under one lock.
+const BATCH: u32 = 8;
+
+/// What answers requests. Its methods promise nothing, so that what stands above them is proved
+/// without the contracts of hosts, books and stores.
+pub trait Subject {
+    /// Makes a request under a write counter, behind others.
+    fn offer(&mut self, kind: Kind, counter: u32) -> Result<(), Stop>;
+
+    /// Takes the requests that were made, all of this kind, to their replies, which are tested.
+    fn answer(&mut self, rt: &HostRuntime, kind: Kind) -> Times;
+
+    /// The replies, mixed.
+    fn sum(&self) -> u32;
+}
+
+/// Stops where something stopped before.
+fn after(before: Result<(), Stop>, times: Times) -> Times {
+    Times {
+        own: before.and(times.own),
+        base: times.base,
+    }
+}
+
+/// Takes so many requests, the first under this write counter, to their replies.
+fn take_batch<S: Subject>(
+    rt: &HostRuntime,
+    subject: &mut S,
+    kind: Kind,
+    first: u32,
+    count: u32,
+) -> Times {
+    let mut offered = Ok(());
+    for number in 0..count {
+        offered = offered.and(subject.offer(kind, first.wrapping_add(number)));
+    }
+    after(offered, subject.answer(rt, kind))
+}
+
+/// Takes batches, the first of them behind others.
+fn take_batches<S: Subject>(
+    rt: &HostRuntime,
+    subject: &mut S,
+    kind: Kind,
+    behind: u32,
+    count: u32,
+) -> Times {
+    let mut all = Times::none();
+    for number in 0..count {
+        let first = behind.wrapping_add(number).wrapping_mul(BATCH);
+        all = all.plus(take_batch(rt, subject, kind, first, BATCH));
+    }
+    all
+}
+
+/// Times requests of a kind behind the one for the key and those that warm what answers them, in
+/// whole batches.
+pub fn time_kind<S: Subject>(
+    rt: &HostRuntime,
+    subject: &mut S,
+    kind: Kind,
+    extent: Extent,
+    names: (&'static str, &'static str),
+) -> Row {
+    let warm = extent.warm / BATCH;
+    let count = extent.count.div_ceil(BATCH);
+    let keyed = take_batch(rt, subject, Kind::Key, 0, 1);
+    let warmed = take_batches(rt, subject, kind, 0, warm);
+    let times = take_batches(rt, subject, kind, warm, count);
+    let before = keyed.own.and(warmed.own).and(Ok(()));
+    Row {
+        name: names.0,
+        base: names.1,
+        count: count.saturating_mul(BATCH),
+        times: after(before, times),
+        sum: subject.sum(),
+    }
+}

@@ -1,0 +1,140 @@
+//! Whole requests of one guest, each from its offer to its reap, beside the MACs that they need.
+ghost use Rattle.host.specs.Opening.{IsJustOpened};
+
+use crate::batches::{Subject, time_kind};
+use crate::clock::{Extent, NO_MEMORY, Row, Stop, Times, now, print_row, since};
+use crate::images::{board_of, new_board};
+use crate::macs::time_keyed;
+use crate::requests::{Kind, mixed};
+use board::Board;
+use disk::Disk;
+use host::{Answer, Host};
+use rpmb_frame::{BoardConfig, RingKind};
+
+/// The bytes of the longest request.
+const LONGEST: usize = 8704;
+
+/// What takes chains to their end. Its method promises nothing, so that what stands above it is
+/// proved without a host's contract.
+trait Chains: Drop {
+    fn end_of(&mut self, request: &[u8], kind: Kind) -> Result<Answer, Stop>;
+}
+
+impl<D: Disk + Drop> Chains for Host<D> {
+    fn end_of(&mut self, request: &[u8], kind: Kind) -> Result<Answer, Stop> {
+        if request.len() > LONGEST {
+            return Err("too long a request");
+        }
+        match self.chain(0, request, kind.writable()) {
+            Ok(answer) => Ok(answer),
+            Err(_) => Err("a chain without an answer"),
+        }
+    }
+}
+
+/// Takes a chain to its end; what was mixed before, and its answer, which is let go at once.
+fn take_one<C: Chains>(host: &mut C, kind: Kind, request: &[u8], before: u32) -> Result<u32, Stop> {
+    match host.end_of(request, kind) {
+        Ok(Answer::Used(reply)) => mixed(kind, &reply, before),
+        Ok(_) => Err("a chain without a reply"),
+        Err(stop) => Err(stop),
+    }
+}
+
+/// Takes the chains of a batch to their ends, one after another.
+fn take_each<C: Chains>(host: &mut C, kind: Kind, batch: &[u8], before: u32) -> Result<u32, Stop> {
+    let mut all = before;
+    for request in batch.chunks(kind.length()) {
+        match take_one(host, kind, request, all) {
+            Ok(mixed) => all = mixed,
+            Err(stop) => return Err(stop),
+        }
+    }
+    Ok(all)
+}
+
+/// A host of one guest, and the requests that it is to be asked.
+#[derive(Drop)]
+struct Asked<C: Chains> {
+    host: C,
+    requests: Vec<u8>,
+    sum: u32,
+}
+
+impl<C: Chains> Subject for Asked<C> {
+    fn offer(&mut self, kind: Kind, counter: u32) -> Result<(), Stop> {
+        kind.put(&mut self.requests, counter)
+    }
+
+    fn answer(&mut self, rt: &HostRuntime, kind: Kind) -> Times {
+        let start = now(rt);
+        let sum = take_each(&mut self.host, kind, &self.requests, self.sum);
+        let own = sum.and(since(rt, start));
+        let count = (self.requests.len() / kind.length() % 65_536) as u32;
+        let (calls, frames) = kind.macs();
+        let (base, _) = time_keyed(rt, count.saturating_mul(calls), frames);
+        self.sum = sum.unwrap_or(0);
+        self.requests.clear();
+        Times { own, base }
+    }
+
+    fn sum(&self) -> u32 {
+        self.sum
+    }
+}
+
+/// Brings the device into service, and takes what is asked to its end.
+fn time_host<D: Disk + Drop>(
+    rt: &HostRuntime,
+    board: Board<D>,
+    config: &BoardConfig,
+    kind: Kind,
+    extent: Extent,
+    names: (&'static str, &'static str),
+) -> Result<Row, Stop>
+    requires { IsJustOpened D.state config.now board }
+{
+    match Host::new(rt.alloc(), board, config) {
+        Ok(host) => {
+            let mut asked = Asked {
+                host,
+                requests: Vec::new(rt.alloc()),
+                sum: 0,
+            };
+            Ok(time_kind(rt, &mut asked, kind, extent, names))
+        }
+        Err(_) => Err(NO_MEMORY),
+    }
+}
+
+fn time_ring(
+    rt: &HostRuntime,
+    extent: Extent,
+    name: &'static str,
+    ring: RingKind,
+    kind: Kind,
+) -> Result<(), Stop> {
+    let config = board_of(rt.alloc(), ring)?;
+    let board = new_board(rt.alloc(), &config)?;
+    let row = time_host(rt, board, &config, kind, extent, (name, "its MACs"))?;
+    print_row(rt, extent, &row)
+}
+
+/// What is timed: through a queue of which kind, and of which kind the requests are.
+static ROWS: [(&str, RingKind, Kind); 6] = [
+    ("split, counter", RingKind::Split, Kind::Counter),
+    ("split, write of 1 block", RingKind::Split, Kind::Write),
+    ("split, read of 16 blocks", RingKind::Split, Kind::Read),
+    ("packed, counter", RingKind::Packed, Kind::Counter),
+    ("packed, write of 1 block", RingKind::Packed, Kind::Write),
+    ("packed, read of 16 blocks", RingKind::Packed, Kind::Read),
+];
+
+/// Times so many whole requests of each kind, through a split queue and a packed one.
+pub fn time_device(rt: &HostRuntime, extent: Extent) -> Result<(), Stop> {
+    let mut all = Ok(());
+    for (name, ring, kind) in &ROWS {
+        all = all.and(time_ring(rt, extent, name, *ring, *kind));
+    }
+    all
+}
