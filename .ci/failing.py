@@ -141,32 +141,35 @@ def check_left(room, folder, bounds, board=ONE):
     return count
 
 
-def check_told(room, ran, folder, image, board=ONE, most_held=1):
+def opening(room, image, board=ONE):
+    """How many calls an opening of this image makes: `show` makes no others."""
+    return performed(room, words("show"), "", image, 0, board)[2]
+
+
+def check_told(room, printed, folder, is_open, image, board=ONE, most_held=1):
     """The guests were told right lines and then failures, or nothing where the opening failed, which leaves the image
     as it was; and what any stop leaves holds what they were told. How many of each guest's key and writes are settled
     and accepted, and how many stops there were."""
     guests = board.count("[[guest]]")
-    printed = ran[1].splitlines(True)
-    if not printed and ran[0]:
+    if len(printed) != is_open * LINES * guests:
+        raise Wrong(f"{len(printed)} lines")
+    if not is_open:
         if left(folder) != image:
             raise Wrong("an opening that failed changed the image")
         return ((0, 0),) * guests, 0
-    if len(printed) != LINES * guests:
-        raise Wrong(f"{len(printed)} lines")
     bounds = tuple(told_by(printed[LINES * it : LINES * (it + 1)], it, most_held) for it in range(guests))
     return bounds, check_left(room, folder, bounds, board)
 
 
-def check_run(room, version, call, calls):
+def check_run(room, image, call, calls, opened):
     """A run of which this call fails, or none where it makes fewer, makes no call behind it."""
-    image = fresh(version)
     ran, folder, made = performed(room, words("run"), "".join(asked()), image, call)
     try:
         if (ran[0], ran[2]) != ((1, DISK_FAULT) if call <= calls else (0, "")) or made != min(call, calls):
             raise Wrong(f"{ran[0]}, {ran[2]!r}, after {made} calls")
-        told = check_told(room, ran, folder, image)
+        told = check_told(room, ran[1].splitlines(True), folder, call > opened, image)
     except Wrong as wrong:
-        raise Wrong(f"rpmbd run, version {version}, disk {call}: {wrong}") from None
+        raise Wrong(f"rpmbd run, version {image[512]}, disk {call}: {wrong}") from None
     shutil.rmtree(folder)
     return told
 
@@ -174,8 +177,9 @@ def check_run(room, version, call, calls):
 def sweep_runs(room, version):
     """A run of seven lines, of which each call fails in turn. A change is settled while its own line waits, and nothing
     waits for the calls behind the last line. How many runs and stops."""
-    calls = performed(room, words("run"), "".join(asked()), fresh(version), 0)[2]
-    told = list(each(lambda it: check_run(room, version, it, calls), range(1, calls + 2)))
+    image = fresh(version)
+    calls, opened = performed(room, words("run"), "".join(asked()), image, 0)[2], opening(room, image)
+    told = list(each(lambda it: check_run(room, image, it, calls, opened), range(1, calls + 2)))
     found = [bounds for (bounds,), _ in told]
     if sorted(set(found)) != [(0, 0), (0, 1), (1, 2), (2, 3), (3, 3)] or found != sorted(found):
         raise Wrong(f"rpmbd run, version {version}: settled and accepted, call by call: {found}")
@@ -194,29 +198,29 @@ def check_outside(room, version, call):
         check_left(room, folder, [bounds])
 
 
-def check_served(room, version, call):
+def check_served(room, image, call, opened):
     """Three guests that are served at once, of whose image this call fails: whether it was made."""
-    image = fresh(version, 3)
     script = "".join(line for guest in range(3) for line in asked(guest))
     ran, folder, made = performed(room, words("serve"), script, image, call, THREE)
     broke = ran[2] == DISK_FAULT
     try:
         if ran[0] != broke or (not broke and ran[2]) or (made != call if broke else made >= call > 0):
             raise Wrong(f"{ran[0]}, {ran[2]!r}, after {made} calls")
-        bounds, count = check_told(room, ran, folder, image, THREE, LINES)
+        bounds, count = check_told(room, ran[1].splitlines(True), folder, call > opened, image, THREE, LINES)
         if not broke and bounds != ((3, 3),) * 3:
             raise Wrong(f"failures that no failed call explains: {bounds}")
     except Wrong as wrong:
-        raise Wrong(f"rpmbd serve, version {version}, disk {call}: {wrong}") from None
+        raise Wrong(f"rpmbd serve, version {image[512]}, disk {call}: {wrong}") from None
     shutil.rmtree(folder)
     return broke, count
 
 
 def sweep_served(room, version):
     """Each call that fails in turn, until a run makes fewer. How many runs and stops."""
-    count = 0
+    image, count = fresh(version, 3), 0
+    opened = opening(room, image, THREE)
     for call in itertools.count(1):
-        broke, more = check_served(room, version, call)
+        broke, more = check_served(room, image, call, opened)
         count += more
         if not broke:
             return call, count

@@ -174,9 +174,10 @@ impl Tail {
         let Tail(counter, address, count, code, kind) = *self;
         let mut bytes = [0; 12];
         bytes[..4].copy_from_slice(&counter.to_be_bytes());
-        for (place, number) in [address, count, code, kind].iter().enumerate() {
-            bytes[4 + 2 * place..6 + 2 * place].copy_from_slice(&number.to_be_bytes());
-        }
+        bytes[4..6].copy_from_slice(&address.to_be_bytes());
+        bytes[6..8].copy_from_slice(&count.to_be_bytes());
+        bytes[8..10].copy_from_slice(&code.to_be_bytes());
+        bytes[10..12].copy_from_slice(&kind.to_be_bytes());
         bytes
     }
 }
