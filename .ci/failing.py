@@ -6,7 +6,7 @@ import hashlib
 import hmac
 import struct
 
-from programs import DISK_FAULT, KEY, RESULT, Wrong, chain, each, frame, key_line
+from programs import DISK_FAULT, KEY, RESULT, Wrong, chain, each, frame, key_line, left
 
 ONE = 'image = "board.img"\n[[guest]]\ncapacity = 1\n'
 NONCE = int.from_bytes(bytes(range(16)), "big")
@@ -71,11 +71,6 @@ def fresh():
 
 def words(verb):
     return ["rpmbd", verb, "board.toml", *["script.txt"] * (verb in ("run", "serve"))]
-
-
-def left(folder):
-    with open(f"{folder}/board.img", "rb") as it:
-        return it.read()
 
 
 def performed(room, verb, script, call):
