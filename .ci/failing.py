@@ -1,9 +1,12 @@
-"""Commands over an image of which one call fails, each call in turn: what is printed, and what a stop then leaves.
+"""Commands over an image of which one call fails, each call in turn: what is printed, and what a stop then leaves. So do
+programs that perform the same lines through the library.
 
 The lines are those of examples/seven_lines. What is wanted is made here, by docs/FORMATS.md.
 """
 import hashlib
 import hmac
+import itertools
+import shutil
 import struct
 
 from programs import DISK_FAULT, KEY, RESULT, Wrong, chain, each, frame, key_line, left
@@ -65,8 +68,8 @@ def listings():
     return ["guest 0 capacity 1 key no counter 0\n", *shown]
 
 
-def fresh():
-    return (b"VRPMBIMG\0\1\1".ljust(512, b"\0") + b"\1").ljust(167_424, b"\0")
+def fresh(version=b"\1"):
+    return (b"VRPMBIMG\0\1\1".ljust(512, b"\0") + version).ljust(167_424, b"\0")
 
 
 def words(verb):
@@ -81,19 +84,25 @@ def performed(room, verb, script, call):
 
 
 def stops(folder):
-    """The images that a stop may leave: what the last sync left, what reads give, and with zeros, or bytes that open
-    gates, at the places that were written since."""
+    """The images that a stop may leave: what the last sync left, with any of the writes since, and with zeros, or bytes
+    that open gates, at the places that were written since."""
     with open(f"{folder}/stop.synced", "rb") as it:
-        yield it.read()
+        synced = it.read()
     seen = left(folder)
-    yield seen
     with open(f"{folder}/stop.places", encoding="ascii") as it:
-        places = [tuple(map(int, line.split())) for line in it]
+        places = sorted({tuple(map(int, line.split())) for line in it})
+    for made in itertools.chain.from_iterable(itertools.combinations(places, it) for it in range(len(places) + 1)):
+        yield filled(synced, made, lambda at, length: seen[at : at + length])
     for byte in (b"\0", b"\xa5"):
-        filled = bytearray(seen)
-        for at, length in places:
-            filled[at : at + length] = byte * length
-        yield bytes(filled)
+        yield filled(seen, places, lambda at, length, byte=byte: byte * length)
+
+
+def filled(image, places, content):
+    """The image with other bytes at these places."""
+    image = bytearray(image)
+    for at, length in places:
+        image[at : at + length] = content(at, length)
+    return bytes(image)
 
 
 # How many lines are run, and what stands behind them; the calls of which one fails; the line that is held then; how
@@ -120,13 +129,51 @@ def check_run(room, run, call):
     is_last = call == calls if is_made else not 1 <= call <= calls
     if ran != (1 if fault else 0, told(lines, held_at), fault) or not is_last:
         raise Wrong(f"rpmbd run, disk {call}: {ran[0]}, {ran[2]!r}, after {calls} calls, and it printed\n{ran[1]}")
+    return check_stops(room, f"rpmbd run, disk {call}", folder, settled)
+
+
+def check_stops(room, name, folder, settled):
+    """After any stop there is what was settled, or one more of the key and the writes. How many stops."""
     count = 0
     for count, image in enumerate(stops(folder), 1):
         stopped = room.folder({"board.toml": ONE, "board.img": image})
         shown = room.run(stopped, words("show"))[:3]
         if shown not in [(0, it, "") for it in listings()[settled : settled + 2]]:
-            raise Wrong(f"rpmbd run, disk {call}, and stop {count}: {shown}")
+            raise Wrong(f"{name}, and stop {count}: {shown}")
+        shutil.rmtree(stopped)
     return count
+
+
+# Words that perform the lines, by `rpmbd` and through the library, and the images that they do it on.
+PLAY = ["play", "script.txt", "open", "board.img", "1,16,16,1048576,16,0,0,1,0"]
+PERFORMED = [("rpmbd run, version 2", words("run"), b"\2"), ("play", PLAY, b"\1"), ("play, version 2", PLAY, b"\2")]
+
+
+def check_performed(room, name, program, version, call):
+    """The lines were performed, of which this call fails, each told right until it did and as a failure since; and a
+    stop leaves what was settled. How many stops, and whether the call was made."""
+    folder = room.folder({"board.toml": ONE, "script.txt": "".join(asked()), "board.img": fresh(version)})
+    status, printed, fault, calls = room.run(folder, program, f"disk {call}")
+    name, is_made = f"{name}, disk {call}", calls["disk"] >= call
+    right, held, failed = zip(*answers())
+    # (the line of the silent write is one of both: the earlier one counts)
+    outcomes = {"".join(right): LINES}
+    for at, last in itertools.product(reversed(range(LINES)), (held, failed)):
+        outcomes["".join([*right[:at], last[at], *failed[at + 1 :]])] = at
+    if not printed and is_made and left(folder) == fresh(version):
+        return 0, True
+    if (status, fault) != ((1, DISK_FAULT) if is_made else (0, "")) or printed not in outcomes:
+        raise Wrong(f"{name}: {status}, {fault!r}, and it printed\n{printed}")
+    settled = sum(it < outcomes[printed] for it in (0, 1, 5))
+    return check_stops(room, name, folder, settled), is_made
+
+
+def sweep_performed(room):
+    """Each call of an image in turn, of version 2 also, and through the library also."""
+    for name, program, version in PERFORMED:
+        runs = (check_performed(room, name, program, version, call) for call in itertools.count(1))
+        made = list(itertools.takewhile(lambda it: it[1], runs))
+        print(f"disk: {name}: {len(made)} calls that fail, and {sum(it for it, _ in made)} stops then")
 
 
 def check_call(room, verb, script, call, wanted, stays):
@@ -161,4 +208,5 @@ def sweep_calls_of_the_disk(room):
         check_call(room, *case)
     for call in range(10, 14):
         check_served(room, call)
+    sweep_performed(room)
     print(f"disk: {len(runs) + len(cases) + 4} commands of which a call of the image fails, and {count} stops then")
