@@ -145,7 +145,7 @@ def check_stops(room, name, folder, settled):
 
 
 # Words that perform the lines, by `rpmbd` and through the library, and the images that they do it on.
-PLAY = ["play", "script.txt", "open", "board.img", "1,16,16,1048576,16,0,0,1,0"]
+PLAY = ["play", "script.txt", "open", "board.img", "1,16,16,1048576,16,0,0,1,0,1"]
 PERFORMED = [("rpmbd run, version 2", words("run"), b"\2"), ("play", PLAY, b"\1"), ("play, version 2", PLAY, b"\2")]
 
 

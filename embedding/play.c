@@ -5,12 +5,12 @@
  *     play SCRIPT open FILE GUEST..      over the image that stands in it
  *
  * A GUEST is what its table in the board file says, as numbers parted by commas: capacity, max_wr_cnt, max_rd_cnt,
- * memory, queue, and as 0 or 1 whether its ring is packed, indirect, event_idx and in_order.
+ * memory, queue, as 0 or 1 whether its ring is packed, indirect, event_idx and in_order, and how many of its chains may
+ * be popped and not yet answered: 1, as in `rpmbd run`, which answers each before it pops the next, or up to 64.
  *
- * The driver's half is played here, by "The driver's layout" of that page; the device's is the library's. Of a guest at
- * most one chain is popped and not yet answered: `rpmbd run` answers each before it pops the next.
+ * The driver's half is played here, by "The driver's layout" of that page; the device's is the library's.
  *
- * Status 1: a line or the disk ended it; 3: it was refused before a line was performed; 4: a call did what it may not. */
+ * Status 1: a line or the disk ended it; 3: it was refused before any line; 4: a call did what it may not. */
 #include "rpmb_host.h"
 #include <fcntl.h>
 #include <stdio.h>
@@ -20,14 +20,14 @@
 #include <sys/stat.h>
 #include <unistd.h>
 
-enum { GUESTS = 64, PLACES = 256, RANGES = 64, TRIES = 8, NUMBERS = 9 };
+enum { GUESTS = 64, PLACES = 256, RANGES = 64, TRIES = 8, NUMBERS = 10 };
 enum { MOST_READABLE = 8704, MOST_WRITABLE = 8192, PAIR = MOST_READABLE + MOST_WRITABLE };
 enum { NEXT = 1, WRITE = 2, INDIRECT = 4, AVAIL = 128, USED = 32768 };
 enum { STATUS = 0x070, QUEUE_NOTIFY = 0x050 };
 
 static const char needs_reset[] = "needs-reset", no_answer[] = "no-answer", bad_used[] = "bad-used";
 
-/* A chain that the device has: its last descriptor, its places in the ring, what may be written, where it was offered. */
+/* A chain that the device has: its last descriptor, its places in the ring, what may be written, its first place. */
 struct flight {
 	uint16_t last, places;
 	uint32_t room, place;
@@ -356,8 +356,7 @@ static void serve(struct board *b, struct driver *d, struct rpmb_served *served)
 	complete(b, served->sync && !served->again);
 }
 
-/* Serves a guest until it has no more, or as many chains were answered as its queue has places. NULL where one was, else
- * why none. */
+/* Serves a guest until it has no more, or as many chains were answered as its queue has places. NULL where one was. */
 static const char *serve_all(struct board *b, struct driver *d)
 {
 	struct rpmb_served served;
@@ -565,10 +564,11 @@ static void read_numbers(char *word, uint64_t numbers[NUMBERS])
 
 		*end = 0;
 		if (!read_number(word, UINT32_MAX, &numbers[i]) || is_last != (i == NUMBERS - 1))
-			refuse("a guest has nine numbers");
+			refuse("a guest has ten numbers");
 		word = end + 1;
 	}
-	if (numbers[0] > 255 || numbers[1] > 255 || numbers[2] > 255 || numbers[4] < 1 || numbers[4] > PLACES)
+	if (numbers[0] > 255 || numbers[1] > 255 || numbers[2] > 255 || numbers[4] < 1 || numbers[4] > PLACES
+	    || numbers[9] > 64)
 		refuse("a guest's numbers");
 }
 
@@ -578,7 +578,7 @@ static void read_guest(struct board *b, uint16_t at, char *word)
 
 	read_numbers(word, n);
 	b->guests[at] = (struct rpmb_guest){
-		.memory = n[3], .queue = (uint16_t)n[4], .most = 1, .capacity = (uint8_t)n[0],
+		.memory = n[3], .queue = (uint16_t)n[4], .most = (uint16_t)n[9], .capacity = (uint8_t)n[0],
 		.max_wr_cnt = (uint8_t)n[1], .max_rd_cnt = (uint8_t)n[2], .packed = n[5] != 0,
 	};
 	b->drivers[at] = (struct driver){
