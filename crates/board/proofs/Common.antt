@@ -1,8 +1,11 @@
 -- The names that most proofs cite, passed on from one place. Declares nothing.
 pub use Rattle.std.proofs.lemmas.Bool.Decides.{nat_tests}
 pub use Rattle.std.proofs.lemmas.List.{length-map, append-nil, append_assoc}
-pub use Rattle.std.proofs.lemmas.Option.{slice_get-get_or, slice_get_cases, slice_get_within, get_or_from_slice_get, slice_get-map}
-pub use Rattle.std.specs.Prelude.{is_some, slice_get, slice_set, slice_index_or, if◌then◌else◌, option_map, ◌==◌, slice_index, replicate, Result, Ok, Err, IfOk, ◌&&◌}
+pub use Rattle.std.proofs.lemmas.Option.{slice_get-get_or, slice_get_cases, slice_get_within}
+pub use Rattle.std.proofs.lemmas.Option.{get_or_from_slice_get, slice_get-map}
+pub use Rattle.std.specs.Prelude.{is_some, slice_get, slice_set, slice_index_or, if◌then◌else◌}
+pub use Rattle.std.specs.Prelude.{option_map, ◌==◌, slice_index, replicate, Result, Ok, Err, IfOk}
+pub use Rattle.std.specs.Prelude.{◌&&◌}
 pub use Rattle.rpmb_frame.specs.Limits.{limits_of}
 pub use Rattle.rpmb_frame.specs.Partition.{Partition, sequence}
 pub use Rattle.rpmb_frame.specs.Request.{Request}
@@ -18,9 +21,11 @@ pub use Rattle.intent_slots.specs.Recovered.{Part, part_of}
 pub use Rattle.flusher.proofs.Guests.{get_set_same, get_set_other}
 pub use Rattle.flusher.proofs.Pending.{pending_stays}
 unfoldable pub use Rattle.flusher.specs.Marks.{marks_of}
-pub use Rattle.flusher.specs.Pair.{has_room, mark_of, with_intent, guest_after_sync, guest_after_write, pending_intents}
+pub use Rattle.flusher.specs.Pair.{has_room, mark_of, with_intent, guest_after_sync}
+pub use Rattle.flusher.specs.Pair.{guest_after_write, pending_intents}
 pub use Rattle.flusher.specs.Progress.{with_marks, Progress}
-pub use Rattle.flusher.specs.Round.{FrontStays, Moves, Round, parts_after, planned, under_way, settles, MovedBy}
+pub use Rattle.flusher.specs.Round.{FrontStays, Moves, Round, parts_after, planned, under_way}
+pub use Rattle.flusher.specs.Round.{settles, MovedBy}
 pub use Rattle.flusher.specs.Slot.{intent_of}
 pub use Rattle.flusher.specs.SlotInvariant.{EachStop, IsHeld, guest_settled}
 unfoldable pub use Rattle.flusher.specs.Store.{is_free, given}
@@ -42,20 +47,28 @@ pub use Rattle.rpmb_book.proofs.IsolationLemmas.{by_test}
 pub use Rattle.rpmb_book.proofs.Replay.{replay-push}
 pub use Rattle.rpmb_book.proofs.Rolling.{submit_rolls}
 pub use Rattle.rpmb_book.proofs.Room.{length-parts}
-pub use Rattle.rpmb_book.specs.Book.{BookView, due_of, due_at, guest_of, is_share, next_intent, refusal_at, state, submit_of, is_full, with_turn, may_settle}
+pub use Rattle.rpmb_book.specs.Book.{BookView, due_of, due_at, guest_of, is_share, next_intent}
+pub use Rattle.rpmb_book.specs.Book.{refusal_at, state, submit_of, is_full, with_turn, may_settle}
 pub use Rattle.rpmb_book.specs.ByGuest.{guest_after}
 pub use Rattle.rpmb_book.specs.Fold.{after_submit}
-pub use Rattle.rpmb_book.specs.Guest.{GuestState, collected, first_intent, intent_sequence, submitted, took, broken_off, request_of, accepts, first_due}
+pub use Rattle.rpmb_book.specs.Guest.{GuestState, collected, first_intent, intent_sequence}
+pub use Rattle.rpmb_book.specs.Guest.{submitted, took, broken_off, request_of, accepts, first_due}
 pub use Rattle.rpmb_book.specs.Job.{Tally}
 pub use Rattle.rpmb_book.specs.Marks.{marks_for, settled_to}
 pub use Rattle.rpmb_book.specs.Replay.{fresh_guests}
 pub use Rattle.rpmb_book.specs.Sound.{AreOfBoard, IsOfBoard}
 pub use Rattle.rpmb_book.specs.Turn.{Turn, Take, Settle, Collect, Break, move_some}
-pub use Rattle.board.specs.Board.{IsLinkedBoard, LeavesPrefixes, marks_in, accepted_by, joined_when, accepted_after, answered, IsSound, StaysLinked}
+pub use Rattle.board.specs.Board.{IsLinkedBoard, LeavesPrefixes, marks_in, accepted_by, joined_when}
+pub use Rattle.board.specs.Board.{accepted_after, answered, IsSound, StaysLinked}
 pub use Rattle.board.specs.Link.{IsLinked, IsPrefix, AreInTurn, HasKeyOf, entries_all, entries_of}
-pub use Rattle.board.specs.Opening.{Begins, GoesOn, bases_of, first_devices, kept_by, kept_of, new_board, CallsRefused, Finds}
-pub use Rattle.board.specs.State.{BoardState, Report, in_place, report_seen, guests, Marks, put, Fault}
-pub use Rattle.board.specs.Steps.{AdvancesUnder, Answer, SubmitsFrom, advance_answer, report_of, Advances, Does, Drives, PopsInto, PublishesFrom, Idles, job_of, CollectsInto, GivesWhere, SettlesBy, TakesInto, answer_by, did_answer}
+pub use Rattle.board.specs.Opening.{Begins, GoesOn, bases_of, first_devices, kept_by, kept_of}
+pub use Rattle.board.specs.Opening.{new_board, CallsRefused, Finds}
+pub use Rattle.board.specs.State.{BoardState, Report, in_place, report_seen, guests, Marks, put}
+pub use Rattle.board.specs.State.{Fault}
+pub use Rattle.board.specs.Steps.{AdvancesUnder, Answer, SubmitsFrom, advance_answer, report_of}
+pub use Rattle.board.specs.Steps.{Advances, Does, Drives, PopsInto, PublishesFrom, Idles, job_of}
+pub use Rattle.board.specs.Steps.{CollectsInto, GivesWhere, SettlesBy, TakesInto, answer_by}
+pub use Rattle.board.specs.Steps.{did_answer}
 pub use Rattle.board.specs.declared.step.Act.{Act}
 pub use Rattle.board.specs.declared.step.Seen.TheVariants.{Did}
 pub use Rattle.board.specs.declared.step.Step.{Step}

@@ -8,16 +8,23 @@ pub use Rattle.guest_memory.specs.Memory.{IsInside}
 pub use Rattle.chains.specs.Building.{Adds, Gains, IsCounted}
 pub use Rattle.chains.specs.Chain.{Buffers, has_writable}
 pub use Rattle.chains.specs.Descriptor.{table_of, index_of, descriptor_at}
-pub use Rattle.chains.specs.Law.{StandsAt, Follow, IsList, RefersTo, written_after, AreBuffers, Fails, OneTooMany, NoSuchPlace, NotAllowed, TableOutside, BufferOutside, ReadAfterWrite, IsReadable, IsWritable, AreWellFormed, IsBuffer}
+pub use Rattle.chains.specs.Law.{StandsAt, Follow, IsList, RefersTo, written_after, AreBuffers}
+pub use Rattle.chains.specs.Law.{Fails, OneTooMany, NoSuchPlace, NotAllowed, TableOutside}
+pub use Rattle.chains.specs.Law.{BufferOutside, ReadAfterWrite, IsReadable, IsWritable}
+pub use Rattle.chains.specs.Law.{AreWellFormed, IsBuffer}
 pub use Rattle.chains.specs.Range.{bytes_of, AreInside}
 pub use Rattle.chains.specs.Reads.{ReadCount}
 pub use Rattle.chains.specs.Ring.{is_chain, Ascend, IsFree}
 unfoldable pub use Rattle.chains.specs.Walk.{walk}
-pub use Rattle.chains.specs.Walk.{Member, fault_of, ◌or_else◌, is_writable, reads_of, Here, members_in, chain_at, with_table, first_fault, is_bad_table, most_table_bytes, is_readable, readable, writable, range_of, last_id, Found}
+pub use Rattle.chains.specs.Walk.{Member, fault_of, ◌or_else◌, is_writable, reads_of, Here}
+pub use Rattle.chains.specs.Walk.{members_in, chain_at, with_table, first_fault, is_bad_table}
+pub use Rattle.chains.specs.Walk.{most_table_bytes, is_readable, readable, writable, range_of}
+pub use Rattle.chains.specs.Walk.{last_id, Found}
 pub use Rattle.chains.specs.declared.descriptor.Descriptors.{Descriptors}
 pub use Rattle.chains.specs.declared.descriptor.Descriptor.{Descriptor}
 pub use Rattle.chains.specs.declared.fault.ChainFault.{ChainFault}
-pub use Rattle.chains.specs.declared.fault.ChainFault.TheVariants.{TooLong, BadRange, Order, BadTable}
+pub use Rattle.chains.specs.declared.fault.ChainFault.TheVariants.{TooLong, BadRange, Order}
+pub use Rattle.chains.specs.declared.fault.ChainFault.TheVariants.{BadTable}
 pub use Rattle.chains.specs.declared.fault.RingFault.{RingFault}
 pub use Rattle.chains.specs.declared.fault.RingFault.TheVariants.{NoMemory, Refused}
 pub use Rattle.chains.specs.declared.popped.Outstanding.{Outstanding}

@@ -1,3 +1,4 @@
+//! The device's half of a virtqueue, for both kinds of ring.
 ghost use Rattle.std.specs.Prelude.{◌≡◌, ◌≤◌, ◌<◌, ◌+◌, ◌↔◌, IsTrue, false, IsOk, IfOk, IfSome};
 ghost use Rattle.std.specs.Prelude.{OnErr, length, Err};
 ghost use Rattle.chains.specs.Range.{AreInside};

@@ -1,3 +1,4 @@
+//! What a kind of ring brings of its own.
 ghost use Rattle.std.specs.Prelude.{◌≡◌, ◌≤◌, ◌<◌, ◌+◌, ◌*◌, ◌^◌, ◌↔◌, ℕ, Bool, IsTrue, List};
 ghost use Rattle.std.specs.Prelude.{Option, Result, length};
 ghost use Rattle.guest_memory.specs.Memory.{IsInside};

@@ -6,7 +6,8 @@ use Rattle.clap.specs.Words.{AddsSubcommand, App, app_of, with_subcommand}
 use Rattle.clap.specs.declared.builder.command.Command.{Command}
 use Rattle.clap.specs.declared.builder.command.Command.TheViews.{out-Command as fields_of}
 
-pub one_more : (old sub : Command) (shape : App) (r : Result Command AllocError) → app_of sub ≡ shape
+pub one_more : (old sub : Command) (shape : App) (r : Result Command AllocError)
+    → app_of sub ≡ shape
     → (fields_of sub).has_globals ≡ false → IfOk r (AddsSubcommand old sub)
     → IfOk r (λ new. app_of new ≡ with_subcommand (app_of old) shape.top)
 one_more old sub shape (Ok new) is local adds =

@@ -1,6 +1,12 @@
 -- Which faults a line may come to.
-use Rattle.std.proofs.Common.{◌≡◌, ◌==◌, ◌+◌, ◌-◌, ◌*◌, ◌%◌, ◌<◌, ◌≤◌, ℕ, inl, inr, Bool, true, false, List, Option, Some, None, Result, Ok, Err, ap, ◌∙◌, arith, length, refl, subst, sym}
-use Rattle.commands.proofs.Common.{All, slice_get, get_or_from_slice_get, slice_get_within, IsGuest, GuestConfig, IsWithin, chain, nothing, store, reset, GuestView, is_broken, ChainsAt, HostState, HostView, ResetsAt, StoresAt, seen, RunnerView, HostFault, Answer, Said, ChainFault, LineDone, LineFails, IsOfWriting, LineEnds, fault_of, Fault}
+use Rattle.std.proofs.Common.{◌≡◌, ◌==◌, ◌+◌, ◌-◌, ◌*◌, ◌%◌, ◌<◌, ◌≤◌, ℕ, inl, inr, Bool, true}
+use Rattle.std.proofs.Common.{false, List, Option, Some, None, Result, Ok, Err, ap, ◌∙◌, arith}
+use Rattle.std.proofs.Common.{length, refl, subst, sym}
+use Rattle.commands.proofs.Common.{All, slice_get, get_or_from_slice_get, slice_get_within, IsGuest}
+use Rattle.commands.proofs.Common.{GuestConfig, IsWithin, chain, nothing, store, reset, GuestView}
+use Rattle.commands.proofs.Common.{is_broken, ChainsAt, HostState, HostView, ResetsAt, StoresAt}
+use Rattle.commands.proofs.Common.{seen, RunnerView, HostFault, Answer, Said, ChainFault, LineDone}
+use Rattle.commands.proofs.Common.{LineFails, IsOfWriting, LineEnds, fault_of, Fault}
 use Rattle.std.proofs.Math.Nat.{add-mul-mod_self_right, mod-eq_of_lt}
 use Rattle.std.specs.Prelude.{nat_lt}
 use Rattle.std.proofs.lemmas.Bool.Decides.{nat_tests}
@@ -15,7 +21,8 @@ use Rattle.guest_driver.specs.PackedOffered.{none_or_one, places_of}
 use Rattle.guest_driver.specs.Negotiation.{form_of}
 use Rattle.host.specs.Guest.{StoresInto}
 use Rattle.host.specs.Host.{HostChains, HostResetsGuest, HostStores, StuckBy}
-use Rattle.host.specs.Reasons.{ChainReason, IsAtRest, IsLevel, HostExplains, HostKeeps, IsGuestOf, ReasonAt}
+use Rattle.host.specs.Reasons.{ChainReason, IsAtRest, IsLevel, HostExplains, HostKeeps, IsGuestOf}
+use Rattle.host.specs.Reasons.{ReasonAt}
 use Rattle.queue_looks.specs.declared.fault.HostFault.TheVariants as host
 use Rattle.host.specs.declared.front.Stuck.{Stuck}
 use Rattle.commands.specs.Reasons.{IsHostOf, IsInside, IsOutside, StoresInside}
@@ -23,9 +30,11 @@ use Rattle.commands.specs.declared.fault.Fault.TheVariants as fault
 use Rattle.commands.proofs.Lines.{there_is}
 
 -- two descriptors that are free are enough
-enough_free : (owners : List (Option ℕ)) (two : Bool) → 2 ≤ length owners → ((d : ℕ) → owner owners d ≡ None) → HasTooFew owners two → ⊥
+enough_free : (owners : List (Option ℕ)) (two : Bool) → 2 ≤ length owners
+    → ((d : ℕ) → owner owners d ≡ None) → HasTooFew owners two → ⊥
 enough_free owners false many free few = few 0 (omega arith) (omega (arith, many)) (free 0)
-enough_free owners true many free few = few 0 (omega (arith, many)) (free 0) 1 (omega arith) (omega (arith, many)) (free 1)
+enough_free owners true many free few = few 0 (omega (arith, many)) (free 0) 1 (omega arith)
+    (omega (arith, many)) (free 1)
 
 -- a chain takes two places of a packed ring at most
 one_at_most : (empty : Bool) → none_or_one empty ≤ 1
@@ -34,43 +43,58 @@ one_at_most false = omega arith
 
 two_at_most : (indirect : Bool) (c : Offer) → places_of indirect c ≤ 2
 two_at_most true c = omega arith
-two_at_most false c = let read = one_at_most (length c.bytes == 0) in let write = one_at_most (c.writable == 0) in omega (arith, read, write)
+two_at_most false c = let read = one_at_most (length c.bytes == 0) in let write =
+    one_at_most (c.writable == 0) in omega (arith, read, write)
 
 -- where the marks are one, all places are free
 all_free : (size mark : ℕ) → 0 < size → free_places size mark mark ≡ size
 all_free size mark some =
     let round : mark + 2 * size - mark ≡ 0 + 1 * (2 * size) = omega arith in
     let none : (mark + 2 * size - mark) % (2 * size) ≡ 0 =
-    ap (λ x. x % (2 * size)) round ∙ add-mul-mod_self_right 0 1 (2 * size) ∙ mod-eq_of_lt (omega (arith, some)) in
+    ap (λ x. x % (2 * size)) round ∙ add-mul-mod_self_right 0 1 (2 * size)
+    ∙ mod-eq_of_lt (omega (arith, some)) in
     omega (arith, none)
 
 -- a driver of which nothing is in flight has room for a chain
-enough : (driver : DriverState) (readable : List ℕ) (writable : ℕ) → 2 ≤ driver.size → length driver.owners ≡ driver.size → IsAtRest driver → IsFull driver readable writable → ⊥
+enough : (driver : DriverState) (readable : List ℕ) (writable : ℕ) → 2 ≤ driver.size
+    → length driver.owners ≡ driver.size → IsAtRest driver → IsFull driver readable writable → ⊥
 enough driver readable writable many sized rest full = by driver.form.kind rest.level full
   where
-    by : (kind : RingKind) → IsLevel kind driver.offered driver.used → full_by kind driver.form.indirect driver readable writable → ⊥
+    by : (kind : RingKind) → IsLevel kind driver.offered driver.used
+        → full_by kind driver.form.indirect driver readable writable → ⊥
     by Split level few = enough_free driver.owners _ (omega (arith, many, sized)) rest.free few
     by Packed level (inl few) =
         let most = two_at_most driver.form.indirect (offer_of readable writable 0 0) in
-        let all : free_places driver.size driver.offered driver.used ≡ driver.size = ap (λ x. free_places driver.size x driver.used) level ∙ all_free driver.size driver.used (omega (arith, many)) in
+        let all : free_places driver.size driver.offered driver.used ≡ driver.size =
+        ap (λ x. free_places driver.size x driver.used) level
+        ∙ all_free driver.size driver.used (omega (arith, many)) in
         omega (arith, most, all, few, many)
-    by Packed level (inr few) = enough_free driver.owners false (omega (arith, many, sized)) rest.free few
+    by Packed level (inr few) = enough_free driver.owners false (omega (arith, many, sized))
+        rest.free few
 
 -- a driver has room for its areas
-roomy : (g : GuestConfig) (form : Form) (size bytes : ℕ) → IsGuest g → form ≡ form_of g → size ≡ g.queue → bytes ≡ g.memory → bytes < needed form.kind size → ⊥
+roomy : (g : GuestConfig) (form : Form) (size bytes : ℕ) → IsGuest g → form ≡ form_of g
+    → size ≡ g.queue → bytes ≡ g.memory → bytes < needed form.kind size → ⊥
 roomy g form size bytes guest is sized whole small =
     let holds = guest.holds_layout in
-    let less : g.memory < needed g.ring g.queue = subst (λ b. b < needed g.ring g.queue) whole (subst (λ q. bytes < needed g.ring q) sized (subst (λ (f : Form). bytes < needed f.kind size) is small)) in
+    let less : g.memory < needed g.ring g.queue =
+    subst (λ b. b < needed g.ring g.queue) whole
+    (subst (λ q. bytes < needed g.ring q) sized
+    (subst (λ (f : Form). bytes < needed f.kind size) is small)) in
     omega (arith, holds, less)
 
 -- a chain of one of the board's guests, which wasn't stuck
-chain_reason : (board : List GuestConfig) (f : HostFault) (g g' : GuestView) (r r' : RunnerView) (guest : ℕ) (readable : List ℕ) (writable : ℕ) → IsGuest g.device.config
-    → IsGuestOf board guest g → IsAtRest g.driver → ChainReason g r readable writable (Err f) g' r' → LineEnds board r'.answered (fault_of f) (chain guest readable writable)
+chain_reason : (board : List GuestConfig) (f : HostFault) (g g' : GuestView) (r r' : RunnerView)
+    (guest : ℕ) (readable : List ℕ) (writable : ℕ) → IsGuest g.device.config
+    → IsGuestOf board guest g → IsAtRest g.driver → ChainReason g r readable writable (Err f) g' r'
+    → LineEnds board r'.answered (fault_of f) (chain guest readable writable)
 chain_reason board host.OutOfRange g g' r r' guest readable writable ok own rest reason =
-    absurd (roomy g.device.config g.driver.form g.driver.size (length g.device.memory) ok own.form own.size own.memory reason.0)
+    absurd (roomy g.device.config g.driver.form g.driver.size (length g.device.memory) ok own.form
+    own.size own.memory reason.0)
 chain_reason board host.NoMemory g g' r r' guest readable writable ok own rest reason = tt
 chain_reason board host.Busy g g' r r' guest readable writable ok own rest reason = absurd reason
-chain_reason board host.HistoryFull g g' r r' guest readable writable ok own rest reason = (tt, reason)
+chain_reason board host.HistoryFull g g' r r' guest readable writable ok own rest reason =
+    (tt, reason)
 chain_reason board host.NoRoom g g' r r' guest readable writable ok own rest reason =
     let many = ok.queue.0 in
     let size = own.size in
@@ -78,11 +102,17 @@ chain_reason board host.NoRoom g g' r r' guest readable writable ok own rest rea
 chain_reason board host.Foreign g g' r r' guest readable writable ok own rest reason = absurd reason
 
 -- what holds of each guest of a board
-guest_of : (board : List GuestConfig) (number : ℕ) (c : GuestConfig) (P : GuestConfig → Type 0) → All P board → slice_get board number ≡ Some c → P c
-guest_of board number c P each at = subst P (get_or_from_slice_get board number c c at) (each number c (slice_get_within board number c at))
+guest_of : (board : List GuestConfig) (number : ℕ) (c : GuestConfig) (P : GuestConfig → Type 0)
+    → All P board → slice_get board number ≡ Some c → P c
+guest_of board number c P each at = subst P (get_or_from_slice_get board number c c at)
+    (each number c (slice_get_within board number c at))
 
-pub chain_stops : (was now : Bool) (board : List GuestConfig) (h h' : HostView) (guest : ℕ) (readable : List ℕ) (writable : ℕ) (f : HostFault) → HostExplains h guest readable writable (Err f) h'
-    → HostChains was now h guest readable writable (Err f) h' → IsHostOf board h → IsWithin (length board) (chain guest readable writable) → LineEnds board h'.runner.answered (fault_of f) (chain guest readable writable)
+pub chain_stops : (was now : Bool) (board : List GuestConfig) (h h' : HostView) (guest : ℕ)
+    (readable : List ℕ) (writable : ℕ) (f : HostFault)
+    → HostExplains h guest readable writable (Err f) h'
+    → HostChains was now h guest readable writable (Err f) h' → IsHostOf board h
+    → IsWithin (length board) (chain guest readable writable)
+    → LineEnds board h'.runner.answered (fault_of f) (chain guest readable writable)
 chain_stops was now board h h' guest readable writable f explains chains is within =
     let inside = within.0 in
     let count = is.own.count in
@@ -91,20 +121,32 @@ chain_stops was now board h h' guest readable writable f explains chains is with
     let own = is.own.each guest g.0 g.1 in
     let c = subst (λ o. ChainsAt was now o h guest readable writable (Err f) h') g.1 chains in
     by g.0 (slice_get h'.guests guest) g.0.stuck refl own (is.clear guest g.0 g.1)
-    (subst (λ o. ReasonAt o (slice_get h'.guests guest) h.runner readable writable (Err f) h'.runner) g.1 e.reason)
+    (subst (λ o. ReasonAt o (slice_get h'.guests guest) h.runner readable writable (Err f)
+    h'.runner) g.1 e.reason)
     c.after c.stuck
   where
-    by : (g : GuestView) (after : Option GuestView) (why : Option Stuck) → g.stuck ≡ why → IsGuestOf board guest g → (g.stuck ≡ None → IsAtRest g.driver)
-        → ReasonAt (Some g) after h.runner readable writable (Err f) h'.runner → (x : GuestView) → StuckBy was now g.stuck g (Err f) x h h' → LineEnds board h'.runner.answered (fault_of f) (chain guest readable writable)
-    by g after (Some why) same own clear reason x stuck = (let told = (subst (λ s. StuckBy was now s g (Err f) x h h') same stuck).0 in absurd (cc))
+    by : (g : GuestView) (after : Option GuestView) (why : Option Stuck) → g.stuck ≡ why
+        → IsGuestOf board guest g → (g.stuck ≡ None → IsAtRest g.driver)
+        → ReasonAt (Some g) after h.runner readable writable (Err f) h'.runner → (x : GuestView)
+        → StuckBy was now g.stuck g (Err f) x h h'
+        → LineEnds board h'.runner.answered (fault_of f) (chain guest readable writable)
+    by g after (Some why) same own clear reason x stuck =
+        (let told = (subst (λ s. StuckBy was now s g (Err f) x h h') same stuck).0 in absurd (cc))
     by g None None same own clear reason x stuck = absurd reason
     by g (Some g') None same own clear reason x stuck =
-        chain_reason board f g g' h.runner h'.runner guest readable writable (guest_of board guest g.device.config IsGuest is.in_range.each own.config) own (clear same) (reason.0 same)
+        chain_reason board f g g' h.runner h'.runner guest readable writable
+        (guest_of board guest g.device.config IsGuest is.in_range.each own.config) own
+        (clear same) (reason.0 same)
 
 -- a store of one of the board's guests
-store_reason : (board : List GuestConfig) (n : ℕ) (f : HostFault) (g g' : GuestView) (guest at : ℕ) (bytes : List ℕ) → IsGuestOf board guest g → StoresInto g at bytes (Err f) g' → LineEnds board n (fault_of f) (store guest at bytes)
+store_reason : (board : List GuestConfig) (n : ℕ) (f : HostFault) (g g' : GuestView) (guest at : ℕ)
+    (bytes : List ℕ) → IsGuestOf board guest g → StoresInto g at bytes (Err f) g'
+    → LineEnds board n (fault_of f) (store guest at bytes)
 store_reason board n f g g' guest at bytes own stores =
-    subst (λ e. LineEnds board n (fault_of e) (store guest at bytes)) (sym stores.0) (subst (λ o. IsOutside o at (length bytes)) (sym own.config) (subst (λ n. n < at + length bytes) own.memory (past (length g.device.memory) (at + length bytes) stores.1)))
+    subst (λ e. LineEnds board n (fault_of e) (store guest at bytes)) (sym stores.0)
+    (subst (λ o. IsOutside o at (length bytes)) (sym own.config)
+    (subst (λ n. n < at + length bytes) own.memory
+    (past (length g.device.memory) (at + length bytes) stores.1)))
   where
     past : (whole end : ℕ) → ¬ (end ≤ whole) → whole < end
     past whole end within = by (nat_lt whole end) refl
@@ -113,7 +155,9 @@ store_reason board n f g g' guest at bytes own stores =
         by true is = grind (arith, nat_tests, is)
         by false is = absurd (within (grind (arith, nat_tests, is)))
 
-pub store_stops : (board : List GuestConfig) (h h' : HostView) (guest at : ℕ) (bytes : List ℕ) (f : HostFault) → HostStores h guest at bytes (Err f) h' → IsHostOf board h → IsWithin (length board) (store guest at bytes)
+pub store_stops : (board : List GuestConfig) (h h' : HostView) (guest at : ℕ) (bytes : List ℕ)
+    (f : HostFault) → HostStores h guest at bytes (Err f) h' → IsHostOf board h
+    → IsWithin (length board) (store guest at bytes)
     → LineEnds board h'.runner.answered (fault_of f) (store guest at bytes)
 store_stops board h h' guest at bytes f stores is within =
     let inside = within.0 in
@@ -123,7 +167,9 @@ store_stops board h h' guest at bytes f stores is within =
     store_reason board h'.runner.answered f g.0 s.0 guest at bytes (is.own.each guest g.0 g.1) s.1
 
 -- one that went well lies in that memory
-pub store_inside : (board : List GuestConfig) (h h' : HostView) (guest at : ℕ) (bytes : List ℕ) → HostStores h guest at bytes (Ok tt) h' → IsHostOf board h → IsWithin (length board) (store guest at bytes)
+pub store_inside : (board : List GuestConfig) (h h' : HostView) (guest at : ℕ) (bytes : List ℕ)
+    → HostStores h guest at bytes (Ok tt) h' → IsHostOf board h
+    → IsWithin (length board) (store guest at bytes)
     → StoresInside board (store guest at bytes)
 store_inside board h h' guest at bytes stores is within =
     let inside = within.0 in
@@ -131,9 +177,12 @@ store_inside board h h' guest at bytes stores is within =
     let g = there_is h.guests guest (omega (arith, inside, count)) in
     let s = subst (λ o. StoresAt o h guest at bytes (Ok tt) h') g.1 stores in
     let own = is.own.each guest g.0 g.1 in
-    subst (λ o. IsInside o at (length bytes)) (sym own.config) (subst (λ n. at + length bytes ≤ n) own.memory s.1.0)
+    subst (λ o. IsInside o at (length bytes)) (sym own.config)
+    (subst (λ n. at + length bytes ≤ n) own.memory s.1.0)
 
-pub reset_stops : (board : List GuestConfig) (h h' : HostView) (guest : ℕ) (f : HostFault) → HostResetsGuest h guest (Err f) h' → IsHostOf board h → IsWithin (length board) (reset guest) → LineEnds board h'.runner.answered (fault_of f) (reset guest)
+pub reset_stops : (board : List GuestConfig) (h h' : HostView) (guest : ℕ) (f : HostFault)
+    → HostResetsGuest h guest (Err f) h' → IsHostOf board h → IsWithin (length board) (reset guest)
+    → LineEnds board h'.runner.answered (fault_of f) (reset guest)
 reset_stops board h h' guest f resets is within =
     let count = is.own.count in
     let g = there_is h.guests guest (omega (arith, within, count)) in
@@ -141,16 +190,26 @@ reset_stops board h h' guest f resets is within =
     absurd (cc)
 
 -- the guests stay the board's
-pub chain_hosts : (board : List GuestConfig) (h h' : HostView) (guest : ℕ) (readable : List ℕ) (writable : ℕ) (answer : Answer) → HostExplains h guest readable writable (Ok answer) h' → IsHostOf board h → IsHostOf board h'
+pub chain_hosts : (board : List GuestConfig) (h h' : HostView) (guest : ℕ) (readable : List ℕ)
+    (writable : ℕ) (answer : Answer) → HostExplains h guest readable writable (Ok answer) h'
+    → IsHostOf board h → IsHostOf board h'
 chain_hosts board h h' guest readable writable answer explains is =
     let e = explains board is.in_range is.own in
     record { in_range = is.in_range; own = e.own; clear = e.clear answer refl is.clear }
 
-pub kept_hosts : (board : List GuestConfig) (h h' : HostView) → HostKeeps h h' → IsHostOf board h → IsHostOf board h'
-kept_hosts board h h' keeps is = (let k = keeps board is.own in record { in_range = is.in_range; own = k.0; clear = k.1 is.clear })
+pub kept_hosts : (board : List GuestConfig) (h h' : HostView) → HostKeeps h h' → IsHostOf board h
+    → IsHostOf board h'
+kept_hosts board h h' keeps is =
+    (let k = keeps board is.own in record {
+      in_range = is.in_range;
+      own = k.0;
+      clear =
+          k.1 is.clear;
+    })
 
 -- the writing of a chain's line
-writing_ends : (board : List GuestConfig) (n : ℕ) (f : Fault) (guest : ℕ) (readable : List ℕ) (writable : ℕ) → IsOfWriting f → LineEnds board n f (chain guest readable writable)
+writing_ends : (board : List GuestConfig) (n : ℕ) (f : Fault) (guest : ℕ) (readable : List ℕ)
+    (writable : ℕ) → IsOfWriting f → LineEnds board n f (chain guest readable writable)
 writing_ends board n fault.FileFault guest readable writable of = tt
 writing_ends board n fault.NoMemory guest readable writable of = tt
 writing_ends board n fault.HistoryFull guest readable writable of = absurd of
@@ -167,33 +226,54 @@ writing_ends board n fault.BadBoard guest readable writable of = absurd of
 -- 2. Of a line's call
 
 -- the guests stay the board's
-pub line_hosts : {D : Type 0} (board : List GuestConfig) (line : Said) (h h' : HostState D) (start now : Option (List ℕ)) → LineDone line h start now h' → IsHostOf board (seen h) → IsHostOf board (seen h')
+pub line_hosts : {D : Type 0} (board : List GuestConfig) (line : Said) (h h' : HostState D)
+    (start now : Option (List ℕ)) → LineDone line h start now h' → IsHostOf board (seen h)
+    → IsHostOf board (seen h')
 line_hosts board nothing h h' start now did is = subst (λ x. IsHostOf board (seen x)) (sym did.0) is
-line_hosts board (chain guest readable writable) h h' start now did is = chain_hosts board (seen h) (seen h') guest readable writable did.answer did.call.reason is
-line_hosts board (store guest at bytes) h h' start now did is = kept_hosts board (seen h) (seen h') did.0.guests is
-line_hosts board (reset guest) h h' start now did is = kept_hosts board (seen h) (seen h') did.0.guests is
+line_hosts board (chain guest readable writable) h h' start now did is =
+    chain_hosts board (seen h) (seen h') guest readable writable did.answer did.call.reason is
+line_hosts board (store guest at bytes) h h' start now did is =
+    kept_hosts board (seen h) (seen h') did.0.guests is
+line_hosts board (reset guest) h h' start now did is =
+    kept_hosts board (seen h) (seen h') did.0.guests is
 
 -- a store of a line that is done lies in its guest's memory
-pub line_inside : {D : Type 0} (board : List GuestConfig) (line : Said) (h h' : HostState D) (start now : Option (List ℕ)) → LineDone line h start now h' → IsHostOf board (seen h) → IsWithin (length board) line → StoresInside board line
+pub line_inside : {D : Type 0} (board : List GuestConfig) (line : Said) (h h' : HostState D)
+    (start now : Option (List ℕ)) → LineDone line h start now h' → IsHostOf board (seen h)
+    → IsWithin (length board) line → StoresInside board line
 line_inside board nothing h h' start now did is within = tt
 line_inside board (chain guest readable writable) h h' start now did is within = tt
-line_inside board (store guest at bytes) h h' start now did is within = store_inside board (seen h) (seen h') guest at bytes did.0.own is within
+line_inside board (store guest at bytes) h h' start now did is within =
+    store_inside board (seen h) (seen h') guest at bytes did.0.own is within
 line_inside board (reset guest) h h' start now did is within = tt
 
 -- the fault of a line that ended the run
-chain_ended : {D : Type 0} (board : List GuestConfig) (h h' : HostState D) (guest : ℕ) (readable : List ℕ) (writable : ℕ) (told : Result Answer HostFault) (f : Fault) → ChainFault told f
-    → HostExplains (seen h) guest readable writable told (seen h') → HostChains (is_broken h.board) (is_broken h'.board) (seen h) guest readable writable told (seen h')
-    → IsHostOf board (seen h) → IsWithin (length board) (chain guest readable writable) → LineEnds board (seen h').runner.answered f (chain guest readable writable)
-chain_ended board h h' guest readable writable (Ok answer) f cause explains chains is within = writing_ends board (seen h').runner.answered f guest readable writable cause
+chain_ended : {D : Type 0} (board : List GuestConfig) (h h' : HostState D) (guest : ℕ)
+    (readable : List ℕ) (writable : ℕ) (told : Result Answer HostFault) (f : Fault)
+    → ChainFault told f
+    → HostExplains (seen h) guest readable writable told (seen h')
+    → HostChains (is_broken h.board) (is_broken h'.board) (seen h) guest readable writable told
+    (seen h')
+    → IsHostOf board (seen h) → IsWithin (length board) (chain guest readable writable)
+    → LineEnds board (seen h').runner.answered f (chain guest readable writable)
+chain_ended board h h' guest readable writable (Ok answer) f cause explains chains is within =
+    writing_ends board (seen h').runner.answered f guest readable writable cause
 chain_ended board h h' guest readable writable (Err e) f cause explains chains is within =
-    subst (λ x. LineEnds board (seen h').runner.answered x (chain guest readable writable)) (sym cause)
-    (chain_stops (is_broken h.board) (is_broken h'.board) board (seen h) (seen h') guest readable writable e explains chains is within)
+    subst (λ x. LineEnds board (seen h').runner.answered x (chain guest readable writable))
+    (sym cause)
+    (chain_stops (is_broken h.board) (is_broken h'.board) board (seen h) (seen h') guest readable
+    writable e explains chains is within)
 
-pub line_ends : {D : Type 0} (board : List GuestConfig) (line : Said) (h h' : HostState D) (f : Fault) → LineFails line h f h' → IsHostOf board (seen h) → IsWithin (length board) line
+pub line_ends : {D : Type 0} (board : List GuestConfig) (line : Said) (h h' : HostState D)
+    (f : Fault) → LineFails line h f h' → IsHostOf board (seen h) → IsWithin (length board) line
     → LineEnds board (seen h').runner.answered f line
 line_ends board nothing h h' f fails is within = absurd fails
-line_ends board (chain guest readable writable) h h' f fails is within = chain_ended board h h' guest readable writable fails.told f fails.cause fails.call.reason fails.call.own is within
+line_ends board (chain guest readable writable) h h' f fails is within =
+    chain_ended board h h' guest readable writable fails.told f fails.cause fails.call.reason
+    fails.call.own is within
 line_ends board (store guest at bytes) h h' f fails is within =
-    subst (λ x. LineEnds board (seen h').runner.answered x (store guest at bytes)) (sym fails.2) (store_stops board (seen h) (seen h') guest at bytes fails.0 fails.1.own is within)
+    subst (λ x. LineEnds board (seen h').runner.answered x (store guest at bytes)) (sym fails.2)
+    (store_stops board (seen h) (seen h') guest at bytes fails.0 fails.1.own is within)
 line_ends board (reset guest) h h' f fails is within =
-    subst (λ x. LineEnds board (seen h').runner.answered x (reset guest)) (sym fails.2) (reset_stops board (seen h) (seen h') guest fails.0 fails.1.own is within)
+    subst (λ x. LineEnds board (seen h').runner.answered x (reset guest)) (sym fails.2)
+    (reset_stops board (seen h) (seen h') guest fails.0 fails.1.own is within)

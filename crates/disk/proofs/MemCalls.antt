@@ -3,7 +3,8 @@ use Rattle.std.proofs.Common.{◌≡◌, true, ℕ, ◌+◌, ◌≤◌, List, le
 use Rattle.disk.specs.Content.{overwritten}
 use Rattle.disk.specs.Disk.{Write}
 use Rattle.disk.specs.MemDisk.{MemMakes}
-use Rattle.disk.proofs.Overwriting.{length-overwritten, get_or-overwritten_inside, get_or-overwritten_outside}
+use Rattle.disk.proofs.Overwriting.{length-overwritten, get_or-overwritten_inside}
+use Rattle.disk.proofs.Overwriting.{get_or-overwritten_outside}
 
 pub makes_write : (old new : List ℕ) (at : ℕ) (bytes : List ℕ) → at + length bytes ≤ length old
     → new ≡ overwritten at bytes old → MemMakes old (Write at bytes true) new
@@ -17,8 +18,10 @@ makes_write old new at bytes fits is = record {
       cause = λ not_ok. cc;
       ended = λ full. absurd (omega arith);
     };
-    written = λ _ _ k below. ap (λ (l : List ℕ). get_or l (at + k) 0) is ∙ get_or-overwritten_inside at bytes old k 0 fits below;
-    outside = λ _ k outside. ap (λ (l : List ℕ). get_or l k 0) is ∙ get_or-overwritten_outside at bytes old k 0 fits outside;
+    written = λ _ _ k below. ap (λ (l : List ℕ). get_or l (at + k) 0) is
+        ∙ get_or-overwritten_inside at bytes old k 0 fits below;
+    outside = λ _ k outside. ap (λ (l : List ℕ). get_or l k 0) is
+        ∙ get_or-overwritten_outside at bytes old k 0 fits outside;
     unsynced = λ _ _ _ _. refl;
   };
   value = is;

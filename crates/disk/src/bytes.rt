@@ -1,3 +1,4 @@
+//! Reads and writes of a list of bytes.
 ghost use Rattle.std.specs.Prelude.{◌≡◌, ◌+◌, ◌≤◌, true, false, length, replicate};
 ghost use Rattle.disk.specs.Content.{bytes_at, content_of, overwritten};
 

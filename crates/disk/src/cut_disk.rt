@@ -1,3 +1,4 @@
+//! A disk in memory whose calls can fail, and which a stop can cut.
 ghost use Rattle.std.specs.Prelude.{◌≡◌, ◌+◌, ◌-◌, ◌≤◌, ◌&&◌, ◌==◌, not, true, if◌then◌else◌};
 ghost use Rattle.std.specs.Prelude.{length, is_ok, IfOk, OnOk, OnErr};
 ghost use Rattle.disk.specs.Content.{bytes_at, content_of};

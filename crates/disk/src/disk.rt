@@ -1,3 +1,4 @@
+//! The trait of a disk: reads, writes, syncs, and what a stop leaves.
 ghost use Rattle.std.specs.Prelude.{◌≡◌, ◌+◌, ◌≤◌, true, length, is_ok, OnOk};
 ghost use Rattle.disk.specs.Content.{bytes_at};
 ghost use Rattle.disk.specs.Disk.{DiskState, DiskCall, Read, Write, Sync, Effect};

@@ -1,3 +1,4 @@
+//! A disk over an open file.
 ghost use Rattle.std.specs.Prelude.{◌≡◌, ◌↔◌, ◌+◌, ◌-◌, ◌≤◌, ◌<◌, ◌^◌, true, false, length, is_ok};
 ghost use Rattle.std.specs.Prelude.{IfOk, IsTrue, OnOk, Some};
 ghost use Rattle.disk.specs.Disk.{DiskState, DiskCall, Read, Write, Sync, Effect, HasRisen};

@@ -1,3 +1,4 @@
+//! What a stop makes of writes that weren't synced.
 /// What a stop leaves in the places that were written since the last sync that succeeded.
 #[derive(Drop)]
 pub enum Filler {

@@ -1,3 +1,4 @@
+//! A content after a stop, made of what was synced and what wasn't.
 ghost use Rattle.std.specs.Prelude.{◌≡◌, ℕ, length, slice_index};
 ghost use Rattle.disk.specs.CutDisk.{filled, filling, left_by};
 

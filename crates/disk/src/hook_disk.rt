@@ -1,3 +1,4 @@
+//! A disk that tells a hook before each sync.
 ghost use Rattle.std.specs.Prelude.{◌≡◌};
 
 use crate::disk::{Disk, DiskFault};

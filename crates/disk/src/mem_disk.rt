@@ -1,3 +1,4 @@
+//! A disk in memory.
 ghost use Rattle.std.specs.Prelude.{◌≡◌, ◌+◌, ◌≤◌, true, length, is_ok, IsOk, OnOk};
 ghost use Rattle.disk.specs.Content.{bytes_at, content_of, overwritten};
 ghost use Rattle.disk.specs.Disk.{DiskState, DiskCall, Read, Write, Sync, Effect};

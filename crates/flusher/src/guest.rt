@@ -1,3 +1,4 @@
+//! What the store holds for one guest.
 ghost use Rattle.std.specs.Prelude.{◌≡◌, ◌≤◌, ◌↔◌, ◌+◌, IsTrue, length};
 ghost use Rattle.flusher.specs.Slot.{intent_of, pending_of, opening_in, slot_writes, slot_awaits};
 ghost use Rattle.flusher.specs.Slot.{after_write};

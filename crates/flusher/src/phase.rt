@@ -1,3 +1,4 @@
+//! How far a log record is on its way to the disk.
 ghost use Rattle.std.specs.Prelude.{◌≡◌};
 ghost use Rattle.flusher.specs.Pair.{is_let_beside};
 ghost use Rattle.flusher.specs.Phase.{has_write, is_opening, is_closing, is_settled};

@@ -1,3 +1,4 @@
+//! A chain that was offered and hasn't come back.
 ghost use Rattle.std.specs.Prelude.{◌≡◌};
 ghost use Rattle.guest_driver.specs.Driver.{no_flight};
 

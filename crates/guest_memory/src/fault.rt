@@ -1,3 +1,4 @@
+//! Why a call on guest memory was refused.
 ghost use Rattle.std.specs.Prelude.{◌≡◌};
 
 use std::alloc::AllocError;

@@ -1,3 +1,4 @@
+//! The bytes of one guest's memory.
 ghost use Rattle.std.specs.Prelude.{◌≡◌, ◌≤◌, ◌+◌, ◌↔◌, IsTrue, IsOk, IfOk, OnOk, OnErr, IsErrOf};
 ghost use Rattle.std.specs.Prelude.{length, replicate};
 ghost use Rattle.guest_memory.specs.Memory.{bytes_at, with_bytes, IsInside, Wrote};

@@ -1,3 +1,4 @@
+//! HMAC with SHA-256 (RFC 2104, FIPS 180-4).
 ghost use Rattle.std.specs.Prelude.{◌≡◌, ◌≤◌, ◌++◌, ℕ, List, length};
 ghost use Rattle.std.specs.List.{flat_map};
 ghost use Rattle.sha2.specs.Hashers.{Holds256};

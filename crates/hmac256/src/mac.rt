@@ -1,3 +1,4 @@
+//! The MAC of frames (VIRTIO 1.2, 5.12.6).
 ghost use Rattle.std.specs.Prelude.{◌≡◌};
 ghost use Rattle.hmac256.specs.Hmac.{mac};
 

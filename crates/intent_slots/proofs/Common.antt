@@ -19,6 +19,9 @@ pub use Rattle.intent_slots.specs.Home.{IsHome, Keyed, home_content, Unkeyed}
 unfoldable pub use Rattle.intent_slots.specs.Layout.{capacities_of, start_of}
 pub use Rattle.intent_slots.specs.Layout.{Region, end_of}
 unfoldable pub use Rattle.intent_slots.specs.Payload.{entry_over, payload_bytes}
-pub use Rattle.intent_slots.specs.Payload.{Entry, Group, EntryFits, Programs, Stores, EntriesFit, GroupFits, IsEntry, AreEntries, IsPayload, kind_of, entries_over, payload_content, payload_length, entries_length, IsEntryIn, last_of, Intent}
+pub use Rattle.intent_slots.specs.Payload.{Entry, Group, EntryFits, Programs, Stores, EntriesFit}
+pub use Rattle.intent_slots.specs.Payload.{GroupFits, IsEntry, AreEntries, IsPayload, kind_of}
+pub use Rattle.intent_slots.specs.Payload.{entries_over, payload_content, payload_length}
+pub use Rattle.intent_slots.specs.Payload.{entries_length, IsEntryIn, last_of, Intent}
 pub use Rattle.intent_slots.specs.Recovered.{Part, redone, redo}
 pub use Rattle.intent_slots.specs.declared.layout.Side.TheVariants.{A, B}

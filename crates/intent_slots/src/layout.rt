@@ -1,3 +1,4 @@
+//! Where the parts of an image stand.
 ghost use Rattle.std.specs.Prelude.{◌≡◌, ◌≤◌, ◌<◌, ◌+◌, ◌*◌, ◌^◌, length, slice_index};
 ghost use Rattle.intent_slots.specs.Layout.{capacities_of, region_at, start_of, image_length};
 ghost use Rattle.intent_slots.specs.Layout.{slot_region, other_side, blocks_at, NeverOverlap};

@@ -1,6 +1,7 @@
 -- What a serve tells at its end.
 use Rattle.std.proofs.Common.{◌≡◌, ◌≢◌, refl, ap, sym, ◌∙◌, ℕ, Option, Some, None}
-use Rattle.machine.proofs.Common.{slice_get, is_some, get_set_same, Done, BoardState, in_place, put, Answer, CollectsInto, told_fault, Left, Offered}
+use Rattle.machine.proofs.Common.{slice_get, is_some, get_set_same, Done, BoardState, in_place, put}
+use Rattle.machine.proofs.Common.{Answer, CollectsInto, told_fault, Left, Offered}
 use Rattle.std.specs.Prelude.{if◌then◌else◌}
 use Rattle.rpmb_book.specs.Book.{due_of, with_turn}
 use Rattle.rpmb_book.specs.Turn.{Collect}
@@ -18,20 +19,33 @@ all_left (offered.Refused f) (left.Refused fault) none not = absurd (cc)
 
 -- a collection after which nothing lies in the reply's place
 module _ {D : Type 0} (g : ℕ) (old : BoardState D) where
-  unchanged : (new : BoardState D) → new ≡ old → in_place (slice_get new.dones g) ≡ None → slice_get old.dones g ≢ Some None → HasNoReply g new
-  unchanged new is none other = record { place = none; due = λ there. absurd (other (sym (ap (λ b. slice_get b.dones g) is) ∙ there)) }
+  unchanged : (new : BoardState D) → new ≡ old → in_place (slice_get new.dones g) ≡ None
+      → slice_get old.dones g ≢ Some None → HasNoReply g new
+  unchanged new is none other =
+      record {
+        place = none;
+        due = λ there.
+            absurd (other (sym (ap (λ b. slice_get b.dones g) is) ∙ there));
+      }
 
-  pub none_collected : (answer : Answer) (new : BoardState D) (place : Option (Option Done)) → slice_get old.dones g ≡ place
-      → CollectsInto g place answer old new → in_place (slice_get new.dones g) ≡ None → HasNoReply g new
+  pub none_collected : (answer : Answer) (new : BoardState D) (place : Option (Option Done))
+      → slice_get old.dones g ≡ place
+      → CollectsInto g place answer old new → in_place (slice_get new.dones g) ≡ None
+      → HasNoReply g new
   none_collected answer new None was does none = unchanged new does.1 none (λ is. absurd (cc))
-  none_collected answer new (Some (Some r)) was does none = unchanged new does.1 none (λ is. absurd (cc))
+  none_collected answer new (Some (Some r)) was does none =
+      unchanged new does.1 none (λ is. absurd (cc))
   none_collected answer new (Some None) was does none = by (due_of old.book g) refl
     where
       by : (o : Option Done) → due_of old.book g ≡ o → HasNoReply g new
       by None is = record {
         place = none;
-        due = λ there. ap (λ b. due_of b.book g) does.1 ∙ ap (λ b. due_of b g) (ap (λ o. if is_some o then with_turn old.book (Collect g) else old.book) is) ∙ is;
+        due = λ there. ap (λ b. due_of b.book g) does.1
+            ∙ ap (λ b. due_of b g) (ap (λ o. if is_some o then with_turn old.book (Collect g) else
+            old.book) is) ∙ is;
       }
       by (Some r) is =
-          let full = ap (λ b. slice_get b.dones g) does.1 ∙ ap (λ o. slice_get (put old.dones g o) g) is ∙ get_set_same old.dones g None (Some r) was in
+          let full = ap (λ b. slice_get b.dones g) does.1
+          ∙ ap (λ o. slice_get (put old.dones g o) g) is
+          ∙ get_set_same old.dones g None (Some r) was in
           absurd (let e = sym none ∙ ap in_place full in cc)

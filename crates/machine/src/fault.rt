@@ -1,3 +1,4 @@
+//! Why a call of a monitor was refused.
 ghost use Rattle.std.specs.Prelude.{◌≡◌, ◌≢◌};
 ghost use Rattle.machine.specs.Opening.{opening_reason};
 ghost use Rattle.machine.specs.Stepping.{reason_of};

@@ -1,3 +1,4 @@
+//! Why a host didn't do what it was asked for.
 ghost use Rattle.std.specs.Prelude.{◌≡◌};
 ghost use Rattle.queue_looks.specs.Fault.{fault_of};
 

@@ -6,7 +6,9 @@ pub use Rattle.std.proofs.lemmas.List.Edits.{map_over_more}
 pub use Rattle.std.proofs.lemmas.List.Sums.{sum_by-cons}
 pub use Rattle.std.proofs.lemmas.Option.{slice_get_cases, slice_get_within}
 pub use Rattle.std.specs.List.{AllByRecursion}
-pub use Rattle.std.specs.Prelude.{◌==◌, slice_get, IsSome, map, max, if◌then◌else◌, option_map, ◌&&◌, not, is_none, is_some, nat_lt, count_by, nat_le, unwrap_or, replicate, option_to_list, All}
+pub use Rattle.std.specs.Prelude.{◌==◌, slice_get, IsSome, map, max, if◌then◌else◌, option_map}
+pub use Rattle.std.specs.Prelude.{◌&&◌, not, is_none, is_some, nat_lt, count_by, nat_le, unwrap_or}
+pub use Rattle.std.specs.Prelude.{replicate, option_to_list, All}
 pub use base.Logic.{SProp, ent}
 pub use contract.Monad.{Fun}
 unfoldable pub use contract.Running.{tables_of}
@@ -28,7 +30,8 @@ pub use prog.Wp.{Calls, Loops, WpFn, Tables}
 pub use seplogic.Ra.Ura.{Ura}
 pub use sound.WpLaws.{WpFn-mono}
 pub use types.ByLocal.{alloc_all, pass_all, free_all, look_at, sets}
-pub use types.Kit.{‵, ◌$◌, fjoin, raw, ◌⊛◌, prop, ◌∵◌, !, qed, move, keep, drop, split, fsplit, feq_l, regoal, suffices}
+pub use types.Kit.{‵, ◌$◌, fjoin, raw, ◌⊛◌, prop, ◌∵◌, !, qed, move, keep, drop, split, fsplit}
+pub use types.Kit.{feq_l, regoal, suffices}
 pub use types.Logic.{Logic}
 pub use types.Part.{agg}
 pub use types.Run.{enter, returns, no_more}
@@ -48,14 +51,19 @@ unfoldable pub use Rattle.rpmb_core.specs.Verdict.{verdict}
 pub use Rattle.rpmb_book.specs.Allowed.{IsAllowed}
 pub use Rattle.rpmb_book.specs.Asked.{answered_jobs, IsAfter, answered_in}
 unfoldable pub use Rattle.rpmb_book.specs.Book.{is_full}
-pub use Rattle.rpmb_book.specs.Book.{BookView, counted_in, refusal, submits_in, with_turn, guest_of, submit_of, next_intent, due_of, found_by, are_taken, is_taken}
+pub use Rattle.rpmb_book.specs.Book.{BookView, counted_in, refusal, submits_in, with_turn, guest_of}
+pub use Rattle.rpmb_book.specs.Book.{submit_of, next_intent, due_of, found_by, are_taken, is_taken}
 pub use Rattle.rpmb_book.specs.Bounded.{IsBounded, IsBoundedGuest}
 pub use Rattle.rpmb_book.specs.ByGuest.{broken_when}
 pub use Rattle.rpmb_book.specs.Due.{total, submits_of, due}
 unfoldable pub use Rattle.rpmb_book.specs.Fold.{folded, roomy}
 pub use Rattle.rpmb_book.specs.Fold.{after_submit, folded_from}
-pub use Rattle.rpmb_book.specs.Guest.{GuestState, submitted, took, collected, broken_off, settled_at, Held, held_when, kept_or_failed, first_due, accepts, request_of, entry_of, joined_by, first_intent, key_of, core_when, GuestCore, answer_when}
-pub use Rattle.rpmb_book.specs.History.{Filed, below, filed_from, filed_seen, of_guest, still_filed, Rise}
+pub use Rattle.rpmb_book.specs.Guest.{GuestState, submitted, took, collected, broken_off}
+pub use Rattle.rpmb_book.specs.Guest.{settled_at, Held, held_when, kept_or_failed, first_due}
+pub use Rattle.rpmb_book.specs.Guest.{accepts, request_of, entry_of, joined_by, first_intent}
+pub use Rattle.rpmb_book.specs.Guest.{key_of, core_when, GuestCore, answer_when}
+pub use Rattle.rpmb_book.specs.History.{Filed, below, filed_from, filed_seen, of_guest, still_filed}
+pub use Rattle.rpmb_book.specs.History.{Rise}
 pub use Rattle.rpmb_book.specs.Isolation.{jobs_of}
 pub use Rattle.rpmb_book.specs.Job.{Tally, Submission}
 pub use Rattle.rpmb_book.specs.Kept.{IsKept, IsOpening}
@@ -65,6 +73,9 @@ pub use Rattle.rpmb_book.specs.Marks.{marks_for, settled_to, is_within, moves}
 unfoldable pub use Rattle.rpmb_book.specs.Opening.{tallies_from}
 pub use Rattle.rpmb_book.specs.Receipt.{submission_seen}
 pub use Rattle.rpmb_book.specs.Replay.{IsLegal, replay, fresh_guests}
-pub use Rattle.rpmb_book.specs.Sound.{IsSound, HasWholeFrames, IsSoundGuest, IsCoreOfBoard, IsAsked, IsStorable, AreOfBoard, IsReady}
-pub use Rattle.rpmb_book.specs.Turn.{Turn, State, Submit, Take, Settle, Collect, Break, after_break, after_turn, update, settled_all, IsRight, are_within, move_some, is_submit}
+pub use Rattle.rpmb_book.specs.Sound.{IsSound, HasWholeFrames, IsSoundGuest, IsCoreOfBoard, IsAsked}
+pub use Rattle.rpmb_book.specs.Sound.{IsStorable, AreOfBoard, IsReady}
+pub use Rattle.rpmb_book.specs.Turn.{Turn, State, Submit, Take, Settle, Collect, Break, after_break}
+pub use Rattle.rpmb_book.specs.Turn.{after_turn, update, settled_all, IsRight, are_within}
+pub use Rattle.rpmb_book.specs.Turn.{move_some, is_submit}
 pub use Rattle.rpmb_book.specs.declared.receipt.Receipt.{Receipt}

@@ -1,3 +1,4 @@
+//! The book: every guest's requests, answers and history.
 ghost use Rattle.std.specs.Prelude.{◌≡◌, ◌≤◌, ◌+◌, ◌<◌, [], IfOk, Some, option_map, map, length};
 ghost use Rattle.rpmb_frame.specs.Partition.{sequence};
 ghost use Rattle.rpmb_book.specs.Opening.{tallies_from};

@@ -1,3 +1,4 @@
+//! A job whose MAC was checked before the book is locked.
 ghost use Rattle.std.specs.Prelude.{◌≡◌};
 ghost use Rattle.rpmb_frame.specs.Request.{frames_of};
 ghost use Rattle.rpmb_core.specs.MacCheck.{Says};

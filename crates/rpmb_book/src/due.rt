@@ -1,3 +1,4 @@
+//! A reply that lacks its MAC alone.
 ghost use Rattle.std.specs.Prelude.{◌≡◌, ◌≤◌, ◌*◌, ◌/◌, Some, length};
 ghost use Rattle.mmio_transport.specs.Job.{done_of, room_of};
 ghost use Rattle.rpmb_core.specs.Reply.{closed, failed};

@@ -1,3 +1,4 @@
+//! What the answers to one guest depend on.
 ghost use Rattle.std.specs.Prelude.{◌≡◌, ◌≤◌, ◌<◌, ◌^◌, ◌*◌, ◌/◌, if◌then◌else◌, IfOk, [], None};
 ghost use Rattle.std.specs.Prelude.{Some};
 ghost use Rattle.std.specs.Prelude.{length, true, vec_capacity};

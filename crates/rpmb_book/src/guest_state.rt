@@ -1,3 +1,4 @@
+//! What the book knows of one guest.
 ghost use Rattle.std.specs.Prelude.{◌≡◌, ◌+◌, ◌++◌, ◌-◌, ◌*◌, ◌/◌, ◌<◌, ◌≤◌, ◌^◌, [], IfOk};
 ghost use Rattle.std.specs.Prelude.{if◌then◌else◌, is_some, length, take, drop, option_to_list};
 ghost use Rattle.std.specs.VecDeque.{deque_capacity};

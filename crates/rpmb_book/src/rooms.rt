@@ -1,3 +1,4 @@
+//! Memory that is made before a job is answered.
 ghost use Rattle.std.specs.Prelude.{IfOk};
 ghost use Rattle.rpmb_book.specs.Planned.{HasRoom};
 

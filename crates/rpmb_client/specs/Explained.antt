@@ -12,7 +12,7 @@ use Rattle.rpmb_frame.specs.Codes.{res_count_failure, res_addr_failure, res_writ
 use Rattle.rpmb_frame.specs.Codes.{res_no_auth_key, res_write_counter_expired}
 use Rattle.rpmb_frame.specs.Table.{first_row}
 use Rattle.rpmb_frame.specs.Frame.{block_data_of, key_mac_of, nonce_of, write_counter_of}
-use Rattle.rpmb_frame.specs.Frame.{address_of, block_count_of, result_of, req_resp_of}
+use Rattle.rpmb_frame.specs.Frame.{address_of, block_count_of, last_of, result_of, req_resp_of}
 use Rattle.rpmb_client.specs.Answer.{is_mac_right, is_nonce_right, is_whole}
 use Rattle.rpmb_frame.specs.Request.{frames_of}
 
@@ -68,9 +68,14 @@ abbrev pub has_wrong_nonce : Option (List ℕ) → List (List ℕ) → Bool
 has_wrong_nonce None frames = false
 has_wrong_nonce (Some asked) frames = list_any (is_nonce_wrong asked) frames
 
+-- a partition without a key has none to make a MAC with: zeros stand where it would
+unfoldable pub lacks_mac : List (List ℕ) → Bool
+lacks_mac frames =
+    result_of (last_of frames) == res_no_auth_key && is_zeros (key_mac_of (last_of frames)) 32
+
 abbrev pub has_wrong_mac : Option (List ℕ) → List (List ℕ) → Bool
 has_wrong_mac None frames = false
-has_wrong_mac (Some key) frames = not (is_mac_right key frames)
+has_wrong_mac (Some key) frames = not (is_mac_right key frames) && not (lacks_mac frames)
 
 unfoldable pub is_wrong : List ℕ → Option (List ℕ) → Option (List ℕ) → Bool
 is_wrong reply key asked =
@@ -84,13 +89,18 @@ has_refusal frame = not (result_of frame == res_ok)
 unfoldable pub is_refused : List ℕ → Bool
 is_refused reply = is_whole reply && list_any has_refusal (frames_of reply)
 
+abbrev pub judged_mac : List ℕ → List (List ℕ) → List ℕ
+judged_mac key frames = first_row (
+    (is_mac_right key frames, codes "right")
+    ∷ (lacks_mac frames, codes "none")
+    ∷ []) (codes "wrong")
+
 -- the last frame has the MAC of all of them; the others have zeros there
 abbrev pub mac_text : Bool → Option (List ℕ) → List (List ℕ) → List ℕ → List ℕ
 mac_text false key frames frame =
     if is_zeros (key_mac_of frame) 32 then codes "in the last frame" else codes "out of place"
 mac_text true None frames frame = codes "not looked at"
-mac_text true (Some key) frames frame =
-    if is_mac_right key frames then codes "right" else codes "wrong"
+mac_text true (Some key) frames frame = judged_mac key frames
 
 -- a block, which only reads give: nothing is said of one of zeros
 abbrev pub data_name : List ℕ → List ℕ

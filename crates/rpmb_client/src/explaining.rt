@@ -4,7 +4,8 @@ ghost use Rattle.std.specs.Prelude.{length, string_bytes};
 ghost use Rattle.std.specs.Io.KnownBytes.{Appends};
 ghost use Rattle.rpmb_client.specs.Explained.{checks_text, data_digits, data_name, counter_text};
 ghost use Rattle.rpmb_client.specs.Explained.{fields_text, front_text, frame_line, frame_lines};
-ghost use Rattle.rpmb_client.specs.Explained.{kind_text, lacks_nonce, mac_text, no_frames_line};
+ghost use Rattle.rpmb_client.specs.Explained.{judged_mac, kind_text, lacks_mac, lacks_nonce};
+ghost use Rattle.rpmb_client.specs.Explained.{mac_text, no_frames_line};
 ghost use Rattle.rpmb_client.specs.Explained.{nonce_text, place_text, reply_lines, result_text};
 ghost use Rattle.rpmb_client.specs.Explained.{stuff_text, two_bytes};
 
@@ -83,6 +84,29 @@ fn nonce_text(
     String::from_str(alloc, "wrong")
 }
 
+/// Whether the last frame says that there is no key, and has zeros for a MAC.
+#[tactic(auto, unfolding(crate::specs::Explained::lacks_mac))]
+pub(crate) fn lacks_mac(frames: &[[u8; 512]]) -> bool
+    requires { 0 < length frames.now }
+    ensures { result ≡ lacks_mac frames.now }
+{
+    let last = Frame::from_bytes(&frames[frames.len() - 1]);
+    last.result() == 0x0007 && last.key_mac() == [0; 32]
+}
+
+fn judged_mac(key: &[u8; 32], frames: &[[u8; 512]]) -> &'static str
+    requires { 0 < length frames.now }
+    ensures { result.now ≡ judged_mac key.now frames.now }
+{
+    if has_right_mac(key, frames) {
+        return "right";
+    }
+    if lacks_mac(frames) {
+        return "none";
+    }
+    "wrong"
+}
+
 fn mac_text(
     is_last: bool,
     key: Option<[u8; 32]>,
@@ -100,8 +124,7 @@ fn mac_text(
     }
     match key {
         None => "not looked at",
-        Some(key) if has_right_mac(&key, frames) => "right",
-        Some(_) => "wrong",
+        Some(key) => judged_mac(&key, frames),
     }
 }
 

@@ -1,5 +1,6 @@
 -- The lines of a text, told one after another.
-use Rattle.std.proofs.Common.{◌≡◌, ◌≢◌, ◌∙◌, ℕ, Bool, true, false, List, [], ◌∷◌, ◌++◌, Option, Some, None, IfSome, nat_eq, nat_lt, refl, ap, sym, subst, true-eqb}
+use Rattle.std.proofs.Common.{◌≡◌, ◌≢◌, ◌∙◌, ℕ, Bool, true, false, List, [], ◌∷◌, ◌++◌, Option}
+use Rattle.std.proofs.Common.{Some, None, IfSome, nat_eq, nat_lt, refl, ap, sym, subst, true-eqb}
 use Rattle.std.proofs.KnownBytes.{Appends-nil, Appends-trans}
 use Rattle.std.proofs.lemmas.List.{append-nil}
 use Rattle.std.proofs.lemmas.List.Concat.{flat_map-append}
@@ -8,7 +9,8 @@ use Rattle.std.specs.Io.BufRead.{drop_through, take_through}
 use Rattle.std.specs.Io.KnownBytes.{Appends}
 use Rattle.std.specs.List.{flat_map, list_any}
 use Rattle.std.specs.Prelude.{◌||◌}
-use Rattle.rpmb_commands.specs.Explaining.{IsCut, IsNext, Judging, Said, SaysAll, has_refused, has_wrong, line_told, without_feed}
+use Rattle.rpmb_commands.specs.Explaining.{IsCut, IsNext, Judging, Said, SaysAll, has_refused}
+use Rattle.rpmb_commands.specs.Explaining.{has_wrong, line_told, without_feed}
 
 by_test : {P : Type 0} (b : Bool) → (b ≡ true → P) → (b ≡ false → P) → P
 by_test true f g = f refl
@@ -20,37 +22,49 @@ without_feed-of_feed (x ∷ []) = refl
 without_feed-of_feed (x ∷ y ∷ ys) = ap (λ r. x ∷ r) (without_feed-of_feed (y ∷ ys))
 
 alone : (x : ℕ) → ((front : List ℕ) → x ∷ [] ≢ front ++ 10 ∷ []) → without_feed (x ∷ []) ≡ x ∷ []
-alone x lacks = by_test (nat_eq x 10) (λ is. absurd (lacks [] (ap (λ n. n ∷ []) (true-eqb x 10 (sym is))))) (λ is. rw is refl)
+alone x lacks = by_test (nat_eq x 10) (λ is.
+    absurd (lacks [] (ap (λ n. n ∷ []) (true-eqb x 10 (sym is))))) (λ is. rw is refl)
 
-pub without_feed-of_none : (bs : List ℕ) → ((front : List ℕ) → bs ≢ front ++ 10 ∷ []) → without_feed bs ≡ bs
+pub without_feed-of_none : (bs : List ℕ) → ((front : List ℕ) → bs ≢ front ++ 10 ∷ [])
+    → without_feed bs ≡ bs
 without_feed-of_none [] lacks = refl
 without_feed-of_none (x ∷ []) lacks = alone x lacks
 without_feed-of_none (x ∷ y ∷ ys) lacks =
-    ap (λ r. x ∷ r) (without_feed-of_none (y ∷ ys) (λ front is. lacks (x ∷ front) (ap (λ r. x ∷ r) is)))
+    ap (λ r. x ∷ r) (without_feed-of_none (y ∷ ys) (λ front is.
+    lacks (x ∷ front) (ap (λ r. x ∷ r) is)))
 
 -- one line more
 pub IsCut-push : (text rest : List ℕ) (lines : List (List ℕ)) → IsCut text lines rest → rest ≢ []
     → IsCut text (lines ++ without_feed (take_through 10 rest) ∷ []) (drop_through 10 rest)
 IsCut-push text rest [] cut some =
-    let P : List ℕ → Type 0 = λ t. IsCut t (without_feed (take_through 10 rest) ∷ []) (drop_through 10 rest) in
+    let P : List ℕ → Type 0 = λ t. IsCut t (without_feed (take_through 10 rest) ∷ [])
+    (drop_through 10 rest) in
     subst P (sym cut) (some, refl, refl)
-IsCut-push text rest (line ∷ lines) cut some = (cut.0, cut.1, IsCut-push (drop_through 10 text) rest lines cut.2 some)
+IsCut-push text rest (line ∷ lines) cut some =
+    (cut.0, cut.1, IsCut-push (drop_through 10 text) rest lines cut.2 some)
 
-pub flat_map-push : (f : List ℕ → List ℕ) (lines : List (List ℕ)) (line : List ℕ) → flat_map f (lines ++ line ∷ []) ≡ flat_map f lines ++ f line
-flat_map-push f lines line = flat_map-append f lines (line ∷ []) ∙ ap (λ r. flat_map f lines ++ r) (append-nil (f line))
+pub flat_map-push : (f : List ℕ → List ℕ) (lines : List (List ℕ)) (line : List ℕ)
+    → flat_map f (lines ++ line ∷ []) ≡ flat_map f lines ++ f line
+flat_map-push f lines line = flat_map-append f lines (line ∷ [])
+    ∙ ap (λ r. flat_map f lines ++ r) (append-nil (f line))
 
 or_false : (b : Bool) → (b || false) ≡ b
 or_false true = refl
 or_false false = refl
 
-pub list_any-push : (p : List ℕ → Bool) (lines : List (List ℕ)) (line : List ℕ) → list_any p (lines ++ line ∷ []) ≡ (list_any p lines || p line)
-list_any-push p lines line = list_any-append p lines (line ∷ []) ∙ ap (λ b. list_any p lines || b) (or_false (p line))
+pub list_any-push : (p : List ℕ → Bool) (lines : List (List ℕ)) (line : List ℕ)
+    → list_any p (lines ++ line ∷ []) ≡ (list_any p lines || p line)
+list_any-push p lines line = list_any-append p lines (line ∷ [])
+    ∙ ap (λ b. list_any p lines || b) (or_false (p line))
 
 -- what was told of a text so far, of which this is left
 abbrev pub SoFar : Judging → (given left start now : Option (List ℕ)) → (wrong refused : ℕ) → Type 0
-SoFar by given left start now wrong refused = IfSome given (λ text. (rest : List ℕ) × (left ≡ Some rest) × Said by text rest start now wrong refused)
+SoFar by given left start now wrong refused =
+    IfSome given (λ text. (rest : List ℕ) × (left ≡ Some rest)
+    × Said by text rest start now wrong refused)
 
-pub said_none : (by : Judging) (given start : Option (List ℕ)) (wrong refused : ℕ) → wrong ≡ 0 → refused ≡ 0 → SoFar by given given start start wrong refused
+pub said_none : (by : Judging) (given start : Option (List ℕ)) (wrong refused : ℕ) → wrong ≡ 0
+    → refused ≡ 0 → SoFar by given given start start wrong refused
 said_none by None start wrong refused w r = tt
 said_none by (Some text) start wrong refused w r = (
   text,
@@ -64,31 +78,42 @@ said_none by (Some text) start wrong refused w r = (
   },
 )
 
-pub said_more : (by : Judging) (given left after start now next : Option (List ℕ)) (wrong refused wrong' refused' : ℕ) (line : List ℕ)
-    → SoFar by given left start now wrong refused → IfSome left (λ text. IsNext text true line after) → Appends now next (line_told by (without_feed line))
-    → nat_lt 0 wrong' ≡ (nat_lt 0 wrong || has_wrong by (without_feed line)) → nat_lt 0 refused' ≡ (nat_lt 0 refused || has_refused (without_feed line))
+pub said_more : (by : Judging) (given left after start now next : Option (List ℕ))
+    (wrong refused wrong' refused' : ℕ) (line : List ℕ)
+    → SoFar by given left start now wrong refused
+    → IfSome left (λ text. IsNext text true line after)
+    → Appends now next (line_told by (without_feed line))
+    → nat_lt 0 wrong' ≡ (nat_lt 0 wrong || has_wrong by (without_feed line))
+    → nat_lt 0 refused' ≡ (nat_lt 0 refused || has_refused (without_feed line))
     → SoFar by given after start next wrong' refused'
 said_more by None left after start now next wrong refused wrong' refused' line so more told w r = tt
-said_more by (Some text) left after start now next wrong refused wrong' refused' line so more told w r =
+said_more by (Some text) left after start now next wrong refused wrong' refused' line so more told w
+    r =
     let rest = so.0 in
     let said = so.2 in
     let n = subst (λ l. IfSome l (λ t. IsNext t true line after)) so.1 more in
     let piece = without_feed (take_through 10 rest) in
     let told' = subst (λ l. Appends now next (line_told by (without_feed l))) n.1 told in
-    let w' = subst (λ l. nat_lt 0 wrong' ≡ (nat_lt 0 wrong || has_wrong by (without_feed l))) n.1 w in
-    let r' = subst (λ l. nat_lt 0 refused' ≡ (nat_lt 0 refused || has_refused (without_feed l))) n.1 r in (
+    let w' = subst (λ l. nat_lt 0 wrong' ≡ (nat_lt 0 wrong || has_wrong by (without_feed l))) n.1 w
+    in
+    let r' = subst (λ l. nat_lt 0 refused' ≡ (nat_lt 0 refused || has_refused (without_feed l))) n.1
+    r in (
       drop_through 10 rest,
       n.2,
       record {
         lines = said.lines ++ piece ∷ [];
         cut = IsCut-push text rest said.lines said.cut n.0;
-        printed = subst (Appends start next) (sym (flat_map-push (line_told by) said.lines piece)) (Appends-trans start now next _ _ said.printed told');
-        wrong_is = w' ∙ ap (λ b. b || has_wrong by piece) said.wrong_is ∙ sym (list_any-push (has_wrong by) said.lines piece);
-        refused_is = r' ∙ ap (λ b. b || has_refused piece) said.refused_is ∙ sym (list_any-push has_refused said.lines piece);
+        printed = subst (Appends start next) (sym (flat_map-push (line_told by) said.lines piece))
+            (Appends-trans start now next _ _ said.printed told');
+        wrong_is = w' ∙ ap (λ b. b || has_wrong by piece) said.wrong_is
+            ∙ sym (list_any-push (has_wrong by) said.lines piece);
+        refused_is = r' ∙ ap (λ b. b || has_refused piece) said.refused_is
+            ∙ sym (list_any-push has_refused said.lines piece);
       },
     )
 
-pub said_all : (by : Judging) (given left after start now : Option (List ℕ)) (wrong refused : ℕ) (line : List ℕ) → SoFar by given left start now wrong refused
+pub said_all : (by : Judging) (given left after start now : Option (List ℕ)) (wrong refused : ℕ)
+    (line : List ℕ) → SoFar by given left start now wrong refused
     → IfSome left (λ text. IsNext text false line after) → SaysAll by given start now wrong refused
 said_all by None left after start now wrong refused line so more = tt
 said_all by (Some text) left after start now wrong refused line so more =

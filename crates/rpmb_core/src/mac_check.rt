@@ -1,3 +1,4 @@
+//! The check of a write's MAC, made before the partition is locked.
 ghost use Rattle.std.specs.Prelude.{◌≡◌, ◌<◌, ℕ, List, length};
 ghost use Rattle.rpmb_frame.specs.Request.{Request, frames_of};
 ghost use Rattle.rpmb_core.specs.Verdict.{has_mac};

@@ -1,3 +1,4 @@
+//! A guest's partition: key, write counter and blocks.
 ghost use Rattle.std.specs.Prelude.{◌≡◌, ◌≤◌, ◌+◌, ◌*◌, ◌++◌, ℕ, List, None, true, is_none, IfOk};
 ghost use Rattle.std.specs.Prelude.{length, drop, vec_len};
 ghost use Rattle.std.specs.Option.{option_copied};

@@ -1,3 +1,4 @@
+//! The reply to a request.
 ghost use Rattle.std.specs.Prelude.{◌≡◌, ◌≤◌, if◌then◌else◌, ◌*◌, ◌/◌, ◌++◌, Some, length, drop};
 ghost use Rattle.std.specs.List.{AllByRecursion};
 ghost use Rattle.rpmb_frame.specs.Frame.{block_count_of, with_block_data};

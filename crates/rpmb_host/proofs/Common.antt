@@ -27,7 +27,8 @@ pub use mir.Val.{Val}
 pub use prog.Wp.{WpFn}
 pub use seplogic.Ra.Ura.{Ura}
 pub use types.ByLocal.{alloc_all, pass_all, free_all, look_at, get, sets}
-pub use types.Kit.{‵, ◌$◌, drop, rewrite, fsplit, fjoin, feq_i, feq_l, raw, ◌⊛◌, later, ◌∵◌, !, qed, by, move, keep, split, join, pick, suffices, use0, use1, await}
+pub use types.Kit.{‵, ◌$◌, drop, rewrite, fsplit, fjoin, feq_i, feq_l, raw, ◌⊛◌, later, ◌∵◌, !, qed}
+pub use types.Kit.{by, move, keep, split, join, pick, suffices, use0, use1, await}
 pub use types.Logic.{Logic, sem}
 pub use types.Part.{agg}
 pub use types.Run.{of_opd, no_more, and_then, returns, enter}

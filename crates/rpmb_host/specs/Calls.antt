@@ -89,7 +89,8 @@ abbrev pub Loads : (guest at : ℕ) → List ℕ → Fact
 Loads guest at bytes m = OfGuest m guest (λ w d. IsInWindow w d at (length bytes)
     × (bytes ≡ bytes_at d.memory (at - w.base) (length bytes)))
 
--- What a store and a load of so many bytes tell: 0 just where they lie in the window of a guest that
+-- What a store and a load of so many bytes tell: 0 just where they lie in the window of a guest
+-- that
 -- there is; else whether it is the guest or the range that there isn't.
 pub record TellsBytes (guest at count number : ℕ) (m : MachineState) : Type 0 where
   pub succeeds : OfGuest m guest (λ w d. (number ≡ 0) ↔ IsInWindow w d at count)

@@ -1,5 +1,6 @@
 -- Lines that say nothing, refusals, and the first bad line of a script.
-use Rattle.std.proofs.Common.{◌≡◌, ◌≢◌, ◌∙◌, ◌<◌, ◌+◌, ℕ, zero, suc, Bor, List, Option, [], ◌∷◌, length, map, take, get_or, Some, None, refl, ap, arith, sym}
+use Rattle.std.proofs.Common.{◌≡◌, ◌≢◌, ◌∙◌, ◌<◌, ◌+◌, ℕ, zero, suc, Bor, List, Option, [], ◌∷◌}
+use Rattle.std.proofs.Common.{length, map, take, get_or, Some, None, refl, ap, arith, sym}
 use Rattle.std.proofs.lemmas.List.{length-map}
 use Rattle.script.specs.Line.{Said, line_of_words, said}
 use Rattle.script.specs.Refusal.{IfBad}
@@ -19,7 +20,8 @@ line_of_words-none g (a ∷ b ∷ c ∷ d ∷ []) two four = absurd (four refl)
 line_of_words-none g (a ∷ b ∷ c ∷ d ∷ e ∷ more) two four = refl
 
 -- the lines before it were read
-first_none_at : (reads : List ℕ → Option Said) (lines : List (List ℕ)) (k : ℕ) (d : List ℕ) (read : List Line)
+first_none_at : (reads : List ℕ → Option Said) (lines : List (List ℕ)) (k : ℕ) (d : List ℕ)
+    (read : List Line)
     → map (λ x. Some (said x)) read ≡ map reads (take k lines) → k < length lines
     → reads (get_or lines k d) ≡ None → first_none reads lines ≡ Some (k + 1)
 unfolding first_none
@@ -33,15 +35,19 @@ first_none_at reads (l ∷ ls) (suc k) d (x ∷ xs) done lt bad =
     rw (← here) (rw later (ap Some (omega arith)))
 
 -- the same, where an iterator has given the lines before it and then the line
-pub first_none_next : (reads : List ℕ → Option Said) (lines : List (List ℕ)) (given : List (Bor (List ℕ))) (line : List ℕ) (read : List Line)
+pub first_none_next : (reads : List ℕ → Option Said) (lines : List (List ℕ))
+    (given : List (Bor (List ℕ))) (line : List ℕ) (read : List Line)
     → map (λ x. Some (said x)) read ≡ map reads (map (λ t. t.now) given)
     → map (λ t. t.now) given ≡ take (length given) lines → length given < length lines
-    → line ≡ get_or lines (length given) line → reads line ≡ None → first_none reads lines ≡ Some (length read + 1)
+    → line ≡ get_or lines (length given) line → reads line ≡ None → first_none reads lines
+    ≡ Some (length read + 1)
 first_none_next reads lines given line read done before lt is bad =
     let as_many : length read ≡ length given =
-    sym (length-map read (λ x. Some (said x))) ∙ ap length done ∙ length-map (map (λ t. t.now) given) reads
+    sym (length-map read (λ x. Some (said x))) ∙ ap length done
+    ∙ length-map (map (λ t. t.now) given) reads
     ∙ length-map given (λ t. t.now) in
-    first_none_at reads lines (length given) line read (done ∙ ap (map reads) before) lt (ap reads (sym is) ∙ bad)
+    first_none_at reads lines (length given) line read (done ∙ ap (map reads) before) lt
+    (ap reads (sym is) ∙ bad)
     ∙ ap (λ n. Some (n + 1)) (sym as_many)
 
 -- where each line was read, none is bad

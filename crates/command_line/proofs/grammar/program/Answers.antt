@@ -10,9 +10,12 @@ with_command command a = with_subcommand a command.top
 pub returns : goal.returns
 unfolding program
 returns c =
-    let formats = c.in_ok-program.ensures ∙ ap (with_command (on_fresh (codes "format"))) c.bare.ensures in
+    let formats = c.in_ok-program.ensures ∙ ap (with_command (on_fresh (codes "format")))
+    c.bare.ensures in
     let shows = c.in_ok-program-2.ensures ∙ ap (with_command (on_board (codes "show"))) formats in
-    let upgrades = c.in_ok-program-3.ensures ∙ ap (with_command (on_board (codes "upgrade"))) shows in
+    let upgrades = c.in_ok-program-3.ensures ∙ ap (with_command (on_board (codes "upgrade"))) shows
+    in
     let runs = c.in_ok-program-4.ensures ∙ ap (with_command (on_script (codes "run"))) upgrades in
-    subst (λ (a : App). IfOk c.with_command-5.result (λ p. app_of p ≡ with_command (on_script (codes "serve")) a)) runs
+    subst (λ (a : App). IfOk c.with_command-5.result (λ p.
+    app_of p ≡ with_command (on_script (codes "serve")) a)) runs
     c.with_command-5.ensures

@@ -6,6 +6,10 @@ use Rattle.command_line.proofs.grammar.with_fresh.Goals as goal
 
 pub returns-clause-shape : goal.returns-clause-shape
 returns-clause-shape c =
-    let first = c.in_ok-command.ensures.shape ∙ ap (λ (r : Rule). with_rule (app_of c.args.command) r) c.flag.ensures.rule in
-    subst (λ (r : Rule). IfOk c.with_argument-2.result (λ x. app_of x ≡ with_rule (with_rule (app_of c.args.command) (flag (codes "new"))) r)) c.option.ensures.rule
-    (subst (λ (a : App). IfOk c.with_argument-2.result (λ x. app_of x ≡ with_rule a (rule_of c.option.result))) first c.with_argument-2.ensures.shape)
+    let first = c.in_ok-command.ensures.shape
+    ∙ ap (λ (r : Rule). with_rule (app_of c.args.command) r) c.flag.ensures.rule in
+    subst (λ (r : Rule). IfOk c.with_argument-2.result (λ x.
+    app_of x ≡ with_rule (with_rule (app_of c.args.command) (flag (codes "new"))) r))
+    c.option.ensures.rule
+    (subst (λ (a : App). IfOk c.with_argument-2.result (λ x.
+    app_of x ≡ with_rule a (rule_of c.option.result))) first c.with_argument-2.ensures.shape)

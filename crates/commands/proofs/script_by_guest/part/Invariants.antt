@@ -9,4 +9,6 @@ invariant-loop-line l =
     All (λ line. IsWithin l.guests (said line)) (into_iter_items l.line-iterator)
     × All (λ line. IsServed (said line)) (into_iter_items l.line-iterator)
     × (vec_len l.scripts ≡ l.guests)
-    × ((g : ℕ) → g < l.guests → map (asks g) (slice_index_or l.scripts.items g []) ++ asked_of g (map said (into_iter_items l.line-iterator)) ≡ asked_of g (map said l.fn.lines.items))
+    × ((g : ℕ) → g < l.guests → map (asks g) (slice_index_or l.scripts.items g [])
+    ++ asked_of g (map said (into_iter_items l.line-iterator))
+    ≡ asked_of g (map said l.fn.lines.items))

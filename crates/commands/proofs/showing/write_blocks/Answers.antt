@@ -10,5 +10,7 @@ pub loop-address-preserved : goal.loop-address-preserved
 loop-address-preserved g c =
     let before = g.W.Write.contents c.loop-address.out in
     let next = g.W.Write.contents c.write_block.new.out in
-    one_block _ before next c.loop-address.address c.args.guest c.args.partition.now c.loop-address.invariant
-    (subst (λ b. Appends before next (block_shown c.args.guest c.loop-address.address b)) c.block.ensures c.in_ok-write_block.ensures.printed)
+    one_block _ before next c.loop-address.address c.args.guest c.args.partition.now
+    c.loop-address.invariant
+    (subst (λ b. Appends before next (block_shown c.args.guest c.loop-address.address b))
+    c.block.ensures c.in_ok-write_block.ensures.printed)

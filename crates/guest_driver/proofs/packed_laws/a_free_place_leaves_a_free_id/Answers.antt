@@ -1,4 +1,5 @@
-use Rattle.guest_driver.proofs.PackedCounted.{begins_counted, offer_counted, reap_counted, full_by_places}
+use Rattle.guest_driver.proofs.PackedCounted.{begins_counted, offer_counted, reap_counted}
+use Rattle.guest_driver.proofs.PackedCounted.{full_by_places}
 use Rattle.guest_driver.proofs.packed_laws.a_free_place_leaves_a_free_id.Goals as goal
 
 pub returns-clause-begins : goal.returns-clause-begins

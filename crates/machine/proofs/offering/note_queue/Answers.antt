@@ -7,18 +7,24 @@ use Rattle.machine.proofs.offering.note_queue.Goals as goal
 pub returns-in-Some-written-clause-noted : goal.returns-in-Some-written-clause-noted
 returns-in-Some-written-clause-noted g c put =
     let rs = c.note.new.written.items in
-    queue_noted _ c.in-Some.device.now rs (sym c.device_of.ensures ∙ ap option_copied c.in-Some.is) (record {
-      noted = subst (λ (o : Option Part). AreCovered (range_in o) rs) (sym c.in-Some-written.is ∙ c.written.ensures.names)
+    queue_noted _ c.in-Some.device.now rs (sym c.device_of.ensures ∙ ap option_copied c.in-Some.is)
+    (record {
+      noted = subst (λ (o : Option Part). AreCovered (range_in o) rs) (sym c.in-Some-written.is
+          ∙ c.written.ensures.names)
           (subst (λ (r : Range). IsCovered r rs) c.of.ensures (c.note.ensures.noted put), tt);
       sound = c.written.ensures.sound;
-      small = subst (λ n. n < 18446744073709551616) c.memory_size-size.ensures c.memory_size-size.type_inv;
+      small = subst (λ n. n < 18446744073709551616) c.memory_size-size.ensures
+          c.memory_size-size.type_inv;
     })
 
 pub returns-in-None-written-clause-noted : goal.returns-in-None-written-clause-noted
 returns-in-None-written-clause-noted g c put =
     let rs = c.args.written.now.items in
-    queue_noted _ c.in-Some.device.now rs (sym c.device_of.ensures ∙ ap option_copied c.in-Some.is) (record {
-      noted = subst (λ (o : Option Part). AreCovered (range_in o) rs) (sym c.in-None-written.is ∙ c.written.ensures.names) tt;
+    queue_noted _ c.in-Some.device.now rs (sym c.device_of.ensures ∙ ap option_copied c.in-Some.is)
+    (record {
+      noted = subst (λ (o : Option Part). AreCovered (range_in o) rs) (sym c.in-None-written.is
+          ∙ c.written.ensures.names) tt;
       sound = c.written.ensures.sound;
-      small = subst (λ n. n < 18446744073709551616) c.memory_size-size.ensures c.memory_size-size.type_inv;
+      small = subst (λ n. n < 18446744073709551616) c.memory_size-size.ensures
+          c.memory_size-size.type_inv;
     })

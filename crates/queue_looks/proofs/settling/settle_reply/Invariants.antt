@@ -5,7 +5,8 @@ use Rattle.queue_looks.proofs.settling.settle_reply.Given as goal
 abbrev pub invariant-loop-board : goal.invariant-loop-board
 invariant-loop-board g l =
     WaitsForSome g.D.Disk.state l.fn.guest l.board
-    × ((reply : Held) → Waits g.D.Disk.state l.fn.guest l.fn.board reply l.fn.board → Waits g.D.Disk.state l.fn.guest l.fn.board reply l.board)
+    × ((reply : Held) → Waits g.D.Disk.state l.fn.guest l.fn.board reply l.fn.board
+    → Waits g.D.Disk.state l.fn.guest l.fn.board reply l.board)
     × Moves g.D.Disk.state g.D.Disk.makes l.fn.board l.board
 
 abbrev pub decreases-loop-board : goal.decreases-loop-board

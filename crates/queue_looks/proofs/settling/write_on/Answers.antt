@@ -17,5 +17,6 @@ returns-clause-writes g c start reply waits late =
     let s1 = sound_moved shows makes b0 b1 waits.sound c.take.ensures.moves in
     let s2 = sound_moved shows makes b1 b2 s1 c.give.ensures.moves in
     let s3 = sound_moved shows makes b2 b3 s2 c.go_on.ensures.moves in
-    writes shows makes c.args.guest start reply b0 b1 b2 b3 (did_answer c.take.result) (did_answer c.give.result) c.go_on.result waits late s1 s2 s3
+    writes shows makes c.args.guest start reply b0 b1 b2 b3 (did_answer c.take.result)
+    (did_answer c.give.result) c.go_on.result waits late s1 s2 s3
     c.take.ensures.does c.give.ensures.does c.go_on.ensures.goes

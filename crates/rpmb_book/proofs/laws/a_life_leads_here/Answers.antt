@@ -5,4 +5,5 @@ pub returns-clause-state : goal.returns-clause-state
 returns-clause-state c = λ first turns lives. leads_here first turns c.args.book.now lives
 
 pub returns-clause-legal : goal.returns-clause-legal
-returns-clause-legal c = λ first turns lives. all_legal first turns c.args.book.now lives c.what_always_holds.ensures.legal
+returns-clause-legal c = λ first turns lives.
+    all_legal first turns c.args.book.now lives c.what_always_holds.ensures.legal

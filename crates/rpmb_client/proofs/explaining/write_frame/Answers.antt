@@ -4,6 +4,8 @@ use Rattle.rpmb_client.proofs.explaining.write_frame.Goals as goal
 
 pub returns : goal.returns
 returns g c =
-    line_of_parts c.write_text.result _ (g.W.Write.contents c.write_place.new.out) (g.W.Write.contents c.write_front.new.out) (g.W.Write.contents c.write_counter.new.out)
-    (g.W.Write.contents c.write_fields.new.out) (g.W.Write.contents c.write_checks.new.out) _ _ _ _ _ _
+    line_of_parts c.write_text.result _ (g.W.Write.contents c.write_place.new.out)
+    (g.W.Write.contents c.write_front.new.out) (g.W.Write.contents c.write_counter.new.out)
+    (g.W.Write.contents c.write_fields.new.out) (g.W.Write.contents c.write_checks.new.out) _ _ _ _
+    _ _
     (search rules) (search rules) (search rules) (search rules) (search rules) (search rules)

@@ -7,4 +7,5 @@ loop-k-init g c = no_writes_yet _ _ _ _ _ _ _ _
 
 pub loop-k-preserved : goal.loop-k-preserved
 loop-k-preserved g c =
-    one_write_more _ _ _ _ _ _ _ _ _ _ _ _ c.loop-k.invariant (search rules) c.in_ok-write_one.ensures.written
+    one_write_more _ _ _ _ _ _ _ _ _ _ _ _ c.loop-k.invariant (search rules)
+    c.in_ok-write_one.ensures.written

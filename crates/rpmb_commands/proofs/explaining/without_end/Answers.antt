@@ -6,7 +6,9 @@ use Rattle.rpmb_commands.proofs.explaining.without_end.Goals as goal
 
 pub returns-in-Some : goal.returns-in-Some
 returns-in-Some c =
-    sym (ap without_feed (strip_suffix_char 10 c.args.line.now (Some c.in-Some.line) c.in-Some.ensures.cases (lit< tt)) ∙ without_feed-of_feed c.in-Some.line.now)
+    sym (ap without_feed (strip_suffix_char 10 c.args.line.now (Some c.in-Some.line)
+    c.in-Some.ensures.cases (lit< tt)) ∙ without_feed-of_feed c.in-Some.line.now)
 
 pub returns-in-None : goal.returns-in-None
-returns-in-None c = sym (without_feed-of_none c.args.line.now (strip_suffix_char 10 c.args.line.now None c.in-None.ensures.cases (lit< tt)))
+returns-in-None c = sym (without_feed-of_none c.args.line.now
+    (strip_suffix_char 10 c.args.line.now None c.in-None.ensures.cases (lit< tt)))

@@ -8,5 +8,6 @@ returns-clause-err g c =
     file_no_key c.in_ok-content.content.items c.in_ok-content.ensures.ok (record {
       told = c.in-Err.told;
       refused = c.from.ensures;
-      why = subst (λ bytes. IsWhyNoKey c.args.name bytes c.in-Err.told) c.as_slice.ensures.value c.in-Err.ensures.err;
+      why = subst (λ bytes. IsWhyNoKey c.args.name bytes c.in-Err.told) c.as_slice.ensures.value
+          c.in-Err.ensures.err;
     })

@@ -7,4 +7,5 @@ use Rattle.script.proofs.word.first_words.Goals as goal
 pub returns : goal.returns
 returns c = map_from_collect _ c.collect.ensures.ran
     (YieldsList-from_take 5 (YieldsList-at {t = c.split.result} (cc)
-    (YieldsList-from_str_split {s = c.split.result} 32 c.args.line.now (lit< tt) c.split.ensures.text c.split.ensures.has_more c.split.ensures.pattern)) (cc))
+    (YieldsList-from_str_split {s = c.split.result} 32 c.args.line.now (lit< tt)
+    c.split.ensures.text c.split.ensures.has_more c.split.ensures.pattern)) (cc))

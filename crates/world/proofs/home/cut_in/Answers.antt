@@ -10,8 +10,10 @@ returns-in-Write c =
     let a = c.advance.ensures in
     let guests = c.advance.new.self.guests in
     let progress = with_marks guests c.advance.result in
-    subst (λ s. CutBy (next_call s.broken s.guests) (record b { store = s }) c.args.filler.now c.cut_between.result) c.into_store-store.ensures
-    (subst (λ k. CutBy k (record b { store = v }) c.args.filler.now c.cut_between.result) c.in-Write.ensures
+    subst (λ s. CutBy (next_call s.broken s.guests) (record b { store = s }) c.args.filler.now
+    c.cut_between.result) c.into_store-store.ensures
+    (subst (λ k. CutBy k (record b { store = v }) c.args.filler.now c.cut_between.result)
+    c.in-Write.ensures
     (record {
       answer = advance_answer progress;
       after = record b { store = c.advance.new.self; report = report_of progress };
@@ -19,7 +21,10 @@ returns-in-Write c =
         progress = progress;
         store = c.advance.new.self;
         round = a.round;
-        refused = λ broken. (ap (with_marks guests) (a.answers.refused broken).0, (a.answers.refused broken).1);
+        refused = λ broken. (
+          ap (with_marks guests) (a.answers.refused broken).0,
+          (a.answers.refused broken).1,
+        );
         cause = λ failed. a.answers.cause (fault_made guests c.advance.result DiskFault failed);
         moves = a.moves;
         moments = a.any_moment;

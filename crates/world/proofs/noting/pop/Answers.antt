@@ -10,7 +10,12 @@ returns-in-Some c =
     let n = c.args.guest in
     record {
       pops = record {
-        made = inl (c.step.ensures.does, pops_full c.args.life n c.step.result b c.step.new.self (slice_get b.jobs n) (slice_get b.devices n) c.args.log.now.popped (ap is_some lies) c.step.ensures.does);
+        made = inl (
+          c.step.ensures.does,
+          pops_full c.args.life n c.step.result b c.step.new.self
+              (slice_get b.jobs n) (slice_get b.devices n) c.args.log.now.popped (ap is_some lies)
+              c.step.ensures.does,
+        );
         accepted = refl;
         published = refl;
         capacity = refl;

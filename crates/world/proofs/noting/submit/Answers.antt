@@ -14,12 +14,16 @@ returns-then-sequence-before c =
       submits = record {
         made = inl (record {
           does = c.step-answer.ensures.does;
-          accepted = says_same c.args.guest c.args.board.now c.step-answer.new.self _ c.step-answer.result log c.forget.new.self lies c.step-answer.ensures.does same (ap (λ l. l.accepted) forgot);
-          room = λ did. (let room = c.in-Ok.ensures.room in let is = ap (λ l. l.room) forgot in omega (arith, room, is));
+          accepted = says_same c.args.guest c.args.board.now c.step-answer.new.self _
+              c.step-answer.result log c.forget.new.self lies c.step-answer.ensures.does same
+              (ap (λ l. l.accepted) forgot);
+          room = λ did. (let room = c.in-Ok.ensures.room in let is = ap (λ l. l.room) forgot in
+              omega (arith, room, is));
         });
         published = ap (λ l. l.published) forgot ∙ c.note.ensures.published;
         popped = ap (λ l. l.popped) forgot ∙ c.note.ensures.popped;
-        capacity = (let kept = c.note.ensures.kept in let is = ap (λ l. l.room) forgot in omega (arith, kept, is));
+        capacity = (let kept = c.note.ensures.kept in let is = ap (λ l. l.room) forgot in
+            omega (arith, kept, is));
       };
     }
 
@@ -32,7 +36,10 @@ returns-else-sequence-before c =
       submits = record {
         made = inl (record {
           does = c.step-answer.ensures.does;
-          accepted = says_more c.args.guest c.args.board.now c.step-answer.new.self _ c.step-answer.result log c.note.new.self lies c.step-answer.ensures.does (λ e. differs (c.sequence.ensures ∙ e ∙ sym c.sequence-before.ensures)) c.in-Ok.ensures.noted;
+          accepted = says_more c.args.guest c.args.board.now c.step-answer.new.self _
+              c.step-answer.result log c.note.new.self lies c.step-answer.ensures.does (λ e.
+              differs (c.sequence.ensures ∙ e ∙ sym c.sequence-before.ensures))
+              c.in-Ok.ensures.noted;
           room = λ did. c.in-Ok.ensures.room;
         });
         published = c.note.ensures.published;

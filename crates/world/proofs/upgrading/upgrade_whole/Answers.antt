@@ -8,12 +8,32 @@ pub returns-in-Ok : goal.returns-in-Ok
 returns-in-Ok c =
     let before = c.args.disk.now in
     let after = c.upgrade.new.disk in
-    let back = within_end cut_state CutMakes (LeavesAsBefore (capacities_of c.args.board.now) (cut_state before)) before after c.upgrade.ensures.any_stop in
-    record { answer = c.upgrade.result; calls = c.upgrade.ensures.calls; answers = c.upgrade.ensures.answers refl; failures = c.upgrade.ensures.failures; back = back; tells = ap refusal_of_upgrade (sym c.in-Ok.is) }
+    let back = within_end cut_state CutMakes (LeavesAsBefore (capacities_of c.args.board.now)
+    (cut_state before)) before after c.upgrade.ensures.any_stop in
+    record {
+      answer = c.upgrade.result;
+      calls = c.upgrade.ensures.calls;
+      answers =
+          c.upgrade.ensures.answers refl;
+      failures = c.upgrade.ensures.failures;
+      back = back;
+      tells =
+          ap refusal_of_upgrade (sym c.in-Ok.is);
+    }
 
 pub returns-in-Err : goal.returns-in-Err
 returns-in-Err c =
     let before = c.args.disk.now in
     let after = c.upgrade.new.disk in
-    let back = within_end cut_state CutMakes (LeavesAsBefore (capacities_of c.args.board.now) (cut_state before)) before after c.upgrade.ensures.any_stop in
-    record { answer = c.upgrade.result; calls = c.upgrade.ensures.calls; answers = c.upgrade.ensures.answers refl; failures = c.upgrade.ensures.failures; back = back; tells = ap refusal_of_upgrade (sym c.in-Err.is) }
+    let back = within_end cut_state CutMakes (LeavesAsBefore (capacities_of c.args.board.now)
+    (cut_state before)) before after c.upgrade.ensures.any_stop in
+    record {
+      answer = c.upgrade.result;
+      calls = c.upgrade.ensures.calls;
+      answers =
+          c.upgrade.ensures.answers refl;
+      failures = c.upgrade.ensures.failures;
+      back = back;
+      tells =
+          ap refusal_of_upgrade (sym c.in-Err.is);
+    }

@@ -8,4 +8,11 @@ invariant_of-self c =
     let i = c.self.invariant in
     let b = c.self.inside.assembly in
     subst (IsSound outbox_state) (sym c.tell.ensures)
-    (record { config = i.config; bases = i.bases; accepted = i.accepted; parts = i.parts; linked = told_linked c.args.told i.config i.bases i.accepted i.parts b i.linked })
+    (record {
+      config = i.config;
+      bases = i.bases;
+      accepted = i.accepted;
+      parts = i.parts;
+      linked =
+          told_linked c.args.told i.config i.bases i.accepted i.parts b i.linked;
+    })

@@ -4,7 +4,8 @@ use Rattle.disk.proofs.cut_disk.CutDiskDisk.read_at.Goals as goal
 
 pub returns-then-not-counts-clause-call : goal.returns-then-not-counts-clause-call
 returns-then-not-counts-clause-call c =
-    read_made _ _ c.self.view_is _ _ false (search rules) c.counts.ensures.chosen c.counts.ensures.failures
+    read_made _ _ c.self.view_is _ _ false (search rules) c.counts.ensures.chosen
+    c.counts.ensures.failures
 
 pub returns-then-not-counts-clause-succeeds : goal.returns-then-not-counts-clause-succeeds
 returns-then-not-counts-clause-succeeds c = (returns-then-not-counts-clause-call c).success
@@ -14,7 +15,8 @@ returns-then-not-counts-clause-counted c = (returns-then-not-counts-clause-call 
 
 pub returns-clause-call : goal.returns-clause-call
 returns-clause-call c =
-    read_made _ _ c.self.view_is _ _ true (search rules) c.counts.ensures.chosen c.counts.ensures.failures
+    read_made _ _ c.self.view_is _ _ true (search rules) c.counts.ensures.chosen
+    c.counts.ensures.failures
 
 pub returns-clause-succeeds : goal.returns-clause-succeeds
 returns-clause-succeeds c = (returns-clause-call c).success

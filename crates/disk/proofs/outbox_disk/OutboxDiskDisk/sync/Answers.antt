@@ -7,4 +7,5 @@ invariant_of-self-2 c = readable_synced _ _ _ c.note.ensures c.self.invariant
 pub returns-clause-call : goal.returns-clause-call
 returns-clause-call c =
     let ended = c.in_ok-ended.ensures in
-    makes_sync c.args.self.now _ _ _ _ c.self.view_is c.note.ensures ended.told ended.count (few_of _ _ _ ended.ok)
+    makes_sync c.args.self.now _ _ _ _ c.self.view_is c.note.ensures ended.told ended.count
+    (few_of _ _ _ ended.ok)

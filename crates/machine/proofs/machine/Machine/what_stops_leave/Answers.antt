@@ -6,5 +6,7 @@ use Rattle.machine.proofs.machine.Machine.what_stops_leave.Goals as goal
 
 pub returns : goal.returns
 returns c =
-    let known = sym (ap (λ d. (outbox_state d).faithful) c.disk.ensures) ∙ c.what_always_holds-2.ensures in
-    subst (λ m. LeavesEach m.board) c.self.view_is (leaves_each c.self.inside.board c.what_always_holds.ensures.tied known)
+    let known = sym (ap (λ d. (outbox_state d).faithful) c.disk.ensures)
+    ∙ c.what_always_holds-2.ensures in
+    subst (λ m. LeavesEach m.board) c.self.view_is
+    (leaves_each c.self.inside.board c.what_always_holds.ensures.tied known)

@@ -14,8 +14,14 @@ returns-clause-made c = grind (arith, rolls)
 
 pub returns-clause-named : goal.returns-clause-named
 returns-clause-named c =
-    c.answer.ensures.named ∙ named_by c.args.self.now c.make_room.new.self c.parts-job.result.0.guest (c.make_room.ensures.made ∙ ap roomy c.plan.ensures.same)
-    ∙ ap (λ job. record { life = c.args.self.now.life; guest = job.guest; number = c.args.self.now.folded + length c.args.self.now.history }) c.parts-job.ensures.job
+    c.answer.ensures.named ∙ named_by c.args.self.now c.make_room.new.self
+    c.parts-job.result.0.guest (c.make_room.ensures.made ∙ ap roomy c.plan.ensures.same)
+    ∙ ap (λ job. record {
+      life = c.args.self.now.life;
+      guest = job.guest;
+      number =
+          c.args.self.now.folded + length c.args.self.now.history;
+    }) c.parts-job.ensures.job
 
 pub returns-clause-total : goal.returns-clause-total
 returns-clause-total c = grind (arith, count_one)

@@ -6,4 +6,8 @@ pub loop-i-init : goal.loop-i-init
 loop-i-init g c = (refl, refl, flows_none _)
 
 pub loop-i-preserved : goal.loop-i-preserved
-loop-i-preserved g c = (search rules, search rules, flows_out _ _ _ _ _ _ c.loop-i.invariant.2 c.if-not-publish.ensures.replies refl)
+loop-i-preserved g c = (
+  search rules,
+  search rules,
+  flows_out _ _ _ _ _ _ c.loop-i.invariant.2 c.if-not-publish.ensures.replies refl,
+)

@@ -9,4 +9,7 @@ returns-clause-keeps g c first keeps =
     let e = c.advance.ensures in
     let shows = g.D.Disk.state in
     let makes = g.D.Disk.makes in
-    keeps_advanced shows makes g.met.D.Disk.effect first _ _ (with_marks c.advance.new.self.guests c.advance.result) (subst (Keeps shows makes first) (sym c.self.view_is) keeps) refl (λ broken. (e.answers.refused broken).1) e.moves e.round e.front e.any_moment e.held
+    keeps_advanced shows makes g.met.D.Disk.effect first _ _
+    (with_marks c.advance.new.self.guests c.advance.result)
+    (subst (Keeps shows makes first) (sym c.self.view_is) keeps) refl (λ broken.
+    (e.answers.refused broken).1) e.moves e.round e.front e.any_moment e.held

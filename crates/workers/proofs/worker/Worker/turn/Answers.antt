@@ -10,9 +10,11 @@ returns-clause-works g c =
       collected = b.collected;
       published = e.published;
       of_jobs = flows_through _ _ _ _ _ c.in_ok-exchange.ensures.jobs
-          (flows_between c.in_ok-consulted.ensures.jobs c.prepare.ensures.jobs (ap (λ line. line.items) c.close.ensures.rest.1));
+          (flows_between c.in_ok-consulted.ensures.jobs c.prepare.ensures.jobs
+          (ap (λ line. line.items) c.close.ensures.rest.1));
       of_replies = flows_past _ _ _ _ _ c.in_ok-exchange.ensures.replies
-          (flows_between c.in_ok-consulted.ensures.replies (ap (λ line. line.items) c.prepare.ensures.rest.1) c.close.ensures.replies);
+          (flows_between c.in_ok-consulted.ensures.replies
+          (ap (λ line. line.items) c.prepare.ensures.rest.1) c.close.ensures.replies);
       counted = search rules;
       is = c.next_after.ensures;
     }
