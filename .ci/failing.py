@@ -160,7 +160,8 @@ def check_performed(room, name, program, version, call):
     outcomes = {"".join(right): LINES}
     for at, last in itertools.product(reversed(range(LINES)), (held, failed)):
         outcomes["".join([*right[:at], last[at], *failed[at + 1 :]])] = at
-    if not printed and is_made and left(folder) == fresh(version):
+    if status and not printed and is_made and left(folder) == fresh(version):
+        # (it was refused at its opening)
         return 0, True
     if (status, fault) != ((1, DISK_FAULT) if is_made else (0, "")) or printed not in outcomes:
         raise Wrong(f"{name}: {status}, {fault!r}, and it printed\n{printed}")
