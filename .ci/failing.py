@@ -1,5 +1,6 @@
 """Commands over an image of which one call fails, each call in turn: what is told, that no call is made behind the one
-that failed, and what a stop then leaves. On images of both versions.
+that failed, and what a stop then leaves. On images of both versions. So does `play`, which performs the same lines
+through the library.
 
 The lines are those of examples/seven_lines. What is wanted is made here, by docs/FORMATS.md.
 """
@@ -9,13 +10,14 @@ import itertools
 import shutil
 import struct
 
-from programs import DISK_FAULT, KEY, RESULT, Wrong, chain, each, frame, key_line
+from programs import DISK_FAULT, KEY, RESULT, Wrong, chain, each, frame, key_line, left
 
 ONE = 'image = "board.img"\n[[guest]]\ncapacity = 1\n'
 THREE = ONE + '[[guest]]\ncapacity = 1\nring = "packed"\nindirect = true\n[[guest]]\ncapacity = 1\n'
 NONCE = int.from_bytes(bytes(range(16)), "big")
 OUTSIDE = "store 0 1048576 00\nchain 0 - 16\n"
 OUT_OF_RANGE = "rpmbd: 1 OutOfRange\n"
+PLAY = ["play", "script.txt", "open", "board.img", "1,16,16,1048576,16,0,0,1,0,1"]
 VERSIONS = (1, 2)
 LINES = 7
 CHANGES = (0, 1, 5)
@@ -90,11 +92,6 @@ def words(verb, version=1):
     return ["rpmbd", verb, *flags, "board.toml", *["script.txt"] * (verb in ("run", "serve"))]
 
 
-def left(folder):
-    with open(f"{folder}/board.img", "rb") as it:
-        return it.read()
-
-
 def performed(room, named, script, image, call, board=ONE):
     """What a command over an image tells, of which this call fails, or none, its folder, and how many calls it made."""
     folder = room.folder({"board.toml": board, "script.txt": script, "board.img": image})
@@ -102,20 +99,32 @@ def performed(room, named, script, image, call, board=ONE):
     return tuple(ended), folder, calls["disk"]
 
 
+def some_of(places):
+    """Combinations of the writes since the last sync: all of few; of many none, one, all but one, and all."""
+    sizes = range(len(places) + 1) if len(places) <= 5 else (0, 1, len(places) - 1, len(places))
+    return itertools.chain.from_iterable(itertools.combinations(places, it) for it in sizes)
+
+
+def filled(image, places, content):
+    """The image with other bytes at these places."""
+    image = bytearray(image)
+    for at, length in places:
+        image[at : at + length] = content(at, length)
+    return bytes(image)
+
+
 def stops(folder):
-    """The images that a stop may leave: what the last sync left, what reads give, and with zeros, or bytes that open
-    gates, at the places that were written since."""
+    """The images that a stop may leave: what the last sync left, with some of the writes since, and with zeros, or bytes
+    that open gates, at the places that were written since."""
     with open(f"{folder}/stop.synced", "rb") as it:
-        yield it.read()
+        synced = it.read()
     seen = left(folder)
-    yield seen
     with open(f"{folder}/stop.places", encoding="ascii") as it:
-        places = [tuple(map(int, line.split())) for line in it]
+        places = sorted({tuple(map(int, line.split())) for line in it})
+    for made in some_of(places):
+        yield filled(synced, made, lambda at, length: seen[at : at + length])
     for byte in (b"\0", b"\xa5"):
-        filled = bytearray(seen)
-        for at, length in places:
-            filled[at : at + length] = byte * length
-        yield bytes(filled)
+        yield filled(seen, places, lambda at, length, byte=byte: byte * length)
 
 
 def show(room, image, board=ONE):
@@ -226,6 +235,35 @@ def sweep_served(room, version):
             return call, count
 
 
+def check_played(room, image, call):
+    """The lines played through the library, of which this call fails: whether it was made, and how many stops there
+    were. An opening that failed has told nothing."""
+    folder = room.folder({"script.txt": "".join(asked()), "board.img": image})
+    status, printed, fault, calls = room.run(folder, PLAY, f"disk {call}")
+    broke, count = calls["disk"] >= call, 0
+    try:
+        if printed or not broke:
+            if (status, fault) != ((1, DISK_FAULT) if broke else (0, "")):
+                raise Wrong(f"{status}, {fault!r}")
+            count = check_left(room, folder, [told_by(printed.splitlines(True), 0, 1)])
+        elif not status or left(folder) != image:
+            raise Wrong("an opening that failed says nothing, or changed the image")
+    except Wrong as wrong:
+        raise Wrong(f"play, version {image[512]}, disk {call}: {wrong}") from None
+    shutil.rmtree(folder)
+    return broke, count
+
+
+def sweep_played(room, version):
+    """Each call that fails in turn, until a run makes fewer. How many runs and stops."""
+    count = 0
+    for call in itertools.count(1):
+        broke, more = check_played(room, fresh(version), call)
+        count += more
+        if not broke:
+            return call, count
+
+
 def check_call(room, named, script, image, call, wanted, becomes):
     """A command over an image told what is wanted, made the call that failed and none behind it, and left the image as
     this, where it is told."""
@@ -291,7 +329,7 @@ def sweep_upgrades(room):
 
 def sweep_calls_of_the_disk(room):
     """Each call of the image that fails in turn, and none behind the last; a bad line, before any call is made."""
-    tried = [sweep(room, version) for version in VERSIONS for sweep in (sweep_runs, sweep_served)]
+    tried = [sweep(room, version) for version in VERSIONS for sweep in (sweep_runs, sweep_served, sweep_played)]
     tried.append(sweep_upgrades(room))
     runs, count = (sum(it) for it in zip(*tried))
     for version in VERSIONS:

@@ -17,6 +17,8 @@ VERBS = ("run", "serve", "format", "show", "upgrade")
 NO_MEMORY, FILE_FAULT, DISK_FAULT = (f"rpmbd: {it}\n" for it in ("2 NoMemory", "21 FileFault", "10 DiskFault"))
 FAULTS = {"alloc": {NO_MEMORY}, "io": {FILE_FAULT, DISK_FAULT}, "short": {DISK_FAULT}, "open": {FILE_FAULT}}
 BOARD = 'image = "board.img"\n[[guest]]\ncapacity = 1\n[[guest]]\ncapacity = 1\nring = "packed"\nindirect = true\n'
+IN_ORDER = BOARD.replace("capacity = 1\n", "capacity = 1\nin_order = true\n")
+ARCHIVE = "crates/rpmb_host/out/librpmb_host.a"
 KEY = bytes([0x11]) * 32
 
 
@@ -39,18 +41,24 @@ class Room:
 
     def __init__(self, top, given):
         self.top = top
-        for name in ("sweeps", "rpmbd", "rpmb"):
+        for name in ("rpmbd", "rpmb"):
             found = f"{given}/{name}" if given else f"crates/{name}/out/{name}"
             if not os.path.isfile(found):
                 raise Wrong(f"there is no {found}: run rt ci first")
             shutil.copyfile(found, f"{top}/{name}")
             os.chmod(f"{top}/{name}", 0o755)
         self.shim = f"{top}/refuse.so"
+        self.compile(self.shim, ".ci/refuse.c", "-shared", "-fPIC")
+        if not os.path.isfile(ARCHIVE):
+            raise Wrong(f"there is no {ARCHIVE}: run .ci/embedding first")
+        kit = os.path.dirname(os.path.dirname(os.path.realpath(shutil.which("rt") or "rt")))
+        self.compile(f"{top}/play", "embedding/play.c", ARCHIVE, f"{kit}/c/liblibc_c.a")
+
+    def compile(self, made, *words):
         compiler = shlex.split(os.environ.get("CC") or "cc")
         if not shutil.which(compiler[0]):
             raise Wrong(f"there is no C compiler {compiler[0]}: set CC")
-        flags = "-O1 -Wall -Wextra -Werror -shared -fPIC -o".split()
-        subprocess.run([*compiler, *flags, self.shim, ".ci/refuse.c"], check=True)
+        subprocess.run([*compiler, "-O1", "-Wall", "-Wextra", "-Werror", "-o", made, *words], check=True)
 
     def folder(self, files):
         """A new folder with these files."""
@@ -161,13 +169,28 @@ def check_lines(printed, whole):
     return bool(failed)
 
 
-def image_of(room, rounds):
-    """An image on which both guests have written so often."""
+def left(folder):
+    with open(f"{folder}/board.img", "rb") as it:
+        return it.read()
+
+
+def image_of(room, rounds, version=1):
+    """An image of this version on which both guests have written so often."""
     folder = room.folder({"board.toml": BOARD, "script.txt": script(rounds)})
-    for words in (["format", "board.toml"], ["run", "board.toml", "script.txt"]):
+    format_it = ["format", "--image-version", str(version), "board.toml"]
+    for words in (format_it, ["run", "board.toml", "script.txt"]):
         if room.run(folder, ["rpmbd", *words])[0]:
             raise Wrong(f"rpmbd {words[0]} makes no image")
         if not rounds:
             break
-    with open(f"{folder}/board.img", "rb") as it:
-        return it.read()
+    return left(folder)
+
+
+def gated_image(room, image):
+    """What a call that fails leaves of an image on which nobody has written: guest 0's gate of slot A is open."""
+    for call in range(1, 100):
+        folder = room.folder({"board.toml": BOARD, "script.txt": script(0), "board.img": image})
+        room.run(folder, ["rpmbd", "run", "board.toml", "script.txt"], f"disk {call}")
+        if left(folder)[1536] == 0xA5:
+            return left(folder)
+    raise Wrong("no failed call leaves an open gate")
