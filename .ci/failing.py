@@ -114,8 +114,8 @@ def filled(image, places, content):
 
 
 def stops(folder):
-    """The images that a stop may leave: what the last sync left, with some of the writes since, and with zeros, or bytes
-    that open gates, at the places that were written since."""
+    """The images that a stop may leave: what the last sync left, with some of the writes since, and with zeros, or
+    bytes that open gates, at the places that were written since."""
     with open(f"{folder}/stop.synced", "rb") as it:
         synced = it.read()
     seen = left(folder)
