@@ -20,8 +20,7 @@ use workers::parts_of;
 /// More calls than any store has before it.
 const CALLS: u32 = 1_000_000;
 
-/// A book and its store. Its methods promise nothing, so that what stands above them is proved
-/// without the contracts of either.
+/// A book and its store. Its methods promise nothing, for the same reason as those of `Subject`.
 trait Desk: Drop {
     /// Has the book answer a job; what memory is left.
     fn submit(&mut self, alloc: Global, job: Checked) -> Result<Rooms, Stop>;

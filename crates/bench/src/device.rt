@@ -14,8 +14,7 @@ use rpmb_frame::{BoardConfig, RingKind};
 /// The bytes of the longest request.
 const LONGEST: usize = 8704;
 
-/// What takes chains to their end. Its method promises nothing, so that what stands above it is
-/// proved without a host's contract.
+/// What takes chains to their end. Its method promises nothing, for the same reason.
 trait Chains: Drop {
     fn end_of(&mut self, request: &[u8], kind: Kind) -> Result<Answer, Stop>;
 }
