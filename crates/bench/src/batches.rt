@@ -2,12 +2,10 @@
 use crate::clock::{Extent, Row, Stop, Times};
 use crate::requests::Kind;
 
-/// So many requests are made before the clock runs for them, since making a write costs a MAC: as
-/// many as a worker of `rpmbd serve` takes under one lock.
+/// So many are made before the clock runs: as many as a worker takes under one lock.
 const BATCH: u32 = 8;
 
-/// What answers requests. Its methods promise nothing, so that what stands above them is proved
-/// without the contracts of hosts, books and stores.
+/// What answers requests. Its methods promise nothing, so what stands above is proved cheaply.
 pub trait Subject {
     /// Makes a request under a write counter, behind others.
     fn offer(&mut self, kind: Kind, counter: u32) -> Result<(), Stop>;
@@ -58,8 +56,7 @@ fn take_batches<S: Subject>(
     all
 }
 
-/// Times requests of a kind behind the one for the key and those that warm what answers them, in
-/// whole batches.
+/// Times whole batches of a kind, behind the key's request and those that warm what answers them.
 pub fn time_kind<S: Subject>(
     rt: &HostRuntime,
     subject: &mut S,

@@ -3,7 +3,7 @@
 //! the memory of the answers. Neither waits for the lock nor what the flusher does under it is here.
 use crate::batches::{Subject, time_kind};
 use crate::clock::{Extent, NO_MEMORY, Stop, Times, Took, now, plus, print_row, since};
-use crate::images::{board_of, new_board};
+use crate::images::{board_of, new_disk, opened_board};
 use crate::requests::{KEY, Kind, mixed};
 use board::Parts;
 use chains::Range;
@@ -12,7 +12,7 @@ use flusher::Made;
 use hmac256::MacKey;
 use mmio_transport::Job;
 use rpmb_book::{Checked, Due, Rooms};
-use rpmb_frame::{GuestConfig, Limits, RingKind};
+use rpmb_frame::{BoardConfig, Limits, RingKind};
 use std::alloc::Global;
 use std::collections::VecDeque;
 use workers::parts_of;
@@ -20,8 +20,7 @@ use workers::parts_of;
 /// More calls than any store has before it.
 const CALLS: u32 = 1_000_000;
 
-/// A book and its store. Its methods promise nothing, so that what stands above them is proved
-/// without the contracts of either.
+/// A book and its store. Its methods promise nothing, for the same reason as those of `Subject`.
 trait Desk: Drop {
     /// Has the book answer a job; what memory is left.
     fn submit(&mut self, alloc: Global, job: Checked) -> Result<Rooms, Stop>;
@@ -108,11 +107,19 @@ struct Books<D: Desk> {
     sum: u32,
 }
 
-fn books_of<D: Desk>(alloc: Global, desk: D) -> Books<D> {
+/// The limits of the guest.
+fn limits_of(config: &BoardConfig) -> Result<Limits, Stop> {
+    match config.guests().first() {
+        Some(guest) => Ok(Limits::of(guest)),
+        None => Err("no guest"),
+    }
+}
+
+fn books_of<D: Desk>(alloc: Global, desk: D, limits: Limits) -> Books<D> {
     Books {
         alloc,
         desk,
-        limits: Limits::of(&GuestConfig::of_capacity(1)),
+        limits,
         key: MacKey::new(&KEY),
         jobs: VecDeque::new(alloc),
         prepared: VecDeque::new(alloc),
@@ -252,8 +259,10 @@ fn time_locked(
     kind: Kind,
 ) -> Result<(), Stop> {
     let config = board_of(rt.alloc(), RingKind::Split)?;
-    let board = new_board(rt.alloc(), &config)?;
-    let mut books = books_of(rt.alloc(), parts_of(board, &config));
+    let disk = new_disk(rt.alloc(), &config)?;
+    let board = opened_board(rt.alloc(), disk, &config)?;
+    let limits = limits_of(&config)?;
+    let mut books = books_of(rt.alloc(), parts_of(board, &config), limits);
     let names = (name, "what is done outside of the lock");
     let row = time_kind(rt, &mut books, kind, extent, names);
     print_row(rt, extent, &row)

@@ -4,7 +4,6 @@ use std::time::{Duration, Instant};
 /// Why a work came to no end.
 pub type Stop = &'static str;
 
-/// Memory was refused.
 pub const NO_MEMORY: Stop = "no memory";
 
 /// How long a work took, or why it came to no end.
@@ -59,7 +58,6 @@ pub fn plus(all: Took, more: Took) -> Took {
 }
 
 impl Times {
-    /// Of no work.
     pub fn none() -> Times {
         Times {
             own: Ok(Duration::from_nanos(0)),

@@ -3,7 +3,7 @@ ghost use Rattle.host.specs.Opening.{IsJustOpened};
 
 use crate::batches::{Subject, time_kind};
 use crate::clock::{Extent, NO_MEMORY, Row, Stop, Times, now, print_row, since};
-use crate::images::{board_of, new_board};
+use crate::images::{board_of, new_disk, opened_board};
 use crate::macs::time_keyed;
 use crate::requests::{Kind, mixed};
 use board::Board;
@@ -14,8 +14,7 @@ use rpmb_frame::{BoardConfig, RingKind};
 /// The bytes of the longest request.
 const LONGEST: usize = 8704;
 
-/// What takes chains to their end. Its method promises nothing, so that what stands above it is
-/// proved without a host's contract.
+/// What takes chains to their end. Its method promises nothing, for the same reason.
 trait Chains: Drop {
     fn end_of(&mut self, request: &[u8], kind: Kind) -> Result<Answer, Stop>;
 }
@@ -115,7 +114,8 @@ fn time_ring(
     kind: Kind,
 ) -> Result<(), Stop> {
     let config = board_of(rt.alloc(), ring)?;
-    let board = new_board(rt.alloc(), &config)?;
+    let disk = new_disk(rt.alloc(), &config)?;
+    let board = opened_board(rt.alloc(), disk, &config)?;
     let row = time_host(rt, board, &config, kind, extent, (name, "its MACs"))?;
     print_row(rt, extent, &row)
 }

@@ -41,12 +41,19 @@ fn make_image<D: Disk>(disk: &mut D, board: &BoardConfig) -> Result<(), Stop> {
     format(disk, board).ok().ok_or("no image")
 }
 
-/// The board over a fresh image, of which no step was made.
-pub fn new_board(alloc: Global, config: &BoardConfig) -> Result<Board<MemDisk>, Stop>
-    ensures { IfOk result (λ b. IsJustOpened MemDisk.state config.now b) }
+/// A disk in memory with the fresh image of a board.
+pub fn new_disk(alloc: Global, board: &BoardConfig) -> Result<MemDisk, Stop> {
+    let mut disk = blank_disk(alloc, board)?;
+    match make_image(&mut disk, board) {
+        Ok(()) => Ok(disk),
+        Err(stop) => Err(stop),
+    }
+}
+
+/// The board over an image, of which no step was made.
+pub fn opened_board<D: Disk>(alloc: Global, disk: D, config: &BoardConfig) -> Result<Board<D>, Stop>
+    ensures { IfOk result (λ b. IsJustOpened D.state config.now b) }
 {
-    let mut disk = blank_disk(alloc, config)?;
-    make_image(&mut disk, config)?;
     match Board::open(alloc, disk, LIFE, config) {
         Ok(board) => Ok(board),
         Err(_) => Err("no image of the board"),

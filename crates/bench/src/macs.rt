@@ -5,8 +5,7 @@ use crate::clock::{Extent, Row, Stop, Times, Took, now, print_row, since};
 use crate::requests::KEY;
 use hmac256::MacKey;
 
-/// So many MACs of this many frames, with the pads hashed once; the answer is their first bytes,
-/// mixed.
+/// So many MACs of this many frames; the answer is their first bytes, mixed.
 fn keyed_macs(count: u32, frames: usize) -> u8
     requires { frames ≤ 16 }
 {
@@ -20,8 +19,7 @@ fn keyed_macs(count: u32, frames: usize) -> u8
     all
 }
 
-/// Times so many MACs of this many frames, at most 16, with the pads hashed once; and what they
-/// came to.
+/// Times so many MACs of this many frames, at most 16; and what they came to.
 pub fn time_keyed(rt: &HostRuntime, count: u32, frames: usize) -> (Took, u8) {
     let start = now(rt);
     let sum = keyed_macs(count, frames.min(16));

@@ -1,16 +1,9 @@
 //! Times what can't be seen from outside of the programs, `bench WORK COUNT`; `.ci/speed` times the
-//! rest. WORK is
-//!
-//! - `macs`: MACs of one frame;
-//! - `device`: whole requests of one guest, with a split queue and with a packed one, against the
-//!   MACs that they need;
-//! - `lock`: what a worker of `rpmbd serve` calls under the book's lock, a Submit and a Collect for
-//!   each request, against what it does with no lock held.
-//!
-//! Before the requests that are timed come that for the key and 20,000 of the kind, so that the
-//! history, which holds 16,384, has rolled once. Writes are settled by a store over a disk in
-//! memory: no sync of a real disk is in a time. Without arguments a few of each work are done, and
-//! what is printed shows that they were, by no times.
+//! rest. WORK is `macs`; `device`, whole requests of one guest against the MACs that they need; or
+//! `lock`, what a worker of `rpmbd serve` calls under the book's lock. Before the requests that are
+//! timed come that for the key and 20,000 of the kind, so that the history, which holds 16,384, has
+//! rolled once; writes are settled on a disk in memory. Without arguments a few of each are done,
+//! and numbers show that they were.
 #![tactic(auto)]
 
 mod batches;
@@ -28,7 +21,6 @@ use macs::time_macs;
 use std::env;
 use std::process::ExitCode;
 
-/// After so many requests the history, which holds 16,384, has rolled once.
 const WARM: u32 = 20_000;
 
 /// Does the work of this name.

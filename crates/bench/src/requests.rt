@@ -74,8 +74,7 @@ impl Kind {
         }
     }
 
-    /// Puts a request under a write counter behind others: its frame, and the one that asks for its
-    /// result.
+    /// Puts a request behind others: its frame, and the one that asks for its result.
     pub fn put(self, requests: &mut Vec<u8>, counter: u32) -> Result<(), Stop> {
         let frame = self.frame(counter);
         requests.extend_from_slice(&frame).ok().ok_or(NO_MEMORY)?;
