@@ -243,6 +243,7 @@ def sweep_command(room, named, image, told, after):
     plain = performed(room, words("format"), "", image, 0)[2] if is_format else calls
     cases = [(call, (1, "", DISK_FAULT), None if is_format else image) for call in range(1, plain + 1)]
     cases += [(call, (1, told, DISK_FAULT), None) for call in range(plain + 1, calls + 1)]
+    told += "upgraded\n" * (calls > plain)
     for call, wanted, becomes in [*cases, (calls + 1, (0, told, ""), after)]:
         check_call(room, named, "", image, call, wanted, becomes)
     return calls + 1
