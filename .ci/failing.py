@@ -274,10 +274,14 @@ def check_call(room, named, script, image, call, wanted, becomes):
 
 
 def sweep_command(room, named, image, told, after):
-    """A command of which each call fails in turn, and none; what it leaves where none does. How many runs."""
+    """A command of which each call fails in turn, and none; what it leaves where none does. How many runs. (A format of
+    version 2 makes an image of version 1 and tells so, and then upgrades it.)"""
     is_format = "format" in named
     calls = performed(room, named, "", image, 0)[2]
-    cases = [(call, (1, "", DISK_FAULT), None if is_format else image) for call in range(1, calls + 1)]
+    plain = performed(room, words("format"), "", image, 0)[2] if is_format else calls
+    cases = [(call, (1, "", DISK_FAULT), None if is_format else image) for call in range(1, plain + 1)]
+    cases += [(call, (1, told, DISK_FAULT), None) for call in range(plain + 1, calls + 1)]
+    told += "upgraded\n" * (calls > plain)
     for call, wanted, becomes in [*cases, (calls + 1, (0, told, ""), after)]:
         check_call(room, named, "", image, call, wanted, becomes)
     return calls + 1
