@@ -60,7 +60,7 @@ fn unformatted<D: Disk>(alloc: Global, task: Task<'_>, disk: Option<&D>) -> Opti
             ).ok()
         }
         _ => {
-            let why = "holds no whole image of this board; put a copy back: format empties it";
+            let why = "is no whole image of this board, or another file; format empties it";
             said(alloc, image, why)
         }
     }

@@ -121,7 +121,7 @@ fn not_opened(rt: &HostRuntime, path: &str, error: &io::Error) -> Refusal {
             refused(
                 rt,
                 path,
-                "isn't there, from this folder; rpmbd format makes a new one",
+                "isn't there, from the folder of this command; rpmbd format makes a new, empty one",
             )
         }
         _ => Refusal::of_call(rt.alloc(), path, error),

@@ -198,7 +198,7 @@ fn refuse(rt: &HostRuntime, error: WordsError) -> u8 {
             }
         }
         WordsError::Incomplete => {
-            let _ = eprintln!(rt; "error: a file is missing, or the version is neither 1 nor 2");
+            let _ = eprintln!(rt; "error: --image-version takes 1 or 2");
             REFUSED
         }
         WordsError::NoMemory => report(Fault::NoMemory, &mut rt.stderr()),

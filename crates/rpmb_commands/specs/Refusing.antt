@@ -42,4 +42,5 @@ told_as (Err f) = Err (refusal_of_fault f)
 -- the status of a command that is refused: 3 where only requests were, and all answers are right
 abbrev pub refusal_status : Refusal → ℕ
 refusal_status (refusal.RefusedAnswer replies refused) = 3
+refusal_status (refusal.Refused result) = 3
 refusal_status r = 1

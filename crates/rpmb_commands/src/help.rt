@@ -81,8 +81,8 @@ Prints the bytes of the blocks that a read gave, and nothing else. Of several li
 `used G LEN HEX` on standard input it takes the one that has the nonce.\n\
 \n\
 Status: 0 where they are printed; 1, and nothing is printed, where the MAC or the nonce\n\
-is wrong, the read was refused, or there is no such answer, with a line on standard error\n\
-that says which; 2 for words that aren't understood.";
+is wrong, or there is no such answer, with a line on standard error that says which; 2 for\n\
+words that aren't understood; 3 where the device refused the read in a right answer.";
 
 pub const CHECK: &str = "\
 Prints `ok` where `rpmbd run` reads the board file, and the script for it where one is\n\
@@ -139,5 +139,5 @@ pub const DO_READ: &str = "\
 Prints the bytes of the blocks, and nothing else.\n\
 \n\
 Status: 0 where they are printed; 1, and nothing is printed, where a value is refused, the\n\
-MAC or the nonce was wrong, the device refused the read, or the board or its image came to\n\
-a fault; 2 for words that aren't understood.";
+MAC or the nonce was wrong, or the board or its image came to a fault; 2 for words that\n\
+aren't understood; 3 where the device refused the read in a right answer.";

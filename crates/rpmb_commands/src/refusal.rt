@@ -29,7 +29,8 @@ pub enum Refusal<'a> {
     PastEnd(u64),
     #[error("CounterEnd: expected write counters of at most 4294967295 for all writes, got {0}")]
     CounterEnd(u64),
-    #[error("FileFault: expected a file that can be read, got {0:?}")]
+    #[error("FileFault: expected a file that can be read, got {0:?}; \
+        is it there, a file, and yours?")]
     NoFile(&'a str),
     #[error("FileFault: expected at most {1} bytes in the file {0:?}, got more")]
     TooLong(&'a str, usize),
@@ -46,7 +47,8 @@ pub enum Refusal<'a> {
     NoAnswer(usize, usize),
     #[error("NoFrames: expected a reply of whole frames of 512 bytes, got {0} bytes")]
     NoFrames(usize),
-    #[error("WrongMac: expected the MAC of all frames under the key, got another")]
+    #[error("WrongMac: expected the MAC of all frames under the key, got another, \
+        or none: a guest without a key has zeros there")]
     WrongMac,
     #[error("WrongNonce: expected the nonce that was asked with, got another")]
     WrongNonce,
@@ -79,6 +81,7 @@ impl<'a> Refusal<'a> {
     {
         match self {
             Refusal::RefusedAnswer(_, _) => 3,
+            Refusal::Refused(_) => 3,
             _ => 1,
         }
     }
