@@ -219,7 +219,8 @@ impl Machine {
     /// suffice.
     pub fn outbox(&mut self, out: &mut [u8]) -> Option<(u64, usize)>
         ensures copies { Copies (first_of (writes_in self.old)) (length out.old) result out.new }
-        ensures taken { IfSome result (λ w. self.new.board ≡ telling Told.Taken self.old.board) }
+        ensures taken { IfSome result (λ w. self.new
+            ≡ record self.old { board = telling Told.Taken self.old.board }) }
         ensures none { result ≡ None → (self.new ≡ self.old) × (out.new ≡ out.old) }
     {
         match copy_oldest(self.board.disk(), out) {

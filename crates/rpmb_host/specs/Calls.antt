@@ -149,7 +149,7 @@ pub data GivesNone (at at' : ℕ) (bytes bytes' : List ℕ) (old new : MachineSt
 
 -- it was taken out of the outbox
 abbrev pub Takes : Relation
-Takes old new = new.board ≡ telling Taken old.board
+Takes old new = new ≡ record old { board = telling Taken old.board }
 
 -- the disk's next call fails, it is made, and the book hears of it
 abbrev pub Fails : Relation
