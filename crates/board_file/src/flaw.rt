@@ -44,7 +44,7 @@ pub(crate) fn unknown_board_key(alloc: Global, key: &str, known: &[&str]) -> Boa
     BoardError::of(match near {
         Some(near) => format!(in alloc; "the key {key:?} {text}; {near}?"),
         None if is_among(key, GUEST_KEYS.as_slice()) => {
-            format!(in alloc; "the key {key:?} {text}; it stands below a line [[guest]]")
+            format!(in alloc; "the key {key:?} {text}; it belongs below a line [[guest]]")
         }
         None => format!(in alloc; "the key {key:?} {text}"),
     })
@@ -58,7 +58,7 @@ pub(crate) fn unknown_guest_key(alloc: Global, key: &str, known: &[&str]) -> Boa
     BoardError::of(match near {
         Some(near) => format!(in alloc; "the key {key:?} isn't known; {near}?"),
         None if key == "image" => format!(in alloc;
-            "the key {key:?} isn't known; it stands above the first line [[guest]]"
+            "the key {key:?} isn't known; it belongs above the first line [[guest]]"
         ),
         None => format!(in alloc; "the key {key:?} isn't known"),
     })
