@@ -2,48 +2,21 @@
 
 use crate::fault::LineError;
 use hex::FromHexError;
-use std::alloc::{AllocError, Global};
-
-/// How many letters of a word a message shows: a word may be a key, or a whole file.
-const SHOWN: usize = 16;
-
-/// The first letters of a word.
-fn front_of(alloc: Global, word: &str) -> Result<String, AllocError> {
-    let mut front = String::new(alloc);
-    for letter in word.chars().take(SHOWN) {
-        front.push(letter)?;
-    }
-    Ok(front)
-}
-
-/// A word as a message shows it, with two dots for what is left out.
-fn shown(alloc: Global, word: &str) -> Result<String, AllocError> {
-    let front = front_of(alloc, word)?;
-    let rest = if front.len() < word.len() { ".." } else { "" };
-    format!(in alloc; "{:?}{rest}", front.as_str())
-}
-
-/// The refusal that shows a word behind what was expected.
-fn other_word(alloc: Global, expected: Result<String, AllocError>, word: &str) -> LineError {
-    match (expected, shown(alloc, word)) {
-        (Ok(expected), Ok(word)) => LineError::of(format!(in alloc; "{expected}, got {word}")),
-        _ => LineError::NoMemory,
-    }
-}
+use std::alloc::Global;
 
 /// The second word is no guest of the board.
 pub(crate) fn no_guest(alloc: Global, word: &str, guests: u16) -> LineError {
     let last = guests.saturating_sub(1);
-    let expected = format!(in alloc; "word 2: expected a guest of the board, 0 to {last}");
-    other_word(alloc, expected, word)
+    LineError::of(format!(in alloc;
+        "word 2: expected a guest of the board, 0 to {last}, got {word:?}"
+    ))
 }
 
 /// The word at a place, counted from 1, is no number up to this one.
 pub(crate) fn no_number(alloc: Global, place: usize, word: &str, most: u64) -> LineError {
-    let expected = format!(in alloc;
-        "word {place}: expected decimal digits of a number from 0 to {most}"
-    );
-    other_word(alloc, expected, word)
+    LineError::of(format!(in alloc;
+        "word {place}: expected decimal digits of a number from 0 to {most}, got {word:?}"
+    ))
 }
 
 /// The word at a place is no hex digits, and no dash.
@@ -79,40 +52,31 @@ pub(crate) fn served_store(alloc: Global) -> LineError {
     ))
 }
 
-/// Which words stand behind a command that a script may say, and how many.
-fn wanted_behind(command: &str) -> Option<(usize, &'static str)> {
+/// How many words stand behind a command that a script may say.
+fn wanted_behind(command: &str) -> Option<usize> {
     match command {
-        "chain" => Some((3, "guest, bytes, room for the answer")),
-        "store" => Some((3, "guest, address, bytes")),
-        "reset" => Some((1, "guest")),
+        "chain" | "store" => Some(3),
+        "reset" => Some(1),
         _ => None,
-    }
-}
-
-/// The first word is no command.
-fn no_command(alloc: Global, command: &str) -> LineError {
-    let hint = if command.starts_with('[') || command == "image" {
-        "; it looks like a board file, which comes first"
-    } else {
-        ""
-    };
-    match shown(alloc, command) {
-        Ok(word) => LineError::of(format!(in alloc;
-            "word 1: expected chain, store or reset, got {word}{hint}"
-        )),
-        Err(_) => LineError::NoMemory,
     }
 }
 
 /// The first word is no command, or none that so many words stand behind.
 pub(crate) fn misshapen(alloc: Global, command: &str, given: usize) -> LineError {
-    match wanted_behind(command) {
-        Some((wanted, names)) => LineError::of(format!(in alloc;
-            "expected {wanted} words behind the first ({names}), got {given}{}",
+    LineError::of(match wanted_behind(command) {
+        Some(wanted) => format!(in alloc;
+            "expected {wanted} words behind the first, got {given}{}",
             if given > 3 { " or more" } else { "" }
-        )),
-        None => no_command(alloc, command),
-    }
+        ),
+        None => format!(in alloc;
+            "word 1: expected chain, store or reset, got {command:?}{}",
+            if command.starts_with('[') || command == "image" {
+                "; it looks like a board file, which comes first"
+            } else {
+                ""
+            }
+        ),
+    })
 }
 
 /// No line has so many words.
