@@ -167,20 +167,41 @@ fn line_at(text: &str, place: usize) -> (usize, &str) {
     )
 }
 
+/// What a text has to be that is no TOML, where that can be said better than its reader does.
+fn cause_of(message: &str) -> &str {
+    match message {
+        "duplicate key" => "expected each key once",
+        _ if message.starts_with("invalid value") => {
+            "expected a number, true, false or a text in quotes"
+        }
+        _ => message,
+    }
+}
+
+/// The first letters of a word, and two dots where it has more: it may be of any file.
+fn front_of(word: &str) -> (&str, &'static str) {
+    match word.char_indices().nth(16) {
+        Some((end, _)) => (word.get(..end).unwrap_or(""), ".."),
+        None => (word, ""),
+    }
+}
+
 /// The text is no TOML.
 pub(crate) fn no_toml(alloc: Global, text: &str, error: &toml::de::Error) -> BoardError {
-    let place = error.span().map_or(0, |span| span.start);
-    let (number, line) = line_at(text, place);
-    let message = error.message();
+    let span = error.span().unwrap_or(0..0);
+    let (number, line) = line_at(text, span.start);
     let is_of_script = ["chain ", "store ", "reset "]
         .iter()
         .any(|word| line.starts_with(*word));
-    BoardError::of(format!(in alloc;
-        "line {number} is no TOML: {message}{}",
-        if is_of_script {
-            "; it looks like a script, and the board comes first"
-        } else {
-            ""
-        }
-    ))
+    let hint = if is_of_script {
+        "; it looks like a script, and the board comes first"
+    } else {
+        ""
+    };
+    let (word, more) = front_of(text.get(span).unwrap_or(""));
+    let cause = cause_of(error.message());
+    BoardError::of(match word {
+        "" => format!(in alloc; "line {number} is no TOML: {cause}{hint}"),
+        _ => format!(in alloc; "line {number} is no TOML: {cause}, got {word:?}{more}{hint}"),
+    })
 }

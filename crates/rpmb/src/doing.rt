@@ -83,6 +83,28 @@ fn answer(
     place.perform(rt, script.as_str(), disk, answers)
 }
 
+/// Whether a reply of lines says that its blocks lie past the end: its last bytes are its result
+/// and its type.
+fn is_past_end(lines: &[u8]) -> bool {
+    lines.split(|byte| *byte == b'\n').any(|line| line.ends_with(b"00040300")
+        || line.ends_with(b"00040400"))
+}
+
+/// Performs a command that reads answers. Where blocks were past the end, that is told behind.
+fn judge<W: Write>(
+    rt: &HostRuntime,
+    place: &Place<'_>,
+    words: &Words<'_>,
+    answers: &[u8],
+    out: &mut W,
+) -> Result<(), Stop> {
+    let judged = command(rt, words, answers, out);
+    if is_past_end(answers) {
+        place.tell_end(rt);
+    }
+    judged
+}
+
 /// Performs the requests that a command makes, and explains the answers, also those before a fault.
 fn ask<W: Write>(
     rt: &HostRuntime,
@@ -98,7 +120,7 @@ fn ask<W: Write>(
         command: "explain",
         ..words
     };
-    let explained = command(rt, &words, answers.as_slice(), out);
+    let explained = judge(rt, place, &words, answers.as_slice(), out);
     match ended {
         Ok(_) => explained,
         Err(stop) => Err(stop),
@@ -123,7 +145,7 @@ fn read<W: Write>(
         command: "read-data",
         ..words
     };
-    command(rt, &words, answers.as_slice(), out)
+    judge(rt, place, &words, answers.as_slice(), out)
 }
 
 /// The write counter that the answer among lines says, where its MAC and its nonce are right.
@@ -196,7 +218,7 @@ fn operate<W: Write>(rt: &HostRuntime, words: Words<'_>, out: &mut W) -> Result<
     let (Some(file), Some(operation)) = (words.board, words.operation) else {
         return Err(told(rt, Refusal::Option(OptionRefusal::Incomplete)));
     };
-    let place = Place::of(rt, file)?;
+    let place = Place::of(rt, file, words.guest.unwrap_or(""))?;
     let disk = place.open(rt)?;
     match operation {
         "read" => read(rt, &place, disk, words, out),

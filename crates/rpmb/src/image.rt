@@ -13,14 +13,17 @@ use commands::{
 };
 use disk::{Disk, FileDisk};
 use rpmb_frame::BoardConfig;
+use script::read_number;
+use std::alloc::Global;
 
 /// What a script of requests is called where it is told of.
 const REQUEST: &str = "the request";
 
-/// A board, and the paths of its file and of its image.
+/// A board, the paths of its file and of its image, and the word of the guest that is asked for.
 #[derive(Drop)]
 pub struct Place<'a> {
     file: &'a str,
+    guest: &'a str,
     board: BoardConfig,
     image: String,
 }
@@ -32,11 +35,24 @@ fn told(rt: &HostRuntime, refusal: &commands::Refusal) -> Stop {
     }
 }
 
+/// The words of a guest that the board lacks.
+fn no_guest(alloc: Global, guest: &str, board: &BoardConfig) -> Option<String> {
+    match board.guests().len().saturating_sub(1) {
+        0 => format!(in alloc; "--guest {guest}: the board has guest 0 alone").ok(),
+        last => format!(in alloc; "--guest {guest}: the board has guests 0 to {last}").ok(),
+    }
+}
+
 impl<'a> Place<'a> {
     /// Reads a board file. Refused where it can't be read, is no board, or names no image.
-    pub fn of(rt: &HostRuntime, file: &'a str) -> Result<Place<'a>, Stop> {
+    pub fn of(rt: &HostRuntime, file: &'a str, guest: &'a str) -> Result<Place<'a>, Stop> {
         match read_image_board(rt, file) {
-            Ok((board, image)) => Ok(Place { file, board, image }),
+            Ok((board, image)) => Ok(Place {
+                file,
+                guest,
+                board,
+                image,
+            }),
             Err(refusal) => Err(told(rt, &refusal)),
         }
     }
@@ -50,7 +66,18 @@ impl<'a> Place<'a> {
         }
     }
 
-    /// Tells in the words of `rpmbd` the fault that ended a script, and why.
+    /// Tells where the blocks of the guest end.
+    pub fn tell_end(&self, rt: &HostRuntime) {
+        let (file, number) = (self.file, self.guest);
+        let guests = self.board.guests();
+        if let Some(guest) = read_number(number).and_then(|number| guests.get(number as usize)) {
+            let last = (512 * u32::from(guest.capacity)).saturating_sub(1);
+            let _ = eprintln!(rt; "{file}: the last block of guest {number} is {last}");
+        }
+    }
+
+    /// Tells in the words of `rpmbd` the fault that ended a script, and why. Of what stands in its
+    /// lines only the guest can be one that the board lacks.
     fn tell_fault<D: Disk>(
         &self,
         rt: &HostRuntime,
@@ -70,7 +97,10 @@ impl<'a> Place<'a> {
         };
         let mut err = rt.stderr();
         let status = report(fault, &mut err);
-        let reason = reason_of_end(rt.alloc(), task, fault, Some(disk), answers);
+        let reason = match fault {
+            Fault::BadScript { .. } => no_guest(rt.alloc(), self.guest, &self.board),
+            _ => reason_of_end(rt.alloc(), task, fault, Some(disk), answers),
+        };
         write_reason(reason.as_ref(), &mut err);
         Stop { status }
     }

@@ -21,6 +21,6 @@ pub fn random_nonce<'a>(rt: &HostRuntime) -> Result<String, Refusal<'a>> {
             Ok(digits) => Ok(digits),
             Err(_) => Err(Refusal::NoMemory),
         },
-        Err(_) => Err(Refusal::NoFile(RANDOM)),
+        Err(_) => Err(Refusal::NoFile(RANDOM, "a read of it failed")),
     }
 }

@@ -29,11 +29,12 @@ judging_of judge = record { keys = keys_seen judge.keys; nonce = judge.nonce }
 abbrev pub key_of : Judging → ℕ → Option (List ℕ)
 key_of by guest = key_for by.keys.own by.keys.others guest
 
--- what stands behind a line that gives no reply: one that begins as those that do was torn
+-- a line that gives no reply was torn where it begins as those that do; what stands behind it
+abbrev pub is_torn : List ℕ → Bool
+is_torn line = starts_with nat_eq line (codes "used")
+
 abbrev pub mark_of : List ℕ → List ℕ
-mark_of line =
-    if starts_with nat_eq line (codes "used") then codes " (torn: expected `used G LEN HEX`)"
-    else []
+mark_of line = if is_torn line then codes " (torn: expected `used G LEN HEX`)" else []
 
 abbrev pub told_of : Judging → Option Used → List ℕ → List ℕ
 told_of by None line = line ++ (mark_of line ++ 10 ∷ [])
@@ -43,17 +44,18 @@ told_of by (Some used) line =
 unfoldable pub line_told : Judging → List ℕ → List ℕ
 line_told by line = told_of by (used_of line) line
 
--- whether a MAC or a nonce of its reply is wrong, and whether it says that a request was refused
-abbrev pub is_wrong_of : Judging → Option Used → Bool
-is_wrong_of by None = false
-is_wrong_of by (Some used) = is_wrong used.reply (key_of by used.guest) by.nonce
+-- whether it is torn, or a MAC or a nonce of its reply is wrong, and whether it says that a request
+-- was refused
+abbrev pub is_wrong_of : Judging → Option Used → List ℕ → Bool
+is_wrong_of by None line = is_torn line
+is_wrong_of by (Some used) line = is_wrong used.reply (key_of by used.guest) by.nonce
 
 abbrev pub is_refused_of : Option Used → Bool
 is_refused_of None = false
 is_refused_of (Some used) = is_refused used.reply
 
 abbrev pub has_wrong : Judging → List ℕ → Bool
-has_wrong by line = is_wrong_of by (used_of line)
+has_wrong by line = is_wrong_of by (used_of line) line
 
 abbrev pub has_refused : List ℕ → Bool
 has_refused line = is_refused_of (used_of line)

@@ -53,7 +53,7 @@ SaysKey gives (Some said) key = SaysKeyIn gives said.now key
 
 -- why a file gives nothing, of which at most so many bytes are wanted
 pub data IsWhyNoContent (name : Bor (List ℕ)) (most : ℕ) (r : Refusal) : Type 0 where
-  content_file : r ≡ refusal.NoFile name → IsWhyNoContent name most r
+  content_file : (why : Bor (List ℕ)) → r ≡ refusal.NoFile name why → IsWhyNoContent name most r
   content_length : r ≡ refusal.TooLong name most → IsWhyNoContent name most r
   content_memory : r ≡ refusal.NoMemory → IsWhyNoContent name most r
 

@@ -1,12 +1,12 @@
 -- The bytes that `read-data` writes, by its words and the lines that it is given.
-use Rattle.std.specs.Prelude.{ℕ, ◌≡◌, ◌<◌, List, Option, None, Some, Result, Ok, Err, IfErr}
-use Rattle.std.specs.Prelude.{IfSome, OnOk, length}
+use Rattle.std.specs.Prelude.{ℕ, ◌≡◌, ◌<◌, Bool, if◌then◌else◌, List, Option, None, Some}
+use Rattle.std.specs.Prelude.{Result, Ok, Err, IfErr, IfSome, OnOk, length}
 use Rattle.std.specs.Borrow.{Bor}
 use Rattle.std.specs.Io.KnownBytes.{Appends}
 use Rattle.rpmb_client.specs.Answer.{Read, Used, answer_in, blocks, no_frames, other_response}
 use Rattle.rpmb_client.specs.Answer.{read_of, refused, wrong_mac, wrong_nonce}
 use Rattle.rpmb_client.specs.Blocks.{cut}
-use Rattle.rpmb_client.specs.Explained.{kind_text, result_text}
+use Rattle.rpmb_client.specs.Explained.{is_wrong, kind_text, result_text}
 use Rattle.rpmb_client.specs.Options.{number_said}
 use Rattle.rpmb_client.specs.declared.refusal.Number.TheVariants as number
 use Rattle.rpmb_commands.specs.KeySaid.{IsWhyNoKeySaid, SaysKey}
@@ -59,20 +59,24 @@ pub data WhyNoAnswer (nonce text : List ℕ) (r : Refusal) : Type 0 where
   answer_none : answer_in nonce text ≡ None → (count asked : ℕ)
       → r ≡ refusal.NoAnswer count asked → WhyNoAnswer nonce text r
 
--- how a read that gives no blocks is told, of a reply of so many bytes
-abbrev pub IsTold : ℕ → Read → Refusal → Type 0
-IsTold count (blocks all) r = ⊥
-IsTold count no_frames r = r ≡ refusal.NoFrames count
-IsTold count wrong_mac r = r ≡ refusal.WrongMac
-IsTold count wrong_nonce r = r ≡ refusal.WrongNonce
-IsTold count (other_response kind) r =
+-- why a MAC isn't right: it is wrong, or there is none for want of a key
+abbrev pub no_right_mac : Bool → Refusal
+no_right_mac is_wrong = if is_wrong then refusal.WrongMac else refusal.NoKey
+
+-- how a read that gives no blocks is told, of a key and a reply
+abbrev pub IsTold : List ℕ → List ℕ → Read → Refusal → Type 0
+IsTold key reply (blocks all) r = ⊥
+IsTold key reply no_frames r = r ≡ refusal.NoFrames (length reply)
+IsTold key reply wrong_mac r = r ≡ no_right_mac (is_wrong reply (Some key) None)
+IsTold key reply wrong_nonce r = r ≡ refusal.WrongNonce
+IsTold key reply (other_response kind) r =
     (text : Bor (List ℕ)) × (r ≡ refusal.OtherResponse text) × (text.now ≡ kind_text kind)
-IsTold count (refused code) r =
+IsTold key reply (refused code) r =
     (text : Bor (List ℕ)) × (r ≡ refusal.Refused text) × (text.now ≡ result_text code)
 
 pub data WhyNotRead (key nonce reply : List ℕ) (r : Refusal) : Type 0 where
   read_memory : r ≡ refusal.NoMemory → WhyNotRead key nonce reply r
-  read_refused : IsTold (length reply) (read_of key nonce reply) r → WhyNotRead key nonce reply r
+  read_refused : IsTold key reply (read_of key nonce reply) r → WhyNotRead key nonce reply r
 
 -- the answer that there is gives no blocks
 pub data WhyNoBlocks (key nonce text : List ℕ) (r : Refusal) : Type 0 where

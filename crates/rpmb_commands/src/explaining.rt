@@ -5,7 +5,7 @@ ghost use Rattle.std.specs.Io.KnownBytes.{Appends, Keeps};
 ghost use Rattle.rpmb_client.specs.Seen.{used_seen};
 ghost use Rattle.rpmb_commands.specs.Explaining.{AsksNonce, ExplainDoes, Explains, IsJudging};
 ghost use Rattle.rpmb_commands.specs.Explaining.{IsNext, IsOther, SaysAll, has_refused, has_wrong};
-ghost use Rattle.rpmb_commands.specs.Explaining.{is_refused_of, is_wrong_of, judging_of};
+ghost use Rattle.rpmb_commands.specs.Explaining.{is_refused_of, is_torn, is_wrong_of, judging_of};
 ghost use Rattle.rpmb_commands.specs.Explaining.{line_told, mark_of, told_counts, told_of};
 ghost use Rattle.rpmb_commands.specs.Explaining.{without_feed};
 ghost use Rattle.rpmb_commands.specs.Refusing.{IsOfReading};
@@ -39,7 +39,7 @@ fn explain_used<'a, W: Write>(
     ensures told { OnOk result (Appends (W.contents out.old) (W.contents out.new)
         (told_of (judging_of judge.now) (Some (used_seen used.now)) [])) }
     ensures wrong { OnOk result (nat_lt 0 counts.new.wrong ≡ (nat_lt 0 counts.old.wrong
-        || is_wrong_of (judging_of judge.now) (Some (used_seen used.now)))) }
+        || is_wrong_of (judging_of judge.now) (Some (used_seen used.now)) [])) }
     ensures refused { OnOk result (nat_lt 0 counts.new.refused ≡ (nat_lt 0 counts.old.refused
         || is_refused_of (Some (used_seen used.now)))) }
     ensures other { IfErr result IsOther }
@@ -54,26 +54,39 @@ fn explain_used<'a, W: Write>(
     }
 }
 
-/// What stands behind a line that gives no reply: one that begins as those that do was torn.
+/// Whether a line that gives no reply begins as those that do.
+fn is_torn(line: &str) -> bool
+    ensures { result ≡ is_torn line.now }
+{
+    line.starts_with("used")
+}
+
+/// What stands behind a line that gives no reply.
 fn mark_of(line: &str) -> &'static str
     ensures { result.now ≡ mark_of line.now }
 {
-    if line.starts_with("used") {
+    if is_torn(line) {
         " (torn: expected `used G LEN HEX`)"
     } else {
         ""
     }
 }
 
-/// Writes a line that gives no reply as it is, and says where it is torn.
-fn pass_on<'a, W: Write>(line: &str, out: &mut W) -> Result<(), Refusal<'a>>
+/// Writes a line that gives no reply as it is, and says and counts where it is torn.
+fn pass_on<'a, W: Write>(line: &str, counts: &mut Counts, out: &mut W) -> Result<(), Refusal<'a>>
     ensures told { OnOk result (Appends (W.contents out.old) (W.contents out.new)
         (line.now ++ (mark_of line.now ++ 10 ∷ []))) }
+    ensures wrong { OnOk result (nat_lt 0 counts.new.wrong ≡ (nat_lt 0 counts.old.wrong
+        || is_torn line.now)) }
+    ensures refused { OnOk result (counts.new.refused ≡ counts.old.refused) }
     ensures other { IfErr result IsOther }
 {
     let mark = mark_of(line);
     match writeln!(out, "{line}{mark}") {
-        Ok(()) => Ok(()),
+        Ok(()) => {
+            counts.add_torn(is_torn(line));
+            Ok(())
+        }
         Err(_) => Err(Refusal::NoRoom),
     }
 }
@@ -97,7 +110,7 @@ fn explain_line<'a, W: Write>(
 {
     match read_used(alloc, line) {
         Ok(Some(used)) => explain_used(alloc, &used, judge, counts, out),
-        Ok(None) => pass_on(line, out),
+        Ok(None) => pass_on(line, counts, out),
         Err(_) => Err(Refusal::NoMemory),
     }
 }
@@ -225,7 +238,7 @@ fn judge_of<'a, S: Source>(
     Ok(Judge { keys, nonce })
 }
 
-/// Refused where one of the replies is wrong, and else where one says that a request was refused.
+/// Refused where a reply is torn or wrong, and else where one says that a request was refused.
 fn told<'a>(counts: Result<Counts, Refusal<'a>>) -> Result<(), Refusal<'a>>
     ensures { result ≡ told_counts counts.entry }
 {
@@ -255,7 +268,7 @@ fn tell_all<'a, S: Source, B: BufRead, W: Write>(
 }
 
 /// Says of each `used` line what its reply is, and writes each other line as it is. Refused at the
-/// end where a MAC or a nonce was wrong, or a request was refused.
+/// end where a line was torn, a MAC or a nonce was wrong, or a request was refused.
 pub fn tell<'a, S: Source, B: BufRead, W: Write>(
     alloc: Global,
     source: &S,

@@ -6,7 +6,7 @@ ghost use Rattle.rpmb_client.specs.Seen.{read_seen, used_seen};
 ghost use Rattle.rpmb_commands.specs.ReadingData.{AreFirst, GivesData, GivesFirst, IsAnswered};
 ghost use Rattle.rpmb_commands.specs.ReadingData.{IsTold, WhyNoAnswer, WhyNoBlocks, WhyNoData};
 ghost use Rattle.rpmb_commands.specs.ReadingData.{WhyNotFirst, WhyNotGiven, WhyNotRead};
-ghost use Rattle.rpmb_commands.specs.ReadingData.{WhyNotSoMany};
+ghost use Rattle.rpmb_commands.specs.ReadingData.{WhyNotSoMany, no_right_mac};
 ghost use Rattle.rpmb_commands.specs.Refusing.{KeepsUnless};
 
 use crate::explaining::input_fault;
@@ -15,7 +15,9 @@ use crate::refusal::Refusal;
 use crate::source::Source;
 use crate::values::{length_of, nonce_of};
 use crate::words::Words;
-use rpmb_client::{Choice, ReadAnswer, Used, cut, find_answer, kind_text, read_data, result_text};
+use rpmb_client::{
+    Choice, ReadAnswer, Used, cut, find_answer, is_wrong, kind_text, read_data, result_text,
+};
 use std::alloc::Global;
 use std::io::{BufRead, Write};
 
@@ -90,15 +92,26 @@ fn give_first<'a, W: Write>(
     give(first_bytes(words, blocks)?, out)
 }
 
-/// The blocks that a read gives, or why none, of a reply of so many bytes.
-fn blocks_of<'a>(read: ReadAnswer, count: usize) -> Result<Vec<u8>, Refusal<'a>>
+/// Why a MAC isn't right that `explain` tells to be wrong, or tells to be none.
+fn no_right_mac<'a>(is_wrong: bool) -> Refusal<'a>
+    ensures { result ≡ no_right_mac is_wrong }
+{
+    if is_wrong {
+        Refusal::WrongMac
+    } else {
+        Refusal::NoKey
+    }
+}
+
+/// The blocks that a read gives, or why none.
+fn blocks_of<'a>(key: &[u8; 32], used: &Used, read: ReadAnswer) -> Result<Vec<u8>, Refusal<'a>>
     ensures ok { IfOk result (λ all. read_seen read ≡ blocks all.items) }
-    ensures err { IfErr result (IsTold count (read_seen read)) }
+    ensures err { IfErr result (IsTold key.now used.now.reply.items (read_seen read)) }
 {
     match read {
         ReadAnswer::Blocks(blocks) => Ok(blocks),
-        ReadAnswer::NoFrames => Err(Refusal::NoFrames(count)),
-        ReadAnswer::WrongMac => Err(Refusal::WrongMac),
+        ReadAnswer::NoFrames => Err(Refusal::NoFrames(used.reply.len())),
+        ReadAnswer::WrongMac => Err(no_right_mac(is_wrong(used, Some(*key), None))),
         ReadAnswer::WrongNonce => Err(Refusal::WrongNonce),
         ReadAnswer::OtherResponse(kind) => Err(Refusal::OtherResponse(kind_text(kind))),
         ReadAnswer::Refused(code) => Err(Refusal::Refused(result_text(code))),
@@ -110,13 +123,14 @@ fn blocks_read<'a>(
     alloc: Global,
     key: &[u8; 32],
     nonce: &[u8; 16],
-    reply: &[u8],
+    used: &Used,
 ) -> Result<Vec<u8>, Refusal<'a>>
-    ensures ok { IfOk result (λ all. read_of key.now nonce.now reply.now ≡ blocks all.items) }
-    ensures err { IfErr result (WhyNotRead key.now nonce.now reply.now) }
+    ensures ok { IfOk result
+        (λ all. read_of key.now nonce.now used.now.reply.items ≡ blocks all.items) }
+    ensures err { IfErr result (WhyNotRead key.now nonce.now used.now.reply.items) }
 {
-    match read_data(alloc, key, nonce, reply) {
-        Ok(read) => blocks_of(read, reply.len()),
+    match read_data(alloc, key, nonce, used.reply.as_slice()) {
+        Ok(read) => blocks_of(key, used, read),
         Err(_) => Err(Refusal::NoMemory),
     }
 }
@@ -134,7 +148,7 @@ fn blocks_answered<'a, B: BufRead>(
         (λ text. WhyNoBlocks key.now nonce.now text refused)) }
 {
     let used = answer_of(alloc, nonce, input)?;
-    blocks_read(alloc, key, nonce, used.reply.as_slice())
+    blocks_read(alloc, key, nonce, &used)
 }
 
 /// Writes the blocks of a read, where its MAC and its nonce are right.

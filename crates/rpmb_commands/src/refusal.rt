@@ -29,9 +29,9 @@ pub enum Refusal<'a> {
     PastEnd(u64),
     #[error("CounterEnd: expected write counters of at most 4294967295 for all writes, got {0}")]
     CounterEnd(u64),
-    #[error("FileFault: expected a file that can be read, got {0:?}; \
-        is it there, a file, and yours?")]
-    NoFile(&'a str),
+    /// The file, and why it can't be read.
+    #[error("FileFault: expected a file that can be read, got {0:?}: {1}")]
+    NoFile(&'a str, &'static str),
     #[error("FileFault: expected at most {1} bytes in the file {0:?}, got more")]
     TooLong(&'a str, usize),
     #[error("FileFault: expected text in UTF-8 in the file {0:?}")]
@@ -47,9 +47,12 @@ pub enum Refusal<'a> {
     NoAnswer(usize, usize),
     #[error("NoFrames: expected a reply of whole frames of 512 bytes, got {0} bytes")]
     NoFrames(usize),
-    #[error("WrongMac: expected the MAC of all frames under the key, got another, \
-        or none: a guest without a key has zeros there")]
+    #[error("WrongMac: expected the MAC of all frames under the key, got another")]
     WrongMac,
+    /// The answer says NO_AUTH_KEY, and so has no MAC.
+    #[error("NoKey: expected the MAC of all frames under the key, got none, and NO_AUTH_KEY: \
+        the guest has no key yet")]
+    NoKey,
     #[error("WrongNonce: expected the nonce that was asked with, got another")]
     WrongNonce,
     #[error("OtherResponse: expected the response DATA_READ, got the {0}")]
@@ -62,8 +65,9 @@ pub enum Refusal<'a> {
     NoCounter,
     #[error("TooShort: expected blocks of at least {0} bytes, got {1}")]
     TooShort(u64, usize),
+    /// A MAC or a nonce of an answer is wrong, or a line of one was torn.
     #[error("WrongAnswer: expected a right MAC and nonce in each of {0} replies, \
-        got {1} with a wrong one")]
+        got {1} torn or with a wrong one")]
     WrongAnswer(u64, u64),
     /// The answers are right, and say of some requests that they were refused.
     #[error("Refused: expected the result OK in each of {0} replies, got {1} with another")]

@@ -24,8 +24,8 @@ pub(crate) const SCRIPT_FILE: usize = 67_108_864;
 /// Why a file isn't read.
 #[derive(Clone, Copy, Debug)]
 pub enum SourceError {
-    /// It can't be read.
-    NoFile,
+    /// It can't be read, for this reason.
+    NoFile(&'static str),
     /// It has more bytes than were asked for, or no end.
     TooLong,
     /// Memory was refused for its bytes.
@@ -55,7 +55,10 @@ pub trait Source {
 fn error_of(error: &io::Error) -> SourceError {
     match error.kind() {
         io::ErrorKind::OutOfMemory => SourceError::NoMemory,
-        _ => SourceError::NoFile,
+        io::ErrorKind::NotFound => SourceError::NoFile("isn't there"),
+        io::ErrorKind::IsADirectory => SourceError::NoFile("is a folder"),
+        io::ErrorKind::PermissionDenied => SourceError::NoFile("no permission to read it"),
+        _ => SourceError::NoFile("a read of it failed"),
     }
 }
 
@@ -107,7 +110,7 @@ pub(crate) fn content_of<'a, S: Source>(
 {
     match source.content(alloc, name, most) {
         Ok(bytes) => Ok(bytes),
-        Err(SourceError::NoFile) => Err(Refusal::NoFile(name)),
+        Err(SourceError::NoFile(why)) => Err(Refusal::NoFile(name, why)),
         Err(SourceError::TooLong) => Err(Refusal::TooLong(name, most)),
         Err(SourceError::NoMemory) => Err(Refusal::NoMemory),
     }

@@ -4,18 +4,31 @@ use crate::fault::LineError;
 use hex::FromHexError;
 use std::alloc::Global;
 
+/// How many letters of a word are shown.
+const SHOWN: usize = 16;
+
+/// The first letters of a word, and two dots where it has more: it may be a key, or a whole file.
+fn front_of(word: &str) -> (&str, &'static str) {
+    match word.char_indices().nth(SHOWN) {
+        Some((end, _)) => (word.get(..end).unwrap_or(""), ".."),
+        None => (word, ""),
+    }
+}
+
 /// The second word is no guest of the board.
 pub(crate) fn no_guest(alloc: Global, word: &str, guests: u16) -> LineError {
     let last = guests.saturating_sub(1);
+    let (word, more) = front_of(word);
     LineError::of(format!(in alloc;
-        "word 2: expected a guest of the board, 0 to {last}, got {word:?}"
+        "word 2: expected a guest of the board, 0 to {last}, got {word:?}{more}"
     ))
 }
 
 /// The word at a place, counted from 1, is no number up to this one.
 pub(crate) fn no_number(alloc: Global, place: usize, word: &str, most: u64) -> LineError {
+    let (word, more) = front_of(word);
     LineError::of(format!(in alloc;
-        "word {place}: expected decimal digits of a number from 0 to {most}, got {word:?}"
+        "word {place}: expected decimal digits of a number from 0 to {most}, got {word:?}{more}"
     ))
 }
 
@@ -52,31 +65,37 @@ pub(crate) fn served_store(alloc: Global) -> LineError {
     ))
 }
 
-/// How many words stand behind a command that a script may say.
-fn wanted_behind(command: &str) -> Option<usize> {
+/// How a line of a command that a script may say is written.
+fn form_of(command: &str) -> Option<&'static str> {
     match command {
-        "chain" | "store" => Some(3),
-        "reset" => Some(1),
+        "chain" => Some("chain GUEST READABLE WRITABLE"),
+        "store" => Some("store GUEST ADDRESS BYTES"),
+        "reset" => Some("reset GUEST"),
         _ => None,
     }
 }
 
+/// The first word is no command.
+fn no_command(alloc: Global, command: &str) -> LineError {
+    let hint = if command.starts_with('[') || command == "image" {
+        "; it looks like a board file, which comes first"
+    } else {
+        ""
+    };
+    let (word, more) = front_of(command);
+    LineError::of(format!(in alloc;
+        "word 1: expected chain, store or reset, got {word:?}{more}{hint}"
+    ))
+}
+
 /// The first word is no command, or none that so many words stand behind.
 pub(crate) fn misshapen(alloc: Global, command: &str, given: usize) -> LineError {
-    LineError::of(match wanted_behind(command) {
-        Some(wanted) => format!(in alloc;
-            "expected {wanted} words behind the first, got {given}{}",
-            if given > 3 { " or more" } else { "" }
-        ),
-        None => format!(in alloc;
-            "word 1: expected chain, store or reset, got {command:?}{}",
-            if command.starts_with('[') || command == "image" {
-                "; it looks like a board file, which comes first"
-            } else {
-                ""
-            }
-        ),
-    })
+    let Some(form) = form_of(command) else {
+        return no_command(alloc, command);
+    };
+    let count = given.saturating_add(1);
+    let more = if given > 3 { " or more" } else { "" };
+    LineError::of(format!(in alloc; "expected the words `{form}`, got {count}{more}"))
 }
 
 /// No line has so many words.

@@ -1,4 +1,4 @@
-use Rattle.std.proofs.Common.{IfSome, subst}
+use Rattle.std.proofs.Common.{IfSome}
 use Rattle.rpmb_client.specs.Seen.{used_seen}
 use Rattle.rpmb_commands.specs.ReadingData.{WhyNoBlocks, WhyNotRead, blocks_answer, blocks_read}
 use Rattle.rpmb_commands.proofs.DataLemmas.{map_some}
@@ -18,8 +18,7 @@ returns-clause-err g c =
     let given = g.B.Read.remaining c.args.input.now in
     let key = c.args.key.now in
     let nonce = c.args.nonce.now in
-    if_err c.blocks_read.result (WhyNotRead key nonce c.as_slice.result.now) (λ r.
+    if_err c.blocks_read.result (WhyNotRead key nonce c.in_ok-used.used.reply.items) (λ r.
     IfSome given (λ text. WhyNoBlocks key nonce text r)) c.blocks_read.ensures.err
     (λ r why. map_some given _ _ c.in_ok-used.ensures.ok (λ text is.
-    blocks_read (used_seen c.in_ok-used.used) is
-    (subst (λ reply. WhyNotRead key nonce reply r) c.as_slice.ensures.value why)))
+    blocks_read (used_seen c.in_ok-used.used) is why))
