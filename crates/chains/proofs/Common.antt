@@ -26,6 +26,6 @@ pub use Rattle.chains.specs.declared.fault.ChainFault.{ChainFault}
 pub use Rattle.chains.specs.declared.fault.ChainFault.TheVariants.{TooLong, BadRange, Order}
 pub use Rattle.chains.specs.declared.fault.ChainFault.TheVariants.{BadTable}
 pub use Rattle.chains.specs.declared.fault.RingFault.{RingFault}
-pub use Rattle.chains.specs.declared.fault.RingFault.TheVariants.{NoMemory, Refused}
+pub use Rattle.chains.specs.declared.fault.RingFault.TheVariants.{NoMemory, Missing, Refused}
 pub use Rattle.chains.specs.declared.popped.Outstanding.{Outstanding}
 pub use Rattle.chains.specs.declared.range.Range.{Range}

@@ -1,8 +1,10 @@
 -- What stands where a ring's next chain begins.
-use Rattle.std.specs.Prelude.{ℕ, List, [], Option, Some, None, Result, Ok, Err}
+use Rattle.std.specs.Prelude.{◌≡◌, ℕ, List, [], Option, Some, None, Result, Ok, Err}
 use Rattle.chains.specs.declared.descriptor.Descriptors.{Descriptors}
 use Rattle.chains.specs.declared.descriptor.Shape.{Shape}
 use Rattle.chains.specs.declared.fault.ChainFault.{ChainFault}
+use Rattle.chains.specs.declared.fault.RingFault.{RingFault}
+use Rattle.chains.specs.declared.fault.RingFault.TheVariants.{NoMemory, Missing, Refused}
 use Rattle.chains.specs.Walk.{Found, Member, chain_at, walk}
 use Rattle.chains.specs.Ring.{RingState}
 
@@ -32,3 +34,10 @@ abbrev pub members_from : List ℕ → Descriptors → Result (Option ℕ) Chain
 members_from memory area (Ok None) = []
 members_from memory area (Ok (Some start)) = chain_at memory area start
 members_from memory area (Err fault) = []
+
+-- what a ring answers on where its next chain begins: the outcome, unless bytes are asked for
+abbrev pub Starts : Result (Option ℕ) ChainFault → Result (Option ℕ) RingFault → Type 0
+Starts outcome (Ok start) = outcome ≡ Ok start
+Starts outcome (Err (Refused fault)) = outcome ≡ Err fault
+Starts outcome (Err (Missing ask)) = Unit {0}
+Starts outcome (Err NoMemory) = ⊥

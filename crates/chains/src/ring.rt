@@ -1,10 +1,13 @@
 //! The device's half of a virtqueue, for both kinds of ring.
-ghost use Rattle.std.specs.Prelude.{◌≡◌, ◌≤◌, ◌<◌, ◌+◌, ◌↔◌, IsTrue, false, IsOk, IfOk, IfSome};
-ghost use Rattle.std.specs.Prelude.{OnErr, length, Err};
+ghost use Rattle.std.specs.Prelude.{◌≡◌, ◌≤◌, ◌<◌, ◌+◌, ◌^◌, ◌↔◌, IsTrue, true, false, IsOk, IfOk};
+ghost use Rattle.std.specs.Prelude.{IfSome};
+ghost use Rattle.std.specs.Prelude.{OnErr, length, [], Err, None};
 ghost use Rattle.chains.specs.Range.{AreInside};
 ghost use Rattle.chains.specs.Walk.{reads_of};
 ghost use Rattle.chains.specs.Ring.{first_state, MayBeUsed, IsFree, Stays, Finds, Pops};
 ghost use Rattle.chains.specs.Ring.{CountsReads, Publishes};
+ghost use Rattle.chains.specs.Building.{BelievesCopies};
+ghost use Rattle.guest_memory.specs.Memory.{IsAsk};
 
 use crate::counts::Counts;
 use crate::fault::{ChainFault, RingFault};
@@ -13,7 +16,7 @@ use crate::popped::{Popped, Used};
 use crate::reads::Reads;
 use crate::rules::Rules;
 use crate::walks::walk;
-use guest_memory::Memory;
+use guest_memory::{Ask, Memory};
 use std::alloc::Global;
 use std::marker::{Model, PhantomData};
 
@@ -56,7 +59,7 @@ impl<R: Rules> Ring<R> {
 
     /// Whether the ring's areas lie in the memory.
     pub fn lies_in(&self, memory: &Memory) -> bool
-        ensures { IsTrue result ↔ R.areas (length memory.now) self.now }
+        ensures { IsTrue result ↔ R.areas (length memory.now.bytes) self.now }
     {
         R::lies_in(&self.counts, memory)
     }
@@ -92,22 +95,30 @@ impl<R: Rules> Ring<R> {
         memory: &Memory,
         reads: &mut Reads,
     ) -> Result<Option<Popped>, RingFault>
-        requires areas { R.areas (length memory.now) self.now }
-        ensures finds { Finds (R.next memory.now self.now)
-            (R.members memory.now self.now) memory.now result }
+        requires areas { R.areas (length memory.now.bytes) self.now }
+        ensures finds { Finds (R.next memory.now.bytes self.now)
+            (R.members memory.now.bytes self.now) memory.now.bytes result }
         ensures inside { IfOk result (λ popped.
-            IfSome popped (λ popped. AreInside (length memory.now) popped.chain.writable)) }
+            IfSome popped (λ popped. AreInside (length memory.now.bytes) popped.chain.writable)) }
         ensures reads { CountsReads result reads.old reads.new
-            (reads_of (length memory.now) false (R.members memory.now self.now)) }
+            (reads_of (length memory.now.bytes) false (R.members memory.now.bytes self.now)) }
         ensures few { reads.new.count ≤ self.now.size + 1024 }
+        ensures copies { BelievesCopies memory.now self.now.size result }
     {
         reads.clear();
         let start = match R::start(&self.counts, memory) {
             Ok(Some(start)) => start,
             Ok(None) => return Ok(None),
-            Err(fault) => return Err(RingFault::Refused(fault)),
+            Err(fault) => return Err(fault),
         };
         let descriptors = R::descriptors(&self.counts, memory);
+        let len = 16 * descriptors.limit;
+        if !memory.holds(descriptors.base, len) {
+            return Err(RingFault::Missing(Ask {
+                at: descriptors.base,
+                len,
+            }));
+        }
         let walked = walk(alloc, memory, reads, &descriptors, start as u64)?;
         let request = walked.chain.gather(alloc, memory)?;
         Ok(Some(Popped {
@@ -126,8 +137,10 @@ impl<R: Rules> Ring<R> {
     /// It counts `reads` anew, and reads each descriptor once, up to the first that fails a test:
     /// at most the queue size and 1,024.
     ///
-    /// Answers a fault for what the driver made available against the rules, or `NoMemory`; then
-    /// the ring and the memory stay as they were.
+    /// Answers a fault for what the driver made available against the rules, `NoMemory`, or
+    /// `Missing` for bytes that it needs and of which there is no copy; then the ring and the
+    /// memory stay as they were. What it asks for is a part of the guest's memory, and once all of
+    /// it is told, the next pop begins anew, over what was told.
     pub fn pop(
         &mut self,
         alloc: Global,
@@ -135,19 +148,26 @@ impl<R: Rules> Ring<R> {
         reads: &mut Reads,
         number: u64,
     ) -> Result<Option<Popped>, RingFault>
-        requires areas { R.areas (length memory.old) self.old }
+        requires areas { R.areas (length memory.old.bytes) self.old }
         requires new { self.old.last < number }
-        ensures pops { Pops R.next R.members R.event memory.old self.old number result memory.new
-            self.new }
-        ensures stays { Stays R.areas memory.old memory.new self.new }
+        ensures pops { Pops R.next R.members R.event memory.old.bytes self.old number result
+            memory.new.bytes self.new }
+        ensures stays { Stays R.areas memory.old.bytes memory.new.bytes self.new }
         ensures inside { IfOk result (λ popped.
-            IfSome popped (λ popped. AreInside (length memory.old) popped.chain.writable)) }
+            IfSome popped (λ popped. AreInside (length memory.old.bytes) popped.chain.writable)) }
         ensures reads { CountsReads result reads.old reads.new
-            (reads_of (length memory.old) false (R.members memory.old self.old)) }
+            (reads_of (length memory.old.bytes) false (R.members memory.old.bytes self.old)) }
         ensures few { reads.new.count ≤ self.old.size + 1024 }
+        ensures copies { BelievesCopies memory.old self.old.size result }
+        ensures held { memory.new ≡ record memory.old { bytes = memory.new.bytes } }
     {
         let _last = self.counts.last(); // for the checker: places are few, so no sum wraps
-        let Some(popped) = self.find(alloc, memory, reads)? else {
+        let found = self.find(alloc, memory, reads)?;
+        match R::event_lacks(&self.counts, memory) {
+            Some(ask) => return Err(RingFault::Missing(ask)),
+            None => {}
+        }
+        let Some(popped) = found else {
             R::write_event(&self.counts, memory);
             return Ok(None);
         };
@@ -156,9 +176,35 @@ impl<R: Rules> Ring<R> {
         Ok(Some(popped))
     }
 
+    /// The first of the used fields that a publication writes of which the memory has no copy;
+    /// `None` where it has copies of all.
+    pub fn lacks(&self, memory: &Memory) -> Option<Ask>
+        requires areas { R.areas (length memory.now.bytes) self.now }
+        ensures some { IfSome result (λ ask. IsAsk memory.now ask) }
+        ensures none { result ≡ None → R.used_held memory.now self.now }
+    {
+        R::used_lacks(&self.counts, memory)
+    }
+
+    /// Whether the driver is to be notified. Of a memory that asks, what the driver says of it
+    /// isn't read, and it is.
+    fn told(&self, memory: &Memory, places: u16) -> bool
+        requires areas { R.areas (length memory.now.bytes) self.now }
+        requires fits { self.now.used < 2 ^ 80 }
+        ensures exact { memory.now.asks ≡ false
+            → R.tells memory.now.bytes self.now places result }
+        ensures always { memory.now.asks ≡ true → result ≡ true }
+    {
+        if memory.asks() {
+            return true;
+        }
+        R::is_due(&self.counts, memory, places)
+    }
+
     /// Publishes a chain as used: writes its used element or descriptor, and nothing else. `len` is
     /// the length in bytes of the reply, which was scattered before. Answers whether the driver is
-    /// to be notified, which the memory after these writes decides.
+    /// to be notified, which the memory after these writes decides; of a memory that asks it always
+    /// is.
     ///
     /// The chain of this number is outstanding no more, whatever other chains have its id. It takes
     /// no memory.
@@ -170,16 +216,20 @@ impl<R: Rules> Ring<R> {
         places: u16,
         len: u32,
     ) -> bool
-        requires areas { R.areas (length memory.old) self.old }
+        requires areas { R.areas (length memory.old.bytes) self.old }
         requires due { MayBeUsed self.old number id places }
-        ensures publishes { Publishes R.used_written R.tells memory.old self.old number id places
-            len result memory.new self.new }
+        requires held { R.used_held memory.old self.old }
+        ensures publishes { Publishes R.used_written
+            (λ bytes ring count told. memory.old.asks ≡ false → R.tells bytes ring count told)
+            memory.old.bytes self.old number id places len result memory.new.bytes self.new }
+        ensures always { memory.old.asks ≡ true → result ≡ true }
+        ensures held { memory.new ≡ record memory.old { bytes = memory.new.bytes } }
         ensures once { IsFree number self.new.outstanding }
-        ensures stays { Stays R.areas memory.old memory.new self.new }
+        ensures stays { Stays R.areas memory.old.bytes memory.new.bytes self.new }
     {
         let _used = self.counts.used(); // for the checker: places are few, so no sum wraps
         R::write_used(&self.counts, memory, Used { id, places, len });
-        let told = R::is_due(&self.counts, memory, places);
+        let told = self.told(memory, places);
         self.counts.retire(number, id, places);
         told
     }

@@ -1,20 +1,22 @@
 //! What a kind of ring brings of its own.
-ghost use Rattle.std.specs.Prelude.{◌≡◌, ◌≤◌, ◌<◌, ◌+◌, ◌*◌, ◌^◌, ◌↔◌, ℕ, Bool, IsTrue, List};
-ghost use Rattle.std.specs.Prelude.{Option, Result, length};
-ghost use Rattle.guest_memory.specs.Memory.{IsInside};
+ghost use Rattle.std.specs.Prelude.{◌≡◌, ◌≤◌, ◌<◌, ◌+◌, ◌*◌, ◌^◌, ◌↔◌, ℕ, Bool, false, IsTrue};
+ghost use Rattle.std.specs.Prelude.{List};
+ghost use Rattle.std.specs.Prelude.{Option, None, Result, length, IfSome, IsOk, []};
+ghost use Rattle.guest_memory.specs.Memory.{IsAsk, IsInside, Known};
+ghost use Rattle.chains.specs.Building.{AsksFew, AsksOf};
 ghost use Rattle.chains.specs.declared.places.Places.{Places};
 ghost use Rattle.chains.specs.declared.descriptor.Shape.{Shape};
 ghost use Rattle.chains.specs.declared.fault.ChainFault.{ChainFault};
 ghost use Rattle.chains.specs.Walk.{Found, Member};
 ghost use Rattle.chains.specs.Ring.{RingState};
-ghost use Rattle.chains.specs.Start.{descriptors_of, found_from, members_from};
+ghost use Rattle.chains.specs.Start.{Starts, descriptors_of, found_from, members_from};
 
 use crate::counts::Counts;
 use crate::descriptor::{Descriptors, Shape};
-use crate::fault::ChainFault;
+use crate::fault::RingFault;
 use crate::places::Places;
 use crate::popped::Used;
-use guest_memory::Memory;
+use guest_memory::{Ask, Memory};
 
 /// What sets one kind of ring apart from the other: its sizes and areas, where its next chain
 /// begins, and what its device writes for the driver.
@@ -31,7 +33,7 @@ pub trait Rules: Drop {
 
     /// Whether the ring's areas lie in the memory.
     fn lies_in(ring: &Counts, memory: &Memory) -> bool
-        ensures { IsTrue result ↔ areas (length memory.now) ring.now };
+        ensures { IsTrue result ↔ areas (length memory.now.bytes) ring.now };
 
     /// How the ring's descriptors are laid out.
     ghost shape: { Shape };
@@ -39,9 +41,9 @@ pub trait Rules: Drop {
     /// The ring's descriptors.
     fn descriptors(ring: &Counts, memory: &Memory) -> Descriptors
         requires sound { is_ring ring.now.places ring.now.size }
-        requires areas { areas (length memory.now) ring.now }
+        requires areas { areas (length memory.now.bytes) ring.now }
         ensures value { result ≡ descriptors_of shape ring.now }
-        ensures inside { IsInside memory.now result.base (16 * result.limit) }
+        ensures inside { IsInside memory.now.bytes result.base (16 * result.limit) }
         ensures some { 0 < result.limit }
         ensures small { result.limit ≤ 2 ^ 15 };
 
@@ -56,32 +58,61 @@ pub trait Rules: Drop {
 
     /// Where the chain at the place after those popped begins; `None` where that place isn't
     /// available.
-    fn start(ring: &Counts, memory: &Memory) -> Result<Option<u16>, ChainFault>
+    ///
+    /// What is to be read first is asked for first: the driver wrote it last.
+    fn start(ring: &Counts, memory: &Memory) -> Result<Option<u16>, RingFault>
         requires sound { is_ring ring.now.places ring.now.size }
-        requires areas { areas (length memory.now) ring.now }
-        ensures { result ≡ start memory.now ring.now };
+        requires areas { areas (length memory.now.bytes) ring.now }
+        ensures starts { Starts (start memory.now.bytes ring.now) result }
+        ensures asks { AsksOf memory.now result }
+        ensures short { AsksFew result }
+        ensures fresh { memory.now.held ≡ [] → ¬ IsOk result };
 
     /// The memory with what a pop writes for the driver.
     ghost event: { List ℕ → RingState → List ℕ };
 
+    /// What a pop writes is there to be written.
+    ghost event_held: { Known → RingState → Type 0 };
+
+    /// What of it isn't there.
+    fn event_lacks(ring: &Counts, memory: &Memory) -> Option<Ask>
+        requires areas { areas (length memory.now.bytes) ring.now }
+        ensures some { IfSome result (λ ask. IsAsk memory.now ask) }
+        ensures short { IfSome result (λ ask. ask.len ≤ 2) }
+        ensures none { result ≡ None → event_held memory.now ring.now };
+
     /// Writes for the driver that the places so far were popped.
     fn write_event(ring: &Counts, memory: &mut Memory)
-        requires areas { areas (length memory.old) ring.now }
-        ensures value { memory.new ≡ event memory.old ring.now }
-        ensures size { length memory.new ≡ length memory.old };
+        requires areas { areas (length memory.old.bytes) ring.now }
+        requires held { event_held memory.old ring.now }
+        ensures value { memory.new.bytes ≡ event memory.old.bytes ring.now }
+        ensures size { length memory.new.bytes ≡ length memory.old.bytes }
+        ensures held { memory.new ≡ record memory.old { bytes = memory.new.bytes } };
 
     /// The memory with what says that a chain of this id and so many places was used, of which so
     /// many bytes were written.
     ghost used_written: { List ℕ → RingState → ℕ → ℕ → ℕ → List ℕ };
 
+    /// What a publication writes is there to be written.
+    ghost used_held: { Known → RingState → Type 0 };
+
+    /// What of it isn't there.
+    fn used_lacks(ring: &Counts, memory: &Memory) -> Option<Ask>
+        requires sound { is_ring ring.now.places ring.now.size }
+        requires areas { areas (length memory.now.bytes) ring.now }
+        ensures some { IfSome result (λ ask. IsAsk memory.now ask) }
+        ensures none { result ≡ None → used_held memory.now ring.now };
+
     /// Writes that a chain was used, at the first place that isn't.
     fn write_used(ring: &Counts, memory: &mut Memory, chain: Used)
         requires sound { is_ring ring.now.places ring.now.size }
-        requires areas { areas (length memory.old) ring.now }
+        requires areas { areas (length memory.old.bytes) ring.now }
         requires fits { ring.now.used < 2 ^ 80 }
-        ensures value { memory.new
-            ≡ used_written memory.old ring.now chain.id chain.places chain.len }
-        ensures size { length memory.new ≡ length memory.old };
+        requires held { used_held memory.old ring.now }
+        ensures value { memory.new.bytes
+            ≡ used_written memory.old.bytes ring.now chain.id chain.places chain.len }
+        ensures size { length memory.new.bytes ≡ length memory.old.bytes }
+        ensures held { memory.new ≡ record memory.old { bytes = memory.new.bytes } };
 
     /// What is to be answered on whether the driver is notified that so many places were used.
     ghost tells: { List ℕ → RingState → ℕ → Bool → Type 0 };
@@ -89,9 +120,10 @@ pub trait Rules: Drop {
     /// Whether the driver is to be notified that so many places more were used.
     fn is_due(ring: &Counts, memory: &Memory, places: u16) -> bool
         requires sound { is_ring ring.now.places ring.now.size }
-        requires areas { areas (length memory.now) ring.now }
+        requires areas { areas (length memory.now.bytes) ring.now }
         requires fits { ring.now.used < 2 ^ 80 }
-        ensures { tells memory.now ring.now places result };
+        requires whole { memory.now.asks ≡ false }
+        ensures { tells memory.now.bytes ring.now places result };
 
     /// The chain at the next place is that which begins there.
     ghost next_is: { (memory : List ℕ) (ring : RingState)
@@ -104,4 +136,8 @@ pub trait Rules: Drop {
     /// The areas stay where they are, whatever is popped and used.
     ghost areas_stay: { (bytes : ℕ) (old new : RingState) → new.places ≡ old.places
         → new.size ≡ old.size → areas bytes old → areas bytes new };
+
+    /// And so does where a pop writes.
+    ghost event_stays: { (memory : Known) (old new : RingState) → new.places ≡ old.places
+        → new.size ≡ old.size → event_held memory old → event_held memory new };
 }

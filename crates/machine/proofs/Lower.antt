@@ -8,7 +8,8 @@ use Rattle.std.proofs.lemmas.Option.{slice_get_past}
 use Rattle.chains.specs.declared.range.Range.{Range as Part}
 use Rattle.mmio_transport.specs.Popping.{GivesJob}
 use Rattle.mmio_transport.specs.Publishing.{Publishes}
-use Rattle.mmio_transport.specs.Queue.{written_by}
+use Rattle.mmio_transport.specs.Queue.{popped_by, written_by}
+use Rattle.machine.specs.Written.{IsPopNoted}
 use Rattle.mmio_transport.specs.Written.{KeepsOutside, LiesIn}
 use Rattle.mmio_transport.specs.declared.done.Published.{Published}
 use Rattle.mmio_transport.specs.declared.fault.DeviceFault.{DeviceFault}
@@ -49,9 +50,9 @@ stays_by ps rs old new small covered keeps =
     }
 
 pub pop_stays : (rs : List Range) (d d' : DeviceState) (answer : Result (Option Job) DeviceFault)
-    → IsQueueNoted (Some d) rs → GivesJob d answer d' → StaysOutside rs d.memory d'.memory
+    → IsPopNoted (Some d) rs → GivesJob d answer d' → StaysOutside rs d.memory d'.memory
 pop_stays rs d d' answer noted gives =
-    stays_by (range_in (written_by d.queue)) rs d.memory d'.memory noted.small noted.noted
+    stays_by (range_in (popped_by d.queue)) rs d.memory d'.memory noted.small noted.noted
     (pop_writes d answer d' noted.sound gives)
 
 pub publish_stays : (rs : List Range) (d d' : DeviceState) (done : Done) (to : Published)

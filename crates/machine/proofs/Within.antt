@@ -3,7 +3,8 @@ use Rattle.std.proofs.Common.{◌≡◌, refl, ap, sym, subst, ◌∙◌, ℕ, L
 use Rattle.machine.proofs.Common.{slice_get, slice_set, get_set_same, DeviceState, Done, Job}
 use Rattle.machine.proofs.Common.{BoardState, Answer, PopsInto, PublishesFrom, Grow, IsQueueNoted}
 use Rattle.machine.proofs.Common.{IsReplyNoted, Notes, StaysOutside, Writes, memory_in, Range}
-use Rattle.machine.specs.Written.{IsDeviceNoted, IsDoneNoted, memory_of}
+use Rattle.mmio_transport.specs.Queue.{popped_by, written_by}
+use Rattle.machine.specs.Written.{IsDoneNoted, IsPartNoted, IsPopNoted, memory_of}
 use Rattle.machine.proofs.Lower.{pop_stays, publish_stays}
 
 pub stays_same : (rs : List Range) (m : List ℕ) → StaysOutside rs m m
@@ -35,8 +36,12 @@ notes_twice room a b c p q = record {
 
 -- the guest's device, or its reply, is this one
 pub queue_noted : (o : Option DeviceState) (d : DeviceState) (rs : List Range) → o ≡ Some d
-    → IsDeviceNoted d rs → IsQueueNoted o rs
+    → IsPartNoted (written_by d.queue) d rs → IsQueueNoted o rs
 queue_noted o d rs is noted = subst (λ p. IsQueueNoted p rs) (sym is) noted
+
+pub pop_noted : (o : Option DeviceState) (d : DeviceState) (rs : List Range) → o ≡ Some d
+    → IsPartNoted (popped_by d.queue) d rs → IsPopNoted o rs
+pop_noted o d rs is noted = subst (λ p. IsPopNoted p rs) (sym is) noted
 
 pub done_noted : (o : Option Done) (d : Done) (rs : List Range) → o ≡ Some d → IsReplyNoted d rs
     → IsDoneNoted o rs
@@ -80,7 +85,7 @@ module _ {D : Type 0} (g : ℕ) (rs : List Range) (old : BoardState D) where
 
   pub pop_within : (answer : Answer) (new : BoardState D) (place : Option (Option Job))
       (o : Option DeviceState) → slice_get old.devices g ≡ o
-      → IsQueueNoted o rs → PopsInto g place o answer old new
+      → IsPopNoted o rs → PopsInto g place o answer old new
       → StaysOutside rs (memory_in old g) (memory_in new g)
   pop_within answer new None o was noted does = unmoved new does.1
   pop_within answer new (Some (Some job)) o was noted does = unmoved new does.1

@@ -5,7 +5,7 @@ use Rattle.std.specs.List.{list_any}
 use Rattle.chains.specs.declared.range.Range.{Range as Part}
 use Rattle.mmio_transport.specs.Device.{DeviceState}
 use Rattle.mmio_transport.specs.Job.{Done}
-use Rattle.mmio_transport.specs.Queue.{written_by}
+use Rattle.mmio_transport.specs.Queue.{popped_by, written_by}
 use Rattle.mmio_transport.specs.Written.{IsSound, parts_of, range_in}
 use Rattle.board.specs.State.{BoardState}
 use Rattle.machine.specs.declared.ranges.Range.{Range}
@@ -58,15 +58,21 @@ abbrev pub IsDoneNoted : Option Done → List Range → Type 0
 IsDoneNoted None rs = Unit {0}
 IsDoneNoted (Some done) rs = IsReplyNoted done rs
 
--- what a pop or a publication may write of a device's queue
-pub record IsDeviceNoted (d : DeviceState) (rs : List Range) : Type 0 where
-  pub noted : AreCovered (range_in (written_by d.queue)) rs
+-- a part of a device's queue
+pub record IsPartNoted (part : Option Part) (d : DeviceState) (rs : List Range) : Type 0 where
+  pub noted : AreCovered (range_in part) rs
   pub sound : IsSound d
   pub small : length d.memory < 18446744073709551616
 
+-- what a publication may write of it
 abbrev pub IsQueueNoted : Option DeviceState → List Range → Type 0
 IsQueueNoted None rs = Unit {0}
-IsQueueNoted (Some d) rs = IsDeviceNoted d rs
+IsQueueNoted (Some d) rs = IsPartNoted (written_by d.queue) d rs
+
+-- what a pop may write of it
+abbrev pub IsPopNoted : Option DeviceState → List Range → Type 0
+IsPopNoted None rs = Unit {0}
+IsPopNoted (Some d) rs = IsPartNoted (popped_by d.queue) d rs
 
 -- 2. What stays
 

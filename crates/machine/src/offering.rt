@@ -5,7 +5,7 @@ ghost use Rattle.board.specs.State.{HasJob, HasNoJob};
 ghost use Rattle.machine.specs.Reasons.{HasReason};
 ghost use Rattle.machine.specs.declared.fault.MachineFault.{MachineFault};
 ghost use Rattle.machine.specs.Serving.{IsTaken, Serves};
-ghost use Rattle.machine.specs.Written.{IsQueueNoted, Notes, Writes};
+ghost use Rattle.machine.specs.Written.{IsPopNoted, IsQueueNoted, Notes, Writes};
 
 use crate::fault::MachineFault;
 use crate::ranges::{Range, note};
@@ -27,7 +27,26 @@ pub(crate) enum Offered {
     Refused(MachineFault),
 }
 
-/// Notes what a pop or a publication may write of the guest's queue. Whether it is noted.
+/// Notes what a pop may write of the guest's queue. Whether it is noted.
+fn note_pop<D: Disk>(board: &Board<D>, guest: u16, written: &mut Vec<Range>, room: usize) -> bool
+    ensures notes { Notes room written.old.items written.new.items }
+    ensures noted { result ≡ true
+        → IsPopNoted (slice_get board.now.devices guest) written.new.items }
+{
+    match board.device_of(guest) {
+        Some(device) => {
+            let _size = device.memory_size(); // for the checker: no range of it wraps
+            let _part = device.written(); // for the checker: the queue lies in it
+            match device.written_by_pop() {
+                Some(part) => note(written, room, Range::of(part)),
+                None => true,
+            }
+        }
+        None => true,
+    }
+}
+
+/// Notes what a publication may write of the guest's queue. Whether it is noted.
 pub(crate) fn note_queue<D: Disk>(
     board: &Board<D>,
     guest: u16,
@@ -64,7 +83,7 @@ fn take_one<D: Disk>(
         → HasReason D.state D.makes guest f board.old board.new }
     ensures writes { Writes guest room written.old.items written.new.items board.old board.new }
 {
-    if !note_queue(board, guest, written, room) {
+    if !note_pop(board, guest, written, room) {
         return Went::Refused(MachineFault::NoMemory);
     }
     match make(board, Step::Pop(guest)) {

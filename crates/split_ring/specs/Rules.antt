@@ -1,5 +1,7 @@
 -- The areas of a ring stay where they are.
 use Rattle.std.specs.Prelude.{◌≡◌, ℕ}
+use Rattle.guest_memory.specs.Memory.{Known}
+use Rattle.split_ring.specs.Available.{event_held}
 use Rattle.chains.specs.Ring.{RingState}
 use Rattle.split_ring.specs.Layout.{AreasInside}
 
@@ -10,3 +12,7 @@ areas_stay bytes old new same size inside = record {
   driver = rw (same, size) inside.driver;
   device = rw (same, size) inside.device;
 }
+
+pub event_stays : (memory : Known) (old new : RingState) → new.places ≡ old.places
+    → new.size ≡ old.size → event_held memory old → event_held memory new
+event_stays memory old new same size held = rw (same, size) held

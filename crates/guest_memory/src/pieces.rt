@@ -1,0 +1,37 @@
+//! The copies of a memory, one after another.
+ghost use Rattle.std.specs.Prelude.{◌≡◌, ◌≤◌, ◌<◌, ◌+◌, ◌^◌, length, map, true};
+ghost use Rattle.std.specs.List.{list_any, position};
+ghost use Rattle.guest_memory.specs.Memory.{IsInside, with_bytes};
+ghost use Rattle.guest_memory.specs.Piece.{lies_in, span_of, AreCopies, StayFrom};
+
+use crate::piece::Piece;
+use crate::truth::Truth;
+
+/// Whether all of these bytes lie in one of the pieces.
+pub(crate) fn have(pieces: &[Piece], at: u64, len: u64) -> bool
+    ensures { result ≡ list_any (lies_in at len) pieces.now }
+{
+    pieces.iter().any(|piece| piece.has(at, len))
+}
+
+/// The first piece in which they lie.
+pub(crate) fn find(pieces: &[Piece], at: u64, len: u64) -> Option<usize>
+    ensures { result ≡ position (lies_in at len) pieces.now }
+{
+    pieces.iter().position(|piece| piece.has(at, len))
+}
+
+/// Makes the first so many pieces copies of the memory into which these bytes are put.
+pub(crate) fn patch(pieces: &mut Vec<Piece>, count: usize, truth: &Truth, at: u64, bytes: &[u8])
+    requires there { count ≤ length pieces.old.items }
+    requires inside { IsInside truth.now.bytes at (length bytes.now) }
+    requires fits { length truth.now.bytes < 2 ^ 64 }
+    requires copies { AreCopies truth.now.bytes 0 count pieces.old.items }
+    ensures copies { AreCopies (with_bytes truth.now.bytes at bytes.now) 0 count pieces.new.items }
+    ensures rest { StayFrom count pieces.old.items pieces.new.items }
+    ensures spans { map span_of pieces.new.items ≡ map span_of pieces.old.items }
+{
+    for i in 0..count {
+        pieces[i].patch(at, bytes);
+    }
+}

@@ -1,0 +1,105 @@
+-- A device whose memory its host doesn't hold: what it knows of it, what it asks for, and what it
+-- does by the words of a device. Section numbers are those of VIRTIO 1.2.
+use Rattle.std.specs.Prelude.{◌≡◌, ℕ, Bool, true, false, List, [], ◌∷◌, length, Option, None, Some}
+use Rattle.std.specs.Prelude.{Result, Ok, Err}
+use Rattle.guest_memory.specs.declared.ask.Ask.{Ask}
+use Rattle.guest_memory.specs.Memory.{Known, Span, IsAsk, told, with_bytes}
+use Rattle.rpmb_frame.specs.declared.config.GuestConfig.{GuestConfig}
+use Rattle.chains.specs.Range.{AreHeld}
+use Rattle.chains.specs.Ring.{after_publish}
+use Rattle.mmio_transport.specs.declared.fault.PopFault.{PopFault}
+use Rattle.mmio_transport.specs.declared.fault.PopFault.TheVariants.{Missing, Refused}
+use Rattle.mmio_transport.specs.declared.fault.DeviceFault.{DeviceFault}
+use Rattle.mmio_transport.specs.declared.done.Published.{Published}
+use Rattle.mmio_transport.specs.declared.done.Published.TheVariants.{Wrote, Dropped}
+use Rattle.mmio_transport.specs.Queue.{QueueState, used_held, Tells}
+use Rattle.mmio_transport.specs.Job.{Job, Done}
+use Rattle.mmio_transport.specs.Device.{DeviceState, first_state}
+use Rattle.mmio_transport.specs.Popping.{GivesJob}
+use Rattle.mmio_transport.specs.Publishing.{IsDue, IsDueIn, after_reply}
+
+-- A device, and what it knows of its guest's memory.
+pub record AskingState : Type 0 where
+  -- its memory are the bytes as it was told them, or wrote them, last
+  pub device : DeviceState
+  -- whether it asks for those of which it has no copy
+  pub asks : Bool
+  -- the parts of which it has one
+  pub held : List Span
+
+-- the memory of the guest as the device knows it
+abbrev pub known : AskingState → Known
+known a = record { bytes = a.device.memory; asks = a.asks; held = a.held }
+
+-- before a driver finds it, with a memory that is known so
+abbrev pub first_over : ℕ → GuestConfig → Known → AskingState
+first_over guest config memory = record {
+  device = record (first_state guest config) { memory = memory.bytes };
+  asks = memory.asks;
+  held = memory.held;
+}
+
+-- before a driver finds it: no byte was told
+abbrev pub first_asking : ℕ → GuestConfig → AskingState
+first_asking guest config = record { device = first_state guest config; asks = true; held = [] }
+
+-- a device that has all of its memory
+abbrev pub whole_device : DeviceState → AskingState
+whole_device d = record {
+  device = d;
+  asks = false;
+  held = record { at = 0; len = length d.memory } ∷ [];
+}
+
+-- the device after bytes of the guest's memory were told
+abbrev pub after_told : AskingState → ℕ → List ℕ → AskingState
+after_told a at bytes = record a {
+  device = record a.device { memory = with_bytes a.device.memory at bytes };
+  held = (told (known a) at bytes).held;
+}
+
+-- it does what a device does, and has copies of the same parts
+pub record DoesAsDevice (does : DeviceState → DeviceState → Type 0)
+    (a a' : AskingState) : Type 0 where
+  pub step : does a.device a'.device
+  pub same : a' ≡ record a { device = a'.device }
+
+-- bytes are asked for of which there is no copy, and nothing changed
+pub record Asks (ask : Ask) (a a' : AskingState) : Type 0 where
+  pub missing : IsAsk (known a) ask
+  pub same : a' ≡ a
+
+-- What a pop comes to: that of a device whose memory are any bytes of which these are copies; or
+-- it asks.
+abbrev pub GivesOrAsks : AskingState → Result (Option Job) PopFault → AskingState → Type 0
+GivesOrAsks a (Ok popped) a' = DoesAsDevice (λ d d'. GivesJob d (Ok popped) d') a a'
+GivesOrAsks a (Err (Refused fault)) a' = DoesAsDevice (λ d d'. GivesJob d (Err fault) d') a a'
+GivesOrAsks a (Err (Missing ask)) a' = Asks ask a a'
+
+-- there are copies of the parts that the reply and the used fields are written into
+pub record HasRoom (a : AskingState) (queue : QueueState) (done : Done) : Type 0 where
+  pub reply : AreHeld (known a) done.writable (length done.reply)
+  pub used : used_held queue.kind (known a) queue.ring
+
+abbrev pub HasRoomIn : Option QueueState → AskingState → Done → Type 0
+HasRoomIn None a done = Unit {0}
+HasRoomIn (Some queue) a done = HasRoom a queue done
+
+-- What a reply writes. A device that asks doesn't read whether its driver wants to be told: it
+-- tells it always (2.7.7.2: it should not, and a driver has to bear it).
+pub record WritesAsked (a : AskingState) (queue : QueueState) (done : Done) (notify : Bool)
+    (a' : AskingState) : Type 0 where
+  pub due : IsDue a.device queue done
+  pub exact : a.asks ≡ false → Tells queue.kind a'.device.memory queue.ring done.places notify
+  pub always : a.asks ≡ true → notify ≡ true
+  pub after : a'.device ≡ after_reply a.device queue done notify
+  pub same : a' ≡ record a { device = a'.device }
+
+abbrev pub WritesAskedIn : Option QueueState → AskingState → Done → Bool → AskingState → Type 0
+WritesAskedIn None a done notify a' = ⊥
+WritesAskedIn (Some queue) a done notify a' = WritesAsked a queue done notify a'
+
+-- what a publish does
+abbrev pub PublishesAsked : AskingState → Done → Published → AskingState → Type 0
+PublishesAsked a done (Wrote notify) a' = WritesAskedIn a.device.queue a done notify a'
+PublishesAsked a done Dropped a' = ¬ IsDueIn a.device.queue a.device done × (a' ≡ a)
