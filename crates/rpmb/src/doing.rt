@@ -179,8 +179,12 @@ fn counter_or_why<W: Write>(
         Ok(Some(counter)) => Ok(counter),
         Ok(None) => {
             words.command = "explain";
-            command(rt, words, lines.as_bytes(), out)?;
-            Err(told(rt, Refusal::NoCounter))
+            let explained = command(rt, words, lines.as_bytes(), out);
+            let _ = eprintln!(rt; "rpmb: nothing was written: no counter was read under this key");
+            match explained {
+                Ok(()) => Err(told(rt, Refusal::NoCounter)),
+                Err(stop) => Err(stop),
+            }
         }
         Err(refusal) => Err(told(rt, refusal)),
     }
