@@ -53,105 +53,35 @@ fn is_left(alloc: Global, partition: &Partition, capacity: u8, state: &Left) -> 
     Ok(state_of(partition) == *state && state_of(&copy) == *state && copy.capacity() == capacity)
 }
 
-/// What a scenario leaves.
-struct Leaving {
-    /// In units of 128 KiB.
-    capacity: u8,
-    /// How many blocks the guest may write at once, and how many it may read.
-    counts: (u8, u8),
-    left: Left,
-}
+/// What a scenario leaves of a partition: the units of 128 KiB that it has, how many blocks its
+/// guest may write and read at once, and its key, counter, sequence and first bytes then.
+type Leaving = (u8, (u8, u8), Option<[u8; 32]>, u32, u64, [u8; 5]);
 
 /// Whether a partition and its copy have this state after the steps.
 fn leaves(alloc: Global, scenario: &Scenario, told: &Leaving) -> Result<bool, Fail> {
-    let limits = limits_of(alloc, told.counts)?;
-    let mut partition = Partition::new(alloc, told.capacity)?;
+    let (capacity, counts, key, counter, sequence, firsts) = *told;
+    let limits = limits_of(alloc, counts)?;
+    let mut partition = Partition::new(alloc, capacity)?;
     take_steps(&mut partition, limits, scenario)?;
-    is_left(alloc, &partition, told.capacity, &told.left)
+    let left = Left {
+        key,
+        counter,
+        sequence,
+        firsts,
+    };
+    is_left(alloc, &partition, capacity, &left)
 }
 
 /// What the scenario of the same place leaves.
 static STATES: [Leaving; 8] = [
-    Leaving {
-        capacity: 1,
-        counts: (16, 16),
-        left: Left {
-            key: None,
-            counter: 0,
-            sequence: 0,
-            firsts: [0; 5],
-        },
-    },
-    Leaving {
-        capacity: 1,
-        counts: (16, 16),
-        left: Left {
-            key: KEYED,
-            counter: 0,
-            sequence: 1,
-            firsts: [0; 5],
-        },
-    },
-    Leaving {
-        capacity: 1,
-        counts: (16, 16),
-        left: Left {
-            key: KEYED,
-            counter: 2,
-            sequence: 3,
-            firsts: [0, 0x30, 0x3f, 0xa5, 0],
-        },
-    },
-    Leaving {
-        capacity: 1,
-        counts: (16, 16),
-        left: Left {
-            key: KEYED,
-            counter: 1,
-            sequence: 2,
-            firsts: [0xa5, 0, 0, 0, 0],
-        },
-    },
-    Leaving {
-        capacity: 1,
-        counts: (2, 1),
-        left: Left {
-            key: KEYED,
-            counter: 1,
-            sequence: 2,
-            firsts: [0, 0, 0, 0xa6, 0],
-        },
-    },
-    Leaving {
-        capacity: 1,
-        counts: (16, 16),
-        left: Left {
-            key: KEYED,
-            counter: 2,
-            sequence: 3,
-            firsts: [0; 5],
-        },
-    },
-    Leaving {
-        capacity: 2,
-        counts: (16, 16),
-        left: Left {
-            key: KEYED,
-            counter: 1,
-            sequence: 2,
-            firsts: [0; 5],
-        },
-    },
-    Leaving {
-        capacity: 128,
-        counts: (16, 16),
-        left: Left {
-            key: KEYED,
-            counter: 1,
-            sequence: 2,
-            firsts: [0; 5],
-        },
-    },
+    (1, (16, 16), None, 0, 0, [0; 5]),
+    (1, (16, 16), KEYED, 0, 1, [0; 5]),
+    (1, (16, 16), KEYED, 2, 3, [0, 0x30, 0x3f, 0xa5, 0]),
+    (1, (16, 16), KEYED, 1, 2, [0xa5, 0, 0, 0, 0]),
+    (1, (2, 1), KEYED, 1, 2, [0, 0, 0, 0xa6, 0]),
+    (1, (16, 16), KEYED, 2, 3, [0; 5]),
+    (2, (16, 16), KEYED, 1, 2, [0; 5]),
+    (128, (16, 16), KEYED, 1, 2, [0; 5]),
 ];
 
 /// A static can't refer to the scenarios, which are statics.
