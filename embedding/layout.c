@@ -185,7 +185,7 @@ static void check_answers(uint16_t guest, uint32_t answers, uint8_t again)
 
 	check_number(served.answered, answers, "`answered`");
 	check_number(served.fault, RPMB_OK, "`fault`");
-	check_number(served.ranges, 1 + answers, "`ranges`: the used ring, and each answer");
+	check_number(served.ranges, 1 + 2 * answers, "`ranges`: the used index, and each answer and its element");
 	check_number(served.sync, 0, "`sync`");
 	check_number(served.again, again, "`again`");
 	check_number(served.spare, 0, "`spare`");

@@ -134,8 +134,8 @@ impl<R: Rules> Ring<R> {
     /// The chain is known by `number` from then on, which has to be above those of the chains
     /// popped before: `last` tells the last of them.
     ///
-    /// It counts `reads` anew, and reads each descriptor once, up to the first that fails a test:
-    /// at most the queue size and 1,024.
+    /// It counts `reads` anew, and counts each descriptor that it reads, up to the first that fails
+    /// a test: at most the queue size and 1,024.
     ///
     /// Answers a fault for what the driver made available against the rules, `NoMemory`, or
     /// `Missing` for bytes that it needs and of which there is no copy; then the ring and the
@@ -186,25 +186,52 @@ impl<R: Rules> Ring<R> {
         R::used_lacks(&self.counts, memory)
     }
 
-    /// Whether the driver is to be notified. Of a memory that asks, what the driver says of it
-    /// isn't read, and it is.
+    /// The bytes by which the driver says whether it wants to be notified, where the memory has no
+    /// copy of them.
+    pub fn suppression_lacks(&self, memory: &Memory) -> Option<Ask>
+        requires areas { R.areas (length memory.now.bytes) self.now }
+        ensures some { IfSome result (λ ask. IsAsk memory.now ask) }
+        ensures short { IfSome result (λ ask. ask.len ≤ 4) }
+        ensures none { result ≡ None → R.suppression_held memory.now self.now }
+    {
+        R::suppression_lacks(&self.counts, memory)
+    }
+
+    /// Whether the driver is to be notified of the places that were used, from `old` on.
+    pub fn is_due(&self, memory: &Memory, old: u128) -> bool
+        requires areas { R.areas (length memory.now.bytes) self.now }
+        requires fits { old < 2 ^ 80 }
+        requires held { R.suppression_held memory.now self.now }
+        ensures { R.tells memory.now.bytes self.now old self.now.used result }
+    {
+        R::is_due(&self.counts, memory, old, self.counts.used())
+    }
+
+    /// Whether the driver is to be notified at once that so many places more were used. Of a memory
+    /// that asks it isn't: what the driver says of that is read once all was copied out.
     fn told(&self, memory: &Memory, places: u16) -> bool
         requires areas { R.areas (length memory.now.bytes) self.now }
         requires fits { self.now.used < 2 ^ 80 }
         ensures exact { memory.now.asks ≡ false
-            → R.tells memory.now.bytes self.now places result }
-        ensures always { memory.now.asks ≡ true → result ≡ true }
+            → R.tells memory.now.bytes self.now self.now.used (self.now.used + places) result }
+        ensures later { memory.now.asks ≡ true → result ≡ false }
     {
         if memory.asks() {
-            return true;
+            return false;
         }
-        R::is_due(&self.counts, memory, places)
+        memory.what_always_holds();
+        // for the checker: a memory that doesn't ask lacks nothing
+        if let Some(_ask) = self.suppression_lacks(memory) {
+            return false;
+        }
+        let used = self.counts.used();
+        R::is_due(&self.counts, memory, used, used + places as u128)
     }
 
     /// Publishes a chain as used: writes its used element or descriptor, and nothing else. `len` is
     /// the length in bytes of the reply, which was scattered before. Answers whether the driver is
-    /// to be notified, which the memory after these writes decides; of a memory that asks it always
-    /// is.
+    /// to be notified, which the memory after these writes decides; of a memory that asks it isn't
+    /// decided here.
     ///
     /// The chain of this number is outstanding no more, whatever other chains have its id. It takes
     /// no memory.
@@ -220,9 +247,10 @@ impl<R: Rules> Ring<R> {
         requires due { MayBeUsed self.old number id places }
         requires held { R.used_held memory.old self.old }
         ensures publishes { Publishes R.used_written
-            (λ bytes ring count told. memory.old.asks ≡ false → R.tells bytes ring count told)
+            (λ bytes ring count told. memory.old.asks ≡ false
+            → R.tells bytes ring ring.used (ring.used + count) told)
             memory.old.bytes self.old number id places len result memory.new.bytes self.new }
-        ensures always { memory.old.asks ≡ true → result ≡ true }
+        ensures later { memory.old.asks ≡ true → result ≡ false }
         ensures held { memory.new ≡ record memory.old { bytes = memory.new.bytes } }
         ensures once { IsFree number self.new.outstanding }
         ensures stays { Stays R.areas memory.old.bytes memory.new.bytes self.new }

@@ -114,16 +114,28 @@ pub trait Rules: Drop {
         ensures size { length memory.new.bytes ≡ length memory.old.bytes }
         ensures held { memory.new ≡ record memory.old { bytes = memory.new.bytes } };
 
-    /// What is to be answered on whether the driver is notified that so many places were used.
-    ghost tells: { List ℕ → RingState → ℕ → Bool → Type 0 };
+    /// What the driver says of notifications is there to be read.
+    ghost suppression_held: { Known → RingState → Type 0 };
 
-    /// Whether the driver is to be notified that so many places more were used.
-    fn is_due(ring: &Counts, memory: &Memory, places: u16) -> bool
+    /// What of it isn't there.
+    fn suppression_lacks(ring: &Counts, memory: &Memory) -> Option<Ask>
+        requires areas { areas (length memory.now.bytes) ring.now }
+        ensures some { IfSome result (λ ask. IsAsk memory.now ask) }
+        ensures short { IfSome result (λ ask. ask.len ≤ 4) }
+        ensures none { result ≡ None → suppression_held memory.now ring.now };
+
+    /// What is to be answered on whether the driver is notified that the places from one on and
+    /// below another were used.
+    ghost tells: { List ℕ → RingState → ℕ → ℕ → Bool → Type 0 };
+
+    /// Whether the driver is to be notified that the places from `old` on and below `new` were
+    /// used.
+    fn is_due(ring: &Counts, memory: &Memory, old: u128, new: u128) -> bool
         requires sound { is_ring ring.now.places ring.now.size }
         requires areas { areas (length memory.now.bytes) ring.now }
-        requires fits { ring.now.used < 2 ^ 80 }
-        requires whole { memory.now.asks ≡ false }
-        ensures { tells memory.now.bytes ring.now places result };
+        requires fits { old < 2 ^ 80 }
+        requires held { suppression_held memory.now ring.now }
+        ensures { tells memory.now.bytes ring.now old new result };
 
     /// The chain at the next place is that which begins there.
     ghost next_is: { (memory : List ℕ) (ring : RingState)

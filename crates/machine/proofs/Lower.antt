@@ -8,8 +8,8 @@ use Rattle.std.proofs.lemmas.Option.{slice_get_past}
 use Rattle.chains.specs.declared.range.Range.{Range as Part}
 use Rattle.mmio_transport.specs.Popping.{GivesJob}
 use Rattle.mmio_transport.specs.Publishing.{Publishes}
-use Rattle.mmio_transport.specs.Queue.{popped_by, written_by}
-use Rattle.machine.specs.Written.{IsPopNoted}
+use Rattle.mmio_transport.specs.Queue.{popped_by}
+use Rattle.machine.specs.Written.{IsPopNoted, queue_parts}
 use Rattle.mmio_transport.specs.Written.{KeepsOutside, LiesIn}
 use Rattle.mmio_transport.specs.declared.done.Published.{Published}
 use Rattle.mmio_transport.specs.declared.fault.DeviceFault.{DeviceFault}
@@ -22,7 +22,7 @@ covered_more [] rs rs' grow covered = tt
 covered_more (p ∷ ps) rs rs' grow covered =
     ((λ k inside. grow k (covered.0 k inside)), covered_more ps rs rs' grow covered.1)
 
-covered_both : (ps qs : List Part) (rs : List Range) → AreCovered ps rs → AreCovered qs rs
+pub covered_both : (ps qs : List Part) (rs : List Range) → AreCovered ps rs → AreCovered qs rs
     → AreCovered (ps ++ qs) rs
 covered_both [] qs rs first second = second
 covered_both (p ∷ ps) qs rs first second = (first.0, covered_both ps qs rs first.1 second)
@@ -60,6 +60,6 @@ pub publish_stays : (rs : List Range) (d d' : DeviceState) (done : Done) (to : P
     → StaysOutside rs d.memory d'.memory
 publish_stays rs d d' done to told noted does =
     let ps = parts_of done.writable (length done.reply) in
-    let qs = range_in (written_by d.queue) in
+    let qs = queue_parts d in
     stays_by (ps ++ qs) rs d.memory d'.memory noted.small (covered_both ps qs rs told noted.noted)
     (publication_writes d done to d' noted.sound does)

@@ -3,8 +3,9 @@ use Rattle.std.proofs.Common.{◌≡◌, refl, ap, sym, subst, ◌∙◌, ℕ, L
 use Rattle.machine.proofs.Common.{slice_get, slice_set, get_set_same, DeviceState, Done, Job}
 use Rattle.machine.proofs.Common.{BoardState, Answer, PopsInto, PublishesFrom, Grow, IsQueueNoted}
 use Rattle.machine.proofs.Common.{IsReplyNoted, Notes, StaysOutside, Writes, memory_in, Range}
-use Rattle.mmio_transport.specs.Queue.{popped_by, written_by}
-use Rattle.machine.specs.Written.{IsDoneNoted, IsPartNoted, IsPopNoted, memory_of}
+use Rattle.mmio_transport.specs.Queue.{popped_by}
+use Rattle.mmio_transport.specs.Written.{range_in}
+use Rattle.machine.specs.Written.{IsDoneNoted, ArePartsNoted, IsPopNoted, memory_of, queue_parts}
 use Rattle.machine.proofs.Lower.{pop_stays, publish_stays}
 
 pub stays_same : (rs : List Range) (m : List ℕ) → StaysOutside rs m m
@@ -36,11 +37,11 @@ notes_twice room a b c p q = record {
 
 -- the guest's device, or its reply, is this one
 pub queue_noted : (o : Option DeviceState) (d : DeviceState) (rs : List Range) → o ≡ Some d
-    → IsPartNoted (written_by d.queue) d rs → IsQueueNoted o rs
+    → ArePartsNoted (queue_parts d) d rs → IsQueueNoted o rs
 queue_noted o d rs is noted = subst (λ p. IsQueueNoted p rs) (sym is) noted
 
 pub pop_noted : (o : Option DeviceState) (d : DeviceState) (rs : List Range) → o ≡ Some d
-    → IsPartNoted (popped_by d.queue) d rs → IsPopNoted o rs
+    → ArePartsNoted (range_in (popped_by d.queue)) d rs → IsPopNoted o rs
 pop_noted o d rs is noted = subst (λ p. IsPopNoted p rs) (sym is) noted
 
 pub done_noted : (o : Option Done) (d : Done) (rs : List Range) → o ≡ Some d → IsReplyNoted d rs

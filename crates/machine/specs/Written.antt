@@ -1,11 +1,11 @@
 -- Which addresses of a guest's window a call wrote.
-use Rattle.std.specs.Prelude.{◌≡◌, ◌⊎◌, ◌<◌, ◌≤◌, ℕ, ◌+◌, Bool, ◌&&◌, nat_le, List, [], ◌∷◌, min}
+use Rattle.std.specs.Prelude.{◌≡◌, ◌⊎◌, ◌<◌, ◌≤◌, ℕ, ◌+◌, Bool, ◌&&◌, nat_le, List, [], ◌∷◌, ◌++◌, min}
 use Rattle.std.specs.Prelude.{Option, Some, None, length, slice_get}
 use Rattle.std.specs.List.{list_any}
 use Rattle.chains.specs.declared.range.Range.{Range as Part}
 use Rattle.mmio_transport.specs.Device.{DeviceState}
 use Rattle.mmio_transport.specs.Job.{Done}
-use Rattle.mmio_transport.specs.Queue.{popped_by, written_by}
+use Rattle.mmio_transport.specs.Queue.{indexed_by, popped_by, written_by}
 use Rattle.mmio_transport.specs.Written.{IsSound, parts_of, range_in}
 use Rattle.board.specs.State.{BoardState}
 use Rattle.machine.specs.declared.ranges.Range.{Range}
@@ -58,21 +58,24 @@ abbrev pub IsDoneNoted : Option Done → List Range → Type 0
 IsDoneNoted None rs = Unit {0}
 IsDoneNoted (Some done) rs = IsReplyNoted done rs
 
--- a part of a device's queue
-pub record IsPartNoted (part : Option Part) (d : DeviceState) (rs : List Range) : Type 0 where
-  pub noted : AreCovered (range_in part) rs
+-- parts of a device's queue
+pub record ArePartsNoted (parts : List Part) (d : DeviceState) (rs : List Range) : Type 0 where
+  pub noted : AreCovered parts rs
   pub sound : IsSound d
   pub small : length d.memory < 18446744073709551616
 
--- what a publication may write of it
+-- what a publication writes of it
+abbrev pub queue_parts : DeviceState → List Part
+queue_parts d = range_in (written_by d.queue) ++ range_in (indexed_by d.queue)
+
 abbrev pub IsQueueNoted : Option DeviceState → List Range → Type 0
 IsQueueNoted None rs = Unit {0}
-IsQueueNoted (Some d) rs = IsPartNoted (written_by d.queue) d rs
+IsQueueNoted (Some d) rs = ArePartsNoted (queue_parts d) d rs
 
--- what a pop may write of it
+-- what a pop writes of it
 abbrev pub IsPopNoted : Option DeviceState → List Range → Type 0
 IsPopNoted None rs = Unit {0}
-IsPopNoted (Some d) rs = IsPartNoted (popped_by d.queue) d rs
+IsPopNoted (Some d) rs = ArePartsNoted (range_in (popped_by d.queue)) d rs
 
 -- 2. What stays
 

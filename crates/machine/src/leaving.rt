@@ -47,7 +47,7 @@ fn note_next<D: Disk>(
     let Some(done) = board.done(guest) else {
         return Some(Left::All);
     };
-    if !first && !has_room(written, room, done.writable().len().saturating_add(1)) {
+    if !first && !has_room(written, room, done.writable().len().saturating_add(2)) {
         return Some(Left::Limit);
     }
     if !note_reply(written, room, done) {

@@ -179,10 +179,11 @@ impl Machine {
     /// outbox, and lets the replies leave that may. All that it writes into the window lies in the
     /// ranges that it fills, whose addresses are the guest's.
     ///
-    /// The used ring of a split queue is one range, whole; of a packed queue the 8 bytes of each
-    /// descriptor that is used are one; a reply's ranges are just its bytes. Where a reply has
-    /// more ranges than there is room for, the last range grows over the rest. `NoGuest`, or
-    /// `OutOfRange` where there is no room for one range, with nothing changed.
+    /// They are a reply's bytes, of a split queue each element that is used, 8 bytes, its used
+    /// index and avail_event, 2 bytes each, and of a packed one 8 bytes of each descriptor that is
+    /// used; each but once, and so in no order. Where there are more than there is room for, the
+    /// last range grows over the rest. `NoGuest`, or `OutOfRange` where there is no room for one
+    /// range, with nothing changed.
     pub fn serve(&mut self, guest: u16, ranges: &mut [Range]) -> Served
         ensures served { IsServed guest self.old self.new }
         ensures writes { TellsRanges guest result.ranges ranges.new self.old self.new }

@@ -8,7 +8,7 @@ ghost use Rattle.machine.specs.Serving.{IsTaken, Serves};
 ghost use Rattle.machine.specs.Written.{IsPopNoted, IsQueueNoted, Notes, Writes};
 
 use crate::fault::MachineFault;
-use crate::ranges::{Range, note};
+use crate::ranges::{Range, note_part};
 use crate::stepping::{Went, make, submit};
 use board::{Board, Step};
 use disk::Disk;
@@ -27,7 +27,7 @@ pub(crate) enum Offered {
     Refused(MachineFault),
 }
 
-/// Notes what a pop may write of the guest's queue. Whether it is noted.
+/// Notes what a pop writes of the guest's queue. Whether it is noted.
 fn note_pop<D: Disk>(board: &Board<D>, guest: u16, written: &mut Vec<Range>, room: usize) -> bool
     ensures notes { Notes room written.old.items written.new.items }
     ensures noted { result ≡ true
@@ -37,16 +37,13 @@ fn note_pop<D: Disk>(board: &Board<D>, guest: u16, written: &mut Vec<Range>, roo
         Some(device) => {
             let _size = device.memory_size(); // for the checker: no range of it wraps
             let _part = device.written(); // for the checker: the queue lies in it
-            match device.written_by_pop() {
-                Some(part) => note(written, room, Range::of(part)),
-                None => true,
-            }
+            note_part(written, room, device.written_by_pop())
         }
         None => true,
     }
 }
 
-/// Notes what a publication may write of the guest's queue. Whether it is noted.
+/// Notes what a publication writes of the guest's queue. Whether it is noted.
 pub(crate) fn note_queue<D: Disk>(
     board: &Board<D>,
     guest: u16,
@@ -60,10 +57,10 @@ pub(crate) fn note_queue<D: Disk>(
     match board.device_of(guest) {
         Some(device) => {
             let _size = device.memory_size(); // for the checker: no range of it wraps
-            match device.written() {
-                Some(part) => note(written, room, Range::of(part)),
-                None => true,
+            if !note_part(written, room, device.written()) {
+                return false;
             }
+            note_part(written, room, device.indexed())
         }
         None => true,
     }

@@ -1,7 +1,9 @@
 //! Which bytes of a guest's window a call wrote.
 ghost use Rattle.std.specs.Prelude.{◌≡◌, ◌≤◌, ◌<◌, ◌++◌, ◌∷◌, [], true, false, min, max, length};
 ghost use Rattle.std.specs.Prelude.{map, take};
-ghost use Rattle.machine.specs.Written.{Grow, IsCovered, IsReplyNoted, Notes, end_of, lies_in_one};
+ghost use Rattle.machine.specs.Written.{AreCovered, Grow, IsCovered, IsReplyNoted, Notes, end_of};
+ghost use Rattle.machine.specs.Written.{lies_in_one};
+ghost use Rattle.mmio_transport.specs.Written.{range_in};
 ghost use Rattle.machine.specs.Written.{range_of, told_at};
 
 use chains::Range as Part;
@@ -100,7 +102,7 @@ fn grow_last(written: &mut Vec<Range>, range: Range) -> bool
 
 /// Notes a range, of which there are at most `room`; where there is no room the last one grows
 /// over it. Whether it is noted.
-pub(crate) fn note(written: &mut Vec<Range>, room: usize, range: Range) -> bool
+fn note(written: &mut Vec<Range>, room: usize, range: Range) -> bool
     ensures notes { Notes room written.old.items written.new.items }
     ensures noted { result ≡ true → IsCovered range written.new.items }
 {
@@ -114,6 +116,17 @@ pub(crate) fn note(written: &mut Vec<Range>, room: usize, range: Range) -> bool
         return true;
     }
     grow_last(written, range)
+}
+
+/// Notes a part of a queue, where there is one. Whether it is noted.
+pub(crate) fn note_part(written: &mut Vec<Range>, room: usize, part: Option<Part>) -> bool
+    ensures notes { Notes room written.old.items written.new.items }
+    ensures noted { result ≡ true → AreCovered (range_in part) written.new.items }
+{
+    match part {
+        Some(part) => note(written, room, Range::of(part)),
+        None => true,
+    }
 }
 
 /// Notes where a reply is written. Whether all of it is noted.

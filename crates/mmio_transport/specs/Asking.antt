@@ -1,6 +1,7 @@
 -- A device whose memory its host doesn't hold: what it knows of it, what it asks for, and what it
 -- does by the words of a device. Section numbers are those of VIRTIO 1.2.
-use Rattle.std.specs.Prelude.{◌≡◌, ℕ, Bool, true, false, List, [], ◌∷◌, length, Option, None, Some}
+use Rattle.std.specs.Prelude.{◌≡◌, ℕ, Bool, true, false, if◌then◌else◌, nat_le, List, [], ◌∷◌}
+use Rattle.std.specs.Prelude.{length, Option, None, Some}
 use Rattle.std.specs.Prelude.{Result, Ok, Err}
 use Rattle.guest_memory.specs.declared.ask.Ask.{Ask}
 use Rattle.guest_memory.specs.Memory.{Known, Span, IsAsk, told, with_bytes}
@@ -12,11 +13,11 @@ use Rattle.mmio_transport.specs.declared.fault.PopFault.TheVariants.{Missing, Re
 use Rattle.mmio_transport.specs.declared.fault.DeviceFault.{DeviceFault}
 use Rattle.mmio_transport.specs.declared.done.Published.{Published}
 use Rattle.mmio_transport.specs.declared.done.Published.TheVariants.{Wrote, Dropped}
-use Rattle.mmio_transport.specs.Queue.{QueueState, used_held, Tells}
+use Rattle.mmio_transport.specs.Queue.{QueueState, used_held, Tells, TellsFrom}
 use Rattle.mmio_transport.specs.Job.{Job, Done}
-use Rattle.mmio_transport.specs.Device.{DeviceState, first_state}
+use Rattle.mmio_transport.specs.Device.{DeviceState, after_write, first_state, is_ready}
 use Rattle.mmio_transport.specs.Popping.{GivesJob}
-use Rattle.mmio_transport.specs.Publishing.{IsDue, IsDueIn, after_reply}
+use Rattle.mmio_transport.specs.Publishing.{IsDue, IsDueIn, after_reply, with_notification}
 
 -- A device, and what it knows of its guest's memory.
 pub record AskingState : Type 0 where
@@ -26,6 +27,8 @@ pub record AskingState : Type 0 where
   pub asks : Bool
   -- the parts of which it has one
   pub held : List Span
+  -- how many places of its queue were used when it last saw whether its driver is to be notified
+  pub told : ℕ
 
 -- the memory of the guest as the device knows it
 abbrev pub known : AskingState → Known
@@ -37,11 +40,13 @@ first_over guest config memory = record {
   device = record (first_state guest config) { memory = memory.bytes };
   asks = memory.asks;
   held = memory.held;
+  told = 0;
 }
 
 -- before a driver finds it: no byte was told
 abbrev pub first_asking : ℕ → GuestConfig → AskingState
-first_asking guest config = record { device = first_state guest config; asks = true; held = [] }
+first_asking guest config =
+    record { device = first_state guest config; asks = true; held = []; told = 0 }
 
 -- a device that has all of its memory
 abbrev pub whole_device : DeviceState → AskingState
@@ -49,7 +54,14 @@ whole_device d = record {
   device = d;
   asks = false;
   held = record { at = 0; len = length d.memory } ∷ [];
+  told = 0;
 }
+
+-- The device after its driver wrote a register. A queue that is taken away was used nowhere.
+abbrev pub after_asked_write : AskingState → (offset width value : ℕ) → AskingState
+after_asked_write a offset width value =
+    let d = after_write a.device offset width value in
+    record a { device = d; told = if is_ready d.queue then a.told else 0 }
 
 -- the device after bytes of the guest's memory were told
 abbrev pub after_told : AskingState → ℕ → List ℕ → AskingState
@@ -85,13 +97,13 @@ abbrev pub HasRoomIn : Option QueueState → AskingState → Done → Type 0
 HasRoomIn None a done = Unit {0}
 HasRoomIn (Some queue) a done = HasRoom a queue done
 
--- What a reply writes. A device that asks doesn't read whether its driver wants to be told: it
--- tells it always (2.7.7.2: it should not, and a driver has to bear it).
+-- What a reply writes. Whether the driver of a device that asks is to be notified is seen later,
+-- once all of this was copied out: the driver may have said so in the meantime (2.7.7.2).
 pub record WritesAsked (a : AskingState) (queue : QueueState) (done : Done) (notify : Bool)
     (a' : AskingState) : Type 0 where
   pub due : IsDue a.device queue done
   pub exact : a.asks ≡ false → Tells queue.kind a'.device.memory queue.ring done.places notify
-  pub always : a.asks ≡ true → notify ≡ true
+  pub later : a.asks ≡ true → notify ≡ false
   pub after : a'.device ≡ after_reply a.device queue done notify
   pub same : a' ≡ record a { device = a'.device }
 
@@ -103,3 +115,28 @@ WritesAskedIn (Some queue) a done notify a' = WritesAsked a queue done notify a'
 abbrev pub PublishesAsked : AskingState → Done → Published → AskingState → Type 0
 PublishesAsked a done (Wrote notify) a' = WritesAskedIn a.device.queue a done notify a'
 PublishesAsked a done Dropped a' = ¬ IsDueIn a.device.queue a.device done × (a' ≡ a)
+
+-- It was seen whether the driver is to be notified of what was used since that was seen last.
+pub record Decides (a : AskingState) (queue : QueueState) (notify : Bool)
+    (a' : AskingState) : Type 0 where
+  pub tells : TellsFrom queue.kind a.device.memory queue.ring a.told queue.ring.used notify
+  pub after : a'
+      ≡ record a {
+        device = record a.device { registers = with_notification a.device.registers notify };
+        told = queue.ring.used;
+      }
+
+-- nothing was used since, or the driver's wish is read, or asked for
+abbrev pub NotifiesWhere : Bool → QueueState → AskingState → Result Bool Ask → AskingState → Type 0
+NotifiesWhere true queue a answer a' = (answer ≡ Ok false) × (a' ≡ a)
+NotifiesWhere false queue a (Ok notify) a' = Decides a queue notify a'
+NotifiesWhere false queue a (Err ask) a' = Asks ask a a'
+
+abbrev pub NotifiesOf : Option QueueState → AskingState → Result Bool Ask → AskingState → Type 0
+NotifiesOf None a answer a' = (answer ≡ Ok false) × (a' ≡ a)
+NotifiesOf (Some queue) a answer a' =
+    NotifiesWhere (nat_le queue.ring.used a.told) queue a answer a'
+
+-- whether the driver is to be notified
+abbrev pub Notifies : AskingState → Result Bool Ask → AskingState → Type 0
+Notifies a answer a' = NotifiesOf a.device.queue a answer a'

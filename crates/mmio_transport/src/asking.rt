@@ -2,12 +2,12 @@
 ghost use Rattle.std.specs.Prelude.{◌≡◌, ◌≤◌, ◌+◌, ◌↔◌, IsOk, IfOk, OnOk, OnErr, IsErrOf};
 ghost use Rattle.std.specs.Prelude.{length, false, Err};
 ghost use Rattle.guest_memory.specs.Memory.{IsHeld, IsInside, IsWhole, bytes_at, kept};
-ghost use Rattle.mmio_transport.specs.Asking.{after_told, first_asking, first_over, known};
-ghost use Rattle.mmio_transport.specs.Asking.{whole_device};
+ghost use Rattle.mmio_transport.specs.Asking.{after_asked_write, after_told, first_asking};
+ghost use Rattle.mmio_transport.specs.Asking.{first_over, known, whole_device};
 ghost use Rattle.mmio_transport.specs.Device.{first_state, read_value, after_write, after_ready};
 ghost use Rattle.mmio_transport.specs.Device.{after_reset, kick_of, counted};
 ghost use Rattle.mmio_transport.specs.Popping.{with_fault};
-ghost use Rattle.mmio_transport.specs.Queue.{popped_by, written_by};
+ghost use Rattle.mmio_transport.specs.Queue.{indexed_by, popped_by, written_by};
 ghost use Rattle.mmio_transport.specs.Registers.{interrupt_number};
 ghost use Rattle.mmio_transport.specs.Written.{IsSound};
 
@@ -37,6 +37,9 @@ pub struct AskingDevice {
     pub(crate) session: u64,
     pub(crate) readiness: u64,
     pub(crate) pops: u64,
+    /// How many places of the queue were used when it was last seen whether the driver is to be
+    /// notified.
+    pub(crate) told: u128,
 }
 
 impl Model for AskingDevice {
@@ -59,6 +62,7 @@ impl Model for AskingDevice {
       };
       asks = d.memory.asks;
       held = d.memory.held;
+      told = d.told;
     } };
 
     ghost invariant = { λ d. IsDevice (length d.memory.bytes) d.readiness d.pops d.queue };
@@ -86,6 +90,7 @@ impl AskingDevice {
             session: 1,
             readiness: 0,
             pops: 0,
+            told: 0,
         }
     }
 
@@ -135,6 +140,18 @@ impl AskingDevice {
     /// Widths other than 4, offsets that aren't listed and the configuration ignore what is
     /// written.
     pub fn write(&mut self, offset: u32, width: u8, value: u32) -> Kick
+        ensures state { self.new ≡ after_asked_write self.old offset width value }
+        ensures kick { result ≡ kick_of offset width value }
+    {
+        let kick = self.take_write(offset, width, value);
+        if self.queue.is_none() {
+            self.told = 0;
+        }
+        kick
+    }
+
+    /// What a write does to the registers and the queue.
+    fn take_write(&mut self, offset: u32, width: u8, value: u32) -> Kick
         ensures state { self.new
             ≡ record self.old { device = after_write self.old.device offset width value } }
         ensures kick { result ≡ kick_of offset width value }
@@ -302,20 +319,20 @@ impl AskingDevice {
         self.registers.driver_features_sel
     }
 
-    /// The part of the ready queue's areas that a pop may write: of a split queue the used ring;
-    /// `None` of a packed one, and without a ready queue.
+    /// The part of the ready queue's areas that a pop writes: of a split queue with
+    /// VIRTIO_F_EVENT_IDX avail_event, 2 bytes; `None` of another, and without a ready queue.
     pub fn written_by_pop(&self) -> Option<Range>
         ensures { result ≡ popped_by self.now.device.queue }
     {
         match &self.queue {
-            Some(queue) => queue.popped_part(),
+            Some(queue) => queue.popped_part(&self.memory),
             None => None,
         }
     }
 
-    /// The part of the ready queue's areas that the next publication may write; `None` without a
-    /// ready queue. Of a split queue it is the used ring; of a packed one the last 8 bytes of the
-    /// descriptor at the first place that isn't used.
+    /// The part of the ready queue's areas that the next publication writes first; `None` without a
+    /// ready queue. Of a split queue it is the used element at the first place that isn't used, 8
+    /// bytes; of a packed one the last 8 bytes of the descriptor there.
     pub fn written(&self) -> Option<Range>
         ensures names { result ≡ written_by self.now.device.queue }
         // What the laws of a pop and of a publication start from, for a caller that has only the
@@ -324,6 +341,17 @@ impl AskingDevice {
     {
         match &self.queue {
             Some(queue) => Some(queue.written(&self.memory)),
+            None => None,
+        }
+    }
+
+    /// The part that it writes behind that, by which the driver knows of it: of a split queue the
+    /// used ring's idx, 2 bytes; `None` of a packed one, and without a ready queue.
+    pub fn indexed(&self) -> Option<Range>
+        ensures { result ≡ indexed_by self.now.device.queue }
+    {
+        match &self.queue {
+            Some(queue) => queue.indexed(&self.memory),
             None => None,
         }
     }

@@ -2,7 +2,7 @@
 ghost use Rattle.std.specs.Prelude.{◌≡◌, ◌≤◌, ◌↔◌, IsTrue, length, [], None, Some, Ok, Err, IfSome, false};
 ghost use Rattle.guest_memory.specs.Memory.{IsAsk};
 ghost use Rattle.guest_memory.specs.declared.ask.Ask.{Ask};
-ghost use Rattle.mmio_transport.specs.Asking.{known, GivesOrAsks, HasRoomIn, PublishesAsked};
+ghost use Rattle.mmio_transport.specs.Asking.{known, GivesOrAsks, HasRoomIn, Notifies, PublishesAsked};
 ghost use Rattle.mmio_transport.specs.Job.{Job, room_in};
 ghost use Rattle.mmio_transport.specs.Popping.{is_stopped};
 ghost use Rattle.mmio_transport.specs.Publishing.{IsDueIn};
@@ -32,15 +32,17 @@ impl AskingDevice {
     ///
     /// A fault of the chain sets DEVICE_NEEDS_RESET; from then on each pop answers `NeedsReset` and
     /// changes nothing, until a reset. Where the count of sessions, readiness or pops stands at its
-    /// end it does so for good. `NoMemory` comes only where a buffer is reached before any fault,
-    /// and changes nothing. By the ring's contract one pop reads each descriptor once, up to the
-    /// first that fails a test: at most the queue size and 1,024.
+    /// end it does so for good. `NoMemory` comes only where a buffer is reached before any fault, or
+    /// the chain passes all tests, and changes nothing. By the ring's contract one pop counts each
+    /// descriptor that it reads, up to the first that fails a test: at most the queue size and
+    /// 1,024.
     pub fn pop(&mut self) -> Result<Option<Job>, PopFault>
         ensures gives { GivesOrAsks self.old result self.new }
         ensures short { (ask : Ask) → result ≡ Err (PopFault.Missing ask) → ask.len ≤ 16384 }
         // Nothing is believed but what there is a copy of.
         ensures fresh { (job : Job) → self.old.held ≡ [] → ¬ (result ≡ Ok (Some job)) }
-        ensures whole { (ask : Ask) → self.old.asks ≡ false → ¬ (result ≡ Err (PopFault.Missing ask)) }
+        ensures whole { (ask : Ask) → self.old.asks ≡ false
+            → ¬ (result ≡ Err (PopFault.Missing ask)) }
     {
         if self.is_stopped() {
             return Err(PopFault::Refused(DeviceFault::NeedsReset));
@@ -113,9 +115,10 @@ impl AskingDevice {
         }
     }
 
-    /// Writes a reply into its chain's ranges, gives the chain back as used, and raises bit 0 of
-    /// InterruptStatus exactly where a notification is due. It takes no memory. In which order the
-    /// bytes are written is in no contract: nobody else sees this memory during the call.
+    /// Writes a reply into its chain's ranges, and gives the chain back as used. It takes no
+    /// memory. In which order the bytes are written is in no contract: nobody else sees this memory
+    /// during the call. Whether the driver is to be notified is asked by `notify`, once all of it
+    /// was copied out.
     ///
     /// `Dropped`, with nothing changed, where the queue isn't ready, the guest, session or
     /// readiness of the reply isn't the device's, the device waits for a reset, a range doesn't lie
@@ -150,5 +153,34 @@ impl AskingDevice {
             self.registers.interrupts.used_buffer = true;
         }
         Published::Wrote { notify }
+    }
+
+    /// Whether the driver is to be notified of what was used since that was asked last, by what it
+    /// says of it now (VIRTIO 1.2, 2.7.7, 2.8.10); then bit 0 of InterruptStatus is raised. Not so
+    /// where nothing was used since.
+    ///
+    /// Answers the bytes by which the driver says it where there is no copy of them, at most 4, and
+    /// nothing changes. They are to be read behind the used index: a driver may ask for the
+    /// notification just before it looks for used buffers the last time.
+    pub fn notify(&mut self) -> Result<bool, Ask>
+        ensures notifies { Notifies self.old result self.new }
+        ensures short { (ask : Ask) → result ≡ Err ask → ask.len ≤ 4 }
+    {
+        let Some(queue) = &self.queue else {
+            return Ok(false);
+        };
+        let used = queue.used();
+        if used <= self.told {
+            return Ok(false);
+        }
+        if let Some(ask) = queue.suppression_lacks(&self.memory) {
+            return Err(ask);
+        }
+        let notify = queue.is_due(&self.memory, self.told);
+        self.told = used;
+        if notify {
+            self.registers.interrupts.used_buffer = true;
+        }
+        Ok(notify)
     }
 }

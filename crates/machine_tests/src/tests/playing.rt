@@ -3,7 +3,7 @@
 use crate::tests::answers::{
     fail, has_counter, has_key, keep_apart, key_and_counter, stop_within_a_key, take_turns,
 };
-use crate::tests::ranges::{refuse_outside, tell_one, two_ranges};
+use crate::tests::ranges::{refuse_outside, tell_one, three_ranges};
 use crate::tests::rig::{Monitor, Rig, fresh_image, opened};
 use crate::tests::settings::{asked, plain};
 use machine::Window;
@@ -21,7 +21,7 @@ pub enum Acts {
     Failure,
     TwoGuests,
     Turns,
-    TwoRanges,
+    ThreeRanges,
     OneRange,
     /// The base of the window.
     Outside(u64),
@@ -38,7 +38,7 @@ fn act<M: Monitor>(rig: &mut Rig<M>, acts: Acts) -> Result<(), Fail> {
         Acts::Failure => fail(rig),
         Acts::TwoGuests => keep_apart(rig),
         Acts::Turns => take_turns(rig),
-        Acts::TwoRanges => two_ranges(rig),
+        Acts::ThreeRanges => three_ranges(rig),
         Acts::OneRange => tell_one(rig),
         Acts::Outside(base) => refuse_outside(rig, base),
         Acts::Plain => plain(rig),

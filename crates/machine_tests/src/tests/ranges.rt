@@ -15,46 +15,47 @@ fn serve_once<M: Monitor>(rig: &mut Rig<M>, ranges: &mut [Range]) -> Result<usiz
     Ok(served.ranges)
 }
 
-/// The used ring and the reply, each a range of its own.
-fn tell_two<M: Monitor>(rig: &mut Rig<M>, base: u64) -> Result<(), Fail> {
+/// The reply, its used element and the used index, each a range of its own.
+fn tell_all<M: Monitor>(rig: &mut Rig<M>, base: u64) -> Result<(), Fail> {
     let mut ranges = [Range { at: 0, len: 0 }; 8];
-    check(serve_once(rig, &mut ranges)? == 2, "two ranges")?;
-    let used = Range {
-        at: base.saturating_add(0x3000),
-        len: 6 + 8 * 16,
-    };
-    let reply = Range {
-        at: base.saturating_add(reply_at(0)),
-        len: 512,
-    };
-    check(
-        ranges[0] == used && ranges[1] == reply,
-        "the used ring and the reply",
-    )?;
+    check(serve_once(rig, &mut ranges)? == 3, "three ranges")?;
+    for (place, (at, len)) in [(reply_at(0), 512), (0x3004, 8), (0x3002, 2)]
+        .iter()
+        .enumerate()
+    {
+        let told = Range {
+            at: base.saturating_add(*at),
+            len: *len,
+        };
+        check(
+            ranges[place] == told,
+            "the reply, its element and the index",
+        )?;
+    }
     check(ending(rig, 0, 0)? == NO_KEY, "a counter of no key")
 }
 
 /// The same of a window at 0.
-pub fn two_ranges<M: Monitor>(rig: &mut Rig<M>) -> Result<(), Fail> {
+pub fn three_ranges<M: Monitor>(rig: &mut Rig<M>) -> Result<(), Fail> {
     rig.set_up(0)?;
-    tell_two(rig, 0)
+    tell_all(rig, 0)
 }
 
 #[test]
 fn each_part_is_told(rt: HostRuntime) -> Result<(), Fail> {
-    play(rt.alloc(), &[window_at(0)], Acts::TwoRanges)
+    play(rt.alloc(), &[window_at(0)], Acts::ThreeRanges)
 }
 
-/// With room for one range, it spans both.
+/// With room for one range, it spans all.
 pub fn tell_one<M: Monitor>(rig: &mut Rig<M>) -> Result<(), Fail> {
     rig.set_up(0)?;
     let mut ranges = [Range { at: 0, len: 0 }];
     check(serve_once(rig, &mut ranges)? == 1, "one range")?;
     let all = Range {
-        at: 0x3000,
-        len: reply_at(0).saturating_add(512).saturating_sub(0x3000),
+        at: 0x3002,
+        len: reply_at(0).saturating_add(512).saturating_sub(0x3002),
     };
-    check(ranges[0] == all, "from the used ring to the reply")
+    check(ranges[0] == all, "from the used index to the reply")
 }
 
 #[test]
@@ -80,7 +81,7 @@ pub fn refuse_outside<M: Monitor>(rig: &mut Rig<M>, base: u64) -> Result<(), Fai
         rig.monitor.put(0, base.saturating_add(65_535), &byte),
         "no store at the end",
     )?;
-    tell_two(rig, base)
+    tell_all(rig, base)
 }
 
 #[test]

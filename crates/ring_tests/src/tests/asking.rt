@@ -38,6 +38,9 @@ struct Case {
     request: &'static [u8],
     // What its publication lacks.
     publication: &'static [Told],
+    // By what the driver says whether it wants to be notified, and whether it does.
+    wish: Told,
+    notified: bool,
     // What the next pop asks for, which finds no chain.
     next: &'static [Told],
 }
@@ -74,6 +77,8 @@ static SPLIT: Case = Case {
         (DEVICE + 4, 8, &[]),
         (DEVICE + 2, 2, &[]),
     ],
+    wish: (DRIVER + 20, 2, &[]), // used_event: at the first
+    notified: true,
     next: &[(DRIVER + 2, 2, &[1, 0]), (DEVICE + 68, 2, &[])],
 };
 
@@ -96,6 +101,8 @@ static PACKED: Case = Case {
     ],
     request: &[44, 45, 46],
     publication: &[(REPLY, 512, &[]), (DESC + 8, 8, &[])],
+    wish: (DRIVER, 4, &[0, 0, 1, 0]), // RING_EVENT_FLAGS_DISABLE
+    notified: false,
     next: &[(DESC + 30, 2, &[])],
 };
 
@@ -165,7 +172,7 @@ fn lacks_in_order(alloc: Global, device: &mut AskingDevice, done: &Done, parts: 
 
 fn publishes(device: &mut AskingDevice, done: Done) -> bool {
     match device.lacks(&done) {
-        None => device.publish(done) == Published::Wrote { notify: true },
+        None => device.publish(done) == Published::Wrote { notify: false },
         Some(_) => false,
     }
 }
@@ -182,6 +189,15 @@ fn answers(alloc: Global, device: &mut AskingDevice, job: Job, parts: &[Told]) -
     lacks_in_order(alloc, device, &done, parts) && publishes(device, done)
 }
 
+// Whether the driver is notified just where it wants to be, once.
+fn notifies(alloc: Global, device: &mut AskingDevice, case: &Case) -> bool {
+    device.forget();
+    device.notify() == Err(ask_of(&case.wish))
+        && tells(alloc, device, &case.wish)
+        && device.notify() == Ok(case.notified)
+        && device.notify() == Ok(false)
+}
+
 fn goes(alloc: Global, case: &Case) -> Result<(), Fail> {
     let mut device = device_of(alloc, case.features);
     check(asks_in_this_order(alloc, &mut device, case.pop), "the pop")?;
@@ -194,6 +210,7 @@ fn goes(alloc: Global, case: &Case) -> Result<(), Fail> {
         answers(alloc, &mut device, job, case.publication),
         "the reply",
     )?;
+    check(notifies(alloc, &mut device, case), "the notification")?;
     device.forget();
     check(
         asks_in_this_order(alloc, &mut device, case.next),

@@ -17,7 +17,7 @@ loop-range-preserved c =
     record {
       rest = λ are. c.loop-range.invariant.rest (held_more m xs i d left c.loop-range-test.true
           (λ some. subst (IsHeld m (get_or xs i d).at) is
-          (c.lacking.ensures.none c.in-None.is (omega (arith, is, some))))
+          (c.lacks.ensures.none c.in-None.is (omega (arith, is, some))))
           (subst (AreHeld m (drop (i + 1) xs)) (omega (arith, is)) are));
     }
 
