@@ -1,12 +1,12 @@
 -- What one step of a board does to its disk, and what steps one after another do.
 use Rattle.std.proofs.Common.{◌≡◌, ◌≤◌, ◌<◌, ◌⊎◌, ◌+◌, ◌^◌, inl, inr, ℕ, Bool, true, false, List}
-use Rattle.std.proofs.Common.{Option, Some, Result, length, refl, ap, sym, subst, ◌∙◌, arith}
+use Rattle.std.proofs.Common.{Option, Some, None, Result, length, refl, ap, sym, subst, ◌∙◌, arith}
 use Rattle.std.proofs.Common.{length-set}
 use Rattle.board.proofs.Common.{slice_get, slice_set, slice_get_within, Request, Partition}
 use Rattle.board.proofs.Common.{GuestConfig, DiskCall, DiskState, Effect, HasRisen, Still, Within}
 use Rattle.board.proofs.Common.{within_weaker, Intent, Part, Guest, Progress, StoreFault}
 use Rattle.board.proofs.Common.{pending_stays, MovedBy, Round, planned, settles, guest_after_sync}
-use Rattle.board.proofs.Common.{mark_of, given, DeviceState, Job, state, AreOfBoard, by_test}
+use Rattle.board.proofs.Common.{mark_of, given, DeviceState, Done, Job, state, AreOfBoard, by_test}
 use Rattle.board.proofs.Common.{IsLinkedBoard, IsSound, LeavesPrefixes, StaysLinked, accepted_after}
 use Rattle.board.proofs.Common.{answered, marks_in, BoardState, Advances, Answer, Does, Step}
 use Rattle.std.specs.Prelude.{position}
@@ -17,7 +17,7 @@ use Rattle.flusher.specs.Pair.{guest_awaits, guest_has_write}
 use Rattle.rpmb_book.specs.Audit.{HasHistory}
 use Rattle.rpmb_book.specs.Sound.{IsSound as IsSoundBook}
 use Rattle.board.proofs.Headers.{header_stays, header_still, header_twice}
-use Rattle.board.proofs.Linked.{in_book}
+use Rattle.board.proofs.Linked.{in_book, publishes_linked}
 use Rattle.board.proofs.Prefixes.{does_moments, leaves_now}
 use Rattle.board.proofs.Stays.{does_stay}
 use Rattle.board.proofs.Stores.{of_store}
@@ -177,6 +177,32 @@ still_moves shows makes old devices' jobs' many wide = record {
     now = accepted;
     more = goes_none accepted;
     linked = grind arith;
+    moments = λ known. Still old.store.disk (leaves_now shows config bases accepted was.parts old
+        was.linked known);
+  };
+}
+
+-- where a reply left its place, and devices changed, as many as they were
+pub left_moves : {D : Type 0} (shows : D → DiskState) (makes : D → DiskCall → D → Type 0)
+    (old : BoardState D) (n : ℕ) (d : Done) (devices' : List DeviceState)
+    → slice_get old.dones n ≡ Some (Some d) → length devices' ≡ length old.devices
+    → Moves shows makes old (record old { devices = devices'; dones = slice_set old.dones n None })
+left_moves shows makes old n d devices' full many = record {
+  len = refl;
+  faithful = refl;
+  later = omega arith;
+  whole = λ whole. whole;
+  cause = λ broken. inl broken;
+  marks = λ g. omega arith;
+  header = header_still shows makes old.store.disk old.store.disk refl;
+  reaches = λ config bases accepted was. record {
+    now = accepted;
+    more = goes_none accepted;
+    linked = record {
+      parts = was.parts;
+      linked = publishes_linked shows config bases accepted was.parts old was.linked n d full
+          devices' (many ∙ was.linked.places.devices);
+    };
     moments = λ known. Still old.store.disk (leaves_now shows config bases accepted was.parts old
         was.linked known);
   };

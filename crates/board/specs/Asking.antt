@@ -1,0 +1,89 @@
+-- What contracts see of a board whose guests' memory its host doesn't hold.
+use Rattle.std.specs.Prelude.{◌≡◌, ◌≤◌, ℕ, ◌+◌, Bool, List, [], ◌∷◌, map, length, slice_get}
+use Rattle.std.specs.Prelude.{slice_set, Option, Some, None, Result, Ok, Err}
+use Rattle.guest_memory.specs.Memory.{Span, IsAsk}
+use Rattle.guest_memory.specs.declared.ask.Ask.{Ask}
+use Rattle.rpmb_frame.specs.declared.config.GuestConfig.{GuestConfig}
+use Rattle.disk.specs.Disk.{DiskCall, DiskState}
+use Rattle.mmio_transport.specs.Asking.{AskingState, PublishesAsked, first_asking, known}
+use Rattle.mmio_transport.specs.Job.{Done, room_in}
+use Rattle.mmio_transport.specs.declared.done.Published.{Published}
+use Rattle.mmio_transport.specs.declared.fault.PopFault.{PopFault}
+use Rattle.mmio_transport.specs.declared.fault.PopFault.TheVariants.{Missing, Refused}
+use Rattle.recovery.specs.declared.fault.OpenFault.{OpenFault}
+use Rattle.board.specs.State.{BoardState, in_place, with_devices}
+use Rattle.board.specs.Steps.{Answer, did_answer}
+use Rattle.board.specs.Moving.{Moves, Steps}
+use Rattle.board.specs.declared.step.Step.{Step}
+use Rattle.board.specs.declared.step.Step.TheVariants as step
+use Rattle.board.specs.declared.step.StepFault.TheVariants as fault
+
+pub record AskingBoardState (D : Type 0) : Type 0 where
+  -- each guest's device, and what it knows of its guest's memory
+  pub devices : List AskingState
+  -- all else; it has no devices of its own
+  pub rest : BoardState D
+
+-- It as a board, whose devices' memories are the bytes as they were told, or wrote them, last.
+abbrev pub board_of : {D : Type 0} → AskingBoardState D → BoardState D
+board_of b = with_devices (map (λ a. a.device) b.devices) b.rest
+
+-- a device for each guest, as it is before a driver finds it: no byte was told
+abbrev pub first_asked : ℕ → List GuestConfig → List AskingState
+first_asked n [] = []
+first_asked n (c ∷ cs) = first_asking n c ∷ first_asked (n + 1) cs
+
+-- how an opening ended
+abbrev pub as_boards : {D : Type 0} → Result (AskingBoardState D) (D × OpenFault)
+    → Result (BoardState D) (D × OpenFault)
+as_boards (Ok b) = Ok (board_of b)
+as_boards (Err refused) = Err refused
+
+-- It made a step of a board, and has copies of the same parts.
+pub record StepsAsked {D : Type 0} (shows : D → DiskState) (makes : D → DiskCall → D → Type 0)
+    (s : Step) (answer : Answer) (old new : AskingBoardState D) : Type 0 where
+  pub steps : Steps shows makes s answer (board_of old) (board_of new)
+  pub held : map (λ a. a.held) new.devices ≡ map (λ a. a.held) old.devices
+
+-- A guest's device asks for bytes, and nothing changed.
+pub record AsksFor {D : Type 0} (g : ℕ) (ask : Ask) (old new : AskingBoardState D) : Type 0 where
+  pub device : AskingState
+  pub its : slice_get old.devices g ≡ Some device
+  pub asks : IsAsk (known device) ask
+  pub same : new ≡ old
+
+-- What a pop comes to.
+abbrev pub PopsAsked : {D : Type 0} → (D → DiskState) → (D → DiskCall → D → Type 0) → ℕ
+    → Result Bool PopFault → AskingBoardState D → AskingBoardState D → Type 0
+PopsAsked shows makes g (Ok did) old new =
+    StepsAsked shows makes (step.Pop g) (did_answer did) old new
+PopsAsked shows makes g (Err (Refused e)) old new =
+    StepsAsked shows makes (step.Pop g) (Err (fault.Device e)) old new
+PopsAsked shows makes g (Err (Missing ask)) old new = AsksFor g ask old new
+
+-- The reply in its place was handed to its device, and whether the driver is to be notified is seen
+-- later. The board moved as by a publication.
+pub record HandsReply {D : Type 0} (shows : D → DiskState) (makes : D → DiskCall → D → Type 0)
+    (g : ℕ) (published : Published) (old new : AskingBoardState D) : Type 0 where
+  pub device : AskingState
+  pub its : slice_get old.devices g ≡ Some device
+  pub done : Done
+  pub lay : in_place (slice_get old.rest.dones g) ≡ Some done
+  pub device' : AskingState
+  pub publishes : PublishesAsked device done published device'
+  -- a reply has no more bytes than its chain has room for
+  pub fits : length done.reply ≤ room_in done.writable
+  pub after : new
+      ≡ record old {
+        devices = slice_set old.devices g device';
+        rest = record old.rest { dones = slice_set old.rest.dones g None };
+      }
+  pub moves : Moves shows makes (board_of old) (board_of new)
+
+-- What a publication comes to.
+abbrev pub PublishesOf : {D : Type 0} → (D → DiskState) → (D → DiskCall → D → Type 0) → ℕ
+    → Result (Option Published) Ask → AskingBoardState D → AskingBoardState D → Type 0
+PublishesOf shows makes g (Ok None) old new = new ≡ old
+PublishesOf shows makes g (Ok (Some published)) old new =
+    HandsReply shows makes g published old new
+PublishesOf shows makes g (Err ask) old new = AsksFor g ask old new
