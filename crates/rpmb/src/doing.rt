@@ -12,7 +12,8 @@ use crate::stop::Stop;
 use crate::system::System;
 use disk::FileDisk;
 use rpmb_client::{Choice, OptionRefusal, find_answer, option_nonce};
-use rpmb_commands::{Refusal, Words, key, perform, report};
+use rpmb_commands::{Refusal, Words, key, perform, report, report_with_advice};
+use script::read_number;
 use std::io::{BufWriter, Write};
 
 /// Tells a refusal in the words of `rpmb`.
@@ -186,7 +187,10 @@ fn counter_or_why<W: Write>(
                 Err(stop) => Err(stop),
             }
         }
-        Err(refusal) => Err(told(rt, refusal)),
+        Err(refusal) => {
+            let status = report_with_advice(words, refusal, &mut rt.stderr());
+            Err(Stop { status })
+        }
     }
 }
 
