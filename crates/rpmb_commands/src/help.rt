@@ -26,7 +26,8 @@ command says what it prints, and its statuses.";
 
 pub const PROGRAM_KEY: &str = "\
 Prints one line `chain G HEX W` for a script: PROGRAM_KEY, with the RESULT_READ that\n\
-asks for its result. A guest's key can be programmed once.\n\
+asks for its result. A guest's key can be programmed once: the result WRITE_FAILURE says\n\
+that the guest has a key already, or that the write of it failed.\n\
 \n\
 Status: 0 where all is printed, 1 where a value is refused, with a line on\n\
 standard error that says what was expected and what was given, 2 for words\n\
@@ -127,9 +128,9 @@ the request and none of these was wrong.";
 pub const DO_WRITE: &str = "\
 Reads the write counter, and writes under it where the MAC and the nonce of that answer\n\
 are right: at most N blocks a request (16, where --max-blocks isn't given). The bytes come\n\
-from just one of --data and --file. They are whole blocks, unless --pad is given. Prints\n\
-what explain says of each answer to a write, or of the answer with the counter, where it\n\
-isn't used.\n\
+from just one of --data and --file. They are whole blocks, unless --pad is given. Past the\n\
+last block of the guest nothing is written. Prints what explain says of each answer to a\n\
+write, or of the answer with the counter, where it isn't used.\n\
 \n\
 Status: 0 where all is written; 1 where a value is refused, a MAC or a nonce was wrong,\n\
 or the board or its image came to a fault; 2 for words that aren't understood; 3 where the\n\
