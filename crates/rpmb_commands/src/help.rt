@@ -71,11 +71,11 @@ Prints for each line `used G LEN HEX` of standard input a line for each frame of
 reply: its type, result and fields, whether the nonce is right (with --nonce) and whether\n\
 the MAC is (with --key), and a block in hex digits, and as text where it is one. Any other\n\
 line is printed as it is; one that begins with `used` was torn, and (torn: ..) stands\n\
-behind it. Each is printed as it comes.\n\
+behind it, and (of a script: ..) behind one of a script. Each is printed as it comes.\n\
 \n\
-Status: 0; 1 where a reply was torn, a MAC or a nonce was wrong or a value is refused, 2 for\n\
-words that aren't understood, and 3 where an answer has another result than OK and none was\n\
-wrong. With 1 and 3 a line on standard error says why.";
+Status: 0; 1 where a line was torn or of a script, a MAC or a nonce was wrong or a value is\n\
+refused, 2 for words that aren't understood, and 3 where an answer has another result than\n\
+OK and none was wrong. With 1 and 3 a line on standard error says why.";
 
 pub const READ_DATA: &str = "\
 Prints the bytes of the blocks that a read gave, and nothing else. Of several lines\n\
