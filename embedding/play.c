@@ -535,7 +535,16 @@ static void perform_chain(struct board *b, struct driver *d, const struct line *
 		print_used(d, id, len);
 }
 
-static void perform(struct board *b, const struct line *line, const char *script)
+/* A store of this line, counted from 1, doesn't lie in its guest's memory. */
+static void end_outside(const char *script, size_t number)
+{
+	char why[80];
+
+	snprintf(why, sizeof why, ": line %zu: the store reaches beyond its guest's memory\n", number);
+	end_with("1 OutOfRange", script, why);
+}
+
+static void perform(struct board *b, const struct line *line, const char *script, size_t number)
 {
 	struct driver *d = &b->drivers[line->guest];
 
@@ -544,7 +553,7 @@ static void perform(struct board *b, const struct line *line, const char *script
 	if (line->kind == STORE) {
 		if (line->number > d->memory || line->len > d->memory - line->number) {
 			check(rpmb_store(d->host, d->guest, line->number, line->bytes, line->len) == RPMB_OUT_OF_RANGE, "rpmb_store");
-			end_with("1 OutOfRange", script, ": a store reaches beyond its guest's memory\n");
+			end_outside(script, number);
 		}
 		put(d, line->number, line->bytes, line->len);
 	}
@@ -657,7 +666,7 @@ int main(int argc, char **argv)
 	lines = read_lines(text, b.count, &count);
 	open_board(&b, argv[2], argv[3]);
 	for (size_t i = 0; i < count; i++)
-		perform(&b, &lines[i], argv[1]);
+		perform(&b, &lines[i], argv[1], i + 1);
 	close_board(&b);
 	free(lines);
 	free(text);

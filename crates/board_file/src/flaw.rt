@@ -186,18 +186,25 @@ fn front_of(word: &str) -> (&str, &'static str) {
     }
 }
 
+/// What a text looks like that is no TOML, or a line of it.
+fn hint_of(text: &str, line: &str) -> &'static str {
+    let is_of_script = ["chain ", "store ", "reset "]
+        .iter()
+        .any(|word| line.starts_with(*word));
+    if is_of_script {
+        "; it looks like a script, and the board comes first"
+    } else if text.starts_with("VRPMBIMG") {
+        "; it looks like an image, and the board file is wanted here"
+    } else {
+        ""
+    }
+}
+
 /// The text is no TOML.
 pub(crate) fn no_toml(alloc: Global, text: &str, error: &toml::de::Error) -> BoardError {
     let span = error.span().unwrap_or(0..0);
     let (number, line) = line_at(text, span.start);
-    let is_of_script = ["chain ", "store ", "reset "]
-        .iter()
-        .any(|word| line.starts_with(*word));
-    let hint = if is_of_script {
-        "; it looks like a script, and the board comes first"
-    } else {
-        ""
-    };
+    let hint = hint_of(text, line);
     let (word, more) = front_of(text.get(span).unwrap_or(""));
     let cause = cause_of(error.message());
     BoardError::of(match word {

@@ -50,13 +50,14 @@ command_of Fresh name = on_fresh name
 command_of Board name = on_board name
 command_of BoardAndScript name = on_script name
 
--- the program's name alone, which wants a command
+-- the program's name alone, which has a version and wants a command
 abbrev pub bare : App
 bare =
     let app = new_app (codes "rpmbd") in
-    record app { top = record app.top { subcommand_required = true } }
+    record app { top = record app.top { has_version = true; subcommand_required = true } }
 
--- the program with its commands; `clap` adds `help`, and the flags `-h` and `--help` on each level
+-- the program with its commands; `clap` adds `help`, the flags `-h` and `--help` on each level, and
+-- `-V` and `--version` on the first
 unfoldable pub program : App
 program =
     with_subcommand (with_subcommand

@@ -95,6 +95,7 @@ fn bare<'a>(alloc: Global) -> Command<'a>
     ensures { app_of result ≡ bare }
 {
     Command::new(alloc, "rpmbd")
+        .version(help::VERSION)
         .about(
             "Performs scripts on virtio RPMB devices, \
              and makes and shows images of their partitions",

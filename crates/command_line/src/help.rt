@@ -1,4 +1,7 @@
-//! The texts that stand below a command's usage in its help.
+//! The texts that stand below a command's usage in its help, and what `--version` prints.
+
+/// Behind the program's name.
+pub const VERSION: &str = "0.1 (Hovdrang), images of version 1 and 2";
 
 /// A board and a script, as a reader can type them.
 pub const PROGRAM: &str =

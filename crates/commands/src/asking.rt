@@ -38,13 +38,15 @@ fn is_agreed(rt: &HostRuntime) -> io::Result<bool> {
 
 /// Where a person types the command, and the file holds an image of the board with keys, or anything
 /// that is no image of the board, says so and asks whether that may go. `FileFault` where the answer
-/// isn't `yes`; a script, whose standard input is no terminal, isn't asked.
+/// isn't `yes`; a script, whose standard input is no terminal, isn't asked. Where only a new file is
+/// made, none is lost, and nobody is asked.
 pub(crate) fn ask_before_a_loss(
     rt: &HostRuntime,
     path: &str,
+    only_new: bool,
     board: &BoardConfig,
 ) -> Result<(), Refusal> {
-    if !rt.stdin().is_terminal() {
+    if only_new || !rt.stdin().is_terminal() {
         return Ok(());
     }
     let Some(loss) = loss(rt, path, board) else {

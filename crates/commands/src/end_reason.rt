@@ -6,7 +6,7 @@ use command_line::Command;
 use disk::Disk;
 use intent_slots::Layout;
 use rpmb_frame::BoardConfig;
-use script::{ScriptError, read_script, read_served_script};
+use script::{Line, ScriptError, read_script, read_served_script};
 use std::alloc::Global;
 use std::io::Write;
 
@@ -47,6 +47,27 @@ fn misread(alloc: Global, task: Task<'_>) -> Option<String> {
         }
         _ => None,
     }
+}
+
+/// Whether a line stores bytes beyond its guest's memory.
+fn stores_outside(board: &BoardConfig, line: &Line) -> bool {
+    match line {
+        Line::Store { guest, at, bytes } => match board.guests().get(usize::from(*guest)) {
+            Some(guest) => at.saturating_add(bytes.len() as u64) > guest.memory,
+            None => false,
+        },
+        _ => false,
+    }
+}
+
+/// Which line of the script stores beyond its guest's memory: the first one that does ended the run.
+fn misplaced(alloc: Global, task: Task<'_>) -> Option<String> {
+    let lines = read_script(alloc, task.script, task.board.guests().len() as u16).ok()?;
+    let place = lines
+        .iter()
+        .position(|line| stores_outside(task.board, line))?;
+    let (path, number) = (task.script_path(), place.saturating_add(1));
+    format!(in alloc; "{path}: line {number}: the store reaches beyond its guest's memory").ok()
 }
 
 /// Why the disk holds no image of the board: by its length, where that is another one.
@@ -96,10 +117,7 @@ pub fn reason_of_end<D: Disk, W: Write>(
             "a read, a write or a sync of it failed",
         ),
         Fault::BadScript { .. } => misread(alloc, task),
-        Fault::OutOfRange => {
-            let why = "a store reaches beyond its guest's memory";
-            said(alloc, task.script_path(), why)
-        }
+        Fault::OutOfRange => misplaced(alloc, task),
         Fault::FileFault => unwritten(alloc, out),
         Fault::HistoryFull => {
             let why = "a run answers no more than 2^64 - 1 requests; a new one goes on";

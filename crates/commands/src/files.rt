@@ -18,14 +18,41 @@ const BOARD_BYTES: u64 = 1_048_576;
 /// memory of a guest, at two digits a byte.
 const LINE_BYTES: u64 = 134_217_760;
 
-/// A file's bytes as a text.
-fn text_of(alloc: Global, path: &str, bytes: Vec<u8>) -> Result<String, Refusal> {
+/// What is said of an image that is read as a board file.
+const NO_BOARD: &str = "is no text: it looks like an image, and the board file is wanted here";
+
+/// And of one that is read as a script.
+const NO_SCRIPT: &str = "is no text: it looks like an image, and a script is wanted here";
+
+/// Whether bytes begin as those of an image do.
+fn is_image(bytes: &[u8]) -> bool {
+    bytes.starts_with(b"VRPMBIMG")
+}
+
+/// A file's bytes as a text. `of_image` is said of them where they are none, and an image's.
+fn text_of(alloc: Global, path: &str, of_image: &str, bytes: Vec<u8>) -> Result<String, Refusal> {
+    let is_image = is_image(bytes.as_slice());
     match String::from_utf8(bytes) {
         Ok(text) => Ok(text),
         Err(_) => {
-            let why = "isn't text in UTF-8";
+            let why = if is_image {
+                of_image
+            } else {
+                "isn't text in UTF-8"
+            };
             Err(Refusal::of_file(alloc, Fault::FileFault, path, why))
         }
+    }
+}
+
+/// Why a text isn't read.
+fn not_read(alloc: Global, path: &str, error: &io::Error) -> Refusal {
+    match error.kind() {
+        io::ErrorKind::NotFound if path == "-" => {
+            let why = "isn't there; for standard input say /dev/stdin";
+            Refusal::of_file(alloc, Fault::FileFault, path, why)
+        }
+        _ => Refusal::of_call(alloc, path, error),
     }
 }
 
@@ -42,11 +69,15 @@ fn read_board_text<R: Files + AllocGlobal>(rt: &R, path: &str) -> Result<String,
     let alloc = rt.alloc();
     match read_up_to(rt, path, BOARD_BYTES) {
         Ok(bytes) if bytes.len() as u64 > BOARD_BYTES => {
-            let why = "is no board file, which has at most 1048576 bytes";
+            let why = if is_image(bytes.as_slice()) {
+                NO_BOARD
+            } else {
+                "is no board file, which has at most 1048576 bytes"
+            };
             Err(Refusal::of_file(alloc, Fault::FileFault, path, why))
         }
-        Ok(bytes) => text_of(alloc, path, bytes),
-        Err(error) => Err(Refusal::of_call(alloc, path, &error)),
+        Ok(bytes) => text_of(alloc, path, NO_BOARD, bytes),
+        Err(error) => Err(not_read(alloc, path, &error)),
     }
 }
 
@@ -78,12 +109,12 @@ pub fn read_script_text<R: Files + AllocGlobal>(rt: &R, path: &str) -> Result<St
     let alloc = rt.alloc();
     let mut bytes = Vec::new(alloc);
     match read_script_bytes(rt, path, &mut bytes) {
-        Ok(true) => text_of(alloc, path, bytes),
+        Ok(true) => text_of(alloc, path, NO_SCRIPT, bytes),
         Ok(false) => {
             let why = "has a line of 134217760 bytes and more, and is no script";
             Err(Refusal::of_file(alloc, Fault::FileFault, path, why))
         }
-        Err(error) => Err(Refusal::of_call(alloc, path, &error)),
+        Err(error) => Err(not_read(alloc, path, &error)),
     }
 }
 
@@ -113,7 +144,8 @@ pub fn read_image_board<R: Files + AllocGlobal>(
     match read_board_file(rt, path)? {
         (board, Some(image)) => Ok((board, image)),
         (_, None) => {
-            let why = "names no image: its guests are in memory, and nothing of them is kept";
+            let why = "names no image: its guests are in memory, and nothing of them is kept; \
+                add image = \"FILE\" above [[guest]]";
             Err(Refusal::of_file(rt.alloc(), Fault::BadBoard, path, why))
         }
     }

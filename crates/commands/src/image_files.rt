@@ -13,6 +13,9 @@ use std::{fs, io};
 /// Where a path leads to what standard output writes into.
 const OUTPUT: &str = "/dev/stdout";
 
+/// What is said of the image of a board that names an empty path.
+const NO_NAME: &str = "names no image; write image = \"FILE\" in the board file";
+
 /// Opens the file of an image. Where standard output or error is closed, its number goes to the
 /// next file that is opened, and what is printed would be written into that file. So the file is
 /// kept under a number above theirs.
@@ -65,7 +68,10 @@ fn lock(rt: &HostRuntime, path: &str, file: &File, alone: bool) -> Result<(), Re
     };
     match locked {
         Ok(()) => Ok(()),
-        Err(TryLockError::WouldBlock) => Err(refused(rt, path, "another program has it")),
+        Err(TryLockError::WouldBlock) => {
+            let why = "another program has it; wait until that ends, or end it";
+            Err(refused(rt, path, why))
+        }
         Err(TryLockError::Error(error)) => Err(Refusal::of_call(rt.alloc(), path, &error)),
     }
 }
@@ -102,6 +108,7 @@ fn sync_folder(rt: &HostRuntime, path: &str) -> io::Result<()> {
 /// Why the file of an image isn't made.
 fn not_made(rt: &HostRuntime, path: &str, error: &io::Error) -> Refusal {
     match error.kind() {
+        io::ErrorKind::NotFound if path.is_empty() => refused(rt, path, NO_NAME),
         io::ErrorKind::NotFound => {
             refused(
                 rt,
@@ -117,6 +124,7 @@ fn not_made(rt: &HostRuntime, path: &str, error: &io::Error) -> Refusal {
 /// Why the file of an image isn't opened.
 fn not_opened(rt: &HostRuntime, path: &str, error: &io::Error) -> Refusal {
     match error.kind() {
+        io::ErrorKind::NotFound if path.is_empty() => refused(rt, path, NO_NAME),
         io::ErrorKind::NotFound => {
             refused(
                 rt,

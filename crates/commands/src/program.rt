@@ -128,7 +128,7 @@ fn perform_on_image<R: AllocGlobal + Threads + Wait + Sync, W: Write>(
             version,
             ..
         } => {
-            ask_before_a_loss(rt, image, &board)?;
+            ask_before_a_loss(rt, image, only_new, &board)?;
             let disk = create_image(rt, image, path, only_new, Layout::of(&board).length())?;
             Ok(perform_format(rt, threads, task, version, disk, out))
         }

@@ -12,7 +12,8 @@ use crate::stop::Stop;
 use crate::system::System;
 use disk::FileDisk;
 use rpmb_client::{Choice, OptionRefusal, find_answer, option_nonce};
-use rpmb_commands::{Refusal, Words, key, perform, report};
+use rpmb_commands::{Refusal, Words, key, perform, report, report_with_advice};
+use script::read_number;
 use std::io::{BufWriter, Write};
 
 /// Tells a refusal in the words of `rpmb`.
@@ -90,7 +91,15 @@ fn is_past_end(lines: &[u8]) -> bool {
         || line.ends_with(b"00040400"))
 }
 
-/// Performs a command that reads answers. Where blocks were past the end, that is told behind.
+/// Whether a reply of lines says that a key wasn't programmed: the same bytes.
+fn is_key_refused(lines: &[u8]) -> bool {
+    lines
+        .split(|byte| *byte == b'\n')
+        .any(|line| line.ends_with(b"00050100"))
+}
+
+/// Performs a command that reads answers. Where blocks were past the end, or a key wasn't
+/// programmed, that is told behind.
 fn judge<W: Write>(
     rt: &HostRuntime,
     place: &Place<'_>,
@@ -102,10 +111,40 @@ fn judge<W: Write>(
     if is_past_end(answers) {
         place.tell_end(rt);
     }
+    if is_key_refused(answers) {
+        place.tell_key(rt);
+    }
     judged
 }
 
+/// How many blocks a script writes: each of its lines has a frame for each block, and one more that
+/// asks for the result. A frame has 1,024 hex digits.
+fn blocks_of(script: &str) -> u64 {
+    let mut blocks = 0u64;
+    for line in script.split('\n') {
+        let digits = line.split(' ').nth(2).unwrap_or("").len() as u64;
+        blocks = blocks.saturating_add((digits / 1024).saturating_sub(1));
+    }
+    blocks
+}
+
+/// Refused where a script writes past the last block of its guest, before it writes any.
+fn check_end(
+    rt: &HostRuntime,
+    place: &Place<'_>,
+    words: &Words<'_>,
+    script: &str,
+) -> Result<(), Stop> {
+    match words.address.and_then(|word| read_number(word)) {
+        Some(address) if words.command == "write" => {
+            place.check_end(rt, address, blocks_of(script))
+        }
+        _ => Ok(()),
+    }
+}
+
 /// Performs the requests that a command makes, and explains the answers, also those before a fault.
+/// A write past the end is refused before any.
 fn ask<W: Write>(
     rt: &HostRuntime,
     place: &Place<'_>,
@@ -114,6 +153,7 @@ fn ask<W: Write>(
     out: &mut W,
 ) -> Result<(), Stop> {
     let script = script_of(rt, &words)?;
+    check_end(rt, place, &words, script.as_str())?;
     let mut answers = Vec::new(rt.alloc());
     let ended = place.perform(rt, script.as_str(), disk, &mut answers);
     let words = Words {
@@ -186,7 +226,10 @@ fn counter_or_why<W: Write>(
                 Err(stop) => Err(stop),
             }
         }
-        Err(refusal) => Err(told(rt, refusal)),
+        Err(refusal) => {
+            let status = report_with_advice(words, refusal, &mut rt.stderr());
+            Err(Stop { status })
+        }
     }
 }
 

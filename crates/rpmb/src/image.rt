@@ -66,14 +66,39 @@ impl<'a> Place<'a> {
         }
     }
 
+    /// The last block of the guest, where the board has it.
+    fn last_block(&self) -> Option<u32> {
+        let guests = self.board.guests();
+        let guest = read_number(self.guest).and_then(|number| guests.get(number as usize))?;
+        Some((512 * u32::from(guest.capacity)).saturating_sub(1))
+    }
+
     /// Tells where the blocks of the guest end.
     pub fn tell_end(&self, rt: &HostRuntime) {
         let (file, number) = (self.file, self.guest);
-        let guests = self.board.guests();
-        if let Some(guest) = read_number(number).and_then(|number| guests.get(number as usize)) {
-            let last = (512 * u32::from(guest.capacity)).saturating_sub(1);
+        if let Some(last) = self.last_block() {
             let _ = eprintln!(rt; "{file}: the last block of guest {number} is {last}");
         }
+    }
+
+    /// Refused where so many blocks from an address on reach past the last one of the guest.
+    pub fn check_end(&self, rt: &HostRuntime, address: u64, count: u64) -> Result<(), Stop> {
+        let end = address.saturating_add(count).saturating_sub(1);
+        match self.last_block() {
+            Some(last) if end > u64::from(last) => {
+                let _ = eprintln!(rt; "rpmb: PastEnd: expected no block after {last}, got {end}");
+                self.tell_end(rt);
+                Err(Stop { status: 1 })
+            }
+            _ => Ok(()),
+        }
+    }
+
+    /// Tells why a key isn't programmed.
+    pub fn tell_key(&self, rt: &HostRuntime) {
+        let (file, number) = (self.file, self.guest);
+        let what = "has a key already, or the write of it failed";
+        let _ = eprintln!(rt; "{file}: guest {number} {what}");
     }
 
     /// Tells in the words of `rpmbd` the fault that ended a script, and why. Of what stands in its

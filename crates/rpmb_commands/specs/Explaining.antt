@@ -1,10 +1,10 @@
 -- What `explain` prints of the lines of a run.
 use Rattle.std.specs.Prelude.{ℕ, ◌≡◌, ◌≢◌, ◌++◌, ◌∷◌, [], Bool, false, true, if◌then◌else◌, nat_eq}
 use Rattle.std.specs.Prelude.{List, Option, Some, None, codes, Result, Ok, Err, IfErr, IfOk}
-use Rattle.std.specs.Prelude.{IfSome, nat_lt, ◌==◌}
+use Rattle.std.specs.Prelude.{IfSome, nat_lt, ◌==◌, ◌||◌}
 use Rattle.std.specs.Io.BufRead.{drop_through, take_through}
 use Rattle.std.specs.Io.KnownBytes.{Appends}
-use Rattle.std.specs.List.{flat_map, list_any, starts_with}
+use Rattle.std.specs.List.{ends_with, flat_map, list_any, starts_with}
 use Rattle.rpmb_client.specs.Answer.{Used, used_of}
 use Rattle.rpmb_client.specs.Explained.{is_refused, is_wrong, reply_lines}
 use Rattle.rpmb_client.specs.Keys.{key_for}
@@ -29,12 +29,37 @@ judging_of judge = record { keys = keys_seen judge.keys; nonce = judge.nonce }
 abbrev pub key_of : Judging → ℕ → Option (List ℕ)
 key_of by guest = key_for by.keys.own by.keys.others guest
 
--- a line that gives no reply was torn where it begins as those that do; what stands behind it
+-- a line that gives no reply was torn where it begins as those that do
 abbrev pub is_torn : List ℕ → Bool
 is_torn line = starts_with nat_eq line (codes "used")
 
+-- and is of a script where it begins as those of one
+abbrev pub has_script_bytes : List ℕ → Bool
+has_script_bytes line =
+    starts_with nat_eq line (codes "chain ") || starts_with nat_eq line (codes "store ")
+
+abbrev pub is_of_script : List ℕ → Bool
+is_of_script line = has_script_bytes line || starts_with nat_eq line (codes "reset ")
+
+-- so it is no answer; any other line may be
+abbrev pub is_no_answer : List ℕ → Bool
+is_no_answer line = is_torn line || is_of_script line
+
+-- what stands behind it
+
+abbrev pub ends_in_return : List ℕ → Bool
+ends_in_return line = ends_with nat_eq line (13 ∷ [])
+
+abbrev pub torn_mark : List ℕ → List ℕ
+torn_mark line =
+    if ends_in_return line
+    then codes " (torn: it ends with a carriage return; tr -d '\\r' takes those away)"
+    else codes " (torn: expected `used G LEN HEX`)"
+
 abbrev pub mark_of : List ℕ → List ℕ
-mark_of line = if is_torn line then codes " (torn: expected `used G LEN HEX`)" else []
+mark_of line =
+    if is_torn line then torn_mark line
+    else (if is_of_script line then codes " (of a script: expected what `rpmbd run` prints)" else [])
 
 abbrev pub told_of : Judging → Option Used → List ℕ → List ℕ
 told_of by None line = line ++ (mark_of line ++ 10 ∷ [])
@@ -44,10 +69,10 @@ told_of by (Some used) line =
 unfoldable pub line_told : Judging → List ℕ → List ℕ
 line_told by line = told_of by (used_of line) line
 
--- whether it is torn, or a MAC or a nonce of its reply is wrong, and whether it says that a request
--- was refused
+-- whether it is no answer, or a MAC or a nonce of its reply is wrong, and whether it says that a
+-- request was refused
 abbrev pub is_wrong_of : Judging → Option Used → List ℕ → Bool
-is_wrong_of by None line = is_torn line
+is_wrong_of by None line = is_no_answer line
 is_wrong_of by (Some used) line = is_wrong used.reply (key_of by used.guest) by.nonce
 
 abbrev pub is_refused_of : Option Used → Bool

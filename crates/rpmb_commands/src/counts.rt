@@ -1,8 +1,8 @@
 //! What was found in replies.
 ghost use Rattle.std.specs.Prelude.{◌≡◌, ◌||◌, nat_lt};
 
-/// How many replies were explained, how many of them are torn or have a wrong MAC or nonce, and how
-/// many say that a request was refused.
+/// How many replies were explained, how many of them are torn, of a script or have a wrong MAC or
+/// nonce, and how many say that a request was refused.
 #[derive(Clone, Copy)]
 pub struct Counts {
     pub replies: u64,
@@ -42,12 +42,12 @@ impl Counts {
         self.refused = more(self.refused, is_refused);
     }
 
-    /// Counts a line that gives no reply, where it begins as one that does.
-    pub fn add_torn(&mut self, is_torn: bool)
-        ensures wrong { nat_lt 0 self.new.wrong ≡ (nat_lt 0 self.old.wrong || is_torn) }
+    /// Counts a line that gives no reply, where it is no answer: torn, or of a script.
+    pub fn add_unread(&mut self, is_no_answer: bool)
+        ensures wrong { nat_lt 0 self.new.wrong ≡ (nat_lt 0 self.old.wrong || is_no_answer) }
         ensures refused { self.new.refused ≡ self.old.refused }
     {
-        self.replies = more(self.replies, is_torn);
-        self.wrong = more(self.wrong, is_torn);
+        self.replies = more(self.replies, is_no_answer);
+        self.wrong = more(self.wrong, is_no_answer);
     }
 }

@@ -4,9 +4,12 @@ ghost use Rattle.std.specs.Prelude.{Some, string_bytes};
 ghost use Rattle.std.specs.Io.KnownBytes.{Appends, Keeps};
 ghost use Rattle.rpmb_client.specs.Seen.{used_seen};
 ghost use Rattle.rpmb_commands.specs.Explaining.{AsksNonce, ExplainDoes, Explains, IsJudging};
-ghost use Rattle.rpmb_commands.specs.Explaining.{IsNext, IsOther, SaysAll, has_refused, has_wrong};
-ghost use Rattle.rpmb_commands.specs.Explaining.{is_refused_of, is_torn, is_wrong_of, judging_of};
-ghost use Rattle.rpmb_commands.specs.Explaining.{line_told, mark_of, told_counts, told_of};
+ghost use Rattle.rpmb_commands.specs.Explaining.{IsNext, IsOther, SaysAll, ends_in_return};
+ghost use Rattle.rpmb_commands.specs.Explaining.{has_refused, has_script_bytes, has_wrong};
+ghost use Rattle.rpmb_commands.specs.Explaining.{is_no_answer};
+ghost use Rattle.rpmb_commands.specs.Explaining.{is_of_script, is_refused_of, is_torn, is_wrong_of};
+ghost use Rattle.rpmb_commands.specs.Explaining.{judging_of, line_told, mark_of, told_counts};
+ghost use Rattle.rpmb_commands.specs.Explaining.{told_of, torn_mark};
 ghost use Rattle.rpmb_commands.specs.Explaining.{without_feed};
 ghost use Rattle.rpmb_commands.specs.Refusing.{IsOfReading};
 
@@ -61,30 +64,70 @@ fn is_torn(line: &str) -> bool
     line.starts_with("used")
 }
 
+/// Whether it begins as the lines of a script do that have bytes.
+fn has_script_bytes(line: &str) -> bool
+    ensures { result ≡ has_script_bytes line.now }
+{
+    line.starts_with("chain ") || line.starts_with("store ")
+}
+
+/// Whether it begins as the lines of a script do, which `rpmbd run` reads.
+fn is_of_script(line: &str) -> bool
+    ensures { result ≡ is_of_script line.now }
+{
+    has_script_bytes(line) || line.starts_with("reset ")
+}
+
+/// Whether it is none that `rpmbd run` prints: torn, or of a script.
+fn is_no_answer(line: &str) -> bool
+    ensures { result ≡ is_no_answer line.now }
+{
+    is_torn(line) || is_of_script(line)
+}
+
+fn ends_in_return(line: &str) -> bool
+    ensures { result ≡ ends_in_return line.now }
+{
+    line.ends_with("\r")
+}
+
+/// What stands behind a torn line.
+fn torn_mark(line: &str) -> &'static str
+    ensures { result.now ≡ torn_mark line.now }
+{
+    if ends_in_return(line) {
+        " (torn: it ends with a carriage return; tr -d '\\r' takes those away)"
+    } else {
+        " (torn: expected `used G LEN HEX`)"
+    }
+}
+
 /// What stands behind a line that gives no reply.
 fn mark_of(line: &str) -> &'static str
     ensures { result.now ≡ mark_of line.now }
 {
     if is_torn(line) {
-        " (torn: expected `used G LEN HEX`)"
+        torn_mark(line)
+    } else if is_of_script(line) {
+        " (of a script: expected what `rpmbd run` prints)"
     } else {
         ""
     }
 }
 
-/// Writes a line that gives no reply as it is, and says and counts where it is torn.
+/// Writes a line that gives no reply as it is, and says and counts where it is no answer.
 fn pass_on<'a, W: Write>(line: &str, counts: &mut Counts, out: &mut W) -> Result<(), Refusal<'a>>
     ensures told { OnOk result (Appends (W.contents out.old) (W.contents out.new)
         (line.now ++ (mark_of line.now ++ 10 ∷ []))) }
     ensures wrong { OnOk result (nat_lt 0 counts.new.wrong ≡ (nat_lt 0 counts.old.wrong
-        || is_torn line.now)) }
+        || is_no_answer line.now)) }
     ensures refused { OnOk result (counts.new.refused ≡ counts.old.refused) }
     ensures other { IfErr result IsOther }
 {
     let mark = mark_of(line);
     match writeln!(out, "{line}{mark}") {
         Ok(()) => {
-            counts.add_torn(is_torn(line));
+            counts.add_unread(is_no_answer(line));
             Ok(())
         }
         Err(_) => Err(Refusal::NoRoom),
@@ -268,7 +311,7 @@ fn tell_all<'a, S: Source, B: BufRead, W: Write>(
 }
 
 /// Says of each `used` line what its reply is, and writes each other line as it is. Refused at the
-/// end where a line was torn, a MAC or a nonce was wrong, or a request was refused.
+/// end where a line was torn or of a script, a MAC or a nonce was wrong, or a request was refused.
 pub fn tell<'a, S: Source, B: BufRead, W: Write>(
     alloc: Global,
     source: &S,

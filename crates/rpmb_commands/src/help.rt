@@ -26,7 +26,8 @@ command says what it prints, and its statuses.";
 
 pub const PROGRAM_KEY: &str = "\
 Prints one line `chain G HEX W` for a script: PROGRAM_KEY, with the RESULT_READ that\n\
-asks for its result. A guest's key can be programmed once.\n\
+asks for its result. A guest's key can be programmed once: the result WRITE_FAILURE says\n\
+that the guest has a key already, or that the write of it failed.\n\
 \n\
 Status: 0 where all is printed, 1 where a value is refused, with a line on\n\
 standard error that says what was expected and what was given, 2 for words\n\
@@ -70,11 +71,11 @@ Prints for each line `used G LEN HEX` of standard input a line for each frame of
 reply: its type, result and fields, whether the nonce is right (with --nonce) and whether\n\
 the MAC is (with --key), and a block in hex digits, and as text where it is one. Any other\n\
 line is printed as it is; one that begins with `used` was torn, and (torn: ..) stands\n\
-behind it. Each is printed as it comes.\n\
+behind it, and (of a script: ..) behind one of a script. Each is printed as it comes.\n\
 \n\
-Status: 0; 1 where a reply was torn, a MAC or a nonce was wrong or a value is refused, 2 for\n\
-words that aren't understood, and 3 where an answer has another result than OK and none was\n\
-wrong. With 1 and 3 a line on standard error says why.";
+Status: 0; 1 where a line was torn or of a script, a MAC or a nonce was wrong or a value is\n\
+refused, 2 for words that aren't understood, and 3 where an answer has another result than\n\
+OK and none was wrong. With 1 and 3 a line on standard error says why.";
 
 pub const READ_DATA: &str = "\
 Prints the bytes of the blocks that a read gave, and nothing else. Of several lines\n\
@@ -127,9 +128,9 @@ the request and none of these was wrong.";
 pub const DO_WRITE: &str = "\
 Reads the write counter, and writes under it where the MAC and the nonce of that answer\n\
 are right: at most N blocks a request (16, where --max-blocks isn't given). The bytes come\n\
-from just one of --data and --file. They are whole blocks, unless --pad is given. Prints\n\
-what explain says of each answer to a write, or of the answer with the counter, where it\n\
-isn't used.\n\
+from just one of --data and --file. They are whole blocks, unless --pad is given. Past the\n\
+last block of the guest nothing is written. Prints what explain says of each answer to a\n\
+write, or of the answer with the counter, where it isn't used.\n\
 \n\
 Status: 0 where all is written; 1 where a value is refused, a MAC or a nonce was wrong,\n\
 or the board or its image came to a fault; 2 for words that aren't understood; 3 where the\n\

@@ -2,6 +2,7 @@
 //! writers.
 #![tactic(auto)]
 
+mod advice;
 mod asked;
 mod checking;
 mod counts;
@@ -19,7 +20,7 @@ mod values;
 mod words;
 mod writing;
 
-pub use performing::{perform, report};
+pub use performing::{perform, report, report_with_advice};
 pub use reading::key;
 pub use refusal::Refusal;
 pub use source::{Source, SourceError, is_file, read_file};

@@ -3,6 +3,7 @@ ghost use Rattle.std.specs.Prelude.{◌≡◌};
 ghost use Rattle.rpmb_commands.specs.Performing.{Does, Performs, after_flush, asked_of, status_of};
 ghost use Rattle.rpmb_commands.specs.Refusing.{refusal_status};
 
+use crate::advice::{advice_of, tell_advice};
 use crate::asked::{Asked, asked_of};
 use crate::checking::check;
 use crate::explaining::tell;
@@ -49,6 +50,17 @@ pub fn report<E: Write>(refusal: Refusal<'_>, err: &mut E) -> u8
     status
 }
 
+/// Writes the line of a refusal of these words, and what helps, where that is known; and gives its
+/// status, as `report` does.
+pub fn report_with_advice<'a, E: Write>(words: &Words<'a>, refusal: Refusal<'a>, err: &mut E) -> u8
+    ensures { result ≡ refusal_status refusal.entry }
+{
+    let advice = advice_of(words, &refusal);
+    let status = report(refusal, err);
+    tell_advice(advice, err);
+    status
+}
+
 /// How a command ends, once all is flushed, or standard output took no more.
 fn after_flush<'a>(is_flushed: bool, ended: Result<(), Refusal<'a>>) -> Result<(), Refusal<'a>>
     ensures { result ≡ after_flush is_flushed ended.entry }
@@ -59,19 +71,19 @@ fn after_flush<'a>(is_flushed: bool, ended: Result<(), Refusal<'a>>) -> Result<(
     }
 }
 
-/// The status that tells how a command ended, with a line on standard error where it was refused.
-fn status_of<E: Write>(ended: Result<(), Refusal<'_>>, err: &mut E) -> u8
+/// The status that tells how a command ended, with the lines of its refusal on standard error.
+fn status_of<'a, E: Write>(words: &Words<'a>, ended: Result<(), Refusal<'a>>, err: &mut E) -> u8
     ensures { result ≡ status_of ended.entry }
 {
     match ended {
         Ok(()) => 0,
-        Err(refusal) => report(refusal, err),
+        Err(refusal) => report_with_advice(words, refusal, err),
     }
 }
 
-/// Performs a command, and gives the status that it ends with: 0, or 1 or 3 with one line on
-/// standard error. `source` gives the files that its words name, and `input` the lines of
-/// `rpmbd run`.
+/// Performs a command, and gives the status that it ends with: 0, or 1 or 3 with a line on standard
+/// error, and behind it what helps, where that is known. `source` gives the files that its words
+/// name, and `input` the lines of `rpmbd run`.
 pub fn perform<S: Source, B: BufRead, W: Write, E: Write>(
     alloc: Global,
     source: &S,
@@ -85,5 +97,5 @@ pub fn perform<S: Source, B: BufRead, W: Write, E: Write>(
 {
     let ended = perform_on(alloc, source, words, input, out);
     let is_flushed = out.flush().is_ok();
-    status_of(after_flush(is_flushed, ended), err)
+    status_of(words, after_flush(is_flushed, ended), err)
 }

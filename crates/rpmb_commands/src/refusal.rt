@@ -65,7 +65,7 @@ pub enum Refusal<'a> {
     NoCounter,
     #[error("TooShort: expected blocks of at least {0} bytes, got {1}")]
     TooShort(u64, usize),
-    /// A MAC or a nonce of an answer is wrong, or a line of one was torn.
+    /// A MAC or a nonce of an answer is wrong, or a line is none of an answer.
     #[error("WrongAnswer: expected a right MAC and nonce in each of {0} replies, \
         got {1} torn or with a wrong one")]
     WrongAnswer(u64, u64),

@@ -21,6 +21,9 @@ pub(crate) const BOARD_FILE: usize = 1_048_576;
 /// The most bytes of a script: 64 MiB.
 pub(crate) const SCRIPT_FILE: usize = 67_108_864;
 
+/// Why a file isn't read that isn't there.
+pub(crate) const NOT_THERE: &str = "isn't there";
+
 /// Why a file isn't read.
 #[derive(Clone, Copy, Debug)]
 pub enum SourceError {
@@ -55,7 +58,7 @@ pub trait Source {
 fn error_of(error: &io::Error) -> SourceError {
     match error.kind() {
         io::ErrorKind::OutOfMemory => SourceError::NoMemory,
-        io::ErrorKind::NotFound => SourceError::NoFile("isn't there"),
+        io::ErrorKind::NotFound => SourceError::NoFile(NOT_THERE),
         io::ErrorKind::IsADirectory => SourceError::NoFile("is a folder"),
         io::ErrorKind::PermissionDenied => SourceError::NoFile("no permission to read it"),
         _ => SourceError::NoFile("a read of it failed"),

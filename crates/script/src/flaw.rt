@@ -2,33 +2,49 @@
 
 use crate::fault::LineError;
 use hex::FromHexError;
-use std::alloc::Global;
+use std::alloc::{AllocError, Global};
 
 /// How many letters of a word are shown.
 const SHOWN: usize = 16;
 
-/// The first letters of a word, and two dots where it has more: it may be a key, or a whole file.
-fn front_of(word: &str) -> (&str, &'static str) {
+fn is_hex(word: &str) -> bool {
+    word.as_bytes().iter().all(|byte| byte.is_ascii_hexdigit())
+}
+
+/// A word as it is shown: its first letters, and two dots where it has more, since it may be a
+/// whole file. Of a longer one of hex digits, which may be a key, only how long it is.
+fn shown(alloc: Global, word: &str) -> Result<String, AllocError> {
     match word.char_indices().nth(SHOWN) {
-        Some((end, _)) => (word.get(..end).unwrap_or(""), ".."),
-        None => (word, ""),
+        None => format!(in alloc; "{word:?}"),
+        Some(_) if is_hex(word) => {
+            let count = word.len();
+            format!(in alloc; "a word of {count} hex digits")
+        }
+        Some((end, _)) => {
+            let front = word.get(..end).unwrap_or("");
+            format!(in alloc; "{front:?}..")
+        }
     }
 }
 
 /// The second word is no guest of the board.
 pub(crate) fn no_guest(alloc: Global, word: &str, guests: u16) -> LineError {
     let last = guests.saturating_sub(1);
-    let (word, more) = front_of(word);
+    let Ok(word) = shown(alloc, word) else {
+        return LineError::NoMemory;
+    };
     LineError::of(format!(in alloc;
-        "word 2: expected a guest of the board, 0 to {last}, got {word:?}{more}"
+        "word 2: expected a guest of the board, 0 to {last}, got {word}"
     ))
 }
 
 /// The word at a place, counted from 1, is no number up to this one.
 pub(crate) fn no_number(alloc: Global, place: usize, word: &str, most: u64) -> LineError {
-    let (word, more) = front_of(word);
+    let Ok(word) = shown(alloc, word) else {
+        return LineError::NoMemory;
+    };
     LineError::of(format!(in alloc;
-        "word {place}: expected decimal digits of a number from 0 to {most}, got {word:?}{more}"
+        "word {place}: expected decimal digits of a number from 0 to {most}, got {word}"
     ))
 }
 
@@ -79,13 +95,15 @@ fn form_of(command: &str) -> Option<&'static str> {
 fn no_command(alloc: Global, command: &str) -> LineError {
     let hint = if command.starts_with('[') || command == "image" {
         "; it looks like a board file, which comes first"
+    } else if command.starts_with("VRPMBIMG") {
+        "; it looks like an image"
     } else {
         ""
     };
-    let (word, more) = front_of(command);
-    LineError::of(format!(in alloc;
-        "word 1: expected chain, store or reset, got {word:?}{more}{hint}"
-    ))
+    let Ok(word) = shown(alloc, command) else {
+        return LineError::NoMemory;
+    };
+    LineError::of(format!(in alloc; "word 1: expected chain, store or reset, got {word}{hint}"))
 }
 
 /// The first word is no command, or none that so many words stand behind.

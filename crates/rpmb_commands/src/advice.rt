@@ -1,0 +1,134 @@
+//! What helps where words are refused: a line behind the refusal's own. No contract speaks of it.
+
+use crate::refusal::Refusal;
+use crate::source::{BOARD_FILE, KEY_FILE, NOT_THERE};
+use crate::words::Words;
+use rpmb_client::OptionRefusal;
+use std::io::Write;
+
+/// What is said of a file that has no key.
+const NO_KEY: &str = "a key is 64 hex digits in @FILE, or 32 bytes in @raw:FILE";
+
+/// What is said of a file that is read as a board, and is too long or no text.
+const NO_BOARD: &str = "a board file (TOML) is wanted here; its key image names the image";
+
+/// What is said where no byte is to be written.
+const NO_BYTE: &str = "has no byte, and --pad fills up none; give at least one";
+
+fn is_hex(word: &str) -> bool {
+    word.len() % 2 == 0 && word.as_bytes().iter().all(|byte| byte.is_ascii_hexdigit())
+}
+
+/// Whether a word of `--key` neither names a file nor is hex digits, where it may name its guest or
+/// not.
+fn is_bad_key(word: &str, has_guest: bool) -> bool {
+    if word.starts_with('@') {
+        return false;
+    }
+    match word.split_once('=') {
+        Some((_, key)) if has_guest => !key.starts_with('@') && !is_hex(key),
+        _ => !is_hex(word),
+    }
+}
+
+/// The first word of `--key` that is no key's. Those of `explain` may name a guest.
+fn bad_key<'a>(words: &Words<'a>) -> Option<&'a str> {
+    for word in words.keys.as_slice() {
+        if is_bad_key(*word, words.command == "explain") {
+            return Some(*word);
+        }
+    }
+    None
+}
+
+fn help_with_key(word: &str, has_guest: bool) -> &'static str {
+    if word.contains('=') && !has_guest {
+        "the key alone is wanted; explain alone takes G=KEY"
+    } else {
+        "64 hex digits are wanted, or @FILE that has them"
+    }
+}
+
+fn help_with_nonce(word: &str) -> &'static str {
+    if word.starts_with('@') {
+        "32 hex digits are wanted; --key alone takes @FILE"
+    } else {
+        "32 hex digits are wanted"
+    }
+}
+
+fn help_with_bytes(word: &str) -> &'static str {
+    if word.starts_with('@') {
+        "hex digits are wanted; for a file say --file FILE"
+    } else {
+        "two hex digits are wanted for each byte"
+    }
+}
+
+/// Of the options that are read before others, the first whose word is no hex digits.
+fn advice_on_digits<'a>(words: &Words<'a>) -> Option<(&'a str, &'static str)> {
+    if let Some(word) = bad_key(words) {
+        return Some(("--key", help_with_key(word, words.command == "explain")));
+    }
+    match (words.nonce, words.bytes) {
+        (Some(word), _) if !is_hex(word) => Some(("--nonce", help_with_nonce(word))),
+        (_, Some(word)) if !is_hex(word) => Some(("--data", help_with_bytes(word))),
+        _ => None,
+    }
+}
+
+fn is_word(said: Option<&str>, word: &str) -> bool {
+    match said {
+        Some(said) => said == word,
+        None => false,
+    }
+}
+
+/// A file isn't there.
+fn advice_on_name<'a>(words: &Words<'a>, name: &'a str) -> Option<(&'a str, &'static str)> {
+    if name == "-" {
+        return Some((name, "for standard input say /dev/stdin"));
+    }
+    if name.starts_with('@') && is_word(words.file, name) {
+        return Some((
+            name,
+            "--file takes the name of a file without an @ before it",
+        ));
+    }
+    None
+}
+
+fn advice_on_option<'a>(
+    words: &Words<'a>,
+    refusal: OptionRefusal<'a>,
+) -> Option<(&'a str, &'static str)> {
+    match refusal {
+        OptionRefusal::BadHex(_) => advice_on_digits(words),
+        OptionRefusal::BadKeyFile(name, _) => Some((name, NO_KEY)),
+        OptionRefusal::BadRawKey(name, _) => Some((name, NO_KEY)),
+        _ => None,
+    }
+}
+
+/// Which option or file a refusal of these words is of, and what helps.
+pub(crate) fn advice_of<'a>(
+    words: &Words<'a>,
+    refusal: &Refusal<'a>,
+) -> Option<(&'a str, &'static str)> {
+    match refusal {
+        Refusal::Option(told) => advice_on_option(words, *told),
+        Refusal::NoFile(name, why) if *why == NOT_THERE => advice_on_name(words, *name),
+        Refusal::TooLong(name, most) if *most == KEY_FILE => Some((*name, NO_KEY)),
+        Refusal::TooLong(name, most) if *most == BOARD_FILE => Some((*name, NO_BOARD)),
+        Refusal::NoText(name) if is_word(words.board, *name) => Some((*name, NO_BOARD)),
+        Refusal::BadData(0) => Some((words.file.unwrap_or("--data"), NO_BYTE)),
+        _ => None,
+    }
+}
+
+/// Writes the line of an advice, where there is one.
+pub(crate) fn tell_advice<E: Write>(advice: Option<(&str, &str)>, err: &mut E) {
+    if let Some((what, helps)) = advice {
+        let _ = writeln!(err, "{what}: {helps}");
+    }
+}
