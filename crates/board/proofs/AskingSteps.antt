@@ -18,7 +18,7 @@ use Rattle.mmio_transport.specs.declared.fault.DeviceFault.{DeviceFault}
 use Rattle.mmio_transport.specs.declared.fault.PopFault.{PopFault}
 use Rattle.mmio_transport.specs.declared.fault.PopFault.TheVariants.{Missing, Refused}
 use Rattle.board.specs.Asking.{AskingBoardState, StepsAsked, HandsReply, PopsAsked, board_of}
-use Rattle.board.specs.Asking.{first_asked}
+use Rattle.board.specs.Asking.{first_asked, knowledge}
 use Rattle.board.specs.declared.step.Seen.TheVariants.{Nothing}
 use Rattle.board.specs.declared.step.StepFault.TheVariants as fault
 use Rattle.board.specs.Steps.{pop_answer}
@@ -50,9 +50,6 @@ unseen f xs k x x' at same =
 abbrev pub device_in : AskingState → DeviceState
 device_in a = a.device
 
-abbrev held_in : AskingState → List Span
-held_in a = a.held
-
 -- a device that was moved, and the rest, as a board
 moved_board : {D : Type 0} (ds : List AskingState) (g : ℕ) (a' : AskingState) (rest : BoardState D)
     → with_devices (map device_in (slice_set ds g a')) rest
@@ -71,7 +68,7 @@ module _ {D : Type 0} (shows : D → DiskState) (makes : D → DiskCall → D �
   -- any step that leaves the copies
   pub steps_asked : (s : Step) (answer : Answer) (new : AskingBoardState D)
       → Does shows makes s answer (board_of b) (board_of new)
-      → map held_in new.devices ≡ map held_in b.devices
+      → map knowledge new.devices ≡ map knowledge b.devices
       → StepsAsked shows makes s answer b new
   steps_asked s answer new does held = record {
     steps = made shows makes effect s answer (board_of b) (board_of b) (board_of new) refl sound
@@ -103,7 +100,7 @@ module _ {D : Type 0} (shows : D → DiskState) (makes : D → DiskCall → D �
             ∙ ap (λ js. with_devices (slice_set (map device_in b.devices) g a'.device)
             (record b.rest { jobs = js })) jobs;
       })))
-      (unseen held_in b.devices g a a' at (ap held_in same))
+      (unseen knowledge b.devices g a a' at (ap knowledge same))
     where
       new : BoardState D
       new = with_devices (map device_in (slice_set b.devices g a'))

@@ -1,5 +1,5 @@
 -- What contracts see of a board whose guests' memory its host doesn't hold.
-use Rattle.std.specs.Prelude.{◌≡◌, ◌≤◌, ℕ, ◌+◌, Bool, List, [], ◌∷◌, map, length, slice_get}
+use Rattle.std.specs.Prelude.{◌≡◌, ◌≤◌, ◌⊎◌, ℕ, ◌+◌, Bool, List, [], ◌∷◌, map, length, slice_get}
 use Rattle.std.specs.Prelude.{slice_set, Option, Some, None, Result, Ok, Err}
 use Rattle.guest_memory.specs.Memory.{Span, IsAsk}
 use Rattle.guest_memory.specs.declared.ask.Ask.{Ask}
@@ -39,11 +39,15 @@ abbrev pub as_boards : {D : Type 0} → Result (AskingBoardState D) (D × OpenFa
 as_boards (Ok b) = Ok (board_of b)
 as_boards (Err refused) = Err refused
 
--- It made a step of a board, and has copies of the same parts.
+-- what a device knows beside its state
+abbrev pub knowledge : AskingState → List Span × (Bool × ℕ)
+knowledge a = (a.held, (a.asks, a.told))
+
+-- It made a step of a board, and its devices know what they knew.
 pub record StepsAsked {D : Type 0} (shows : D → DiskState) (makes : D → DiskCall → D → Type 0)
     (s : Step) (answer : Answer) (old new : AskingBoardState D) : Type 0 where
   pub steps : Steps shows makes s answer (board_of old) (board_of new)
-  pub held : map (λ a. a.held) new.devices ≡ map (λ a. a.held) old.devices
+  pub held : map knowledge new.devices ≡ map knowledge old.devices
 
 -- A guest's device asks for bytes, and nothing changed.
 pub record AsksFor {D : Type 0} (g : ℕ) (ask : Ask) (old new : AskingBoardState D) : Type 0 where
@@ -80,10 +84,14 @@ pub record HandsReply {D : Type 0} (shows : D → DiskState) (makes : D → Disk
       }
   pub moves : Moves shows makes (board_of old) (board_of new)
 
+-- There is no such guest, or no reply lies in its place.
+abbrev pub HasNoneToWrite : {D : Type 0} → ℕ → AskingBoardState D → Type 0
+HasNoneToWrite g b = (slice_get b.devices g ≡ None) ⊎ (in_place (slice_get b.rest.dones g) ≡ None)
+
 -- What a publication comes to.
 abbrev pub PublishesOf : {D : Type 0} → (D → DiskState) → (D → DiskCall → D → Type 0) → ℕ
     → Result (Option Published) Ask → AskingBoardState D → AskingBoardState D → Type 0
-PublishesOf shows makes g (Ok None) old new = new ≡ old
+PublishesOf shows makes g (Ok None) old new = HasNoneToWrite g old × (new ≡ old)
 PublishesOf shows makes g (Ok (Some published)) old new =
     HandsReply shows makes g published old new
 PublishesOf shows makes g (Err ask) old new = AsksFor g ask old new
