@@ -81,8 +81,7 @@ found_none guest old new sound below no_job makes =
     (subst (λ p. PopsInto guest p (slice_get b.devices guest) (Ok Nothing) b (board_of new)) empty
     makes.steps.does) in
     let found = none_of guest b (board_of new) dev.0 pops.popped pops.device pops.gives pops.answers
-    dev.1 pops.after in
-    (
+    dev.1 pops.after in (
       record { device = found.0; its = found.1; before = dev.0; none = found.2 },
       ap (λ js. in_place (slice_get js guest)) found.3 ∙ no_job,
     )

@@ -67,17 +67,15 @@ module _ (guest room : ℕ) (old new : MachineState) (w : Setup) (bytes : List �
   needs_of next.Call s told needs =
       subst (λ x. NeedsOf guest room x s bytes old new) (sym told.0) tt
   needs_of (next.Rest None) s told needs =
-      subst (λ x. NeedsOf guest room x s bytes old new) (sym told.0)
-      (
+      subst (λ x. NeedsOf guest room x s bytes old new) (sym told.0) (
         (λ none. subst (λ o. RestsIn guest o new) (sym setup) needs),
         (λ f some. absurd (let no = told.1 in let yes_ = some in cc)),
       )
   needs_of (next.Rest (Some f)) s told needs =
-      subst (λ x. NeedsOf guest room x s bytes old new) (sym told.0)
-      (
+      subst (λ x. NeedsOf guest room x s bytes old new) (sym told.0) (
         (λ none. absurd (let no = told.1 in let yes_ = none in cc)),
         (λ g some. OfBoard (subst (λ x. HasReason guest x)
-        (let a = told.1 in let b = some in cc) needs)),
+            (let a = told.1 in let b = some in cc) needs)),
       )
 
 and_first : (a b c : Bool) → a ≡ false → (a && b && c) ≡ false

@@ -177,12 +177,7 @@ fn settle_down(
 }
 
 /// Takes the next chain; where there is none, hands on what was accepted.
-fn take(
-    board: &mut AskingBoard<OutboxDisk>,
-    guest: u16,
-    most: u16,
-    turn: &mut Turn,
-) -> Option<Next>
+fn take(board: &mut AskingBoard<OutboxDisk>, guest: u16, most: u16, turn: &mut Turn) -> Option<Next>
     requires parts { turn.old.parts ≡ [] }
     requires guest { guest < length board.old.devices }
     ensures went { Went guest most turn.old turn.new board.old board.new result }

@@ -154,7 +154,7 @@ pub extern "C" fn rpmb_serve(
 )
     requires { is_some host.old.value ≡ true }
     ensures serves { Between host.old.value host.new.value
-        (Serves guest done bytes.old bytes.new next.new) }
+        (Serves guest (length bytes.old) bytes.new next.new) }
 {
     let mut machine = take(alloc, host);
     let served = machine.serve(guest, done != 0, bytes);

@@ -23,8 +23,7 @@ pub loop-record-preserved : goal.loop-record-preserved
 loop-record-preserved c =
     let a = c.loop-record.board in
     let b = c.take.new.self in
-    let d = c.give.new.self in
-    (
+    let d = c.give.new.self in (
       (λ ps. more c.args.guest _ _ a b d c.take.ensures.steps c.give.ensures.steps ps
           c.args.board.now (c.loop-record.invariant.0 ps)),
       more_jobs c.args.guest _ _ a b d c.take.ensures.steps c.give.ensures.steps

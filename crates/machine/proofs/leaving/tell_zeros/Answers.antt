@@ -12,8 +12,7 @@ pub loop-part-preserved : goal.loop-part-preserved
 loop-part-preserved c =
     let g = c.args.guest in
     let b = c.loop-part.board in
-    let t = c.tell.ensures in
-    (
+    let t = c.tell.ensures in (
       (λ ps. runs_twice g ps ps ps c.args.board.now b (moved b g c.tell.new.self)
           (c.loop-part.invariant.0 ps)
           (told_runs g b c.device.result.now c.tell.new.self c.device.ensures.device ps c.in-Some.part.now.at _

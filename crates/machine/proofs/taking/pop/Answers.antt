@@ -61,8 +61,11 @@ returns-in-Ok-false-clause-runs c =
     c.in-Ok-false.field-0-test c.in-Ok-false.ensures.pops in
     pops_by g _ (Ok Nothing) c.args.board.now c.pop.new.self device.0 device.1 makes
     (elim c.found_none.ensures.either [
-      | inl nothing ↦ inr (c.found_none.ensures.nothing (λ did. absurd (let no = nothing in
-          let yes = did in cc)), (λ same. absurd (let no = same in cc)))
+      | inl nothing ↦ inr (
+        c.found_none.ensures.nothing (λ did. absurd (let no = nothing in
+            let yes = did in cc)),
+        (λ same. absurd (let no = same in cc)),
+      )
       | inr did ↦ inl (c.found_none.ensures.did did
           ∙ noted_at _ device.0 _ _ device.1 c.requires.parts
           (c.note_event.ensures.noted c.if-not-note_event.false))

@@ -11,8 +11,7 @@ returns-then-not-succeeded-clause-failed c not =
       board = c.self.inside.board;
       setups = c.self.inside.setups.items;
       turns = c.self.inside.turns.items;
-    } in
-    (
+    } in (
       refl,
       subst (λ (x : MachineState). Completes Failed x (record m { board = c.go_on.new.board }))
           c.self.view_is
@@ -26,8 +25,7 @@ returns-clause-synced c succeeded awaited =
       board = c.self.inside.board;
       setups = c.self.inside.setups.items;
       turns = c.self.inside.turns.items;
-    } in
-    (
+    } in (
       refl,
       subst (λ (x : MachineState). Completes Synced x (record m { board = c.go_on-2.new.board }))
           c.self.view_is

@@ -16,8 +16,7 @@ loop-guest-init c = (
 
 pub loop-guest-preserved : goal.loop-guest-preserved
 loop-guest-preserved c =
-    let l = c.loop-guest in
-    (
+    let l = c.loop-guest in (
       goes_more _ c.args.self.now.board l.self-inside.board c.hand_in.new.board l.invariant.0
           (c.hand_in.ensures.runs []),
       c.hand_in.ensures.devices ∙ l.invariant.1,
