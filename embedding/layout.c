@@ -30,7 +30,7 @@ static const struct guest_ram rams[] = {
 	{ (const struct guest_region[]){ { 0, RAM, memories[0] } }, 1 },
 	{ (const struct guest_region[]){ { 0, RAM, memories[1] } }, 1 },
 };
-static unsigned writes, syncs;
+static unsigned writes, syncs, taken; /* taken: chains, of each of which the device reads all descriptors */
 
 _Static_assert(offsetof(struct rpmb_guest, memory) == 0 && offsetof(struct rpmb_guest, withheld) == 8
                && offsetof(struct rpmb_guest, queue) == 16 && offsetof(struct rpmb_guest, most) == 18
@@ -171,6 +171,7 @@ static struct rpmb_next step(uint16_t guest, uint32_t *done)
 	memset(&next, 0xff, sizeof next);
 	rpmb_serve(&host, guest, *done, bytes, sizeof bytes, &next);
 	*done = 0;
+	taken += next.what == RPMB_READ && next.at == DESCRIPTORS;
 	if (next.what == RPMB_READ)
 		*done = guest_copy_in(&rams[guest], next.at, bytes, next.len);
 	if (next.what == RPMB_WRITE)
@@ -226,30 +227,31 @@ static void check_steps(uint16_t guest)
 		check_number(next.what, counter_steps[i].what, "`what`");
 		check_number(next.at, counter_steps[i].at, "`at`");
 		check_number(next.len, counter_steps[i].len, "`len`");
-		check_number(next.waiting, i >= 4 && i <= 7, "`waiting`, from a chain's pop to its answer");
+		check(next.waiting || i != 4, "`waiting`, where a chain was taken");
 	}
 	check_number(next.fault, RPMB_OK, "`fault`");
 	check_number(next.sync, 0, "`sync`");
+	check_number(next.waiting, 0, "`waiting`");
 	check_number(get_be16(guest, ANSWER + 510), 0x0200, "the counter's answer");
 }
 
-/* So many chains that wait for a sync: where they are more than `most`, the last one isn't taken yet. */
+/* So many chains that wait for a sync: where they are more than `most`, the last one isn't taken before. */
 static void check_most(uint16_t guest, unsigned chains)
 {
 	struct rpmb_next next;
 	uint64_t answer = 0;
-	unsigned busy = chains > board[guest].most ? RPMB_BUSY : RPMB_OK, used = get16(guest, DEVICE + 2);
+	unsigned most = board[guest].most;
 
-	negotiate(guest), writes = syncs = 0, used = 0;
+	negotiate(guest), writes = syncs = taken = 0;
 	put(guest, REQUEST + 507, 1, 1), put(guest, REQUEST + 511, 1, 1); /* PROGRAM_KEY and RESULT_READ */
 	put(guest, REQUEST + 512 + 511, 5, 1);
 	for (unsigned i = 0; i < chains; i++)
 		answer = offer(guest, 2);
 	next = serve(guest);
-	check_number(next.fault, busy, "`fault`, by `most`");
+	check_number(taken, chains < most ? chains : most, "the chains that are taken, by `most`");
 	check_number(next.sync, 1, "`sync`, while a key waits");
 	check_number(next.waiting, 1, "`waiting`");
-	check_number(get16(guest, DEVICE + 2), used, "no answer before a sync");
+	check_number(get16(guest, DEVICE + 2), 0, "no answer before a sync");
 	check(writes > 0, "a write comes before a sync");
 	for (; next.sync; syncs++) {
 		check_number(rpmb_completed(&host, 1), RPMB_OK, "rpmb_completed");
@@ -267,10 +269,10 @@ static void check_most(uint16_t guest, unsigned chains)
 static void check_mosts(void)
 {
 	for (uint16_t guest = 0; guest < 2; guest++)
-		for (unsigned more = 0; more < 2; more++) {
+		for (unsigned more = 0; more < 3; more++) {
 			rpmb_close(&host);
 			open_board();
-			check_most(guest, board[guest].most + more);
+			check_most(guest, board[guest].most - 1 + more);
 		}
 }
 
