@@ -1,7 +1,8 @@
 """compare.py DRIVE REQUESTS [SEED]: random requests through Linux's drivers, against partition.py.
 
-Two guests stand on each board; every form of queue has its turn as either. Ends with 0 where
-no answer differs, none is lost, the kernel warns of nothing and no other byte is written."""
+Two guests stand on each board; every form of queue has its turn as either. Their drivers run in a
+thread beside the monitor's. Ends with 0 where no answer differs, none is lost, nor an interrupt or a
+notification, the kernel warns of nothing and no other byte of a request or an answer is written."""
 import os
 import random
 import subprocess
@@ -18,6 +19,7 @@ FORMS = [(packed, size, indirect, event)
          for indirect in (0, 1) for event in (0, 1)]
 STOPPED, BUSY, DISK_FAULT = '4', '5', '7'
 MOST_LINES = 20     # of differences that are told
+STORM = 400         # counter requests at the end of a run
 
 
 class Guest:
@@ -30,20 +32,20 @@ class Guest:
             | (0 if self.event else EVENT)
         self.platform = r.random() < 0.4
         self.capped = self.size != 256 or r.random() < 0.5
-        # a board has no guest whose memory is smaller than what the project's own driver lays out
-        self.memory = max(r.choice((1 << 18, 1 << 20, 1 << 20, 3 << 20)), 4096 + 17000 * self.size)
+        # of each of its two pieces of RAM: room for most of a full queue's buffers, or for all of them
+        self.memory = max(r.choice((1 << 18, 1 << 20, 1 << 20, 3 << 20)), 4096 + 8504 * self.size)
         self.most = r.choice((0, 0, 0, 0, 1, 2, 5))
         limits = (r.choice((1, 1, 2)), r.choice((1, 3, 16, 16)), r.choice((1, 4, 16, 16)))
         self.capacity, self.wr, self.rd = limits
         self.now = partition.Partition(*limits)     # as far as the device has looked
         self.ahead = self.now.copy()                # with what it hasn't seen yet
         self.key = r.randbytes(32)
-        self.unseen, self.expected = [], {}
+        self.unseen, self.expected, self.taken = [], {}, 0
         self.states = [(-1, self.now.copy())]       # that told, then one an acceptance untold
 
     def words(self):
-        return f'{self.memory},{self.withheld:x},{self.size},{self.most},{self.capacity},' \
-            f'{self.wr},{self.rd},{self.packed},{int(self.capped)},{int(self.platform)}'
+        return f'{self.memory},{self.withheld:x},{self.size if self.capped else 0},{self.most},' \
+            f'{self.capacity},{self.wr},{self.rd},{int(self.platform)}'
 
     def form(self):
         return ('packed' if self.packed else 'split') + f' {self.size}' \
@@ -64,10 +66,14 @@ class Guest:
         if (self.ahead.key, self.ahead.counter) != before:
             self.states.append((number, self.ahead.copy()))
 
-    def looked_at(self):
-        for _, readable, room in self.unseen:
+    def was_taken(self, count):
+        """The device took so many of the chains since its reset. Whether these were offered."""
+        news = self.unseen[:count - self.taken]
+        for _, readable, room in news:
             self.now.submit(readable, room)
-        self.unseen = []
+        self.unseen = self.unseen[len(news):]
+        self.taken += len(news)
+        return self.taken == count
 
     def was_told(self, number):
         """What stood at this chain can't be lost any more."""
@@ -80,7 +86,7 @@ class Guest:
         self.states = [state for state in self.states if state[0] not in gone]
         self.now.begin_session()
         self.ahead = self.now.copy()
-        self.unseen, self.expected = [], {}
+        self.unseen, self.expected, self.taken = [], {}, 0
 
 
 class Run:
@@ -93,8 +99,8 @@ class Run:
         self.openings, self.stops, self.broken, self.failures = 1, 0, 0, 0
         self.lost, self.is_broken, self.told, self.results, self.next_id = 0, False, [], {}, 0
         self.spoiled, self.faults = 0, {BUSY}      # those that serve may tell now
-        options = ['check', f'seed={seed}', f'room={self.r.choice((16, 64, 512))}']
-        options += ['whole'] * (self.r.random() < 0.2) + ['ordered'] * (self.r.random() < 0.3)
+        self.is_storming, self.sleeps = False, 0
+        options = [f'seed={seed}'] + ['ordered'] * (self.r.random() < 0.3)
         words = [program, image, 'format', ','.join(options)] + [g.words() for g in self.guests]
         self.said = f'seed {seed}: ' + ' '.join(words[3:])
         self.child = subprocess.Popen(words, stdin=subprocess.PIPE, stdout=subprocess.PIPE,
@@ -111,8 +117,11 @@ class Run:
             words = line.split()
             if words[0] in ends:
                 return words
-            if words[0] == 'served':
-                self.guests[int(words[1])].looked_at()
+            if words[0] == 'taken':
+                if self.is_storming:
+                    self.guests[int(words[1])].taken = int(words[2])
+                elif not self.guests[int(words[1])].was_taken(int(words[2])):
+                    self.differ(f'told: {line.strip()}')
             elif words[0] == 'used':
                 self.judge(self.guests[int(words[1])], int(words[2]), int(words[3]), words[4])
             elif words[0] != 'fault' or words[2] not in self.faults:
@@ -194,6 +203,7 @@ class Run:
         self.ask('reopen', 'reopened')
         for guest in self.guests:
             guest.begin_session()
+        for guest in self.guests:
             self.read_back(guest)
 
     def stop(self):
@@ -206,11 +216,12 @@ class Run:
         self.is_broken = False
         self.faults.discard(DISK_FAULT)
         for guest in self.guests:
+            guest.begin_session()
+        for guest in self.guests:
             self.find_state(guest)
 
     def find_state(self, guest):
         request = partition.frame(req_resp=partition.GET_COUNTER, block_count=1), 512
-        guest.begin_session()
         answers = {state.copy().submit(*request): state for _, state in guest.states}
         self.add(guest, request)
         number, got, judge = self.next_id - 1, [], self.judge
@@ -222,8 +233,10 @@ class Run:
             self.differ(f'guest {guest.number} [{guest.form()}]: a stop left another state')
             raise SystemExit('\n'.join([self.said] + self.told))
         found = answers[got[0][1]]
+        taken = guest.taken
         guest.now, guest.states = found.copy(), [(-1, found.copy())]
         guest.begin_session()
+        guest.taken = taken
         self.read_back(guest)
 
     def read_back(self, guest):
@@ -274,7 +287,8 @@ class Run:
         guest = self.r.choice(self.guests)
         self.batch(guest)
         if self.r.random() < 0.65:
-            self.kick(guest)
+            # mostly nobody waits: the next requests are offered while these are served
+            self.kick(guest) if self.r.random() < 0.2 else self.ask(f'go {guest.number}', 'gone')
         if self.r.random() < 0.45:
             self.sync()
         self.turn(guest, self.r.randrange(100))
@@ -282,12 +296,6 @@ class Run:
     def turn(self, guest, k):
         """Now and then something else than requests."""
         if k < 5:
-            # how many of its chains were taken isn't known where no more may be
-            if guest.most or len(guest.expected) > 60:
-                self.sync()
-                self.batch(guest)
-                if len(guest.expected) > len(guest.unseen):     # a full ring notified by itself
-                    self.sync()
             self.reset(guest)
         elif k < 8 and not guest.packed:
             self.spoil(guest)
@@ -308,11 +316,22 @@ class Run:
                     bool(x) for x in (guest.packed, guest.indirect, guest.event, guest.platform)]:
                 self.differ('configuration: ' + ' '.join(words))
 
+    def storm(self):
+        """Counter requests as fast as they go: no answer is wrong, no wake-up lost."""
+        self.sync()
+        self.is_storming = True
+        words = self.ask(f'storm {STORM}', 'stormed')
+        self.is_storming = False
+        self.sleeps = int(words[4])
+        if words[2] != '0' or words[3] != '0':
+            self.differ('a storm: ' + ' '.join(words))
+
     def end(self):
         self.sync()
+        self.storm()
         words = self.ask('stats', 'stats')[1:]
         self.stats = {k: int(v) for k, v in zip(words[::2], words[1::2])}
-        for name in ('warnings', 'outside', 'spoiled'):
+        for name in ('warnings', 'spoiled'):
             if self.stats[name]:
                 self.differ(f'{name}: {self.stats[name]}')
         self.child.communicate('quit\n')
@@ -346,15 +365,15 @@ def print_table(runs):
             ('rings that were spoiled', add('spoiled')), ('openings', add('openings')),
             ('stops between two syncs', add('stops')),
             ('disks that failed', add('broken')), ('failures told then', add('failures')),
+            ('requests of storms', STORM * len(runs)), ('sleeps then', add('sleeps')),
             ('exits to QueueNotify', stat('kicks')), ('serves', stat('serves')),
-            ('serves that asked for another', stat('again')),
+            ('calls of them', stat('calls')), ('notifications', stat('interrupts')),
             ('writes of the outbox', stat('outbox')),
             ('of these, over an earlier one', stat('overlaps')),
             ('of these, behind an awaited sync', stat('late')), ('syncs', stat('syncs')),
-            ('bytes stored', stat('stored')), ('bytes loaded', stat('loaded')),
+            ('bytes copied in', stat('copied_in')), ('bytes copied out', stat('copied_out')),
             ('mappings that were bounced', stat('maps')), ('chains lost', add('lost')),
             ('kernel warnings', stat('warnings')),
-            ('serves that wrote elsewhere', stat('outside')),
             ('chains written elsewhere', stat('spoiled')), ('differences', add('differences'))]
     for name, value in rows:
         print(f'{name:34} {value}')
