@@ -108,7 +108,6 @@ static void check_guest(uint16_t guest, uint64_t features)
 	check_number(rpmb_read(&host, guest, 0x102, 1), g->max_rd_cnt, "max_rd_cnt");
 	check(make_queue(guest, g->memory - 32, 2), "a queue at the end of `memory`");
 	check(!make_queue(guest, g->memory - 16, 2), "a queue that passes `memory`");
-	check(!make_queue(guest, DESCRIPTORS, 2u * g->queue), "a queue of more places than `queue`");
 }
 
 /* 2. The fields of struct rpmb_next. */
