@@ -1,7 +1,7 @@
 /* SPDX-License-Identifier: Apache-2.0
  *
- * A guest's RAM as its monitor has it mapped, and the copies that a serve of rpmb_host.h asks for. The guest's processors
- * may run meanwhile. */
+ * A guest's RAM as its monitor has it mapped, and the copies that a serve of rpmb_host.h asks for. The guest's
+ * processors may run meanwhile. */
 #ifndef GUEST_RAM_H
 #define GUEST_RAM_H
 #include <stdatomic.h>

@@ -105,23 +105,36 @@ static void set_area(struct driver *d, uint32_t offset, uint64_t at)
 	rpmb_write(&host, d->guest, offset + 4, 4, (uint32_t)(at >> 32));
 }
 
-/* Brings a device into service, with VERSION_1, INDIRECT_DESC, and RING_PACKED where it is a packed queue (3.1.1). */
-static void negotiate(struct driver *d, uint16_t places, int packed)
+static void serve(struct driver *d);
+
+/* Brings a device into service (3.1.1), with VERSION_1, INDIRECT_DESC, RING_PACKED where it is a packed queue, and
+ * EVENT_IDX where that is wanted. It is served behind each register, where that is. */
+static void negotiate_with(struct driver *d, uint16_t places, int packed, uint32_t event_idx, int is_served)
 {
+	const uint64_t at = d->region.at;
 	const uint32_t writes_of[][2] = {
-		{ 0x070, 0 }, { 0x070, 1 }, { 0x070, 3 }, { 0x024, 0 }, { 0x020, 1u << 28 },
+		{ 0x070, 0 }, { 0x070, 1 }, { 0x070, 3 }, { 0x024, 0 }, { 0x020, 1u << 28 | event_idx << 29 },
 		{ 0x024, 1 }, { 0x020, packed ? 5 : 1 }, { 0x070, 11 }, { 0x030, 0 }, { 0x038, places },
+		{ 0x080, (uint32_t)at }, { 0x084, (uint32_t)(at >> 32) },
+		{ 0x090, (uint32_t)(at + DRIVER) }, { 0x094, (uint32_t)((at + DRIVER) >> 32) },
+		{ 0x0a0, (uint32_t)(at + DEVICE) }, { 0x0a4, (uint32_t)((at + DEVICE) >> 32) }, { 0x044, 1 },
 	};
 
 	memset(d->ram, 0, RAM);
 	d->places = places, d->packed = packed, d->offered = 0, d->next.what = RPMB_REST;
-	for (size_t i = 0; i < sizeof writes_of / sizeof writes_of[0]; i++)
+	for (size_t i = 0; i < sizeof writes_of / sizeof writes_of[0]; i++) {
 		rpmb_write(&host, d->guest, writes_of[i][0], 4, writes_of[i][1]);
-	set_area(d, 0x080, 0), set_area(d, 0x090, DRIVER), set_area(d, 0x0a0, DEVICE);
-	rpmb_write(&host, d->guest, 0x044, 4, 1);
+		if (is_served)
+			serve(d);
+	}
 	check(rpmb_read(&host, d->guest, 0x044, 4) == 1, "the queue is ready");
 	rpmb_write(&host, d->guest, 0x070, 4, 15);
 	check(rpmb_read(&host, d->guest, 0x070, 4) == 15, "the device is in service");
+}
+
+static void negotiate(struct driver *d, uint16_t places, int packed)
+{
+	negotiate_with(d, places, packed, 0, 0);
 }
 
 /* Writes one descriptor of a chain of two (2.7.5, 2.8.13). */
@@ -441,9 +454,15 @@ static void check_between(void)
 			check(copies >= 7, "a reset comes behind each call of a serve");
 		}
 		check_room(&drivers[0], packed);
+		for (uint32_t event_idx = 0; event_idx < 2; event_idx++) {
+			negotiate_with(&drivers[0], 4, packed, event_idx, 1);
+			offer_counter(&drivers[0]);
+			settle(&drivers[0]);
+			check_answer(&drivers[0], 0, 2, 0, "the counter's answer behind serves before it was in service");
+		}
 		close_board(2);
 	}
-	printf("no RAM, resets and no room between two calls of a serve\n");
+	printf("no RAM, resets and no room between two calls, and serves before there is a queue\n");
 }
 
 /* 4. Which image it is: one of another board is never told as none, which a monitor would format. */

@@ -367,8 +367,8 @@ static int takes_chain(const struct driver *d)
 	return d->next_step.what == RPMB_READ && d->next_step.at == 0 && d->next_step.len == 16u * d->size;
 }
 
-/* Serves a guest until it has no more, or as many chains were taken as its queue has places: a reply may write over the
- * index of the next one. NULL where one was. */
+/* Serves a guest until it has no more, or as many chains were taken as its queue has places: a reply may write over
+ * the index of the next one. NULL where one was. */
 static const char *serve_all(struct board *b, struct driver *d)
 {
 	const struct rpmb_next *next = &d->next_step;

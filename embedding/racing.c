@@ -2,10 +2,11 @@
  *
  *     racing [REQUESTS [SEED]]
  *
- * Two guests are honest. They keep their queues full, sleep until an interrupt, and notify only where their device wants
- * it: a kick or an interrupt that is lost leaves one asleep, and each answer is looked at. Two others change what they
- * like at any moment: descriptors, indexes, tables, buffers, registers. They harm nobody but themselves: the honest
- * guests' answers stay right, no byte is written that RPMB_WRITE didn't tell, and a reset heals their devices. */
+ * Two guests are honest. They keep their queues full, sleep until an interrupt, and notify only where their device
+ * wants it: a kick or an interrupt that is lost leaves one asleep, and each answer is looked at. Now and then they reset
+ * their devices under way, and take their memory back. Two others change what they like at any moment: descriptors,
+ * indexes, tables, buffers, registers. They harm nobody but themselves: the honest guests' answers stay right, no byte
+ * is written that RPMB_WRITE didn't tell, and a reset heals their devices. */
 #include "guest_ram.h"
 #include "kvm/sha256.h"
 #include "rpmb_host.h"
@@ -29,12 +30,13 @@ struct guest {
 	struct guest_ram ram;
 	/* the driver's */
 	uint16_t offered, reaped, writes;
-	uint32_t asked, answered, sleeps;
+	uint32_t asked, answered, sleeps, begun;
+	int is_fresh;              /* it doesn't know how many of its writes were accepted */
 	int busy[SLOTS], type_of[SLOTS];
 	uint16_t counter_of[SLOTS];
 	/* the monitor's, all of it under `calls` */
 	pthread_cond_t line;
-	int is_active;
+	int is_active, is_copying;
 	struct rpmb_next next;
 	uint32_t done;
 	unsigned char bytes[RPMB_LARGEST_PART], told[LOW - UNTOUCHED];
@@ -70,13 +72,16 @@ static void pause_some(struct guest *g)
 		atomic_signal_fence(memory_order_seq_cst);
 }
 
-/* Registers, as the processor's exits. */
+/* Registers, as the processor's exits. Behind a reset, or where its queue is taken away, a driver takes its memory
+ * back: so the copy that is under way comes first. */
 
 static uint32_t set_register(struct guest *g, uint32_t offset, uint32_t value)
 {
 	uint32_t kick;
 
 	pthread_mutex_lock(&calls);
+	while (g->is_copying && (offset == 0x070 || offset == 0x044))
+		pthread_cond_wait(&g->line, &calls);
 	kick = rpmb_write(&host, g->number, offset, 4, value);
 	if (kick == RPMB_NOTIFY) {
 		g->is_active = 1;
@@ -206,6 +211,8 @@ static void look(struct guest *g)
 	it = answer_of(g, (int)slot);
 	check(number_of(it + 510) == 256 * g->type_of[slot], "an answer's type");
 	check(number_of(it + 508) == 0, "an answer's result");
+	if (g->is_fresh)
+		g->writes = g->counter_of[slot] = (uint16_t)number_of(it + 502), g->is_fresh = 0;
 	check(number_of(it + 502) == g->counter_of[slot], "an answer's counter");
 	check(g->type_of[slot] != 2 || !memcmp(it + 484, request_of(g, (int)slot) + 484, 4), "an answer's nonce");
 	g->busy[slot] = 0;
@@ -250,6 +257,26 @@ static void end_honest(void)
 	pthread_mutex_unlock(&calls);
 }
 
+/* A reset under way: no more is written from then on. The first answer behind it tells the counter. */
+static void begin_anew(struct guest *g)
+{
+	set_register(g, 0x070, 0);
+	for (int slot = 0; slot < SLOTS; slot++)
+		memset(answer_of(g, slot), 0x55, 512), g->busy[slot] = 0;
+	for (int i = 0; i < 20; i++)
+		pause_some(g);
+	for (int slot = 0; slot < SLOTS; slot++)
+		for (int i = 0; i < 512; i++)
+			check(answer_of(g, slot)[i] == 0x55, "nothing is written behind a reset");
+	negotiate(g);
+	g->answered = g->asked, g->is_fresh = 1, g->begun++;
+	offer(g, 0, 2);
+	while (g->busy[0]) {
+		sleep_until_answered(g);
+		reap(g);
+	}
+}
+
 static uint32_t requests = 4000;
 
 static void *run_honest(void *it)
@@ -258,6 +285,8 @@ static void *run_honest(void *it)
 
 	negotiate(g);
 	while (g->answered < requests) {
+		if (g->answered && g->asked + 1 < requests && random_of(g, 200) == 0)
+			begin_anew(g);
 		/* (what is behind the key waits until that was told) */
 		for (int slot = 0, most = g->answered ? (int)random_of(g, SLOTS + 1) : !g->asked; slot < most; slot++)
 			if (!g->busy[slot] && g->asked < requests)
@@ -378,6 +407,7 @@ static void note(struct guest *g)
 
 static void copy(struct guest *g)
 {
+	g->is_copying = 1;
 	pthread_mutex_unlock(&calls);
 	g->done = 0;
 	pause_some(&pace);
@@ -386,6 +416,8 @@ static void copy(struct guest *g)
 	if (g->next.what == RPMB_WRITE && (g->done = guest_copy_out(&g->ram, g->next.at, g->bytes, g->next.len)))
 		note(g);
 	pthread_mutex_lock(&calls);
+	g->is_copying = 0;
+	pthread_cond_signal(&g->line);
 }
 
 /* Some steps of a guest's serve: one that goes on offering leaves the others their turn. Whether a sync is awaited. */
@@ -493,8 +525,8 @@ int main(int argc, char **argv)
 	for (int i = 0; i < GUESTS; i++)
 		pthread_join(threads[i], NULL);
 	for (int i = 0; i < HONEST; i++)
-		printf("an honest guest: %u requests, %u answers, %s\n", guests[i].asked, guests[i].answered,
-		       guests[i].sleeps ? "and it slept" : "and it never slept");
+		printf("an honest guest: %u requests, %s, %s\n", guests[i].asked,
+		       guests[i].sleeps ? "it slept" : "it never slept", guests[i].begun ? "it began anew" : "it went on");
 	for (int i = HONEST; i < GUESTS; i++) {
 		check_healed(&guests[i]);
 		check(guests[i].stops > 0, "its device stopped");
