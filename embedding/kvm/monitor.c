@@ -30,7 +30,8 @@ static pthread_mutex_t lock = PTHREAD_MUTEX_INITIALIZER; /* of the calls with `h
 static struct rpmb_host host;
 static uint8_t *memory;
 static int file, kicks;		/* kicks: an eventfd, which KVM itself writes to at QueueNotify */
-static bool slow, over;
+static pthread_cond_t copied = PTHREAD_COND_INITIALIZER;
+static bool slow, over, copying;
 static uint32_t least;
 
 static void stop(const char *what)
@@ -124,10 +125,13 @@ static bool serve(const struct guest_ram *ram)
 	do {
 		rpmb_serve(&host, 0, done, bytes, sizeof bytes, &next);
 		take_outbox();
+		copying = true;
 		pthread_mutex_unlock(&lock);
 		if (next.what == RPMB_READ) done = guest_copy_in(ram, next.at, bytes, next.len);
 		if (next.what == RPMB_WRITE) done = guest_copy_out(ram, next.at, bytes, next.len);
 		pthread_mutex_lock(&lock);
+		copying = false;
+		pthread_cond_signal(&copied);
 	} while (next.what != RPMB_REST);
 	if (next.fault != RPMB_OK)
 		fprintf(stderr, "monitor: rpmb_serve: %s\n", rpmb_fault_text(next.fault));
@@ -170,6 +174,9 @@ static void access_register(struct kvm_run *run)
 	uint32_t value = 0;
 	if (run->mmio.len > 4 || offset >= 512) return;
 	pthread_mutex_lock(&lock);
+	/* behind a reset, or without its queue, the driver takes its memory back */
+	while (copying && run->mmio.is_write && (offset == 0x70 || offset == 0x44))
+		pthread_cond_wait(&copied, &lock);
 	if (run->mmio.is_write) {
 		memcpy(&value, run->mmio.data, run->mmio.len);
 		rpmb_write(&host, 0, offset, run->mmio.len, value);

@@ -80,9 +80,9 @@ class Guest:
         while len(self.states) > 1 and self.states[1][0] <= number:
             self.states.pop(0)
 
-    def begin_session(self):
-        """A reset: what the device hasn't seen is gone."""
-        gone = {number for number, _, _ in self.unseen}
+    def begin_session(self, is_any=False):
+        """A reset: what the device hasn't seen is gone, or may be."""
+        gone = set() if is_any else {number for number, _, _ in self.unseen}
         self.states = [state for state in self.states if state[0] not in gone]
         self.now.begin_session()
         self.ahead = self.now.copy()
@@ -99,7 +99,7 @@ class Run:
         self.openings, self.stops, self.broken, self.failures = 1, 0, 0, 0
         self.lost, self.is_broken, self.told, self.results, self.next_id = 0, False, [], {}, 0
         self.spoiled, self.faults = 0, {BUSY}      # those that serve may tell now
-        self.is_storming, self.sleeps = False, 0
+        self.is_storming, self.sleeps, self.hurried = False, 0, 0
         options = [f'seed={seed}'] + ['ordered'] * (self.r.random() < 0.3)
         words = [program, image, 'format', ','.join(options)] + [g.words() for g in self.guests]
         self.said = f'seed {seed}: ' + ' '.join(words[3:])
@@ -189,13 +189,22 @@ class Run:
                 self.differ(f'chain {number} of guest {guest.number} [{guest.form()}] is lost')
             guest.expected = {}
 
-    def reset(self, guest):
+    def reset(self, guest, word='reset'):
         self.resets += 1
-        words = self.ask(f'reset {guest.number}', 'reset')
+        words = self.ask(f'{word} {guest.number}', 'reset')
         self.dropped += int(words[2])
         if words[3] != ('11' if guest.platform and not guest.withheld else '3'):
             self.differ(f'features that were withheld were taken: Status {words[3]}')
-        guest.begin_session()
+        guest.begin_session(word == 'hurry')
+
+    def hurry(self, guest):
+        """A reset while the device is served: any front of what was offered was taken."""
+        self.sync()
+        self.batch(guest)
+        self.ask(f'go {guest.number}', 'gone')
+        self.hurried += 1
+        self.reset(guest, 'hurry')
+        self.find_state(guest)
 
     def reopen(self):
         self.sync()
@@ -227,10 +236,11 @@ class Run:
         number, got, judge = self.next_id - 1, [], self.judge
         self.judge = lambda g, n, length, digits: got.append((n, bytes.fromhex(digits)))
         self.kick(guest)
+        self.ask('sync', 'synced')
         self.judge = judge
         self.answers += 1
         if len(got) != 1 or got[0][0] != number or got[0][1] not in answers:
-            self.differ(f'guest {guest.number} [{guest.form()}]: a stop left another state')
+            self.differ(f'guest {guest.number} [{guest.form()}]: a stop or a reset left another state')
             raise SystemExit('\n'.join([self.said] + self.told))
         found = answers[got[0][1]]
         taken = guest.taken
@@ -297,6 +307,8 @@ class Run:
         """Now and then something else than requests."""
         if k < 5:
             self.reset(guest)
+        elif k >= 92:
+            self.hurry(guest)
         elif k < 8 and not guest.packed:
             self.spoil(guest)
         elif k == 8:
@@ -361,7 +373,8 @@ def print_table(runs):
             ('boards, of two guests each', len(runs)), ('requests', add('made')),
             ('answers', add('answers')),
             ('results', ', '.join(f'{k:#x}: {n}' for k, n in sorted(results.items()))),
-            ('resets', add('resets')), ('chains that resets dropped', add('dropped')),
+            ('resets', add('resets')), ('of these, while it was served', add('hurried')),
+            ('chains that resets dropped', add('dropped')),
             ('rings that were spoiled', add('spoiled')), ('openings', add('openings')),
             ('stops between two syncs', add('stops')),
             ('disks that failed', add('broken')), ('failures told then', add('failures')),

@@ -13,6 +13,7 @@
  *   once                     the same for one sync alone -> synced
  *   reset G                  the driver goes and comes back -> reset G DROPPED STATUS; between, it
  *                            takes features that weren't offered, and STATUS is what came of it
+ *   hurry G                  the same, without waiting until the monitor rests
  *   reopen                   the drivers go, the image is opened again -> reopened
  *   stop                     the same, within the writes between two syncs -> reopened
  *   spoil G                  its ring is spoiled -> spoiled G, InterruptStatus, Status, changes
@@ -139,9 +140,9 @@ static unsigned int take_withheld(int guest)
 	return monitor_read(guest, 0x70, 4);
 }
 
-static void reset(int guest)
+static void reset(int guest, bool hurries)
 {
-	rest();
+	if (!hurries) rest();
 	unsigned long dropped = driver_remove(guest);
 	unsigned int status = take_withheld(guest);
 	bring_up(guest);
@@ -267,7 +268,9 @@ static void perform(const char *line)
 		monitor_fail();
 		printf("failing\n");
 	} else if (sscanf(line, "reset %d", &g) == 1) {
-		reset(g);
+		reset(g, false);
+	} else if (sscanf(line, "hurry %d", &g) == 1) {
+		reset(g, true);
 	} else if (!strncmp(line, "reopen", 6)) {
 		reopen(false);
 	} else if (!strncmp(line, "stop", 4)) {

@@ -20,6 +20,7 @@ static struct served {
 	uint64_t descriptors;
 	unsigned long taken;
 	bool active;	/* it kicked its queue, or waits */
+	bool copying;
 	uint8_t bytes[RPMB_LARGEST_PART];
 } served[MONITOR_GUESTS];
 
@@ -173,12 +174,15 @@ void monitor_stop(void)
 static void copy(struct served *s)
 {
 	uint64_t t = now();
+	s->copying = true;
 	pthread_mutex_unlock(&lock);
 	if (s->next.what == RPMB_READ)
 		s->done = guest_copy_in(&s->ram, s->next.at, s->bytes, s->next.len);
 	else
 		s->done = guest_copy_out(&s->ram, s->next.at, s->bytes, s->next.len);
 	pthread_mutex_lock(&lock);
+	s->copying = false;
+	pthread_cond_broadcast(&news);
 	if (s->next.what == RPMB_READ) monitor_counts.copied_in += s->next.len;
 	else monitor_counts.copied_out += s->next.len;
 	monitor_counts.copy_ns += now() - t;
@@ -291,6 +295,9 @@ static void note_queue(struct served *s, uint32_t offset, uint32_t value)
 void monitor_write(int guest, uint32_t offset, uint8_t width, uint32_t value)
 {
 	pthread_mutex_lock(&lock);
+	/* behind a reset, or without its queue, the driver takes its memory back */
+	while (served[guest].copying && (offset == 0x70 || offset == 0x44))
+		pthread_cond_wait(&news, &lock);
 	uint64_t t = now();
 	uint32_t kick = rpmb_write(&host, guest, offset, width, value);
 	monitor_counts.register_ns += now() - t;
