@@ -238,10 +238,35 @@ static void stats(void)
 	       driver_counts.spoiled);
 }
 
-static void perform(const char *line)
+/* Lines behind which the guests begin anew, or that tell of them. Whether it is one. */
+static bool perform_other(const char *line)
 {
 	int g = 0;
 	long n;
+	if (sscanf(line, "reset %d", &g) == 1) reset(g, false);
+	else if (sscanf(line, "hurry %d", &g) == 1) reset(g, true);
+	else if (!strncmp(line, "reopen", 6)) reopen(false);
+	else if (!strncmp(line, "stop", 4)) reopen(true);
+	else if (sscanf(line, "spoil %d", &g) == 1) spoil(g);
+	else if (sscanf(line, "storm %ld", &n) == 1) storm(n);
+	else if (sscanf(line, "config %d", &g) == 1) driver_tell(g);
+	else if (sscanf(line, "times %ld", &n) == 1) times(n);
+	else if (!strncmp(line, "stats", 5)) stats();
+	else return false;
+	return true;
+}
+
+static void settle(int syncs)
+{
+	rest();
+	monitor_settle(syncs);
+	rest();
+	printf("synced\n");
+}
+
+static void perform(const char *line)
+{
+	int g = 0;
 	if (!strncmp(line, "add ", 4)) {
 		add(line);
 	} else if (sscanf(line, "kick %d", &g) == 1) {
@@ -252,38 +277,14 @@ static void perform(const char *line)
 		driver_kick(g);
 		interrupts();
 		printf("gone %d\n", g);
-	} else if (sscanf(line, "storm %ld", &n) == 1) {
-		storm(n);
 	} else if (!strncmp(line, "sync", 4)) {
-		rest();
-		monitor_settle(INT_MAX);
-		rest();
-		printf("synced\n");
+		settle(INT_MAX);
 	} else if (!strncmp(line, "once", 4)) {
-		rest();
-		monitor_settle(1);
-		rest();
-		printf("synced\n");
+		settle(1);
 	} else if (!strncmp(line, "fail", 4)) {
 		monitor_fail();
 		printf("failing\n");
-	} else if (sscanf(line, "reset %d", &g) == 1) {
-		reset(g, false);
-	} else if (sscanf(line, "hurry %d", &g) == 1) {
-		reset(g, true);
-	} else if (!strncmp(line, "reopen", 6)) {
-		reopen(false);
-	} else if (!strncmp(line, "stop", 4)) {
-		reopen(true);
-	} else if (sscanf(line, "spoil %d", &g) == 1) {
-		spoil(g);
-	} else if (sscanf(line, "config %d", &g) == 1) {
-		driver_tell(g);
-	} else if (sscanf(line, "times %ld", &n) == 1) {
-		times(n);
-	} else if (!strncmp(line, "stats", 5)) {
-		stats();
-	} else {
+	} else if (!perform_other(line)) {
 		stop("line", 0);
 	}
 }
