@@ -111,18 +111,10 @@ static void *room_for(size_t len)
 
 /* The driver's memory. */
 
-static void put(struct driver *d, uint64_t at, const void *bytes, size_t len)
+static void put(struct driver *d, uint64_t at, uint64_t number, size_t len)
 {
-	memcpy(d->ram + at, bytes, len);
-}
-
-static void put_number(struct driver *d, uint64_t at, uint64_t number, size_t len)
-{
-	unsigned char bytes[8];
-
-	for (size_t i = 0; i < len; i++, number >>= 8)
-		bytes[i] = (unsigned char)number;
-	put(d, at, bytes, len);
+	for (; len-- > 0; number >>= 8)
+		d->ram[at++] = (unsigned char)number;
 }
 
 static uint32_t get(const struct driver *d, uint64_t at, size_t len)
@@ -151,7 +143,7 @@ static void lay_out(struct driver *d)
 	d->buffers = aligned(d->tables + 32 * size);
 }
 
-static uint32_t set_register(struct driver *d, uint32_t offset, uint32_t value)
+static uint32_t set_register(const struct driver *d, uint32_t offset, uint32_t value)
 {
 	return rpmb_write(d->host, d->guest, offset, 4, value);
 }
@@ -159,7 +151,6 @@ static uint32_t set_register(struct driver *d, uint32_t offset, uint32_t value)
 /* Brings the device into service (VIRTIO 1.2, 3.1.1 and 4.2.3), with areas that are zeros. */
 static void negotiate(struct driver *d)
 {
-	static const unsigned char zeros[16 * PLACES];
 	const uint32_t writes[][2] = {
 		{ STATUS, 1 }, { STATUS, 3 },
 		{ 0x024, 0 }, { 0x020, (uint32_t)d->indirect << 28 | (uint32_t)d->event_idx << 29 },
@@ -177,9 +168,9 @@ static void negotiate(struct driver *d)
 	for (int i = 0; i < PLACES; i++)
 		d->owner[i] = -1;
 	d->stuck = NULL;
-	put(d, 0, zeros, 16u * d->size);
-	put(d, d->driver_area, zeros, d->packed ? 4 : 6u + 2u * d->size);
-	put(d, d->device_area, zeros, d->packed ? 4 : 6u + 8u * d->size);
+	memset(d->ram, 0, 16u * d->size);
+	memset(d->ram + d->driver_area, 0, d->packed ? 4 : 6u + 2u * d->size);
+	memset(d->ram + d->device_area, 0, d->packed ? 4 : 6u + 8u * d->size);
 	for (size_t i = 0; i < sizeof writes / sizeof writes[0]; i++)
 		set_register(d, writes[i][0], writes[i][1]);
 }
@@ -213,10 +204,10 @@ static struct slot slot_of(const struct driver *d, uint32_t place)
 static void describe(struct driver *d, struct slot to, uint64_t addr, uint32_t len, unsigned flags, unsigned other)
 {
 	flags += to.marks;
-	put_number(d, to.at, addr, 8);
-	put_number(d, to.at + 8, len, 4);
-	put_number(d, to.at + 12, d->packed ? other : flags, 2);
-	put_number(d, to.at + 14, d->packed ? flags : other, 2);
+	put(d, to.at, addr, 8);
+	put(d, to.at + 8, len, 4);
+	put(d, to.at + 12, d->packed ? other : flags, 2);
+	put(d, to.at + 14, d->packed ? flags : other, 2);
 }
 
 /* Describes a chain's parts, the first one last. A packed ring's table has neither ids nor NEXT. */
@@ -275,15 +266,15 @@ static void offer(struct driver *d, const struct line *line)
 
 	choose(d, &c, two);
 	d->flights[c.id] = (struct flight){ c.last, places, c.room, d->offered };
-	put(d, d->buffers + PAIR * (uint64_t)c.id, line->bytes, line->len);
+	memcpy(d->ram + d->buffers + PAIR * (uint64_t)c.id, line->bytes, line->len);
 	if (d->packed) {
 		write_chain(d, &c, slot_of(d, d->offered), slot_of(d, d->offered + 1));
 		d->offered = (d->offered + places) % (2u * d->size);
 		return;
 	}
 	write_chain(d, &c, slot_at(16 * (uint64_t)c.id), slot_at(16 * (uint64_t)c.last));
-	put_number(d, d->driver_area + 4 + 2 * (index % d->size), c.id, 2);
-	put_number(d, d->driver_area + 2, index + 1, 2);
+	put(d, d->driver_area + 4 + 2 * (index % d->size), c.id, 2);
+	put(d, d->driver_area + 2, index + 1, 2);
 	d->offered = (d->offered + 1) % 65536;
 }
 
@@ -566,7 +557,7 @@ static void perform(struct board *b, const struct line *line, const char *script
 	if (line->kind == STORE) {
 		if (line->number > d->memory || line->len > d->memory - line->number)
 			end_outside(script, number);
-		put(d, line->number, line->bytes, line->len);
+		memcpy(d->ram + line->number, line->bytes, line->len);
 	}
 	if (line->kind == RESET) {
 		check(set_register(d, STATUS, 0) == RPMB_RESET, "a reset");
