@@ -34,7 +34,7 @@ static pthread_cond_t copied = PTHREAD_COND_INITIALIZER;
 static bool slow, over, copying;
 static uint32_t least;
 
-static void stop(const char *what)
+static _Noreturn void stop(const char *what)
 {
 	fprintf(stderr, "monitor: %s: %s\n", what, strerror(errno));
 	exit(1);
