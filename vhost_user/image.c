@@ -3,15 +3,9 @@
  * The image: a file that is locked, read once, and then written from the library's outbox. A thread of its own makes
  * the writes and the syncs, so that no kick waits for a disk. */
 #define _GNU_SOURCE
-#include <errno.h>
-#include <fcntl.h>
 #include <libgen.h>
-#include <stdio.h>
-#include <string.h>
 #include <sys/eventfd.h>
 #include <sys/file.h>
-#include <sys/stat.h>
-#include <unistd.h>
 #include "daemon.h"
 
 /* In front of a write's bytes in a batch. */
@@ -21,110 +15,29 @@ struct head {
 
 static bool is_written(int file, const uint8_t *bytes, uint64_t at, uint64_t len)
 {
-	while (len) {
-		ssize_t n = pwrite(file, bytes, len, (off_t)at);
+	for (uint64_t made = 0; made < len;) {
+		const ssize_t n = pwrite(file, bytes + made, len - made, (off_t)(at + made));
 
-		if (n < 0 && errno == EINTR)
-			continue;
-		if (n <= 0)
+		if (n <= 0 && !(n < 0 && errno == EINTR))
 			return false;
-		bytes += n, at += (uint64_t)n, len -= (uint64_t)n;
+		made += n > 0 ? (uint64_t)n : 0;
 	}
 	return true;
 }
 
-/* Makes a fresh image in a file that is empty. A stop within it leaves one that is refused, or one as good. */
+/* Makes a fresh image in a file that is empty. A stop within it leaves one that is as good, or refused. */
 static void format_image(struct daemon *d, uint8_t *image, uint64_t len)
 {
 	char name[4096];
-	uint32_t fault = rpmb_format(d->board, d->count, image, len);
 
-	if (fault != RPMB_OK)
-		REFUSE(d->disk.path, "no image is made: %s", rpmb_fault_text(fault));
 	snprintf(name, sizeof name, "%s", d->disk.path);
-	int folder = open(dirname(name), O_RDONLY | O_DIRECTORY | O_CLOEXEC);
+	const int folder = open(dirname(name), O_RDONLY | O_DIRECTORY | O_CLOEXEC);
+	const uint32_t fault = rpmb_format(d->board, d->count, image, len);
 
 	/* (the file's name has to last as well) */
-	if (!is_written(d->disk.file, image, 0, len) || fsync(d->disk.file) || folder < 0 || fsync(folder))
-		REFUSE(d->disk.path, "the fresh image can't be written: %s", strerror(errno));
+	if (fault != RPMB_OK || !is_written(d->disk.file, image, 0, len) || fsync(d->disk.file) || fsync(folder))
+		REFUSE(d->disk.path, "no fresh image is made: %s", fault ? rpmb_fault_text(fault) : strerror(errno));
 	close(folder);
-}
-
-static const char *help_of(uint32_t fault)
-{
-	switch (fault) {
-	case RPMB_OTHER_CONFIG: return "it was made for guests of another --capacity, or another number of them";
-	case RPMB_NOT_FORMATTED: return "it is damaged, or no image of ours; a fresh one is made, by --format, in an empty file";
-	case RPMB_NO_MEMORY: return "the machine has too little memory";
-	default: return "the guests' options are wrong";
-	}
-}
-
-void open_image(struct daemon *d, bool format)
-{
-	const char *path = d->disk.path;
-	const uint64_t len = rpmb_image_length(d->board, d->count);
-	uint8_t *image = malloc(len ? len : 1);
-	struct stat is;
-	uint32_t fault;
-
-	if (!len || !image)
-		REFUSE(path, "no memory for the image of these guests, or the library knows no such board");
-	d->disk.file = open(path, O_RDWR | O_CLOEXEC | (format ? O_CREAT : 0), 0600);
-	if (d->disk.file < 0)
-		REFUSE(path, "the image can't be opened: %s%s", strerror(errno),
-		       errno == ENOENT ? "; --format makes a fresh one" : "");
-	if (flock(d->disk.file, LOCK_EX | LOCK_NB))
-		REFUSE(path, "another program has the image (vhost-user-rpmb or rpmbd): end it first");
-	if (fstat(d->disk.file, &is) || !S_ISREG(is.st_mode))
-		REFUSE(path, "the image has to be a file");
-	if (!is.st_size && format)
-		format_image(d, image, len);
-	else if ((uint64_t)is.st_size != len)
-		REFUSE(path, "the image has %lld bytes, and that of these guests has %llu%s", (long long)is.st_size,
-		       (unsigned long long)len, is.st_size ? ": as many sockets, each with the --capacity, that it was made with"
-		       : "; --format makes it");
-	/* what a stop left is kept before it is read, and before anybody is told of it */
-	if (fsync(d->disk.file) || pread(d->disk.file, image, len, 0) != (ssize_t)len)
-		REFUSE(path, "the image can't be read or synced: %s", strerror(errno));
-	fault = rpmb_open(d->board, d->count, image, len, &d->host);
-	if (fault != RPMB_OK)
-		REFUSE(path, "%s: %s", rpmb_fault_text(fault), help_of(fault));
-	free(image);
-}
-
-static void fail(struct daemon *d, const char *why)
-{
-	if (!d->disk.failed)
-		say(d->disk.path, "%s. Guests get failures from now on; mend the disk, and start this program anew", why);
-	d->disk.failed = true;
-	d->disk.wanted = false;
-	rpmb_completed(&d->host, 0);
-}
-
-/* Takes what is to be written into the next batch. */
-void take_outbox(struct daemon *d)
-{
-	struct batch *b = &d->disk.next;
-	struct head head;
-
-	do {
-		if (b->room - b->len < sizeof head + RPMB_LARGEST_WRITE) {
-			uint8_t *more = realloc(b->bytes, b->room + (1 << 18));
-
-			if (!more) {
-				fail(d, "no memory for the image's writes");
-				return;
-			}
-			b->bytes = more;
-			b->room += 1 << 18;
-		}
-		head.len = rpmb_outbox(&d->host, &head.at, b->bytes + b->len + sizeof head, RPMB_LARGEST_WRITE);
-		memcpy(b->bytes + b->len, &head, sizeof head);
-		b->len += head.len ? sizeof head + head.len : 0;
-	} while (head.len);
-	if (d->disk.failed)
-		b->len = 0;
 }
 
 static void *write_and_sync(void *its)
@@ -134,11 +47,12 @@ static void *write_and_sync(void *its)
 	uint64_t n;
 
 	while (read(disk->start, &n, sizeof n) == sizeof n && n == 1) {
+		const struct batch *b = &disk->batches[!disk->next];
 		bool succeeds = true;
 
-		for (size_t i = 0; i < disk->going.len && succeeds; i += sizeof head + head.len) {
-			memcpy(&head, disk->going.bytes + i, sizeof head);
-			succeeds = is_written(disk->file, disk->going.bytes + i + sizeof head, head.at, head.len);
+		for (size_t i = 0; succeeds && i < b->len; i += sizeof head + head.len) {
+			memcpy(&head, b->bytes + i, sizeof head);
+			succeeds = is_written(disk->file, b->bytes + i + sizeof head, head.at, head.len);
 		}
 		/* (the file's length never changes, so its data are all that is to be kept) */
 		disk->error = succeeds && !fdatasync(disk->file) ? 0 : errno ? errno : EIO;
@@ -148,19 +62,70 @@ static void *write_and_sync(void *its)
 	return NULL;
 }
 
+void open_image(struct daemon *d, bool format)
+{
+	struct disk *disk = &d->disk;
+	const uint64_t len = rpmb_image_length(d->board, d->count);
+	uint8_t *image = malloc(len + 1);
+	struct stat is = { .st_size = 0 };
+
+	disk->file = open(disk->path, O_RDWR | O_CLOEXEC | (format ? O_CREAT : 0), 0600);
+	if (disk->file < 0 || fstat(disk->file, &is) || !S_ISREG(is.st_mode) || !image || !len)
+		REFUSE(disk->path, "the image isn't opened: %s", disk->file < 0 && errno == ENOENT ? "it isn't there; --format"
+		       " makes a fresh one" : disk->file < 0 ? strerror(errno) : len && image ? "it is no file" : "no memory");
+	if (flock(disk->file, LOCK_EX | LOCK_NB) || fstat(disk->file, &is))
+		REFUSE(disk->path, "another program has the image (vhost-user-rpmb or rpmbd): end that one first");
+	if (!is.st_size && format)
+		format_image(d, image, len);
+	/* what a stop left is kept before it is read, and before anybody is told of it */
+	const ssize_t n = fsync(disk->file) ? -1 : pread(disk->file, image, len + 1, 0);
+	if (n < 0)
+		REFUSE(disk->path, "the image isn't synced or read: %s", strerror(errno));
+	const uint32_t fault = (uint64_t)n != len ? RPMB_BAD_LENGTH : rpmb_open(d->board, d->count, image, len, &d->host);
+	if (fault != RPMB_OK)
+		REFUSE(disk->path, "%s. It has %lld bytes, and an image of these guests %llu: it wants as many sockets, each with"
+		       " the --capacity, as it was made with%s", rpmb_fault_text(fault), (long long)is.st_size,
+		       (unsigned long long)len, n ? "" : "; --format makes a fresh one in an empty file");
+	free(image);
+	disk->start = eventfd(0, EFD_CLOEXEC);
+	disk->over = eventfd(0, EFD_CLOEXEC);
+	if (disk->start < 0 || disk->over < 0 || pthread_create(&disk->thread, NULL, write_and_sync, disk))
+		REFUSE(disk->path, "no thread for the disk: %s", strerror(errno));
+}
+
+static void fail(struct daemon *d, const char *why)
+{
+	if (!d->disk.failed)
+		SAY(d->disk.path, "%s. Guests get failures from now on: mend the disk, and start this program anew", why);
+	d->disk.failed = true;
+	d->disk.wanted = false;
+	rpmb_completed(&d->host, 0);
+}
+
+/* Takes what is to be written into the batch that grows; where that is full the rest waits for the next. */
+void take_outbox(struct daemon *d)
+{
+	struct batch *b = &d->disk.batches[d->disk.next];
+	struct head head = { .len = 1 };
+
+	while (head.len && sizeof b->bytes - b->len >= sizeof head + RPMB_LARGEST_WRITE) {
+		head.len = rpmb_outbox(&d->host, &head.at, b->bytes + b->len + sizeof head, RPMB_LARGEST_WRITE);
+		memcpy(b->bytes + b->len, &head, sizeof head);
+		b->len += head.len && !d->disk.failed ? sizeof head + head.len : 0;
+	}
+	d->disk.wanted |= head.len != 0;
+}
+
+/* Hands the batch to the thread, where a sync is wanted and none is under way. */
 void begin_sync(struct daemon *d)
 {
-	const struct batch spare = d->disk.going;
 	const uint64_t one = 1;
 
 	if (d->disk.busy || !d->disk.wanted || d->disk.failed)
 		return;
-	d->disk.going = d->disk.next;
-	d->disk.next = spare;
-	d->disk.next.len = 0;
-	d->disk.busy = true;
-	if (write(d->disk.start, &one, sizeof one) != sizeof one)
-		fail(d, "the thread of the disk can't be told");
+	d->disk.next = !d->disk.next;
+	d->disk.batches[d->disk.next].len = 0;
+	d->disk.busy = write(d->disk.start, &one, sizeof one) == sizeof one;
 }
 
 /* A sync is over. Where more was written meanwhile it isn't told: those writes have to be made first. */
@@ -171,23 +136,14 @@ void end_sync(struct daemon *d)
 	if (read(d->disk.over, &n, sizeof n) != sizeof n)
 		return;
 	d->disk.busy = false;
+	take_outbox(d);
+	d->disk.wanted = d->disk.batches[d->disk.next].len;
 	if (d->disk.error)
 		fail(d, strerror(d->disk.error));
-	d->disk.wanted = d->disk.next.len && !d->disk.failed;
-	if (d->disk.wanted)
-		return;
-	if (!d->disk.failed)
+	else if (!d->disk.wanted)
 		rpmb_completed(&d->host, 1);
-	for (unsigned i = 0; i < d->count; i++)
+	for (unsigned i = 0; i < d->count && !d->disk.wanted; i++)
 		d->guests[i].more |= d->guests[i].later || rpmb_waiting(&d->host, (uint16_t)i);
-}
-
-void start_thread(struct disk *disk)
-{
-	disk->start = eventfd(0, EFD_CLOEXEC);
-	disk->over = eventfd(0, EFD_CLOEXEC);
-	if (disk->start < 0 || disk->over < 0 || pthread_create(&disk->thread, NULL, write_and_sync, disk))
-		REFUSE(disk->path, "no thread for the disk: %s", strerror(errno));
 }
 
 void close_image(struct daemon *d)
@@ -198,8 +154,4 @@ void close_image(struct daemon *d)
 		pthread_join(d->disk.thread, NULL);
 	rpmb_close(&d->host);
 	close(d->disk.file);
-	close(d->disk.start);
-	close(d->disk.over);
-	free(d->disk.next.bytes);
-	free(d->disk.going.bytes);
 }

@@ -6,20 +6,12 @@
  * image. A front end may be hostile: what it says is checked, memory is touched only within the regions that it gave,
  * and nothing that it does makes the loop wait. docs/VHOST_USER.md says what to type. */
 #define _GNU_SOURCE
-#include <errno.h>
-#include <fcntl.h>
 #include <getopt.h>
 #include <poll.h>
 #include <signal.h>
-#include <stdarg.h>
-#include <stdio.h>
-#include <string.h>
 #include <sys/signalfd.h>
-#include <sys/socket.h>
-#include <sys/stat.h>
 #include <sys/syscall.h>
 #include <sys/un.h>
-#include <unistd.h>
 #include "daemon.h"
 
 /* of a guest in the loop; rounds of a sync that the end waits for; how long memory may be lacking */
@@ -27,33 +19,17 @@ enum { SOCKET, KICK, LISTENER, POLLED, ROUNDS = 8, AGAIN_MS = 50 };
 
 static const char help[] =
 	"vhost-user-rpmb --image FILE [options] --socket-path PATH ..\n\n"
-	"  --image FILE         where the guests' partitions are kept: keys stand in it as they are\n"
-	"  --format             make a fresh image first, where FILE isn't there or is empty; else it changes nothing\n"
+	"  --image FILE         where the guests' partitions are kept; keys stand in it as they are\n"
+	"  --format             makes a fresh image where FILE isn't there or is empty, and else changes nothing\n"
 	"  --socket-path PATH   the socket of the next guest: once for each, always in the same order\n"
-	"  --fd N               the same by a file descriptor, of a connection or of a socket that listens\n"
+	"  --fd N               the same, as a file descriptor, of a connection or of a socket that listens\n"
 	"  --capacity N         of the guests named behind it: units of 128 KiB, 1 to 128 (1)\n"
-	"  --max-write N        of the guests named behind it: most blocks of 256 bytes in a write, 1 to 16 (16)\n"
+	"  --max-write N        of the guests named behind it: most blocks of 256 bytes of a write, 1 to 16 (16)\n"
 	"  --max-read N         the same of a read\n"
 	"  --print-capabilities, --version, --help\n\n"
-	"TERM ends it once what is kept was answered. It may be killed at any moment.\n";
-
-void say(const char *what, const char *format, ...)
-{
-	va_list words;
-
-	va_start(words, format);
-	fprintf(stderr, "vhost-user-rpmb: %s: ", what);
-	vfprintf(stderr, format, words);
-	fputc('\n', stderr);
-	va_end(words);
-}
-
-void shut(int *fd)
-{
-	if (*fd >= 0)
-		close(*fd);
-	*fd = -1;
-}
+	"TERM ends it, once what is kept was answered. It may be killed at any moment.\n";
+/* (There is no type for RPMB, and libvirt takes no back end at all beside one of a type that it doesn't know.) */
+static const char capabilities[] = "{\n  \"type\": \"block\",\n  \"features\": []\n}\n";
 
 static int listen_at(const char *path)
 {
@@ -67,57 +43,44 @@ static int listen_at(const char *path)
 	if (fd >= 0 && connect(fd, (struct sockaddr *)&name, sizeof name) && errno == ECONNREFUSED)
 		unlink(path);
 	if (fd < 0 || bind(fd, (struct sockaddr *)&name, sizeof name) || listen(fd, 1))
-		REFUSE(path, "the socket can't be made: %s", strerror(errno));
+		REFUSE(path, "the socket isn't made: %s", strerror(errno));
 	return fd;
 }
 
-/* A socket that was handed on, which listens or is connected. */
-static void take_socket(struct guest *g, int fd)
+static bool is_due(const struct guest *g)
 {
-	int listens = 0;
-	socklen_t len = sizeof listens;
-
-	if (getsockopt(fd, SOL_SOCKET, SO_ACCEPTCONN, &listens, &len))
-		REFUSE(g->name, "--fd names no socket: %s", strerror(errno));
-	*(listens ? &g->listener : &g->socket) = fd;
-	fcntl(fd, F_SETFD, FD_CLOEXEC);
-	fcntl(fd, F_SETFL, O_NONBLOCK);
+	return g->more && g->running && (g->enabled || g->stopping);
 }
 
 static void attend(struct guest *g, const struct pollfd *its)
 {
 	bool stays = !its[KICK].revents || take_kick(g);
 
-	if (stays && g->more && g->running && (g->enabled || g->stopping))
+	if (stays && is_due(g))
 		stays = serve(g);
-	if (stays && g->stopping)
-		stays = end_stop(g);
 	if (stays && its[SOCKET].revents)
 		stays = receive(g);
-	if (!stays)
+	if (stays && g->stopping)
+		stays = end_stop(g);
+	if (!stays || its[LISTENER].revents)
 		drop(g);
-	if (!its[LISTENER].revents)
-		return;
 	/* the newest front end has the device: an older one may keep its end open in a descriptor that it gave us */
-	drop(g);
-	g->socket = accept4(g->listener, NULL, NULL, SOCK_CLOEXEC | SOCK_NONBLOCK);
+	if (its[LISTENER].revents)
+		g->socket = accept4(g->listener, NULL, NULL, SOCK_CLOEXEC | SOCK_NONBLOCK);
 }
 
 /* What is waited for, and how long. False: no guest can come any more. */
-static bool prepare(struct daemon *d, struct pollfd *polled, int *wait)
+static bool prepare(const struct daemon *d, struct pollfd *polled, int *wait)
 {
 	bool any = false;
 
 	*wait = -1;
-	for (unsigned i = 0; i < d->count; i++) {
-		const struct guest *g = &d->guests[i];
-		struct pollfd *its = polled + POLLED * i;
-
-		its[SOCKET] = (struct pollfd){ g->stopping ? -1 : g->socket, POLLIN, 0 };
-		its[KICK] = (struct pollfd){ g->kick, POLLIN, 0 };
-		its[LISTENER] = (struct pollfd){ g->listener, POLLIN, 0 };
+	for (const struct guest *g = d->guests; g < d->guests + d->count; g++, polled += POLLED) {
+		polled[SOCKET] = (struct pollfd){ g->stopping ? -1 : g->socket, POLLIN, 0 };
+		polled[KICK] = (struct pollfd){ g->kick, POLLIN, 0 };
+		polled[LISTENER] = (struct pollfd){ g->listener, POLLIN, 0 };
 		any |= g->socket >= 0 || g->listener >= 0;
-		if (g->more && g->running && (g->enabled || g->stopping))
+		if (is_due(g))
 			*wait = 0;
 		else if (g->later && !d->disk.busy && *wait)
 			*wait = AGAIN_MS;
@@ -129,15 +92,11 @@ static bool prepare(struct daemon *d, struct pollfd *polled, int *wait)
 static void loop(struct daemon *d, int signals)
 {
 	struct pollfd polled[2 + POLLED * GUESTS] = { { signals, POLLIN, 0 }, { d->disk.over, POLLIN, 0 } };
-	int wait, ready;
 
-	while (prepare(d, polled + 2, &wait)) {
-		ready = poll(polled, 2 + POLLED * d->count, wait);
-		if (ready < 0 && errno != EINTR)
-			REFUSE("poll", "%s", strerror(errno));
-		if (ready < 0)
-			continue;
-		if (polled[0].revents)
+	for (int wait; prepare(d, polled + 2, &wait);) {
+		const int ready = poll(polled, 2 + POLLED * d->count, wait);
+
+		if (ready < 0 || polled[0].revents)
 			return;
 		if (polled[1].revents)
 			end_sync(d);
@@ -159,54 +118,51 @@ static void finish(struct daemon *d)
 {
 	for (int rounds = 0; d->disk.busy; rounds++) {
 		end_sync(d);
-		for (unsigned i = 0; i < d->count; i++) {
-			struct guest *g = &d->guests[i];
-
-			if (g->more && g->running && g->enabled && !serve(g))
+		for (struct guest *g = d->guests; g < d->guests + d->count; g++)
+			if (is_due(g) && !serve(g))
 				drop(g);
-		}
 		if (rounds < ROUNDS)
 			begin_sync(d);
 	}
+	for (struct guest *g = d->guests; g < d->guests + d->count; g++) {
+		drop(g);
+		if (g->is_path)
+			unlink(g->name);
+	}
+	close_image(d);
 }
 
-static uint8_t number(const char *option, const char *text, unsigned long most)
+static long number(const char *option, const char *text, long least, long most)
 {
 	char *end;
-	unsigned long n = strtoul(text, &end, 10);
+	const long n = strtol(text, &end, 10);
 
-	if (*text < '0' || *text > '9' || *end || !n || n > most)
-		REFUSE(option, "%s is no number from 1 to %lu", text, most);
-	return (uint8_t)n;
+	if (*text < '0' || *text > '9' || *end || n < least || n > most)
+		REFUSE(option, "%s is no number from %ld to %ld", text, least, most);
+	return n;
 }
 
-static void add_guest(struct daemon *d, const struct rpmb_guest *as, bool is_fd, const char *word)
+static void add_guest(struct daemon *d, const struct rpmb_guest *as, bool is_path, const char *word)
 {
-	struct guest *g = &d->guests[d->count];
-	char *end;
+	const int fd = is_path ? -1 : (int)number("--fd", word, 0, 1 << 20);
+	int listens = 0;
+	socklen_t len = sizeof listens;
 
 	if (d->count == GUESTS)
-		REFUSE(word, "a board has at most %u guests", GUESTS);
+		REFUSE(word, "a board has at most %d guests", GUESTS);
+	if (!is_path && getsockopt(fd, SOL_SOCKET, SO_ACCEPTCONN, &listens, &len))
+		REFUSE("--fd", "%s is no socket: %s", word, strerror(errno));
+	for (struct guest *g = d->guests; g < d->guests + d->count; g++)
+		if (!strcmp(g->name, word))
+			REFUSE(word, "it is given twice: each guest has a socket of its own");
+	if (!is_path)
+		fcntl(fd, F_SETFL, O_NONBLOCK);
 	d->board[d->count] = *as;
-	*g = (struct guest){ .daemon = d, .name = word, .number = (uint16_t)d->count++,
-	                     .listener = -1, .socket = -1, .kick = -1, .call = -1, .error = -1, .requests = -1 };
-	if (!is_fd)
-		return; /* it listens once the image was opened */
-	long fd = strtol(word, &end, 10);
-	if (!*word || *end || fd < 0 || fd > 1 << 20)
-		REFUSE("--fd", "%s is no number of a file descriptor", word);
-	take_socket(g, (int)fd);
-	for (struct guest *other = d->guests; other < g; other++)
-		if (other->socket == fd || other->listener == fd)
-			REFUSE("--fd", "%s is given twice", word);
-}
-
-static int tell_of_itself(int what)
-{
-	/* management software knows no type for RPMB, and libvirt refuses all back ends beside a type it doesn't know */
-	fputs(what == 'p' ? "{\n  \"type\": \"block\",\n  \"features\": []\n}\n" :
-	      what == 'v' ? "vhost-user-rpmb 1\n" : help, stdout);
-	return fflush(stdout) ? 1 : 0;
+	d->guests[d->count] = (struct guest){
+		.daemon = d, .name = word, .number = (uint16_t)d->count, .is_path = is_path, .listener = listens ? fd : -1,
+		.socket = listens ? -1 : fd, .kick = -1, .call = -1, .error = -1, .requests = -1,
+	};
+	d->count++;
 }
 
 static bool read_words(struct daemon *d, int argc, char **argv)
@@ -219,15 +175,16 @@ static bool read_words(struct daemon *d, int argc, char **argv)
 	struct rpmb_guest each = { .memory = UINT64_MAX, .capacity = 1, .max_wr_cnt = 16, .max_rd_cnt = 16 };
 	bool format = false, is_used = true;
 
-	for (int c; (c = getopt_long(argc, argv, "", words, NULL)) != -1;)
+	for (int c; (c = getopt_long(argc, argv, "", words, NULL)) != -1; is_used |= c == 's' || c == 'd')
 		switch (c) {
 		case 'i': d->disk.path = optarg; break;
 		case 'f': format = true; break;
-		case 's': case 'd': add_guest(d, &each, c == 'd', optarg); is_used = true; break;
-		case 'c': each.capacity = number("--capacity", optarg, 128); is_used = false; break;
-		case 'w': each.max_wr_cnt = number("--max-write", optarg, 16); is_used = false; break;
-		case 'r': each.max_rd_cnt = number("--max-read", optarg, 16); is_used = false; break;
-		case 'p': case 'v': case 'h': exit(tell_of_itself(c));
+		case 's': case 'd': add_guest(d, &each, c == 's', optarg); break;
+		case 'c': each.capacity = (uint8_t)number("--capacity", optarg, 1, 128); is_used = false; break;
+		case 'w': each.max_wr_cnt = (uint8_t)number("--max-write", optarg, 1, 16); is_used = false; break;
+		case 'r': each.max_rd_cnt = (uint8_t)number("--max-read", optarg, 1, 16); is_used = false; break;
+		case 'p': case 'v': case 'h':
+			exit(fputs(c == 'p' ? capabilities : c == 'v' ? "vhost-user-rpmb 1\n" : help, stdout) < 0 || fflush(stdout));
 		default: fputs("vhost-user-rpmb: --help says which options there are\n", stderr); exit(2);
 		}
 	if (optind != argc)
@@ -235,7 +192,7 @@ static bool read_words(struct daemon *d, int argc, char **argv)
 	if (!d->disk.path)
 		REFUSE("--image FILE", "it is missing: where the partitions are kept");
 	if (!d->count)
-		REFUSE("--socket-path PATH", "it is missing, and --fd N too: once for each guest");
+		REFUSE("--socket-path PATH", "it is missing, and --fd N too: one of them for each guest");
 	if (!is_used)
 		REFUSE(argv[argc - 1], "--capacity, --max-write and --max-read count for the sockets behind them: put them first");
 	return format;
@@ -250,26 +207,22 @@ int main(int argc, char **argv)
 		REFUSE("memory", "there is too little");
 	const bool format = read_words(d, argc, argv);
 	umask(0077);
-	open_image(d, format);
 	sigemptyset(&ends);
 	sigaddset(&ends, SIGTERM);
 	sigaddset(&ends, SIGINT);
 	sigprocmask(SIG_BLOCK, &ends, NULL);
 	signal(SIGPIPE, SIG_IGN);
 	guard_memory();
-	start_thread(&d->disk);
 	const int signals = signalfd(-1, &ends, SFD_CLOEXEC);
 	d->null = open("/dev/null", O_RDONLY | O_CLOEXEC);
 	if (signals < 0 || d->null < 0 || syscall(SYS_io_setup, 1L, &d->signals))
 		REFUSE("signalfd, /dev/null or io_setup", "the system refuses it: %s", strerror(errno));
-	for (unsigned i = 0; i < d->count; i++)
-		if (d->guests[i].listener < 0 && d->guests[i].socket < 0)
-			d->guests[i].listener = listen_at(d->guests[i].name);
+	open_image(d, format);
+	for (struct guest *g = d->guests; g < d->guests + d->count; g++)
+		if (g->is_path)
+			g->listener = listen_at(g->name);
 	loop(d, signals);
 	finish(d);
-	for (unsigned i = 0; i < d->count; i++)
-		drop(&d->guests[i]);
-	close_image(d);
 	free(d);
 	return 0;
 }

@@ -163,7 +163,7 @@ class Driver:
         self.config = bytes([table["capacity"], table.get("max_wr_cnt", 16), table.get("max_rd_cnt", 16)])
         self.lay_out()
         # (a cut is a place of the rings and tables, or of all memory: no field crosses it)
-        self.memory = Memory(self.memory_size, self.buffers if cut is None else self.place_of(cut), is_far)
+        self.memory = Memory(self.memory_size, self.buffers if is_far or cut is None else self.place_of(cut), is_far)
         self.kick, self.call, self.error = (os.eventfd(0, os.EFD_NONBLOCK) for _ in range(3))
         self.requests, theirs = socket.socketpair()
         self.link = Socket(path)
