@@ -9,6 +9,7 @@
 #include <getopt.h>
 #include <poll.h>
 #include <signal.h>
+#include <sys/mman.h>
 #include <sys/signalfd.h>
 #include <sys/syscall.h>
 #include <sys/un.h>
@@ -35,12 +36,14 @@ static int listen_at(const char *path)
 {
 	struct sockaddr_un name = { .sun_family = AF_UNIX };
 	const int fd = socket(AF_UNIX, SOCK_STREAM | SOCK_CLOEXEC | SOCK_NONBLOCK, 0);
+	struct stat is;
 
 	if (strlen(path) >= sizeof name.sun_path)
 		REFUSE(path, "a socket's path has at most %zu bytes", sizeof name.sun_path - 1);
 	strcpy(name.sun_path, path);
-	/* what an earlier run left goes; a socket at which a program listens stays */
-	if (fd >= 0 && connect(fd, (struct sockaddr *)&name, sizeof name) && errno == ECONNREFUSED)
+	/* the socket that an earlier run left goes; one at which a program listens stays, and so does any file */
+	if (!lstat(path, &is) && S_ISSOCK(is.st_mode) && connect(fd, (struct sockaddr *)&name, sizeof name) &&
+	    errno == ECONNREFUSED)
 		unlink(path);
 	if (fd < 0 || bind(fd, (struct sockaddr *)&name, sizeof name) || listen(fd, 1))
 		REFUSE(path, "the socket isn't made: %s", strerror(errno));
@@ -200,10 +203,10 @@ static bool read_words(struct daemon *d, int argc, char **argv)
 
 int main(int argc, char **argv)
 {
-	struct daemon *d = calloc(1, sizeof *d);
+	struct daemon *d = mmap(NULL, sizeof *d, PROT_READ | PROT_WRITE, MAP_PRIVATE | MAP_ANONYMOUS, -1, 0);
 	sigset_t ends;
 
-	if (!d)
+	if (d == MAP_FAILED)
 		REFUSE("memory", "there is too little");
 	const bool format = read_words(d, argc, argv);
 	umask(0077);
@@ -223,6 +226,5 @@ int main(int argc, char **argv)
 			g->listener = listen_at(g->name);
 	loop(d, signals);
 	finish(d);
-	free(d);
 	return 0;
 }
