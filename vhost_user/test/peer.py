@@ -39,9 +39,10 @@ class Socket:
         self.socket = socket.socket(socket.AF_UNIX, socket.SOCK_STREAM)
         self.socket.settimeout(SECONDS)
         self.socket.connect(path)
-        self.has_ack = False
+        self.has_ack, self.sent = False, 0
 
     def send(self, request, payload=b"", fds=(), flags=1, size=None):
+        self.sent += 1
         head = struct.pack("<III", request, flags, len(payload) if size is None else size)
         control = [(socket.SOL_SOCKET, socket.SCM_RIGHTS, array.array("i", fds))] if fds else []
         try:
@@ -323,8 +324,10 @@ class Driver:
 
     def reap(self):
         """Why no chain came back, or the bytes of its reply."""
-        if self.wait():
-            return "needs-reset", None
+        return ("needs-reset", None) if self.wait() else self.take()
+
+    def take(self):
+        """The same of what is there by now."""
         if not self.is_used():
             return "no-answer", None
         at = self.slot(self.used)[0] + 8 if self.is_packed else self.device_area + 4 + 8 * (self.used % self.size)
@@ -358,17 +361,21 @@ class Driver:
 class Daemon:
     """The back end over an image, with a socket for each guest."""
 
-    def __init__(self, program, image, tables, folder, *more):
+    def __init__(self, program, image, tables, folder, env=None):
         self.paths = [f"{folder}/guest{i}" for i in range(len(tables))]
-        words = [program, "--image", image, "--format", *more]
+        words = [program, "--image", image, "--format"]
         for path, it in zip(self.paths, tables):
             words += ["--capacity", str(it["capacity"]), "--max-write", str(it.get("max_wr_cnt", 16))]
             words += ["--max-read", str(it.get("max_rd_cnt", 16)), "--socket-path", path]
-        self.process = subprocess.Popen(words, stderr=subprocess.PIPE)
+        self.process = subprocess.Popen(words, stderr=subprocess.PIPE, env={**os.environ, **(env or {})})
         end = time.monotonic() + SECONDS
-        while not os.path.exists(self.paths[-1]) and self.process.poll() is None and time.monotonic() < end:
+        while not self.listens() and self.process.poll() is None and time.monotonic() < end:
             time.sleep(0.005)
-        time.sleep(0.01)
+
+    def listens(self):
+        """Whether the last of its sockets is there (one that an earlier run left doesn't listen)."""
+        with socket.socket(socket.AF_UNIX) as it:
+            return it.connect_ex(self.paths[-1]) == 0
 
     def end(self):
         """By TERM. What it said on standard error; AssertionError where it didn't end well."""
