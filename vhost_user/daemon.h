@@ -21,6 +21,10 @@
 
 /* A turn is so many steps of a serve; of a guest's faults so many are told. */
 enum { GUESTS = 64, REGIONS = 32, TURN = 512, TEXTS = 200, VU_FDS = 8, VU_HEADER = 12, VU_VERSION = 1 };
+/* of the largest page, of whose multiples a map begins; and how much a guest's regions may take of our addresses, of which
+ * there are 128 TiB for all */
+#define LARGEST_PAGE (1ull << 30)
+#define MOST_MAPPED  (1ull << 40)
 /* a bit of the features beside those of virtio */
 #define VU_PROTOCOL_FEATURES (1ull << 30)
 
@@ -38,8 +42,8 @@ struct vu_message {
 	} __attribute__((packed));
 } __attribute__((packed));
 
-/* A region, whose file is mapped from its first byte on, which suits pages of any size. */
-struct region { struct vu_region is; uint8_t *map; };
+/* A region: `bytes` of it lie `skipped` behind what was mapped, which begins where a page of any size may. */
+struct region { struct vu_region is; uint8_t *bytes; uint64_t skipped; };
 
 struct guest {
 	struct daemon *daemon;

@@ -94,7 +94,7 @@ bool move(const struct guest *g, uint64_t at, uint8_t *ours, uint32_t len, bool 
 			if (!r)
 				return false;
 			part = r->is.size - from < len - i ? r->is.size - from : len - i;
-			uint8_t *theirs = r->map + r->is.offset + from;
+			uint8_t *theirs = r->bytes + from;
 			*is_cut = is_known && !is_moved(to_guest ? theirs : ours + i, to_guest ? ours + i : theirs, part);
 			if (*is_cut)
 				return false;
@@ -105,28 +105,32 @@ bool move(const struct guest *g, uint64_t at, uint8_t *ours, uint32_t len, bool 
 /* Takes a region of a memory file: one of FUSE or of a network would let its owner stop whoever touches it. */
 bool map(struct guest *g, struct vu_region is, int fd)
 {
-	const uint64_t len = is.offset + is.size, last = is.guest + (is.size - 1);
+	const uint64_t skipped = is.offset % LARGEST_PAGE, last = is.guest + (is.size - 1);
+	uint64_t mapped = is.size;
 	struct statfs system;
 	struct stat file;
-	bool fits = g->region_count < REGIONS && is.size && len >= is.size && last >= is.guest &&
-	            is.user + (is.size - 1) >= is.user && !fstat(fd, &file) && S_ISREG(file.st_mode) &&
-	            (uint64_t)file.st_size >= len && !fstatfs(fd, &system) &&
-	            (system.f_type == TMPFS_MAGIC || system.f_type == HUGETLBFS_MAGIC);
+	bool fits = g->region_count < REGIONS && is.size && is.size <= MOST_MAPPED && last >= is.guest &&
+	            is.user + (is.size - 1) >= is.user && !fstat(fd, &file) && S_ISREG(file.st_mode) && !fstatfs(fd, &system) &&
+	            (system.f_type == TMPFS_MAGIC || system.f_type == HUGETLBFS_MAGIC) &&
+	            is.offset <= (uint64_t)file.st_size && is.size <= (uint64_t)file.st_size - is.offset;
 
-	for (const struct region *r = g->regions; r < g->regions + g->region_count; r++)
+	for (const struct region *r = g->regions; r < g->regions + g->region_count; r++) {
 		fits &= last < r->is.guest || is.guest > r->is.guest + (r->is.size - 1);
-	uint8_t *at = fits ? mmap(NULL, len, PROT_READ | PROT_WRITE, MAP_SHARED | MAP_NORESERVE, fd, 0) : MAP_FAILED;
+		mapped += r->is.size;
+	}
+	uint8_t *at = fits && mapped <= MOST_MAPPED ? mmap(NULL, skipped + is.size, PROT_READ | PROT_WRITE,
+		MAP_SHARED | MAP_NORESERVE, fd, (off_t)(is.offset - skipped)) : MAP_FAILED;
 	if (at == MAP_FAILED)
 		COMPLAIN(g, "a region of %#llx bytes at %#llx isn't taken: it has to be its own, of a memfd or of a file of tmpfs"
 		         " or hugetlbfs, and one of %d", (unsigned long long)is.size, (unsigned long long)is.guest, REGIONS);
 	else
-		g->regions[g->region_count++] = (struct region){ is, at };
+		g->regions[g->region_count++] = (struct region){ is, at + skipped, skipped };
 	return at != MAP_FAILED;
 }
 
 void unmap(struct guest *g, unsigned i)
 {
-	munmap(g->regions[i].map, g->regions[i].is.offset + g->regions[i].is.size);
+	munmap(g->regions[i].bytes - g->regions[i].skipped, g->regions[i].skipped + g->regions[i].is.size);
 	g->regions[i] = g->regions[--g->region_count];
 }
 

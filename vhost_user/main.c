@@ -79,7 +79,7 @@ static bool prepare(const struct daemon *d, struct pollfd *polled, int *wait)
 
 	*wait = -1;
 	for (const struct guest *g = d->guests; g < d->guests + d->count; g++, polled += POLLED) {
-		polled[SOCKET] = (struct pollfd){ g->stopping ? -1 : g->socket, POLLIN, 0 };
+		polled[SOCKET] = (struct pollfd){ g->socket, g->stopping ? 0 : POLLIN, 0 };
 		polled[KICK] = (struct pollfd){ g->kick, POLLIN, 0 };
 		polled[LISTENER] = (struct pollfd){ g->listener, POLLIN, 0 };
 		any |= g->socket >= 0 || g->listener >= 0;
@@ -99,6 +99,8 @@ static void loop(struct daemon *d, int signals)
 	for (int wait; prepare(d, polled + 2, &wait);) {
 		const int ready = poll(polled, 2 + POLLED * d->count, wait);
 
+		if (ready < 0 && errno == EINTR)
+			continue;
 		if (ready < 0 || polled[0].revents)
 			return;
 		if (polled[1].revents)

@@ -190,7 +190,7 @@ static bool send_answer(struct guest *g)
 /* Answers GET_VRING_BASE, once all chains that the device took are answered. */
 bool end_stop(struct guest *g)
 {
-	if (g->up && (g->later || g->more || rpmb_waiting(&g->daemon->host, g->number)))
+	if (g->up && g->running && (g->later || g->more || rpmb_waiting(&g->daemon->host, g->number)))
 		return true;
 	stop_ring(g);
 	g->told = g->message.state.num = ring_base(g);
