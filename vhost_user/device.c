@@ -2,7 +2,6 @@
  *
  * Guest memory, by the regions that a front end gave; and the library's device of a guest. What the front end said
  * becomes register writes (VIRTIO 1.2, 4.2.2), and a kick a serve, of which each step is a copy or a call. */
-#define _GNU_SOURCE
 #include <linux/magic.h>
 #include <setjmp.h>
 #include <signal.h>
@@ -84,7 +83,7 @@ bool guest_address(const struct guest *g, uint64_t user, uint64_t *at)
 	return r;
 }
 
-/* Copies between guest memory and ours. False, and nothing is copied: some byte is in no region; or a file ends there. */
+/* Copies between guest memory and ours. False: some byte is in no region, and nothing is copied; or a file is cut. */
 bool move(const struct guest *g, uint64_t at, uint8_t *ours, uint32_t len, bool to_guest, bool *is_cut)
 {
 	for (int is_known = 0; is_known < 2; is_known++)
@@ -110,8 +109,8 @@ bool map(struct guest *g, struct vu_region is, int fd)
 	struct statfs system;
 	struct stat file;
 	bool fits = g->region_count < REGIONS && is.size && is.size <= MOST_MAPPED && last >= is.guest &&
-	            is.user + (is.size - 1) >= is.user && !fstat(fd, &file) && S_ISREG(file.st_mode) && !fstatfs(fd, &system) &&
-	            (system.f_type == TMPFS_MAGIC || system.f_type == HUGETLBFS_MAGIC) &&
+	            is.user + (is.size - 1) >= is.user && !fstat(fd, &file) && !fstatfs(fd, &system) &&
+	            S_ISREG(file.st_mode) && (system.f_type == TMPFS_MAGIC || system.f_type == HUGETLBFS_MAGIC) &&
 	            is.offset <= (uint64_t)file.st_size && is.size <= (uint64_t)file.st_size - is.offset;
 
 	for (const struct region *r = g->regions; r < g->regions + g->region_count; r++) {

@@ -2,7 +2,6 @@
  *
  * The image: a file that is locked, read once, and then written from the library's outbox. A thread of its own makes
  * the writes and the syncs, so that no kick waits for a disk. */
-#define _GNU_SOURCE
 #include <libgen.h>
 #include <sys/eventfd.h>
 #include <sys/file.h>

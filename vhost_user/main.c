@@ -1,11 +1,11 @@
 /* SPDX-License-Identifier: Apache-2.0
  *
- * vhost-user-rpmb: the RPMB device (VIRTIO 1.2, 5.12) of librpmb_host.a for virtual machines, as a vhost-user back end.
+ * vhost-user-rpmb: the RPMB device (VIRTIO 1.2, 5.12) of librpmb_host.a for virtual machines, as a vhost-user back
+ * end.
  *
  * One board, one image; each guest has a socket. One loop waits for all of them, and a thread writes and syncs the
  * image. A front end may be hostile: what it says is checked, memory is touched only within the regions that it gave,
  * and nothing that it does makes the loop wait. docs/VHOST_USER.md says what to type. */
-#define _GNU_SOURCE
 #include <getopt.h>
 #include <poll.h>
 #include <signal.h>

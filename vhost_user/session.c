@@ -1,8 +1,7 @@
 /* SPDX-License-Identifier: Apache-2.0
  *
- * The messages of the vhost-user protocol. A guest has one front end, one queue and one device; all that a message says
- * is checked here or by the library. */
-#define _GNU_SOURCE
+ * The messages of the vhost-user protocol. A guest has one front end, one queue and one device; all that a message
+ * says is checked here or by the library. */
 #include "daemon.h"
 
 /* The base of a packed ring that begins: its wraps are 1 (User Mode Linux says 0). The other one stands for the place
@@ -14,22 +13,22 @@
 #define PROTOCOL       (1ull << 0 | REPLY_ACK | 1ull << 5 | 1ull << 9 | 1ull << 13 | 1ull << 15 | 1ull << 16)
 
 enum answer { DONE, REFUSED, ANSWERED, LATER };
-enum { VERSION_MASK = 3, IS_REPLY = 4, NEED_REPLY = 8, NO_FD = 0x100, NEEDS_RESET = 64, STATUS = 0x070, CONFIG = 0x100 };
+enum { VERSION_MASK = 3, IS_REPLY = 4, NEED_REPLY = 8, NO_FD = 256, NEEDS_RESET = 64, STATUS = 0x070, CONFIG = 0x100 };
 
-static const char *const names[] = {
-	"0", "GET_FEATURES", "SET_FEATURES", "SET_OWNER", "RESET_OWNER", "SET_MEM_TABLE", "SET_LOG_BASE", "SET_LOG_FD",
-	"SET_VRING_NUM", "SET_VRING_ADDR", "SET_VRING_BASE", "GET_VRING_BASE", "SET_VRING_KICK", "SET_VRING_CALL",
-	"SET_VRING_ERR", "GET_PROTOCOL_FEATURES", "SET_PROTOCOL_FEATURES", "GET_QUEUE_NUM", "SET_VRING_ENABLE",
-	"SEND_RARP", "NET_SET_MTU", "SET_BACKEND_REQ_FD", "IOTLB_MSG", "SET_VRING_ENDIAN", "GET_CONFIG", "SET_CONFIG",
-	"CREATE_CRYPTO_SESSION", "CLOSE_CRYPTO_SESSION", "POSTCOPY_ADVISE", "POSTCOPY_LISTEN", "POSTCOPY_END",
-	"GET_INFLIGHT_FD", "SET_INFLIGHT_FD", "GPU_SET_SOCKET", "RESET_DEVICE", "VRING_KICK", "GET_MAX_MEM_SLOTS",
-	"ADD_MEM_REG", "REM_MEM_REG", "SET_STATUS", "GET_STATUS", "another",
-};
-enum { REQUESTS = sizeof names / sizeof names[0] - 1 };
-/* the fewest bytes of each */
-static const uint8_t least[REQUESTS] = {
-	[2] = 8, [5] = 8, [8] = 8, 40, 8, 8, 8, 8, 8, [16] = 8, [18] = 8, [24] = 12, 12, [37] = 40, 40, 8
-};
+/* The requests by their numbers, from 0 on, with the fewest bytes that each has. */
+#define REQUESTS(X) \
+	X(NONE, 0) X(GET_FEATURES, 0) X(SET_FEATURES, 8) X(SET_OWNER, 0) X(RESET_OWNER, 0) X(SET_MEM_TABLE, 8) \
+	X(SET_LOG_BASE, 0) X(SET_LOG_FD, 0) X(SET_VRING_NUM, 8) X(SET_VRING_ADDR, 40) X(SET_VRING_BASE, 8) \
+	X(GET_VRING_BASE, 8) X(SET_VRING_KICK, 8) X(SET_VRING_CALL, 8) X(SET_VRING_ERR, 8) X(GET_PROTOCOL_FEATURES, 0) \
+	X(SET_PROTOCOL_FEATURES, 8) X(GET_QUEUE_NUM, 0) X(SET_VRING_ENABLE, 8) X(SEND_RARP, 0) X(NET_SET_MTU, 0) \
+	X(SET_BACKEND_REQ_FD, 0) X(IOTLB_MSG, 0) X(SET_VRING_ENDIAN, 0) X(GET_CONFIG, 12) X(SET_CONFIG, 12) \
+	X(CREATE_CRYPTO_SESSION, 0) X(CLOSE_CRYPTO_SESSION, 0) X(POSTCOPY_ADVISE, 0) X(POSTCOPY_LISTEN, 0) \
+	X(POSTCOPY_END, 0) X(GET_INFLIGHT_FD, 0) X(SET_INFLIGHT_FD, 0) X(GPU_SET_SOCKET, 0) X(RESET_DEVICE, 0) \
+	X(VRING_KICK, 0) X(GET_MAX_MEM_SLOTS, 0) X(ADD_MEM_REG, 40) X(REM_MEM_REG, 40) X(SET_STATUS, 8) X(GET_STATUS, 0)
+#define NUMBERED(name, least) name,
+#define NAMED(name, least)    { #name, least },
+enum { REQUESTS(NUMBERED) UNKNOWN };
+static const struct { const char *name; uint8_t least; } requests[] = { REQUESTS(NAMED) { "unknown", 0 } };
 
 static void shut(int *fd)
 {
@@ -67,20 +66,15 @@ void drop(struct guest *g)
 	shut(&g->socket);
 }
 
-static bool is_socket(int fd)
-{
-	struct stat is;
-
-	return !fstat(fd, &is) && S_ISSOCK(is.st_mode);
-}
-
-/* What can be read and signalled without waiting. */
-static bool is_event(int fd)
+/* Whether it can be read and signalled without waiting: a socket, or where that will do an eventfd. */
+static bool is_event(int fd, bool or_eventfd)
 {
 	char path[32], name[32] = "";
+	struct stat is;
 
 	snprintf(path, sizeof path, "/proc/self/fd/%d", fd);
-	return is_socket(fd) || (readlink(path, name, sizeof name - 1) > 0 && !strcmp(name, "anon_inode:[eventfd]"));
+	return !fstat(fd, &is) && (S_ISSOCK(is.st_mode) || (or_eventfd && readlink(path, name, sizeof name - 1) > 0 &&
+	                                                    !strcmp(name, "anon_inode:[eventfd]")));
 }
 
 /* Takes the file descriptor of a message, or none where it says so. */
@@ -89,7 +83,7 @@ static enum answer set_fd(struct guest *g, int *fd, bool is_ring)
 	shut(fd);
 	if (is_ring && g->message.number & NO_FD)
 		return DONE;
-	if (g->fd_count != 1 || !(is_ring ? is_event(g->fds[0]) : is_socket(g->fds[0])))
+	if (g->fd_count != 1 || !is_event(g->fds[0], is_ring))
 		return REFUSED;
 	*fd = g->fds[--g->fd_count];
 	return DONE;
@@ -209,6 +203,15 @@ static enum answer get_config(struct guest *g)
 	return ANSWERED;
 }
 
+/* A ring that was stopped may go on behind a status of 0, which QEMU also says where it pauses. */
+static enum answer set_status(struct guest *g, uint8_t status)
+{
+	if (!status && g->running)
+		reset(g);
+	g->status = status;
+	return DONE;
+}
+
 static enum answer give(struct guest *g, uint64_t number)
 {
 	g->message.number = number;
@@ -219,40 +222,37 @@ static enum answer give(struct guest *g, uint64_t number)
 static enum answer perform(struct guest *g)
 {
 	const struct vu_message *m = &g->message;
-	/* a message of the ring names it, by 32 bits, or 8 where a file descriptor comes along */
-	const bool is_ring = (m->request >= 8 && m->request <= 14) || m->request == 18;
+	/* a message of the ring names it, by 32 bits, or by 8 where a file descriptor comes along */
+	const bool has_fd = m->request >= SET_VRING_KICK && m->request <= SET_VRING_ERR;
+	const bool is_ring = (m->request >= SET_VRING_NUM && m->request <= SET_VRING_ERR) || m->request == SET_VRING_ENABLE;
 
-	if (m->request >= REQUESTS || m->size < least[m->request] ||
-	    (is_ring && m->state.index & (m->request >= 12 && m->request <= 14 ? 0xff : UINT32_MAX)))
+	if (m->request >= UNKNOWN || m->size < requests[m->request].least ||
+	    (is_ring && m->state.index & (has_fd ? 0xff : UINT32_MAX)))
 		return REFUSED;
 	switch (m->request) {
-	case 1: return give(g, offered(g) | VU_PROTOCOL_FEATURES);
-	case 2: return set_features(g, m->number);
-	case 3: return DONE;                            /* the front end owns the session */
-	case 4: case 34: return reset(g);
-	case 5: return set_memory(g);
-	case 8: g->up &= g->places == m->state.num; g->places = m->state.num; return DONE;
-	case 9: return set_addresses(g);
-	case 10: return set_base(g, m->state.num);
-	case 11: shut(&g->kick); g->stopping = true; return LATER;
-	case 12: return set_kick(g);
-	case 13: return set_fd(g, &g->call, true);
-	case 14: return set_fd(g, &g->error, true);
-	case 15: return give(g, PROTOCOL);
-	case 16: g->protocol = m->number; return (m->number & ~PROTOCOL) ? REFUSED : DONE;
-	case 17: return give(g, 1);                     /* queues */
-	case 18: g->enabled = m->state.num; g->more = g->running; return DONE;
-	case 21: return set_fd(g, &g->requests, false);
-	case 24: return get_config(g);
-	case 36: return give(g, REGIONS);
-	case 37: return g->fd_count == 1 && map(g, m->slot.region, g->fds[0]) ? DONE : REFUSED;
-	case 38: return remove_region(g);
-	case 39: /* (a ring that was stopped may go on behind a status of 0, which QEMU also says where it pauses) */
-		if (!m->number && g->running)
-			reset(g);
-		g->status = (uint8_t)m->number;
-		return DONE;
-	case 40: return give(g, g->status | (get(g, STATUS, 4) & NEEDS_RESET));
+	case GET_FEATURES: return give(g, offered(g) | VU_PROTOCOL_FEATURES);
+	case SET_FEATURES: return set_features(g, m->number);
+	case SET_OWNER: return DONE;
+	case RESET_OWNER: case RESET_DEVICE: return reset(g);
+	case SET_MEM_TABLE: return set_memory(g);
+	case SET_VRING_NUM: g->up &= g->places == m->state.num; g->places = m->state.num; return DONE;
+	case SET_VRING_ADDR: return set_addresses(g);
+	case SET_VRING_BASE: return set_base(g, m->state.num);
+	case GET_VRING_BASE: shut(&g->kick); g->stopping = true; return LATER;
+	case SET_VRING_KICK: return set_kick(g);
+	case SET_VRING_CALL: return set_fd(g, &g->call, true);
+	case SET_VRING_ERR: return set_fd(g, &g->error, true);
+	case GET_PROTOCOL_FEATURES: return give(g, PROTOCOL);
+	case SET_PROTOCOL_FEATURES: g->protocol = m->number; return (m->number & ~PROTOCOL) ? REFUSED : DONE;
+	case GET_QUEUE_NUM: return give(g, 1);
+	case SET_VRING_ENABLE: g->enabled = m->state.num; g->more = g->running; return DONE;
+	case SET_BACKEND_REQ_FD: return set_fd(g, &g->requests, false);
+	case GET_CONFIG: return get_config(g);
+	case GET_MAX_MEM_SLOTS: return give(g, REGIONS);
+	case ADD_MEM_REG: return g->fd_count == 1 && map(g, m->slot.region, g->fds[0]) ? DONE : REFUSED;
+	case REM_MEM_REG: return remove_region(g);
+	case SET_STATUS: return set_status(g, (uint8_t)m->number);
+	case GET_STATUS: return give(g, g->status | (get(g, STATUS, 4) & NEEDS_RESET));
 	default: return REFUSED;
 	}
 }
@@ -267,7 +267,7 @@ static bool answer(struct guest *g)
 	g->have = 0;
 	if (a == REFUSED)
 		COMPLAIN(g, "request %u (%s) of %u bytes is refused, or not supported", request,
-		         names[request < REQUESTS ? request : REQUESTS], size);
+		         requests[request < UNKNOWN ? request : UNKNOWN].name, size);
 	/* (User Mode Linux asks for an answer in the very message that negotiates it) */
 	if (a == LATER || (a != ANSWERED && !(asks && g->protocol & REPLY_ACK)))
 		return a != REFUSED;
