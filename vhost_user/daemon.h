@@ -21,7 +21,7 @@
 
 /* A turn is so many steps of a serve; of a guest's faults so many are told. */
 enum { GUESTS = 64, REGIONS = 32, TURN = 512, TEXTS = 200, VU_FDS = 8, VU_HEADER = 12, VU_VERSION = 1 };
-/* at whose multiples a map may begin, whatever its pages; how much a guest may take of our addresses, which are 128 TiB */
+/* at whose multiples a map may begin, whatever its pages; and what a guest may take of our 128 TiB of addresses */
 #define LARGEST_PAGE (1ull << 30)
 #define MOST_MAPPED  (1ull << 40)
 /* a bit of the features beside those of virtio */

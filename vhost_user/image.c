@@ -92,15 +92,6 @@ void open_image(struct daemon *d, bool format)
 		REFUSE(disk->path, "no thread for the disk: %s", strerror(errno));
 }
 
-static void fail(struct daemon *d, const char *why)
-{
-	if (!d->disk.failed)
-		SAY(d->disk.path, "%s. Guests get failures from now on: mend the disk, and start this program anew", why);
-	d->disk.failed = true;
-	d->disk.wanted = false;
-	rpmb_completed(&d->host, 0);
-}
-
 /* Takes what is to be written into the batch that grows; where that is full the rest waits for the next. */
 void take_outbox(struct daemon *d)
 {
@@ -137,10 +128,14 @@ void end_sync(struct daemon *d)
 	d->disk.busy = false;
 	take_outbox(d);
 	d->disk.wanted = d->disk.batches[d->disk.next].len;
-	if (d->disk.error)
-		fail(d, strerror(d->disk.error));
-	else if (!d->disk.wanted)
-		rpmb_completed(&d->host, 1);
+	if (d->disk.error) {
+		SAY(d->disk.path, "%s. Guests get failures from now on: mend the disk, and start this program anew",
+		    strerror(d->disk.error));
+		d->disk.failed = true;
+		d->disk.wanted = false;
+	}
+	if (!d->disk.wanted)
+		rpmb_completed(&d->host, !d->disk.failed);
 	for (unsigned i = 0; i < d->count && !d->disk.wanted; i++)
 		d->guests[i].more |= d->guests[i].later || rpmb_waiting(&d->host, (uint16_t)i);
 }

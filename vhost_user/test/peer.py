@@ -5,6 +5,7 @@ The driver is that of `rpmbd run`: its areas stand where docs/FORMATS.md says ("
 two regions, each a file of its own, at user addresses that have nothing to do with the guest's.
 """
 import array
+import atexit
 import ctypes
 import mmap
 import os
@@ -367,7 +368,9 @@ class Daemon:
         for path, it in zip(self.paths, tables):
             words += ["--capacity", str(it["capacity"]), "--max-write", str(it.get("max_wr_cnt", 16))]
             words += ["--max-read", str(it.get("max_rd_cnt", 16)), "--socket-path", path]
-        self.process = subprocess.Popen(words, stderr=subprocess.PIPE, env={**os.environ, **(env or {})})
+        how = {"stdout": subprocess.DEVNULL, "stderr": subprocess.PIPE, "env": {**os.environ, **(env or {})}}
+        self.process = subprocess.Popen(words, **how)
+        atexit.register(self.process.kill)  # (a test that fails leaves none)
         end = time.monotonic() + SECONDS
         while not self.listens() and self.process.poll() is None and time.monotonic() < end:
             time.sleep(0.005)
