@@ -243,7 +243,7 @@ static enum answer perform(struct guest *g)
 	case SET_VRING_CALL: return set_fd(g, &g->call, true);
 	case SET_VRING_ERR: return set_fd(g, &g->error, true);
 	case GET_PROTOCOL_FEATURES: return give(g, PROTOCOL);
-	case SET_PROTOCOL_FEATURES: g->protocol = m->number; return (m->number & ~PROTOCOL) ? REFUSED : DONE;
+	case SET_PROTOCOL_FEATURES: g->protocol = m->number & PROTOCOL; return g->protocol == m->number ? DONE : REFUSED;
 	case GET_QUEUE_NUM: return give(g, 1);
 	case SET_VRING_ENABLE: g->enabled = m->state.num; g->more = g->running; return DONE;
 	case SET_BACKEND_REQ_FD: return set_fd(g, &g->requests, false);
