@@ -318,9 +318,11 @@ class Driver:
             assert os.eventfd_read(self.error) and self.requests.recv(12) == struct.pack("<III", 2, 1, 0)
             return True
         if not self.is_used():  # (its answer comes once the device has given all that it has)
-            self.link.ask(GET_VRING_BASE, state(0))
+            base, = struct.unpack("<4xI", self.link.ask(GET_VRING_BASE, state(0)))
+            self.link.must(SET_VRING_BASE, state(base))
+            self.link.must(SET_VRING_KICK, u64(0), [self.kick])
         elif self.waits:
-            assert os.eventfd_read(self.call), "no call came"
+            assert select.select([self.call], [], [], SECONDS)[0] and os.eventfd_read(self.call), "no call came"
         return False
 
     def reap(self):
