@@ -50,6 +50,7 @@ static bool is_moved(void *to, const void *from, size_t len)
 		return false;
 	}
 	copying = 1;
+	__atomic_signal_fence(__ATOMIC_SEQ_CST); /* what is copied stays between the two */
 	if (len == 2 && both % 2 == 0)
 		ONE_ACCESS(uint16_t);
 	else if (len == 4 && both % 4 == 0)
@@ -58,6 +59,7 @@ static bool is_moved(void *to, const void *from, size_t len)
 		ONE_ACCESS(uint64_t);
 	else
 		memcpy(to, from, len);
+	__atomic_signal_fence(__ATOMIC_SEQ_CST);
 	copying = 0;
 	return true;
 }
