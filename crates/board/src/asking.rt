@@ -66,7 +66,8 @@ impl<D: Disk> AskingBoard<D> {
         devices: &[GuestConfig],
     ) -> Result<AskingBoard<D>, (D, OpenFault)>
         requires { length devices.now ≡ length config.now }
-        ensures begins { IfOk result (λ b. Begins D.state life config.now (begun config.now b.rest)) }
+        ensures begins { IfOk result
+            (λ b. Begins D.state life config.now (begun config.now b.rest)) }
         ensures fresh { IfOk result (λ b. b.devices ≡ first_asked 0 devices.now) }
         ensures found { IfOk result (λ b. (D.state disk).faithful ≡ true
             → Finds D.state config.now (D.state disk) (begun config.now b.rest)) }

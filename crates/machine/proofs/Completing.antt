@@ -1,11 +1,12 @@
 -- What is told of the disk's writes and syncs, and what a serve makes of a machine.
-use Rattle.std.proofs.Common.{◌≡◌, ◌≢◌, refl, ap, sym, subst, ◌∙◌, ℕ, List, [], Some, None, length, map}
+use Rattle.std.proofs.Common.{◌≡◌, ◌≢◌, refl, ap, sym, subst, ◌∙◌, ℕ, Bool, List, [], Some, None, length, map}
 use Rattle.machine.proofs.Common.{slice_get, slice_set, AskingState, BoardState, Boards, MachineState}
 use Rattle.machine.proofs.Common.{Moves, OutboxMakes, OutboxState, Range, Runs, board_of, outbox_state}
 use Rattle.machine.proofs.Common.{get_set_other, get_set_same, IsServed, Still, moves_none}
 use Rattle.machine.proofs.Common.{moves_twice}
 use Rattle.disk.specs.declared.outbox_disk.Told.{Told}
-use Rattle.machine.specs.Machine.{Completes, GoesOn, telling_board, turn_in}
+use Rattle.machine.specs.Ending.{HearsAnswer}
+use Rattle.machine.specs.Machine.{Completes, GoesOn, telling_board, turn_in, turn_of}
 use Rattle.machine.specs.Serving.{Hears}
 use Rattle.machine.specs.Turn.{TurnState}
 use Rattle.machine.proofs.Others.{others_stay}
@@ -60,3 +61,14 @@ pub goes_more : (guest : ℕ) (a b c : Boards)
 goes_more guest a b c moves runs =
     moves_twice outbox_state OutboxMakes (board_of a) (board_of b) (board_of c) moves
     (runs_moves guest [] [] b c runs)
+
+pub hears : (guest : ℕ) (m : MachineState) (turn turn' : TurnState) (new : Boards) (there : Bool)
+    (bytes : List ℕ) → slice_get m.turns guest ≡ Some turn
+    → HearsAnswer guest turn.asked there bytes m.board turn'.parts new
+    → HearsAnswer guest (turn_of m guest).asked there bytes m.board
+    (turn_in (slice_get (slice_set m.turns guest turn') guest)).parts new
+hears guest m turn turn' new there bytes its heard =
+    subst (λ o. HearsAnswer guest (turn_in o).asked there bytes m.board
+    (turn_in (slice_get (slice_set m.turns guest turn') guest)).parts new) (sym its)
+    (subst (λ o. HearsAnswer guest turn.asked there bytes m.board (turn_in o).parts new)
+    (sym (get_set_same m.turns guest turn turn' its)) heard)

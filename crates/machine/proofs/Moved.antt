@@ -6,6 +6,7 @@ use Rattle.board.proofs.AskingSteps.{unseen}
 use Rattle.guest_memory.specs.declared.fault.MemFault.{MemFault}
 use Rattle.mmio_transport.specs.Asking.{after_told}
 use Rattle.board.proofs.Doing.{set_same}
+use Rattle.machine.specs.Ending.{TellsIn}
 use Rattle.machine.specs.Serving.{Learns, QueuesStay, SameDevices, Tells}
 use Rattle.machine.proofs.Common.{Still}
 use Rattle.std.specs.Prelude.{Result, Ok, Err, OnOk, OnErr}
@@ -53,3 +54,15 @@ module _ (guest : ℕ) (b : Boards) (d d' : AskingState)
       → OnOk r (d' ≡ after_told d at bytes) → OnErr r (d' ≡ d) → QueuesStay b (moved b guest d')
   told_queues at bytes (Ok x) ok err = moved_queues (ap (λ a. a.device.queue) ok)
   told_queues at bytes (Err e) ok err = moved_queues (ap (λ a. a.device.queue) err)
+
+  pub tells_ok : {X : Type 0} (at : ℕ) (bytes : List ℕ) (r : Result X MemFault)
+      → OnOk r (d' ≡ after_told d at bytes)
+      → OnOk r (TellsIn guest at bytes b (moved b guest d'))
+  tells_ok at bytes (Ok x) ok =
+      record { device = d; its = its; after = ap (λ a. moved b guest a) ok }
+  tells_ok at bytes (Err e) ok = tt
+
+  pub tells_err : {X : Type 0} (r : Result X MemFault) → OnErr r (d' ≡ d)
+      → OnErr r (moved b guest d' ≡ b)
+  tells_err (Ok x) err = tt
+  tells_err (Err e) err = moved_none err

@@ -1,16 +1,16 @@
 -- What a serve ends with: what it asks for, where it rests, and why it tells a fault.
 use Rattle.std.specs.Prelude.{◌≡◌, ◌⊎◌, ◌≤◌, ℕ, Bool, true, false, nat_lt, List, [], ◌∷◌, length, Option, Some}
-use Rattle.std.specs.Prelude.{None, Ok, Err, IfSome, map, slice_get, take}
+use Rattle.std.specs.Prelude.{None, Ok, Err, IfSome, map, slice_get, slice_set, take, ◌<◌}
 use Rattle.chains.specs.declared.range.Range.{Range}
 use Rattle.disk.specs.OutboxDisk.{OutboxState}
 use Rattle.flusher.specs.Store.{next_call}
 use Rattle.flusher.specs.declared.progress.Call.{Call}
 use Rattle.flusher.specs.declared.progress.Call.TheVariants as call
-use Rattle.guest_memory.specs.Memory.{IsAsk, bytes_at}
+use Rattle.guest_memory.specs.Memory.{IsAsk, IsInside, bytes_at}
 use Rattle.guest_memory.specs.declared.ask.Ask.{Ask}
-use Rattle.mmio_transport.specs.Asking.{AskingState, known}
+use Rattle.mmio_transport.specs.Asking.{AskingState, after_told, known}
 use Rattle.mmio_transport.specs.Device.{DeviceState}
-use Rattle.mmio_transport.specs.Popping.{GivesJob}
+use Rattle.mmio_transport.specs.Popping.{GivesJob, with_fault}
 use Rattle.mmio_transport.specs.Queue.{QueueState}
 use Rattle.mmio_transport.specs.declared.fault.DeviceFault.TheVariants as device_fault
 use Rattle.rpmb_book.specs.declared.refused.Refused.TheVariants as refused
@@ -27,6 +27,7 @@ use Rattle.machine.specs.Turn.{TurnState}
 use Rattle.machine.specs.declared.serving.Next.{Next}
 use Rattle.machine.specs.declared.serving.Next.TheVariants as next
 use Rattle.machine.specs.declared.taking.Taken.{Taken}
+use Rattle.machine.specs.declared.turn.Asked.{Asked}
 use Rattle.machine.specs.declared.turn.Asked.TheVariants as asked
 use Rattle.machine.specs.declared.taking.Taken.TheVariants as taken
 
@@ -99,8 +100,8 @@ pub record Went (guest most : ℕ) (turn turn' : TurnState) (old new : Boards) (
   pub count : length new.devices ≡ length old.devices
   pub asked : turn'.asked ≡ turn.asked
 
--- What the monitor is asked for, with these bytes in what it lent: as what is needed, of which it is
--- noted that it was asked for; at most 16,384 bytes are read, and those to be written stand first.
+-- What the monitor is asked for, with these bytes in what it lent: as what is needed, of which it
+-- is noted that it was asked for; at most 16,384 bytes are read, and those to be written stand first.
 abbrev pub NeedsTold : (guest most : ℕ) → List Range → Boards → TurnState → List ℕ → Boards → Next
     → Type 0
 NeedsTold guest most ps old turn bytes new next.Again = Unit {0}
@@ -113,6 +114,58 @@ NeedsTold guest most ps old turn bytes new (next.Write part) =
 NeedsTold guest most ps old turn bytes new next.Call = Unit {0}
 NeedsTold guest most ps old turn bytes new (next.Rest None) = RestsAt guest most new
 NeedsTold guest most ps old turn bytes new (next.Rest (Some f)) = HasReason guest f
+
+-- The guest's device was told these bytes, and nothing else changed.
+pub record TellsIn (guest at : ℕ) (bytes : List ℕ) (old new : Boards) : Type 0 where
+  pub device : AskingState
+  pub its : slice_get old.devices guest ≡ Some device
+  pub after : new
+      ≡ record old { devices = slice_set old.devices guest (after_told device at bytes) }
+
+-- It waits for a reset, and nothing else changed.
+pub record RefusesIn (guest : ℕ) (old new : Boards) : Type 0 where
+  pub device : AskingState
+  pub its : slice_get old.devices guest ≡ Some device
+  pub after : new
+      ≡ record old {
+        devices = slice_set old.devices guest (record device {
+          device = record device.device
+              { registers = with_fault device.device.registers };
+        });
+      }
+
+-- What becomes of bytes that were read: the device is told them; there is no memory for a copy, and
+-- nothing changes; or they are fewer than it asked for, or don't lie in its guest's memory, and it
+-- waits for a reset.
+pub data TakesBytes (guest : ℕ) (ask : Ask) (bytes : List ℕ) (old : Boards) (ok : Bool)
+    (new : Boards) : Type 0 where
+  Told : ok ≡ true → TellsIn guest ask.at (take ask.len bytes) old new
+      → TakesBytes guest ask bytes old ok new
+  Full : ok ≡ false → new ≡ old → TakesBytes guest ask bytes old ok new
+  Short : ok ≡ true → length bytes < ask.len → RefusesIn guest old new
+      → TakesBytes guest ask bytes old ok new
+  Outside : ok ≡ true
+      → IfSome (slice_get old.devices guest) (λ d.
+      ¬ IsInside d.device.memory ask.at (length (take ask.len bytes)))
+      → RefusesIn guest old new → TakesBytes guest ask bytes old ok new
+
+-- What the monitor's answer to what was asked last does: whether it was done, and these bytes.
+abbrev pub TakesAnswer : ℕ → Asked → Bool → List ℕ → Boards → Bool → Boards → Type 0
+TakesAnswer guest asked.Nothing there bytes old ok new = (ok ≡ true) × (new ≡ old)
+TakesAnswer guest asked.Write true bytes old ok new = (ok ≡ true) × (new ≡ old)
+TakesAnswer guest asked.Write false bytes old ok new = (ok ≡ true) × RefusesIn guest old new
+TakesAnswer guest (asked.Read ask) true bytes old ok new = TakesBytes guest ask bytes old ok new
+TakesAnswer guest (asked.Read ask) false bytes old ok new =
+    (ok ≡ true) × RefusesIn guest old new
+
+-- The answer was taken first, and the guest's steps came behind it.
+pub record HearsAnswer (guest : ℕ) (a : Asked) (there : Bool) (bytes : List ℕ) (old : Boards)
+    (ps : List Range) (new : Boards) : Type 0 where
+  pub heard : Boards
+  pub ok : Bool
+  pub takes : TakesAnswer guest a there bytes old ok heard
+  pub left : List Range
+  pub runs : Runs guest left heard ps new
 
 -- it was refused, for a reason
 pub record IsRefused (guest : ℕ) (t : Taken) : Type 0 where

@@ -134,8 +134,8 @@ waits_for_sync b = is_sync (next_call b.store.broken b.store.guests)
 unfoldable pub is_awaited : BoardState OutboxState → Bool
 is_awaited b = waits_for_sync b && is_none b.store.disk.outbox.writes
 
--- the bytes at the front of these, which stand in the guest's memory by what its device wrote: a part
--- that came first of those that are to be copied out
+-- the bytes at the front of these, which stand in the guest's memory by what its device wrote: a
+-- part that came first of those that are to be copied out
 pub record WritesOf (guest at len : ℕ) (bytes : List ℕ) (old new : MachineState) : Type 0 where
   pub part : Range
   pub first : Runs guest (turn_of old guest).parts old.board (part ∷ (turn_of new guest).parts)

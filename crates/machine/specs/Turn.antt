@@ -20,7 +20,7 @@ pub record TurnState : Type 0 where
   pub stage : Stage
   -- a step of the device was begun, and believes what it was told since
   pub going : Bool
-  -- avail_event as it stands is in guest memory since the last chain was popped
+  -- avail_event as it stands is in guest memory, or to be copied out
   pub looked : Bool
   -- what the last step wrote that isn't in guest memory yet, in the order in which it goes there
   pub parts : List Range

@@ -1,10 +1,10 @@
 //! What a monitor's answer to the last thing that a serve needed does, and what it is asked next.
 ghost use Rattle.std.specs.Prelude.{◌≡◌, ◌<◌, ◌≤◌, ◌⊎◌, [], List, length, take, true, false};
-ghost use Rattle.std.specs.Prelude.{IfSome, slice_get};
+ghost use Rattle.std.specs.Prelude.{Err, IfSome, OnErr, OnOk, slice_get};
 ghost use Rattle.chains.specs.declared.range.Range.{Range as Part};
-ghost use Rattle.guest_memory.specs.Memory.{bytes_at};
+ghost use Rattle.guest_memory.specs.Memory.{IsInside, bytes_at};
 ghost use Rattle.guest_memory.specs.declared.ask.Ask.{Ask};
-ghost use Rattle.machine.specs.Ending.{NeedsTold};
+ghost use Rattle.machine.specs.Ending.{HearsAnswer, NeedsTold, RefusesIn, TakesAnswer, TellsIn};
 ghost use Rattle.machine.specs.Serving.{Runs};
 ghost use Rattle.machine.specs.declared.turn.Asked.TheVariants as asked_of;
 
@@ -26,6 +26,7 @@ fn refuse(board: &mut AskingBoard<OutboxDisk>, guest: u16, turn: &mut Turn)
     ensures runs { (ps : List Part) → Runs guest ps board.old [] board.new }
     ensures count { length board.new.devices ≡ length board.old.devices }
     ensures turn { turn.new ≡ record turn.old { parts = [] } }
+    ensures refuses { RefusesIn guest board.old board.new }
 {
     board.device(guest).refuse();
     turn.void();
@@ -41,6 +42,11 @@ fn told(
     requires { guest < length board.old.devices }
     ensures runs { (ps : List Part) → Runs guest ps board.old ps board.new }
     ensures count { length board.new.devices ≡ length board.old.devices }
+    ensures told { OnOk result (TellsIn guest ask.at (take ask.len bytes.now) board.old board.new) }
+    ensures same { OnErr result (board.new ≡ board.old) }
+    ensures outside { result ≡ Err MemFault.OutOfRange → (length bytes.now < ask.len)
+        ⊎ IfSome (slice_get board.old.devices guest) (λ d.
+        ¬ IsInside d.device.memory ask.at (length (take ask.len bytes.now))) }
 {
     if ask.len > bytes.len() as u64 {
         return Err(MemFault::OutOfRange);
@@ -60,6 +66,7 @@ fn answer(
     requires { guest < length board.old.devices }
     ensures runs { Runs guest turn.old.parts board.old turn.new.parts board.new }
     ensures count { length board.new.devices ≡ length board.old.devices }
+    ensures takes { TakesAnswer guest turn.old.asked is_there bytes.now board.old result board.new }
 {
     let asked = turn.asked;
     turn.asked = Asked::Nothing;
@@ -157,7 +164,10 @@ pub(crate) fn serve_turn(
 ) -> Next
     requires { guest < length board.old.devices }
     ensures runs { Runs guest turn.old.parts board.old turn.new.parts board.new }
-    ensures needs { NeedsTold guest most turn.old.parts board.old turn.new bytes.new board.new result }
+    ensures needs { NeedsTold guest most turn.old.parts board.old turn.new bytes.new board.new
+        result }
+    ensures heard { HearsAnswer guest turn.old.asked is_there bytes.old board.old turn.new.parts
+        board.new }
 {
     if !answer(board, guest, turn, is_there, bytes) {
         return Next::Rest(Some(MachineFault::NoMemory));

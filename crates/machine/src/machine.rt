@@ -8,7 +8,8 @@ ghost use Rattle.disk.specs.Outbox.{first_of};
 ghost use Rattle.machine.specs.Machine.{Completes, Copies, IsServed, LeavesEach, TellsOf};
 ghost use Rattle.machine.specs.Machine.{is_awaited, kick_in, line_by, shown_in};
 ghost use Rattle.machine.specs.Machine.{GoesOn, IsTold, telling_board, waits_for_sync, writes_in};
-ghost use Rattle.machine.specs.Machine.{written_in};
+ghost use Rattle.machine.specs.Ending.{HearsAnswer};
+ghost use Rattle.machine.specs.Machine.{has_guest, turn_of, written_in};
 
 use crate::answering::{LARGEST_PART, serve_turn};
 use crate::fault::MachineFault;
@@ -147,8 +148,8 @@ impl Machine {
         }
     }
 
-    /// Whether a chain of the guest was taken and isn't answered yet: what the guest waits for comes
-    /// by a serve, once the sync that is awaited was told. Not so of a guest that there isn't.
+    /// Whether a chain of the guest was taken and isn't answered yet: what it waits for comes by a
+    /// serve, once the sync that is awaited was told. Not so of a guest that there isn't.
     pub fn is_waiting(&self, guest: u16) -> bool
         ensures { result ≡ owes guest self.now.board.rest }
     {
@@ -164,6 +165,10 @@ impl Machine {
     pub fn serve(&mut self, guest: u16, is_there: bool, bytes: &mut [u8]) -> Served
         ensures served { IsServed guest self.old self.new }
         ensures tells { TellsOf guest (length bytes.old) result bytes.new self.old self.new }
+        // What was read is what the device believes.
+        ensures heard { has_guest self.old guest ≡ true → 16384 ≤ length bytes.old
+            → HearsAnswer guest (turn_of self.old guest).asked is_there bytes.old self.old.board
+            (turn_of self.new guest).parts self.new.board }
     {
         let at = usize::from(guest);
         if at >= self.setups.len() || at >= self.turns.len() || at >= self.board.guests() {

@@ -27,8 +27,8 @@ use std::alloc::Global;
 /// The number of the life: no reply outlives its board, so one number does.
 const LIFE: u64 = 1;
 
-/// The memory that a board's ranges speak of, in bytes: the largest. What a guest's device has, which
-/// asks for its bytes, stands in its setup.
+/// The memory that a board's ranges speak of, in bytes: the largest. What a guest's device has,
+/// which asks for its bytes, stands in its setup.
 const BOARD_MEMORY: u64 = 67_108_864;
 
 impl Setup {
@@ -207,9 +207,10 @@ impl Machine {
     /// Opens the image of these guests, which the monitor synced and then read whole. The bytes
     /// are copied, and freed once it is open.
     ///
-    /// `BadBoard` where the guests are none or more than 64, or one is out of its range; `BadLength` where there are more or fewer bytes than their image has; by the
-    /// header `NotFormatted` where they are no image, and `OtherConfig` where they are another
-    /// board's; `NotFormatted` where a partition isn't well formed; and `NoMemory`.
+    /// `BadBoard` where the guests are none or more than 64, or one is out of its range; `BadLength`
+    /// where there are more or fewer bytes than their image has; by the header `NotFormatted` where
+    /// they are no image, and `OtherConfig` where they are another board's; `NotFormatted` where a
+    /// partition isn't well formed; and `NoMemory`.
     pub fn open(alloc: Global, setups: &[Setup], image: &[u8]) -> Result<Machine, MachineFault>
         ensures opened { IfOk result (λ m. IsOpened setups.now image.now m) }
         ensures bad { result ≡ Err MachineFault.BadBoard → ¬ IsMonitored setups.now }

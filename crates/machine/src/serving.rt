@@ -72,7 +72,8 @@ fn notify(board: &mut AskingBoard<OutboxDisk>, guest: u16, turn: &mut Turn) -> O
 
 /// Whether the next call of the disk is a write.
 fn has_write(board: &AskingBoard<OutboxDisk>) -> bool
-    ensures { result ≡ is_write (next_call board.now.rest.store.broken board.now.rest.store.guests) }
+    ensures { result
+        ≡ is_write (next_call board.now.rest.store.broken board.now.rest.store.guests) }
 {
     match board.rest().next_call() {
         Call::Write => true,

@@ -74,7 +74,8 @@ impl Setup {
     #[tactic(auto, unfolding(crate::specs::Settings::value_shown, crate::specs::Settings::is_plain))]
     pub(crate) fn read(&self, device: &AskingDevice, offset: u32, width: u8) -> u32
         ensures value { result ≡ value_shown self.now device.now.device offset width }
-        ensures plain { is_plain self.now ≡ true → result ≡ read_value device.now.device offset width }
+        ensures plain { is_plain self.now ≡ true
+            → result ≡ read_value device.now.device offset width }
     {
         let value = device.read(offset, width);
         if self.is_plain() || width != 4 {

@@ -136,7 +136,7 @@ fn pop(board: &mut AskingBoard<OutboxDisk>, guest: u16, turn: &mut Turn) -> Take
         }
         Ok(true) => {
             turn.going = false;
-            turn.looked = false;
+            turn.looked = true; // what this wrote is copied out before the next pop
             Taken::Did
         }
         Ok(false) => {

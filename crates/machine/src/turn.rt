@@ -37,9 +37,9 @@ pub struct Turn {
     pub(crate) stage: Stage,
     /// Whether a step of the device was begun that isn't made: it believes what it was told since.
     pub(crate) going: bool,
-    /// Whether avail_event as it stands is in guest memory since the last chain was popped.
+    /// Whether avail_event as it stands is in guest memory, or to be copied out.
     pub(crate) looked: bool,
-    /// What the last step wrote that isn't in guest memory yet, in the order in which it goes there.
+    /// What the last step wrote that isn't in guest memory yet, in the order in which it goes in.
     pub(crate) parts: VecDeque<Range>,
 }
 

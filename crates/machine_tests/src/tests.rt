@@ -1,7 +1,5 @@
 mod answers;
-mod offers;
-mod playing;
-mod ranges;
+mod driver;
+mod needs;
 mod refusals;
 mod rig;
-mod settings;

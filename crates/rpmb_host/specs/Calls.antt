@@ -1,11 +1,13 @@
 -- What the calls answer, and what they leave of the machine in a handle (own).
-use Rattle.std.specs.Prelude.{◌≡◌, ◌<◌, ◌%◌, ℕ, true, false, List, Option, Some, None, length}
+use Rattle.std.specs.Prelude.{◌≡◌, ◌<◌, ◌≤◌, ◌%◌, ◌==◌, not, ℕ, true, false, List, Option, Some, None, length}
 use Rattle.std.specs.Prelude.{slice_get}
 use Rattle.disk.specs.Outbox.{first_of}
 use Rattle.disk.specs.declared.outbox_disk.Told.TheVariants.{Failed, Synced, Taken}
 use Rattle.board.specs.State.{owes}
 use Rattle.machine.specs.Machine.{Completes, Copies, GoesOn, IsServed, MachineState, TellsOf}
-use Rattle.machine.specs.Machine.{is_awaited, kick_in, line_by, shown_by, telling_board}
+use Rattle.machine.specs.Ending.{HearsAnswer}
+use Rattle.machine.specs.Machine.{has_guest, is_awaited, kick_in, line_by, shown_by}
+use Rattle.machine.specs.Machine.{telling_board, turn_of}
 use Rattle.machine.specs.Machine.{waits_for_sync, written_in}
 use Rattle.machine.specs.Opening.{HasImageFault, HasOpeningFault, IsMonitored, length_of}
 use Rattle.machine.specs.declared.fault.MachineFault.{MachineFault}
@@ -70,13 +72,17 @@ Waits guest waits m = waits ≡ flag (owes guest m.board.rest)
 abbrev pub Interrupts : (guest status : ℕ) → Fact
 Interrupts guest status m = status ≡ line_by (slice_get m.board.devices guest)
 
--- The guest is served, as a machine tells it, in the numbers of a `struct rpmb_next`: with so much room
--- for the bytes, in which these stand then.
-pub record ServesBy (guest room : ℕ) (bytes : List ℕ) (n : RpmbNext)
+-- The guest is served, as a machine tells it, in the numbers of a `struct rpmb_next`: with what
+-- became of what was asked last, these bytes, and those that stand there then.
+pub record ServesBy (guest done : ℕ) (bytes bytes' : List ℕ) (n : RpmbNext)
     (old new : MachineState) : Type 0 where
   pub served : IsServed guest old new
   pub told : Served
-  pub tells : TellsOf guest room told bytes old new
+  pub tells : TellsOf guest (length bytes) told bytes' old new
+  -- what was read is what the device believes
+  pub heard : has_guest old guest ≡ true → 16384 ≤ length bytes
+      → HearsAnswer guest (turn_of old guest).asked (not (done == 0)) bytes old.board
+      (turn_of new guest).parts new.board
   pub at : n.at ≡ told.at
   pub len : n.len ≡ told.len % 4294967296
   pub fault : n.fault ≡ told_number told.fault
@@ -84,8 +90,8 @@ pub record ServesBy (guest room : ℕ) (bytes : List ℕ) (n : RpmbNext)
   pub sync : n.sync ≡ flag told.sync
   pub waiting : n.waiting ≡ flag told.waiting
 
-abbrev pub Serves : (guest room : ℕ) → List ℕ → RpmbNext → Relation
-Serves guest room bytes n old new = ServesBy guest room bytes n old new
+abbrev pub Serves : (guest done : ℕ) → List ℕ → List ℕ → RpmbNext → Relation
+Serves guest done bytes bytes' n old new = ServesBy guest done bytes bytes' n old new
 
 -- the disk's work went further, and it is told whether a sync is awaited then
 abbrev pub Goes : ℕ → Relation

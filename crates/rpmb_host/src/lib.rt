@@ -5,7 +5,8 @@
 ghost use Rattle.std.specs.Prelude.{◌≡◌, ◌<◌, IfOk, IfErr, None, true, is_some, length, map};
 ghost use Rattle.machine.specs.Opening.{HasOpeningFault, IsFresh, IsOpened};
 ghost use Rattle.rpmb_host.specs.Calls.{Between, Fails, Gives, GivesNone, Goes, Holds, Interrupts};
-ghost use Rattle.rpmb_host.specs.Calls.{Kicks, Reads, Refuses, RefusesImage, RefusesOpening, Serves};
+ghost use Rattle.rpmb_host.specs.Calls.{Kicks, Reads, Refuses, RefusesImage, RefusesOpening};
+ghost use Rattle.rpmb_host.specs.Calls.{Serves};
 ghost use Rattle.rpmb_host.specs.Calls.{Spans, Syncs, Takes, Waits, Writes};
 ghost use Rattle.rpmb_host.specs.Guests.{setup_of};
 
@@ -154,7 +155,7 @@ pub extern "C" fn rpmb_serve(
 )
     requires { is_some host.old.value ≡ true }
     ensures serves { Between host.old.value host.new.value
-        (Serves guest (length bytes.old) bytes.new next.new) }
+        (Serves guest done bytes.old bytes.new next.new) }
 {
     let mut machine = take(alloc, host);
     let served = machine.serve(guest, done != 0, bytes);

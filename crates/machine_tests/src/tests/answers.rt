@@ -1,145 +1,93 @@
 //! Requests and their answers, over completions, stops and failures.
-use crate::tests::offers::{Asked, COUNTED, NO_KEY, NOTHING, PROGRAMMED, ending, offer};
-use crate::tests::playing::{Acts, left, left_of_fresh, play};
-use crate::tests::rig::{Monitor, Rig, check, window_at};
+use crate::tests::driver::{COUNTER, KEY, NO_KEY};
+use crate::tests::rig::{Rig, check, fresh, fresh_image, plain};
+use machine::Machine;
 use std::test::Fail;
-
-/// The guest asks as its n-th chain, and is served until no sync is awaited.
-fn ask<M: Monitor>(rig: &mut Rig<M>, guest: u16, n: u8, asked: Asked) -> Result<[u8; 4], Fail> {
-    check(offer(rig, guest, n, asked)?, "no kick")?;
-    rig.settle(guest)?;
-    ending(rig, guest, n)
-}
-
-pub fn key_and_counter<M: Monitor>(rig: &mut Rig<M>) -> Result<(), Fail> {
-    rig.set_up(0)?;
-    check(
-        ask(rig, 0, 0, Asked::Counter)? == NO_KEY,
-        "a counter of no key",
-    )?;
-    check(
-        rig.writes == 0 && rig.syncs == 0,
-        "a counter writes nothing",
-    )?;
-    check(ask(rig, 0, 1, Asked::Key)? == PROGRAMMED, "a key")?;
-    check(
-        rig.writes == 4 && rig.syncs == 4,
-        "a key is four writes and four syncs",
-    )?;
-    check(ask(rig, 0, 2, Asked::Counter)? == COUNTED, "a counter")?;
-    check(rig.answered == 3, "three replies")
-}
 
 #[test]
 fn requests_get_their_answers(rt: HostRuntime) -> Result<(), Fail> {
-    play(rt.alloc(), &[window_at(0)], Acts::KeyAndCounter)
-}
-
-/// A key's writes are taken, and the monitor stops before it tells a sync.
-fn stop_within<M: Monitor>(rig: &mut Rig<M>, makes: bool) -> Result<(), Fail> {
-    rig.makes = makes;
-    check(offer(rig, 0, 0, Asked::Key)?, "no kick")?;
-    check(rig.serve(0)?, "no sync is awaited")?;
-    check(
-        rig.writes == 1 && rig.answered == 0,
-        "a write, and no reply",
-    )?;
-    check(ending(rig, 0, 0)? == NOTHING, "a reply before its sync")
-}
-
-/// The same, and what was taken isn't made.
-pub fn stop_within_a_key<M: Monitor>(rig: &mut Rig<M>) -> Result<(), Fail> {
-    rig.set_up(0)?;
-    stop_within(rig, false)
-}
-
-pub fn has_key<M: Monitor>(rig: &mut Rig<M>) -> Result<(), Fail> {
-    rig.set_up(0)?;
-    check(ask(rig, 0, 0, Asked::Key)? == PROGRAMMED, "a key")
-}
-
-/// What the counter says, after an opening of an image.
-pub fn has_counter<M: Monitor>(rig: &mut Rig<M>, end: [u8; 4]) -> Result<(), Fail> {
-    rig.set_up(0)?;
-    check(ask(rig, 0, 0, Asked::Counter)? == end, "another counter")
-}
-
-#[test]
-fn a_stop_before_a_sync_takes_nothing_back(rt: HostRuntime) -> Result<(), Fail> {
-    let windows = [window_at(0)];
-    let image = left_of_fresh(rt.alloc(), &windows, Acts::StopWithinAKey)?;
-    left(rt.alloc(), &windows, image, Acts::Counter(NO_KEY))?;
+    let mut rig = fresh(rt.alloc(), &[plain()])?;
+    rig.set_up(0, 0, 15);
+    rig.ask(0, 0, COUNTER, NO_KEY)?;
+    check(rig.writes == 0, "a counter that writes")?;
+    let syncs = rig.ask(0, 1, KEY, 0)?;
+    check(rig.writes == 4 && syncs == 4, "other writes or syncs")?;
+    rig.ask(0, 2, COUNTER, 0)?;
     Ok(())
 }
 
+/// A key's first write is taken, and no sync is told.
+fn stop_within_a_key(rig: &mut Rig) -> Result<(), Fail> {
+    rig.set_up(0, 0, 15);
+    rig.offer(0, 0, KEY)?;
+    let served = rig.serve(0)?;
+    check(served.sync && rig.writes == 1, "no sync of one write")?;
+    check(served.waiting && rig.machine.is_waiting(0), "nobody waits")?;
+    check(rig.ends(0, 0, 0, 0), "a reply before its sync")
+}
+
+/// The write before a stop is lost, as a system may lose it; a key that was answered stands.
 #[test]
-fn what_was_told_stands_after_an_opening(rt: HostRuntime) -> Result<(), Fail> {
-    let windows = [window_at(0)];
-    let image = left_of_fresh(rt.alloc(), &windows, Acts::Key)?;
-    left(rt.alloc(), &windows, image, Acts::Counter(COUNTED))?;
+fn what_was_answered_stands_after_an_opening(rt: HostRuntime) -> Result<(), Fail> {
+    let setups = [plain()];
+    for (is_answered, result) in [(false, NO_KEY), (true, 0)] {
+        let mut rig = fresh(rt.alloc(), &setups)?;
+        stop_within_a_key(&mut rig)?;
+        if is_answered {
+            rig.machine.completed(true)?;
+            rig.settle(0)?;
+            check(rig.ends(0, 0, 0, KEY), "no key")?;
+        } else {
+            rig.image = fresh_image(rt.alloc(), &setups)?;
+        }
+        rig.machine = Machine::open(rt.alloc(), &setups, &rig.image)?;
+        rig.set_up(0, 0, 15);
+        rig.ask(0, 0, COUNTER, result)?;
+    }
     Ok(())
 }
 
-/// A sync that failed: the reply becomes a failure, and nothing more is accepted.
-pub fn fail<M: Monitor>(rig: &mut Rig<M>) -> Result<(), Fail> {
-    rig.set_up(0)?;
-    check(!rig.monitor.tell(true), "a success that nobody awaits")?;
-    stop_within(rig, true)?;
-    check(rig.monitor.tell(false), "a failure is refused")?;
-    check(!rig.serve(0)?, "a sync after a failure")?;
-    check(rig.answered == 1, "no reply after a failure")?;
-    let end = ending(rig, 0, 0)?;
-    check(end[1] != 0 && end[2] == 1, "a success after a failure")?;
-    check(rig.monitor.broke(), "a board that goes on")
-}
-
+/// The reply that waits becomes a failure, and nothing more is accepted.
 #[test]
-fn a_failed_sync_makes_failures(rt: HostRuntime) -> Result<(), Fail> {
-    play(rt.alloc(), &[window_at(0)], Acts::Failure)
+fn a_failed_disk_makes_failures(rt: HostRuntime) -> Result<(), Fail> {
+    let mut rig = fresh(rt.alloc(), &[plain()])?;
+    check(rig.machine.completed(true).is_err(), "a sync of nothing")?;
+    stop_within_a_key(&mut rig)?;
+    rig.machine.completed(false)?;
+    check(rig.settle(0)? == 0, "a sync after a failure")?;
+    check(rig.ends(0, 0, 5, KEY), "a success after a failure")?;
+    rig.ask(0, 1, KEY, 1)?;
+    check(rig.machine.is_broken(), "a board that goes on")
 }
 
-/// Of two guests one has a key.
-pub fn keep_apart<M: Monitor>(rig: &mut Rig<M>) -> Result<(), Fail> {
-    rig.set_up(0)?;
-    rig.set_up(1)?;
-    check(
-        ask(rig, 1, 0, Asked::Key)? == PROGRAMMED,
-        "a key of the second guest",
-    )?;
-    check(ending(rig, 0, 0)? == NOTHING, "a reply to another guest")?;
-    check(
-        ask(rig, 0, 0, Asked::Counter)? == NO_KEY,
-        "a key of the first guest",
-    )?;
-    check(
-        ask(rig, 1, 1, Asked::Counter)? == COUNTED,
-        "no key of the second guest",
-    )
-}
-
+/// The third of three guests is served, and it alone has a key.
 #[test]
 fn guests_have_keys_of_their_own(rt: HostRuntime) -> Result<(), Fail> {
-    play(rt.alloc(), &[window_at(0), window_at(0)], Acts::TwoGuests)
-}
-
-/// While one chain waits, no second is taken.
-pub fn take_turns<M: Monitor>(rig: &mut Rig<M>) -> Result<(), Fail> {
-    rig.set_up(0)?;
-    offer(rig, 0, 0, Asked::Key)?;
-    offer(rig, 0, 1, Asked::Counter)?;
-    check(rig.serve(0)?, "no sync is awaited")?;
-    check(rig.answered == 0, "an answer while a chain waits")?;
-    for _ in 0..4 {
-        check(rig.monitor.tell(true), "a sync that isn't awaited")?;
-        rig.serve(0)?;
+    let mut rig = fresh(rt.alloc(), &[plain(), plain(), plain()])?;
+    rig.set_up(2, 0, 15);
+    rig.ask(2, 0, KEY, 0)?;
+    for guest in 0..2 {
+        check(rig.ends(guest, 0, 0, 0), "another guest's reply")?;
+        rig.set_up(guest, 0, 15);
+        rig.ask(guest, 0, COUNTER, NO_KEY)?;
     }
-    check(rig.answered == 2, "two replies")?;
-    check(ending(rig, 0, 1)? == COUNTED, "the second answer")
+    rig.ask(2, 1, COUNTER, 0)?;
+    Ok(())
 }
 
+/// While one chain waits, no second is looked for.
 #[test]
-fn one_chain_waits_at_once(rt: HostRuntime) -> Result<(), Fail> {
-    let mut window = window_at(0);
-    window.most = 1;
-    play(rt.alloc(), &[window], Acts::Turns)
+fn no_more_chains_wait_than_may(rt: HostRuntime) -> Result<(), Fail> {
+    let mut setup = plain();
+    setup.most = 1;
+    let mut rig = fresh(rt.alloc(), &[setup])?;
+    stop_within_a_key(&mut rig)?;
+    rig.offer(0, 1, COUNTER)?;
+    rig.needs.clear();
+    check(rig.serve(0)?.waiting, "nobody waits")?;
+    check(rig.needs.len() == 1, "a second chain is looked for")?;
+    rig.machine.completed(true)?;
+    rig.settle(0)?;
+    let answered = rig.ends(0, 0, 0, KEY) && rig.ends(0, 1, 0, COUNTER);
+    check(answered, "other answers")
 }

@@ -1,4 +1,4 @@
-use Rattle.std.proofs.Common.{[], refl}
+use Rattle.std.proofs.Common.{[], ap, refl}
 use Rattle.machine.proofs.Common.{Boards, Knows, Still, Voids}
 use Rattle.machine.specs.Serving.{Refuses}
 use Rattle.machine.proofs.Moved.{moved}
@@ -15,3 +15,12 @@ returns-clause-runs c ps =
       learns = Refuses c.refuse.ensures;
       after = refl;
     })
+
+pub returns-clause-refuses : goal.returns-clause-refuses
+returns-clause-refuses c =
+    let b = c.args.board.now in
+    record {
+      device = c.device.result.now;
+      its = c.device.ensures.device;
+      after = ap (λ d. moved b c.args.guest d) c.refuse.ensures;
+    }

@@ -47,3 +47,14 @@ returns-clause-needs c =
           c.serve-next.ensures.went.needs)))) n.read n.write)
       | inr again ↦ subst (λ r. NeedsTold g m t0 a t c.need.new.out e r) (sym again) tt
     ]
+
+pub returns-clause-heard : goal.returns-clause-heard
+returns-clause-heard c = record {
+  heard = c.answer.new.board;
+  ok = c.answer.result;
+  takes = c.answer.ensures.takes;
+  left = c.answer.new.turn.parts;
+  runs = runs_twice c.args.guest c.answer.new.turn.parts c.serve-next.new.turn.parts
+      c.need.new.turn.parts c.answer.new.board c.serve-next.new.board c.need.new.board
+      c.serve-next.ensures.went.runs c.need.ensures.runs;
+}

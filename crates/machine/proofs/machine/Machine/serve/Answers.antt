@@ -1,7 +1,8 @@
-use Rattle.std.proofs.Common.{◌≡◌, ◌∙◌, ap, false, sym, subst, length, arith, rules}
+use Rattle.std.proofs.Common.{◌≡◌, ◌∙◌, ℕ, ap, false, sym, subst, length, arith, rules}
 use Rattle.machine.proofs.Common.{slice_get_read, IsServed, MachineState, slice_get, slice_set}
-use Rattle.machine.specs.Machine.{TellsOf, has_guest}
-use Rattle.machine.proofs.Completing.{serves, serves_none}
+use Rattle.machine.specs.Ending.{HearsAnswer}
+use Rattle.machine.specs.Machine.{TellsOf, has_guest, turn_in, turn_of}
+use Rattle.machine.proofs.Completing.{hears, serves, serves_none}
 use Rattle.machine.proofs.Popping.{some_at}
 use Rattle.machine.proofs.Told.{has_all, no_device, no_setup, no_turn, tells_absent, tells_of, tells_room}
 use Rattle.machine.proofs.machine.Machine.serve.Goals.{then-at-len-via-then-at-len, then-at-len-via-else-at-len+then-at-len-2, then-at-len-via-else-at-len+else-at-len-2+then-at-guests}
@@ -31,6 +32,50 @@ returns-then-at-len-clause-tells c =
     tells_absent c.args.self.now g (length c.args.bytes.now) c.served.result c.args.bytes.now
     (ap (λ (x : MachineState). has_guest x g) (sym c.self.view_is) ∙ gone)
     c.served.ensures.next c.served.ensures.sync c.served.ensures.waiting
+
+pub returns-then-at-len-clause-heard : goal.returns-then-at-len-clause-heard
+returns-then-at-len-clause-heard c there room =
+    let m : MachineState = record {
+      board = c.self.inside.board;
+      setups = c.self.inside.setups.items;
+      turns = c.self.inside.turns.items;
+    } in
+    let g = c.args.guest in
+    let same = c.from-at.ensures in
+    let gone : has_guest m g ≡ false = elim c.then-at-len.branch [
+      | then-at-len-via-then-at-len w ↦ (let past = w.if-at-len.true in let long = c.len.ensures in
+          no_setup m g (omega (arith, past, long, same)))
+      | then-at-len-via-else-at-len+then-at-len-2 w ↦ (let past = w.if-at-len-2.true in
+          let long = w.len-else-at-len.ensures in no_turn m g (omega (arith, past, long, same)))
+      | then-at-len-via-else-at-len+else-at-len-2+then-at-guests w ↦
+          (let past = w.if-at-guests.true in let long = w.guests.ensures in
+          no_device m g (omega (arith, past, long, same)))
+    ] in
+    absurd (let no = ap (λ (x : MachineState). has_guest x g) (sym c.self.view_is) ∙ gone in
+    let yes_ = sym there ∙ no in cc)
+
+pub returns-then-bytes-lt-LARGEST_PART-clause-heard : goal.returns-then-bytes-lt-LARGEST_PART-clause-heard
+returns-then-bytes-lt-LARGEST_PART-clause-heard c there room =
+    absurd (let short = c.if-bytes-lt-LARGEST_PART.true in omega (arith, short, room))
+
+pub returns-clause-heard : goal.returns-clause-heard
+returns-clause-heard c there room =
+    let g = c.args.guest in
+    let m : MachineState = record {
+      board = c.self.inside.board;
+      setups = c.self.inside.setups.items;
+      turns = c.self.inside.turns.items;
+    } in
+    let s = c.serve_turn-next in
+    let its = slice_get_read m.turns c.len-else-at-len.result g c.index_mut-turn.result.now
+    (search rules) (search rules) (search rules) in
+    let answered : MachineState → ℕ → Type 0 = λ x k. HearsAnswer g (turn_of x g).asked
+    c.args.is_there c.args.bytes.now x.board
+    (turn_in (slice_get (slice_set m.turns k s.new.turn) g)).parts s.new.board in
+    subst (λ x. answered x c.from-at.result) c.self.view_is
+    (subst (λ k. answered m k) (sym c.from-at.ensures)
+    (hears g m c.index_mut-turn.result.now s.new.turn s.new.board c.args.is_there c.args.bytes.now
+    its s.ensures.heard))
 
 pub returns-then-bytes-lt-LARGEST_PART-clause-served : goal.returns-then-bytes-lt-LARGEST_PART-clause-served
 returns-then-bytes-lt-LARGEST_PART-clause-served c = serves_none c.args.guest c.args.self.now
