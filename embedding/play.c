@@ -11,16 +11,17 @@
  * The driver's half is played here, by "The driver's layout" of that page; the device's is the library's.
  *
  * Status 1: a line or the disk ended it; 3: it was refused before any line; 4: a call did what it may not. */
+#include "guest_ram.h"
 #include "rpmb_host.h"
 #include <fcntl.h>
 #include <stdio.h>
 #include <stdlib.h>
-#include <string.h>
 #include <sys/file.h>
 #include <sys/stat.h>
 #include <unistd.h>
 
-enum { GUESTS = 64, PLACES = 256, RANGES = 64, TRIES = 8, NUMBERS = 10 };
+enum { GUESTS = 64, PLACES = 256, TRIES = 8, NUMBERS = 10 };
+enum { LEAST_MEMORY = 65536, MOST_MEMORY = 67108864 };
 enum { MOST_READABLE = 8704, MOST_WRITABLE = 8192, PAIR = MOST_READABLE + MOST_WRITABLE };
 enum { NEXT = 1, WRITE = 2, INDIRECT = 4, AVAIL = 128, USED = 32768 };
 enum { STATUS = 0x070, QUEUE_NOTIFY = 0x050 };
@@ -35,7 +36,7 @@ struct flight {
 
 struct driver {
 	struct rpmb_host *host;
-	unsigned char *ram;        /* the guest's memory, all of which is the window */
+	unsigned char *ram;        /* the guest's memory: one region, from guest address 0 on */
 	uint64_t memory;
 	uint16_t guest, size;
 	int packed, indirect, event_idx, in_order;
@@ -45,6 +46,8 @@ struct driver {
 	int owner[PLACES];         /* the chain that has a descriptor or an id; -1: none */
 	struct flight flights[PLACES];
 	const char *stuck;         /* what is printed until the next reset */
+	struct rpmb_next next_step; /* what its device asks for, where it doesn't rest, */
+	unsigned char bytes[RPMB_LARGEST_PART]; /* and the bytes of that */
 };
 
 struct board {
@@ -106,21 +109,12 @@ static void *room_for(size_t len)
 	return room;
 }
 
-/* The driver's memory. What it writes goes to the window at once, and what the device wrote was loaded. */
+/* The driver's memory. */
 
-static void put(struct driver *d, uint64_t at, const void *bytes, size_t len)
+static void put(struct driver *d, uint64_t at, uint64_t number, size_t len)
 {
-	check(rpmb_store(d->host, d->guest, at, bytes, len) == RPMB_OK, "rpmb_store");
-	memcpy(d->ram + at, bytes, len);
-}
-
-static void put_number(struct driver *d, uint64_t at, uint64_t number, size_t len)
-{
-	unsigned char bytes[8];
-
-	for (size_t i = 0; i < len; i++, number >>= 8)
-		bytes[i] = (unsigned char)number;
-	put(d, at, bytes, len);
+	for (; len-- > 0; number >>= 8)
+		d->ram[at++] = (unsigned char)number;
 }
 
 static uint32_t get(const struct driver *d, uint64_t at, size_t len)
@@ -149,7 +143,7 @@ static void lay_out(struct driver *d)
 	d->buffers = aligned(d->tables + 32 * size);
 }
 
-static uint32_t set_register(struct driver *d, uint32_t offset, uint32_t value)
+static uint32_t set_register(const struct driver *d, uint32_t offset, uint32_t value)
 {
 	return rpmb_write(d->host, d->guest, offset, 4, value);
 }
@@ -157,7 +151,6 @@ static uint32_t set_register(struct driver *d, uint32_t offset, uint32_t value)
 /* Brings the device into service (VIRTIO 1.2, 3.1.1 and 4.2.3), with areas that are zeros. */
 static void negotiate(struct driver *d)
 {
-	static const unsigned char zeros[16 * PLACES];
 	const uint32_t writes[][2] = {
 		{ STATUS, 1 }, { STATUS, 3 },
 		{ 0x024, 0 }, { 0x020, (uint32_t)d->indirect << 28 | (uint32_t)d->event_idx << 29 },
@@ -175,9 +168,9 @@ static void negotiate(struct driver *d)
 	for (int i = 0; i < PLACES; i++)
 		d->owner[i] = -1;
 	d->stuck = NULL;
-	put(d, 0, zeros, 16u * d->size);
-	put(d, d->driver_area, zeros, d->packed ? 4 : 6u + 2u * d->size);
-	put(d, d->device_area, zeros, d->packed ? 4 : 6u + 8u * d->size);
+	memset(d->ram, 0, 16u * d->size);
+	memset(d->ram + d->driver_area, 0, d->packed ? 4 : 6u + 2u * d->size);
+	memset(d->ram + d->device_area, 0, d->packed ? 4 : 6u + 8u * d->size);
 	for (size_t i = 0; i < sizeof writes / sizeof writes[0]; i++)
 		set_register(d, writes[i][0], writes[i][1]);
 }
@@ -211,10 +204,10 @@ static struct slot slot_of(const struct driver *d, uint32_t place)
 static void describe(struct driver *d, struct slot to, uint64_t addr, uint32_t len, unsigned flags, unsigned other)
 {
 	flags += to.marks;
-	put_number(d, to.at, addr, 8);
-	put_number(d, to.at + 8, len, 4);
-	put_number(d, to.at + 12, d->packed ? other : flags, 2);
-	put_number(d, to.at + 14, d->packed ? flags : other, 2);
+	put(d, to.at, addr, 8);
+	put(d, to.at + 8, len, 4);
+	put(d, to.at + 12, d->packed ? other : flags, 2);
+	put(d, to.at + 14, d->packed ? flags : other, 2);
 }
 
 /* Describes a chain's parts, the first one last. A packed ring's table has neither ids nor NEXT. */
@@ -273,15 +266,15 @@ static void offer(struct driver *d, const struct line *line)
 
 	choose(d, &c, two);
 	d->flights[c.id] = (struct flight){ c.last, places, c.room, d->offered };
-	put(d, d->buffers + PAIR * (uint64_t)c.id, line->bytes, line->len);
+	memcpy(d->ram + d->buffers + PAIR * (uint64_t)c.id, line->bytes, line->len);
 	if (d->packed) {
 		write_chain(d, &c, slot_of(d, d->offered), slot_of(d, d->offered + 1));
 		d->offered = (d->offered + places) % (2u * d->size);
 		return;
 	}
 	write_chain(d, &c, slot_at(16 * (uint64_t)c.id), slot_at(16 * (uint64_t)c.last));
-	put_number(d, d->driver_area + 4 + 2 * (index % d->size), c.id, 2);
-	put_number(d, d->driver_area + 2, index + 1, 2);
+	put(d, d->driver_area + 4 + 2 * (index % d->size), c.id, 2);
+	put(d, d->driver_area + 2, index + 1, 2);
 	d->offered = (d->offered + 1) % 65536;
 }
 
@@ -342,50 +335,61 @@ static void complete(struct board *b, int is_awaited)
 	b->told = b->failed;
 }
 
-static void serve(struct board *b, struct driver *d, struct rpmb_served *served)
+/* Does what its device asks for, and lets it go on. */
+static void step(struct board *b, struct driver *d)
 {
-	struct rpmb_range ranges[RANGES], *it;
+	const struct guest_ram ram = { &(struct guest_region){ 0, d->memory, d->ram }, 1 };
+	struct rpmb_next *next = &d->next_step;
+	uint32_t done = 0;
 
-	rpmb_serve(&b->host, d->guest, ranges, RANGES, served);
-	check(served->ranges <= RANGES, "no more ranges than there is room for");
-	for (it = ranges; it < ranges + served->ranges; it++) {
-		check(it->at <= d->memory && it->len <= d->memory - it->at, "a range lies in the window");
-		check(rpmb_load(&b->host, d->guest, it->at, d->ram + it->at, it->len) == RPMB_OK, "rpmb_load");
-	}
+	if (next->what == RPMB_READ)
+		done = guest_copy_in(&ram, next->at, d->bytes, next->len);
+	if (next->what == RPMB_WRITE)
+		done = guest_copy_out(&ram, next->at, d->bytes, next->len);
+	rpmb_serve(&b->host, d->guest, done, d->bytes, sizeof d->bytes, next);
+	check(next->len <= sizeof d->bytes, "no more bytes than there is room for");
 	take_outbox(b);
-	complete(b, served->sync && !served->again);
+	complete(b, next->what == RPMB_REST && next->sync);
 }
 
-/* Serves a guest until it has no more, or as many chains were answered as its queue has places. NULL where one was. */
+/* A chain is taken: of one alone the device reads all descriptors. */
+static int takes_chain(const struct driver *d)
+{
+	return d->next_step.what == RPMB_READ && d->next_step.at == 0 && d->next_step.len == 16u * d->size;
+}
+
+/* Serves a guest until it has no more, or as many chains were taken as its queue has places: a reply may write over
+ * the index of the next one. NULL where one was. */
 static const char *serve_all(struct board *b, struct driver *d)
 {
-	struct rpmb_served served;
-	uint32_t answered = 0;
-	int tries = 0;
+	const struct rpmb_next *next = &d->next_step;
+	int taken = 0, tries = 0;
 
 	do {
-		serve(b, d, &served);
-		answered += served.answered;
-		if (served.fault == RPMB_STOPPED)
+		step(b, d);
+		taken += takes_chain(d);
+		if (next->what != RPMB_REST)
+			continue;
+		if (next->fault == RPMB_STOPPED)
 			return needs_reset;
-		tries = served.fault == RPMB_NO_MEMORY ? tries + 1 : 0;
+		tries = next->fault == RPMB_NO_MEMORY ? tries + 1 : 0;
 		if (tries && !is_tried_again("rpmb_serve", tries))
 			end_with("2 NoMemory", "", "");
-	} while (answered < d->size && (served.again || served.sync || tries));
-	check(served.fault == RPMB_OK, rpmb_fault_text(served.fault));
-	return answered ? NULL : no_answer;
+	} while (taken <= d->size && (next->what != RPMB_REST || next->sync || tries));
+	check(next->fault == RPMB_OK || (b->failed && next->fault == RPMB_DISK_FAULT), rpmb_fault_text(next->fault));
+	return taken ? NULL : no_answer;
 }
 
-/* Makes what the library still has to write, once no device is in service. */
+/* Makes what the library still has to write. */
 static void finish(struct board *b)
 {
-	struct rpmb_served served;
+	uint32_t awaited;
 
-	for (size_t i = 0; i < b->count; i++)
-		check(set_register(&b->drivers[i], STATUS, 0) == RPMB_RESET, "a reset");
 	do {
-		serve(b, &b->drivers[0], &served);
-	} while (served.again || served.sync);
+		awaited = rpmb_go_on(&b->host);
+		take_outbox(b);
+		complete(b, awaited != 0);
+	} while (awaited && !b->failed);
 	if (b->failed)
 		end_with("10 DiskFault", "", "");
 }
@@ -551,11 +555,9 @@ static void perform(struct board *b, const struct line *line, const char *script
 	if (line->kind == CHAIN)
 		perform_chain(b, d, line);
 	if (line->kind == STORE) {
-		if (line->number > d->memory || line->len > d->memory - line->number) {
-			check(rpmb_store(d->host, d->guest, line->number, line->bytes, line->len) == RPMB_OUT_OF_RANGE, "rpmb_store");
+		if (line->number > d->memory || line->len > d->memory - line->number)
 			end_outside(script, number);
-		}
-		put(d, line->number, line->bytes, line->len);
+		memcpy(d->ram + line->number, line->bytes, line->len);
 	}
 	if (line->kind == RESET) {
 		check(set_register(d, STATUS, 0) == RPMB_RESET, "a reset");
@@ -576,9 +578,18 @@ static void read_numbers(char *word, uint64_t numbers[NUMBERS])
 			refuse("a guest has ten numbers");
 		word = end + 1;
 	}
-	if (numbers[0] > 255 || numbers[1] > 255 || numbers[2] > 255 || numbers[4] < 1 || numbers[4] > PLACES
+	if (numbers[0] > 255 || numbers[1] > 255 || numbers[2] > 255 || numbers[4] < 2 || numbers[4] > PLACES
 	    || numbers[9] > 64)
 		refuse("a guest's numbers");
+}
+
+/* The library takes any memory, and any number of places: what a board file may say of them is looked at here. */
+static void check_layout(const struct driver *d)
+{
+	if (d->memory < LEAST_MEMORY || d->memory > MOST_MEMORY || d->buffers + PAIR * (uint64_t)d->size > d->memory)
+		refuse("a guest's memory");
+	if (!d->packed && (d->size & (d->size - 1)))
+		refuse("a guest's queue");
 }
 
 static void read_guest(struct board *b, uint16_t at, char *word)
@@ -588,13 +599,14 @@ static void read_guest(struct board *b, uint16_t at, char *word)
 	read_numbers(word, n);
 	b->guests[at] = (struct rpmb_guest){
 		.memory = n[3], .queue = (uint16_t)n[4], .most = (uint16_t)n[9], .capacity = (uint8_t)n[0],
-		.max_wr_cnt = (uint8_t)n[1], .max_rd_cnt = (uint8_t)n[2], .packed = n[5] != 0,
+		.max_wr_cnt = (uint8_t)n[1], .max_rd_cnt = (uint8_t)n[2],
 	};
 	b->drivers[at] = (struct driver){
 		.host = &b->host, .guest = at, .size = (uint16_t)n[4], .memory = n[3],
 		.packed = n[5] != 0, .indirect = n[6] != 0, .event_idx = n[7] != 0, .in_order = n[8] != 0,
 	};
 	lay_out(&b->drivers[at]);
+	check_layout(&b->drivers[at]);
 }
 
 /* The file of the image, which is fresh, or is read once it is synced. */

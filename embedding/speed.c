@@ -8,23 +8,23 @@
  *
  * It prints how many requests were timed, their nanoseconds, the writes, bytes and syncs of the image in that time, and
  * the most memory that the process had, in KiB. Reading a request and looking at its answer aren't timed. */
+#include "guest_ram.h"
 #include "rpmb_host.h"
 #include <fcntl.h>
 #include <stdio.h>
 #include <stdlib.h>
-#include <string.h>
 #include <sys/stat.h>
 #include <time.h>
 #include <unistd.h>
 
-enum { MOST = 64, WINDOW = 65536, PLACES = 2, RANGES = 64 };
+enum { MOST = 64, MEMORY = 65536, PLACES = 2 };
 /* where a guest puts its queue, its request and its answer */
 enum { DESCRIPTORS = 0x1000, DRIVER = 0x2000, DEVICE = 0x3000, REQUEST = 0x4000, ANSWER = 0x8000,
        LONGEST = ANSWER - REQUEST };
 
 static struct rpmb_guest board[MOST];
 static struct rpmb_host host;
-static unsigned char ram[MOST][WINDOW]; /* each guest's memory, all of which is its window */
+static _Alignas(8) unsigned char ram[MOST][MEMORY];
 static uint16_t guests, asked;          /* asked: how many requests each has offered */
 static unsigned char *image;
 static size_t length;
@@ -63,18 +63,21 @@ static void empty_outbox(void)
 /* Serves a guest to its next sync. Whether a sync is awaited. */
 static int serve(uint16_t guest)
 {
-	static struct rpmb_range ranges[RANGES];
-	struct rpmb_served served;
-	unsigned char *its = ram[guest];
+	static unsigned char bytes[RPMB_LARGEST_PART];
+	const struct guest_ram its = { &(struct guest_region){ 0, MEMORY, ram[guest] }, 1 };
+	struct rpmb_next next;
+	uint32_t done = 0;
 
 	do {
-		rpmb_serve(&host, guest, ranges, RANGES, &served);
-		check_fault(served.fault);
-		for (uint32_t i = 0; i < served.ranges; i++)
-			check_fault(rpmb_load(&host, guest, ranges[i].at, its + ranges[i].at, ranges[i].len));
+		rpmb_serve(&host, guest, done, bytes, sizeof bytes, &next);
 		empty_outbox();
-	} while (served.again);
-	return served.sync;
+		if (next.what == RPMB_READ)
+			done = guest_copy_in(&its, next.at, bytes, next.len);
+		if (next.what == RPMB_WRITE)
+			done = guest_copy_out(&its, next.at, bytes, next.len);
+	} while (next.what != RPMB_REST);
+	check_fault(next.fault);
+	return next.sync;
 }
 
 /* Syncs until no guest waits for it. */
@@ -89,11 +92,6 @@ static void settle(int awaited)
 			if (rpmb_waiting(&host, guest))
 				awaited = serve(guest);
 	}
-}
-
-static void store(uint16_t guest, uint32_t at, size_t len)
-{
-	check_fault(rpmb_store(&host, guest, at, ram[guest] + at, len));
 }
 
 /* The guests' half. */
@@ -125,7 +123,6 @@ static void describe(uint16_t guest, size_t len, size_t room)
 
 	put(its, REQUEST, 8), put(its + 8, len, 4), put(its + 12, 1, 2), put(its + 14, 1, 2);
 	put(its + 16, ANSWER, 8), put(its + 24, room, 4), put(its + 28, 2, 2), put(its + 30, 0, 2);
-	store(guest, DESCRIPTORS, 32);
 }
 
 /* Offers the chain once more: each place of the available ring has it. Whether a sync is awaited. */
@@ -133,8 +130,6 @@ static int offer(uint16_t guest, const unsigned char *request, size_t len)
 {
 	memcpy(ram[guest] + REQUEST, request, len);
 	put(ram[guest] + DRIVER + 2, asked, 2);
-	store(guest, REQUEST, len);
-	store(guest, DRIVER + 2, 2);
 	return rpmb_write(&host, guest, 0x050, 4, 0) == RPMB_NOTIFY ? serve(guest) : 0;
 }
 
@@ -183,7 +178,7 @@ static uint64_t ask(const unsigned char *request, size_t len, size_t room)
 static void open_board(const char *path)
 {
 	for (uint16_t guest = 0; guest < guests; guest++)
-		board[guest] = (struct rpmb_guest){ .memory = WINDOW, .queue = PLACES, .capacity = 1,
+		board[guest] = (struct rpmb_guest){ .memory = MEMORY, .queue = PLACES, .capacity = 1,
 			.max_wr_cnt = 16, .max_rd_cnt = 16 };
 	length = rpmb_image_length(board, guests);
 	image = malloc(length);

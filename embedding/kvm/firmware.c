@@ -1,7 +1,8 @@
 /* The firmware of a machine that has nothing but one processor in real mode, 64 KiB of memory and
  * an RPMB device. At each boot it asks for the write counter, programs its key at the first, writes
  * three blocks that hold the boot count, reads them back, and halts. Blocks and counter tell the
- * same count, since each boot makes one write: a write that is half there is seen. */
+ * same count, since each boot makes one write: a write that is half there is seen. While that is
+ * written it asks for the counter, and looks at its memory for both answers. */
 #include <stdbool.h>
 #include <stdint.h>
 #include "ports.h"
@@ -76,10 +77,10 @@ static volatile struct {
 	uint16_t avail_event;
 } used __attribute__((aligned(4)));
 
-static void set_area(uint32_t at, volatile void *area)
+static void set_area(uint32_t at, uint64_t area)
 {
 	out_register(at, (uint32_t)area);
-	out_register(at + 4, 0);
+	out_register(at + 4, (uint32_t)(area >> 32));
 }
 
 static void negotiate(void)
@@ -98,9 +99,9 @@ static void negotiate(void)
 	out_register(QUEUE_SEL, 0);
 	must(in_register(QUEUE_NUM_MAX) >= PLACES, NO_DEVICE);
 	out_register(QUEUE_NUM, PLACES);
-	set_area(QUEUE_DESC, descriptors);
-	set_area(QUEUE_DRIVER, &available);
-	set_area(QUEUE_DEVICE, &used);
+	set_area(QUEUE_DESC, (uint32_t)descriptors);
+	set_area(QUEUE_DRIVER, (uint32_t)&available);
+	set_area(QUEUE_DEVICE, HIGH + (uint32_t)&used);
 	out_register(QUEUE_READY, 1);
 	must(in_register(QUEUE_READY) == 1, NO_DEVICE);
 	out_register(STATUS, 15);
@@ -111,6 +112,7 @@ enum { KEY_MAC = 196, DATA = 228, NONCE = 484, COUNTER = 500, ADDRESS = 504, COU
        RESULT = 508, TYPE = 510 };
 enum { BLOCKS = 3 };
 static uint8_t request[BLOCKS + 1][512] __attribute__((aligned(16))), answer[BLOCKS][512];
+static uint8_t question[512], told[512];	/* the counter's, beside another request */
 static const uint8_t key[32] = "a key that this firmware keeps.";
 
 static uint32_t number(const uint8_t *at, int n)
@@ -130,24 +132,39 @@ static bool same(const uint8_t *a, const uint8_t *b, int n)
 	return true;
 }
 
-/* Gives the device a chain of so many frames, and waits for so many, by its interrupt. */
-static void ask(int frames, int frames_back)
+/* Gives the device a chain of so many frames, and room for so many, from this descriptor on. */
+static void offer(int first, const void *frames, int count, void *back, int count_back)
 {
-	descriptors[0].address = (uint32_t)request;
-	descriptors[0].length = 512 * frames;
-	descriptors[0].flags = 1; /* NEXT */
-	descriptors[0].next = 1;
-	descriptors[1].address = (uint32_t)answer;
-	descriptors[1].length = 512 * frames_back;
-	descriptors[1].flags = 2; /* WRITE */
-	available.ring[available.index % PLACES] = 0;
+	descriptors[first].address = HIGH + (uint32_t)frames;
+	descriptors[first].length = 512 * count;
+	descriptors[first].flags = 1; /* NEXT */
+	descriptors[first].next = first + 1;
+	descriptors[first + 1].address = (uint32_t)back;
+	descriptors[first + 1].length = 512 * count_back;
+	descriptors[first + 1].flags = 2; /* WRITE */
+	available.ring[available.index % PLACES] = first;
+	__asm__ volatile("" ::: "memory");
 	available.index++;
 	out_register(QUEUE_NOTIFY, 0);
+}
+
+/* Waits for all that was offered: in memory, and then for the interrupt that tells of it. */
+static void await(int count_back)
+{
 	uint32_t status;
-	for (int i = 0; !(status = in_register(INTERRUPT_STATUS)); i++) must(i < 1000, NO_ANSWER);
+	for (uint32_t i = 0; used.index != available.index; i++) {
+		must(i < 0x40000000, NO_ANSWER);
+		__asm__ volatile("pause" ::: "memory");
+	}
+	for (int i = 0; !(status = in_register(INTERRUPT_STATUS)); i++) must(i < 1000000, NO_ANSWER);
 	out_register(INTERRUPT_ACK, status);
-	must(used.index == available.index, NO_ANSWER);
-	must(used.ring[(uint16_t)(used.index - 1) % PLACES].length == 512u * frames_back, NO_ANSWER);
+	must(used.ring[(uint16_t)(used.index - 1) % PLACES].length == 512u * count_back, NO_ANSWER);
+}
+
+static void ask(int frames, int frames_back)
+{
+	offer(0, request, frames, answer, frames_back);
+	await(frames_back);
 }
 
 /* The result of an answer of so many frames, whose MAC is right where there is a key. */
@@ -223,8 +240,14 @@ static void write_blocks(uint32_t counter, uint32_t count)
 	}
 	hmac256(key, request[0] + DATA, 284, BLOCKS, request[BLOCKS - 1] + KEY_MAC);
 	set_number(request[BLOCKS] + TYPE, 2, 5);
-	ask(BLOCKS + 1, 1);
+	memset(question, 0, 512);
+	set_number(question + COUNT, 2, 1);
+	set_number(question + TYPE, 2, 2);
+	offer(0, request, BLOCKS + 1, answer, 1);
+	offer(2, question, 1, told, 1);
+	await(1);
 	must(checked(0x300, 1) == 0, REFUSED);
+	must(number(told + TYPE, 2) == 0x200 && number(told + COUNTER, 4) == counter + 1, OTHER_BLOCKS);
 	must(number(answer[0] + COUNTER, 4) == counter + 1, OTHER_BLOCKS);
 }
 

@@ -1,7 +1,8 @@
 /* Where firmware and monitor meet: addresses, ports, and what the firmware stops with. */
 #ifndef PORTS_H
 #define PORTS_H
-#define WINDOW 0x10000		/* all of the machine's memory, from guest address 0 on */
+#define MEMORY 0x10000		/* the machine's memory, from guest address 0 on, */
+#define HIGH 0x140000000ull	/* and from here on once more, where the device alone gets */
 #define FIRMWARE 0x1000		/* the firmware's first byte, where the processor begins */
 #define STACK 0xfff0
 #define REGISTERS 0xd0000	/* of the device: 512 bytes */

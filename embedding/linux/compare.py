@@ -1,7 +1,8 @@
 """compare.py DRIVE REQUESTS [SEED]: random requests through Linux's drivers, against partition.py.
 
-Two guests stand on each board; every form of queue has its turn as either. Ends with 0 where
-no answer differs, none is lost, the kernel warns of nothing and no other byte is written."""
+Two guests stand on each board; every form of queue has its turn as either. Their drivers run in a
+thread beside the monitor's. Ends with 0 where no answer differs, none is lost, nor an interrupt or a
+notification, the kernel warns of nothing and no other byte of a request or an answer is written."""
 import os
 import random
 import subprocess
@@ -18,6 +19,7 @@ FORMS = [(packed, size, indirect, event)
          for indirect in (0, 1) for event in (0, 1)]
 STOPPED, BUSY, DISK_FAULT = '4', '5', '7'
 MOST_LINES = 20     # of differences that are told
+STORM = 400         # counter requests at the end of a run
 
 
 class Guest:
@@ -30,20 +32,20 @@ class Guest:
             | (0 if self.event else EVENT)
         self.platform = r.random() < 0.4
         self.capped = self.size != 256 or r.random() < 0.5
-        # a board has no guest whose memory is smaller than what the project's own driver lays out
-        self.memory = max(r.choice((1 << 18, 1 << 20, 1 << 20, 3 << 20)), 4096 + 17000 * self.size)
+        # of each of its two pieces of RAM: room for most of a full queue's buffers, or for all of them
+        self.memory = max(r.choice((1 << 18, 1 << 20, 1 << 20, 3 << 20)), 4096 + 8504 * self.size)
         self.most = r.choice((0, 0, 0, 0, 1, 2, 5))
         limits = (r.choice((1, 1, 2)), r.choice((1, 3, 16, 16)), r.choice((1, 4, 16, 16)))
         self.capacity, self.wr, self.rd = limits
         self.now = partition.Partition(*limits)     # as far as the device has looked
         self.ahead = self.now.copy()                # with what it hasn't seen yet
         self.key = r.randbytes(32)
-        self.unseen, self.expected = [], {}
+        self.unseen, self.expected, self.taken = [], {}, 0
         self.states = [(-1, self.now.copy())]       # that told, then one an acceptance untold
 
     def words(self):
-        return f'{self.memory},{self.withheld:x},{self.size},{self.most},{self.capacity},' \
-            f'{self.wr},{self.rd},{self.packed},{int(self.capped)},{int(self.platform)}'
+        return f'{self.memory},{self.withheld:x},{self.size if self.capped else 0},{self.most},' \
+            f'{self.capacity},{self.wr},{self.rd},{int(self.platform)}'
 
     def form(self):
         return ('packed' if self.packed else 'split') + f' {self.size}' \
@@ -64,23 +66,27 @@ class Guest:
         if (self.ahead.key, self.ahead.counter) != before:
             self.states.append((number, self.ahead.copy()))
 
-    def looked_at(self):
-        for _, readable, room in self.unseen:
+    def was_taken(self, count):
+        """The device took so many of the chains since its reset. Whether these were offered."""
+        news = self.unseen[:count - self.taken]
+        for _, readable, room in news:
             self.now.submit(readable, room)
-        self.unseen = []
+        self.unseen = self.unseen[len(news):]
+        self.taken += len(news)
+        return self.taken == count
 
     def was_told(self, number):
         """What stood at this chain can't be lost any more."""
         while len(self.states) > 1 and self.states[1][0] <= number:
             self.states.pop(0)
 
-    def begin_session(self):
-        """A reset: what the device hasn't seen is gone."""
-        gone = {number for number, _, _ in self.unseen}
+    def begin_session(self, is_any=False):
+        """A reset: what the device hasn't seen is gone, or may be."""
+        gone = set() if is_any else {number for number, _, _ in self.unseen}
         self.states = [state for state in self.states if state[0] not in gone]
         self.now.begin_session()
         self.ahead = self.now.copy()
-        self.unseen, self.expected = [], {}
+        self.unseen, self.expected, self.taken = [], {}, 0
 
 
 class Run:
@@ -93,8 +99,8 @@ class Run:
         self.openings, self.stops, self.broken, self.failures = 1, 0, 0, 0
         self.lost, self.is_broken, self.told, self.results, self.next_id = 0, False, [], {}, 0
         self.spoiled, self.faults = 0, {BUSY}      # those that serve may tell now
-        options = ['check', f'seed={seed}', f'room={self.r.choice((16, 64, 512))}']
-        options += ['whole'] * (self.r.random() < 0.2) + ['ordered'] * (self.r.random() < 0.3)
+        self.is_storming, self.sleeps, self.hurried = False, 0, 0
+        options = [f'seed={seed}'] + ['ordered'] * (self.r.random() < 0.3)
         words = [program, image, 'format', ','.join(options)] + [g.words() for g in self.guests]
         self.said = f'seed {seed}: ' + ' '.join(words[3:])
         self.child = subprocess.Popen(words, stdin=subprocess.PIPE, stdout=subprocess.PIPE,
@@ -111,8 +117,11 @@ class Run:
             words = line.split()
             if words[0] in ends:
                 return words
-            if words[0] == 'served':
-                self.guests[int(words[1])].looked_at()
+            if words[0] == 'taken':
+                if self.is_storming:
+                    self.guests[int(words[1])].taken = int(words[2])
+                elif not self.guests[int(words[1])].was_taken(int(words[2])):
+                    self.differ(f'told: {line.strip()}')
             elif words[0] == 'used':
                 self.judge(self.guests[int(words[1])], int(words[2]), int(words[3]), words[4])
             elif words[0] != 'fault' or words[2] not in self.faults:
@@ -180,13 +189,22 @@ class Run:
                 self.differ(f'chain {number} of guest {guest.number} [{guest.form()}] is lost')
             guest.expected = {}
 
-    def reset(self, guest):
+    def reset(self, guest, word='reset'):
         self.resets += 1
-        words = self.ask(f'reset {guest.number}', 'reset')
+        words = self.ask(f'{word} {guest.number}', 'reset')
         self.dropped += int(words[2])
         if words[3] != ('11' if guest.platform and not guest.withheld else '3'):
             self.differ(f'features that were withheld were taken: Status {words[3]}')
-        guest.begin_session()
+        guest.begin_session(word == 'hurry')
+
+    def hurry(self, guest):
+        """A reset while the device is served: any front of what was offered was taken."""
+        self.sync()
+        self.batch(guest)
+        self.ask(f'go {guest.number}', 'gone')
+        self.hurried += 1
+        self.reset(guest, 'hurry')
+        self.find_state(guest)
 
     def reopen(self):
         self.sync()
@@ -194,6 +212,7 @@ class Run:
         self.ask('reopen', 'reopened')
         for guest in self.guests:
             guest.begin_session()
+        for guest in self.guests:
             self.read_back(guest)
 
     def stop(self):
@@ -206,24 +225,28 @@ class Run:
         self.is_broken = False
         self.faults.discard(DISK_FAULT)
         for guest in self.guests:
+            guest.begin_session()
+        for guest in self.guests:
             self.find_state(guest)
 
     def find_state(self, guest):
         request = partition.frame(req_resp=partition.GET_COUNTER, block_count=1), 512
-        guest.begin_session()
         answers = {state.copy().submit(*request): state for _, state in guest.states}
         self.add(guest, request)
         number, got, judge = self.next_id - 1, [], self.judge
         self.judge = lambda g, n, length, digits: got.append((n, bytes.fromhex(digits)))
         self.kick(guest)
+        self.ask('sync', 'synced')
         self.judge = judge
         self.answers += 1
         if len(got) != 1 or got[0][0] != number or got[0][1] not in answers:
-            self.differ(f'guest {guest.number} [{guest.form()}]: a stop left another state')
+            self.differ(f'guest {guest.number} [{guest.form()}]: a stop or a reset left another state')
             raise SystemExit('\n'.join([self.said] + self.told))
         found = answers[got[0][1]]
+        taken = guest.taken
         guest.now, guest.states = found.copy(), [(-1, found.copy())]
         guest.begin_session()
+        guest.taken = taken
         self.read_back(guest)
 
     def read_back(self, guest):
@@ -274,7 +297,8 @@ class Run:
         guest = self.r.choice(self.guests)
         self.batch(guest)
         if self.r.random() < 0.65:
-            self.kick(guest)
+            # mostly nobody waits: the next requests are offered while these are served
+            self.kick(guest) if self.r.random() < 0.2 else self.ask(f'go {guest.number}', 'gone')
         if self.r.random() < 0.45:
             self.sync()
         self.turn(guest, self.r.randrange(100))
@@ -282,13 +306,9 @@ class Run:
     def turn(self, guest, k):
         """Now and then something else than requests."""
         if k < 5:
-            # how many of its chains were taken isn't known where no more may be
-            if guest.most or len(guest.expected) > 60:
-                self.sync()
-                self.batch(guest)
-                if len(guest.expected) > len(guest.unseen):     # a full ring notified by itself
-                    self.sync()
             self.reset(guest)
+        elif k >= 92:
+            self.hurry(guest)
         elif k < 8 and not guest.packed:
             self.spoil(guest)
         elif k == 8:
@@ -308,11 +328,22 @@ class Run:
                     bool(x) for x in (guest.packed, guest.indirect, guest.event, guest.platform)]:
                 self.differ('configuration: ' + ' '.join(words))
 
+    def storm(self):
+        """Counter requests as fast as they go: no answer is wrong, no wake-up lost."""
+        self.sync()
+        self.is_storming = True
+        words = self.ask(f'storm {STORM}', 'stormed')
+        self.is_storming = False
+        self.sleeps = int(words[4])
+        if words[2] != '0' or words[3] != '0':
+            self.differ('a storm: ' + ' '.join(words))
+
     def end(self):
         self.sync()
+        self.storm()
         words = self.ask('stats', 'stats')[1:]
         self.stats = {k: int(v) for k, v in zip(words[::2], words[1::2])}
-        for name in ('warnings', 'outside', 'spoiled'):
+        for name in ('warnings', 'spoiled'):
             if self.stats[name]:
                 self.differ(f'{name}: {self.stats[name]}')
         self.child.communicate('quit\n')
@@ -342,19 +373,20 @@ def print_table(runs):
             ('boards, of two guests each', len(runs)), ('requests', add('made')),
             ('answers', add('answers')),
             ('results', ', '.join(f'{k:#x}: {n}' for k, n in sorted(results.items()))),
-            ('resets', add('resets')), ('chains that resets dropped', add('dropped')),
+            ('resets', add('resets')), ('of these, while it was served', add('hurried')),
+            ('chains that resets dropped', add('dropped')),
             ('rings that were spoiled', add('spoiled')), ('openings', add('openings')),
             ('stops between two syncs', add('stops')),
             ('disks that failed', add('broken')), ('failures told then', add('failures')),
+            ('requests of storms', STORM * len(runs)), ('sleeps then', add('sleeps')),
             ('exits to QueueNotify', stat('kicks')), ('serves', stat('serves')),
-            ('serves that asked for another', stat('again')),
+            ('calls of them', stat('calls')), ('notifications', stat('interrupts')),
             ('writes of the outbox', stat('outbox')),
             ('of these, over an earlier one', stat('overlaps')),
             ('of these, behind an awaited sync', stat('late')), ('syncs', stat('syncs')),
-            ('bytes stored', stat('stored')), ('bytes loaded', stat('loaded')),
+            ('bytes copied in', stat('copied_in')), ('bytes copied out', stat('copied_out')),
             ('mappings that were bounced', stat('maps')), ('chains lost', add('lost')),
             ('kernel warnings', stat('warnings')),
-            ('serves that wrote elsewhere', stat('outside')),
             ('chains written elsewhere', stat('spoiled')), ('differences', add('differences'))]
     for name, value in rows:
         print(f'{name:34} {value}')

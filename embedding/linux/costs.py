@@ -1,19 +1,19 @@
-"""costs.py DRIVE [N]: what the library's calls cost with Linux's driver before them, on one thread.
+"""costs.py DRIVE [N]: what the library's calls cost with Linux's driver before them, in a thread beside.
 
-Of each kind of kick: nanoseconds within the library's serves, within stores and loads of the window
-(with the comparison of its pages), and on the file; and how many writes and syncs the file took."""
+Of each kind of kick: nanoseconds within the library's serves, within copies from and to the guest's
+memory, and on the file; and how many writes and syncs the file took."""
 import os
 import subprocess
 import sys
 import tempfile
 import partition as p
 
-WINDOW = 1 << 19
+MEMORY = 1 << 19
 
 
 class Drive:
     def __init__(self, program, image, features):
-        words = [program, image, 'format', '-', f'{WINDOW},{features},16,0,1,16,16,1,1,0']
+        words = [program, image, 'format', '-', f'{MEMORY},{features},16,0,1,16,16,0']
         self.child = subprocess.Popen(words, stdin=subprocess.PIPE, stdout=subprocess.PIPE,
                                       text=True)
         self.number = 0
@@ -66,7 +66,7 @@ def measure(drive, name, kicks):
     each = lambda word: (after[word] - before[word]) / count
     print(f'{name:34} {each("register_ns"):9.0f} {each("serve_ns"):9.0f} {each("copy_ns"):9.0f} '
           f'{each("disk_ns"):9.0f} {each("outbox"):7.1f} {each("syncs"):6.1f} '
-          f'{each("serves"):7.1f} {each("stored"):8.0f} {each("loaded"):7.0f}')
+          f'{each("serves"):7.1f} {each("calls"):7.1f} {each("copied_in"):8.0f} {each("copied_out"):7.0f}')
 
 
 def main(program, count):
@@ -79,7 +79,7 @@ def main(program, count):
         print(f'a read of Status {words[1]} ns, a write of QueueSel {words[3]} ns, '
               f'a serve of nothing {words[5]} ns')
         print(f'{"a kick of":34} {"registers":>9} {"serves":>9} {"copies":>9} {"file ns":>9} '
-              f'{"writes":>7} {"syncs":>6} {"serves":>7} {"stored":>8} {"loaded":>7}')
+              f'{"writes":>7} {"syncs":>6} {"serves":>7} {"calls":>7} {"in":>8} {"out":>7}')
         drive.kick([(p.frame(req_resp=p.PROGRAM_KEY, key_mac=key, block_count=1)
                      + p.frame(req_resp=p.RESULT_READ), 512)])
         measure(drive, 'a counter request', ([counter] for _ in range(count)))

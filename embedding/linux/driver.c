@@ -24,6 +24,7 @@ static struct rpmb {
 	unsigned long configured;
 } drivers[SHIM_GUESTS];
 struct counted driver_counts;
+bool driver_storms;
 
 static void forget(struct request *r)
 {
@@ -59,6 +60,14 @@ static void print_answer(const struct request *r, size_t length)
 	printf("used %d %ld %zu %s\n", r->guest, r->id, length, n ? text : "-");
 }
 
+/* A counter's answer repeats its nonce; its result is OK, or that there is no key. */
+static bool is_counter(const struct request *r, size_t length)
+{
+	const u8 *a = r->in;
+	return length == 512 && !memcmp(a + 484, r->sent + 484, 16) && a[510] == 2 && a[511] == 0 &&
+	       a[508] == 0 && (a[509] == 0 || a[509] == 7);
+}
+
 static void answered(struct virtqueue *queue)
 {
 	struct request *r;
@@ -66,7 +75,8 @@ static void answered(struct virtqueue *queue)
 	do {
 		virtqueue_disable_cb(queue);
 		while ((r = virtqueue_get_buf(queue, &length))) {
-			print_answer(r, length);
+			if (!driver_storms) print_answer(r, length);
+			else driver_counts.wrong += !is_counter(r, length);
 			driver_counts.answered++;
 			driver_counts.spoiled += is_spoiled(r, length);
 			forget(r);
@@ -229,7 +239,7 @@ bool driver_broken(int guest) { return virtqueue_is_broken(drivers[guest].queue)
 void driver_spoil(int guest)
 {
 	u64 at = virtqueue_get_avail_addr(drivers[guest].queue);
-	*(u16 *)(windows[guest].base + at + 2) += 300;
+	*(u16 *)(rams[guest].base + at + 2) += 300;
 }
 
 unsigned long driver_changes(int guest) { return drivers[guest].configured; }

@@ -3,8 +3,9 @@
 #define DRIVER_H
 #include "shim.h"
 
-struct counted { unsigned long answered, spoiled; };
+struct counted { unsigned long answered, spoiled, wrong; };
 extern struct counted driver_counts;
+extern bool driver_storms;	/* answers are those of counter requests, looked at and not printed */
 
 /* Registers Linux's own drivers and this one. */
 int driver_register_all(void);

@@ -5,8 +5,8 @@ use Rattle.std.proofs.Common.{length-set}
 use Rattle.board.proofs.Common.{slice_get, slice_set, slice_get-map, DiskCall, DiskState, Effect}
 use Rattle.board.proofs.Common.{DeviceState, Job, Done, BoardState, Answer, PopsInto, job_of, put}
 use Rattle.board.proofs.Common.{IsSound, state, AreOfBoard, in_place, option_map, length-map, Does}
-use Rattle.board.proofs.Common.{Step, slice_index_or, slice_get-get_or, GuestConfig, first_state}
-use Rattle.board.proofs.Common.{first_devices}
+use Rattle.board.proofs.Common.{Step, slice_index_or, slice_get-get_or, GuestConfig}
+use Rattle.board.proofs.Common.{Begins, bases_of, parts_of}
 use Rattle.rpmb_book.specs.Audit.{HasHistory}
 use Rattle.rpmb_book.specs.Sound.{IsSound as IsSoundBook}
 use Rattle.guest_memory.specs.Memory.{Span}
@@ -26,7 +26,8 @@ use Rattle.board.specs.Moving.{Moves}
 use Rattle.board.specs.State.{with_devices}
 use Rattle.board.specs.declared.step.Step.TheVariants as step
 use Rattle.board.proofs.Doing.{set_same, full_at}
-use Rattle.board.proofs.Moving.{made, left_moves}
+use Rattle.board.proofs.Moving.{made, left_moves, sound_moved, still_moves}
+use Rattle.board.specs.Opening.{begun}
 
 -- one element is another
 pub map-set : {X Y : Type 0} (f : X → Y) (xs : List X) (k : ℕ) (x : X)
@@ -41,7 +42,7 @@ get_mapped : {X Y : Type 0} (f : X → Y) (xs : List X) (k : ℕ) (x : X) → sl
 get_mapped f xs k x at = slice_get-map f xs k ∙ ap (option_map f) at
 
 -- of which a mapping sees nothing
-unseen : {X Y : Type 0} (f : X → Y) (xs : List X) (k : ℕ) (x x' : X)
+pub unseen : {X Y : Type 0} (f : X → Y) (xs : List X) (k : ℕ) (x x' : X)
     → slice_get xs k ≡ Some x → f x' ≡ f x → map f (slice_set xs k x') ≡ map f xs
 unseen f xs k x x' at same =
     map-set f xs k x' ∙ ap (slice_set (map f xs) k) same
@@ -183,8 +184,26 @@ pub lent : (ds : List AskingState) (at : ℕ) (a : AskingState) → at < length 
     → a ≡ slice_index_or ds at a → slice_get ds at ≡ Some a
 lent ds at a below read = slice_get-get_or ds at a below ∙ ap Some (sym read)
 
--- fresh devices, as a board's
-pub asked_devices : (n : ℕ) (cs : List GuestConfig)
-    → map device_in (first_asked n cs) ≡ first_devices n cs
-asked_devices n [] = refl
-asked_devices n (c ∷ cs) = ap (λ ds. first_state n c ∷ ds) (asked_devices (n + 1) cs)
+first_asked_count : (n : ℕ) (cs : List GuestConfig) → length (first_asked n cs) ≡ length cs
+first_asked_count n [] = refl
+first_asked_count n (c ∷ cs) = ap suc (first_asked_count (n + 1) cs)
+
+-- a board that was opened, with devices of its own
+pub asked_sound : {D : Type 0} (shows : D → DiskState) (makes : D → DiskCall → D → Type 0)
+    (life : ℕ) (config devices : List GuestConfig) (rest : BoardState D)
+    → length devices ≡ length config → Begins shows life config (begun config rest)
+    → IsSound shows (with_devices (map device_in (first_asked 0 devices)) rest)
+asked_sound shows makes life config devices rest many begins =
+    let b = begun config rest in
+    let ds = map device_in (first_asked 0 devices) in
+    sound_moved shows makes b (with_devices ds rest)
+    (record {
+      config = config;
+      bases = bases_of begins.partitions;
+      accepted = λ g. [];
+      parts = parts_of begins.partitions;
+      linked = begins.linked;
+    })
+    (still_moves shows makes b ds b.jobs
+    (length-map (first_asked 0 devices) device_in ∙ first_asked_count 0 devices ∙ many
+    ∙ sym begins.linked.places.devices) refl)

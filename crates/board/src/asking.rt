@@ -10,7 +10,7 @@ ghost use Rattle.recovery.specs.Reading.{is_disk_fault};
 ghost use Rattle.board.specs.Asking.{PopsAsked, PublishesOf, StepsAsked, board_of, first_asked};
 ghost use Rattle.board.specs.Asking.{as_boards};
 ghost use Rattle.board.specs.Board.{IsSound};
-ghost use Rattle.board.specs.Opening.{Begins, Calls, Finds, disk_left, opening_of};
+ghost use Rattle.board.specs.Opening.{Begins, Calls, Finds, begun, disk_left, opening_of};
 ghost use Rattle.board.specs.Steps.{answer_by, did_answer};
 ghost use Rattle.board.specs.Telling.{telling};
 ghost use Rattle.board.specs.declared.step.Step.TheVariants as step;
@@ -24,7 +24,7 @@ use guest_memory::Ask;
 use mmio_transport::{AskingDevice, PopFault, Published};
 use recovery::OpenFault;
 use rpmb_book::Refused;
-use rpmb_frame::BoardConfig;
+use rpmb_frame::{BoardConfig, GuestConfig};
 use std::alloc::Global;
 use std::marker::Model;
 
@@ -56,17 +56,20 @@ impl<D: Disk> AskingBoard<D> {
     ghost use Rattle.board.specs.Lending.{lends_asking};
 
     /// Opens the image of a disk that a stop may have left, as [`crate::Board::open`] does, with
-    /// the same refusals. No device has a copy of any byte.
+    /// the same refusals. The guests' devices are set up as `devices` says, whose memories may have
+    /// any size; none has a copy of any byte.
     pub fn open(
         alloc: Global,
         disk: D,
         life: u64,
         config: &BoardConfig,
+        devices: &[GuestConfig],
     ) -> Result<AskingBoard<D>, (D, OpenFault)>
-        ensures begins { IfOk result (λ b. Begins D.state life config.now (board_of b)) }
-        ensures fresh { IfOk result (λ b. b.devices ≡ first_asked 0 config.now) }
+        requires { length devices.now ≡ length config.now }
+        ensures begins { IfOk result (λ b. Begins D.state life config.now (begun config.now b.rest)) }
+        ensures fresh { IfOk result (λ b. b.devices ≡ first_asked 0 devices.now) }
         ensures found { IfOk result (λ b. (D.state disk).faithful ≡ true
-            → Finds D.state config.now (D.state disk) (board_of b)) }
+            → Finds D.state config.now (D.state disk) (begun config.now b.rest)) }
         ensures answers { (D.state disk).faithful ≡ true
             → Answers (capacities_of config.now)
             (D.state disk).len (D.state disk).seen (opening_of (as_boards result)) }
@@ -76,7 +79,8 @@ impl<D: Disk> AskingBoard<D> {
         ensures any_moment { Within D.state D.makes (Untouched (D.state disk)) disk
             (disk_left (as_boards result)) }
     {
-        let Ok(devices) = asking_devices(alloc, config) else {
+        let _guests = config.guests(); // for the checker: they are at most 64
+        let Ok(devices) = asking_devices(alloc, devices) else {
             return Err((disk, OpenFault::NoMemory));
         };
         let rest = Rest::open(alloc, disk, life, config)?;

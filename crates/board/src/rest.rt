@@ -13,7 +13,7 @@ ghost use Rattle.rpmb_book.specs.Audit.{HasHistory};
 ghost use Rattle.rpmb_book.specs.Replay.{opened};
 ghost use Rattle.rpmb_book.specs.Sound.{AreOfBoard, IsSound as IsSoundBook};
 ghost use Rattle.board.specs.State.{Marks as MarksReport, emptied, in_place, report_seen};
-ghost use Rattle.board.specs.State.{owes, without_devices};
+ghost use Rattle.board.specs.State.{without_devices};
 ghost use Rattle.board.specs.Opening.{Begins, Calls, Finds, begun, disk_left, new_board, opening_of};
 ghost use Rattle.board.specs.Steps.{AdvancesUnder, advance_answer, answer_by, did_answer};
 ghost use Rattle.board.specs.Steps.{CollectsInto, GivesWhere, SettlesBy, SubmitsFrom, TakesInto};
@@ -212,21 +212,6 @@ impl<D: Disk> Rest<D> {
         ensures { option_copied result ≡ in_place (slice_get self.now.dones guest) }
     {
         self.dones.get(usize::from(guest))?.as_ref()
-    }
-
-    /// Whether a chain of the guest was popped whose reply its device hasn't written: it is to be
-    /// answered, its reply is held until it may leave, or is to be written. Not so of a guest that
-    /// the board lacks.
-    pub fn owes(&self, guest: u16) -> bool
-        ensures { result ≡ owes guest self.now }
-    {
-        if self.job(guest).is_some() || self.done(guest).is_some() {
-            return true;
-        }
-        match self.book.held(guest) {
-            Some(held) => held > 0,
-            None => false,
-        }
     }
 
     /// Whether a guest's place for a job is there, and empty.

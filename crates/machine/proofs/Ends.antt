@@ -1,21 +1,11 @@
--- What a serve tells at its end.
+-- Where no reply of a guest may leave.
 use Rattle.std.proofs.Common.{◌≡◌, ◌≢◌, refl, ap, sym, ◌∙◌, ℕ, Option, Some, None}
 use Rattle.machine.proofs.Common.{slice_get, is_some, get_set_same, Done, BoardState, in_place, put}
-use Rattle.machine.proofs.Common.{Answer, CollectsInto, told_fault, Left, Offered}
+use Rattle.machine.proofs.Common.{Answer, CollectsInto}
 use Rattle.std.specs.Prelude.{if◌then◌else◌}
 use Rattle.rpmb_book.specs.Book.{due_of, with_turn}
 use Rattle.rpmb_book.specs.Turn.{Collect}
-use Rattle.machine.specs.Stepping.{HasNoReply}
-use Rattle.machine.specs.declared.leaving.Left.TheVariants as left
-use Rattle.machine.specs.declared.offering.Offered.TheVariants as offered
-
--- where no fault is told, and the limit wasn't met, no reply may leave
-pub all_left : (o : Offered) (l : Left) → told_fault o l ≡ None → l ≢ left.Limit → l ≡ left.All
-all_left o left.All none not = refl
-all_left o left.Limit none not = absurd (not refl)
-all_left offered.All (left.Refused fault) none not = absurd (cc)
-all_left offered.Limit (left.Refused fault) none not = absurd (cc)
-all_left (offered.Refused f) (left.Refused fault) none not = absurd (cc)
+use Rattle.machine.specs.Serving.{HasNoReply}
 
 -- a collection after which nothing lies in the reply's place
 module _ {D : Type 0} (g : ℕ) (old : BoardState D) where

@@ -1,14 +1,15 @@
 -- What the steps of one guest leave of the others.
-use Rattle.std.proofs.Common.{◌≡◌, ◌≢◌, refl, sym, subst, ◌∙◌, inl, inr, ℕ, Bool, true, false, List}
-use Rattle.std.proofs.Common.{Option, Some, None}
-use Rattle.machine.proofs.Common.{slice_get, DiskCall, DiskState, Intent, DeviceState, Done, Job}
-use Rattle.machine.proofs.Common.{Tally, BoardState, Fault, Marks, Report, put, AdvancesUnder}
-use Rattle.machine.proofs.Common.{Answer, CollectsInto, Does, GivesWhere, PopsInto, PublishesFrom}
+use Rattle.std.proofs.Common.{◌≡◌, ◌≢◌, refl, sym, subst, ap, ◌∙◌, inl, inr, ℕ, Bool, true, false, List}
+use Rattle.std.proofs.Common.{[], ◌∷◌, Option, Some, None}
+use Rattle.machine.proofs.Common.{slice_get, slice_set, DiskCall, DiskState, Intent, DeviceState}
+use Rattle.machine.proofs.Common.{Done, Job, Tally, BoardState, Fault, Marks, Report, put}
+use Rattle.machine.proofs.Common.{AdvancesUnder, Answer, CollectsInto, Does, GivesWhere, PopsInto}
 use Rattle.machine.proofs.Common.{SettlesBy, SubmitsFrom, TakesInto, Step, IsShare, Runs, Still}
-use Rattle.machine.proofs.Common.{Then}
-use Rattle.flusher.proofs.Guests.{get_set_other}
+use Rattle.machine.proofs.Common.{Then, Pops, Hands, LearnsOf, Copies, Voids, Boards, Range, Knows}
+use Rattle.machine.proofs.Common.{HandsOne, OutboxMakes, OutboxState, outbox_state, board_of}
+use Rattle.machine.proofs.Common.{with_devices, get_set_other, OthersStay}
 use Rattle.board.specs.declared.step.Step.TheVariants as step
-use Rattle.machine.specs.Serving.{OthersStay}
+use Rattle.board.proofs.AskingSteps.{device_in, map-set}
 
 -- something is put into one place
 put_other : {X : Type 0} (places : List (Option X)) (g k : ℕ) (o : Option X) → k ≢ g
@@ -45,18 +46,6 @@ module _ {D : Type 0} (shows : D → DiskState) (makes : D → DiskCall → D �
           devices = λ k other. get_set_other old.devices g k does.device other;
           jobs = λ k other. put_other old.jobs g k _ other;
           dones = λ k other. refl;
-          intents = λ k other. refl;
-        })
-
-    publish_stays : (answer : Answer) (new : BoardState D) (done : Option Done)
-        (o : Option DeviceState) → PublishesFrom g done o answer old new → OthersStay g old new
-    publish_stays answer new reply None does = stays_same old new does.1
-    publish_stays answer new None (Some d) does = stays_same old new does.1
-    publish_stays answer new (Some r) (Some d) does =
-        subst (OthersStay g old) (sym does.after) (record {
-          devices = λ k other. get_set_other old.devices g k does.device other;
-          jobs = λ k other. refl;
-          dones = λ k other. get_set_other old.dones g k None other;
           intents = λ k other. refl;
         })
 
@@ -139,29 +128,72 @@ module _ {D : Type 0} (shows : D → DiskState) (makes : D → DiskCall → D �
         })
 
 -- the guest of a step is the one that is served
-module _ {D : Type 0} (shows : D → DiskState) (makes : D → DiskCall → D → Type 0) (guest : ℕ) where
-  one_stays : (s : Step) (answer : Answer) (old new : BoardState D) → IsShare guest s
-      → Does shows makes s answer old new → OthersStay guest old new
+module _ (guest : ℕ) where
+  one_stays : (s : Step) (answer : Answer) (old new : BoardState OutboxState) → IsShare guest s
+      → Does outbox_state OutboxMakes s answer old new → OthersStay guest old new
   one_stays (step.Drive g act) answer old new share does = absurd share
-  one_stays (step.Pop g) answer old new share does =
-      subst (λ n. OthersStay n old new) share (pop_stays shows makes g old answer new _ _ does)
-  one_stays (step.Submit g) answer old new share does =
-      subst (λ n. OthersStay n old new) share (submit_stays shows makes g old answer new _ _ does)
-  one_stays (step.Collect g) answer old new share does =
-      subst (λ n. OthersStay n old new) share (collect_stays shows makes g old answer new _ does)
-  one_stays (step.Publish g) answer old new share does =
-      subst (λ n. OthersStay n old new) share (publish_stays shows makes g old answer new _ _ does)
-  one_stays (step.Take g) answer old new share does =
-      subst (λ n. OthersStay n old new) share (take_stays shows makes g old answer new _ does)
-  one_stays (step.Give g) answer old new share does =
-      subst (λ n. OthersStay n old new) share (give_stays shows makes g old answer new _ _ does)
+  one_stays (step.Pop g) answer old new share does = absurd share
+  one_stays (step.Submit g) answer old new share does = subst (λ n. OthersStay n old new) share
+      (submit_stays outbox_state OutboxMakes g old answer new _ _ does)
+  one_stays (step.Collect g) answer old new share does = subst (λ n. OthersStay n old new) share
+      (collect_stays outbox_state OutboxMakes g old answer new _ does)
+  one_stays (step.Publish g) answer old new share does = absurd share
+  one_stays (step.Take g) answer old new share does = subst (λ n. OthersStay n old new) share
+      (take_stays outbox_state OutboxMakes g old answer new _ does)
+  one_stays (step.Give g) answer old new share does = subst (λ n. OthersStay n old new) share
+      (give_stays outbox_state OutboxMakes g old answer new _ _ does)
   one_stays step.Advance answer old new share does =
-      advance_stays shows makes guest old answer new _ does
-  one_stays step.Settle answer old new share does = settle_stays shows makes guest old answer new _
-      does
+      advance_stays outbox_state OutboxMakes guest old answer new _ does
+  one_stays step.Settle answer old new share does =
+      settle_stays outbox_state OutboxMakes guest old answer new _ does
 
-  pub others_stay : (old new : BoardState D) → Runs shows makes guest old new
-      → OthersStay guest old new
-  others_stay old new (Still b) = stays_same shows makes guest b b refl
-  others_stay old new (Then a b c s answer runs share does) =
-      stays_twice shows makes guest a b c (others_stay a b runs) (one_stays s answer b c share does)
+  -- a device that was moved alone, or with the reply in its place
+  known_stays : (a b : Boards) → Knows guest a b → OthersStay guest (board_of a) (board_of b)
+  known_stays a b knows =
+      let devices = map-set device_in a.devices guest knows.device' in
+      subst (λ (v : BoardState OutboxState). OthersStay guest (board_of a) v)
+      (sym (ap board_of knows.after ∙ ap (λ ds. with_devices ds a.rest) devices))
+      (record {
+        devices = λ k other. get_set_other _ guest k knows.device'.device other;
+        jobs = λ k other. refl;
+        dones = λ k other. refl;
+        intents = λ k other. refl;
+      })
+
+  hands_stay : (a b : Boards) (ps : List Range) → HandsOne guest a ps b
+      → OthersStay guest (board_of a) (board_of b)
+  hands_stay a b ps hands =
+      let h = hands.hands in
+      let dones = slice_set a.rest.dones guest None in
+      subst (λ (v : BoardState OutboxState). OthersStay guest (board_of a) v)
+      (sym (ap board_of h.after ∙ ap (λ ds. with_devices ds (record a.rest { dones = dones }))
+      (map-set device_in a.devices guest h.device')))
+      (record {
+        devices = λ k other. get_set_other _ guest k h.device'.device other;
+        jobs = λ k other. refl;
+        dones = λ k other. get_set_other a.rest.dones guest k None other;
+        intents = λ k other. refl;
+      })
+
+  pub others_stay : (ps qs : List Range) (a b : Boards) → Runs guest ps a qs b
+      → OthersStay guest (board_of a) (board_of b)
+  others_stay ps qs a b (Still r d) = stays_same outbox_state OutboxMakes guest (board_of d) (board_of d) refl
+  others_stay ps qs a b (Then q r x y z s answer runs share makes) =
+      stays_twice outbox_state OutboxMakes guest (board_of x) (board_of y) (board_of z)
+      (others_stay q r x y runs)
+      (one_stays s answer (board_of y) (board_of z) share makes.steps.does)
+  others_stay ps qs a b (Pops q r x y z answer runs pops) =
+      stays_twice outbox_state OutboxMakes guest (board_of x) (board_of y) (board_of z)
+      (others_stay q [] x y runs)
+      (pop_stays outbox_state OutboxMakes guest (board_of y) answer (board_of z) _ _
+      pops.makes.steps.does)
+  others_stay ps qs a b (Hands q r x y z runs hands) =
+      stays_twice outbox_state OutboxMakes guest (board_of x) (board_of y) (board_of z)
+      (others_stay q [] x y runs) (hands_stay y z r hands)
+  others_stay ps qs a b (LearnsOf q r x y z runs knows) =
+      stays_twice outbox_state OutboxMakes guest (board_of x) (board_of y) (board_of z)
+      (others_stay q r x y runs) (known_stays y z knows)
+  others_stay ps qs a b (Copies q r t x y runs) = others_stay q (t ∷ r) x y runs
+  others_stay ps qs a b (Voids q r x y z runs knows) =
+      stays_twice outbox_state OutboxMakes guest (board_of x) (board_of y) (board_of z)
+      (others_stay q r x y runs) (known_stays y z knows)

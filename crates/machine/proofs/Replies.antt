@@ -1,61 +1,69 @@
--- A reply's parts are noted one after another.
-use Rattle.std.proofs.Common.{◌≡◌, ◌≤◌, ◌<◌, ◌+◌, ◌∙◌, ap, get_or, sym, subst, refl, ℕ, zero, suc}
-use Rattle.std.proofs.Common.{List, [], ◌∷◌, Some, length, arith}
-use Rattle.machine.proofs.Common.{slice_get, parts_of, AreCovered, Grow, IsCovered, Range}
-use Rattle.std.specs.Prelude.{min, ◌-◌, drop}
-use Rattle.std.proofs.lemmas.Option.{slice_get-get_or}
-use Rattle.chains.specs.declared.range.Range.{Range as Part}
+-- What a reply that is handed to its device is to copy out.
+use Rattle.std.proofs.Common.{◌≡◌, ◌<◌, ◌≤◌, refl, ap, sym, subst, ◌∙◌, ℕ, ◌+◌, ◌-◌, List, [], ◌∷◌, ◌++◌}
+use Rattle.std.proofs.Common.{Option, Some, None, length, map, get_or, drop, IfSome}
+use Rattle.std.proofs.lemmas.List.{at_drop_all, drop_more}
+use Rattle.std.specs.Prelude.{option_map}
+use Rattle.machine.proofs.Common.{slice_get, AskingState, Boards, Done, Hands, HandsOne, HandsReply}
+use Rattle.machine.proofs.Common.{OutboxMakes, Range, Runs, Still, in_place, outbox_state}
+use Rattle.board.proofs.Common.{append-nil, append_assoc, slice_get-map}
+use Rattle.mmio_transport.specs.Queue.{QueueState}
+use Rattle.mmio_transport.specs.Written.{queue_parts}
+use Rattle.mmio_transport.specs.declared.done.Published.{Published}
+use Rattle.machine.specs.Serving.{IsNoted}
+use Rattle.machine.specs.Turn.{filled_part, filled_parts, reply_parts}
 
--- what begins at a place of a list
-drop_here : {X : Type 0} (xs : List X) (i : ℕ) (x : X) → slice_get xs i ≡ Some x → drop i xs ≡ x
-    ∷ drop (i + 1) xs
-drop_here {X} xs i x is = rest xs i is
-    ∙ (let s : suc i ≡ i + 1 = omega arith in ap (λ n. x ∷ drop n xs) s)
-  where
-    rest : (xs : List X) (i : ℕ) → slice_get xs i ≡ Some x → drop i xs ≡ x ∷ drop (suc i) xs
-    rest [] zero at = absurd (cc)
-    rest [] (suc i) at = absurd (cc)
-    rest (y ∷ ys) zero at = (let same : y ≡ x = cc in ap (λ (v : X). v ∷ ys) same)
-    rest (y ∷ ys) (suc i) at = rest ys i at
+pub hands_by : (guest : ℕ) (ps : List Range) (published : Published) (b b' : Boards)
+    (h : HandsReply outbox_state OutboxMakes guest published b b')
+    → ps ≡ reply_parts h.device.device h.done published → Runs guest [] b ps b'
+hands_by guest ps published b b' h parts = Hands [] ps b b b' (Still [] b) (record {
+  published = published;
+  hands = h;
+  parts_are = parts;
+})
 
--- Where the parts from one on are noted in all that comes, so are all of them.
-abbrev pub Rest : List Part → ℕ → ℕ → ℕ → List Range → Type 0
-Rest ps count i left rs = (rs' : List Range) → Grow rs rs'
-    → AreCovered (parts_of (drop i ps) left) rs' → AreCovered (parts_of ps count) rs'
+pub noted_reply : (guest : ℕ) (ps : List Range) (b : Boards) (d : AskingState) (done : Done)
+    → IsNoted guest ps b → in_place (slice_get b.rest.dones guest) ≡ Some done
+    → slice_get b.devices guest ≡ Some d
+    → ps ≡ filled_parts done.writable (length done.reply) ++ queue_parts d.device.queue
+noted_reply guest ps b d done noted lay its =
+    let queue_of : AskingState → Option QueueState = λ a. a.device.queue in
+    subst (λ (o : Option (Option QueueState)). IfSome o (λ queue.
+    ps ≡ filled_parts done.writable (length done.reply) ++ queue_parts queue))
+    (slice_get-map queue_of b.devices guest ∙ ap (option_map queue_of) its)
+    (subst (λ (o : Option Done). IfSome o (λ r.
+    IfSome (slice_get (map queue_of b.devices) guest) (λ queue.
+    ps ≡ filled_parts r.writable (length r.reply) ++ queue_parts queue))) lay noted)
 
-rest_more : (ps : List Part) (count i left : ℕ) (p : Part) (rs mid : List Range)
-    → slice_get ps i ≡ Some p → Rest ps count i left rs → Grow rs mid
-    → IsCovered (record { at = p.at; len = min p.len left }) mid
-    → Rest ps count (i + 1) (left - min p.len left) mid
-rest_more ps count i left p rs mid at rest grow covered rs' more noted =
-    let less : left - min p.len left ≡ left - p.len = omega arith in
-    let later : AreCovered (parts_of (drop (i + 1) ps) (left - p.len)) rs' =
-    subst (λ n. AreCovered (parts_of (drop (i + 1) ps) n) rs') less noted in
-    rest rs' (λ k inside. more k (grow k inside))
-    (subst (λ l. AreCovered (parts_of l left) rs') (sym (drop_here ps i p at))
-    ((λ k inside. more k (covered k inside)), later))
+-- one range more
+pub filled_more : (done all : List Range) (ranges : List Range) (i left : ℕ) (r : Range)
+    → i < length ranges → done ++ filled_parts (drop i ranges) left ≡ all
+    → (done ++ filled_part (get_or ranges i r) left)
+    ++ filled_parts (drop (i + 1) ranges) (left - (get_or ranges i r).len) ≡ all
+filled_more done all ranges i left r inside before =
+    append_assoc done _ _ ∙ ap (λ rs. done ++ filled_parts rs left)
+    (sym (drop_more ranges i r inside)) ∙ before
 
-pub rest_step : (ps ws : List Part) (count i left len : ℕ) (d : Part) (rs mid : List Range)
-    → ws ≡ ps → i < length ws → len ≡ min (get_or ws i d).len left
-    → Rest ps count i left rs → Grow rs mid
-    → IsCovered (record { at = (get_or ws i d).at; len = len }) mid
-    → Rest ps count (i + 1) (left - len) mid
-rest_step ps ws count i left len d rs mid are below many rest grow covered =
-    let p : Part = get_or ws i d in
-    let at : slice_get ps i ≡ Some p =
-    subst (λ l. slice_get l i ≡ Some p) are (slice_get-get_or ws i d below) in
-    subst (λ n. Rest ps count (i + 1) (left - n) mid) (sym many)
-    (rest_more ps count i left p rs mid at rest grow
-    (subst (λ n. IsCovered (record { at = p.at; len = n }) mid) many covered))
+pub filled_all : (done all : List Range) (ranges : List Range) (i left : ℕ)
+    → length ranges ≤ i → done ++ filled_parts (drop i ranges) left ≡ all → done ≡ all
+filled_all done all ranges i left past before = sym (append-nil done)
+    ∙ ap (λ rs. done ++ filled_parts rs left) (sym (at_drop_all (λ x. x) ranges i past)) ∙ before
 
-pub rest_all : (ps : List Part) (count i left : ℕ) (rs : List Range) → length ps ≤ i
-    → Rest ps count i left rs → AreCovered (parts_of ps count) rs
-rest_all ps count i left rs past rest =
-    rest rs (λ k inside. inside)
-    (subst (λ l. AreCovered (parts_of l left) rs) (sym (drop_all ps i past)) tt)
-  where
-    drop_all : (xs : List Part) (k : ℕ) → length xs ≤ k → drop k xs ≡ []
-    drop_all [] zero past = refl
-    drop_all [] (suc k) past = refl
-    drop_all (x ∷ xs) zero past = absurd (omega (arith, past))
-    drop_all (x ∷ xs) (suc k) past = drop_all xs k (omega (arith, past))
+pub noted_by : (guest : ℕ) (ps : List Range) (b : Boards) (d : AskingState) (done : Done)
+    → in_place (slice_get b.rest.dones guest) ≡ Some done → slice_get b.devices guest ≡ Some d
+    → ps ≡ filled_parts done.writable (length done.reply) ++ queue_parts d.device.queue
+    → IsNoted guest ps b
+noted_by guest ps b d done lay its parts =
+    let queue_of : AskingState → Option QueueState = λ a. a.device.queue in
+    subst (λ (o : Option Done). IfSome o (λ r.
+    IfSome (slice_get (map queue_of b.devices) guest) (λ queue.
+    ps ≡ filled_parts r.writable (length r.reply) ++ queue_parts queue))) (sym lay)
+    (subst (λ (o : Option (Option QueueState)). IfSome o (λ queue.
+    ps ≡ filled_parts done.writable (length done.reply) ++ queue_parts queue))
+    (sym (slice_get-map queue_of b.devices guest ∙ ap (option_map queue_of) its)) parts)
+
+-- what was noted one after another
+pub noted_in_turn : (p0 p1 p2 p3 filled ws is : List Range) → p0 ≡ [] → p1 ≡ p0 ++ filled
+    → p2 ≡ p1 ++ ws → p3 ≡ p2 ++ is → p3 ≡ filled ++ (ws ++ is)
+noted_in_turn p0 p1 p2 p3 filled ws is none first second third =
+    third ∙ ap (λ p. p ++ is) (second ∙ ap (λ p. p ++ ws) (first ∙ ap (λ p. p ++ filled) none))
+    ∙ append_assoc filled ws is

@@ -1,116 +1,170 @@
--- What a serve tells of its ranges, and leaves of a machine.
-use Rattle.std.proofs.Common.{◌≡◌, ◌≤◌, ◌<◌, ◌+◌, ◌∙◌, inl, inr, refl, ap, sym, subst, ℕ, zero, suc}
-use Rattle.std.proofs.Common.{List, [], ◌∷◌, Option, Some, None, length, map, arith}
-use Rattle.machine.proofs.Common.{slice_get, take, OutboxMakes, outbox_state, IsSound, moves_none}
-use Rattle.machine.proofs.Common.{IsServed, MachineState, TellsFault, TellsRanges, HasReason}
-use Rattle.machine.proofs.Common.{MachineFault, Serves, Still, IsIn, IsInSome, StaysOutside}
-use Rattle.machine.proofs.Common.{memory_in, told_at, Range}
-use Rattle.machine.specs.Machine.{NoRoom, NoSuchGuest, OfBoard}
-use Rattle.machine.specs.declared.fault.MachineFault.TheVariants.{NoGuest, OutOfRange}
-use Rattle.machine.specs.Written.{KeepsUntold, StaysUntold}
-use Rattle.machine.specs.declared.settings.Window.{Window}
-use Rattle.machine.proofs.Others.{others_stay}
+-- What a monitor is asked for.
+use Rattle.std.proofs.Common.{◌≡◌, ◌≤◌, ◌<◌, refl, ap, sym, subst, ◌∙◌, ℕ, Bool, true, false, List}
+use Rattle.std.proofs.Common.{◌∷◌, Option, Some, None, IfSome, length}
+use Rattle.std.proofs.lemmas.Option.{slice_get_past}
+use Rattle.std.specs.Prelude.{take}
+use Rattle.guest_memory.specs.Memory.{bytes_at}
+use Rattle.guest_memory.specs.declared.ask.Ask.{Ask}
+use Rattle.machine.proofs.Common.{◌&&◌, slice_get, slice_set, is_some, get_set_same, AskingState}
+use Rattle.machine.proofs.Common.{Boards, MachineFault, MachineState, Range, Runs}
+use Rattle.board.specs.State.{owes}
+use Rattle.machine.specs.Ending.{AsksIn, HasReason, NeedsNext, NeedsTold, RestsAt}
+use Rattle.machine.specs.Machine.{IsTold, NeedsOf, NoRoom, NoSuchGuest, OfBoard, ReadsOf, RestsIn}
+use Rattle.machine.specs.Machine.{TellsOf, has_guest, turn_in, turn_of, waits_for_sync}
+use Rattle.machine.specs.declared.fault.MachineFault.TheVariants as fault
+use Rattle.machine.specs.Settings.{most_of}
+use Rattle.machine.specs.Turn.{TurnState}
+use Rattle.machine.specs.declared.machine.Served.{Served}
+use Rattle.machine.specs.declared.machine.What.TheVariants as what
+use Rattle.machine.specs.declared.serving.Next.{Next}
+use Rattle.machine.specs.declared.serving.Next.TheVariants as next
+use Rattle.machine.specs.declared.settings.Setup.{Setup}
+use Rattle.machine.specs.declared.turn.Asked.TheVariants as asked
 
-pub served_none : (guest : ℕ) (m : MachineState) → IsServed guest m m
-served_none guest m = record {
-  runs = Still m.board;
-  moves = moves_none outbox_state OutboxMakes m.board;
-  others = others_stay outbox_state OutboxMakes guest m.board m.board (Still m.board);
-  windows = refl;
-}
+module _ (guest most : ℕ) (ps : List Range) (old : Boards) (turn : TurnState) (bytes : List ℕ)
+    (new : Boards) where
+  -- what is needed was asked for
+  pub told_of : (n : Next) → NeedsNext guest most ps old turn.parts new (Some n)
+      → ((ask : Ask) → n ≡ next.Read ask → (ask.len ≤ 16384) × (turn.asked ≡ asked.Read ask))
+      → ((part : Range) → n ≡ next.Write part → (turn.asked ≡ asked.Write)
+      × IfSome (slice_get new.devices guest) (λ d.
+      take part.len bytes ≡ bytes_at d.device.memory part.at part.len))
+      → NeedsTold guest most ps old turn bytes new n
+  told_of next.Again needs read write = tt
+  told_of (next.Read ask) needs read write =
+      let r = read ask refl in (needs, r.0, r.1)
+  told_of (next.Write part) needs read write =
+      let w = write part refl in (needs, w.0, w.1)
+  told_of next.Call needs read write = tt
+  told_of (next.Rest None) needs read write = needs
+  told_of (next.Rest (Some f)) needs read write = needs
 
-pub served_by : (guest : ℕ) (old new : MachineState) → IsSound outbox_state old.board
-    → Serves outbox_state OutboxMakes guest old.board new.board → new.windows ≡ old.windows
-    → IsServed guest old new
-served_by guest old new sound serves windows = record {
-  runs = serves.runs;
-  moves = serves.moves sound;
-  others = others_stay outbox_state OutboxMakes guest old.board new.board serves.runs;
-  windows = windows;
-}
+-- as the machine tells it
+module _ (guest room : ℕ) (old new : MachineState) (w : Setup) (bytes : List ℕ)
+    (setup : slice_get old.setups guest ≡ Some w) where
+  pub needs_of : (n : Next) (s : Served) → IsTold n s
+      → NeedsTold guest (most_of w) (turn_of old guest).parts old.board (turn_of new guest) bytes
+      new.board n → NeedsOf guest room s.what s bytes old new
+  needs_of next.Again s told needs =
+      subst (λ x. NeedsOf guest room x s bytes old new) (sym told.0) tt
+  needs_of (next.Read ask) s told needs =
+      subst (λ x. NeedsOf guest room x s bytes old new) (sym told.0)
+      (subst (λ at. ReadsOf guest at s.len new) (sym told.2)
+      (subst (λ len. ReadsOf guest ask.at len new) (sym told.3)
+      (record { asks = needs.0; few = needs.1; noted = needs.2 })))
+  needs_of (next.Write part) s told needs =
+      subst (λ x. NeedsOf guest room x s bytes old new) (sym told.0)
+      (record {
+        part = part;
+        first = needs.0;
+        is = (sym told.2, sym told.3);
+        bytes_are = subst (λ at. IfSome (slice_get new.board.devices guest) (λ d.
+            take s.len bytes ≡ bytes_at d.device.memory at s.len)) (sym told.2)
+            (subst (λ len. IfSome (slice_get new.board.devices guest) (λ d.
+            take len bytes ≡ bytes_at d.device.memory part.at len)) (sym told.3) needs.2);
+        noted = needs.1;
+      })
+  needs_of next.Call s told needs =
+      subst (λ x. NeedsOf guest room x s bytes old new) (sym told.0) tt
+  needs_of (next.Rest None) s told needs =
+      subst (λ x. NeedsOf guest room x s bytes old new) (sym told.0) (
+        (λ none. subst (λ o. RestsIn guest o new) (sym setup) needs),
+        (λ f some. absurd (let no = told.1 in let yes_ = some in cc)),
+      )
+  needs_of (next.Rest (Some f)) s told needs =
+      subst (λ x. NeedsOf guest room x s bytes old new) (sym told.0) (
+        (λ none. absurd (let no = told.1 in let yes_ = none in cc)),
+        (λ g some. OfBoard (subst (λ x. HasReason guest x)
+            (let a = told.1 in let b = some in cc) needs)),
+      )
 
-keeps_same : (o : Option Window) (told : List Range) (m : List ℕ) → KeepsUntold o told m m
-keeps_same None told m = tt
-keeps_same (Some w) told m = record { size = refl; stays = λ k below out. refl }
+and_first : (a b c : Bool) → a ≡ false → (a && b && c) ≡ false
+and_first true b c is = absurd (let no = is in cc)
+and_first false b c is = refl
 
-pub told_none : (guest count : ℕ) (ranges : List Range) (m : MachineState) → count ≡ 0
-    → TellsRanges guest count ranges m m
-told_none guest count ranges m none = record {
-  fit = omega (arith, none);
-  keeps = keeps_same (slice_get m.windows guest) (take count ranges) (memory_in m.board guest);
-}
+and_second : (a b c : Bool) → b ≡ false → (a && b && c) ≡ false
+and_second false b c is = refl
+and_second true true c is = absurd (let no = is in cc)
+and_second true false c is = refl
 
--- an address of a range that was noted lies in the range that is told
-told_in : (base k : ℕ) (r : Range) → base + k < 18446744073709551615 → IsIn k r
-    → IsIn (base + k) (told_at base r)
-told_in base k r below inside =
-    (let low = inside.0 in let high = inside.1 in
-    (grind (arith, below, low), grind (arith, below, low, high)))
+and_third : (a b c : Bool) → c ≡ false → (a && b && c) ≡ false
+and_third false b c is = refl
+and_third true false c is = refl
+and_third true true c is = is
 
-told_in_some : (base k : ℕ) (rs : List Range) → base + k < 18446744073709551615 → IsInSome k rs
-    → IsInSome (base + k) (map (told_at base) rs)
-told_in_some base k [] below inside = absurd inside
-told_in_some base k (r ∷ rs) below (inl here) = inl (told_in base k r below here)
-told_in_some base k (r ∷ rs) below (inr there) = inr (told_in_some base k rs below there)
+none_past : {X : Type 0} (xs : List X) (k : ℕ) → length xs ≤ k → is_some (slice_get xs k) ≡ false
+none_past xs k past = ap is_some (slice_get_past xs k past)
 
-untold : (base : ℕ) (rs : List Range) (old new : List ℕ) → StaysOutside rs old new
-    → StaysUntold base (map (told_at base) rs) old new
-untold base rs old new stays = record {
-  size = stays.size;
-  stays = λ k below out. stays.stays k (λ inside. out (told_in_some base k rs below inside));
-}
+module _ (m : MachineState) (guest : ℕ) where
+  pub no_setup : length m.setups ≤ guest → has_guest m guest ≡ false
+  no_setup past = and_first _ _ _ (none_past m.setups guest past)
 
-keeps_by : (o : Option Window) (w : Window) (rs : List Range) (old new : List ℕ) → o ≡ Some w
-    → StaysOutside rs old new → KeepsUntold o (map (told_at w.base) rs) old new
-keeps_by None w rs old new is stays = tt
-keeps_by (Some v) w rs old new is stays =
-    subst (λ o. KeepsUntold o (map (told_at w.base) rs) old new) (sym is)
-    (untold w.base rs old new stays)
+  pub no_turn : length m.turns ≤ guest → has_guest m guest ≡ false
+  no_turn past = and_second _ _ _ (none_past m.turns guest past)
 
--- the ranges that were noted are told, in guest addresses
-pub told_by : (guest count : ℕ) (ranges : List Range) (rs : List Range) (w : Window)
-    (old new : MachineState) → slice_get old.windows guest ≡ Some w
-    → count ≡ length rs → length rs ≤ length ranges → take (length rs) ranges
-    ≡ map (told_at w.base) rs
-    → StaysOutside rs (memory_in old.board guest) (memory_in new.board guest)
-    → TellsRanges guest count ranges old new
-told_by guest count ranges rs w old new is many fits told stays = record {
-  fit = subst (λ n. n ≤ length ranges) (sym many) fits;
-  keeps = subst (λ ts. KeepsUntold (slice_get old.windows guest) ts (memory_in old.board guest)
-      (memory_in new.board guest))
-      (sym (ap (λ n. take n ranges) many ∙ told))
-      (keeps_by (slice_get old.windows guest) w rs (memory_in old.board guest)
-      (memory_in new.board guest) is stays);
-}
+  pub no_device : length m.board.devices ≤ guest → has_guest m guest ≡ false
+  no_device past = and_third (is_some (slice_get m.setups guest))
+      (is_some (slice_get m.turns guest)) _ (none_past m.board.devices guest past)
 
--- a place that there is isn't none
-none_there : {X : Type 0} (xs : List X) (i : ℕ) → i < length xs → slice_get xs i ≡ None → ⊥
-none_there [] i below none = absurd (omega (arith, below))
-none_there (x ∷ xs) zero below none = absurd (cc)
-none_there (x ∷ xs) (suc i) below none = none_there xs i (omega (arith, below)) none
+  -- a guest that there isn't is refused
+  pub tells_absent : (room : ℕ) (s : Served) (bytes : List ℕ) → has_guest m guest ≡ false
+      → IsTold (next.Rest (Some fault.NoGuest)) s → s.sync ≡ waits_for_sync m.board.rest
+      → s.waiting ≡ owes guest m.board.rest → TellsOf guest room s bytes m m
+  tells_absent room s bytes absent told sync waiting = record {
+    needs = subst (λ x. NeedsOf guest room x s bytes m m) (sym told.0) (
+      (λ none. absurd (let no = told.1 in let other = none in cc)),
+      (λ f some. NoSuchGuest (let a = told.1 in let b = some in cc) absent refl),
+    );
+    sync = sync;
+    waiting = waiting;
+    absent = λ gone. (told.1, refl);
+  }
 
-pub fault_no_guest : (guest room : ℕ) (told : Option MachineFault) (m : MachineState)
-    → told ≡ Some NoGuest → TellsFault guest room told m m
-fault_no_guest guest room told m is = record {
-  no_guest = λ none. (is, refl);
-  no_room = λ none. refl;
-  reason = λ f tells. NoSuchGuest (let e = tells in cc) refl;
-}
+  -- there is less room than the largest part has
+  pub tells_room : (room : ℕ) (s : Served) (bytes : List ℕ) → has_guest m guest ≡ true
+      → room < 16384 → IsTold (next.Rest (Some fault.OutOfRange)) s
+      → s.sync ≡ waits_for_sync m.board.rest
+      → s.waiting ≡ owes guest m.board.rest → TellsOf guest room s bytes m m
+  tells_room room s bytes there short told sync waiting = record {
+    needs = subst (λ x. NeedsOf guest room x s bytes m m) (sym told.0) (
+      (λ none. absurd (let no = told.1 in let other = none in cc)),
+      (λ f some. NoRoom (let a = told.1 in let b = some in cc) short refl),
+    );
+    sync = sync;
+    waiting = waiting;
+    absent = λ gone. absurd (let no = sym there ∙ gone in cc);
+  }
 
-pub fault_no_room : (guest room : ℕ) (told : Option MachineFault) (m : MachineState)
-    → guest < length m.windows → room ≡ 0 → told ≡ Some OutOfRange → TellsFault guest room told m m
-fault_no_room guest room told m there empty is = record {
-  no_guest = λ none. absurd (none_there m.windows guest there none);
-  no_room = λ none. refl;
-  reason = λ f tells. NoRoom (let e = tells in cc) empty refl;
-}
+  pub has_all : (w : Setup) (turn : TurnState) (d : AskingState) → slice_get m.setups guest ≡ Some w
+      → slice_get m.turns guest ≡ Some turn → slice_get m.board.devices guest ≡ Some d
+      → has_guest m guest ≡ true
+  has_all w turn d a b c =
+      ap (λ o. is_some o && is_some (slice_get m.turns guest)
+      && is_some (slice_get m.board.devices guest)) a
+      ∙ ap (λ o. true && is_some o && is_some (slice_get m.board.devices guest)) b
+      ∙ ap (λ o. true && true && is_some o) c
 
-pub fault_of_board : (guest room : ℕ) (told : Option MachineFault) (old new : MachineState)
-    → guest < length old.windows → (room ≡ 0 → ⊥)
-    → ((f : MachineFault) → told ≡ Some f → HasReason outbox_state OutboxMakes guest f old.board
-    new.board) → TellsFault guest room told old new
-fault_of_board guest room told old new there some reason = record {
-  no_guest = λ none. absurd (none_there old.windows guest there none);
-  no_room = λ none. absurd (some none);
-  reason = λ f tells. OfBoard (reason f tells);
-}
+  pub tells_of : (room most : ℕ) (w : Setup) (turn turn' : TurnState) (new : Boards)
+      (bytes : List ℕ) (n : Next) (s : Served) → slice_get m.setups guest ≡ Some w
+      → slice_get m.turns guest ≡ Some turn → has_guest m guest ≡ true → most ≡ most_of w
+      → IsTold n s → NeedsTold guest most turn.parts m.board turn' bytes new n
+      → s.sync ≡ waits_for_sync new.rest → s.waiting ≡ owes guest new.rest
+      → TellsOf guest room s bytes m
+      (record m { board = new; turns = slice_set m.turns guest turn' })
+  tells_of room most w turn turn' new bytes n s setup its there limit told needs sync waiting =
+      let m' : MachineState = record m {
+        board = new;
+        turns =
+            slice_set m.turns guest turn';
+      } in
+      record {
+        needs = needs_of guest room m m' w bytes setup n s told
+            (subst (λ t. NeedsTold guest (most_of w) (turn_of m guest).parts m.board t bytes new n)
+            (sym (ap turn_in (get_set_same m.turns guest turn turn' its)))
+            (subst (λ o. NeedsTold guest (most_of w) (turn_in o).parts m.board turn' bytes new n)
+            (sym its)
+            (subst (λ k. NeedsTold guest k turn.parts m.board turn' bytes new n) limit needs)));
+        sync = sync;
+        waiting = waiting;
+        absent = λ gone. absurd (let no = sym there ∙ gone in cc);
+      }

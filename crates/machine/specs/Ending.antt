@@ -1,36 +1,121 @@
--- What a serve tells at its end.
-use Rattle.std.specs.Prelude.{◌≡◌, ℕ, Bool, true, false, Option, Some, None}
+-- What a serve ends with: what it asks for, where it rests, and why it tells a fault.
+use Rattle.std.specs.Prelude.{◌≡◌, ◌⊎◌, ◌≤◌, ℕ, Bool, true, false, nat_lt, List, [], ◌∷◌, length, Option, Some}
+use Rattle.std.specs.Prelude.{None, Ok, Err, IfSome, map, slice_get, take}
+use Rattle.chains.specs.declared.range.Range.{Range}
 use Rattle.disk.specs.OutboxDisk.{OutboxState}
 use Rattle.flusher.specs.Store.{next_call}
 use Rattle.flusher.specs.declared.progress.Call.{Call}
 use Rattle.flusher.specs.declared.progress.Call.TheVariants as call
-use Rattle.board.specs.State.{BoardState}
-use Rattle.machine.specs.Stepping.{HasNoReply}
+use Rattle.guest_memory.specs.Memory.{IsAsk, bytes_at}
+use Rattle.guest_memory.specs.declared.ask.Ask.{Ask}
+use Rattle.mmio_transport.specs.Asking.{AskingState, known}
+use Rattle.mmio_transport.specs.Device.{DeviceState}
+use Rattle.mmio_transport.specs.Popping.{GivesJob}
+use Rattle.mmio_transport.specs.Queue.{QueueState}
+use Rattle.mmio_transport.specs.declared.fault.DeviceFault.TheVariants as device_fault
+use Rattle.rpmb_book.specs.declared.refused.Refused.TheVariants as refused
+use Rattle.board.specs.Asking.{board_of}
+use Rattle.board.specs.State.{BoardState, HasNoJob, waiting}
+use Rattle.board.specs.declared.step.Step.{Step}
+use Rattle.board.specs.declared.step.Step.TheVariants as step
+use Rattle.board.specs.declared.step.StepFault.{StepFault}
+use Rattle.board.specs.declared.step.StepFault.TheVariants as step_fault
+use Rattle.machine.specs.Serving.{Boards, HasNoReply, Makes, Runs}
 use Rattle.machine.specs.declared.fault.MachineFault.{MachineFault}
-use Rattle.machine.specs.declared.leaving.Left.{Left}
-use Rattle.machine.specs.declared.leaving.Left.TheVariants as left
-use Rattle.machine.specs.declared.offering.Offered.{Offered}
-use Rattle.machine.specs.declared.offering.Offered.TheVariants as offered
+use Rattle.machine.specs.declared.fault.MachineFault.TheVariants as fault
+use Rattle.machine.specs.Turn.{TurnState}
+use Rattle.machine.specs.declared.serving.Next.{Next}
+use Rattle.machine.specs.declared.serving.Next.TheVariants as next
+use Rattle.machine.specs.declared.taking.Taken.{Taken}
+use Rattle.machine.specs.declared.turn.Asked.TheVariants as asked
+use Rattle.machine.specs.declared.taking.Taken.TheVariants as taken
 
--- why no more left, where memory was refused
-abbrev pub left_fault : Left → Option MachineFault
-left_fault left.All = None
-left_fault left.Limit = None
-left_fault (left.Refused fault) = Some fault
+-- the guest's device has no copy of these bytes of its guest's memory, and needs them
+pub record AsksIn (guest : ℕ) (ask : Ask) (b : Boards) : Type 0 where
+  pub device : AskingState
+  pub its : slice_get b.devices guest ≡ Some device
+  pub asks : IsAsk (known device) ask
 
--- the fault that is told: that of the chain that was refused, else that of the replies
-abbrev pub told_fault : Offered → Left → Option MachineFault
-told_fault (offered.Refused fault) l = Some fault
-told_fault offered.All l = left_fault l
-told_fault offered.Limit l = left_fault l
+-- the last pop of the guest's device found no chain: of what it was told then, none was available
+pub record FindsNone (guest : ℕ) (b : Boards) : Type 0 where
+  pub device : DeviceState
+  pub its : slice_get (map (λ a. a.device) b.devices) guest ≡ Some device
+  pub before : DeviceState
+  pub none : GivesJob before (Ok None) device
 
 abbrev pub is_write : Call → Bool
 is_write call.Write = true
 is_write call.Sync = false
 is_write call.None = false
 
--- a serve that tells no fault, and not to be called again, left no reply that may leave, and no
--- write before the next sync
-pub record HasNoMore (guest : ℕ) (b : BoardState OutboxState) : Type 0 where
-  pub replies : HasNoReply guest b
-  pub writes : is_write (next_call b.store.broken b.store.guests) ≡ false
+-- A guest rests: no chain of it lies without its answer, and none is available, or as many wait for
+-- their answers as may; no reply of it may leave; and no write of the disk comes before a sync.
+pub record RestsAt (guest most : ℕ) (b : Boards) : Type 0 where
+  pub jobs : HasNoJob guest b.rest
+  pub taken : FindsNone guest b ⊎ (nat_lt (waiting guest b.rest) most ≡ false)
+  pub replies : HasNoReply guest b.rest
+  pub writes : is_write (next_call b.rest.store.broken b.rest.store.guests) ≡ false
+
+-- why a step was refused
+abbrev pub reason_of : StepFault → MachineFault
+reason_of (step_fault.Memory e) = fault.OutOfRange
+reason_of (step_fault.Device device_fault.NoMemory) = fault.NoMemory
+reason_of (step_fault.Device (device_fault.Refused e)) = fault.Stopped
+reason_of (step_fault.Device device_fault.NeedsReset) = fault.Stopped
+reason_of (step_fault.Book refused.NoMemory) = fault.NoMemory
+reason_of (step_fault.Book refused.Busy) = fault.Busy
+reason_of (step_fault.Book refused.Foreign) = fault.HistoryFull
+reason_of (step_fault.Book refused.HistoryFull) = fault.HistoryFull
+reason_of (step_fault.Store e) = fault.DiskFault
+
+-- the steps that take a chain of the guest
+abbrev pub Takes : ℕ → Step → Type 0
+Takes guest s = (s ≡ step.Pop guest) ⊎ (s ≡ step.Submit guest)
+
+-- A step that takes a chain was refused, and the fault is that step's; or memory was refused for
+-- what a step is to copy out, or for what was told.
+pub data HasReason (guest : ℕ) (f : MachineFault) : Type 0 where
+  Refuses : (before after : Boards) (s : Step) (e : StepFault) → Takes guest s
+      → Makes s (Err e) before after → f ≡ reason_of e → HasReason guest f
+  Lacks : f ≡ fault.NoMemory → HasReason guest f
+
+-- What is needed next, after steps from one board to another: the bytes that its device asks for;
+-- that the part which came first is copied out; or nothing, since the guest rests, or for a reason.
+abbrev pub NeedsNext : (guest most : ℕ) → List Range → Boards → List Range → Boards → Option Next
+    → Type 0
+NeedsNext guest most ps old qs new None = Unit {0}
+NeedsNext guest most ps old qs new (Some next.Again) = Unit {0}
+NeedsNext guest most ps old qs new (Some (next.Read ask)) = AsksIn guest ask new
+NeedsNext guest most ps old qs new (Some (next.Write part)) = Runs guest ps old (part ∷ qs) new
+NeedsNext guest most ps old qs new (Some next.Call) = Unit {0}
+NeedsNext guest most ps old qs new (Some (next.Rest None)) = RestsAt guest most new
+NeedsNext guest most ps old qs new (Some (next.Rest (Some f))) = HasReason guest f
+
+-- A move of a serve, and what it needs next.
+pub record Went (guest most : ℕ) (turn turn' : TurnState) (old new : Boards) (n : Option Next)
+    : Type 0 where
+  pub runs : Runs guest turn.parts old turn'.parts new
+  pub needs : NeedsNext guest most turn.parts old turn'.parts new n
+  pub count : length new.devices ≡ length old.devices
+  pub asked : turn'.asked ≡ turn.asked
+
+-- What the monitor is asked for, with these bytes in what it lent: as what is needed, of which it is
+-- noted that it was asked for; at most 16,384 bytes are read, and those to be written stand first.
+abbrev pub NeedsTold : (guest most : ℕ) → List Range → Boards → TurnState → List ℕ → Boards → Next
+    → Type 0
+NeedsTold guest most ps old turn bytes new next.Again = Unit {0}
+NeedsTold guest most ps old turn bytes new (next.Read ask) =
+    AsksIn guest ask new × (ask.len ≤ 16384) × (turn.asked ≡ asked.Read ask)
+NeedsTold guest most ps old turn bytes new (next.Write part) =
+    Runs guest ps old (part ∷ turn.parts) new × (turn.asked ≡ asked.Write)
+    × IfSome (slice_get new.devices guest) (λ d.
+    take part.len bytes ≡ bytes_at d.device.memory part.at part.len)
+NeedsTold guest most ps old turn bytes new next.Call = Unit {0}
+NeedsTold guest most ps old turn bytes new (next.Rest None) = RestsAt guest most new
+NeedsTold guest most ps old turn bytes new (next.Rest (Some f)) = HasReason guest f
+
+-- it was refused, for a reason
+pub record IsRefused (guest : ℕ) (t : Taken) : Type 0 where
+  pub why : MachineFault
+  pub is : t ≡ taken.Refused why
+  pub reason : HasReason guest why

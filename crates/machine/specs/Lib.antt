@@ -1,8 +1,6 @@
 pub mod Ending
 pub mod Machine
 pub mod Opening
-pub mod Reasons
 pub mod Serving
 pub mod Settings
-pub mod Stepping
-pub mod Written
+pub mod Turn

@@ -1,85 +1,85 @@
 -- What contracts see of a machine.
-use Rattle.std.specs.Prelude.{◌≡◌, ◌≤◌, ◌-◌, ℕ, Bool, true, false, ◌&&◌, nat_le, List, length}
-use Rattle.std.specs.Prelude.{take, Option}
-use Rattle.std.specs.Prelude.{Some, None, is_some, slice_get, slice_set}
+use Rattle.std.specs.Prelude.{◌≡◌, ◌≢◌, ◌≤◌, ◌<◌, ◌∷◌, ℕ, Bool, true, false, ◌&&◌, if◌then◌else◌, nat_le}
+use Rattle.std.specs.Prelude.{List, length, take, Option, Some, None, is_some, slice_get, slice_set}
 use Rattle.std.specs.Prelude.{IfSome}
+use Rattle.chains.specs.declared.range.Range.{Range}
+use Rattle.guest_memory.specs.Memory.{bytes_at}
 use Rattle.disk.specs.Content.{Content}
 use Rattle.disk.specs.Disk.{MayLeave}
 use Rattle.disk.specs.Outbox.{WriteAt, is_none}
+use Rattle.disk.specs.declared.outbox_disk.Told.{Told}
+use Rattle.disk.specs.OutboxDisk.{OutboxMakes, OutboxState, outbox_state}
 use Rattle.intent_slots.specs.Recovered.{Part, Stands}
 use Rattle.flusher.specs.declared.guest.Guest.{Guest}
 use Rattle.flusher.specs.Pair.{mark_of, region_of}
 use Rattle.flusher.specs.SlotInvariant.{sequence_of_part}
-use Rattle.guest_memory.specs.Memory.{IsInside, with_bytes}
-use Rattle.disk.specs.declared.outbox_disk.Told.{Told}
-use Rattle.disk.specs.OutboxDisk.{OutboxMakes, OutboxState, outbox_state}
 use Rattle.flusher.specs.Store.{next_call}
 use Rattle.flusher.specs.declared.progress.Call.{Call}
 use Rattle.flusher.specs.declared.progress.Call.TheVariants as call
-use Rattle.mmio_transport.specs.Device.{DeviceState, kick_of}
+use Rattle.mmio_transport.specs.Asking.{AskingState}
+use Rattle.mmio_transport.specs.Device.{is_ready, kick_of}
 use Rattle.mmio_transport.specs.Registers.{interrupt_number}
 use Rattle.mmio_transport.specs.declared.registers.Kick.{Kick}
 use Rattle.mmio_transport.specs.declared.registers.Kick.TheVariants as kick
-use Rattle.board.specs.State.{BoardState}
+use Rattle.board.specs.Asking.{board_of}
+use Rattle.board.specs.State.{BoardState, owes}
 use Rattle.board.specs.Telling.{telling}
 use Rattle.board.specs.Moving.{Moves}
-use Rattle.machine.specs.Reasons.{HasReason}
-use Rattle.machine.specs.Serving.{OthersStay, Runs}
-use Rattle.machine.specs.Stepping.{Hears}
-use Rattle.machine.specs.Written.{KeepsUntold, memory_in}
+use Rattle.machine.specs.Ending.{AsksIn, HasReason, RestsAt}
+use Rattle.machine.specs.Serving.{Boards, Hears, OthersStay, Runs}
+use Rattle.machine.specs.Settings.{device_after, most_of, value_shown, value_taken}
+use Rattle.machine.specs.Turn.{TurnState, fresh_turn}
 use Rattle.machine.specs.declared.fault.MachineFault.{MachineFault}
-use Rattle.machine.specs.declared.fault.MachineFault.TheVariants.{NoGuest, OutOfRange}
-use Rattle.machine.specs.declared.ranges.Range.{Range}
-use Rattle.machine.specs.Settings.{device_after, value_shown, value_taken}
-use Rattle.machine.specs.declared.settings.Window.{Window}
+use Rattle.machine.specs.declared.fault.MachineFault.TheVariants as fault
+use Rattle.machine.specs.declared.machine.Served.{Served}
+use Rattle.machine.specs.declared.machine.What.{What}
+use Rattle.machine.specs.declared.machine.What.TheVariants as what
+use Rattle.machine.specs.declared.serving.Next.{Next}
+use Rattle.machine.specs.declared.serving.Next.TheVariants as next
+use Rattle.machine.specs.declared.settings.Setup.{Setup}
+use Rattle.machine.specs.declared.turn.Asked.TheVariants as asked
 
 pub record MachineState : Type 0 where
-  pub board : BoardState OutboxState
+  pub board : Boards
   -- how each guest's device is set up
-  pub windows : List Window
+  pub setups : List Setup
+  -- where the serve of each guest stands
+  pub turns : List TurnState
 
 -- what a guest reads; 0 where there is no such guest
-abbrev pub shown_by : Option Window → Option DeviceState → (offset width : ℕ) → ℕ
-shown_by (Some w) (Some d) offset width = value_shown w d offset width
+abbrev pub shown_by : Option Setup → Option AskingState → (offset width : ℕ) → ℕ
+shown_by (Some w) (Some d) offset width = value_shown w d.device offset width
 shown_by (Some w) None offset width = 0
 shown_by None d offset width = 0
 
 abbrev pub shown_in : MachineState → ℕ → (offset width : ℕ) → ℕ
 shown_in m guest offset width =
-    shown_by (slice_get m.windows guest) (slice_get m.board.devices guest) offset width
-
--- so it is of a guest that there is
-abbrev pub WhereGuest : MachineState → ℕ → (Window → DeviceState → Type 0) → Type 0
-WhereGuest m guest P =
-    IfSome (slice_get m.windows guest) (λ w. IfSome (slice_get m.board.devices guest) (λ d. P w d))
+    shown_by (slice_get m.setups guest) (slice_get m.board.devices guest) offset width
 
 -- whether there is such a guest
 abbrev pub has_guest : MachineState → ℕ → Bool
-has_guest m guest = is_some (slice_get m.windows guest) && is_some (slice_get m.board.devices guest)
+has_guest m guest =
+    is_some (slice_get m.setups guest) && is_some (slice_get m.turns guest)
+    && is_some (slice_get m.board.devices guest)
 
 -- what a guest's write asks of the monitor; nothing where there is no such guest
-abbrev pub kick_by : Option Window → Option DeviceState → (offset width value : ℕ) → Kick
-kick_by (Some w) (Some d) offset width value =
-    kick_of offset width (value_taken w d offset width value)
-kick_by (Some w) None offset width value = kick.None
-kick_by None d offset width value = kick.None
+abbrev pub kick_by : Option Setup → Option AskingState → Option TurnState
+    → (offset width value : ℕ) → Kick
+kick_by (Some w) (Some d) (Some turn) offset width value =
+    kick_of offset width (value_taken w d.device offset width value)
+kick_by (Some w) (Some d) None offset width value = kick.None
+kick_by (Some w) None turn offset width value = kick.None
+kick_by None d turn offset width value = kick.None
 
 abbrev pub kick_in : MachineState → ℕ → (offset width value : ℕ) → Kick
 kick_in m guest offset width value =
-    kick_by (slice_get m.windows guest) (slice_get m.board.devices guest) offset width value
+    kick_by (slice_get m.setups guest) (slice_get m.board.devices guest) (slice_get m.turns guest)
+    offset width value
 
 -- the guest's InterruptStatus; 0 where there is no such guest
-abbrev pub line_by : Option DeviceState → ℕ
-line_by (Some d) = interrupt_number d.registers.interrupts
+abbrev pub line_by : Option AskingState → ℕ
+line_by (Some d) = interrupt_number d.device.registers.interrupts
 line_by None = 0
-
--- so many bytes from a guest address on lie in the guest's window
-abbrev pub IsInWindow : Window → DeviceState → ℕ → ℕ → Type 0
-IsInWindow w d at count = (w.base ≤ at) × IsInside d.memory (at - w.base) count
-
--- a device into whose memory its guest has stored
-abbrev pub stored : DeviceState → ℕ → List ℕ → DeviceState
-stored d at bytes = record d { memory = with_bytes d.memory at bytes }
 
 -- A stop at this moment leaves, of the monitor's file, a partition of each guest, and none below
 -- its mark: the sequence up to which it was told that a sync kept all.
@@ -90,52 +90,36 @@ LeavesEach b = (c : Content) → MayLeave (outbox_state b.store.disk) c → (g :
 
 -- the writes that nobody took yet
 abbrev pub writes_in : MachineState → List WriteAt
-writes_in m = m.board.store.disk.outbox.writes
+writes_in m = m.board.rest.store.disk.outbox.writes
 
--- steps of a guest, and calls of the disk, led from one board to the other
-abbrev pub GoesOn : ℕ → BoardState OutboxState → BoardState OutboxState → Type 0
-GoesOn guest old new = Runs outbox_state OutboxMakes guest old new
+-- the board with the disk told of its writes or its sync
+abbrev pub telling_board : Told → Boards → Boards
+telling_board told b = record b { rest = telling told b.rest }
 
--- A guest was served: by its steps alone; at each moment a stop leaves, of every guest, the
--- partition after a prefix of its accepted requests, with all that was settled before; and of every
--- other guest all stays.
+-- where the serve of a guest stands; as before the first one of a guest that there isn't
+abbrev pub turn_in : Option TurnState → TurnState
+turn_in None = fresh_turn
+turn_in (Some turn) = turn
+
+abbrev pub turn_of : MachineState → ℕ → TurnState
+turn_of m guest = turn_in (slice_get m.turns guest)
+
+-- A guest was served: by its steps alone, each of which is told to be copied out in its order; at
+-- each moment a stop leaves, of every guest, the partition after a prefix of its accepted requests,
+-- with all that was settled before; and of every other guest all stays.
 pub record IsServed (guest : ℕ) (old new : MachineState) : Type 0 where
-  pub runs : GoesOn guest old.board new.board
-  pub moves : Moves outbox_state OutboxMakes old.board new.board
-  pub others : OthersStay guest old.board new.board
-  pub windows : new.windows ≡ old.windows
+  pub runs : Runs guest (turn_of old guest).parts old.board (turn_of new guest).parts new.board
+  pub moves : Moves outbox_state OutboxMakes (board_of old.board) (board_of new.board)
+  pub others : OthersStay guest (board_of old.board) (board_of new.board)
+  pub turns : (k : ℕ) → k ≢ guest → slice_get new.turns k ≡ slice_get old.turns k
+  pub setups : new.setups ≡ old.setups
 
--- So many ranges stand at the front of those, and each byte of the guest's window stays whose
--- address lies in none of them.
-pub record TellsRanges (guest count : ℕ) (ranges : List Range)
-    (old new : MachineState) : Type 0 where
-  pub fit : count ≤ length ranges
-  pub keeps : KeepsUntold (slice_get old.windows guest) (take count ranges)
-      (memory_in old.board guest) (memory_in new.board guest)
-
--- why a serve tells a fault: there is no such guest, or no room for a range, or a reason of the
--- board
-pub data HasFault (guest room : ℕ) (f : MachineFault) (old new : MachineState) : Type 0 where
-  NoSuchGuest : f ≡ NoGuest → new ≡ old → HasFault guest room f old new
-  NoRoom : f ≡ OutOfRange → room ≡ 0 → new ≡ old → HasFault guest room f old new
-  OfBoard : HasReason outbox_state OutboxMakes guest f old.board new.board
-      → HasFault guest room f old new
-
--- A guest that there isn't is refused, and there and without room for a range nothing changes. Each
--- fault has its reason.
-pub record TellsFault (guest room : ℕ) (told : Option MachineFault)
-    (old new : MachineState) : Type 0 where
-  pub no_guest : slice_get old.windows guest ≡ None → (told ≡ Some NoGuest) × (new ≡ old)
-  pub no_room : room ≡ 0 → new ≡ old
-  pub reason : (f : MachineFault) → told ≡ Some f → HasFault guest room f old new
-
--- The disk was told of its writes and its sync, and just one call of it was made then: the book
--- heard of the one before it and of this one. At each moment a stop leaves what a serve may leave.
-pub record Completes (told : Told) (old new : MachineState) : Type 0 where
-  pub runs : (guest : ℕ) → GoesOn guest (telling told old.board) new.board
-  pub hears : Hears outbox_state OutboxMakes (telling told old.board) new.board
-  pub moves : Moves outbox_state OutboxMakes (telling told old.board) new.board
-  pub windows : new.windows ≡ old.windows
+-- what a serve needs next, where it is bytes of the guest's memory: those that its device asks for,
+-- at most so many
+pub record ReadsOf (guest at len : ℕ) (new : MachineState) : Type 0 where
+  pub asks : AsksIn guest (record { at = at; len = len }) new.board
+  pub few : len ≤ 16384
+  pub noted : (turn_of new guest).asked ≡ asked.Read (record { at = at; len = len })
 
 abbrev pub is_sync : Call → Bool
 is_sync call.Write = false
@@ -150,23 +134,100 @@ waits_for_sync b = is_sync (next_call b.store.broken b.store.guests)
 unfoldable pub is_awaited : BoardState OutboxState → Bool
 is_awaited b = waits_for_sync b && is_none b.store.disk.outbox.writes
 
--- the machine with another device of a guest
-abbrev pub with_device : MachineState → ℕ → DeviceState → MachineState
-with_device m guest d =
-    record m { board = record m.board { devices = slice_set m.board.devices guest d } }
+-- the bytes at the front of these, which stand in the guest's memory by what its device wrote: a part
+-- that came first of those that are to be copied out
+pub record WritesOf (guest at len : ℕ) (bytes : List ℕ) (old new : MachineState) : Type 0 where
+  pub part : Range
+  pub first : Runs guest (turn_of old guest).parts old.board (part ∷ (turn_of new guest).parts)
+      new.board
+  pub is : (part.at ≡ at) × (part.len ≡ len)
+  pub bytes_are : IfSome (slice_get new.board.devices guest) (λ d.
+      take len bytes ≡ bytes_at d.device.memory at len)
+  pub noted : (turn_of new guest).asked ≡ asked.Write
+
+-- the guest rests, by how many of its chains may wait
+abbrev pub RestsIn : ℕ → Option Setup → MachineState → Type 0
+RestsIn guest None m = ⊥
+RestsIn guest (Some s) m = RestsAt guest (most_of s) m.board
+
+-- why a serve tells a fault: there is no such guest, or too little room, or a reason of the board
+pub data HasFault (guest room : ℕ) (f : MachineFault) (old new : MachineState) : Type 0 where
+  NoSuchGuest : f ≡ fault.NoGuest → has_guest old guest ≡ false → new ≡ old
+      → HasFault guest room f old new
+  NoRoom : f ≡ fault.OutOfRange → room < 16384 → new ≡ old → HasFault guest room f old new
+  OfBoard : HasReason guest f → HasFault guest room f old new
+
+-- what it needs next
+abbrev pub NeedsOf : (guest room : ℕ) → What → Served → List ℕ → MachineState → MachineState
+    → Type 0
+NeedsOf guest room what.Rest s bytes old new =
+    (s.fault ≡ None → RestsIn guest (slice_get old.setups guest) new)
+    × ((f : MachineFault) → s.fault ≡ Some f → HasFault guest room f old new)
+NeedsOf guest room what.Read s bytes old new = ReadsOf guest s.at s.len new
+NeedsOf guest room what.Write s bytes old new = WritesOf guest s.at s.len bytes old new
+NeedsOf guest room what.Call s bytes old new = Unit {0}
+NeedsOf guest room what.Again s bytes old new = Unit {0}
+
+-- What a serve tells.
+pub record TellsOf (guest room : ℕ) (s : Served) (bytes : List ℕ) (old new : MachineState)
+    : Type 0 where
+  pub needs : NeedsOf guest room s.what s bytes old new
+  pub sync : s.sync ≡ waits_for_sync new.board.rest
+  pub waiting : s.waiting ≡ owes guest new.board.rest
+  pub absent : has_guest old guest ≡ false → (s.fault ≡ Some fault.NoGuest) × (new ≡ old)
+
+-- how it is told
+abbrev pub IsTold : Next → Served → Type 0
+IsTold next.Again s = (s.what ≡ what.Again) × (s.fault ≡ None)
+IsTold (next.Read ask) s =
+    (s.what ≡ what.Read) × (s.fault ≡ None) × (s.at ≡ ask.at) × (s.len ≡ ask.len)
+IsTold (next.Write part) s =
+    (s.what ≡ what.Write) × (s.fault ≡ None) × (s.at ≡ part.at) × (s.len ≡ part.len)
+IsTold next.Call s = (s.what ≡ what.Call) × (s.fault ≡ None)
+IsTold (next.Rest f) s = (s.what ≡ what.Rest) × (s.fault ≡ f)
+
+-- the disk's work went further, by steps of its own and of each guest's
+pub record GoesOn (old new : MachineState) : Type 0 where
+  pub moves : Moves outbox_state OutboxMakes (board_of old.board) (board_of new.board)
+  pub devices : new.board.devices ≡ old.board.devices
+  pub jobs : new.board.rest.jobs ≡ old.board.rest.jobs
+  pub turns : new.turns ≡ old.turns
+  pub setups : new.setups ≡ old.setups
+
+-- The disk was told of its writes and its sync, and just one call of it was made then: the book
+-- heard of the one before it and of this one. At each moment a stop leaves what a serve may leave.
+pub record Completes (told : Told) (old new : MachineState) : Type 0 where
+  pub hears : Hears (telling_board told old.board) new.board
+  pub moves : Moves outbox_state OutboxMakes (board_of (telling_board told old.board))
+      (board_of new.board)
+  pub devices : new.board.devices ≡ old.board.devices
+  pub turns : new.turns ≡ old.turns
+  pub setups : new.setups ≡ old.setups
+
+-- the turn of a guest after a write: fresh where its queue isn't ready
+abbrev pub turn_after : AskingState → TurnState → TurnState
+turn_after d turn = if is_ready d.device.queue then turn else fresh_turn
+
+-- the machine with another device of a guest, and what that leaves of its serve
+abbrev pub with_device : MachineState → ℕ → AskingState → TurnState → MachineState
+with_device m guest d turn = record m {
+  board = record m.board { devices = slice_set m.board.devices guest d };
+  turns = slice_set m.turns guest (turn_after d turn);
+}
 
 -- the machine after a guest's write; as it was where there is no such guest
-abbrev pub written_by : Option Window → Option DeviceState → MachineState → ℕ
+abbrev pub written_by : Option Setup → Option AskingState → Option TurnState → MachineState → ℕ
     → (offset width value : ℕ) → MachineState
-written_by (Some w) (Some d) m guest offset width value =
-    with_device m guest (device_after w d offset width value)
-written_by (Some w) None m guest offset width value = m
-written_by None d m guest offset width value = m
+written_by (Some w) (Some d) (Some turn) m guest offset width value =
+    with_device m guest (device_after w d offset width value) turn
+written_by (Some w) (Some d) None m guest offset width value = m
+written_by (Some w) None turn m guest offset width value = m
+written_by None d turn m guest offset width value = m
 
 abbrev pub written_in : MachineState → ℕ → (offset width value : ℕ) → MachineState
 written_in m guest offset width value =
-    written_by (slice_get m.windows guest) (slice_get m.board.devices guest) m guest offset width
-    value
+    written_by (slice_get m.setups guest) (slice_get m.board.devices guest)
+    (slice_get m.turns guest) m guest offset width value
 
 -- What taking the oldest write gives, where there is so much room: its offset and how many bytes
 -- it has, and they stand at the front; nothing where no write waits, or it has more bytes.

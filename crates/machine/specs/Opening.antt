@@ -1,8 +1,8 @@
 -- Which guests make a board, and what an image of it is at first and at an opening.
-use Rattle.std.specs.Prelude.{◌≡◌, ℕ, List, length, map, IsTrue, Ok, Err}
-use Rattle.std.specs.List.{All}
+use Rattle.std.specs.Prelude.{◌≡◌, ℕ, List, length, map, replicate, Ok, Err}
 use Rattle.rpmb_frame.specs.Config.{IsBoard}
 use Rattle.rpmb_frame.specs.declared.config.GuestConfig.{GuestConfig}
+use Rattle.rpmb_frame.specs.declared.config.RingKind.TheVariants.{Packed}
 use Rattle.disk.specs.Content.{content_of}
 use Rattle.disk.specs.Disk.{DiskState}
 use Rattle.disk.specs.FileDisk.{shown_as}
@@ -14,31 +14,40 @@ use Rattle.recovery.specs.Format.{Holds, formatted}
 use Rattle.recovery.specs.Opening.{AnswersFault, IsImage}
 use Rattle.recovery.specs.declared.fault.OpenFault.{OpenFault}
 use Rattle.recovery.specs.declared.fault.OpenFault.TheVariants as open_fault
-use Rattle.board.specs.Opening.{Begins, Calls, Finds}
+use Rattle.board.specs.Asking.{first_asked}
+use Rattle.board.specs.Opening.{Begins, Calls, Finds, begun}
 use Rattle.board.specs.State.{BoardState}
 use Rattle.board.specs.Telling.{telling}
 use Rattle.machine.specs.Machine.{MachineState}
-use Rattle.machine.specs.Settings.{is_placed}
+use Rattle.machine.specs.Turn.{fresh_turn}
 use Rattle.machine.specs.declared.fault.MachineFault.{MachineFault}
 use Rattle.machine.specs.declared.fault.MachineFault.TheVariants as fault
-use Rattle.machine.specs.declared.settings.Window.{Window}
+use Rattle.machine.specs.declared.settings.Setup.{Setup}
 
-abbrev pub configs_of : List Window → List GuestConfig
-configs_of windows = map (λ w. w.config) windows
+-- How a guest is set up on its board, which asks for the ranges of a board file: a memory in their
+-- range, and a ring that may have any number of places. What its device has is its setup's.
+abbrev pub on_board : Setup → GuestConfig
+on_board s = record s.config { memory = 67108864; ring = Packed }
 
--- a board: 1 to 64 guests, each in range, and each window where it may be
-pub record IsMonitored (windows : List Window) : Type 0 where
-  pub board : IsBoard (configs_of windows)
-  pub placed : All (λ w. IsTrue (is_placed w)) windows
+abbrev pub configs_of : List Setup → List GuestConfig
+configs_of setups = map on_board setups
+
+-- how the devices are set up
+abbrev pub devices_of : List Setup → List GuestConfig
+devices_of setups = map (λ s. s.config) setups
+
+-- a board: 1 to 64 guests, each in range
+abbrev pub IsMonitored : List Setup → Type 0
+IsMonitored setups = IsBoard (configs_of setups)
 
 -- the length in bytes of its image
-abbrev pub length_of : List Window → ℕ
-length_of windows = image_length (capacities_of (configs_of windows))
+abbrev pub length_of : List Setup → ℕ
+length_of setups = image_length (capacities_of (configs_of setups))
 
 -- the bytes of a fresh image of it: the header, the version byte, and zeros
-pub record IsFresh (windows : List Window) (image : List ℕ) : Type 0 where
-  pub long : length image ≡ length_of windows
-  pub bytes : Holds (formatted 1 (capacities_of (configs_of windows))) (length_of windows)
+pub record IsFresh (setups : List Setup) (image : List ℕ) : Type 0 where
+  pub long : length image ≡ length_of setups
+  pub bytes : Holds (formatted 1 (capacities_of (configs_of setups))) (length_of setups)
       (content_of image)
 
 -- what a disk over these bytes gives and keeps, before it is called
@@ -52,18 +61,21 @@ pub record FindsIn (config : List GuestConfig) (image : List ℕ)
   pub is_image : IsImage (capacities_of config) (length image) (content_of image)
   pub finds : Finds outbox_state config (read_state image) board
 
--- A machine that was opened over these bytes: its devices are fresh, the book has answered nothing,
--- and nothing lies between two steps. The first call of the disk was a sync, the others were reads.
--- The bytes are an image of its board, and each guest's partition is the one that they hold.
-pub record IsOpened (windows : List Window) (image : List ℕ) (m : MachineState) : Type 0 where
-  pub monitored : IsMonitored windows
-  pub long : length image ≡ length_of windows
-  pub windows_are : m.windows ≡ windows
-  pub board : BoardState OutboxState
-  pub begins : Begins outbox_state 1 (configs_of windows) board
-  pub calls : Calls OutboxMakes (first_disk image) (Ok board)
-  pub found : FindsIn (configs_of windows) image board
-  pub told : m.board ≡ telling Opened board
+-- A machine that was opened over these bytes: its devices are fresh and have a copy of no byte, the
+-- book has answered nothing, and nothing lies between two steps. The first call of the disk was a
+-- sync, the others were reads. The bytes are an image of its board, and each guest's partition is
+-- the one that they hold.
+pub record IsOpened (setups : List Setup) (image : List ℕ) (m : MachineState) : Type 0 where
+  pub monitored : IsMonitored setups
+  pub long : length image ≡ length_of setups
+  pub setups_are : m.setups ≡ setups
+  pub turns : m.turns ≡ replicate (length setups) fresh_turn
+  pub devices : m.board.devices ≡ first_asked 0 (devices_of setups)
+  pub rest : BoardState OutboxState
+  pub begins : Begins outbox_state 1 (configs_of setups) (begun (configs_of setups) rest)
+  pub calls : Calls OutboxMakes (first_disk image) (Ok rest)
+  pub found : FindsIn (configs_of setups) image (begun (configs_of setups) rest)
+  pub told : m.board.rest ≡ telling Opened rest
 
 -- how it is told why a board's opening was refused
 abbrev pub opening_reason : OpenFault → MachineFault
@@ -73,15 +85,15 @@ opening_reason open_fault.NotFormatted = fault.NotFormatted
 opening_reason open_fault.OtherConfig = fault.OtherConfig
 
 -- why these guests are refused: memory was, or they make no board
-pub data HasBoardFault (windows : List Window) (f : MachineFault) : Type 0 where
-  LacksMemory : f ≡ fault.NoMemory → HasBoardFault windows f
-  IsNoBoard : f ≡ fault.BadBoard → ¬ IsMonitored windows → HasBoardFault windows f
+pub data HasBoardFault (setups : List Setup) (f : MachineFault) : Type 0 where
+  LacksMemory : f ≡ fault.NoMemory → HasBoardFault setups f
+  IsNoBoard : f ≡ fault.BadBoard → ¬ IsMonitored setups → HasBoardFault setups f
 
 -- why so many bytes are refused as an image of these guests
-pub data HasImageFault (windows : List Window) (count : ℕ) (f : MachineFault) : Type 0 where
-  OfGuests : HasBoardFault windows f → HasImageFault windows count f
-  OtherLength : f ≡ fault.BadLength → IsMonitored windows → ¬ (count ≡ length_of windows)
-      → HasImageFault windows count f
+pub data HasImageFault (setups : List Setup) (count : ℕ) (f : MachineFault) : Type 0 where
+  OfGuests : HasBoardFault setups f → HasImageFault setups count f
+  OtherLength : f ≡ fault.BadLength → IsMonitored setups → ¬ (count ≡ length_of setups)
+      → HasImageFault setups count f
 
 -- why no board was opened over these bytes: memory was refused, or it is what the board's opening
 -- answered, by what the bytes hold
@@ -95,8 +107,8 @@ pub data IsOpeningFault (config : List GuestConfig) (image : List ℕ)
 
 -- Why no machine was opened over these bytes: their number, or what they hold. So an image of
 -- another board is never told as none, nor the other way round.
-pub data HasOpeningFault (windows : List Window) (image : List ℕ) (f : MachineFault)
+pub data HasOpeningFault (setups : List Setup) (image : List ℕ) (f : MachineFault)
     : Type 0 where
-  OfImage : HasImageFault windows (length image) f → HasOpeningFault windows image f
-  OfBoard : IsMonitored windows → length image ≡ length_of windows
-      → IsOpeningFault (configs_of windows) image f → HasOpeningFault windows image f
+  OfImage : HasImageFault setups (length image) f → HasOpeningFault setups image f
+  OfBoard : IsMonitored setups → length image ≡ length_of setups
+      → IsOpeningFault (configs_of setups) image f → HasOpeningFault setups image f

@@ -1,40 +1,116 @@
--- What serving a guest does to a board, and what it leaves of the other guests.
-use Rattle.std.specs.Prelude.{◌≡◌, ◌≢◌, ℕ, Bool, true, false, slice_get}
-use Rattle.disk.specs.Disk.{DiskCall, DiskState}
-use Rattle.board.specs.Board.{IsSound}
-use Rattle.board.specs.State.{BoardState, HasNoJob}
-use Rattle.board.specs.Steps.{Answer, Does}
+-- What serving a guest does to a board, in steps, and what it leaves of the other guests.
+use Rattle.std.specs.Prelude.{◌≡◌, ◌≢◌, ◌⊎◌, ℕ, Bool, List, [], ◌∷◌, slice_get}
+use Rattle.std.specs.Prelude.{slice_set, Some, None, Ok, true, IfSome, map, length, ◌++◌}
+use Rattle.chains.specs.declared.range.Range.{Range}
+use Rattle.disk.specs.OutboxDisk.{OutboxMakes, OutboxState, outbox_state}
+use Rattle.mmio_transport.specs.Asking.{AskingState, Notifies, after_told, known}
+use Rattle.mmio_transport.specs.Popping.{with_fault}
+use Rattle.mmio_transport.specs.Written.{queue_parts}
+use Rattle.mmio_transport.specs.declared.done.Published.{Published}
+use Rattle.guest_memory.specs.Memory.{kept}
+use Rattle.board.specs.Asking.{AskingBoardState, HandsReply, StepsAsked}
+use Rattle.board.specs.State.{BoardState, in_place}
+use Rattle.board.specs.Steps.{Answer}
+use Rattle.board.specs.declared.step.Seen.TheVariants.{Did}
 use Rattle.board.specs.declared.step.Step.{Step}
 use Rattle.board.specs.declared.step.Step.TheVariants as step
-use Rattle.board.specs.Moving.{Moves}
-use Rattle.machine.specs.declared.offering.Offered.{Offered}
-use Rattle.machine.specs.declared.offering.Offered.TheVariants.{All, Limit, Refused}
+use Rattle.rpmb_book.specs.Book.{due_of}
+use Rattle.machine.specs.Turn.{filled_parts, pop_parts, reply_parts}
 
--- a step of this guest, or of all guests; none of its driver
+abbrev pub Boards : Type 0
+Boards = AskingBoardState OutboxState
+
+-- one step of a board over an outbox
+abbrev pub Makes : Step → Answer → Boards → Boards → Type 0
+Makes s answer old new = StepsAsked outbox_state OutboxMakes s answer old new
+
+-- the devices' states are as they were; what they know of their memories may be another
+abbrev pub SameDevices : Boards → Boards → Type 0
+SameDevices old new = map (λ a. a.device) new.devices ≡ map (λ a. a.device) old.devices
+
+-- the guest's device has a copy of no byte
+abbrev pub HasNoCopy : ℕ → Boards → Type 0
+HasNoCopy guest b = IfSome (slice_get b.devices guest) (λ d. d.asks ≡ true → d.held ≡ [])
+
+-- the devices' queues are as they were
+abbrev pub QueuesStay : Boards → Boards → Type 0
+QueuesStay old new = map (λ a. a.device.queue) new.devices ≡ map (λ a. a.device.queue) old.devices
+
+-- what the publication of the reply in its place is to copy out
+abbrev pub IsNoted : ℕ → List Range → Boards → Type 0
+IsNoted guest parts b = IfSome (in_place (slice_get b.rest.dones guest)) (λ done.
+    IfSome (slice_get (map (λ a. a.device.queue) b.devices) guest) (λ queue.
+    parts ≡ filled_parts done.writable (length done.reply) ++ queue_parts queue))
+
+-- a step of this guest, or of all guests, that no device makes
 abbrev pub IsShare : ℕ → Step → Type 0
 IsShare guest (step.Drive g act) = ⊥
-IsShare guest (step.Pop g) = g ≡ guest
+IsShare guest (step.Pop g) = ⊥
 IsShare guest (step.Submit g) = g ≡ guest
 IsShare guest (step.Collect g) = g ≡ guest
-IsShare guest (step.Publish g) = g ≡ guest
+IsShare guest (step.Publish g) = ⊥
 IsShare guest (step.Take g) = g ≡ guest
 IsShare guest (step.Give g) = g ≡ guest
 IsShare guest step.Advance = Unit {0}
 IsShare guest step.Settle = Unit {0}
 
--- such steps, one after another, led from one board to the other
-pub data Runs {D : Type 0} (shows : D → DiskState) (makes : D → DiskCall → D → Type 0)
-    (guest : ℕ) : BoardState D → BoardState D → Type 0 where
-  Still : (b : BoardState D) → Runs shows makes guest b b
-  Then : (a b c : BoardState D) (s : Step) (answer : Answer) → Runs shows makes guest a b
-      → IsShare guest s → Does shows makes s answer b c → Runs shows makes guest a c
+-- What a device learns of its guest's memory, or does by itself: bytes were told; all copies are
+-- forgotten; there is no memory where bytes were asked for, and it waits for a reset; or it saw
+-- whether its driver is to be notified.
+pub data Learns (a a' : AskingState) : Type 0 where
+  Tells : (at : ℕ) (bytes : List ℕ) → a' ≡ after_told a at bytes → Learns a a'
+  Forgets : a' ≡ record a { held = kept (known a) } → Learns a a'
+  Refuses : a'
+      ≡ record a {
+        device = record a.device
+            { registers = with_fault a.device.registers };
+      }
+      → Learns a a'
+  Sees : (notify : Bool) → Notifies a (Ok notify) a' → Learns a a'
 
--- A guest is served: by its steps alone; and at each moment a stop leaves, of every guest, the
--- partition after a prefix of its accepted requests, with all that was settled before.
-pub record Serves {D : Type 0} (shows : D → DiskState) (makes : D → DiskCall → D → Type 0)
-    (guest : ℕ) (old new : BoardState D) : Type 0 where
-  pub runs : Runs shows makes guest old new
-  pub moves : IsSound shows old → Moves shows makes old new
+-- The guest's device learned something, and nothing else changed.
+pub record Knows (guest : ℕ) (old new : Boards) : Type 0 where
+  pub device : AskingState
+  pub its : slice_get old.devices guest ≡ Some device
+  pub device' : AskingState
+  pub learns : Learns device device'
+  pub after : new ≡ record old { devices = slice_set old.devices guest device' }
+
+-- The guest's device popped: what it wrote is to be copied out, unless it found no chain and that
+-- is in guest memory already.
+pub record PopsOne (guest : ℕ) (answer : Answer) (old : Boards) (parts : List Range)
+    (new : Boards) : Type 0 where
+  pub makes : Makes (step.Pop guest) answer old new
+  pub device : AskingState
+  pub its : slice_get old.devices guest ≡ Some device
+  pub parts_are : (parts ≡ pop_parts device.device)
+      ⊎ ((parts ≡ []) × ((answer ≡ Ok Did) → ⊥))
+
+-- A reply was handed to its device: all that this wrote is to be copied out, in its order.
+pub record HandsOne (guest : ℕ) (old : Boards) (parts : List Range) (new : Boards) : Type 0 where
+  pub published : Published
+  pub hands : HandsReply outbox_state OutboxMakes guest published old new
+  pub parts_are : parts ≡ reply_parts hands.device.device hands.done published
+
+-- The guest's steps, one after another, from one board to the other, with what is to be copied out
+-- into guest memory before and behind them.
+pub data Runs (guest : ℕ) : List Range → Boards → List Range → Boards → Type 0 where
+  Still : (ps : List Range) (b : Boards) → Runs guest ps b ps b
+  Then : (ps qs : List Range) (a b c : Boards) (s : Step) (answer : Answer)
+      → Runs guest ps a qs b → IsShare guest s → Makes s answer b c → Runs guest ps a qs c
+  -- the device steps only once all that it wrote before is in guest memory
+  Pops : (ps qs : List Range) (a b c : Boards) (answer : Answer)
+      → Runs guest ps a [] b → PopsOne guest answer b qs c → Runs guest ps a qs c
+  Hands : (ps qs : List Range) (a b c : Boards)
+      → Runs guest ps a [] b → HandsOne guest b qs c → Runs guest ps a qs c
+  LearnsOf : (ps qs : List Range) (a b c : Boards)
+      → Runs guest ps a qs b → Knows guest b c → Runs guest ps a qs c
+  -- the next part was given to be copied out
+  Copies : (ps qs : List Range) (q : Range) (a b : Boards)
+      → Runs guest ps a (q ∷ qs) b → Runs guest ps a qs b
+  -- there is no memory where a part was to be copied out: what is left of it is void
+  Voids : (ps qs : List Range) (a b c : Boards)
+      → Runs guest ps a qs b → Knows guest b c → Runs guest ps a [] c
 
 -- of every other guest the device stays, and what lies between two steps
 pub record OthersStay {D : Type 0} (guest : ℕ) (old new : BoardState D) : Type 0 where
@@ -43,20 +119,18 @@ pub record OthersStay {D : Type 0} (guest : ℕ) (old new : BoardState D) : Type
   pub dones : (k : ℕ) → k ≢ guest → slice_get new.dones k ≡ slice_get old.dones k
   pub intents : (k : ℕ) → k ≢ guest → slice_get new.intents k ≡ slice_get old.intents k
 
--- the steps that neither pop nor submit
-abbrev pub keeps_jobs : Step → Bool
-keeps_jobs (step.Drive g act) = true
-keeps_jobs (step.Pop g) = false
-keeps_jobs (step.Submit g) = false
-keeps_jobs (step.Collect g) = true
-keeps_jobs (step.Publish g) = true
-keeps_jobs (step.Take g) = true
-keeps_jobs (step.Give g) = true
-keeps_jobs step.Advance = true
-keeps_jobs step.Settle = true
+-- The book heard of the disk's last call, the next call was made, and the book heard of it.
+pub record Hears (old new : Boards) : Type 0 where
+  pub heard : Boards
+  pub made : Boards
+  pub before : Answer
+  pub call : Answer
+  pub behind : Answer
+  pub hears : Makes step.Settle before old heard
+  pub makes_it : Makes step.Advance call heard made
+  pub hears_it : Makes step.Settle behind made new
 
--- no chain that was popped is without its answer, unless one was refused
-abbrev pub IsTaken : {D : Type 0} → ℕ → Offered → BoardState D → Type 0
-IsTaken guest All b = HasNoJob guest b
-IsTaken guest Limit b = HasNoJob guest b
-IsTaken guest (Refused fault) b = Unit {0}
+-- no reply of the guest lies between two steps, and the book gives none
+pub record HasNoReply {D : Type 0} (guest : ℕ) (b : BoardState D) : Type 0 where
+  pub place : in_place (slice_get b.dones guest) ≡ None
+  pub due : slice_get b.dones guest ≡ Some None → due_of b.book guest ≡ None

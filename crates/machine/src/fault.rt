@@ -1,9 +1,9 @@
 //! Why a call of a monitor was refused.
 ghost use Rattle.std.specs.Prelude.{◌≡◌, ◌≢◌};
 ghost use Rattle.machine.specs.Opening.{opening_reason};
-ghost use Rattle.machine.specs.Stepping.{reason_of};
+ghost use Rattle.board.specs.declared.step.StepFault.TheVariants as step_fault;
+ghost use Rattle.machine.specs.Ending.{reason_of};
 
-use board::StepFault;
 use mmio_transport::DeviceFault;
 use recovery::OpenFault;
 use rpmb_book::Refused;
@@ -15,7 +15,7 @@ pub enum MachineFault {
     /// The board has no such guest.
     #[error("NoGuest")]
     NoGuest,
-    /// The range doesn't lie in the guest's window, or there is no room for a single range.
+    /// There is less room than the largest part has.
     #[error("OutOfRange")]
     OutOfRange,
     /// Memory was refused; the same call may succeed later.
@@ -52,18 +52,26 @@ pub enum MachineFault {
 }
 
 impl MachineFault {
-    /// Why a step was refused.
-    pub(crate) fn of_step(fault: StepFault) -> MachineFault
-        ensures { result ≡ reason_of fault }
+    /// Why a pop was refused.
+    pub(crate) fn of_device(fault: DeviceFault) -> MachineFault
+        ensures { result ≡ reason_of (step_fault.Device fault) }
     {
         match fault {
-            StepFault::Memory(_) => MachineFault::OutOfRange,
-            StepFault::Device(DeviceFault::NoMemory) => MachineFault::NoMemory,
-            StepFault::Device(_) => MachineFault::Stopped,
-            StepFault::Book(Refused::NoMemory) => MachineFault::NoMemory,
-            StepFault::Book(Refused::Busy) => MachineFault::Busy,
-            StepFault::Book(_) => MachineFault::HistoryFull,
-            StepFault::Store(_) => MachineFault::DiskFault,
+            DeviceFault::NoMemory => MachineFault::NoMemory,
+            DeviceFault::Refused(_) => MachineFault::Stopped,
+            DeviceFault::NeedsReset => MachineFault::Stopped,
+        }
+    }
+
+    /// Why the book answered no job.
+    pub(crate) fn of_book(refused: Refused) -> MachineFault
+        ensures { result ≡ reason_of (step_fault.Book refused) }
+    {
+        match refused {
+            Refused::NoMemory => MachineFault::NoMemory,
+            Refused::Busy => MachineFault::Busy,
+            Refused::HistoryFull => MachineFault::HistoryFull,
+            Refused::Foreign => MachineFault::HistoryFull,
         }
     }
 

@@ -1,115 +1,188 @@
 //! Letting replies leave whose need is settled.
-ghost use Rattle.std.specs.Prelude.{◌≡◌, None, Some, slice_get};
-ghost use Rattle.machine.specs.Serving.{Serves};
-ghost use Rattle.board.specs.State.{in_place};
-ghost use Rattle.machine.specs.declared.fault.MachineFault.{MachineFault};
-ghost use Rattle.machine.specs.Stepping.{HasNoReply};
-ghost use Rattle.machine.specs.Written.{IsDoneNoted, IsQueueNoted, Notes, Writes};
+ghost use Rattle.std.specs.Prelude.{◌≡◌, ◌≢◌, ◌<◌, ◌++◌, [], List, length, true, false};
+ghost use Rattle.chains.specs.declared.range.Range.{Range as Part};
+ghost use Rattle.guest_memory.specs.declared.ask.Ask.{Ask};
+ghost use Rattle.mmio_transport.specs.Written.{range_in};
+ghost use Rattle.machine.specs.Ending.{AsksIn};
+ghost use Rattle.machine.specs.Serving.{HasNoReply, IsNoted, QueuesStay, Runs, SameDevices};
+ghost use Rattle.machine.specs.Turn.{KeepsStage, filled_part, filled_parts};
 
-use crate::fault::MachineFault;
-use crate::offering::note_queue;
-use crate::ranges::{Range, has_room, note_reply};
-use crate::stepping::{is_did, is_wrote, make};
-use board::{Board, Step};
-use disk::Disk;
+use crate::taking::begin;
+use crate::turn::Turn;
+use board::AskingBoard;
+use chains::Range;
+use disk::OutboxDisk;
+use guest_memory::Ask;
+use mmio_transport::Published;
 
-/// How many replies one call writes, at most: the book holds 64, and one lies in its place.
-const MOST_LEFT: u32 = 65;
+/// As many bytes as a reply has, at most.
+const MOST: usize = 8_192;
 
-/// Why no more left.
+/// What became of the next reply.
 #[derive(Clone, Copy, Debug, PartialEq, Eq)]
 pub(crate) enum Left {
+    /// Bytes are asked for, and nothing changed.
+    Asks(Ask),
+    /// It was handed to its device.
+    Did,
     /// None may leave.
-    All,
-    /// There is no room for the ranges of the next, or as many left as one call writes.
-    Limit,
+    Nothing,
     /// Memory was refused.
-    Refused(MachineFault),
+    NoMemory,
 }
 
-/// Notes what the publication of the reply in its place writes: `None` where it was noted, and why
-/// not else. Where it is the first that leaves, the ranges have room: the last of them grows.
-fn note_next<D: Disk>(
-    board: &Board<D>,
-    guest: u16,
-    first: bool,
-    written: &mut Vec<Range>,
-    room: usize,
-) -> Option<Left>
-    ensures notes { Notes room written.old.items written.new.items }
-    ensures noted { result ≡ None
-        → IsDoneNoted (in_place (slice_get board.now.dones guest)) written.new.items
-        × IsQueueNoted (slice_get board.now.devices guest) written.new.items }
-    ensures memory { (f : MachineFault) → result ≡ Some (Left.Refused f)
-        → f ≡ MachineFault.NoMemory }
-    ensures all { result ≡ Some Left.All → in_place (slice_get board.now.dones guest) ≡ None }
+/// Notes the part of a range that so many bytes fill, where there is one. Whether it is noted.
+fn note_one(turn: &mut Turn, range: &Range, count: u64) -> bool
+    ensures noted { result ≡ true
+        → turn.new.parts ≡ turn.old.parts ++ filled_part range.now count }
+    ensures rest { turn.new ≡ record turn.old { parts = turn.new.parts } }
 {
-    let Some(done) = board.done(guest) else {
-        return Some(Left::All);
+    let len = u64::from(range.len).min(count) as u32;
+    if len == 0 {
+        return true;
+    }
+    turn.note(Range { at: range.at, len })
+}
+
+/// Notes the parts of these ranges that so many bytes fill. Whether all are noted.
+fn note_filled(turn: &mut Turn, ranges: &[Range], count: u64) -> bool
+    ensures noted { result ≡ true
+        → turn.new.parts ≡ turn.old.parts ++ filled_parts ranges.now count }
+    ensures rest { turn.new ≡ record turn.old { parts = turn.new.parts } }
+{
+    let mut left = count;
+    for range in ranges {
+        if !note_one(turn, range, left) {
+            return false;
+        }
+        left = left.saturating_sub(u64::from(range.len));
+    }
+    true
+}
+
+/// Notes a part of a queue, where there is one. Whether it is noted.
+fn note_part(turn: &mut Turn, part: Option<Range>) -> bool
+    ensures noted { result ≡ true → turn.new.parts ≡ turn.old.parts ++ range_in part }
+    ensures rest { turn.new ≡ record turn.old { parts = turn.new.parts } }
+{
+    match part {
+        Some(part) => turn.note(part),
+        None => true,
+    }
+}
+
+/// Notes all that the publication of the reply in its place writes, in the order in which it is
+/// copied out: the reply, the used element, the used index. Whether all is noted.
+fn note_reply(board: &AskingBoard<OutboxDisk>, guest: u16, turn: &mut Turn) -> bool
+    requires { turn.old.parts ≡ [] }
+    ensures noted { result ≡ true → IsNoted guest turn.new.parts board.now }
+    ensures rest { turn.new ≡ record turn.old { parts = turn.new.parts } }
+{
+    let Some(done) = board.rest().done(guest) else {
+        return true;
     };
-    if !first && !has_room(written, room, done.writable().len().saturating_add(2)) {
-        return Some(Left::Limit);
+    let Some(device) = board.device_of(guest) else {
+        return true;
+    };
+    if !note_filled(turn, done.writable(), done.reply().len() as u64) {
+        return false;
     }
-    if !note_reply(written, room, done) {
-        return Some(Left::Refused(MachineFault::NoMemory));
+    if !note_part(turn, device.written()) {
+        return false;
     }
-    if !note_queue(board, guest, written, room) {
-        return Some(Left::Refused(MachineFault::NoMemory));
-    }
-    None
+    note_part(turn, device.indexed())
 }
 
-/// Lets the next reply leave, where it may: `None`, or why not.
-fn let_one_leave<D: Disk>(
-    board: &mut Board<D>,
-    guest: u16,
-    held: &mut u16,
-    answered: &mut u32,
-    written: &mut Vec<Range>,
-    room: usize,
-) -> Option<Left>
-    ensures serves { Serves D.state D.makes guest board.old board.new }
-    ensures jobs { board.new.jobs ≡ board.old.jobs }
-    ensures writes { Writes guest room written.old.items written.new.items board.old board.new }
-    ensures memory { (f : MachineFault) → result ≡ Some (Left.Refused f)
-        → f ≡ MachineFault.NoMemory }
-    ensures all { result ≡ Some Left.All → HasNoReply guest board.new }
+/// Tells zeros for all that was noted: a publication writes over them, so what they were is
+/// nothing to it. Whether there was memory for them.
+fn tell_zeros(board: &mut AskingBoard<OutboxDisk>, guest: u16, turn: &Turn) -> bool
+    requires { guest < length board.old.devices }
+    ensures runs { (ps : List Part) → Runs guest ps board.old ps board.new }
+    ensures rest { board.new.rest ≡ board.old.rest }
+    ensures queues { QueuesStay board.old board.new }
+    ensures count { length board.new.devices ≡ length board.old.devices }
 {
-    let collected = make(board, Step::Collect(guest));
-    if is_did(collected) {
-        *held = held.saturating_sub(1);
-    }
-    let first = *answered == 0;
-    if let Some(left) = note_next(board, guest, first, written, room) {
-        return Some(left);
-    }
-    let published = make(board, Step::Publish(guest));
-    if is_wrote(published) {
-        *answered = answered.saturating_add(1);
-    }
-    None
-}
-
-/// Lets replies leave until none may, or the ranges have no room. `answered` counts those that
-/// were written, and `held` those that still wait.
-pub(crate) fn let_all_leave<D: Disk>(
-    board: &mut Board<D>,
-    guest: u16,
-    held: &mut u16,
-    answered: &mut u32,
-    written: &mut Vec<Range>,
-    room: usize,
-) -> Left
-    ensures serves { Serves D.state D.makes guest board.old board.new }
-    ensures jobs { board.new.jobs ≡ board.old.jobs }
-    ensures writes { Writes guest room written.old.items written.new.items board.old board.new }
-    ensures memory { (f : MachineFault) → result ≡ Left.Refused f → f ≡ MachineFault.NoMemory }
-    ensures all { result ≡ Left.All → HasNoReply guest board.new }
-{
-    for _reply in 0..MOST_LEFT {
-        if let Some(left) = let_one_leave(board, guest, held, answered, written, room) {
-            return left;
+    let zeros = [0u8; MOST];
+    for part in turn.parts.iter() {
+        let count = (part.len as usize).min(MOST);
+        if board.device(guest).tell(part.at, &zeros[..count]).is_err() {
+            return false;
         }
     }
-    Left::Limit
+    true
+}
+
+/// Begins the publication of the reply in its place. Whether there was memory for what it writes.
+fn prepare(board: &mut AskingBoard<OutboxDisk>, guest: u16, turn: &mut Turn) -> bool
+    requires parts { turn.old.parts ≡ [] }
+    requires guest { guest < length board.old.devices }
+    ensures runs { (ps : List Part) → Runs guest ps board.old ps board.new }
+    ensures rest { board.new.rest ≡ board.old.rest }
+    ensures noted { result ≡ true → IsNoted guest turn.new.parts board.new }
+    ensures idle { result ≡ false → turn.new.parts ≡ [] }
+    ensures count { length board.new.devices ≡ length board.old.devices }
+    ensures keeps { KeepsStage turn.old turn.new }
+{
+    begin(board, guest, turn);
+    if !note_reply(board, guest, turn) {
+        turn.stop();
+        return false;
+    }
+    if !tell_zeros(board, guest, turn) {
+        turn.stop();
+        return false;
+    }
+    true
+}
+
+/// Hands the reply in its place to its device.
+fn publish(board: &mut AskingBoard<OutboxDisk>, guest: u16, turn: &mut Turn) -> Left
+    requires { IsNoted guest turn.old.parts board.old }
+    ensures runs { Runs guest [] board.old turn.new.parts board.new }
+    ensures idle { result ≢ Left.Did → turn.new.parts ≡ [] }
+    ensures asks { (ask : Ask) → result ≡ Left.Asks ask → AsksIn guest ask board.new }
+    ensures either { (result ≢ Left.Nothing) × (result ≢ Left.NoMemory) }
+    ensures count { length board.new.devices ≡ length board.old.devices }
+    ensures keeps { KeepsStage turn.old turn.new }
+{
+    match board.publish(guest) {
+        Err(ask) => {
+            turn.void();
+            Left::Asks(ask)
+        }
+        Ok(Some(Published::Wrote { notify: _ })) => {
+            turn.going = false;
+            Left::Did
+        }
+        Ok(Some(Published::Dropped)) => {
+            turn.stop();
+            Left::Did
+        }
+        Ok(None) => {
+            turn.stop();
+            Left::Did
+        }
+    }
+}
+
+/// Lets the guest's next reply leave, where it may.
+pub(crate) fn leave_one(board: &mut AskingBoard<OutboxDisk>, guest: u16, turn: &mut Turn) -> Left
+    requires parts { turn.old.parts ≡ [] }
+    requires guest { guest < length board.old.devices }
+    ensures runs { Runs guest [] board.old turn.new.parts board.new }
+    ensures idle { result ≢ Left.Did → turn.new.parts ≡ [] }
+    ensures asks { (ask : Ask) → result ≡ Left.Asks ask → AsksIn guest ask board.new }
+    ensures nothing { result ≡ Left.Nothing → HasNoReply guest board.new.rest
+        × (board.new.devices ≡ board.old.devices) × (board.new.rest.jobs ≡ board.old.rest.jobs) }
+    ensures count { length board.new.devices ≡ length board.old.devices }
+    ensures keeps { KeepsStage turn.old turn.new }
+{
+    board.collect(guest);
+    if board.rest().done(guest).is_none() {
+        return Left::Nothing;
+    }
+    if !prepare(board, guest, turn) {
+        return Left::NoMemory;
+    }
+    publish(board, guest, turn)
 }

@@ -1,129 +1,254 @@
-//! Serving a guest: taking what it offered, handing it on, and letting replies leave.
-ghost use Rattle.std.specs.Prelude.{◌≡◌, ◌≢◌, None, Some, true, false, length};
-ghost use Rattle.disk.specs.OutboxDisk.{OutboxMakes, outbox_state};
-ghost use Rattle.board.specs.Board.{IsSound};
-ghost use Rattle.machine.specs.Machine.{is_sync, waits_for_sync};
+//! Serving a guest: taking what it offered, handing it on, letting replies leave, and notifying.
+ghost use Rattle.std.specs.Prelude.{◌≡◌, ◌≢◌, ◌<◌, ◌∷◌, [], List, length, true, false};
+ghost use Rattle.std.specs.Prelude.{◌⊎◌, Option, None, Some, nat_lt};
+ghost use Rattle.chains.specs.declared.range.Range.{Range as Part};
+ghost use Rattle.guest_memory.specs.declared.ask.Ask.{Ask};
+ghost use Rattle.flusher.specs.Store.{next_call};
+ghost use Rattle.board.specs.State.{HasNoJob, waiting};
+ghost use Rattle.machine.specs.Ending.{AsksIn, FindsNone, HasReason, RestsAt, Went, is_write};
+ghost use Rattle.machine.specs.Serving.{HasNoReply, Runs, SameDevices};
+ghost use Rattle.machine.specs.Turn.{KeepsStage};
 ghost use Rattle.machine.specs.declared.fault.MachineFault.{MachineFault};
-ghost use Rattle.board.specs.State.{HasNoJob};
-ghost use Rattle.machine.specs.Serving.{Serves};
-ghost use Rattle.machine.specs.Ending.{HasNoMore, is_write, told_fault};
-ghost use Rattle.machine.specs.Reasons.{HasReason};
-ghost use Rattle.machine.specs.Written.{Writes};
+ghost use Rattle.machine.specs.declared.taking.Taken.TheVariants as taken_as;
 
 use crate::fault::MachineFault;
 use crate::handing::{hand_in, write_out};
-use crate::leaving::{Left, let_all_leave};
-use crate::offering::{Offered, take_all};
-use crate::ranges::Range;
-use board::Board;
+use crate::leaving::{Left, leave_one};
+use crate::taking::{Taken, begin, take_one};
+use crate::turn::{Stage, Turn};
+use board::AskingBoard;
+use chains::Range;
 use disk::OutboxDisk;
 use flusher::Call;
+use guest_memory::Ask;
 
-/// What a call of serve came to.
-#[derive(Clone, Copy, Debug, PartialEq, Eq)]
-pub struct Served {
-    /// How many replies were written into the window.
-    pub answered: u32,
-    /// Why a chain that is available wasn't answered, where it is so.
-    pub fault: Option<MachineFault>,
-    /// How many of the caller's ranges were filled. All that was written into the window lies in
-    /// them.
-    pub ranges: usize,
-    /// A sync is awaited: the outbox is to be taken and written, the file synced, and that told.
-    pub sync: bool,
-    /// There is more to do at once: the call is to be made again, once the outbox was taken.
-    pub again: bool,
+/// How many moves one call makes before it tells its monitor to call again.
+const MOST_MOVES: u32 = 16;
+
+/// What a serve needs next.
+#[derive(Clone, Copy)]
+pub(crate) enum Next {
+    /// That it is called again, once the outbox was taken.
+    Again,
+    /// To be told bytes of guest memory.
+    Read(Ask),
+    /// That bytes are copied into it.
+    Write(Range),
+    /// That the driver is notified.
+    Call,
+    /// Nothing, until the guest is to be served anew; or why not.
+    Rest(Option<MachineFault>),
 }
 
-impl Served {
-    /// Nothing was done, for this reason.
-    pub(crate) fn refused(fault: MachineFault) -> Served
-        ensures fault { result.fault ≡ Some fault }
-        ensures ranges { result.ranges ≡ 0 }
-    {
-        Served {
-            answered: 0,
-            fault: Some(fault),
-            ranges: 0,
-            sync: false,
-            again: false,
+/// Sees whether the driver is to be notified of the replies that left. `None` where it isn't.
+fn notify(board: &mut AskingBoard<OutboxDisk>, guest: u16, turn: &mut Turn) -> Option<Next>
+    requires { guest < length board.old.devices }
+    ensures runs { (ps : List Part) → Runs guest ps board.old ps board.new }
+    ensures rest { board.new.rest ≡ board.old.rest }
+    ensures parts { turn.new.parts ≡ turn.old.parts }
+    ensures asks { (ask : Ask) → result ≡ Some (Next.Read ask) → AsksIn guest ask board.new }
+    ensures devices { result ≡ None → SameDevices board.old board.new }
+    ensures others { (f : Option MachineFault) → result ≢ Some (Next.Rest f) }
+    ensures writes { (part : Part) → result ≢ Some (Next.Write part) }
+    ensures count { length board.new.devices ≡ length board.old.devices }
+    ensures asked { turn.new.asked ≡ turn.old.asked }
+{
+    begin(board, guest, turn);
+    match board.device(guest).notify() {
+        Err(ask) => {
+            turn.go_to(Stage::Notifying);
+            Some(Next::Read(ask))
+        }
+        Ok(true) => {
+            turn.take_next();
+            Some(Next::Call)
+        }
+        Ok(false) => {
+            turn.take_next();
+            None
         }
     }
 }
 
-fn fault_of(offered: Offered, left: Left) -> Option<MachineFault>
-    ensures { result ≡ told_fault offered left }
+/// Whether the next call of the disk is a write.
+fn has_write(board: &AskingBoard<OutboxDisk>) -> bool
+    ensures { result ≡ is_write (next_call board.now.rest.store.broken board.now.rest.store.guests) }
 {
-    match offered {
-        Offered::Refused(fault) => Some(fault),
-        _ => match left {
-            Left::Refused(fault) => Some(fault),
-            _ => None,
-        },
-    }
-}
-
-/// Whether a further call does more, before any sync.
-fn is_unfinished(offered: Offered, left: Left, answered: u32, next: Call) -> bool
-    ensures left { result ≡ false → left ≢ Left.Limit }
-    ensures next { result ≡ false → is_write next ≡ false }
-{
-    match left {
-        Left::Limit => return true,
-        _ => {}
-    }
-    match next {
-        Call::Write => return true,
-        _ => {}
-    }
-    match offered {
-        Offered::Limit => answered > 0,
-        Offered::Refused(MachineFault::Busy) => answered > 0,
-        _ => false,
-    }
-}
-
-fn is_sync(next: Call) -> bool
-    ensures { result ≡ is_sync next }
-{
-    match next {
-        Call::Sync => true,
-        Call::Write => false,
+    match board.rest().next_call() {
+        Call::Write => true,
+        Call::Sync => false,
         Call::None => false,
     }
 }
 
-/// Serves a guest: takes chains while fewer than `most` wait, hands on what was accepted, and lets
-/// replies leave, of which it notes at most `room` ranges.
-pub(crate) fn serve(
-    board: &mut Board<OutboxDisk>,
+/// Why the guest rests, after this became of the next chain; `None` where it doesn't rest yet.
+fn why_rests(
+    board: &AskingBoard<OutboxDisk>,
     guest: u16,
     most: u16,
-    held: &mut u16,
-    written: &mut Vec<Range>,
-    room: usize,
-) -> Served
-    ensures serves { Serves outbox_state OutboxMakes guest board.old board.new }
-    ensures left { IsSound outbox_state board.old → result.fault ≡ None → HasNoJob guest board.new }
-    ensures sync { result.sync ≡ waits_for_sync board.new }
-    ensures writes { Writes guest room written.old.items written.new.items board.old board.new }
-    ensures ranges { result.ranges ≡ length written.new.items }
-    ensures reason { (f : MachineFault) → result.fault ≡ Some f
-        → HasReason outbox_state OutboxMakes guest f board.old board.new }
-    ensures rest { result.fault ≡ None → result.again ≡ false → HasNoMore guest board.new }
+    taken: Taken,
+) -> Option<Option<MachineFault>>
+    ensures rests { result ≡ Some None → (taken ≡ Taken.Nothing)
+        ⊎ ((taken ≡ Taken.Limit) × (nat_lt (waiting guest board.now.rest) most ≡ false)) }
+    ensures writes { result ≡ Some None
+        → is_write (next_call board.now.rest.store.broken board.now.rest.store.guests) ≡ false }
+    ensures fault { (f : MachineFault) → result ≡ Some (Some f) → taken ≡ Taken.Refused f }
 {
-    let offered = take_all(board, guest, most, held, written, room);
+    if has_write(board) {
+        return None;
+    }
+    match taken {
+        Taken::Nothing => Some(None),
+        Taken::Limit => {
+            if board.rest().awaits_fewer(guest, most) {
+                None
+            } else {
+                Some(None)
+            }
+        }
+        Taken::Refused(fault) => Some(Some(fault)),
+        _ => None,
+    }
+}
+
+/// No more is taken, no reply may leave, and the driver knows of all that left.
+fn rest(
+    board: &mut AskingBoard<OutboxDisk>,
+    guest: u16,
+    most: u16,
+    turn: &mut Turn,
+    taken: Taken,
+) -> Next
+    requires guest { guest < length board.old.devices }
+    requires none { taken ≡ Taken.Nothing → FindsNone guest board.old }
+    requires limit { (taken ≡ Taken.Nothing) ⊎ (taken ≡ Taken.Limit)
+        → HasNoJob guest board.old.rest }
+    requires replies { HasNoReply guest board.old.rest }
+    requires fault { (f : MachineFault) → taken ≡ Taken.Refused f → HasReason guest f }
+    ensures went { Went guest most turn.old turn.new board.old board.new (Some result) }
+    ensures parts { turn.new.parts ≡ turn.old.parts }
+{
+    match why_rests(board, guest, most, taken) {
+        None => Next::Again,
+        Some(fault) => {
+            begin(board, guest, turn);
+            turn.take_next();
+            Next::Rest(fault)
+        }
+    }
+}
+
+/// Hands on what was accepted, and lets a reply leave; where there is none the guest rests.
+fn settle_down(
+    board: &mut AskingBoard<OutboxDisk>,
+    guest: u16,
+    most: u16,
+    turn: &mut Turn,
+    taken: Taken,
+) -> Option<Next>
+    requires parts { turn.old.parts ≡ [] }
+    requires guest { guest < length board.old.devices }
+    requires none { taken ≡ Taken.Nothing → FindsNone guest board.old }
+    requires limit { (taken ≡ Taken.Nothing) ⊎ (taken ≡ Taken.Limit)
+        → HasNoJob guest board.old.rest }
+    requires fault { (f : MachineFault) → taken ≡ Taken.Refused f → HasReason guest f }
+    ensures went { Went guest most turn.old turn.new board.old board.new result }
+{
     hand_in(board, guest);
     write_out(board);
-    let mut answered = 0;
-    let left = let_all_leave(board, guest, held, &mut answered, written, room);
-    let next = board.next_call();
-    let sync = is_sync(next);
-    Served {
-        answered,
-        fault: fault_of(offered, left),
-        ranges: written.len(),
-        sync,
-        again: is_unfinished(offered, left, answered, next),
+    match leave_one(board, guest, turn) {
+        Left::Asks(ask) => {
+            turn.go_to(Stage::Leaving);
+            Some(Next::Read(ask))
+        }
+        Left::Did => {
+            turn.go_to(Stage::Leaving);
+            None
+        }
+        Left::NoMemory => {
+            turn.take_next();
+            Some(Next::Rest(Some(MachineFault::NoMemory)))
+        }
+        Left::Nothing => match notify(board, guest, turn) {
+            Some(next) => Some(next),
+            None => Some(rest(board, guest, most, turn, taken)),
+        },
     }
+}
+
+/// Takes the next chain; where there is none, hands on what was accepted.
+fn take(board: &mut AskingBoard<OutboxDisk>, guest: u16, most: u16, turn: &mut Turn) -> Option<Next>
+    requires parts { turn.old.parts ≡ [] }
+    requires guest { guest < length board.old.devices }
+    ensures went { Went guest most turn.old turn.new board.old board.new result }
+{
+    let taken = take_one(board, guest, most, turn);
+    match taken {
+        Taken::Asks(ask) => Some(Next::Read(ask)),
+        Taken::Did => None,
+        _ => settle_down(board, guest, most, turn, taken),
+    }
+}
+
+/// Lets the next reply leave; where there is none, the driver is notified of those that left.
+fn leave(
+    board: &mut AskingBoard<OutboxDisk>,
+    guest: u16,
+    most: u16,
+    turn: &mut Turn,
+) -> Option<Next>
+    requires parts { turn.old.parts ≡ [] }
+    requires guest { guest < length board.old.devices }
+    ensures went { Went guest most turn.old turn.new board.old board.new result }
+{
+    match leave_one(board, guest, turn) {
+        Left::Asks(ask) => Some(Next::Read(ask)),
+        Left::Did => None,
+        Left::NoMemory => {
+            turn.take_next();
+            Some(Next::Rest(Some(MachineFault::NoMemory)))
+        }
+        Left::Nothing => {
+            turn.go_to(Stage::Notifying);
+            None
+        }
+    }
+}
+
+/// Makes the next move of the guest's serve. `None` where the one after it may follow at once.
+fn move_on(
+    board: &mut AskingBoard<OutboxDisk>,
+    guest: u16,
+    most: u16,
+    turn: &mut Turn,
+) -> Option<Next>
+    requires { guest < length board.old.devices }
+    ensures went { Went guest most turn.old turn.new board.old board.new result }
+{
+    if let Some(part) = turn.next_part() {
+        return Some(Next::Write(part));
+    }
+    match turn.stage {
+        Stage::Taking => take(board, guest, most, turn),
+        Stage::Leaving => leave(board, guest, most, turn),
+        Stage::Notifying => notify(board, guest, turn),
+    }
+}
+
+/// Goes on with the guest's serve until something is needed.
+pub(crate) fn serve(
+    board: &mut AskingBoard<OutboxDisk>,
+    guest: u16,
+    most: u16,
+    turn: &mut Turn,
+) -> Next
+    requires { guest < length board.old.devices }
+    ensures went { Went guest most turn.old turn.new board.old board.new (Some result) }
+{
+    for _move in 0..MOST_MOVES {
+        if let Some(next) = move_on(board, guest, most, turn) {
+            return next;
+        }
+    }
+    Next::Again
 }

@@ -1,29 +1,23 @@
 //! What a monitor asks of a guest's device beside the plain one. The device itself knows nothing
 //! of it.
-ghost use Rattle.std.specs.Prelude.{◌≡◌, ◌≤◌, ◌<◌, ◌^◌, true};
+ghost use Rattle.std.specs.Prelude.{◌≡◌, true};
 ghost use Rattle.mmio_transport.specs.Device.{read_value};
 ghost use Rattle.machine.specs.Settings.{is_plain, withheld_of, features_shown, features_taken};
-ghost use Rattle.machine.specs.Settings.{is_placed, value_shown, value_taken, most_of};
+ghost use Rattle.machine.specs.Settings.{value_shown, value_taken, most_of};
 
-use mmio_transport::{Device, register};
+use mmio_transport::{AskingDevice, register};
 use rpmb_book::HELD;
 use rpmb_frame::GuestConfig;
 
 /// `VIRTIO_F_ACCESS_PLATFORM`, 33, among the features 32 to 63 (VIRTIO 1.2, 6).
 const ACCESS_PLATFORM: u32 = 2;
 
-/// A window begins at a multiple of so many bytes.
-const PAGE: u64 = 4_096;
-
 /// One guest of a machine: how its device is set up, and what is asked beside the plain device.
 #[derive(Clone, Copy, Debug, PartialEq, Eq)]
-pub struct Window {
-    /// The device, with the length of its window in bytes.
+pub struct Setup {
+    /// The device. `memory` is the end of the guest's addresses, any number of bytes: where there
+    /// is memory below it only the monitor knows.
     pub config: GuestConfig,
-    /// The guest address at which the window begins, in bytes: a multiple of 4,096, such that the
-    /// window ends below 2^64. Stores, loads and ranges count from guest address 0. What a driver
-    /// tells its device counts from here: rings, descriptors and what they name.
-    pub base: u64,
     /// Feature bits (VIRTIO 1.2, 6) that the device doesn't offer; a driver that takes one all the
     /// same is refused FEATURES_OK.
     pub withheld: u64,
@@ -35,7 +29,7 @@ pub struct Window {
     pub platform: bool,
 }
 
-impl Window {
+impl Setup {
     /// The features withheld of a half.
     #[tactic(auto, unfolding(crate::specs::Settings::withheld_of))]
     fn withheld_of(&self, half: u32) -> u32
@@ -78,9 +72,9 @@ impl Window {
 
     /// What a driver reads at an offset from its device's base.
     #[tactic(auto, unfolding(crate::specs::Settings::value_shown, crate::specs::Settings::is_plain))]
-    pub(crate) fn read(&self, device: &Device, offset: u32, width: u8) -> u32
-        ensures value { result ≡ value_shown self.now device.now offset width }
-        ensures plain { is_plain self.now ≡ true → result ≡ read_value device.now offset width }
+    pub(crate) fn read(&self, device: &AskingDevice, offset: u32, width: u8) -> u32
+        ensures value { result ≡ value_shown self.now device.now.device offset width }
+        ensures plain { is_plain self.now ≡ true → result ≡ read_value device.now.device offset width }
     {
         let value = device.read(offset, width);
         if self.is_plain() || width != 4 {
@@ -103,22 +97,14 @@ impl Window {
 
     /// What the device gets where its driver writes this value.
     #[tactic(auto, unfolding(crate::specs::Settings::value_taken, crate::specs::Settings::is_plain))]
-    pub(crate) fn taken(&self, device: &Device, offset: u32, width: u8, value: u32) -> u32
-        ensures value { result ≡ value_taken self.now device.now offset width value }
+    pub(crate) fn taken(&self, device: &AskingDevice, offset: u32, width: u8, value: u32) -> u32
+        ensures value { result ≡ value_taken self.now device.now.device offset width value }
         ensures plain { is_plain self.now ≡ true → result ≡ value }
     {
         if self.is_plain() || width != 4 || offset != register::DRIVER_FEATURES {
             return value;
         }
         self.features_taken(device.driver_features_sel(), value)
-    }
-
-    /// Whether the window may begin where it does.
-    #[tactic(auto, unfolding(crate::specs::Settings::is_placed))]
-    pub(crate) fn is_placed(&self) -> bool
-        ensures { result ≡ is_placed self.now }
-    {
-        self.base % PAGE == 0 && self.base <= u64::MAX - self.config.memory
     }
 
     /// How many chains may be popped and not yet answered.

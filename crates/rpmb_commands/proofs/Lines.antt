@@ -52,21 +52,27 @@ or_false : (b : Bool) → (b || false) ≡ b
 or_false true = refl
 or_false false = refl
 
+or_true : (b : Bool) → (b || true) ≡ true
+or_true true = refl
+or_true false = refl
+
 pub list_any-push : (p : List ℕ → Bool) (lines : List (List ℕ)) (line : List ℕ)
     → list_any p (lines ++ line ∷ []) ≡ (list_any p lines || p line)
 list_any-push p lines line = list_any-append p lines (line ∷ [])
     ∙ ap (λ b. list_any p lines || b) (or_false (p line))
 
 -- what was told of a text so far, of which this is left
-abbrev pub SoFar : Judging → (given left start now : Option (List ℕ)) → (wrong refused : ℕ) → Type 0
-SoFar by given left start now wrong refused =
+abbrev pub SoFar : Judging → (given left start now : Option (List ℕ)) → (wrong refused : ℕ) → Bool
+    → Type 0
+SoFar by given left start now wrong refused has_line =
     IfSome given (λ text. (rest : List ℕ) × (left ≡ Some rest)
-    × Said by text rest start now wrong refused)
+    × Said by text rest start now wrong refused has_line)
 
-pub said_none : (by : Judging) (given start : Option (List ℕ)) (wrong refused : ℕ) → wrong ≡ 0
-    → refused ≡ 0 → SoFar by given given start start wrong refused
-said_none by None start wrong refused w r = tt
-said_none by (Some text) start wrong refused w r = (
+pub said_none : (by : Judging) (given start : Option (List ℕ)) (wrong refused : ℕ)
+    (has_line : Bool) → wrong ≡ 0 → refused ≡ 0 → has_line ≡ false
+    → SoFar by given given start start wrong refused has_line
+said_none by None start wrong refused has_line w r l = tt
+said_none by (Some text) start wrong refused has_line w r l = (
   text,
   refl,
   record {
@@ -75,20 +81,22 @@ said_none by (Some text) start wrong refused w r = (
     printed = Appends-nil start;
     wrong_is = rw w refl;
     refused_is = rw r refl;
+    line_is = l;
   },
 )
 
 pub said_more : (by : Judging) (given left after start now next : Option (List ℕ))
-    (wrong refused wrong' refused' : ℕ) (line : List ℕ)
-    → SoFar by given left start now wrong refused
+    (wrong refused wrong' refused' : ℕ) (has_line has_line' : Bool) (line : List ℕ)
+    → SoFar by given left start now wrong refused has_line
     → IfSome left (λ text. IsNext text true line after)
     → Appends now next (line_told by (without_feed line))
     → nat_lt 0 wrong' ≡ (nat_lt 0 wrong || has_wrong by (without_feed line))
     → nat_lt 0 refused' ≡ (nat_lt 0 refused || has_refused (without_feed line))
-    → SoFar by given after start next wrong' refused'
-said_more by None left after start now next wrong refused wrong' refused' line so more told w r = tt
-said_more by (Some text) left after start now next wrong refused wrong' refused' line so more told w
-    r =
+    → has_line' ≡ true → SoFar by given after start next wrong' refused' has_line'
+said_more by None left after start now next wrong refused wrong' refused' has_line has_line' line so
+    more told w r l = tt
+said_more by (Some text) left after start now next wrong refused wrong' refused' has_line has_line'
+    line so more told w r l =
     let rest = so.0 in
     let said = so.2 in
     let n = subst (λ l. IfSome l (λ t. IsNext t true line after)) so.1 more in
@@ -109,13 +117,16 @@ said_more by (Some text) left after start now next wrong refused wrong' refused'
             ∙ sym (list_any-push (has_wrong by) said.lines piece);
         refused_is = r' ∙ ap (λ b. b || has_refused piece) said.refused_is
             ∙ sym (list_any-push has_refused said.lines piece);
+        line_is = l ∙ sym (list_any-push (λ x. true) said.lines piece
+            ∙ or_true (list_any (λ x. true) said.lines));
       },
     )
 
 pub said_all : (by : Judging) (given left after start now : Option (List ℕ)) (wrong refused : ℕ)
-    (line : List ℕ) → SoFar by given left start now wrong refused
-    → IfSome left (λ text. IsNext text false line after) → SaysAll by given start now wrong refused
-said_all by None left after start now wrong refused line so more = tt
-said_all by (Some text) left after start now wrong refused line so more =
+    (has_line : Bool) (line : List ℕ) → SoFar by given left start now wrong refused has_line
+    → IfSome left (λ text. IsNext text false line after)
+    → SaysAll by given start now wrong refused has_line
+said_all by None left after start now wrong refused has_line line so more = tt
+said_all by (Some text) left after start now wrong refused has_line line so more =
     let n = subst (λ l. IfSome l (λ t. IsNext t false line after)) so.1 more in
-    subst (λ rest. Said by text rest start now wrong refused) n so.2
+    subst (λ rest. Said by text rest start now wrong refused has_line) n so.2

@@ -106,37 +106,42 @@ IsCut text (line ∷ lines) rest =
     (text ≢ []) × (line ≡ without_feed (take_through 10 text))
     × IsCut (drop_through 10 text) lines rest
 
--- they were told, and so many of them are wrong, or say that a request was refused: none, or some
+-- they were told, and so many of them are wrong, or say that a request was refused: none, or some;
+-- and whether there is a line
 pub record Said (by : Judging) (text rest : List ℕ) (start now : Option (List ℕ))
-    (wrong refused : ℕ) : Type 0 where
+    (wrong refused : ℕ) (has_line : Bool) : Type 0 where
   pub lines : List (List ℕ)
   pub cut : IsCut text lines rest
   pub printed : Appends start now (flat_map (line_told by) lines)
   pub wrong_is : nat_lt 0 wrong ≡ list_any (has_wrong by) lines
   pub refused_is : nat_lt 0 refused ≡ list_any has_refused lines
+  pub line_is : has_line ≡ list_any (λ line. true) lines
 
 -- all lines of what is read, where that is known
 abbrev pub SaysAll : Judging → Option (List ℕ) → (start now : Option (List ℕ)) → (wrong refused : ℕ)
-    → Type 0
-SaysAll by given start now wrong refused =
-    IfSome given (λ text. Said by text [] start now wrong refused)
+    → Bool → Type 0
+SaysAll by given start now wrong refused has_line =
+    IfSome given (λ text. Said by text [] start now wrong refused has_line)
 
 -- 3. How it ends
 
 -- any refusal but those that tell of answers
 abbrev pub IsOther : Refusal → Type 0
-IsOther (refusal.WrongAnswer replies wrong) = ⊥
+IsOther refusal.NoLine = ⊥
+IsOther (refusal.WrongAnswer replies wrong doubt) = ⊥
 IsOther (refusal.RefusedAnswer replies refused) = ⊥
 IsOther r = Unit {0}
 
--- a wrong answer is told before a refused request
-abbrev pub told_numbers : ℕ → ℕ → ℕ → Result (Unit {0}) Refusal
-told_numbers replies wrong refused =
-    if nat_lt 0 wrong then Err (refusal.WrongAnswer replies wrong)
-    else (if nat_lt 0 refused then Err (refusal.RefusedAnswer replies refused) else Ok tt)
+-- that no line came is told first, and a wrong answer before a refused request
+abbrev pub told_lines : Counts → Result (Unit {0}) Refusal
+told_lines counts =
+    if nat_lt 0 counts.wrong
+    then Err (refusal.WrongAnswer counts.replies counts.wrong counts.doubt)
+    else (if nat_lt 0 counts.refused
+    then Err (refusal.RefusedAnswer counts.replies counts.refused) else Ok tt)
 
 abbrev pub told_counts : Result Counts Refusal → Result (Unit {0}) Refusal
-told_counts (Ok counts) = told_numbers counts.replies counts.wrong counts.refused
+told_counts (Ok counts) = if counts.has_line then told_lines counts else Err refusal.NoLine
 told_counts (Err r) = Err r
 
 -- the nonce of the words, where there is one
@@ -154,7 +159,7 @@ pub record Explains (gives : List ℕ → List ℕ → Type 0) (words : Words) (
     (start now : Option (List ℕ)) (counts : Counts) : Type 0 where
   pub by : Judging
   pub by_is : IsJudging gives words by
-  pub told : SaysAll by given start now counts.wrong counts.refused
+  pub told : SaysAll by given start now counts.wrong counts.refused counts.has_line
 
 -- It ends by what was found in them; with any other refusal nothing is said of what it printed.
 pub record ExplainDoes (gives : List ℕ → List ℕ → Type 0) (words : Words)

@@ -6,11 +6,25 @@ use crate::words::Words;
 use rpmb_client::OptionRefusal;
 use std::io::Write;
 
+/// Where the lines of a run come from.
+const INPUT: &str = "standard input";
+
 /// What is said of a file that has no key.
 const NO_KEY: &str = "a key is 64 hex digits in @FILE, or 32 bytes in @raw:FILE";
 
 /// What is said of a file that is read as a board, and is too long or no text.
 const NO_BOARD: &str = "a board file (TOML) is wanted here; its key image names the image";
+
+/// What is said where the answer of an operation on an image isn't taken.
+const DONE: &str = "the request was made, and what it changed stays; only its answer is missing: \
+    ask with read-counter, or with read";
+
+/// What is said where lines of a script or an answer aren't taken.
+const CUT: &str = "it is full or closed; what stands there is a part, and isn't to be used";
+
+/// What is said where no line of a run comes.
+const NO_LINES: &str = "what `rpmbd run` prints is wanted here; did that end with a fault, or was \
+    its script empty?";
 
 /// What is said where no byte is to be written.
 const NO_BYTE: &str = "has no byte, and --pad fills up none; give at least one";
@@ -110,6 +124,28 @@ fn advice_on_option<'a>(
     }
 }
 
+/// What helps where an answer isn't the one that was asked for.
+fn advice_on_answer(refusal: &Refusal<'_>) -> Option<(&'static str, &'static str)> {
+    match refusal {
+        Refusal::NoLine | Refusal::NoInput | Refusal::NoAnswer(0, _) => Some((INPUT, NO_LINES)),
+        Refusal::NoAnswer(_, 0) => Some(("--nonce", "none of them answers the read of this nonce")),
+        Refusal::NoAnswer(_, _) => Some(("--nonce", "each question wants a nonce of its own")),
+        Refusal::WrongAnswer(_, _, doubt) => Some(("the first of these", *doubt)),
+        Refusal::WrongMac => Some(("--key", "its guest has another key, or somebody changed it")),
+        Refusal::WrongNonce => Some((
+            "--nonce",
+            "it answers another question, or is an old answer",
+        )),
+        Refusal::NoKey => Some(("--guest", "program-key gives it a key")),
+        Refusal::TooShort(_, _) => Some((
+            "--length",
+            "ask for less, or read more blocks (--count)",
+        )),
+        Refusal::SecondOfOthers => Some(("--key", "G=KEY is the key of guest G alone")),
+        _ => None,
+    }
+}
+
 /// Which option or file a refusal of these words is of, and what helps.
 pub(crate) fn advice_of<'a>(
     words: &Words<'a>,
@@ -121,8 +157,11 @@ pub(crate) fn advice_of<'a>(
         Refusal::TooLong(name, most) if *most == KEY_FILE => Some((*name, NO_KEY)),
         Refusal::TooLong(name, most) if *most == BOARD_FILE => Some((*name, NO_BOARD)),
         Refusal::NoText(name) if is_word(words.board, *name) => Some((*name, NO_BOARD)),
+        Refusal::NoText(name) => Some((*name, "save it as text in UTF-8")),
         Refusal::BadData(0) => Some((words.file.unwrap_or("--data"), NO_BYTE)),
-        _ => None,
+        Refusal::NoRoom if words.operation.is_some() => Some((words.board.unwrap_or(""), DONE)),
+        Refusal::NoRoom => Some(("standard output", CUT)),
+        _ => advice_on_answer(refusal),
     }
 }
 

@@ -1,13 +1,16 @@
 //! What was found in replies.
-ghost use Rattle.std.specs.Prelude.{◌≡◌, ◌||◌, nat_lt};
+ghost use Rattle.std.specs.Prelude.{◌≡◌, ◌||◌, false, nat_lt, true};
 
 /// How many replies were explained, how many of them are torn, of a script or have a wrong MAC or
-/// nonce, and how many say that a request was refused.
+/// nonce, and how many say that a request was refused; whether there was a line at all, and what is
+/// wrong with the first answer that is.
 #[derive(Clone, Copy)]
 pub struct Counts {
     pub replies: u64,
     pub wrong: u64,
     pub refused: u64,
+    pub has_line: bool,
+    pub doubt: &'static str,
 }
 
 /// One more, where there is one and a number for it.
@@ -24,30 +27,48 @@ impl Counts {
     pub fn none() -> Counts
         ensures wrong { result.wrong ≡ 0 }
         ensures refused { result.refused ≡ 0 }
+        ensures line { result.has_line ≡ false }
     {
         Counts {
             replies: 0,
             wrong: 0,
             refused: 0,
+            has_line: false,
+            doubt: "",
         }
     }
 
-    /// Counts a reply.
-    pub fn add(&mut self, is_wrong: bool, is_refused: bool)
+    /// Counts a line that is wrong, or isn't, for this reason.
+    fn add_line(&mut self, is_wrong: bool, doubt: &'static str)
+        ensures wrong { nat_lt 0 self.new.wrong ≡ (nat_lt 0 self.old.wrong || is_wrong) }
+        ensures refused { self.new.refused ≡ self.old.refused }
+        ensures line { self.new.has_line ≡ true }
+    {
+        if is_wrong && self.wrong == 0 {
+            self.doubt = doubt;
+        }
+        self.has_line = true;
+        self.wrong = more(self.wrong, is_wrong);
+    }
+
+    /// Counts a reply, and keeps what is wrong with it, where it is the first that is.
+    pub fn add(&mut self, is_wrong: bool, is_refused: bool, doubt: &'static str)
         ensures wrong { nat_lt 0 self.new.wrong ≡ (nat_lt 0 self.old.wrong || is_wrong) }
         ensures refused { nat_lt 0 self.new.refused ≡ (nat_lt 0 self.old.refused || is_refused) }
+        ensures line { self.new.has_line ≡ true }
     {
+        self.add_line(is_wrong, doubt);
         self.replies = more(self.replies, true);
-        self.wrong = more(self.wrong, is_wrong);
         self.refused = more(self.refused, is_refused);
     }
 
     /// Counts a line that gives no reply, where it is no answer: torn, or of a script.
-    pub fn add_unread(&mut self, is_no_answer: bool)
+    pub fn add_unread(&mut self, is_no_answer: bool, doubt: &'static str)
         ensures wrong { nat_lt 0 self.new.wrong ≡ (nat_lt 0 self.old.wrong || is_no_answer) }
         ensures refused { self.new.refused ≡ self.old.refused }
+        ensures line { self.new.has_line ≡ true }
     {
+        self.add_line(is_no_answer, doubt);
         self.replies = more(self.replies, is_no_answer);
-        self.wrong = more(self.wrong, is_no_answer);
     }
 }

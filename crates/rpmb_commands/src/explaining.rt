@@ -1,6 +1,6 @@
 //! The command that says of the lines of `rpmbd run` what each is.
 ghost use Rattle.std.specs.Prelude.{◌≡◌, ◌++◌, ◌∷◌, ◌||◌, [], IfErr, IfOk, IfSome, OnOk, nat_lt};
-ghost use Rattle.std.specs.Prelude.{Some, string_bytes};
+ghost use Rattle.std.specs.Prelude.{Some, string_bytes, true};
 ghost use Rattle.std.specs.Io.KnownBytes.{Appends, Keeps};
 ghost use Rattle.rpmb_client.specs.Seen.{used_seen};
 ghost use Rattle.rpmb_commands.specs.Explaining.{AsksNonce, ExplainDoes, Explains, IsJudging};
@@ -14,6 +14,7 @@ ghost use Rattle.rpmb_commands.specs.Explaining.{without_feed};
 ghost use Rattle.rpmb_commands.specs.Refusing.{IsOfReading};
 
 use crate::counts::Counts;
+use crate::doubts::{doubt_of, doubt_of_line};
 use crate::keys::keys_of;
 use crate::refusal::Refusal;
 use crate::source::Source;
@@ -45,12 +46,14 @@ fn explain_used<'a, W: Write>(
         || is_wrong_of (judging_of judge.now) (Some (used_seen used.now)) [])) }
     ensures refused { OnOk result (nat_lt 0 counts.new.refused ≡ (nat_lt 0 counts.old.refused
         || is_refused_of (Some (used_seen used.now)))) }
+    ensures line { OnOk result (counts.new.has_line ≡ true) }
     ensures other { IfErr result IsOther }
 {
     let key = judge.keys.key_of(used.guest);
     match explain(alloc, used, key, judge.nonce, out) {
         Ok(()) => {
-            counts.add(is_wrong(used, key, judge.nonce), is_refused(used));
+            let doubt = doubt_of(used, judge.nonce);
+            counts.add(is_wrong(used, key, judge.nonce), is_refused(used), doubt);
             Ok(())
         }
         Err(fault) => Err(Refusal::of(fault)),
@@ -122,12 +125,13 @@ fn pass_on<'a, W: Write>(line: &str, counts: &mut Counts, out: &mut W) -> Result
     ensures wrong { OnOk result (nat_lt 0 counts.new.wrong ≡ (nat_lt 0 counts.old.wrong
         || is_no_answer line.now)) }
     ensures refused { OnOk result (counts.new.refused ≡ counts.old.refused) }
+    ensures line { OnOk result (counts.new.has_line ≡ true) }
     ensures other { IfErr result IsOther }
 {
     let mark = mark_of(line);
     match writeln!(out, "{line}{mark}") {
         Ok(()) => {
-            counts.add_unread(is_no_answer(line));
+            counts.add_unread(is_no_answer(line), doubt_of_line(line));
             Ok(())
         }
         Err(_) => Err(Refusal::NoRoom),
@@ -149,6 +153,7 @@ fn explain_line<'a, W: Write>(
         || has_wrong (judging_of judge.now) line.now)) }
     ensures refused { OnOk result (nat_lt 0 counts.new.refused ≡ (nat_lt 0 counts.old.refused
         || has_refused line.now)) }
+    ensures line { OnOk result (counts.new.has_line ≡ true) }
     ensures other { IfErr result IsOther }
 {
     match read_used(alloc, line) {
@@ -214,6 +219,7 @@ fn explain_now<'a, W: Write>(
         || has_wrong (judging_of judge.now) (without_feed line.now))) }
     ensures refused { OnOk result (nat_lt 0 counts.new.refused ≡ (nat_lt 0 counts.old.refused
         || has_refused (without_feed line.now))) }
+    ensures line { OnOk result (counts.new.has_line ≡ true) }
     ensures other { IfErr result IsOther }
 {
     explain_line(alloc, without_end(line), judge, counts, out)?;
@@ -229,7 +235,8 @@ fn tell_each<'a, B: BufRead, W: Write>(
     out: &mut W,
 ) -> Result<Counts, Refusal<'a>>
     ensures told { IfOk result (λ counts. SaysAll (judging_of judge.now) (B.remaining input.old)
-        (W.contents out.old) (W.contents out.new) counts.wrong counts.refused) }
+        (W.contents out.old) (W.contents out.new) counts.wrong counts.refused
+        counts.has_line) }
     ensures other { IfErr result IsOther }
 {
     let mut counts = Counts::none();
@@ -250,7 +257,8 @@ fn tell_lines<'a, B: BufRead, W: Write>(
     out: &mut W,
 ) -> Result<Counts, Refusal<'a>>
     ensures told { IfOk result (λ counts. SaysAll (judging_of judge.now) (B.remaining input.old)
-        (W.contents out.old) (W.contents out.new) counts.wrong counts.refused) }
+        (W.contents out.old) (W.contents out.new) counts.wrong counts.refused
+        counts.has_line) }
     ensures other { IfErr result IsOther }
 {
     let mut line = String::new(alloc);
@@ -281,12 +289,16 @@ fn judge_of<'a, S: Source>(
     Ok(Judge { keys, nonce })
 }
 
-/// Refused where a reply is torn or wrong, and else where one says that a request was refused.
+/// Refused where no line came at all, where a reply is torn or wrong, and else where one says that a
+/// request was refused.
 fn told<'a>(counts: Result<Counts, Refusal<'a>>) -> Result<(), Refusal<'a>>
     ensures { result ≡ told_counts counts.entry }
 {
     match counts {
-        Ok(counts) if counts.wrong > 0 => Err(Refusal::WrongAnswer(counts.replies, counts.wrong)),
+        Ok(counts) if !counts.has_line => Err(Refusal::NoLine),
+        Ok(counts) if counts.wrong > 0 => {
+            Err(Refusal::WrongAnswer(counts.replies, counts.wrong, counts.doubt))
+        }
         Ok(counts) if counts.refused > 0 => {
             Err(Refusal::RefusedAnswer(counts.replies, counts.refused))
         }
@@ -311,7 +323,8 @@ fn tell_all<'a, S: Source, B: BufRead, W: Write>(
 }
 
 /// Says of each `used` line what its reply is, and writes each other line as it is. Refused at the
-/// end where a line was torn or of a script, a MAC or a nonce was wrong, or a request was refused.
+/// end where no line came, one was torn or of a script, a MAC or a nonce was wrong, or a request was
+/// refused.
 pub fn tell<'a, S: Source, B: BufRead, W: Write>(
     alloc: Global,
     source: &S,

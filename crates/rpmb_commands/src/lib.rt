@@ -6,6 +6,7 @@ mod advice;
 mod asked;
 mod checking;
 mod counts;
+mod doubts;
 mod explaining;
 mod grammar;
 mod help;

@@ -65,10 +65,14 @@ pub enum Refusal<'a> {
     NoCounter,
     #[error("TooShort: expected blocks of at least {0} bytes, got {1}")]
     TooShort(u64, usize),
-    /// A MAC or a nonce of an answer is wrong, or a line is none of an answer.
+    /// Nothing was explained, since no line came.
+    #[error("NoAnswer: expected the lines that `rpmbd run` prints on standard input, got none")]
+    NoLine,
+    /// A MAC or a nonce of an answer is wrong, or a line is none of an answer; and what is wrong with
+    /// the first, which is told behind.
     #[error("WrongAnswer: expected a right MAC and nonce in each of {0} replies, \
         got {1} torn or with a wrong one")]
-    WrongAnswer(u64, u64),
+    WrongAnswer(u64, u64, &'static str),
     /// The answers are right, and say of some requests that they were refused.
     #[error("Refused: expected the result OK in each of {0} replies, got {1} with another")]
     RefusedAnswer(u64, u64),

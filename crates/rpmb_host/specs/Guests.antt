@@ -1,27 +1,26 @@
 -- The guests of a board, as C lays them out (own).
 use Rattle.std.specs.Prelude.{true, false, not, ◌==◌, if◌then◌else◌}
-use Rattle.rpmb_frame.specs.declared.config.RingKind.TheVariants.{Split, Packed}
-use Rattle.machine.specs.declared.settings.Window.{Window}
+use Rattle.rpmb_frame.specs.declared.config.RingKind.TheVariants.{Packed}
+use Rattle.machine.specs.declared.settings.Setup.{Setup}
 use Rattle.rpmb_host.specs.declared.guests.RpmbGuest.{RpmbGuest}
 
--- One of them for a machine. What its driver accepts is its own matter: the configuration's
--- three last fields speak of the project's own driver, and count for nothing here.
-unfoldable pub window_of : RpmbGuest → Window
-window_of g = record {
+-- One of them for a machine. What its driver accepts is its own matter: the configuration's ring
+-- and three last fields speak of the project's own driver, and count for nothing here.
+unfoldable pub setup_of : RpmbGuest → Setup
+setup_of g = record {
   config = record {
     capacity = g.capacity;
     max_wr_cnt = g.max_wr_cnt;
     max_rd_cnt = g.max_rd_cnt;
     memory = g.memory;
-    queue = g.queue;
-    ring = if g.packed == 0 then Split else Packed;
+    queue = if g.queue == 0 then 256 else g.queue;
+    ring = Packed;
     indirect = true;
     event_idx = true;
     in_order = false;
   };
-  base = g.base;
   withheld = g.withheld;
   most = g.most;
-  capped = not (g.capped == 0);
+  capped = not (g.queue == 0);
   platform = not (g.platform == 0);
 }

@@ -4,6 +4,8 @@ use Rattle.mmio_transport.specs.declared.registers.Kick.{Kick}
 use Rattle.mmio_transport.specs.declared.registers.Kick.TheVariants as kick
 use Rattle.machine.specs.declared.fault.MachineFault.{MachineFault}
 use Rattle.machine.specs.declared.fault.MachineFault.TheVariants as fault
+use Rattle.machine.specs.declared.machine.What.{What}
+use Rattle.machine.specs.declared.machine.What.TheVariants as what
 
 -- enum rpmb_kick
 abbrev pub kick_number : Kick → ℕ
@@ -30,6 +32,14 @@ fault_number fault.NotAwaited = 12
 abbrev pub told_number : Option MachineFault → ℕ
 told_number None = 0
 told_number (Some fault) = fault_number fault
+
+-- enum rpmb_what
+abbrev pub what_number : What → ℕ
+what_number what.Rest = 0
+what_number what.Read = 1
+what_number what.Write = 2
+what_number what.Call = 3
+what_number what.Again = 4
 
 abbrev pub flag : Bool → ℕ
 flag true = 1

@@ -1,8 +1,8 @@
 //! The guests of a board, as C lays them out.
 ghost use Rattle.std.specs.Prelude.{◌≡◌, IfOk, OnErr, Err, map};
-ghost use Rattle.rpmb_host.specs.Guests.{window_of};
+ghost use Rattle.rpmb_host.specs.Guests.{setup_of};
 
-use machine::{MachineFault, Window};
+use machine::{MachineFault, Setup};
 use rpmb_frame::{GuestConfig, RingKind};
 use std::alloc::Global;
 
@@ -12,65 +12,49 @@ use std::alloc::Global;
 pub struct RpmbGuest {
     pub memory: u64,
     pub withheld: u64,
-    pub base: u64,
     pub queue: u16,
     pub most: u16,
     pub capacity: u8,
     pub max_wr_cnt: u8,
     pub max_rd_cnt: u8,
-    pub packed: u8,
-    pub capped: u8,
     pub platform: u8,
-    pub spare: u16,
 }
 
 impl RpmbGuest {
-    #[tactic(auto, unfolding(crate::specs::Guests::window_of))]
-    fn ring(&self) -> RingKind
-        ensures { result ≡ (window_of self.now).config.ring }
+    #[tactic(auto, unfolding(crate::specs::Guests::setup_of))]
+    fn setup(&self) -> Setup
+        ensures { result ≡ setup_of self.now }
     {
-        if self.packed == 0 {
-            RingKind::Split
-        } else {
-            RingKind::Packed
-        }
-    }
-
-    #[tactic(auto, unfolding(crate::specs::Guests::window_of))]
-    fn window(&self) -> Window
-        ensures { result ≡ window_of self.now }
-    {
-        Window {
+        Setup {
             config: GuestConfig {
                 capacity: self.capacity,
                 max_wr_cnt: self.max_wr_cnt,
                 max_rd_cnt: self.max_rd_cnt,
                 memory: self.memory,
-                queue: self.queue,
-                ring: self.ring(),
+                queue: if self.queue == 0 { 256 } else { self.queue },
+                ring: RingKind::Packed,
                 indirect: true,
                 event_idx: true,
                 in_order: false,
             },
-            base: self.base,
             withheld: self.withheld,
             most: self.most,
-            capped: self.capped != 0,
+            capped: self.queue != 0,
             platform: self.platform != 0,
         }
     }
 }
 
 /// The same guests for a machine. Where memory is refused, `NoMemory`.
-pub(crate) fn windows_of(alloc: Global, guests: &[RpmbGuest]) -> Result<Vec<Window>, MachineFault>
-    ensures windows { IfOk result (λ windows. windows.items ≡ map window_of guests.now) }
+pub(crate) fn setups_of(alloc: Global, guests: &[RpmbGuest]) -> Result<Vec<Setup>, MachineFault>
+    ensures setups { IfOk result (λ setups. setups.items ≡ map setup_of guests.now) }
     ensures memory { OnErr result (result ≡ Err MachineFault.NoMemory) }
 {
-    let mut windows = Vec::new(alloc);
+    let mut setups = Vec::new(alloc);
     for guest in guests {
-        if windows.push(guest.window()).is_err() {
+        if setups.push(guest.setup()).is_err() {
             return Err(MachineFault::NoMemory);
         }
     }
-    Ok(windows)
+    Ok(setups)
 }

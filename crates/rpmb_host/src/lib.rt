@@ -4,12 +4,10 @@
 
 ghost use Rattle.std.specs.Prelude.{◌≡◌, ◌<◌, IfOk, IfErr, None, true, is_some, length, map};
 ghost use Rattle.machine.specs.Opening.{HasOpeningFault, IsFresh, IsOpened};
-ghost use Rattle.rpmb_host.specs.Calls.{Answered, Awaits, Between, Fails, Faults, Fills};
-ghost use Rattle.rpmb_host.specs.Calls.{Gives, GivesNone, Holds, Interrupts, Kicks, Loads, Reads};
-ghost use Rattle.rpmb_host.specs.Calls.{Refuses, RefusesImage, RefusesOpening, Rests, Serves};
-ghost use Rattle.rpmb_host.specs.Calls.{Spans, Stores, Syncs, Takes, TellsBytes, Waits, Writes};
-ghost use Rattle.rpmb_host.specs.Calls.{WritesPlainly};
-ghost use Rattle.rpmb_host.specs.Guests.{window_of};
+ghost use Rattle.rpmb_host.specs.Calls.{Between, Fails, Gives, GivesNone, Goes, Holds, Interrupts};
+ghost use Rattle.rpmb_host.specs.Calls.{Kicks, Reads, Refuses, RefusesImage, RefusesOpening, Serves};
+ghost use Rattle.rpmb_host.specs.Calls.{Spans, Syncs, Takes, Waits, Writes};
+ghost use Rattle.rpmb_host.specs.Guests.{setup_of};
 
 mod guests;
 mod handle;
@@ -17,22 +15,22 @@ mod numbers;
 mod served;
 
 pub use guests::RpmbGuest;
-use guests::windows_of;
+use guests::setups_of;
 pub use handle::Handle;
 use handle::{put, take};
-use machine::{Machine, MachineFault, Range, format_image, image_length};
+use machine::{Machine, MachineFault, format_image, image_length};
 use numbers::{fault_number, kick_number};
-pub use served::RpmbServed;
+pub use served::RpmbNext;
 use std::alloc::Global;
 
 /// The length in bytes of the image of these guests, or 0 where they are no board, or memory is
 /// refused.
 #[unsafe(no_mangle)]
 pub extern "C" fn rpmb_image_length(alloc: Global, guests: &[RpmbGuest]) -> u64
-    ensures { 0 < result → Spans (map window_of guests.now) result }
+    ensures { 0 < result → Spans (map setup_of guests.now) result }
 {
-    match windows_of(alloc, guests) {
-        Ok(windows) => match image_length(alloc, &windows) {
+    match setups_of(alloc, guests) {
+        Ok(setups) => match image_length(alloc, &setups) {
             Ok(length) => length,
             Err(_) => 0,
         },
@@ -43,13 +41,13 @@ pub extern "C" fn rpmb_image_length(alloc: Global, guests: &[RpmbGuest]) -> u64
 /// Makes a fresh image of all these bytes.
 #[unsafe(no_mangle)]
 pub extern "C" fn rpmb_format(alloc: Global, guests: &[RpmbGuest], image: &mut [u8]) -> u32
-    ensures fresh { result ≡ 0 → IsFresh (map window_of guests.now) image.new }
+    ensures fresh { result ≡ 0 → IsFresh (map setup_of guests.now) image.new }
     ensures unchanged { 0 < result → image.new ≡ image.old }
     ensures told { 0 < result
-        → RefusesImage (map window_of guests.now) (length image.old) result }
+        → RefusesImage (map setup_of guests.now) (length image.old) result }
 {
-    match windows_of(alloc, guests) {
-        Ok(windows) => match format_image(alloc, &windows, image) {
+    match setups_of(alloc, guests) {
+        Ok(setups) => match format_image(alloc, &setups, image) {
             Ok(()) => 0,
             Err(fault) => fault_number(fault),
         },
@@ -60,12 +58,12 @@ pub extern "C" fn rpmb_format(alloc: Global, guests: &[RpmbGuest], image: &mut [
 /// Opens an image over these guests, on the heap.
 fn opened(alloc: Global, guests: &[RpmbGuest], image: &[u8]) -> Result<Box<Machine>, MachineFault>
     ensures opened { IfOk result
-        (λ machine. IsOpened (map window_of guests.now) image.now machine.value) }
+        (λ machine. IsOpened (map setup_of guests.now) image.now machine.value) }
     ensures cause { IfErr result
-        (λ fault. HasOpeningFault (map window_of guests.now) image.now fault) }
+        (λ fault. HasOpeningFault (map setup_of guests.now) image.now fault) }
 {
-    let windows = windows_of(alloc, guests)?;
-    let machine = Machine::open(alloc, &windows, image)?;
+    let setups = setups_of(alloc, guests)?;
+    let machine = Machine::open(alloc, &setups, image)?;
     match Box::new(alloc, machine) {
         Ok(machine) => Ok(machine),
         Err(_) => Err(MachineFault::NoMemory),
@@ -83,9 +81,9 @@ pub extern "C" fn rpmb_open(
 ) -> u32
     requires { host.old.value ≡ None }
     ensures opened { result ≡ 0
-        → Holds host.new.value (IsOpened (map window_of guests.now) image.now) }
+        → Holds host.new.value (IsOpened (map setup_of guests.now) image.now) }
     ensures refused { 0 < result → host.new.value ≡ None }
-    ensures told { 0 < result → RefusesOpening (map window_of guests.now) image.now result }
+    ensures told { 0 < result → RefusesOpening (map setup_of guests.now) image.now result }
 {
     match opened(alloc, guests, image) {
         Ok(machine) => {
@@ -137,8 +135,6 @@ pub extern "C" fn rpmb_write(
     requires { is_some host.old.value ≡ true }
     ensures kick { Holds host.old.value (Kicks guest offset width value result) }
     ensures state { Between host.old.value host.new.value (Writes guest offset width value) }
-    ensures plain { Between host.old.value host.new.value
-        (WritesPlainly guest offset width value) }
 {
     let mut machine = take(alloc, host);
     let kick = machine.write(guest, offset, width, value);
@@ -146,80 +142,36 @@ pub extern "C" fn rpmb_write(
     kick_number(kick)
 }
 
-/// Puts bytes into a guest's window.
-#[unsafe(no_mangle)]
-pub extern "C" fn rpmb_store(
-    alloc: Global,
-    host: &mut Handle,
-    guest: u16,
-    at: u64,
-    bytes: &[u8],
-) -> u32
-    requires { is_some host.old.value ≡ true }
-    ensures stored { result ≡ 0
-        → Between host.old.value host.new.value (Stores guest at bytes.now) }
-    ensures unchanged { 0 < result → host.new.value ≡ host.old.value }
-    ensures told { Holds host.old.value (TellsBytes guest at (length bytes.now) result) }
-{
-    let mut machine = take(alloc, host);
-    let stored = machine.store(guest, at, bytes);
-    put(host, machine);
-    match stored {
-        Ok(()) => 0,
-        Err(fault) => fault_number(fault),
-    }
-}
-
-/// Copies bytes out of a guest's window.
-#[unsafe(no_mangle)]
-pub extern "C" fn rpmb_load(
-    alloc: Global,
-    host: &mut Handle,
-    guest: u16,
-    at: u64,
-    bytes: &mut [u8],
-) -> u32
-    requires { is_some host.old.value ≡ true }
-    ensures loaded { result ≡ 0 → Holds host.old.value (Loads guest at bytes.new) }
-    ensures refused { 0 < result → bytes.new ≡ bytes.old }
-    ensures told { Holds host.old.value (TellsBytes guest at (length bytes.old) result) }
-    ensures unchanged { host.new.value ≡ host.old.value }
-{
-    let machine = take(alloc, host);
-    let loaded = machine.load(guest, at, bytes);
-    put(host, machine);
-    match loaded {
-        Ok(()) => 0,
-        Err(fault) => fault_number(fault),
-    }
-}
-
-/// Serves what a guest offered.
+/// Goes on with what a guest offered, and says what that needs.
 #[unsafe(no_mangle)]
 pub extern "C" fn rpmb_serve(
     alloc: Global,
     host: &mut Handle,
     guest: u16,
-    ranges: &mut [Range],
-    served: &mut RpmbServed,
+    done: u32,
+    bytes: &mut [u8],
+    next: &mut RpmbNext,
 )
     requires { is_some host.old.value ≡ true }
-    ensures serves { Between host.old.value host.new.value (Serves guest) }
-    ensures answered { served.new.fault ≡ 0
-        → Between host.old.value host.new.value (Answered guest) }
-    ensures sync { served.new.fault ≡ 0
-        → Between host.old.value host.new.value (Awaits served.new.sync) }
-    ensures rest { served.new.fault ≡ 0 → served.new.again ≡ 0
-        → Between host.old.value host.new.value (Rests guest) }
-    ensures faults { Between host.old.value host.new.value
-        (Faults guest (length ranges.old) served.new.fault) }
-    ensures fills { length ranges.old < 4294967296 → Between host.old.value host.new.value
-        (Fills guest served.new.ranges ranges.new) }
+    ensures serves { Between host.old.value host.new.value
+        (Serves guest (length bytes.old) bytes.new next.new) }
 {
     let mut machine = take(alloc, host);
-    let told = machine.serve(guest, ranges);
+    let served = machine.serve(guest, done != 0, bytes);
     put(host, machine);
-    *served = RpmbServed::of(told);
+    *next = RpmbNext::of(served);
+}
+
+/// Takes the disk's work further: 1 where a sync is awaited then, else 0.
+#[unsafe(no_mangle)]
+pub extern "C" fn rpmb_go_on(alloc: Global, host: &mut Handle) -> u32
+    requires { is_some host.old.value ≡ true }
+    ensures goes { Between host.old.value host.new.value (Goes result) }
+{
+    let mut machine = take(alloc, host);
+    let is_awaited = machine.go_on();
+    put(host, machine);
+    u32::from(is_awaited)
 }
 
 /// Takes the oldest write out of the outbox: its length, or 0 where there is none.

@@ -1,8 +1,8 @@
 //! The numbers by which C is told what came of a call.
 ghost use Rattle.std.specs.Prelude.{◌≡◌, ◌<◌};
-ghost use Rattle.rpmb_host.specs.Numbers.{fault_number, kick_number, told_number};
+ghost use Rattle.rpmb_host.specs.Numbers.{fault_number, kick_number, told_number, what_number};
 
-use machine::MachineFault;
+use machine::{MachineFault, What};
 use mmio_transport::Kick;
 
 /// The number of a refusal, which is never that of none.
@@ -44,5 +44,18 @@ pub(crate) fn kick_number(kick: Kick) -> u32
         Kick::None => 0,
         Kick::Notify => 1,
         Kick::Reset => 2,
+    }
+}
+
+/// The number of what a serve needs.
+pub(crate) fn what_number(what: What) -> u8
+    ensures { result ≡ what_number what }
+{
+    match what {
+        What::Rest => 0,
+        What::Read => 1,
+        What::Write => 2,
+        What::Call => 3,
+        What::Again => 4,
     }
 }

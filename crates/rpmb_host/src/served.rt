@@ -1,20 +1,21 @@
 //! What a call of `rpmb_serve` came to, as C reads it.
 ghost use Rattle.std.specs.Prelude.{◌≡◌, ◌%◌};
-ghost use Rattle.rpmb_host.specs.Numbers.{flag, told_number};
+ghost use Rattle.rpmb_host.specs.Numbers.{flag, told_number, what_number};
 
-use crate::numbers::told_number;
+use crate::numbers::{told_number, what_number};
 use machine::Served;
 
-/// `struct rpmb_served` of `rpmb_host.h`.
+/// `struct rpmb_next` of `rpmb_host.h`.
 #[repr(C)]
 #[derive(Clone, Copy)]
-pub struct RpmbServed {
-    pub answered: u32,
+pub struct RpmbNext {
+    pub at: u64,
+    pub len: u32,
     pub fault: u32,
-    pub ranges: u32,
+    pub what: u8,
     pub sync: u8,
-    pub again: u8,
-    pub spare: u16,
+    pub waiting: u8,
+    pub spare: [u8; 5],
 }
 
 fn flag(is_set: bool) -> u8
@@ -23,21 +24,23 @@ fn flag(is_set: bool) -> u8
     if is_set { 1 } else { 0 }
 }
 
-impl RpmbServed {
-    pub(crate) fn of(served: Served) -> RpmbServed
-        ensures answered { result.answered ≡ served.answered }
+impl RpmbNext {
+    pub(crate) fn of(served: Served) -> RpmbNext
+        ensures at { result.at ≡ served.at }
+        ensures len { result.len ≡ served.len % 4294967296 }
         ensures fault { result.fault ≡ told_number served.fault }
-        ensures ranges { result.ranges ≡ served.ranges % 4294967296 }
+        ensures what { result.what ≡ what_number served.what }
         ensures sync { result.sync ≡ flag served.sync }
-        ensures again { result.again ≡ flag served.again }
+        ensures waiting { result.waiting ≡ flag served.waiting }
     {
-        RpmbServed {
-            answered: served.answered,
+        RpmbNext {
+            at: served.at,
+            len: (served.len % 4_294_967_296) as u32,
             fault: told_number(served.fault),
-            ranges: (served.ranges % 4_294_967_296) as u32,
+            what: what_number(served.what),
             sync: flag(served.sync),
-            again: flag(served.again),
-            spare: 0,
+            waiting: flag(served.waiting),
+            spare: [0; 5],
         }
     }
 }

@@ -3,17 +3,22 @@
 #define SHIM_MEMORY_H
 
 #define SHIM_GUESTS 4
-struct window {
+/* A guest has two pieces of RAM, below and above 4 GiB, and no memory elsewhere: who touches that is killed. What it
+ * allocates stands in either by turns. */
+#define SHIM_LOW 0x100000UL
+#define SHIM_HIGH 0x140000000UL
+#define SHIM_SPACE 0x180000000UL
+struct ram {
 	u8 *base;	/* the byte of guest address 0 */
-	size_t size;
-	bool bounced;	/* mappings are copied in, and nothing else stands in the window */
+	size_t size;	/* of each piece */
+	bool bounced;	/* mappings are copied in, and nothing else stands there */
 };
-extern struct window windows[SHIM_GUESTS];
+extern struct ram rams[SHIM_GUESTS];
 extern int shim_guest;
 extern unsigned long shim_maps;	/* mappings that were copied in */
 
-void shim_window(int guest, size_t size, bool bounced);
-void *shim_window_alloc(size_t size, size_t align);
+void shim_ram(int guest, size_t size, bool bounced);
+void *shim_ram_alloc(size_t size, size_t align);
 void *shim_alloc(size_t size, size_t align);
 void shim_free(void *p);
 u64 virt_to_phys(const void *p);
@@ -39,7 +44,7 @@ static inline void *kcalloc(size_t n, size_t s, gfp_t flags) { return kzalloc(n 
 static inline void kfree(const void *p) { shim_free((void *)p); }
 static inline void *alloc_pages_exact(size_t size, gfp_t flags)
 {
-	void *p = shim_window_alloc(size, PAGE_SIZE);
+	void *p = shim_ram_alloc(size, PAGE_SIZE);
 	return flags & __GFP_ZERO ? shim_cleared(p, size) : p;
 }
 static inline void free_pages_exact(void *p, size_t size)
@@ -50,10 +55,10 @@ static inline void free_pages_exact(void *p, size_t size)
 
 struct page { u64 dummy; };
 #define virt_to_page(p) ((struct page *)((unsigned long)(p) & PAGE_MASK))
-/* of a page whose first bytes may stand before the window: the buffer's own offset is added */
+/* of a page whose first bytes may stand before a piece: the buffer's own offset is added */
 static inline u64 page_to_phys(struct page *p)
 {
-	return (u64)((const u8 *)p - windows[shim_guest].base);
+	return (u64)((const u8 *)p - rams[shim_guest].base);
 }
 #define kmsan_handle_dma(a, b, c, d) do { } while (0)
 #define xen_domain() 0

@@ -1,8 +1,8 @@
-/* The rest of the shim: the windows' allocator, bounce buffers, the bus, interrupts. */
+/* The rest of the shim: the allocator of guests' RAM, bounce buffers, the bus, interrupts. */
 #include "shim.h"
 #include <sys/mman.h>
 
-struct window windows[SHIM_GUESTS];
+struct ram rams[SHIM_GUESTS];
 int shim_guest;
 unsigned long shim_warnings, shim_maps;
 
@@ -20,23 +20,27 @@ int shim_warn(const char *file, int line)
 /* first fit over a list of blocks, each 16 bytes of head before its bytes */
 struct block { size_t size, used; };
 static struct block *after(struct block *b) { return (struct block *)((u8 *)(b + 1) + b->size); }
-static bool inside(const struct window *w, const void *p)
+static bool inside(const struct ram *w, const void *p)
 {
-	return (const u8 *)p >= w->base && (const u8 *)p < w->base + w->size;
+	return (const u8 *)p >= w->base && (const u8 *)p < w->base + SHIM_SPACE;
 }
+static u8 *piece(const struct ram *w, int i) { return w->base + (i ? SHIM_HIGH : SHIM_LOW); }
 
-void shim_window(int guest, size_t size, bool bounced)
+void shim_ram(int guest, size_t size, bool bounced)
 {
-	struct window *w = &windows[guest];
+	struct ram *w = &rams[guest];
 	if (!w->base) {
-		w->base = mmap(NULL, size, PROT_READ | PROT_WRITE, MAP_PRIVATE | MAP_ANONYMOUS,
+		w->base = mmap(NULL, SHIM_SPACE, PROT_NONE, MAP_PRIVATE | MAP_ANONYMOUS | MAP_NORESERVE,
 			       -1, 0);
 		if (w->base == MAP_FAILED) BUG();
 	}
 	w->size = size;
 	w->bounced = bounced;
-	memset(w->base, 0, size);
-	*(struct block *)w->base = (struct block){ size - sizeof(struct block), 0 };
+	for (int i = 0; i < 2; i++) {
+		if (mprotect(piece(w, i), PAGE_ALIGN(size), PROT_READ | PROT_WRITE)) BUG();
+		memset(piece(w, i), 0, size);
+		*(struct block *)piece(w, i) = (struct block){ size - sizeof(struct block), 0 };
+	}
 }
 
 /* Cuts what the block has too much: before an aligned place, and behind the size. */
@@ -61,13 +65,11 @@ static void *taken(struct block *b, size_t size, size_t align)
 	return b + 1;
 }
 
-void *shim_window_alloc(size_t size, size_t align)
+static void *alloc_in(u8 *from, u8 *end, size_t size, size_t align)
 {
-	const struct window *w = &windows[shim_guest];
-	size = size ? (size + 15) & ~15UL : 16;
-	for (struct block *b = (struct block *)w->base; inside(w, b); b = after(b)) {
+	for (struct block *b = (struct block *)from; (u8 *)b < end; b = after(b)) {
 		if (b->used) continue;
-		while (inside(w, after(b)) && !after(b)->used)
+		while ((u8 *)after(b) < end && !after(b)->used)
 			b->size += sizeof(*b) + after(b)->size;
 		void *p = taken(b, size, align);
 		if (p) return p;
@@ -75,16 +77,30 @@ void *shim_window_alloc(size_t size, size_t align)
 	return NULL;
 }
 
+void *shim_ram_alloc(size_t size, size_t align)
+{
+	static int turn;
+	const struct ram *w = &rams[shim_guest];
+	void *p = NULL;
+	size = size ? (size + 15) & ~15UL : 16;
+	turn++;
+	for (int i = 0; i < 2 && !p; i++) {
+		u8 *from = piece(w, (turn + i) % 2);
+		p = alloc_in(from, from + w->size, size, align);
+	}
+	return p;
+}
+
 void *shim_alloc(size_t size, size_t align)
 {
-	if (!windows[shim_guest].bounced) return shim_window_alloc(size, align);
+	if (!rams[shim_guest].bounced) return shim_ram_alloc(size, align);
 	return aligned_alloc(align, size ? (size + align - 1) / align * align : align);
 }
 
 void shim_free(void *p)
 {
 	for (int g = 0; g < SHIM_GUESTS; g++)
-		if (p && inside(&windows[g], p)) {
+		if (p && inside(&rams[g], p)) {
 			((struct block *)p - 1)->used = 0;
 			return;
 		}
@@ -93,8 +109,8 @@ void shim_free(void *p)
 
 u64 virt_to_phys(const void *p)
 {
-	BUG_ON(!inside(&windows[shim_guest], p));
-	return (u64)((const u8 *)p - windows[shim_guest].base);
+	BUG_ON(!inside(&rams[shim_guest], p));
+	return (u64)((const u8 *)p - rams[shim_guest].base);
 }
 
 /* bounce buffers */
@@ -105,7 +121,7 @@ dma_addr_t shim_dma_map(void *p, size_t size)
 {
 	int i = 0;
 	while (i < MAPS && maps[i].slot) i++;
-	u8 *slot = i < MAPS ? shim_window_alloc(size, 16) : NULL;
+	u8 *slot = i < MAPS ? shim_ram_alloc(size, 16) : NULL;
 	if (!slot) return DMA_MAPPING_ERROR;
 	maps[i].slot = slot;
 	maps[i].from = p;
@@ -117,7 +133,7 @@ dma_addr_t shim_dma_map(void *p, size_t size)
 
 void shim_dma_unmap(dma_addr_t a, enum dma_data_direction dir)
 {
-	u8 *slot = windows[shim_guest].base + a;
+	u8 *slot = rams[shim_guest].base + a;
 	for (int i = 0; i < MAPS; i++)
 		if (maps[i].slot == slot) {
 			if (dir != DMA_TO_DEVICE) memcpy(maps[i].from, slot, maps[i].size);

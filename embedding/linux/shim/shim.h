@@ -1,10 +1,10 @@
 /* What Linux's virtio core, its rings and its MMIO transport want of a kernel, in user space.
  *
- * One thread, and no interrupts of its own: the program raises them. There are some guests, each
- * with one device and one window of memory, whose first byte has the guest address 0. Code of a
- * guest runs with `shim_guest` set to its number, and what it allocates stands in its window;
- * where its device has VIRTIO_F_ACCESS_PLATFORM, it stands outside, and the DMA calls copy each
- * mapping into the window and back, as restricted DMA does. */
+ * One thread runs all guests, beside the monitor's, and it has no interrupts of its own: the program
+ * raises them. There are some guests, each with one device and two pieces of RAM. Code of a guest runs
+ * with `shim_guest` set to its number, and what it allocates stands in its RAM; where its device has
+ * VIRTIO_F_ACCESS_PLATFORM, it stands outside, and the DMA calls copy each mapping into the RAM and
+ * back, as restricted DMA does. */
 #ifndef SHIM_H
 #define SHIM_H
 #include <errno.h>
@@ -150,7 +150,7 @@ static inline void list_del(struct list_head *e)
 	     n = list_entry(pos->m.next, typeof(*pos), m); &pos->m != (head); \
 	     pos = n, n = list_entry(n->m.next, typeof(*n), m))
 
-/* locks: there is one thread */
+/* locks: one thread runs the guests */
 typedef struct { int held; } spinlock_t;
 #define spin_lock_init(l) ((l)->held = 0)
 #define spin_lock(l) ((void)(l))

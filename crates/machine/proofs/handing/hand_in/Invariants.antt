@@ -1,7 +1,7 @@
-use Rattle.machine.proofs.Common.{◌≡◌, Serves}
+use Rattle.std.proofs.Common.{List}
+use Rattle.machine.proofs.Common.{◌≡◌, Range, Runs}
 use Rattle.machine.proofs.handing.hand_in.Given as goal
 
 abbrev pub invariant-loop-record : goal.invariant-loop-record
-invariant-loop-record g l = Serves g.D.Disk.state g.D.Disk.makes l.fn.guest l.fn.board l.board
-    × (l.board.jobs ≡ l.fn.board.jobs)
-    × (l.board.devices ≡ l.fn.board.devices)
+invariant-loop-record l = ((ps : List Range) → Runs l.fn.guest ps l.fn.board ps l.board)
+    × (l.board.rest.jobs ≡ l.fn.board.rest.jobs) × (l.board.devices ≡ l.fn.board.devices)

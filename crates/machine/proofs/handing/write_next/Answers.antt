@@ -1,7 +1,21 @@
-use Rattle.machine.proofs.Common.{OutboxMakes, outbox_state}
-use Rattle.machine.proofs.Shares.{serves_none}
+use Rattle.std.proofs.Common.{refl}
+use Rattle.machine.proofs.Common.{Still}
+use Rattle.board.specs.declared.step.Step.TheVariants as step
+use Rattle.machine.proofs.Jobs.{advanced_jobs}
+use Rattle.machine.proofs.Runs.{runs_step}
 use Rattle.machine.proofs.handing.write_next.Goals as goal
 
-pub returns-then-not-has_room-clause-serves : goal.returns-then-not-has_room-clause-serves
-returns-then-not-has_room-clause-serves c guest =
-    serves_none outbox_state OutboxMakes guest c.args.board.now
+pub returns-then-not-has_room-clause-runs : goal.returns-then-not-has_room-clause-runs
+returns-then-not-has_room-clause-runs c guest ps = Still ps c.args.board.now
+
+pub returns-in_default : goal.returns-in_default
+returns-in_default c = record {
+  runs = λ guest ps. Still ps c.args.board.now;
+  jobs = refl;
+  devices = refl;
+}
+
+pub returns-clause-runs : goal.returns-clause-runs
+returns-clause-runs c guest ps =
+    runs_step guest ps c.args.board.now c.advance.new.self step.Advance _ tt
+    c.advance.ensures.steps

@@ -4,7 +4,8 @@ use Rattle.rpmb_commands.proofs.Lines.{said_all, said_more, said_none}
 use Rattle.rpmb_commands.proofs.explaining.tell_each.Goals as goal
 
 pub loop-init : goal.loop-init
-loop-init g c = said_none _ _ _ _ _ c.none-counts.ensures.wrong c.none-counts.ensures.refused
+loop-init g c =
+    let none = c.none-counts.ensures in said_none _ _ _ _ _ _ none.wrong none.refused none.line
 
 pub loop-preserved : goal.loop-preserved
 loop-preserved g c =
@@ -17,8 +18,8 @@ loop-preserved g c =
     (sym c.as_str.ensures.value) more in
     said_more (judging_of c.args.judge.now) (g.B.Read.remaining c.args.input.now) left after
     (g.W.Write.contents c.args.out.now) (g.W.Write.contents c.loop.out)
-    (g.W.Write.contents c.explain_now.new.out) _ _ _ _ c.as_str.result.now c.loop.invariant text
-    e.told e.wrong e.refused
+    (g.W.Write.contents c.explain_now.new.out) _ _ _ _ _ _ c.as_str.result.now c.loop.invariant text
+    e.told e.wrong e.refused e.line
 
 pub returns-then-not-branch-clause-told : goal.returns-then-not-branch-clause-told
 returns-then-not-branch-clause-told g c =
@@ -28,5 +29,5 @@ returns-then-not-branch-clause-told g c =
     let none = subst (λ b. IfSome left (λ text. IsNext text b line after)) c.if-not-branch.true
     c.in_ok-next_line.ensures.next in
     said_all (judging_of c.args.judge.now) (g.B.Read.remaining c.args.input.now) left after
-    (g.W.Write.contents c.args.out.now) (g.W.Write.contents c.loop.out) _ _ line
+    (g.W.Write.contents c.args.out.now) (g.W.Write.contents c.loop.out) _ _ _ line
     c.loop.invariant none

@@ -7,7 +7,7 @@ pub returns-in_err-board-clause-cause : goal.returns-in_err-board-clause-cause
 returns-in_err-board-clause-cause c =
     let p = err_from_is_err_and c.from_residual-in_err-board.result
     c.from_residual-in_err-board.ensures.1 in
-    let long : length c.args.image.now ≡ length_of c.args.windows.now = grind arith in
+    let long : length c.args.image.now ≡ length_of c.args.setups.now = grind arith in
     rw (p.1, p.2) (OfBoard c.in_ok-config.ensures.monitored long
     (subst (λ guests. IsOpeningFault guests c.args.image.now c.in_err-board.field-0.0)
     c.in_ok-config.ensures.value c.in_err-board.ensures.cause))

@@ -1,128 +1,114 @@
-use Rattle.std.proofs.Common.{◌≤◌, ℕ, ap, length, arith, refl, rules, subst, sym}
-use Rattle.machine.proofs.Common.{slice_get_read, IsServed, MachineState, TellsFault, TellsRanges}
-use Rattle.std.proofs.lemmas.Option.{slice_get_within}
-use Rattle.machine.proofs.Told.{fault_no_guest, fault_no_room, fault_of_board, served_none}
-use Rattle.machine.proofs.Told.{served_by, told_none, told_by}
+use Rattle.std.proofs.Common.{◌≡◌, ◌∙◌, ap, false, sym, subst, length, arith, rules}
+use Rattle.machine.proofs.Common.{slice_get_read, IsServed, MachineState, slice_get, slice_set}
+use Rattle.machine.specs.Machine.{TellsOf, has_guest}
+use Rattle.machine.proofs.Completing.{serves, serves_none}
+use Rattle.machine.proofs.Popping.{some_at}
+use Rattle.machine.proofs.Told.{has_all, no_device, no_setup, no_turn, tells_absent, tells_of, tells_room}
+use Rattle.machine.proofs.machine.Machine.serve.Goals.{then-at-len-via-then-at-len, then-at-len-via-else-at-len+then-at-len-2, then-at-len-via-else-at-len+else-at-len-2+then-at-guests}
 use Rattle.machine.proofs.machine.Machine.serve.Goals as goal
 
 pub returns-then-at-len-clause-served : goal.returns-then-at-len-clause-served
-returns-then-at-len-clause-served c = served_none c.args.guest c.args.self.now
+returns-then-at-len-clause-served c = serves_none c.args.guest c.args.self.now
 
-pub returns-then-at-len-clause-writes : goal.returns-then-at-len-clause-writes
-returns-then-at-len-clause-writes c =
-    told_none c.args.guest c.refused.result.ranges c.args.ranges.now c.args.self.now
-    c.refused.ensures.ranges
+pub returns-then-at-len-clause-tells : goal.returns-then-at-len-clause-tells
+returns-then-at-len-clause-tells c =
+    let m : MachineState = record {
+      board = c.self.inside.board;
+      setups = c.self.inside.setups.items;
+      turns = c.self.inside.turns.items;
+    } in
+    let g = c.args.guest in
+    let same = c.from-at.ensures in
+    let gone : has_guest m g ≡ false = elim c.then-at-len.branch [
+      | then-at-len-via-then-at-len w ↦ (let past = w.if-at-len.true in let long = c.len.ensures in
+          no_setup m g (omega (arith, past, long, same)))
+      | then-at-len-via-else-at-len+then-at-len-2 w ↦ (let past = w.if-at-len-2.true in
+          let long = w.len-else-at-len.ensures in no_turn m g (omega (arith, past, long, same)))
+      | then-at-len-via-else-at-len+else-at-len-2+then-at-guests w ↦
+          (let past = w.if-at-guests.true in let long = w.guests.ensures in
+          no_device m g (omega (arith, past, long, same)))
+    ] in
+    tells_absent c.args.self.now g (length c.args.bytes.now) c.served.result c.args.bytes.now
+    (ap (λ (x : MachineState). has_guest x g) (sym c.self.view_is) ∙ gone)
+    c.served.ensures.next c.served.ensures.sync c.served.ensures.waiting
 
-pub returns-then-at-len-clause-left : goal.returns-then-at-len-clause-left
-returns-then-at-len-clause-left c none = absurd (let some = c.refused.ensures.fault in cc)
+pub returns-then-bytes-lt-LARGEST_PART-clause-served : goal.returns-then-bytes-lt-LARGEST_PART-clause-served
+returns-then-bytes-lt-LARGEST_PART-clause-served c = serves_none c.args.guest c.args.self.now
 
-pub returns-then-at-len-clause-sync : goal.returns-then-at-len-clause-sync
-returns-then-at-len-clause-sync c none = absurd (let some = c.refused.ensures.fault in cc)
-
-pub returns-then-at-len-clause-rest : goal.returns-then-at-len-clause-rest
-returns-then-at-len-clause-rest c none = absurd (let some = c.refused.ensures.fault in cc)
-
-pub returns-then-ranges-eq0-clause-served : goal.returns-then-ranges-eq0-clause-served
-returns-then-ranges-eq0-clause-served c = served_none c.args.guest c.args.self.now
-
-pub returns-then-ranges-eq0-clause-writes : goal.returns-then-ranges-eq0-clause-writes
-returns-then-ranges-eq0-clause-writes c =
-    told_none c.args.guest c.refused-then-ranges-eq0.result.ranges c.args.ranges.now c.args.self.now
-    c.refused-then-ranges-eq0.ensures.ranges
-
-pub returns-then-ranges-eq0-clause-left : goal.returns-then-ranges-eq0-clause-left
-returns-then-ranges-eq0-clause-left c none =
-    absurd (let some = c.refused-then-ranges-eq0.ensures.fault in cc)
-
-pub returns-then-ranges-eq0-clause-sync : goal.returns-then-ranges-eq0-clause-sync
-returns-then-ranges-eq0-clause-sync c none =
-    absurd (let some = c.refused-then-ranges-eq0.ensures.fault in cc)
-
-pub returns-then-ranges-eq0-clause-rest : goal.returns-then-ranges-eq0-clause-rest
-returns-then-ranges-eq0-clause-rest c none =
-    absurd (let some = c.refused-then-ranges-eq0.ensures.fault in cc)
+pub returns-then-bytes-lt-LARGEST_PART-clause-tells : goal.returns-then-bytes-lt-LARGEST_PART-clause-tells
+returns-then-bytes-lt-LARGEST_PART-clause-tells c =
+    let m : MachineState = record {
+      board = c.self.inside.board;
+      setups = c.self.inside.setups.items;
+      turns = c.self.inside.turns.items;
+    } in
+    let g = c.args.guest in
+    let same = c.from-at.ensures in
+    let s = c.served-then-bytes-lt-LARGEST_PART in
+    let in_setups = c.if-at-len.false in
+    let many_setups = c.len.ensures in
+    let in_turns = c.if-at-len-2.false in
+    let many_turns = c.len-else-at-len.ensures in
+    let in_devices = c.if-at-guests.false in
+    let many_devices = c.guests.ensures in
+    let setup = some_at m.setups g (omega (arith, in_setups, many_setups, same)) in
+    let turn = some_at m.turns g (omega (arith, in_turns, many_turns, same)) in
+    let device = some_at m.board.devices g (omega (arith, in_devices, many_devices, same)) in
+    let short = c.if-bytes-lt-LARGEST_PART.true in
+    tells_room c.args.self.now g (length c.args.bytes.now) s.result c.args.bytes.now
+    (ap (λ (x : MachineState). has_guest x g) (sym c.self.view_is)
+    ∙ has_all m g setup.0 turn.0 device.0 setup.1 turn.1 device.1) (omega (arith, short))
+    s.ensures.next s.ensures.sync s.ensures.waiting
 
 pub returns-clause-served : goal.returns-clause-served
 returns-clause-served c =
-    let old : MachineState = record {
+    let g = c.args.guest in
+    let m : MachineState = record {
       board = c.self.inside.board;
-      windows =
-          c.self.inside.windows.items;
+      setups = c.self.inside.setups.items;
+      turns = c.self.inside.turns.items;
     } in
-    let new : MachineState = record {
-      board = c.serve-served.new.board;
-      windows =
-          c.self.inside.windows.items;
-    } in
-    subst (λ (m : MachineState). IsServed c.args.guest m new) c.self.view_is
-    (served_by c.args.guest old new c.what_always_holds.ensures.tied c.serve-served.ensures.serves
-    refl)
+    let s = c.serve_turn-next in
+    let its = slice_get_read m.turns c.len-else-at-len.result g c.index_mut-turn.result.now
+    (search rules) (search rules) (search rules) in
+    subst (λ (x : MachineState). IsServed g x (record m {
+      board = s.new.board;
+      turns = slice_set m.turns c.from-at.result s.new.turn;
+    })) c.self.view_is
+    (subst (λ k. IsServed g m (record m {
+      board = s.new.board;
+      turns = slice_set m.turns k s.new.turn;
+    })) (sym c.from-at.ensures)
+    (serves g m c.index_mut-turn.result.now s.new.turn s.new.board its s.ensures.runs))
 
-pub returns-clause-writes : goal.returns-clause-writes
-returns-clause-writes c =
-    let old : MachineState = record {
+pub returns-clause-tells : goal.returns-clause-tells
+returns-clause-tells c =
+    let g = c.args.guest in
+    let m : MachineState = record {
       board = c.self.inside.board;
-      windows =
-          c.self.inside.windows.items;
+      setups = c.self.inside.setups.items;
+      turns = c.self.inside.turns.items;
     } in
-    let new : MachineState = record {
-      board = c.serve-served.new.board;
-      windows =
-          c.self.inside.windows.items;
-    } in
-    let rs = c.serve-served.new.written.items in
-    let few = c.serve-served.ensures.writes.notes.few in
-    let fits : length rs ≤ length c.args.ranges.now =
-    few (let none = ap length c.clear.ensures.items in omega (arith, none)) in
-    subst (λ (m : MachineState). TellsRanges c.args.guest c.serve-served.result.ranges
-    c.tell_ranges.new.out m new) c.self.view_is
-    (told_by c.args.guest c.serve-served.result.ranges c.tell_ranges.new.out rs c.index-2.result.now
-    old new (slice_get_read c.self.inside.windows.items c.len.result c.args.guest
-    c.index-2.result.now (search rules) (search rules) (search rules))
-    c.serve-served.ensures.ranges
-    (subst (λ (n : ℕ). length rs ≤ n) (sym c.tell_ranges.ensures.count) fits)
-    (c.tell_ranges.ensures.told fits) c.serve-served.ensures.writes.within)
-
-pub returns-clause-left : goal.returns-clause-left
-returns-clause-left c none = c.serve-served.ensures.left c.what_always_holds.ensures.tied none
-
-pub returns-then-at-len-clause-refused : goal.returns-then-at-len-clause-refused
-returns-then-at-len-clause-refused c = fault_no_guest c.args.guest (length c.args.ranges.now)
-    c.refused.result.fault c.args.self.now c.refused.ensures.fault
-
-pub returns-then-ranges-eq0-clause-refused : goal.returns-then-ranges-eq0-clause-refused
-returns-then-ranges-eq0-clause-refused c =
-    let old : MachineState = record {
-      board = c.self.inside.board;
-      windows =
-          c.self.inside.windows.items;
-    } in
-    subst (λ (m : MachineState). TellsFault c.args.guest (length c.args.ranges.now)
-    c.refused-then-ranges-eq0.result.fault m m) c.self.view_is
-    (fault_no_room c.args.guest (length c.args.ranges.now) c.refused-then-ranges-eq0.result.fault
-    old
-    (let below = c.if-at-len.false in let long = c.len.ensures in let same = c.from-at.ensures in
-    omega (arith, below, long, same))
-    (let empty = c.if-ranges-eq0.true in omega (arith, empty))
-    c.refused-then-ranges-eq0.ensures.fault)
-
-pub returns-clause-refused : goal.returns-clause-refused
-returns-clause-refused c =
-    let old : MachineState = record {
-      board = c.self.inside.board;
-      windows =
-          c.self.inside.windows.items;
-    } in
-    let new : MachineState = record {
-      board = c.serve-served.new.board;
-      windows =
-          c.self.inside.windows.items;
-    } in
-    subst (λ (m : MachineState). TellsFault c.args.guest (length c.args.ranges.now)
-    c.serve-served.result.fault m new) c.self.view_is
-    (fault_of_board c.args.guest (length c.args.ranges.now) c.serve-served.result.fault old new
-    (slice_get_within c.self.inside.windows.items c.args.guest c.index-2.result.now
-    (slice_get_read c.self.inside.windows.items c.len.result c.args.guest c.index-2.result.now
-    (search rules) (search rules) (search rules))) (λ none.
-    absurd (let some = c.if-ranges-eq0.false in omega (arith, none, some)))
-    c.serve-served.ensures.reason)
+    let s = c.serve_turn-next in
+    let its = slice_get_read m.turns c.len-else-at-len.result g c.index_mut-turn.result.now
+    (search rules) (search rules) (search rules) in
+    let setup = slice_get_read m.setups c.len.result g c.index.result.now
+    (search rules) (search rules) (search rules) in
+    let below = c.if-at-guests.false in
+    let long = c.guests.ensures in
+    let same = c.from-at.ensures in
+    let device = some_at m.board.devices g (omega (arith, below, long, same)) in
+    let room = length c.args.bytes.now in
+    subst (λ (x : MachineState). TellsOf g room c.served-2.result s.new.bytes x (record m {
+      board = s.new.board;
+      turns = slice_set m.turns c.from-at.result s.new.turn;
+    })) c.self.view_is
+    (subst (λ k. TellsOf g room c.served-2.result s.new.bytes m (record m {
+      board = s.new.board;
+      turns = slice_set m.turns k s.new.turn;
+    })) (sym same)
+    (tells_of m g room c.most-most.result c.index.result.now c.index_mut-turn.result.now s.new.turn
+    s.new.board s.new.bytes s.result c.served-2.result setup its
+    (has_all m g c.index.result.now c.index_mut-turn.result.now device.0 setup its device.1)
+    c.most-most.ensures c.served-2.ensures.next s.ensures.needs c.served-2.ensures.sync
+    c.served-2.ensures.waiting))

@@ -1,0 +1,62 @@
+-- What is told of the disk's writes and syncs, and what a serve makes of a machine.
+use Rattle.std.proofs.Common.{◌≡◌, ◌≢◌, refl, ap, sym, subst, ◌∙◌, ℕ, List, [], Some, None, length, map}
+use Rattle.machine.proofs.Common.{slice_get, slice_set, AskingState, BoardState, Boards, MachineState}
+use Rattle.machine.proofs.Common.{Moves, OutboxMakes, OutboxState, Range, Runs, board_of, outbox_state}
+use Rattle.machine.proofs.Common.{get_set_other, get_set_same, IsServed, Still, moves_none}
+use Rattle.machine.proofs.Common.{moves_twice}
+use Rattle.disk.specs.declared.outbox_disk.Told.{Told}
+use Rattle.machine.specs.Machine.{Completes, GoesOn, telling_board, turn_in}
+use Rattle.machine.specs.Serving.{Hears}
+use Rattle.machine.specs.Turn.{TurnState}
+use Rattle.machine.proofs.Others.{others_stay}
+use Rattle.machine.proofs.Runs.{runs_moves}
+
+pub completes : (told : Told) (m : MachineState) (b' new : Boards)
+    → b' ≡ telling_board told m.board → Hears b' new → Runs 0 [] b' [] new
+    → new.devices ≡ b'.devices → Completes told m (record m { board = new })
+completes told m b' new is hears runs devices = record {
+  hears = subst (λ b. Hears b new) is hears;
+  moves = subst (λ b. Moves outbox_state OutboxMakes (board_of b) (board_of new)) is
+      (runs_moves 0 [] [] b' new runs);
+  devices = devices ∙ ap (λ b. b.devices) is;
+  turns = refl;
+  setups = refl;
+}
+
+pub serves : (guest : ℕ) (m : MachineState) (turn turn' : TurnState) (new : Boards)
+    → slice_get m.turns guest ≡ Some turn
+    → Runs guest turn.parts m.board turn'.parts new
+    → IsServed guest m (record m { board = new; turns = slice_set m.turns guest turn' })
+serves guest m turn turn' new its runs =
+    let set = get_set_same m.turns guest turn turn' its in
+    record {
+      runs = subst (λ o. Runs guest (turn_in o).parts m.board
+          (turn_in (slice_get (slice_set m.turns guest turn') guest)).parts new) (sym its)
+          (subst (λ o. Runs guest turn.parts m.board (turn_in o).parts new) (sym set) runs);
+      moves = runs_moves guest turn.parts turn'.parts m.board new runs;
+      others = others_stay guest turn.parts turn'.parts m.board new runs;
+      turns = λ k other. get_set_other m.turns guest k turn' other;
+      setups = refl;
+    }
+
+pub serves_none : (guest : ℕ) (m : MachineState) → IsServed guest m m
+serves_none guest m = record {
+  runs = Still _ m.board;
+  moves = moves_none outbox_state OutboxMakes (board_of m.board);
+  others = record {
+    devices = λ k other. refl;
+    jobs = λ k other. refl;
+    dones = λ k other. refl;
+    intents = λ k other. refl;
+  };
+  turns = λ k other. refl;
+  setups = refl;
+}
+
+-- a step more of the disk's work
+pub goes_more : (guest : ℕ) (a b c : Boards)
+    → Moves outbox_state OutboxMakes (board_of a) (board_of b)
+    → Runs guest [] b [] c → Moves outbox_state OutboxMakes (board_of a) (board_of c)
+goes_more guest a b c moves runs =
+    moves_twice outbox_state OutboxMakes (board_of a) (board_of b) (board_of c) moves
+    (runs_moves guest [] [] b c runs)

@@ -1,0 +1,138 @@
+-- One move of a serve after another.
+use Rattle.std.proofs.Common.{◌≡◌, ◌⊎◌, inl, inr, refl, ap, sym, subst, ◌∙◌, ℕ, Bool, true, false}
+use Rattle.std.proofs.Common.{List, [], ◌∷◌, Option, Some, None, Result, Ok, Err, length, map}
+use Rattle.std.specs.Prelude.{nat_le, nat_lt}
+use Rattle.guest_memory.specs.Memory.{IsAsk}
+use Rattle.guest_memory.specs.declared.ask.Ask.{Ask}
+use Rattle.flusher.specs.Store.{next_call}
+use Rattle.mmio_transport.specs.Asking.{Notifies, NotifiesOf, NotifiesWhere, known}
+use Rattle.mmio_transport.specs.Queue.{QueueState}
+use Rattle.board.specs.State.{HasNoJob, waiting}
+use Rattle.machine.proofs.Common.{slice_get, AskingState, Boards, MachineFault, Range, Runs}
+use Rattle.machine.specs.Ending.{AsksIn, FindsNone, HasReason, NeedsNext, RestsAt, Went, is_write}
+use Rattle.machine.specs.Serving.{HasNoReply, SameDevices}
+use Rattle.machine.specs.Turn.{TurnState}
+use Rattle.machine.specs.declared.serving.Next.{Next}
+use Rattle.machine.specs.declared.serving.Next.TheVariants as next
+use Rattle.machine.specs.declared.taking.Taken.{Taken}
+use Rattle.machine.specs.declared.taking.Taken.TheVariants as taken
+use Rattle.machine.proofs.Runs.{runs_twice}
+
+-- 1. Whether the driver is to be notified
+
+module _ (a a' : AskingState) where
+  err_where : (b : Bool) (q : QueueState) (ask : Ask) → NotifiesWhere b q a (Err ask) a'
+      → IsAsk (known a) ask × (a' ≡ a)
+  err_where true q ask does = absurd (let no = does.0 in cc)
+  err_where false q ask does = (does.missing, does.same)
+
+  err_of : (o : Option QueueState) (ask : Ask) → NotifiesOf o a (Err ask) a'
+      → IsAsk (known a) ask × (a' ≡ a)
+  err_of None ask does = absurd (let no = does.0 in cc)
+  err_of (Some q) ask does = err_where _ q ask does
+
+  pub notify_asks : (ask : Ask) → Notifies a (Err ask) a' → IsAsk (known a) ask × (a' ≡ a)
+  notify_asks ask does = err_of a.device.queue ask does
+
+  not_where : (b : Bool) (q : QueueState) → NotifiesWhere b q a (Ok false) a'
+      → a'.device ≡ a.device
+  not_where true q does = ap (λ x. x.device) does.1
+  not_where false q does = ap (λ x. x.device) does.after
+
+  not_of : (o : Option QueueState) → NotifiesOf o a (Ok false) a' → a'.device ≡ a.device
+  not_of None does = ap (λ x. x.device) does.1
+  not_of (Some q) does = not_where _ q does
+
+  pub not_notified : Notifies a (Ok false) a' → a'.device ≡ a.device
+  not_notified does = not_of a.device.queue does
+
+-- 2. Moves
+
+module _ (guest most : ℕ) where
+  pub needs_after : (ps qs rs : List Range) (a b c : Boards) (n : Option Next) → Runs guest ps a qs b
+      → NeedsNext guest most qs b rs c n → NeedsNext guest most ps a rs c n
+  needs_after ps qs rs a b c None runs needs = tt
+  needs_after ps qs rs a b c (Some next.Again) runs needs = tt
+  needs_after ps qs rs a b c (Some (next.Read ask)) runs needs = needs
+  needs_after ps qs rs a b c (Some (next.Write part)) runs needs =
+      runs_twice guest ps qs (part ∷ rs) a b c runs needs
+  needs_after ps qs rs a b c (Some next.Call) runs needs = tt
+  needs_after ps qs rs a b c (Some (next.Rest None)) runs needs = needs
+  needs_after ps qs rs a b c (Some (next.Rest (Some f))) runs needs = needs
+
+  pub went_after : (t0 t1 t2 : TurnState) (a b c : Boards) (n : Option Next)
+      → Runs guest t0.parts a t1.parts b → length b.devices ≡ length a.devices
+      → t1.asked ≡ t0.asked → Went guest most t1 t2 b c n → Went guest most t0 t2 a c n
+  went_after t0 t1 t2 a b c n runs count asked went = record {
+    runs = runs_twice guest t0.parts t1.parts t2.parts a b c runs went.runs;
+    needs = needs_after t0.parts t1.parts t2.parts a b c n runs went.needs;
+    count = went.count ∙ count;
+    asked = went.asked ∙ asked;
+  }
+
+  pub went_by : (t t' : TurnState) (a b : Boards) (n : Option Next)
+      → Runs guest t.parts a t'.parts b → NeedsNext guest most t.parts a t'.parts b n
+      → length b.devices ≡ length a.devices → t'.asked ≡ t.asked → Went guest most t t' a b n
+  went_by t t' a b n runs needs count asked = record {
+    runs = runs;
+    needs = needs;
+    count = count;
+    asked = asked;
+  }
+
+  -- 3. Where a guest rests
+
+  pub finds_same : (a b : Boards) → SameDevices a b → FindsNone guest a → FindsNone guest b
+  finds_same a b same found = record {
+    device = found.device;
+    its = ap (λ ds. slice_get ds guest) same ∙ found.its;
+    before = found.before;
+    none = found.none;
+  }
+
+  pub rests_by : (a b : Boards) (t : Taken) → b.rest ≡ a.rest → SameDevices a b
+      → ((t ≡ taken.Nothing) ⊎ ((t ≡ taken.Limit) × (nat_lt (waiting guest a.rest) most ≡ false)))
+      → is_write (next_call a.rest.store.broken a.rest.store.guests) ≡ false
+      → (t ≡ taken.Nothing → FindsNone guest a)
+      → ((t ≡ taken.Nothing) ⊎ (t ≡ taken.Limit) → HasNoJob guest a.rest)
+      → HasNoReply guest a.rest → RestsAt guest most b
+  rests_by a b t rest same (inl nothing) writes found jobs replies =
+      subst (λ r. RestsAt guest most (record b { rest = r })) (sym rest) (record {
+        jobs = jobs (inl nothing);
+        taken = inl (let f = finds_same a b same (found nothing) in
+            record { device = f.device; its = f.its; before = f.before; none = f.none });
+        replies = replies;
+        writes = writes;
+      })
+  rests_by a b t rest same (inr full) writes found jobs replies =
+      subst (λ r. RestsAt guest most (record b { rest = r })) (sym rest) (record {
+        jobs = jobs (inr full.0);
+        taken = inr full.1;
+        replies = replies;
+        writes = writes;
+      })
+
+  pub rest_needs : (ps qs : List Range) (a b : Boards) (o : Option MachineFault)
+      → (o ≡ None → RestsAt guest most b) → ((f : MachineFault) → o ≡ Some f → HasReason guest f)
+      → NeedsNext guest most ps a qs b (Some (next.Rest o))
+  rest_needs ps qs a b None rests why = rests refl
+  rest_needs ps qs a b (Some f) rests why = why f refl
+
+  pub some_needs : (ps qs : List Range) (a b : Boards) (n : Next)
+      → ((ask : Ask) → Some n ≡ Some (next.Read ask) → AsksIn guest ask b)
+      → ((part : Range) → Some n ≡ Some (next.Write part) → ⊥)
+      → ((f : Option MachineFault) → Some n ≡ Some (next.Rest f) → ⊥)
+      → NeedsNext guest most ps a qs b (Some n)
+  some_needs ps qs a b next.Again asks write rest = tt
+  some_needs ps qs a b (next.Read ask) asks write rest = asks ask refl
+  some_needs ps qs a b (next.Write part) asks write rest = absurd (write part refl)
+  some_needs ps qs a b next.Call asks write rest = tt
+  some_needs ps qs a b (next.Rest f) asks write rest = absurd (rest f refl)
+
+  pub notified_needs : (ps qs : List Range) (a b : Boards) (o : Option Next)
+      → ((ask : Ask) → o ≡ Some (next.Read ask) → AsksIn guest ask b)
+      → ((part : Range) → o ≡ Some (next.Write part) → ⊥)
+      → ((f : Option MachineFault) → o ≡ Some (next.Rest f) → ⊥)
+      → NeedsNext guest most ps a qs b o
+  notified_needs ps qs a b None asks write rest = tt
+  notified_needs ps qs a b (Some n) asks write rest = some_needs ps qs a b n asks write rest

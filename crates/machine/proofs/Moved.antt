@@ -1,0 +1,55 @@
+-- A board of which one device was moved.
+use Rattle.std.proofs.Common.{◌≡◌, refl, ap, sym, subst, ◌∙◌, ℕ, List, Some, None, Option, map, length}
+use Rattle.machine.proofs.Common.{slice_get, slice_set, AskingState, Boards, Knows, Range, Runs}
+use Rattle.machine.proofs.Common.{get_set_same}
+use Rattle.board.proofs.AskingSteps.{unseen}
+use Rattle.guest_memory.specs.declared.fault.MemFault.{MemFault}
+use Rattle.mmio_transport.specs.Asking.{after_told}
+use Rattle.board.proofs.Doing.{set_same}
+use Rattle.machine.specs.Serving.{Learns, QueuesStay, SameDevices, Tells}
+use Rattle.machine.proofs.Common.{Still}
+use Rattle.std.specs.Prelude.{Result, Ok, Err, OnOk, OnErr}
+use Rattle.machine.proofs.Runs.{runs_knows}
+use Rattle.std.proofs.Common.{length-set}
+
+-- the board with another device of a guest
+abbrev pub moved : Boards → ℕ → AskingState → Boards
+moved b guest d = record b { devices = slice_set b.devices guest d }
+
+module _ (guest : ℕ) (b : Boards) (d d' : AskingState)
+    (its : slice_get b.devices guest ≡ Some d) where
+  pub moved_runs : (ps : List Range) → Learns d d' → Runs guest ps b ps (moved b guest d')
+  moved_runs ps learns = runs_knows guest ps b (moved b guest d') (record {
+    device = d;
+    its = its;
+    device' = d';
+    learns = learns;
+    after = refl;
+  })
+
+  pub moved_same : d'.device ≡ d.device → SameDevices b (moved b guest d')
+  moved_same same = unseen (λ a. a.device) b.devices guest d d' its same
+
+  pub moved_queues : d'.device.queue ≡ d.device.queue → QueuesStay b (moved b guest d')
+  moved_queues same = unseen (λ a. a.device.queue) b.devices guest d d' its same
+
+  pub moved_at : slice_get (moved b guest d').devices guest ≡ Some d'
+  moved_at = get_set_same b.devices guest d d' its
+
+  -- what changed nothing
+  pub moved_none : d' ≡ d → moved b guest d' ≡ b
+  moved_none same = ap (λ (ds : List AskingState). (let v : Boards = record b { devices = ds } in v))
+      (ap (slice_set b.devices guest) same ∙ set_same b.devices guest d its)
+
+  -- bytes were told, or there was no memory for them
+  pub told_runs : {X : Type 0} (ps : List Range) (at : ℕ) (bytes : List ℕ) (r : Result X MemFault)
+      → OnOk r (d' ≡ after_told d at bytes) → OnErr r (d' ≡ d)
+      → Runs guest ps b ps (moved b guest d')
+  told_runs ps at bytes (Ok x) ok err = moved_runs ps (Tells at bytes ok)
+  told_runs ps at bytes (Err e) ok err =
+      subst (λ v. Runs guest ps b ps v) (sym (moved_none err)) (Still ps b)
+
+  pub told_queues : {X : Type 0} (at : ℕ) (bytes : List ℕ) (r : Result X MemFault)
+      → OnOk r (d' ≡ after_told d at bytes) → OnErr r (d' ≡ d) → QueuesStay b (moved b guest d')
+  told_queues at bytes (Ok x) ok err = moved_queues (ap (λ a. a.device.queue) ok)
+  told_queues at bytes (Err e) ok err = moved_queues (ap (λ a. a.device.queue) err)

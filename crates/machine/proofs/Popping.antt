@@ -1,0 +1,87 @@
+-- What a pop of the guest's device comes to.
+use Rattle.std.proofs.Common.{◌≡◌, ◌<◌, ◌⊎◌, inl, inr, refl, ap, sym, subst, ◌∙◌, ℕ, Bool, true, false}
+use Rattle.std.proofs.Common.{List, [], ◌∷◌, ◌++◌, Option, Some, None, Result, Ok, Err, length, map, get_or}
+use Rattle.std.proofs.Common.{arith, IfSome}
+use Rattle.machine.proofs.Common.{slice_get, slice_set, Answer, AskingState, BoardState, Boards}
+use Rattle.machine.proofs.Common.{DeviceState, HasNoJob, IsSound, Job, Makes, OutboxMakes, OutboxState}
+use Rattle.machine.proofs.Common.{Pops, PopsInto, PopsOne, Range, Runs, Still, board_of, get_set_same}
+use Rattle.machine.proofs.Common.{in_place, outbox_state, put}
+use Rattle.board.proofs.Common.{slice_get-get_or, length-map}
+use Rattle.mmio_transport.specs.declared.fault.DeviceFault.{DeviceFault}
+use Rattle.mmio_transport.specs.Popping.{GivesJob}
+use Rattle.board.specs.Steps as steps
+use Rattle.board.specs.Steps.{job_of, pop_answer}
+use Rattle.board.specs.declared.step.Seen.TheVariants.{Did, Nothing}
+use Rattle.board.specs.declared.step.Step.TheVariants as step
+use Rattle.machine.specs.Ending.{FindsNone}
+use Rattle.machine.specs.Turn.{pop_parts}
+
+-- there is an element at each index below the length
+pub some_at : {X : Type 0} (xs : List X) (k : ℕ) → k < length xs
+    → (x : X) × (slice_get xs k ≡ Some x)
+some_at [] k below = absurd (omega (arith, below))
+some_at (y ∷ ys) k below = (get_or (y ∷ ys) k y, slice_get-get_or (y ∷ ys) k y below)
+
+pub still_by : (guest : ℕ) (ps : List Range) (b b' : Boards) → ps ≡ [] → b' ≡ b
+    → Runs guest [] b ps b'
+still_by guest ps b b' none same =
+    subst (λ qs. Runs guest [] b qs b') (sym none)
+    (subst (λ x. Runs guest [] b [] x) (sym same) (Still [] b))
+
+pub pops_by : (guest : ℕ) (ps : List Range) (answer : Answer) (b b' : Boards) (d : AskingState)
+    → slice_get b.devices guest ≡ Some d → Makes (step.Pop guest) answer b b'
+    → (ps ≡ pop_parts d.device) ⊎ ((ps ≡ []) × ((answer ≡ Ok Did) → ⊥))
+    → Runs guest [] b ps b'
+pops_by guest ps answer b b' d its makes parts = Pops [] ps b b b' answer (Still [] b) (record {
+  makes = makes;
+  device = d;
+  its = its;
+  parts_are = parts;
+})
+
+-- the parts that were noted of the guest's device
+pub noted_at : (o : Option AskingState) (d : AskingState) (ps qs : List Range) → o ≡ Some d
+    → qs ≡ [] → IfSome o (λ x. ps ≡ qs ++ pop_parts x.device) → ps ≡ pop_parts d.device
+noted_at o d ps qs is none noted =
+    subst (λ p. IfSome p (λ x. ps ≡ qs ++ pop_parts x.device)) is noted
+    ∙ ap (λ rs. rs ++ pop_parts d.device) none
+
+module _ (guest : ℕ) (old new : BoardState OutboxState) (d : DeviceState) where
+  none_of : (popped : Result (Option Job) DeviceFault) (device : DeviceState)
+      → GivesJob d popped device → Ok Nothing ≡ pop_answer popped
+      → slice_get old.devices guest ≡ Some d
+      → new ≡ record old {
+        devices = slice_set old.devices guest device;
+        jobs = put old.jobs guest (job_of popped);
+      }
+      → (x : DeviceState) × (slice_get new.devices guest ≡ Some x) × GivesJob d (Ok None) x
+      × (new.jobs ≡ old.jobs)
+  none_of (Ok None) device gives answers its after = (
+    device,
+    ap (λ b. slice_get b.devices guest) after ∙ get_set_same old.devices guest d device its,
+    gives,
+    ap (λ b. b.jobs) after,
+  )
+  none_of (Ok (Some job)) device gives answers its after = absurd (let no = answers in cc)
+  none_of (Err e) device gives answers its after = absurd (let no = answers in cc)
+
+pub found_none : (guest : ℕ) (old new : Boards) → IsSound outbox_state (board_of old)
+    → guest < length old.devices → HasNoJob guest old.rest
+    → Makes (step.Pop guest) (Ok Nothing) old new → FindsNone guest new × HasNoJob guest new.rest
+found_none guest old new sound below no_job makes =
+    let b = board_of old in
+    let many = sound.linked.places.devices in
+    let jobs = sound.linked.places.jobs in
+    let long = length-map old.devices (λ (a : AskingState). a.device) in
+    let job = some_at old.rest.jobs guest (omega (arith, below, many, jobs, long)) in
+    let dev = some_at b.devices guest (omega (arith, below, long)) in
+    let empty : slice_get old.rest.jobs guest ≡ Some None =
+    job.1 ∙ ap Some (ap in_place (sym job.1) ∙ no_job) in
+    let pops = subst (λ o. PopsInto guest (Some None) o (Ok Nothing) b (board_of new)) dev.1
+    (subst (λ p. PopsInto guest p (slice_get b.devices guest) (Ok Nothing) b (board_of new)) empty
+    makes.steps.does) in
+    let found = none_of guest b (board_of new) dev.0 pops.popped pops.device pops.gives pops.answers
+    dev.1 pops.after in (
+      record { device = found.0; its = found.1; before = dev.0; none = found.2 },
+      ap (λ js. in_place (slice_get js guest)) found.3 ∙ no_job,
+    )

@@ -1,0 +1,49 @@
+use Rattle.std.proofs.Common.{◌≡◌, inl, inr, refl, ap, sym, subst, ◌∙◌, Some}
+use Rattle.machine.proofs.Common.{Runs}
+use Rattle.machine.specs.Ending.{Lacks, NeedsNext, NeedsTold}
+use Rattle.machine.proofs.Goings.{needs_after}
+use Rattle.machine.proofs.Runs.{runs_twice}
+use Rattle.machine.proofs.Told.{told_of}
+use Rattle.machine.proofs.answering.serve_turn.Goals as goal
+
+pub returns-then-not-answer-clause-needs : goal.returns-then-not-answer-clause-needs
+returns-then-not-answer-clause-needs c = Lacks refl
+
+pub returns-clause-runs : goal.returns-clause-runs
+returns-clause-runs c =
+    let g = c.args.guest in
+    let a = c.args.board.now in
+    let b = c.answer.new.board in
+    let d = c.serve-next.new.board in
+    let e = c.need.new.board in
+    let t0 = c.args.turn.now.parts in
+    let t1 = c.answer.new.turn.parts in
+    let t2 = c.serve-next.new.turn.parts in
+    runs_twice g t0 t1 c.need.new.turn.parts a b e c.answer.ensures.runs
+    (runs_twice g t1 t2 c.need.new.turn.parts b d e c.serve-next.ensures.went.runs
+    c.need.ensures.runs)
+
+pub returns-clause-needs : goal.returns-clause-needs
+returns-clause-needs c =
+    let g = c.args.guest in
+    let m = c.args.most in
+    let a = c.args.board.now in
+    let b = c.answer.new.board in
+    let d = c.serve-next.new.board in
+    let e = c.need.new.board in
+    let t0 = c.args.turn.now.parts in
+    let t1 = c.answer.new.turn.parts in
+    let t2 = c.serve-next.new.turn.parts in
+    let t = c.need.new.turn in
+    let n = c.need.ensures in
+    elim n.same [
+      | inl same ↦
+          (let stays = n.board same in
+          told_of g m t0 a t c.need.new.out e c.need.result
+          (subst (λ r. NeedsNext g m t0 a t.parts e (Some r)) (sym same)
+          (subst (λ qs. NeedsNext g m t0 a qs e (Some c.serve-next.result)) (sym stays.1)
+          (subst (λ x. NeedsNext g m t0 a t2 x (Some c.serve-next.result)) (sym stays.0)
+          (needs_after g m t0 t1 t2 a b d (Some c.serve-next.result) c.answer.ensures.runs
+          c.serve-next.ensures.went.needs)))) n.read n.write)
+      | inr again ↦ subst (λ r. NeedsTold g m t0 a t c.need.new.out e r) (sym again) tt
+    ]

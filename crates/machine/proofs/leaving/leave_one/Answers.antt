@@ -1,0 +1,40 @@
+use Rattle.std.proofs.Common.{[], rules, refl, ap, sym, subst, ◌∙◌}
+use Rattle.machine.proofs.Common.{Runs, board_of}
+use Rattle.machine.proofs.Ends.{none_collected}
+use Rattle.board.specs.declared.step.Step.TheVariants as step
+use Rattle.machine.proofs.Jobs.{collected_jobs}
+use Rattle.machine.proofs.Popping.{still_by}
+use Rattle.machine.proofs.Runs.{runs_step, runs_twice}
+use Rattle.machine.proofs.leaving.leave_one.Goals as goal
+
+pub returns-then-is_none-clause-runs : goal.returns-then-is_none-clause-runs
+returns-then-is_none-clause-runs c =
+    subst (λ rs. Runs c.args.guest [] c.args.board.now rs c.collect.new.self) (sym c.requires.parts)
+    (runs_step c.args.guest [] c.args.board.now c.collect.new.self (step.Collect c.args.guest) _ refl
+    c.collect.ensures.steps)
+
+pub returns-then-is_none-clause-nothing : goal.returns-then-is_none-clause-nothing
+returns-then-is_none-clause-nothing c is = (
+  (let gone = none_collected c.args.guest (board_of c.args.board.now) _
+      (board_of c.collect.new.self) _ refl c.collect.ensures.steps.steps.does (search rules) in
+      record { place = gone.place; due = gone.due }),
+  c.collect.ensures.devices,
+  collected_jobs _ c.args.board.now c.collect.new.self c.args.guest c.collect.ensures.steps,
+)
+
+pub returns-then-not-prepare-clause-runs : goal.returns-then-not-prepare-clause-runs
+returns-then-not-prepare-clause-runs c =
+    let g = c.args.guest in
+    subst (λ rs. Runs g [] c.args.board.now rs c.prepare.new.board)
+    (sym (c.prepare.ensures.idle c.if-not-prepare.true))
+    (runs_twice g [] [] [] c.args.board.now c.collect.new.self c.prepare.new.board
+    (runs_step g [] c.args.board.now c.collect.new.self (step.Collect g) _ refl
+    c.collect.ensures.steps) (c.prepare.ensures.runs []))
+
+pub returns-clause-runs : goal.returns-clause-runs
+returns-clause-runs c =
+    let g = c.args.guest in
+    runs_twice g [] [] _ c.args.board.now c.prepare.new.board c.publish.new.board
+    (runs_twice g [] [] [] c.args.board.now c.collect.new.self c.prepare.new.board
+    (runs_step g [] c.args.board.now c.collect.new.self (step.Collect g) _ refl
+    c.collect.ensures.steps) (c.prepare.ensures.runs [])) c.publish.ensures.runs

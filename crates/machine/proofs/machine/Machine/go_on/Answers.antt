@@ -1,0 +1,39 @@
+use Rattle.std.proofs.Common.{[], ap, subst, ◌∙◌}
+use Rattle.machine.proofs.Common.{MachineState, Moves, OutboxMakes, board_of, moves_none, outbox_state}
+use Rattle.machine.proofs.Completing.{goes_more}
+use Rattle.machine.proofs.machine.Machine.go_on.Goals as goal
+
+pub loop-guest-init : goal.loop-guest-init
+loop-guest-init c = (
+  subst (λ (m : MachineState). Moves outbox_state OutboxMakes (board_of m.board)
+      (board_of c.self.inside.board)) c.self.view_is
+      (moves_none outbox_state OutboxMakes (board_of c.self.inside.board)),
+  ap (λ (m : MachineState). m.board.devices) c.self.view_is,
+  ap (λ (m : MachineState). m.board.rest.jobs) c.self.view_is,
+  ap (λ (m : MachineState). m.setups) c.self.view_is,
+  ap (λ (m : MachineState). m.turns) c.self.view_is,
+)
+
+pub loop-guest-preserved : goal.loop-guest-preserved
+loop-guest-preserved c =
+    let l = c.loop-guest in (
+      goes_more _ c.args.self.now.board l.self-inside.board c.hand_in.new.board l.invariant.0
+          (c.hand_in.ensures.runs []),
+      c.hand_in.ensures.devices ∙ l.invariant.1,
+      c.hand_in.ensures.jobs ∙ l.invariant.2,
+      l.invariant.3,
+      l.invariant.4,
+    )
+
+pub returns-clause-goes : goal.returns-clause-goes
+returns-clause-goes c =
+    let l = c.loop-guest in
+    let w = c.write_out.ensures in
+    record {
+      moves = goes_more 0 c.args.self.now.board l.self-inside.board c.write_out.new.board
+          l.invariant.0 (w.runs 0 []);
+      devices = w.devices ∙ l.invariant.1;
+      jobs = w.jobs ∙ l.invariant.2;
+      turns = l.invariant.4;
+      setups = l.invariant.3;
+    }

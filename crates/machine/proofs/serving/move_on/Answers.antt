@@ -1,0 +1,57 @@
+use Rattle.std.proofs.Common.{◌≡◌, refl, ap, sym, subst, ◌∙◌, ◌∷◌}
+use Rattle.machine.proofs.Common.{Copies, Runs}
+use Rattle.machine.specs.Ending.{Went}
+use Rattle.machine.proofs.Goings.{notified_needs, went_by}
+use Rattle.machine.proofs.Runs.{still_same}
+use Rattle.machine.proofs.serving.move_on.Goals as goal
+
+pub returns-in-Some : goal.returns-in-Some
+returns-in-Some c =
+    let g = c.args.guest in
+    let b = c.args.board.now in
+    let ps = c.args.turn.now.parts in
+    let qs = c.next_part.new.self.parts in
+    let first = still_same g ps (c.in-Some.part ∷ qs) b (sym c.in-Some.ensures.some) in
+    record {
+      went = went_by g c.args.most c.args.turn.now c.next_part.new.self b b _
+          (Copies ps qs c.in-Some.part b b first) first refl
+          (ap (λ t. t.asked) c.next_part.ensures.rest);
+    }
+
+pub take-requires-clause-parts : goal.take-requires-clause-parts
+take-requires-clause-parts c =
+    let none = c.next_part.ensures.none c.in_default.is in ap (λ t. t.parts) none.1 ∙ none.0
+
+pub leave-requires-clause-parts : goal.leave-requires-clause-parts
+leave-requires-clause-parts c =
+    let none = c.next_part.ensures.none c.in_default.is in ap (λ t. t.parts) none.1 ∙ none.0
+
+pub returns-in-Taking : goal.returns-in-Taking
+returns-in-Taking c = record {
+  went = subst (λ t. Went c.args.guest c.args.most t c.take.new.turn c.args.board.now
+      c.take.new.board c.take.result) (c.next_part.ensures.none c.in_default.is).1
+      c.take.ensures.went;
+}
+
+pub returns-in-Leaving : goal.returns-in-Leaving
+returns-in-Leaving c = record {
+  went = subst (λ t. Went c.args.guest c.args.most t c.leave.new.turn c.args.board.now
+      c.leave.new.board c.leave.result) (c.next_part.ensures.none c.in_default.is).1
+      c.leave.ensures.went;
+}
+
+pub returns-in-Notifying : goal.returns-in-Notifying
+returns-in-Notifying c =
+    let g = c.args.guest in
+    let n = c.notify.ensures in
+    let t = c.next_part.new.self in
+    record {
+      went = subst (λ t0. Went g c.args.most t0 c.notify.new.turn c.args.board.now
+          c.notify.new.board c.notify.result) (c.next_part.ensures.none c.in_default.is).1
+          (went_by g c.args.most t c.notify.new.turn c.args.board.now c.notify.new.board
+          c.notify.result
+          (subst (λ rs. Runs g t.parts c.args.board.now rs c.notify.new.board) (sym n.parts)
+          (n.runs t.parts))
+          (notified_needs g c.args.most t.parts c.notify.new.turn.parts c.args.board.now
+          c.notify.new.board c.notify.result n.asks n.writes n.others) n.count n.asked);
+    }

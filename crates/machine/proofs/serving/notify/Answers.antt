@@ -1,0 +1,58 @@
+use Rattle.std.proofs.Common.{◌≡◌, refl, sym, subst, ◌∙◌, Some, Ok, Err}
+use Rattle.machine.proofs.Common.{Runs}
+use Rattle.guest_memory.specs.Memory.{IsAsk}
+use Rattle.mmio_transport.specs.Asking.{Notifies, known}
+use Rattle.machine.specs.Ending.{AsksIn}
+use Rattle.machine.specs.Serving.{Sees}
+use Rattle.machine.proofs.Goings.{not_notified, notify_asks}
+use Rattle.machine.proofs.Moved.{moved, moved_none, moved_runs, moved_same}
+use Rattle.machine.proofs.Runs.{runs_twice}
+use Rattle.machine.proofs.serving.notify.Goals as goal
+
+pub returns-in-Err-clause-runs : goal.returns-in-Err-clause-runs
+returns-in-Err-clause-runs c ps =
+    let g = c.args.guest in
+    let b = c.begin.new.board in
+    let d = c.device.result.now in
+    let same = moved_none g b d c.notify.new.self c.device.ensures.device
+    (notify_asks d c.notify.new.self c.in-Err.ask c.in-Err.ensures.notifies).1 in
+    subst (λ x. Runs g ps c.args.board.now ps x) (sym same) (c.begin.ensures.runs ps)
+
+pub returns-in-Err-clause-asks : goal.returns-in-Err-clause-asks
+returns-in-Err-clause-asks c ask is =
+    let g = c.args.guest in
+    let b = c.begin.new.board in
+    let d = c.device.result.now in
+    let asks = notify_asks d c.notify.new.self c.in-Err.ask c.in-Err.ensures.notifies in
+    let same = moved_none g b d c.notify.new.self c.device.ensures.device asks.1 in
+    subst (λ x. AsksIn g ask x) (sym same) (record {
+      device = d;
+      its = c.device.ensures.device;
+      asks = subst (λ k. IsAsk (known d) k) (let e = is in cc) asks.0;
+    })
+
+pub returns-in-Ok-true-clause-runs : goal.returns-in-Ok-true-clause-runs
+returns-in-Ok-true-clause-runs c ps =
+    let g = c.args.guest in
+    let b = c.begin.new.board in
+    runs_twice g ps ps ps c.args.board.now b (moved b g c.notify.new.self) (c.begin.ensures.runs ps)
+    (moved_runs g b c.device.result.now c.notify.new.self c.device.ensures.device ps
+    (Sees _ c.in-Ok-true.ensures.notifies))
+
+pub returns-in-Ok-false-clause-runs : goal.returns-in-Ok-false-clause-runs
+returns-in-Ok-false-clause-runs c ps =
+    let g = c.args.guest in
+    let b = c.begin.new.board in
+    runs_twice g ps ps ps c.args.board.now b (moved b g c.notify.new.self) (c.begin.ensures.runs ps)
+    (moved_runs g b c.device.result.now c.notify.new.self c.device.ensures.device ps
+    (Sees _ c.in-Ok-false.ensures.notifies))
+
+pub returns-in-Ok-false-clause-devices : goal.returns-in-Ok-false-clause-devices
+returns-in-Ok-false-clause-devices c is =
+    let b = c.begin.new.board in
+    let d = c.device.result.now in
+    moved_same c.args.guest b d c.notify.new.self c.device.ensures.device
+    (not_notified d c.notify.new.self
+    (subst (λ v. Notifies d (Ok v) c.notify.new.self) c.in-Ok-false.field-0-test
+    c.in-Ok-false.ensures.notifies))
+    ∙ c.begin.ensures.devices

@@ -1,0 +1,32 @@
+use Rattle.std.proofs.Common.{◌≡◌, ◌∙◌, if◌then◌else◌, [], true, Some, refl, sym, subst, ap, IfSome}
+use Rattle.machine.proofs.Common.{slice_get, AskingState, Still}
+use Rattle.guest_memory.specs.Memory.{kept}
+use Rattle.mmio_transport.specs.Asking.{known}
+use Rattle.machine.specs.Serving.{Forgets, Learns}
+use Rattle.machine.proofs.Moved.{moved_at, moved_runs, moved_same}
+use Rattle.machine.proofs.taking.begin.Goals as goal
+
+pub returns-then-not-turn-clause-runs : goal.returns-then-not-turn-clause-runs
+returns-then-not-turn-clause-runs c ps =
+    moved_runs c.args.guest c.args.board.now c.device.result.now c.forget.new.self
+    c.device.ensures.device ps (Forgets c.forget.ensures)
+
+pub returns-then-not-turn-clause-devices : goal.returns-then-not-turn-clause-devices
+returns-then-not-turn-clause-devices c =
+    moved_same c.args.guest c.args.board.now c.device.result.now c.forget.new.self
+    c.device.ensures.device (ap (λ d. d.device) c.forget.ensures)
+
+forgotten : (d d' : AskingState) → d' ≡ record d { held = kept (known d) } → d'.asks ≡ true
+    → d'.held ≡ []
+forgotten d d' is asks =
+    ap (λ x. x.held) is ∙ ap (λ b. if b then [] else d.held) (sym (ap (λ x. x.asks) is) ∙ asks)
+
+pub returns-then-not-turn-clause-fresh : goal.returns-then-not-turn-clause-fresh
+returns-then-not-turn-clause-fresh c going =
+    subst (λ o. IfSome o (λ d. d.asks ≡ true → d.held ≡ []))
+    (sym (moved_at c.args.guest c.args.board.now c.device.result.now c.forget.new.self
+    c.device.ensures.device))
+    (forgotten c.device.result.now c.forget.new.self c.forget.ensures)
+
+pub returns-else-not-turn-clause-runs : goal.returns-else-not-turn-clause-runs
+returns-else-not-turn-clause-runs c ps = Still ps c.args.board.now

@@ -1,0 +1,80 @@
+use Rattle.std.proofs.Common.{◌≡◌, inl, inr, refl, ap, sym, subst, ◌∙◌, [], Ok, Err}
+use Rattle.machine.proofs.Common.{Makes, outbox_state, OutboxMakes}
+use Rattle.board.specs.Asking.{PopsAsked}
+use Rattle.board.specs.Steps.{did_answer}
+use Rattle.board.specs.declared.step.Seen.TheVariants.{Did, Nothing}
+use Rattle.board.specs.declared.step.Step.TheVariants as step
+use Rattle.board.specs.declared.step.StepFault.TheVariants as fault
+use Rattle.machine.specs.Ending.{Refuses}
+use Rattle.machine.proofs.Popping.{found_none, noted_at, pops_by, some_at, still_by}
+use Rattle.machine.proofs.taking.pop.Goals as goal
+
+pub returns-then-not-note_event-clause-runs : goal.returns-then-not-note_event-clause-runs
+returns-then-not-note_event-clause-runs c =
+    still_by c.args.guest _ c.args.board.now c.args.board.now
+    (ap (λ t. t.parts) c.turn.view_is
+    ∙ ap (λ t. t.parts) (c.note_event.ensures.stays c.if-not-note_event.true) ∙ c.requires.parts)
+    refl
+
+pub returns-in-Err-Missing-clause-runs : goal.returns-in-Err-Missing-clause-runs
+returns-in-Err-Missing-clause-runs c =
+    let g = c.args.guest in
+    let asks = subst (λ e. PopsAsked outbox_state OutboxMakes g (Err e) c.args.board.now
+    c.pop.new.self) c.in-Err-Missing.field-0-is c.in-Err-Missing.ensures.pops in
+    still_by g c.void.new.self.parts c.args.board.now c.pop.new.self
+    (ap (λ t. t.parts) c.void.ensures) asks.same
+
+pub returns-in-Err-Refused-clause-runs : goal.returns-in-Err-Refused-clause-runs
+returns-in-Err-Refused-clause-runs c =
+    let g = c.args.guest in
+    let device = some_at c.args.board.now.devices g c.requires.guest in
+    let makes = subst (λ e. PopsAsked outbox_state OutboxMakes g (Err e) c.args.board.now
+    c.pop.new.self) c.in-Err-Refused.field-0-is c.in-Err-Refused.ensures.pops in
+    pops_by g _ (Err (fault.Device c.in-Err-Refused.fault)) c.args.board.now c.pop.new.self
+    device.0 device.1 makes
+    (inr (ap (λ t. t.parts) c.stop.ensures, (λ same. absurd (let no = same in cc))))
+
+pub returns-in-Err-Refused-clause-fault : goal.returns-in-Err-Refused-clause-fault
+returns-in-Err-Refused-clause-fault c f is =
+    let makes = subst (λ e. PopsAsked outbox_state OutboxMakes c.args.guest (Err e)
+    c.args.board.now c.pop.new.self) c.in-Err-Refused.field-0-is c.in-Err-Refused.ensures.pops in
+    Refuses c.args.board.now c.pop.new.self (step.Pop c.args.guest)
+    (fault.Device c.in-Err-Refused.fault) (inl refl) makes
+    (let same = is in let why = c.of_device.ensures in cc)
+
+pub returns-in-Ok-true-clause-runs : goal.returns-in-Ok-true-clause-runs
+returns-in-Ok-true-clause-runs c =
+    let g = c.args.guest in
+    let device = some_at c.args.board.now.devices g c.requires.guest in
+    let makes = subst (λ did. Makes (step.Pop g) (did_answer did) c.args.board.now c.pop.new.self)
+    c.in-Ok-true.field-0-test c.in-Ok-true.ensures.pops in
+    pops_by g _ (Ok Did) c.args.board.now c.pop.new.self device.0 device.1 makes
+    (inl (ap (λ t. t.parts) c.turn.view_is
+    ∙ noted_at _ device.0 _ _ device.1 c.requires.parts
+    (c.note_event.ensures.noted c.if-not-note_event.false)))
+
+pub returns-in-Ok-false-clause-runs : goal.returns-in-Ok-false-clause-runs
+returns-in-Ok-false-clause-runs c =
+    let g = c.args.guest in
+    let device = some_at c.args.board.now.devices g c.requires.guest in
+    let makes = subst (λ did. Makes (step.Pop g) (did_answer did) c.args.board.now c.pop.new.self)
+    c.in-Ok-false.field-0-test c.in-Ok-false.ensures.pops in
+    pops_by g _ (Ok Nothing) c.args.board.now c.pop.new.self device.0 device.1 makes
+    (elim c.found_none.ensures.either [
+      | inl nothing ↦ inr (
+        c.found_none.ensures.nothing (λ did. absurd (let no = nothing in
+            let yes = did in cc)),
+        (λ same. absurd (let no = same in cc)),
+      )
+      | inr did ↦ inl (c.found_none.ensures.did did
+          ∙ noted_at _ device.0 _ _ device.1 c.requires.parts
+          (c.note_event.ensures.noted c.if-not-note_event.false))
+    ])
+
+pub returns-in-Ok-false-clause-none : goal.returns-in-Ok-false-clause-none
+returns-in-Ok-false-clause-none c is =
+    let g = c.args.guest in
+    let makes = subst (λ did. Makes (step.Pop g) (did_answer did) c.args.board.now c.pop.new.self)
+    c.in-Ok-false.field-0-test c.in-Ok-false.ensures.pops in
+    found_none g c.args.board.now c.pop.new.self c.what_always_holds.ensures
+    c.requires.guest c.requires.job makes

@@ -1,0 +1,217 @@
+//! Taking what a guest offered: each chain is popped, and answered by the book.
+ghost use Rattle.std.specs.Prelude.{◌≡◌, ◌≢◌, ◌<◌, ◌⊎◌, ◌++◌, [], List, length};
+ghost use Rattle.std.specs.Prelude.{false, true, IfSome, slice_get};
+ghost use Rattle.chains.specs.declared.range.Range.{Range as Part};
+ghost use Rattle.guest_memory.specs.declared.ask.Ask.{Ask};
+ghost use Rattle.board.specs.State.{HasNoJob};
+ghost use Rattle.machine.specs.Ending.{AsksIn, FindsNone, HasReason, IsRefused};
+ghost use Rattle.machine.specs.Serving.{HasNoCopy, Runs, SameDevices};
+ghost use Rattle.machine.specs.Turn.{KeepsStage, pop_parts};
+ghost use Rattle.machine.specs.declared.fault.MachineFault.{MachineFault};
+
+use crate::fault::MachineFault;
+use crate::turn::Turn;
+use board::AskingBoard;
+use disk::OutboxDisk;
+use guest_memory::Ask;
+use mmio_transport::{PopFault, register};
+
+/// DRIVER_OK in Status (VIRTIO 1.2, 2.1).
+const DRIVER_OK: u32 = 4;
+
+/// What became of the next chain.
+#[derive(Clone, Copy, Debug, PartialEq, Eq)]
+pub(crate) enum Taken {
+    /// Bytes are asked for, and nothing changed.
+    Asks(Ask),
+    /// It was taken, or answered by the book; or it was looked for, and is to be once more.
+    Did,
+    /// There is none.
+    Nothing,
+    /// As many wait for their answers as may.
+    Limit,
+    /// It was refused.
+    Refused(MachineFault),
+}
+
+/// Begins a step of the guest's device, where none was begun: what there is a copy of is forgotten.
+pub(crate) fn begin(board: &mut AskingBoard<OutboxDisk>, guest: u16, turn: &mut Turn)
+    requires { guest < length board.old.devices }
+    ensures runs { (ps : List Part) → Runs guest ps board.old ps board.new }
+    ensures rest { board.new.rest ≡ board.old.rest }
+    ensures devices { SameDevices board.old board.new }
+    ensures count { length board.new.devices ≡ length board.old.devices }
+    ensures turn { turn.new ≡ record turn.old { going = true } }
+    // Nothing is believed but what is told from here on.
+    ensures fresh { turn.old.going ≡ false → HasNoCopy guest board.new }
+{
+    if !turn.going {
+        board.device(guest).forget();
+        turn.going = true;
+    }
+}
+
+/// Notes the part that a pop writes: avail_event, where there is one. Whether it is noted.
+fn note_event(board: &AskingBoard<OutboxDisk>, guest: u16, turn: &mut Turn) -> bool
+    ensures noted { result ≡ true → IfSome (slice_get board.now.devices guest)
+        (λ d. turn.new.parts ≡ turn.old.parts ++ pop_parts d.device) }
+    ensures rest { turn.new ≡ record turn.old { parts = turn.new.parts } }
+    ensures stays { result ≡ false → turn.new ≡ turn.old }
+{
+    match board.device_of(guest) {
+        Some(device) => match device.written_by_pop() {
+            Some(part) => turn.note(part),
+            None => true,
+        },
+        None => true,
+    }
+}
+
+/// Whether these are just the bytes that a pop writes over, which it doesn't read.
+fn is_event(board: &AskingBoard<OutboxDisk>, guest: u16, ask: Ask) -> bool {
+    match board.device_of(guest) {
+        Some(device) => match device.written_by_pop() {
+            Some(part) => part.at == ask.at && u64::from(part.len) == ask.len,
+            None => false,
+        },
+        None => false,
+    }
+}
+
+/// Whether the guest's driver has set DRIVER_OK (VIRTIO 1.2, 2.1): before, a pop looks at nothing,
+/// and writes nothing.
+fn is_live(board: &AskingBoard<OutboxDisk>, guest: u16) -> bool {
+    match board.device_of(guest) {
+        Some(device) => device.read(register::STATUS, 4) & DRIVER_OK != 0,
+        None => false,
+    }
+}
+
+/// No chain is available. What the pop wrote, where it did, is copied out once, and then it is
+/// looked anew: the driver may have offered one before it could see that.
+fn found_none(turn: &mut Turn, is_live: bool) -> Taken
+    ensures nothing { result ≢ Taken.Did → turn.new.parts ≡ [] }
+    ensures did { result ≡ Taken.Did → turn.new.parts ≡ turn.old.parts }
+    ensures either { (result ≡ Taken.Nothing) ⊎ (result ≡ Taken.Did) }
+    ensures keeps { KeepsStage turn.old turn.new }
+{
+    turn.going = false;
+    if !is_live || turn.looked || turn.parts.is_empty() {
+        turn.void();
+        return Taken::Nothing;
+    }
+    turn.looked = true;
+    Taken::Did
+}
+
+/// Pops the guest's next chain, of which none lies in its place. What that writes is noted.
+fn pop(board: &mut AskingBoard<OutboxDisk>, guest: u16, turn: &mut Turn) -> Taken
+    requires parts { turn.old.parts ≡ [] }
+    requires job { HasNoJob guest board.old.rest }
+    requires guest { guest < length board.old.devices }
+    ensures runs { Runs guest [] board.old turn.new.parts board.new }
+    ensures idle { result ≢ Taken.Did → turn.new.parts ≡ [] }
+    ensures asks { (ask : Ask) → result ≡ Taken.Asks ask → AsksIn guest ask board.new }
+    ensures none { result ≡ Taken.Nothing
+        → FindsNone guest board.new × HasNoJob guest board.new.rest }
+    ensures fault { (f : MachineFault) → result ≡ Taken.Refused f → HasReason guest f }
+    ensures limit { result ≢ Taken.Limit }
+    ensures job { (ask : Ask) → result ≡ Taken.Asks ask → HasNoJob guest board.new.rest }
+    ensures count { length board.new.devices ≡ length board.old.devices }
+    ensures keeps { KeepsStage turn.old turn.new }
+{
+    board.what_always_holds();
+    if !note_event(board, guest, turn) {
+        turn.going = false;
+        return Taken::Refused(MachineFault::NoMemory);
+    }
+    match board.pop(guest) {
+        Err(PopFault::Missing(ask)) => {
+            turn.void();
+            Taken::Asks(ask)
+        }
+        Err(PopFault::Refused(fault)) => {
+            turn.stop();
+            Taken::Refused(MachineFault::of_device(fault))
+        }
+        Ok(true) => {
+            turn.going = false;
+            turn.looked = false;
+            Taken::Did
+        }
+        Ok(false) => {
+            let is_live = is_live(board, guest);
+            found_none(turn, is_live)
+        }
+    }
+}
+
+/// Looks for the guest's next chain: pops, and once more where it asks for no more than
+/// avail_event.
+fn look(board: &mut AskingBoard<OutboxDisk>, guest: u16, turn: &mut Turn) -> Taken
+    requires parts { turn.old.parts ≡ [] }
+    requires job { HasNoJob guest board.old.rest }
+    requires guest { guest < length board.old.devices }
+    ensures runs { Runs guest [] board.old turn.new.parts board.new }
+    ensures idle { result ≢ Taken.Did → turn.new.parts ≡ [] }
+    ensures asks { (ask : Ask) → result ≡ Taken.Asks ask → AsksIn guest ask board.new }
+    ensures none { result ≡ Taken.Nothing
+        → FindsNone guest board.new × HasNoJob guest board.new.rest }
+    ensures fault { (f : MachineFault) → result ≡ Taken.Refused f → HasReason guest f }
+    ensures limit { result ≢ Taken.Limit }
+    ensures count { length board.new.devices ≡ length board.old.devices }
+    ensures keeps { KeepsStage turn.old turn.new }
+{
+    begin(board, guest, turn);
+    let first = pop(board, guest, turn);
+    let Taken::Asks(ask) = first else {
+        return first;
+    };
+    if !is_event(board, guest, ask) {
+        return first;
+    }
+    // (where there is no memory for that, they are asked for again)
+    let _ = board.device(guest).tell(ask.at, &[0, 0]);
+    pop(board, guest, turn)
+}
+
+/// Has the book answer the chain that was popped.
+fn submit(board: &mut AskingBoard<OutboxDisk>, guest: u16) -> Taken
+    ensures runs { (ps : List Part) → Runs guest ps board.old ps board.new }
+    ensures either { (result ≡ Taken.Did) ⊎ IsRefused guest result }
+    ensures devices { board.new.devices ≡ board.old.devices }
+{
+    match board.submit(guest) {
+        Ok(_) => Taken::Did,
+        Err(refused) => Taken::Refused(MachineFault::of_book(refused)),
+    }
+}
+
+/// Takes the guest's next chain: the one that lies in its place, or where fewer than `most` wait
+/// for their answers the next one of its queue.
+pub(crate) fn take_one(
+    board: &mut AskingBoard<OutboxDisk>,
+    guest: u16,
+    most: u16,
+    turn: &mut Turn,
+) -> Taken
+    requires parts { turn.old.parts ≡ [] }
+    requires guest { guest < length board.old.devices }
+    ensures runs { Runs guest [] board.old turn.new.parts board.new }
+    ensures idle { result ≢ Taken.Did → turn.new.parts ≡ [] }
+    ensures asks { (ask : Ask) → result ≡ Taken.Asks ask → AsksIn guest ask board.new }
+    ensures none { result ≡ Taken.Nothing
+        → FindsNone guest board.new × HasNoJob guest board.new.rest }
+    ensures limit { result ≡ Taken.Limit → HasNoJob guest board.new.rest }
+    ensures fault { (f : MachineFault) → result ≡ Taken.Refused f → HasReason guest f }
+    ensures count { length board.new.devices ≡ length board.old.devices }
+    ensures keeps { KeepsStage turn.old turn.new }
+{
+    if board.rest().job(guest).is_some() {
+        return submit(board, guest);
+    }
+    if !board.rest().awaits_fewer(guest, most) {
+        return Taken::Limit;
+    }
+    look(board, guest, turn)
+}

@@ -1,0 +1,36 @@
+//! What is wrong with an answer, in the words behind its refusal. No contract speaks of them.
+
+use rpmb_client::{Used, is_wrong};
+use rpmb_frame::Frame;
+
+/// A MAC of zeros.
+const NO_MAC: &str = "has no MAC (zeros): its guest has no key yet, or the host's disk failed";
+
+/// A MAC that isn't the key's.
+const OTHER_MAC: &str = "has a wrong MAC: its guest has another key, or somebody changed it";
+
+/// A nonce that wasn't asked with.
+const OTHER_NONCE: &str = "has another nonce: it answers another question, or is an old answer";
+
+/// What is wrong with a reply that is told to be wrong, where this nonce was asked with.
+pub(crate) fn doubt_of(used: &Used, nonce: Option<[u8; 16]>) -> &'static str {
+    if is_wrong(used, None, nonce) {
+        return OTHER_NONCE;
+    }
+    let (frames, _) = used.reply.as_slice().as_chunks::<512>();
+    match frames.last() {
+        Some(last) if Frame::from_bytes(last).key_mac() == [0; 32] => NO_MAC,
+        _ => OTHER_MAC,
+    }
+}
+
+/// What is wrong with a line that is no answer.
+pub(crate) fn doubt_of_line(line: &str) -> &'static str {
+    if !line.starts_with("used") {
+        return "is a line of a script: what `rpmbd run` prints of that is wanted here";
+    }
+    if line.ends_with("\r") {
+        return "ends with a carriage return; tr -d '\\r' takes those away";
+    }
+    "is torn: the run was stopped, or its output cut; ask for the counter before you go on"
+}

@@ -1,0 +1,232 @@
+/* SPDX-License-Identifier: Apache-2.0
+ *
+ * vhost-user-rpmb: the RPMB device (VIRTIO 1.2, 5.12) of librpmb_host.a for virtual machines, as a vhost-user back
+ * end.
+ *
+ * One board, one image; each guest has a socket. One loop waits for all of them, and a thread writes and syncs the
+ * image. A front end may be hostile: what it says is checked, memory is touched only within the regions that it gave,
+ * and nothing that it does makes the loop wait. docs/VHOST_USER.md says what to type. */
+#include <getopt.h>
+#include <poll.h>
+#include <signal.h>
+#include <sys/mman.h>
+#include <sys/signalfd.h>
+#include <sys/syscall.h>
+#include <sys/un.h>
+#include "daemon.h"
+
+/* of a guest in the loop; rounds of a sync that the end waits for; how long memory may be lacking */
+enum { SOCKET, KICK, LISTENER, POLLED, ROUNDS = 8, AGAIN_MS = 50 };
+
+static const char help[] =
+	"vhost-user-rpmb --image FILE [options] --socket-path PATH ..\n\n"
+	"  --image FILE         where the guests' partitions are kept; keys stand in it as they are\n"
+	"  --format             makes a fresh image where FILE isn't there or is empty, and else changes nothing\n"
+	"  --socket-path PATH   the socket of the next guest: once for each, always in the same order\n"
+	"  --fd N               the same, as a file descriptor, of a connection or of a socket that listens\n"
+	"  --capacity N         of the guests named behind it: units of 128 KiB, 1 to 128 (1)\n"
+	"  --max-write N        of the guests named behind it: most blocks of 256 bytes of a write, 1 to 16 (16)\n"
+	"  --max-read N         the same of a read\n"
+	"  --print-capabilities, --version, --help\n\n"
+	"TERM ends it, once what is kept was answered. It may be killed at any moment.\n";
+/* (There is no type for RPMB, and libvirt takes no back end at all beside one of a type that it doesn't know.) */
+static const char capabilities[] = "{\n  \"type\": \"block\",\n  \"features\": []\n}\n";
+
+static int listen_at(const char *path)
+{
+	struct sockaddr_un name = { .sun_family = AF_UNIX };
+	const int fd = socket(AF_UNIX, SOCK_STREAM | SOCK_CLOEXEC | SOCK_NONBLOCK, 0);
+	struct stat is;
+
+	if (strlen(path) >= sizeof name.sun_path)
+		REFUSE(path, "a socket's path has at most %zu bytes", sizeof name.sun_path - 1);
+	strcpy(name.sun_path, path);
+	/* the socket that an earlier run left goes; one at which a program listens stays, and so does any file */
+	if (!lstat(path, &is) && S_ISSOCK(is.st_mode) && connect(fd, (struct sockaddr *)&name, sizeof name) &&
+	    errno == ECONNREFUSED)
+		unlink(path);
+	if (fd < 0 || bind(fd, (struct sockaddr *)&name, sizeof name) || listen(fd, 1))
+		REFUSE(path, "the socket isn't made: %s", strerror(errno));
+	return fd;
+}
+
+static bool is_due(const struct guest *g)
+{
+	return g->more && g->running && (g->enabled || g->stopping);
+}
+
+static void attend(struct guest *g, const struct pollfd *its)
+{
+	bool stays = !its[KICK].revents || take_kick(g);
+
+	if (stays && is_due(g))
+		stays = serve(g);
+	if (stays && its[SOCKET].revents)
+		stays = receive(g);
+	if (stays && g->stopping)
+		stays = end_stop(g);
+	if (!stays || its[LISTENER].revents)
+		drop(g);
+	/* the newest front end has the device: an older one may keep its end open in a descriptor that it gave us */
+	if (its[LISTENER].revents)
+		g->socket = accept4(g->listener, NULL, NULL, SOCK_CLOEXEC | SOCK_NONBLOCK);
+}
+
+/* What is waited for, and how long. False: no guest can come any more. */
+static bool prepare(const struct daemon *d, struct pollfd *polled, int *wait)
+{
+	bool any = false;
+
+	*wait = -1;
+	for (const struct guest *g = d->guests; g < d->guests + d->count; g++, polled += POLLED) {
+		polled[SOCKET] = (struct pollfd){ g->socket, g->stopping ? 0 : POLLIN, 0 };
+		polled[KICK] = (struct pollfd){ g->kick, POLLIN, 0 };
+		polled[LISTENER] = (struct pollfd){ g->listener, POLLIN, 0 };
+		any |= g->socket >= 0 || g->listener >= 0;
+		if (is_due(g))
+			*wait = 0;
+		else if (g->later && !d->disk.busy && *wait)
+			*wait = AGAIN_MS;
+	}
+	return any;
+}
+
+/* Until a signal, or the end of the last front end that can't come again. */
+static void loop(struct daemon *d, int signals)
+{
+	struct pollfd polled[2 + POLLED * GUESTS] = { { signals, POLLIN, 0 }, { d->disk.over, POLLIN, 0 } };
+
+	for (int wait; prepare(d, polled + 2, &wait);) {
+		const int ready = poll(polled, 2 + POLLED * d->count, wait);
+
+		if (ready < 0 && errno == EINTR)
+			continue;
+		if (ready < 0 || polled[0].revents)
+			return;
+		if (polled[1].revents)
+			end_sync(d);
+		for (unsigned i = 0; i < d->count; i++) {
+			d->guests[i].more |= !ready && d->guests[i].later;
+			attend(&d->guests[i], polled + 2 + POLLED * i);
+		}
+		/* where no guest is served, the disk's work goes on all the same */
+		if (!d->disk.busy && !d->disk.wanted && !d->disk.failed) {
+			d->disk.wanted = rpmb_go_on(&d->host);
+			take_outbox(d);
+		}
+		begin_sync(d);
+	}
+}
+
+/* What is kept is answered before the end: by the sync that is under way, and a few more where it takes them. */
+static void finish(struct daemon *d)
+{
+	for (int rounds = 0; d->disk.busy; rounds++) {
+		end_sync(d);
+		for (struct guest *g = d->guests; g < d->guests + d->count; g++)
+			if (is_due(g) && !serve(g))
+				drop(g);
+		if (rounds < ROUNDS)
+			begin_sync(d);
+	}
+	for (struct guest *g = d->guests; g < d->guests + d->count; g++) {
+		drop(g);
+		if (g->is_path)
+			unlink(g->name);
+	}
+	close_image(d);
+}
+
+static long number(const char *option, const char *text, long least, long most)
+{
+	char *end;
+	const long n = strtol(text, &end, 10);
+
+	if (*text < '0' || *text > '9' || *end || n < least || n > most)
+		REFUSE(option, "%s is no number from %ld to %ld", text, least, most);
+	return n;
+}
+
+static void add_guest(struct daemon *d, const struct rpmb_guest *as, bool is_path, const char *word)
+{
+	const int fd = is_path ? -1 : (int)number("--fd", word, 0, 1 << 20);
+	int listens = 0;
+	socklen_t len = sizeof listens;
+
+	if (d->count == GUESTS)
+		REFUSE(word, "a board has at most %d guests", GUESTS);
+	if (!is_path && getsockopt(fd, SOL_SOCKET, SO_ACCEPTCONN, &listens, &len))
+		REFUSE("--fd", "%s is no socket: %s", word, strerror(errno));
+	for (struct guest *g = d->guests; g < d->guests + d->count; g++)
+		if (!strcmp(g->name, word))
+			REFUSE(word, "it is given twice: each guest has a socket of its own");
+	if (!is_path)
+		fcntl(fd, F_SETFL, O_NONBLOCK);
+	d->board[d->count] = *as;
+	d->guests[d->count] = (struct guest){
+		.daemon = d, .name = word, .number = (uint16_t)d->count, .is_path = is_path, .listener = listens ? fd : -1,
+		.socket = listens ? -1 : fd, .kick = -1, .call = -1, .error = -1, .requests = -1,
+	};
+	d->count++;
+}
+
+static bool read_words(struct daemon *d, int argc, char **argv)
+{
+	static const struct option words[] = {
+		{ "image", 1, 0, 'i' }, { "format", 0, 0, 'f' }, { "socket-path", 1, 0, 's' }, { "fd", 1, 0, 'd' },
+		{ "capacity", 1, 0, 'c' }, { "max-write", 1, 0, 'w' }, { "max-read", 1, 0, 'r' },
+		{ "print-capabilities", 0, 0, 'p' }, { "version", 0, 0, 'v' }, { "help", 0, 0, 'h' }, { 0 }
+	};
+	struct rpmb_guest each = { .memory = UINT64_MAX, .capacity = 1, .max_wr_cnt = 16, .max_rd_cnt = 16 };
+	bool format = false, is_used = true;
+
+	for (int c; (c = getopt_long(argc, argv, "", words, NULL)) != -1; is_used |= c == 's' || c == 'd')
+		switch (c) {
+		case 'i': d->disk.path = optarg; break;
+		case 'f': format = true; break;
+		case 's': case 'd': add_guest(d, &each, c == 's', optarg); break;
+		case 'c': each.capacity = (uint8_t)number("--capacity", optarg, 1, 128); is_used = false; break;
+		case 'w': each.max_wr_cnt = (uint8_t)number("--max-write", optarg, 1, 16); is_used = false; break;
+		case 'r': each.max_rd_cnt = (uint8_t)number("--max-read", optarg, 1, 16); is_used = false; break;
+		case 'p': case 'v': case 'h':
+			exit(fputs(c == 'p' ? capabilities : c == 'v' ? "vhost-user-rpmb 1\n" : help, stdout) < 0 || fflush(stdout));
+		default: fputs("vhost-user-rpmb: --help says which options there are\n", stderr); exit(2);
+		}
+	if (optind != argc)
+		REFUSE(argv[optind], "this word belongs to no option; --help says which there are");
+	if (!d->disk.path)
+		REFUSE("--image FILE", "it is missing: where the partitions are kept");
+	if (!d->count)
+		REFUSE("--socket-path PATH", "it is missing, and --fd N too: one of them for each guest");
+	if (!is_used)
+		REFUSE(argv[argc - 1], "--capacity, --max-write and --max-read count for the sockets behind them: put them first");
+	return format;
+}
+
+int main(int argc, char **argv)
+{
+	struct daemon *d = mmap(NULL, sizeof *d, PROT_READ | PROT_WRITE, MAP_PRIVATE | MAP_ANONYMOUS, -1, 0);
+	sigset_t ends;
+
+	if (d == MAP_FAILED)
+		REFUSE("memory", "there is too little");
+	const bool format = read_words(d, argc, argv);
+	umask(0077);
+	sigemptyset(&ends);
+	sigaddset(&ends, SIGTERM);
+	sigaddset(&ends, SIGINT);
+	sigprocmask(SIG_BLOCK, &ends, NULL);
+	signal(SIGPIPE, SIG_IGN);
+	guard_memory();
+	const int signals = signalfd(-1, &ends, SFD_CLOEXEC);
+	d->null = open("/dev/null", O_RDONLY | O_CLOEXEC);
+	if (signals < 0 || d->null < 0 || syscall(SYS_io_setup, 1L, &d->signals))
+		REFUSE("signalfd, /dev/null or io_setup", "the system refuses it: %s", strerror(errno));
+	open_image(d, format);
+	for (struct guest *g = d->guests; g < d->guests + d->count; g++)
+		if (g->is_path)
+			g->listener = listen_at(g->name);
+	loop(d, signals);
+	finish(d);
+	return 0;
+}

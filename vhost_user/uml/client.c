@@ -1,0 +1,241 @@
+/* SPDX-License-Identifier: Apache-2.0
+ *
+ * client DEVICE key|counter|bench N|single N|crash LEAST N: the RPMB client of a guest, by mmc's ioctls: MMC_IOC_MULTI_CMD,
+ * or with `single` one MMC_IOC_CMD after another.
+ *
+ * crash: checks the counter and the blocks of the last write, and goes on writing three blocks that hold the counter
+ * until it is killed or N writes are made. It tells each that it knows of on a line of standard output. */
+#include <fcntl.h>
+#include <linux/mmc/ioctl.h>
+#include <stdio.h>
+#include <stdlib.h>
+#include <string.h>
+#include <sys/ioctl.h>
+#include <sys/random.h>
+#include <time.h>
+#include <unistd.h>
+#include "../../embedding/kvm/sha256.h"
+
+enum { FRAME = 512, BODY = 228, BODY_BYTES = 284, BLOCKS = 3, FIRST = 8 };
+enum { KEY = 1, COUNTER = 2, DATA_WRITE = 3, DATA_READ = 4, RESULT = 5, SAMPLES = 4096 };
+
+static const uint8_t key[32] = "AAAABBBBCCCCDDDDEEEEFFFFGGGGHHHH";
+static int device, single;
+
+static void stop(const char *what, long value)
+{
+	printf("error %s %ld\n", what, value);
+	fflush(stdout);
+	exit(3);
+}
+
+static void put(uint8_t *frame, int at, uint32_t value, int bytes)
+{
+	for (int i = bytes - 1; i >= 0; i--, value >>= 8)
+		frame[at + i] = (uint8_t)value;
+}
+
+static uint32_t get(const uint8_t *frame, int at, int bytes)
+{
+	uint32_t value = 0;
+
+	for (int i = 0; i < bytes; i++)
+		value = value << 8 | frame[at + i];
+	return value;
+}
+
+static struct mmc_ioc_cmd command(int opcode, const uint8_t *frames, int count)
+{
+	struct mmc_ioc_cmd c = { .write_flag = opcode == 25, .opcode = opcode, .blksz = FRAME, .blocks = count };
+
+	mmc_ioc_cmd_set_data(c, frames);
+	return c;
+}
+
+/* A request and its reply in one ioctl, as mmc-utils do it. */
+static void exchange(uint8_t *request, int frames, int with_result, uint8_t *reply, int reply_frames)
+{
+	struct { struct mmc_ioc_multi_cmd head; struct mmc_ioc_cmd cmds[3]; } all = { 0 };
+	uint8_t result[FRAME] = { 0 };
+	int n = 0;
+
+	put(result, 510, RESULT, 2);
+	all.cmds[n++] = command(25, request, frames);
+	if (with_result)
+		all.cmds[n++] = command(25, result, 1);
+	all.cmds[n++] = command(18, reply, reply_frames);
+	all.head.num_of_cmds = n;
+	for (int i = 0; single && i < n; i++)
+		if (ioctl(device, MMC_IOC_CMD, &all.cmds[i]))
+			stop("ioctl", i);
+	if (!single && ioctl(device, MMC_IOC_MULTI_CMD, &all))
+		stop("ioctl", get(request, 510, 2));
+}
+
+static void check(const uint8_t *reply, int frames, uint32_t type, const uint8_t *nonce)
+{
+	const uint8_t *last = reply + FRAME * (frames - 1);
+	uint8_t mac[32];
+
+	if (get(last, 510, 2) != type)
+		stop("response", get(last, 510, 2));
+	if (get(last, 508, 2))
+		stop("result", get(last, 508, 2));
+	hmac256(key, reply + BODY, BODY_BYTES, frames, mac);
+	if (memcmp(mac, last + 196, 32))
+		stop("mac", type);
+	if (nonce && memcmp(nonce, last + 484, 16))
+		stop("nonce", type);
+}
+
+static uint32_t read_counter(void)
+{
+	uint8_t request[FRAME] = { 0 }, reply[FRAME];
+
+	if (getrandom(request + 484, 16, 0) != 16)
+		stop("getrandom", 0);
+	put(request, 506, 1, 2);
+	put(request, 510, COUNTER, 2);
+	exchange(request, 1, 0, reply, 1);
+	check(reply, 1, 0x200, request + 484);
+	return get(reply, 500, 4);
+}
+
+static void write_blocks(uint32_t counter)
+{
+	uint8_t request[BLOCKS * FRAME] = { 0 }, reply[FRAME];
+
+	for (int i = 0; i < BLOCKS; i++) {
+		uint8_t *frame = request + i * FRAME;
+		memset(frame + 228, (int)(counter + 1 + i), 256);
+		put(frame, 228, counter + 1, 4);
+		put(frame, 500, counter, 4);
+		put(frame, 504, FIRST, 2);
+		put(frame, 506, BLOCKS, 2);
+		put(frame, 510, DATA_WRITE, 2);
+	}
+	hmac256(key, request + BODY, BODY_BYTES, BLOCKS, request + FRAME * (BLOCKS - 1) + 196);
+	exchange(request, BLOCKS, 1, reply, 1);
+	check(reply, 1, 0x300, NULL);
+	if (get(reply, 500, 4) != counter + 1)
+		stop("counter of a write", get(reply, 500, 4));
+}
+
+static void read_blocks(uint32_t counter)
+{
+	uint8_t request[FRAME] = { 0 }, reply[BLOCKS * FRAME];
+
+	if (getrandom(request + 484, 16, 0) != 16)
+		stop("getrandom", 0);
+	put(request, 504, FIRST, 2);
+	put(request, 506, BLOCKS, 2);
+	put(request, 510, DATA_READ, 2);
+	exchange(request, 1, 0, reply, BLOCKS);
+	check(reply, BLOCKS, 0x400, request + 484);
+	for (int i = 0; i < BLOCKS; i++)
+		if (get(reply + i * FRAME, 228, 4) != counter)
+			stop("block", get(reply + i * FRAME, 228, 4));
+}
+
+static void program_key(void)
+{
+	uint8_t request[FRAME] = { 0 }, reply[FRAME];
+
+	memcpy(request + 196, key, 32);
+	put(request, 506, 1, 2);
+	put(request, 510, KEY, 2);
+	exchange(request, 1, 1, reply, 1);
+	check(reply, 1, 0x100, NULL);
+}
+
+static double now(void)
+{
+	struct timespec t;
+
+	clock_gettime(CLOCK_MONOTONIC, &t);
+	return t.tv_sec * 1e6 + t.tv_nsec / 1e3;
+}
+
+static int compare(const void *a, const void *b)
+{
+	double x = *(const double *)a, y = *(const double *)b;
+
+	return x < y ? -1 : x > y;
+}
+
+static void tell(const char *what, double *us, int n)
+{
+	double sum = 0;
+
+	for (int i = 0; i < n; i++)
+		sum += us[i];
+	qsort(us, n, sizeof *us, compare);
+	printf("%s: %d, us: least %.0f, median %.0f, mean %.0f, 99%% %.0f, most %.0f\n", what, n, us[0], us[n / 2],
+	       sum / n, us[n * 99 / 100], us[n - 1]);
+}
+
+static void bench(int n)
+{
+	static double us[SAMPLES];
+	uint32_t counter = read_counter();
+
+	if (n > SAMPLES)
+		n = SAMPLES;
+	for (int i = 0; i < n; i++) {
+		double t = now();
+		if (read_counter() != counter)
+			stop("counter", counter);
+		us[i] = now() - t;
+	}
+	tell("counter requests", us, n);
+	for (int i = 0; i < n; i++) {
+		double t = now();
+		write_blocks(counter++);
+		us[i] = now() - t;
+	}
+	tell("writes of 3 blocks", us, n);
+	for (int i = 0; i < n; i++) {
+		double t = now();
+		read_blocks(counter);
+		us[i] = now() - t;
+	}
+	tell("reads of 3 blocks", us, n);
+}
+
+static void crash(uint32_t least, int writes)
+{
+	uint32_t counter = read_counter();
+
+	printf("counter %u\n", counter);
+	if (counter < least)
+		stop("gone back", counter);
+	if (counter)
+		read_blocks(counter);
+	for (; writes > 0; writes--) {
+		write_blocks(counter++);
+		printf("wrote %u\n", counter);
+		read_blocks(counter);
+	}
+	printf("end\n");
+}
+
+int main(int argc, char **argv)
+{
+	if (argc < 3)
+		return 2;
+	setvbuf(stdout, NULL, _IOLBF, 0);
+	device = open(argv[1], O_RDWR);
+	if (device < 0)
+		stop("open", 0);
+	if (!strcmp(argv[2], "key"))
+		program_key();
+	else if (!strcmp(argv[2], "counter"))
+		printf("counter %u\n", read_counter());
+	else if ((single = !strcmp(argv[2], "single"), single || !strcmp(argv[2], "bench")) && argc > 3)
+		bench(atoi(argv[3]));
+	else if (!strcmp(argv[2], "crash") && argc > 4)
+		crash(strtoul(argv[3], NULL, 10), atoi(argv[4]));
+	else
+		return 2;
+	return 0;
+}
