@@ -63,12 +63,20 @@ goes_more guest a b c moves runs =
     (runs_moves guest [] [] b c runs)
 
 pub hears : (guest : ℕ) (m : MachineState) (turn turn' : TurnState) (new : Boards) (there : Bool)
-    (bytes : List ℕ) → slice_get m.turns guest ≡ Some turn
-    → HearsAnswer guest turn.asked there bytes m.board turn'.parts new
+    (bytes : List ℕ) (now then : Type 0) → (now → then) → slice_get m.turns guest ≡ Some turn
+    → HearsAnswer guest turn.asked there bytes m.board turn'.parts new now
     → HearsAnswer guest (turn_of m guest).asked there bytes m.board
-    (turn_in (slice_get (slice_set m.turns guest turn') guest)).parts new
-hears guest m turn turn' new there bytes its heard =
+    (turn_in (slice_get (slice_set m.turns guest turn') guest)).parts new then
+hears guest m turn turn' new there bytes now then says its heard =
+    let told : HearsAnswer guest turn.asked there bytes m.board turn'.parts new then = record {
+      heard = heard.heard;
+      ok = heard.ok;
+      takes = heard.takes;
+      full = λ no. says (heard.full no);
+      left = heard.left;
+      runs = heard.runs;
+    } in
     subst (λ o. HearsAnswer guest (turn_in o).asked there bytes m.board
-    (turn_in (slice_get (slice_set m.turns guest turn') guest)).parts new) (sym its)
-    (subst (λ o. HearsAnswer guest turn.asked there bytes m.board (turn_in o).parts new)
-    (sym (get_set_same m.turns guest turn turn' its)) heard)
+    (turn_in (slice_get (slice_set m.turns guest turn') guest)).parts new then) (sym its)
+    (subst (λ o. HearsAnswer guest turn.asked there bytes m.board (turn_in o).parts new then)
+    (sym (get_set_same m.turns guest turn turn' its)) told)

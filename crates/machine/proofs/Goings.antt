@@ -113,7 +113,7 @@ module _ (guest most : ℕ) where
       })
 
   pub rest_needs : (ps qs : List Range) (a b : Boards) (o : Option MachineFault)
-      → (o ≡ None → RestsAt guest most b) → ((f : MachineFault) → o ≡ Some f → HasReason guest f)
+      → (o ≡ None → RestsAt guest most b × (qs ≡ [])) → ((f : MachineFault) → o ≡ Some f → HasReason guest f)
       → NeedsNext guest most ps a qs b (Some (next.Rest o))
   rest_needs ps qs a b None rests why = rests refl
   rest_needs ps qs a b (Some f) rests why = why f refl

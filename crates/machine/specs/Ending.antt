@@ -89,7 +89,7 @@ NeedsNext guest most ps old qs new (Some next.Again) = Unit {0}
 NeedsNext guest most ps old qs new (Some (next.Read ask)) = AsksIn guest ask new
 NeedsNext guest most ps old qs new (Some (next.Write part)) = Runs guest ps old (part ∷ qs) new
 NeedsNext guest most ps old qs new (Some next.Call) = Unit {0}
-NeedsNext guest most ps old qs new (Some (next.Rest None)) = RestsAt guest most new
+NeedsNext guest most ps old qs new (Some (next.Rest None)) = RestsAt guest most new × (qs ≡ [])
 NeedsNext guest most ps old qs new (Some (next.Rest (Some f))) = HasReason guest f
 
 -- A move of a serve, and what it needs next.
@@ -112,7 +112,8 @@ NeedsTold guest most ps old turn bytes new (next.Write part) =
     × IfSome (slice_get new.devices guest) (λ d.
     take part.len bytes ≡ bytes_at d.device.memory part.at part.len)
 NeedsTold guest most ps old turn bytes new next.Call = Unit {0}
-NeedsTold guest most ps old turn bytes new (next.Rest None) = RestsAt guest most new
+NeedsTold guest most ps old turn bytes new (next.Rest None) =
+    RestsAt guest most new × (turn.parts ≡ [])
 NeedsTold guest most ps old turn bytes new (next.Rest (Some f)) = HasReason guest f
 
 -- The guest's device was told these bytes, and nothing else changed.
@@ -158,12 +159,14 @@ TakesAnswer guest (asked.Read ask) true bytes old ok new = TakesBytes guest ask 
 TakesAnswer guest (asked.Read ask) false bytes old ok new =
     (ok ≡ true) × RefusesIn guest old new
 
--- The answer was taken first, and the guest's steps came behind it.
+-- The answer was taken first, and the guest's steps came behind it. Where there was no memory for it,
+-- that is told.
 pub record HearsAnswer (guest : ℕ) (a : Asked) (there : Bool) (bytes : List ℕ) (old : Boards)
-    (ps : List Range) (new : Boards) : Type 0 where
+    (ps : List Range) (new : Boards) (told : Type 0) : Type 0 where
   pub heard : Boards
   pub ok : Bool
   pub takes : TakesAnswer guest a there bytes old ok heard
+  pub full : ok ≡ false → told
   pub left : List Range
   pub runs : Runs guest left heard ps new
 

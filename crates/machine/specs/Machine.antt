@@ -1,7 +1,7 @@
 -- What contracts see of a machine.
 use Rattle.std.specs.Prelude.{◌≡◌, ◌≢◌, ◌≤◌, ◌<◌, ◌∷◌, ℕ, Bool, true, false, ◌&&◌, if◌then◌else◌, nat_le}
 use Rattle.std.specs.Prelude.{List, length, take, Option, Some, None, is_some, slice_get, slice_set}
-use Rattle.std.specs.Prelude.{IfSome}
+use Rattle.std.specs.Prelude.{IfSome, []}
 use Rattle.chains.specs.declared.range.Range.{Range}
 use Rattle.guest_memory.specs.Memory.{bytes_at}
 use Rattle.disk.specs.Content.{Content}
@@ -145,10 +145,10 @@ pub record WritesOf (guest at len : ℕ) (bytes : List ℕ) (old new : MachineSt
       take len bytes ≡ bytes_at d.device.memory at len)
   pub noted : (turn_of new guest).asked ≡ asked.Write
 
--- the guest rests, by how many of its chains may wait
+-- the guest rests, by how many of its chains may wait, and nothing of it is to be copied out
 abbrev pub RestsIn : ℕ → Option Setup → MachineState → Type 0
 RestsIn guest None m = ⊥
-RestsIn guest (Some s) m = RestsAt guest (most_of s) m.board
+RestsIn guest (Some s) m = RestsAt guest (most_of s) m.board × ((turn_of m guest).parts ≡ [])
 
 -- why a serve tells a fault: there is no such guest, or too little room, or a reason of the board
 pub data HasFault (guest room : ℕ) (f : MachineFault) (old new : MachineState) : Type 0 where

@@ -167,7 +167,7 @@ pub(crate) fn serve_turn(
     ensures needs { NeedsTold guest most turn.old.parts board.old turn.new bytes.new board.new
         result }
     ensures heard { HearsAnswer guest turn.old.asked is_there bytes.old board.old turn.new.parts
-        board.new }
+        board.new (result ≡ Next.Rest (Some MachineFault.NoMemory)) }
 {
     if !answer(board, guest, turn, is_there, bytes) {
         return Next::Rest(Some(MachineFault::NoMemory));

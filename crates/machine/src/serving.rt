@@ -125,6 +125,7 @@ fn rest(
     requires limit { (taken ≡ Taken.Nothing) ⊎ (taken ≡ Taken.Limit)
         → HasNoJob guest board.old.rest }
     requires replies { HasNoReply guest board.old.rest }
+    requires parts { turn.old.parts ≡ [] }
     requires fault { (f : MachineFault) → taken ≡ Taken.Refused f → HasReason guest f }
     ensures went { Went guest most turn.old turn.new board.old board.new (Some result) }
     ensures parts { turn.new.parts ≡ turn.old.parts }

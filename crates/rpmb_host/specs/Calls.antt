@@ -11,6 +11,7 @@ use Rattle.machine.specs.Machine.{telling_board, turn_of}
 use Rattle.machine.specs.Machine.{waits_for_sync, written_in}
 use Rattle.machine.specs.Opening.{HasImageFault, HasOpeningFault, IsMonitored, length_of}
 use Rattle.machine.specs.declared.fault.MachineFault.{MachineFault}
+use Rattle.machine.specs.declared.fault.MachineFault.TheVariants.{NoMemory}
 use Rattle.machine.specs.declared.machine.Served.{Served}
 use Rattle.machine.specs.declared.settings.Setup.{Setup}
 use Rattle.rpmb_host.specs.Numbers.{fault_number, flag, kick_number, told_number, what_number}
@@ -82,7 +83,7 @@ pub record ServesBy (guest done : ℕ) (bytes bytes' : List ℕ) (n : RpmbNext)
   -- what was read is what the device believes
   pub heard : has_guest old guest ≡ true → 16384 ≤ length bytes
       → HearsAnswer guest (turn_of old guest).asked (not (done == 0)) bytes old.board
-      (turn_of new guest).parts new.board
+      (turn_of new guest).parts new.board (told.fault ≡ Some NoMemory)
   pub at : n.at ≡ told.at
   pub len : n.len ≡ told.len % 4294967296
   pub fault : n.fault ≡ told_number told.fault

@@ -37,7 +37,8 @@ impl Rig {
     }
 
     /// From a reset to this status (3.1.1), with VIRTIO_F_VERSION_1 and these features, and a queue
-    /// of 16 of zeros: descriptors, driver's area and device's from 0x1000, 0x2000 and 0x3000 on. Whether it stands.
+    /// of 16 of zeros: descriptors, driver's area and device's from 0x1000, 0x2000 and 0x3000 on.
+    /// Whether it stands.
     pub fn set_up(&mut self, guest: u16, features: u64, status: u32) -> bool {
         self.put(guest, 0, &[0; 0x4000]);
         self.put(guest, REPLY, &[0; 0x1000]);
@@ -78,8 +79,8 @@ impl Rig {
         check(self.set(guest, reg::QUEUE_NOTIFY, 0), "no kick")
     }
 
-    /// Whether the reply to the n-th chain ends with this result and this type: 0 and 0, where there
-    /// is none.
+    /// Whether the reply to the n-th chain ends with this result and this type: 0 and 0, where
+    /// there is none.
     pub fn ends(&self, guest: u16, n: u8, code: u8, kind: u8) -> bool {
         let at = REPLY + 508 + 0x400 * u64::from(n);
         self.holds(guest, at, &[0, code, kind, 0])

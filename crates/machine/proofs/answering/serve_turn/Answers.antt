@@ -54,6 +54,7 @@ returns-clause-heard c = record {
   ok = c.answer.result;
   takes = c.answer.ensures.takes;
   left = c.answer.new.turn.parts;
+  full = λ no. absurd (let there = c.if-not-answer.false in let not_ = no in cc);
   runs = runs_twice c.args.guest c.answer.new.turn.parts c.serve-next.new.turn.parts
       c.need.new.turn.parts c.answer.new.board c.serve-next.new.board c.need.new.board
       c.serve-next.ensures.went.runs c.need.ensures.runs;

@@ -19,9 +19,11 @@ returns-in-Some-clause-went c =
     went_by g c.args.most c.args.turn.now c.take_next.new.self b b' _
     (subst (λ rs. Runs g ps b rs b') (sym same) (c.begin.ensures.runs ps))
     (rest_needs g c.args.most ps c.take_next.new.self.parts b b' c.in-Some.fault
-    (λ none. (let is = c.in-Some.is ∙ ap Some none in
-    rests_by g c.args.most b b' c.args.taken c.begin.ensures.rest c.begin.ensures.devices
-    (w.rests is) (w.writes is) c.requires.none c.requires.limit c.requires.replies))
+    (λ none. (let is = c.in-Some.is ∙ ap Some none in (
+      rests_by g c.args.most b b' c.args.taken c.begin.ensures.rest c.begin.ensures.devices
+          (w.rests is) (w.writes is) c.requires.none c.requires.limit c.requires.replies,
+      same ∙ c.requires.parts,
+    )))
     (λ f some. c.requires.fault f (w.fault f (c.in-Some.is ∙ ap Some some))))
     c.begin.ensures.count
     (ap (λ t. t.asked) c.take_next.ensures ∙ ap (λ t. t.asked) c.begin.ensures.turn)

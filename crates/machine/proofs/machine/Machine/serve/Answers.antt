@@ -1,7 +1,9 @@
-use Rattle.std.proofs.Common.{◌≡◌, ◌∙◌, ℕ, ap, false, sym, subst, length, arith, rules}
+use Rattle.std.proofs.Common.{◌≡◌, ◌∙◌, ℕ, Some, ap, false, sym, subst, length, arith, rules}
 use Rattle.machine.proofs.Common.{slice_get_read, IsServed, MachineState, slice_get, slice_set}
 use Rattle.machine.specs.Ending.{HearsAnswer}
-use Rattle.machine.specs.Machine.{TellsOf, has_guest, turn_in, turn_of}
+use Rattle.machine.specs.declared.fault.MachineFault.TheVariants as fault
+use Rattle.machine.specs.declared.serving.Next.TheVariants as next
+use Rattle.machine.specs.Machine.{IsTold, TellsOf, has_guest, turn_in, turn_of}
 use Rattle.machine.proofs.Completing.{hears, serves, serves_none}
 use Rattle.machine.proofs.Popping.{some_at}
 use Rattle.machine.proofs.Told.{has_all, no_device, no_setup, no_turn, tells_absent, tells_of, tells_room}
@@ -71,10 +73,13 @@ returns-clause-heard c there room =
     (search rules) (search rules) (search rules) in
     let answered : MachineState → ℕ → Type 0 = λ x k. HearsAnswer g (turn_of x g).asked
     c.args.is_there c.args.bytes.now x.board
-    (turn_in (slice_get (slice_set m.turns k s.new.turn) g)).parts s.new.board in
+    (turn_in (slice_get (slice_set m.turns k s.new.turn) g)).parts s.new.board
+    (c.served-2.result.fault ≡ Some fault.NoMemory) in
     subst (λ x. answered x c.from-at.result) c.self.view_is
     (subst (λ k. answered m k) (sym c.from-at.ensures)
     (hears g m c.index_mut-turn.result.now s.new.turn s.new.board c.args.is_there c.args.bytes.now
+    (s.result ≡ next.Rest (Some fault.NoMemory)) (c.served-2.result.fault ≡ Some fault.NoMemory)
+    (λ is. (subst (λ n. IsTold n c.served-2.result) is c.served-2.ensures.next).1)
     its s.ensures.heard))
 
 pub returns-then-bytes-lt-LARGEST_PART-clause-served : goal.returns-then-bytes-lt-LARGEST_PART-clause-served
