@@ -24,7 +24,8 @@ pub enum MachineFault {
     /// The driver broke the rules of its queue: its device waits for a reset.
     #[error("Stopped")]
     Stopped,
-    /// The guest has 64 replies that wait: they leave first.
+    /// The guest has 64 replies that wait: they leave first. A serve takes no chain then, so that it
+    /// doesn't come about.
     #[error("Busy")]
     Busy,
     /// The book takes no more jobs: 16,384 stand of which the first hasn't left, or 2^64 - 1 were
