@@ -10,6 +10,19 @@ use script::{Line, ScriptError, read_script, read_served_script};
 use std::alloc::Global;
 use std::io::Write;
 
+/// What helps where a file is no image, or no whole one.
+const SPOILED: &str = "keep it as it is; a copy that is whole may take its place, and sets its \
+    guests back to its day";
+
+/// What is said of a file without a byte.
+const EMPTY: &str = "is empty: put a copy of the image there; if there never was one, rpmbd format \
+    makes it";
+
+/// What is said of an image of which a call failed.
+const FAILED: &str =
+    "a read, a write or a sync of it failed: is it a plain file, is its disk full or \
+    failing? Ask for the counters before you go on";
+
 /// What a command works on, once its files are read.
 #[derive(Clone, Copy)]
 pub struct Task<'a> {
@@ -70,29 +83,43 @@ fn misplaced(alloc: Global, task: Task<'_>) -> Option<String> {
     format!(in alloc; "{path}: line {number}: the store reaches beyond its guest's memory").ok()
 }
 
-/// Why the disk holds no image of the board: by its length, where that is another one.
+/// Why the disk holds no image of the board: by its length, where that is another one. What may be
+/// left of partitions is never told to be formatted, which would empty them.
 fn unformatted<D: Disk>(alloc: Global, task: Task<'_>, disk: Option<&D>) -> Option<String> {
     let (image, whole) = (task.place(), Layout::of(task.board).length());
     match disk {
+        Some(disk) if disk.len() == 0 => said(alloc, image, EMPTY),
         Some(disk) if disk.len() != whole => {
             let length = disk.len();
             format!(in alloc;
-                "{image}: has {length} bytes, an image of this board {whole}: cut, or another file"
+                "{image}: has {length} bytes, an image of this board {whole}: {SPOILED}"
             ).ok()
         }
-        _ => {
-            let why = "is no whole image of this board, or another file; format empties it";
-            said(alloc, image, why)
-        }
+        _ => format!(in alloc; "{image}: is no image, or not whole: {SPOILED}").ok(),
+    }
+}
+
+/// What a command has done whose lines aren't taken.
+fn done_unseen(task: Task<'_>) -> &'static str {
+    if task.image.is_none() {
+        return "nothing is kept, as the board names no image";
+    }
+    match task.command {
+        Command::Format { .. } => "the image is made all the same",
+        Command::Show { .. } => "the image stays as it was",
+        Command::Upgrade { .. } => "the image is of version 2 all the same",
+        _ => "what was performed stays, also where its line is missing: ask for the counters",
     }
 }
 
 /// Why standard output failed: what is still held back is tried again.
-fn unwritten<W: Write>(alloc: Global, out: &mut W) -> Option<String> {
-    match out.flush() {
-        Ok(()) => said(alloc, OUTPUT, "a line was refused"),
-        Err(error) => said_by(alloc, OUTPUT, &error),
-    }
+fn unwritten<W: Write>(alloc: Global, task: Task<'_>, out: &mut W) -> Option<String> {
+    let done = done_unseen(task);
+    let why = match out.flush() {
+        Ok(()) => said(alloc, OUTPUT, "took no line more")?,
+        Err(error) => said_by(alloc, OUTPUT, &error)?,
+    };
+    format!(in alloc; "{why}; {done}").ok()
 }
 
 /// Which file or stream ended a command that had begun, and why. None where nothing helps, or where
@@ -107,18 +134,14 @@ pub fn reason_of_end<D: Disk, W: Write>(
     match fault {
         Fault::NotFormatted => unformatted(alloc, task, disk),
         Fault::OtherConfig => {
-            let why =
-                "is the image of a board with other guests or capacities; mend the board file";
+            let why = "is the image of another board (other guests or capacities); take that \
+                board's file, or name another image in this one";
             said(alloc, task.place(), why)
         }
-        Fault::DiskFault => said(
-            alloc,
-            task.place(),
-            "a read, a write or a sync of it failed",
-        ),
+        Fault::DiskFault => said(alloc, task.place(), FAILED),
         Fault::BadScript { .. } => misread(alloc, task),
         Fault::OutOfRange => misplaced(alloc, task),
-        Fault::FileFault => unwritten(alloc, out),
+        Fault::FileFault => unwritten(alloc, task, out),
         Fault::HistoryFull => {
             let why = "a run answers no more than 2^64 - 1 requests; a new one goes on";
             said(alloc, task.script_path(), why)

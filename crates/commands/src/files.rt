@@ -2,7 +2,7 @@
 //! be long, and no further.
 
 use crate::fault::Fault;
-use crate::reason::Refusal;
+use crate::reason::{NO_TEXT, Refusal};
 use board_file::{BoardError, read_board};
 use rpmb_frame::BoardConfig;
 use std::alloc::Global;
@@ -35,11 +35,7 @@ fn text_of(alloc: Global, path: &str, of_image: &str, bytes: Vec<u8>) -> Result<
     match String::from_utf8(bytes) {
         Ok(text) => Ok(text),
         Err(_) => {
-            let why = if is_image {
-                of_image
-            } else {
-                "isn't text in UTF-8"
-            };
+            let why = if is_image { of_image } else { NO_TEXT };
             Err(Refusal::of_file(alloc, Fault::FileFault, path, why))
         }
     }

@@ -16,6 +16,20 @@ const OUTPUT: &str = "/dev/stdout";
 /// What is said of the image of a board that names an empty path.
 const NO_NAME: &str = "names no image; write image = \"FILE\" in the board file";
 
+/// What is said of an image that isn't there.
+const NOT_THERE: &str = "isn't there; if there never was one, rpmbd format makes it";
+
+/// And of one whose path begins in the folder that the program was started in.
+const NOT_HERE: &str = "isn't there: the path counts from the folder that you are in, not from the \
+    board file's; go to the image's folder, or if there never was one, rpmbd format makes it";
+
+/// What is said of one that has to be a new one.
+const IS_THERE: &str = "is there, and --new makes none over it; name another in the board file";
+
+/// What is said of one that can't be made.
+const NO_FOLDER: &str = "its folder, seen from the one that you are in, or the file that it links \
+    to, isn't there; make that, or mend the path in the board file";
+
 /// Opens the file of an image. Where standard output or error is closed, its number goes to the
 /// next file that is opened, and what is printed would be written into that file. So the file is
 /// kept under a number above theirs.
@@ -109,14 +123,8 @@ fn sync_folder(rt: &HostRuntime, path: &str) -> io::Result<()> {
 fn not_made(rt: &HostRuntime, path: &str, error: &io::Error) -> Refusal {
     match error.kind() {
         io::ErrorKind::NotFound if path.is_empty() => refused(rt, path, NO_NAME),
-        io::ErrorKind::NotFound => {
-            refused(
-                rt,
-                path,
-                "its folder, or the file that it links to, isn't there",
-            )
-        }
-        io::ErrorKind::AlreadyExists => refused(rt, path, "is there, and --new makes none over it"),
+        io::ErrorKind::NotFound => refused(rt, path, NO_FOLDER),
+        io::ErrorKind::AlreadyExists => refused(rt, path, IS_THERE),
         _ => Refusal::of_call(rt.alloc(), path, error),
     }
 }
@@ -125,13 +133,8 @@ fn not_made(rt: &HostRuntime, path: &str, error: &io::Error) -> Refusal {
 fn not_opened(rt: &HostRuntime, path: &str, error: &io::Error) -> Refusal {
     match error.kind() {
         io::ErrorKind::NotFound if path.is_empty() => refused(rt, path, NO_NAME),
-        io::ErrorKind::NotFound => {
-            refused(
-                rt,
-                path,
-                "isn't there, from the folder of this command; rpmbd format makes a new, empty one",
-            )
-        }
+        io::ErrorKind::NotFound if path.starts_with('/') => refused(rt, path, NOT_THERE),
+        io::ErrorKind::NotFound => refused(rt, path, NOT_HERE),
         _ => Refusal::of_call(rt.alloc(), path, error),
     }
 }

@@ -7,6 +7,12 @@ use std::io;
 /// What is said of in the place of a file where what is printed isn't taken.
 pub(crate) const OUTPUT: &str = "standard output";
 
+/// What is said of a file that is no text.
+pub(crate) const NO_TEXT: &str = "isn't text in UTF-8; save it as that";
+
+/// The system's number of a stream that is closed, which has no kind of its own.
+const CLOSED: i32 = 9;
+
 /// What ended the program before its command began: the fault, and of which file it is and why.
 #[derive(Debug, Drop)]
 pub struct Refusal {
@@ -26,7 +32,7 @@ fn words_of(kind: io::ErrorKind) -> Option<&'static str> {
         io::ErrorKind::ReadOnlyFilesystem => Some("stands where nothing can be written"),
         io::ErrorKind::FilesystemLoop => Some("leads round in links"),
         io::ErrorKind::InvalidFilename => Some("the path is too long"),
-        io::ErrorKind::InvalidData => Some("isn't text in UTF-8"),
+        io::ErrorKind::InvalidData => Some(NO_TEXT),
         io::ErrorKind::StorageFull => Some("no space left"),
         io::ErrorKind::BrokenPipe => Some("who read it is gone"),
         _ => None,
@@ -53,6 +59,9 @@ pub(crate) fn said(alloc: Global, what: &str, why: &str) -> Option<String> {
 
 /// What is wrong with a file or a stream by an error of a call.
 pub(crate) fn said_by(alloc: Global, what: &str, error: &io::Error) -> Option<String> {
+    if error.raw_os_error() == Some(CLOSED) {
+        return said(alloc, what, "is closed");
+    }
     match words_of(error.kind()) {
         Some(why) => said(alloc, what, why),
         None => format!(in alloc; "{what}: {error}").ok(),

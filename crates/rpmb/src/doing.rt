@@ -84,22 +84,7 @@ fn answer(
     place.perform(rt, script.as_str(), disk, answers)
 }
 
-/// Whether a reply of lines says that its blocks lie past the end: its last bytes are its result
-/// and its type.
-fn is_past_end(lines: &[u8]) -> bool {
-    lines.split(|byte| *byte == b'\n').any(|line| line.ends_with(b"00040300")
-        || line.ends_with(b"00040400"))
-}
-
-/// Whether a reply of lines says that a key wasn't programmed: the same bytes.
-fn is_key_refused(lines: &[u8]) -> bool {
-    lines
-        .split(|byte| *byte == b'\n')
-        .any(|line| line.ends_with(b"00050100"))
-}
-
-/// Performs a command that reads answers. Where blocks were past the end, or a key wasn't
-/// programmed, that is told behind.
+/// Performs a command that reads answers, and tells behind what helps where a request was refused.
 fn judge<W: Write>(
     rt: &HostRuntime,
     place: &Place<'_>,
@@ -108,12 +93,7 @@ fn judge<W: Write>(
     out: &mut W,
 ) -> Result<(), Stop> {
     let judged = command(rt, words, answers, out);
-    if is_past_end(answers) {
-        place.tell_end(rt);
-    }
-    if is_key_refused(answers) {
-        place.tell_key(rt);
-    }
+    place.tell_help(rt, answers);
     judged
 }
 
@@ -160,10 +140,14 @@ fn ask<W: Write>(
         command: "explain",
         ..words
     };
-    let explained = judge(rt, place, &words, answers.as_slice(), out);
     match ended {
-        Ok(_) => explained,
-        Err(stop) => Err(stop),
+        Ok(_) => judge(rt, place, &words, answers.as_slice(), out),
+        Err(stop) => {
+            if !answers.is_empty() {
+                let _ = command(rt, &words, answers.as_slice(), out);
+            }
+            Err(stop)
+        }
     }
 }
 
@@ -208,6 +192,7 @@ fn counter_said<'a>(
 /// The write counter that the answer among lines says, or else what that answer is.
 fn counter_or_why<W: Write>(
     rt: &HostRuntime,
+    place: &Place<'_>,
     words: &mut Words<'_>,
     lines: &str,
     out: &mut W,
@@ -219,7 +204,9 @@ fn counter_or_why<W: Write>(
         Ok(Some(counter)) => Ok(counter),
         Ok(None) => {
             words.command = "explain";
-            let explained = command(rt, words, lines.as_bytes(), out);
+            // Where what follows isn't taken, no write was made.
+            words.operation = None;
+            let explained = judge(rt, place, words, lines.as_bytes(), out);
             let _ = eprintln!(rt; "rpmb: nothing was written: no counter was read under this key");
             match explained {
                 Ok(()) => Err(told(rt, Refusal::NoCounter)),
@@ -248,7 +235,7 @@ fn write<W: Write>(
     let mut lines = Vec::new(rt.alloc());
     let disk = answer(rt, place, disk, &words, &mut lines)?;
     let lines = text_of(rt, lines)?;
-    let counter = counter_or_why(rt, &mut words, lines.as_str(), out)?;
+    let counter = counter_or_why(rt, place, &mut words, lines.as_str(), out)?;
     let Ok(digits) = format!(in rt.alloc(); "{counter}") else {
         return Err(told(rt, Refusal::NoMemory));
     };

@@ -19,6 +19,22 @@ use std::alloc::Global;
 /// What a script of requests is called where it is told of.
 const REQUEST: &str = "the request";
 
+/// What a guest is told to be by the result and the type that its reply ends with.
+static HELP: [(&str, &str); 5] = [
+    ("00050100", "has a key already, or the write of it failed"),
+    ("00070200", "has no key yet; program-key gives it one"),
+    ("00010000", "writes at most max_wr_cnt: say --max-blocks"),
+    ("00010400", "reads at most max_rd_cnt blocks at once"),
+    ("00800300", "is at the end of its counter: no more writes"),
+];
+
+/// Whether one of these lines ends so.
+fn ends_so(lines: &[u8], end: &str) -> bool {
+    lines
+        .split(|byte| *byte == b'\n')
+        .any(|line| line.ends_with(end.as_bytes()))
+}
+
 /// A board, the paths of its file and of its image, and the word of the guest that is asked for.
 #[derive(Drop)]
 pub struct Place<'a> {
@@ -94,11 +110,17 @@ impl<'a> Place<'a> {
         }
     }
 
-    /// Tells why a key isn't programmed.
-    pub fn tell_key(&self, rt: &HostRuntime) {
+    /// Tells what helps, where a reply of lines ends with a result and a type of which it is known.
+    pub fn tell_help(&self, rt: &HostRuntime, lines: &[u8]) {
         let (file, number) = (self.file, self.guest);
-        let what = "has a key already, or the write of it failed";
-        let _ = eprintln!(rt; "{file}: guest {number} {what}");
+        if ends_so(lines, "00040300") || ends_so(lines, "00040400") {
+            self.tell_end(rt);
+        }
+        for (end, what) in HELP.iter() {
+            if ends_so(lines, end) {
+                let _ = eprintln!(rt; "{file}: guest {number} {what}");
+            }
+        }
     }
 
     /// Tells in the words of `rpmbd` the fault that ended a script, and why. Of what stands in its

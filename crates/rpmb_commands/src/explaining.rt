@@ -289,8 +289,8 @@ fn judge_of<'a, S: Source>(
     Ok(Judge { keys, nonce })
 }
 
-/// Refused where no line came at all, where a reply is torn or wrong, and else where one says that a
-/// request was refused.
+/// Refused where no line came at all, where a reply is torn or wrong, and else where one says that
+/// a request was refused.
 fn told<'a>(counts: Result<Counts, Refusal<'a>>) -> Result<(), Refusal<'a>>
     ensures { result ≡ told_counts counts.entry }
 {
@@ -323,8 +323,8 @@ fn tell_all<'a, S: Source, B: BufRead, W: Write>(
 }
 
 /// Says of each `used` line what its reply is, and writes each other line as it is. Refused at the
-/// end where no line came, one was torn or of a script, a MAC or a nonce was wrong, or a request was
-/// refused.
+/// end where no line came, one was torn or of a script, a MAC or a nonce was wrong, or a request
+/// was refused.
 pub fn tell<'a, S: Source, B: BufRead, W: Write>(
     alloc: Global,
     source: &S,

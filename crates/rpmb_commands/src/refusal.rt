@@ -68,8 +68,8 @@ pub enum Refusal<'a> {
     /// Nothing was explained, since no line came.
     #[error("NoAnswer: expected the lines that `rpmbd run` prints on standard input, got none")]
     NoLine,
-    /// A MAC or a nonce of an answer is wrong, or a line is none of an answer; and what is wrong with
-    /// the first, which is told behind.
+    /// A MAC or a nonce of an answer is wrong, or a line is none of an answer; and what is wrong
+    /// with the first, which is told behind.
     #[error("WrongAnswer: expected a right MAC and nonce in each of {0} replies, \
         got {1} torn or with a wrong one")]
     WrongAnswer(u64, u64, &'static str),
