@@ -175,6 +175,7 @@ module _ {D : Type 0} (shows : D → DiskState) (makes : D → DiskCall → D �
     device = a;
     its = at;
     asks = gives.missing;
+    needed = gives.needed;
     same = ap (λ ds. asked ds b.rest)
         (ap (slice_set b.devices g) gives.same ∙ set_same b.devices g a at);
   }

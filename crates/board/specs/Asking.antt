@@ -5,7 +5,8 @@ use Rattle.guest_memory.specs.Memory.{Span, IsAsk}
 use Rattle.guest_memory.specs.declared.ask.Ask.{Ask}
 use Rattle.rpmb_frame.specs.declared.config.GuestConfig.{GuestConfig}
 use Rattle.disk.specs.Disk.{DiskCall, DiskState}
-use Rattle.mmio_transport.specs.Asking.{AskingState, PublishesAsked, first_asking, known}
+use Rattle.mmio_transport.specs.Asking.{AskingState, PopNeeds, PublishesAsked, ReplyNeeds}
+use Rattle.mmio_transport.specs.Asking.{first_asking, known}
 use Rattle.mmio_transport.specs.Job.{Done, room_in}
 use Rattle.mmio_transport.specs.declared.done.Published.{Published}
 use Rattle.mmio_transport.specs.declared.fault.PopFault.{PopFault}
@@ -49,12 +50,23 @@ pub record StepsAsked {D : Type 0} (shows : D → DiskState) (makes : D → Disk
   pub steps : Steps shows makes s answer (board_of old) (board_of new)
   pub held : map knowledge new.devices ≡ map knowledge old.devices
 
--- A guest's device asks for bytes, and nothing changed.
-pub record AsksFor {D : Type 0} (g : ℕ) (ask : Ask) (old new : AskingBoardState D) : Type 0 where
+-- A guest's device asks for bytes of which it has no copy, and which it needs; and nothing changed.
+pub record AsksFor {D : Type 0} (needs : AskingState → Ask → Type 0) (g : ℕ) (ask : Ask)
+    (old new : AskingBoardState D) : Type 0 where
   pub device : AskingState
   pub its : slice_get old.devices g ≡ Some device
   pub asks : IsAsk (known device) ask
+  pub needed : needs device ask
   pub same : new ≡ old
+
+-- a device's next pop needs what is asked for
+abbrev pub ForPop : AskingState → Ask → Type 0
+ForPop a ask = PopNeeds a.device.queue a.device.memory ask
+
+-- the publication of this reply does
+abbrev pub ForReply : Option Done → AskingState → Ask → Type 0
+ForReply None a ask = ⊥
+ForReply (Some done) a ask = ReplyNeeds a.device.queue done ask
 
 -- What a pop comes to.
 abbrev pub PopsAsked : {D : Type 0} → (D → DiskState) → (D → DiskCall → D → Type 0) → ℕ
@@ -63,7 +75,7 @@ PopsAsked shows makes g (Ok did) old new =
     StepsAsked shows makes (step.Pop g) (did_answer did) old new
 PopsAsked shows makes g (Err (Refused e)) old new =
     StepsAsked shows makes (step.Pop g) (Err (fault.Device e)) old new
-PopsAsked shows makes g (Err (Missing ask)) old new = AsksFor g ask old new
+PopsAsked shows makes g (Err (Missing ask)) old new = AsksFor ForPop g ask old new
 
 -- The reply in its place was handed to its device, and whether the driver is to be notified is seen
 -- later. The board moved as by a publication.
@@ -94,4 +106,5 @@ abbrev pub PublishesOf : {D : Type 0} → (D → DiskState) → (D → DiskCall 
 PublishesOf shows makes g (Ok None) old new = HasNoneToWrite g old × (new ≡ old)
 PublishesOf shows makes g (Ok (Some published)) old new =
     HandsReply shows makes g published old new
-PublishesOf shows makes g (Err ask) old new = AsksFor g ask old new
+PublishesOf shows makes g (Err ask) old new =
+    AsksFor (ForReply (in_place (slice_get old.rest.dones g))) g ask old new

@@ -7,6 +7,8 @@ ghost use Rattle.chains.specs.Walk.{reads_of};
 ghost use Rattle.chains.specs.Ring.{first_state, MayBeUsed, IsFree, Stays, Finds, Pops};
 ghost use Rattle.chains.specs.Ring.{CountsReads, Publishes};
 ghost use Rattle.chains.specs.Building.{BelievesCopies};
+ghost use Rattle.chains.specs.Needs.{IsNeeded};
+ghost use Rattle.chains.specs.Start.{descriptors_of};
 ghost use Rattle.guest_memory.specs.Memory.{IsAsk};
 
 use crate::counts::Counts;
@@ -103,7 +105,9 @@ impl<R: Rules> Ring<R> {
         ensures reads { CountsReads result reads.old reads.new
             (reads_of (length memory.now.bytes) false (R.members memory.now.bytes self.now)) }
         ensures few { reads.new.count ≤ self.now.size + 1024 }
-        ensures copies { BelievesCopies memory.now self.now.size result }
+        ensures copies { BelievesCopies memory.now self.now.size
+            (IsNeeded (R.of_area self.now) memory.now.bytes (descriptors_of R.shape self.now)
+            (R.next memory.now.bytes self.now)) result }
     {
         reads.clear();
         let start = match R::start(&self.counts, memory) {
@@ -158,7 +162,9 @@ impl<R: Rules> Ring<R> {
         ensures reads { CountsReads result reads.old reads.new
             (reads_of (length memory.old.bytes) false (R.members memory.old.bytes self.old)) }
         ensures few { reads.new.count ≤ self.old.size + 1024 }
-        ensures copies { BelievesCopies memory.old self.old.size result }
+        ensures copies { BelievesCopies memory.old self.old.size
+            (IsNeeded (R.of_area self.old) memory.old.bytes (descriptors_of R.shape self.old)
+            (R.next memory.old.bytes self.old)) result }
         ensures held { memory.new ≡ record memory.old { bytes = memory.new.bytes } }
     {
         let _last = self.counts.last(); // for the checker: places are few, so no sum wraps
@@ -181,6 +187,7 @@ impl<R: Rules> Ring<R> {
     pub fn lacks(&self, memory: &Memory) -> Option<Ask>
         requires areas { R.areas (length memory.now.bytes) self.now }
         ensures some { IfSome result (λ ask. IsAsk memory.now ask) }
+        ensures needed { IfSome result (R.of_area self.now) }
         ensures none { result ≡ None → R.used_held memory.now self.now }
     {
         R::used_lacks(&self.counts, memory)
@@ -191,6 +198,7 @@ impl<R: Rules> Ring<R> {
     pub fn suppression_lacks(&self, memory: &Memory) -> Option<Ask>
         requires areas { R.areas (length memory.now.bytes) self.now }
         ensures some { IfSome result (λ ask. IsAsk memory.now ask) }
+        ensures needed { IfSome result (R.of_area self.now) }
         ensures short { IfSome result (λ ask. ask.len ≤ 4) }
         ensures none { result ≡ None → R.suppression_held memory.now self.now }
     {

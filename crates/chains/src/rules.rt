@@ -3,7 +3,9 @@ ghost use Rattle.std.specs.Prelude.{◌≡◌, ◌≤◌, ◌<◌, ◌+◌, ◌*
 ghost use Rattle.std.specs.Prelude.{List};
 ghost use Rattle.std.specs.Prelude.{Option, None, Result, length, IfSome, IsOk, []};
 ghost use Rattle.guest_memory.specs.Memory.{IsAsk, IsInside, Known};
-ghost use Rattle.chains.specs.Building.{AsksFew, AsksOf};
+ghost use Rattle.chains.specs.Building.{AsksOnly};
+ghost use Rattle.chains.specs.Needs.{LiesIn};
+ghost use Rattle.guest_memory.specs.declared.ask.Ask.{Ask};
 ghost use Rattle.chains.specs.declared.places.Places.{Places};
 ghost use Rattle.chains.specs.declared.descriptor.Shape.{Shape};
 ghost use Rattle.chains.specs.declared.fault.ChainFault.{ChainFault};
@@ -35,6 +37,9 @@ pub trait Rules: Drop {
     fn lies_in(ring: &Counts, memory: &Memory) -> bool
         ensures { IsTrue result ↔ areas (length memory.now.bytes) ring.now };
 
+    /// What is asked for lies in one of them.
+    ghost of_area: { RingState → Ask → Type 0 };
+
     /// How the ring's descriptors are laid out.
     ghost shape: { Shape };
 
@@ -64,8 +69,7 @@ pub trait Rules: Drop {
         requires sound { is_ring ring.now.places ring.now.size }
         requires areas { areas (length memory.now.bytes) ring.now }
         ensures starts { Starts (start memory.now.bytes ring.now) result }
-        ensures asks { AsksOf memory.now result }
-        ensures short { AsksFew result }
+        ensures asks { AsksOnly memory.now (of_area ring.now) result }
         ensures fresh { memory.now.held ≡ [] → ¬ IsOk result };
 
     /// The memory with what a pop writes for the driver.
@@ -78,6 +82,7 @@ pub trait Rules: Drop {
     fn event_lacks(ring: &Counts, memory: &Memory) -> Option<Ask>
         requires areas { areas (length memory.now.bytes) ring.now }
         ensures some { IfSome result (λ ask. IsAsk memory.now ask) }
+        ensures needed { IfSome result (of_area ring.now) }
         ensures short { IfSome result (λ ask. ask.len ≤ 2) }
         ensures none { result ≡ None → event_held memory.now ring.now };
 
@@ -101,6 +106,7 @@ pub trait Rules: Drop {
         requires sound { is_ring ring.now.places ring.now.size }
         requires areas { areas (length memory.now.bytes) ring.now }
         ensures some { IfSome result (λ ask. IsAsk memory.now ask) }
+        ensures needed { IfSome result (of_area ring.now) }
         ensures none { result ≡ None → used_held memory.now ring.now };
 
     /// Writes that a chain was used, at the first place that isn't.
@@ -121,6 +127,7 @@ pub trait Rules: Drop {
     fn suppression_lacks(ring: &Counts, memory: &Memory) -> Option<Ask>
         requires areas { areas (length memory.now.bytes) ring.now }
         ensures some { IfSome result (λ ask. IsAsk memory.now ask) }
+        ensures needed { IfSome result (of_area ring.now) }
         ensures short { IfSome result (λ ask. ask.len ≤ 4) }
         ensures none { result ≡ None → suppression_held memory.now ring.now };
 
@@ -144,6 +151,10 @@ pub trait Rules: Drop {
     ghost members_are: { (memory : List ℕ) (ring : RingState)
         → members memory ring ≡ members_from memory (descriptors_of shape ring)
         (start memory ring) };
+
+    /// The descriptors are one of the areas.
+    ghost descriptors_are: { (ring : RingState) (ask : Ask)
+        → LiesIn ring.places.descriptors (16 * ring.size) ask → of_area ring ask };
 
     /// The areas stay where they are, whatever is popped and used.
     ghost areas_stay: { (bytes : ℕ) (old new : RingState) → new.places ≡ old.places

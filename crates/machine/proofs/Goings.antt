@@ -2,11 +2,12 @@
 use Rattle.std.proofs.Common.{◌≡◌, ◌⊎◌, inl, inr, refl, ap, sym, subst, ◌∙◌, ℕ, Bool, true, false}
 use Rattle.std.proofs.Common.{List, [], ◌∷◌, Option, Some, None, Result, Ok, Err, length, map}
 use Rattle.std.specs.Prelude.{nat_le, nat_lt}
-use Rattle.guest_memory.specs.Memory.{IsAsk}
 use Rattle.guest_memory.specs.declared.ask.Ask.{Ask}
 use Rattle.flusher.specs.Store.{next_call}
-use Rattle.mmio_transport.specs.Asking.{Notifies, NotifiesOf, NotifiesWhere, known}
+use Rattle.chains.specs.Needs.{OfArea}
+use Rattle.mmio_transport.specs.Asking.{Asks, Notifies, NotifiesOf, NotifiesWhere, PopNeeds}
 use Rattle.mmio_transport.specs.Queue.{QueueState}
+use Rattle.board.specs.Asking.{ForPop}
 use Rattle.board.specs.State.{HasNoJob, waiting}
 use Rattle.machine.proofs.Common.{slice_get, AskingState, Boards, MachineFault, Range, Runs}
 use Rattle.machine.specs.Ending.{AsksIn, FindsNone, HasReason, NeedsNext, RestsAt, Went, is_write}
@@ -22,16 +23,17 @@ use Rattle.machine.proofs.Runs.{runs_twice}
 
 module _ (a a' : AskingState) where
   err_where : (b : Bool) (q : QueueState) (ask : Ask) → NotifiesWhere b q a (Err ask) a'
-      → IsAsk (known a) ask × (a' ≡ a)
+      → Asks (PopNeeds (Some q) a.device.memory) ask a a'
   err_where true q ask does = absurd (let no = does.0 in cc)
-  err_where false q ask does = (does.missing, does.same)
+  err_where false q ask does =
+      record { missing = does.missing; needed = OfArea does.needed; same = does.same }
 
   err_of : (o : Option QueueState) (ask : Ask) → NotifiesOf o a (Err ask) a'
-      → IsAsk (known a) ask × (a' ≡ a)
+      → Asks (PopNeeds o a.device.memory) ask a a'
   err_of None ask does = absurd (let no = does.0 in cc)
   err_of (Some q) ask does = err_where _ q ask does
 
-  pub notify_asks : (ask : Ask) → Notifies a (Err ask) a' → IsAsk (known a) ask × (a' ≡ a)
+  pub notify_asks : (ask : Ask) → Notifies a (Err ask) a' → Asks (ForPop a) ask a a'
   notify_asks ask does = err_of a.device.queue ask does
 
   not_where : (b : Bool) (q : QueueState) → NotifiesWhere b q a (Ok false) a'

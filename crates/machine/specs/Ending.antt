@@ -14,8 +14,8 @@ use Rattle.mmio_transport.specs.Popping.{GivesJob, with_fault}
 use Rattle.mmio_transport.specs.Queue.{QueueState}
 use Rattle.mmio_transport.specs.declared.fault.DeviceFault.TheVariants as device_fault
 use Rattle.rpmb_book.specs.declared.refused.Refused.TheVariants as refused
-use Rattle.board.specs.Asking.{board_of}
-use Rattle.board.specs.State.{BoardState, HasNoJob, waiting}
+use Rattle.board.specs.Asking.{ForPop, ForReply, board_of}
+use Rattle.board.specs.State.{BoardState, HasNoJob, in_place, waiting}
 use Rattle.board.specs.declared.step.Step.{Step}
 use Rattle.board.specs.declared.step.Step.TheVariants as step
 use Rattle.board.specs.declared.step.StepFault.{StepFault}
@@ -31,11 +31,15 @@ use Rattle.machine.specs.declared.turn.Asked.{Asked}
 use Rattle.machine.specs.declared.turn.Asked.TheVariants as asked
 use Rattle.machine.specs.declared.taking.Taken.TheVariants as taken
 
--- the guest's device has no copy of these bytes of its guest's memory, and needs them
+-- The guest's device has no copy of these bytes of its guest's memory, and needs them: for its next
+-- pop, or to see whether its driver is to be notified, which reads an area of its queue as a pop
+-- does; or for the publication of the reply in its place.
 pub record AsksIn (guest : ℕ) (ask : Ask) (b : Boards) : Type 0 where
   pub device : AskingState
   pub its : slice_get b.devices guest ≡ Some device
   pub asks : IsAsk (known device) ask
+  pub needed : ForPop device ask
+      ⊎ ForReply (in_place (slice_get b.rest.dones guest)) device ask
 
 -- the last pop of the guest's device found no chain: of what it was told then, none was available
 pub record FindsNone (guest : ℕ) (b : Boards) : Type 0 where

@@ -44,10 +44,10 @@ IsMonitored setups = IsBoard (configs_of setups)
 abbrev pub length_of : List Setup → ℕ
 length_of setups = image_length (capacities_of (configs_of setups))
 
--- the bytes of a fresh image of it: the header, the version byte, and zeros
+-- the bytes of a fresh image of it, of version 2: the header, the version byte, and zeros
 pub record IsFresh (setups : List Setup) (image : List ℕ) : Type 0 where
   pub long : length image ≡ length_of setups
-  pub bytes : Holds (formatted 1 (capacities_of (configs_of setups))) (length_of setups)
+  pub bytes : Holds (formatted 2 (capacities_of (configs_of setups))) (length_of setups)
       (content_of image)
 
 -- what a disk over these bytes gives and keeps, before it is called

@@ -20,7 +20,7 @@ use crate::turn::Turn;
 use board::AskingBoard;
 use disk::{MemDisk, OutboxDisk, Told};
 use intent_slots::Layout;
-use recovery::format;
+use recovery::format2;
 use rpmb_frame::{BoardConfig, GuestConfig, RingKind};
 use std::alloc::Global;
 
@@ -99,8 +99,8 @@ pub fn image_length(alloc: Global, setups: &[Setup]) -> Result<u64, MachineFault
     Ok(Layout::of(&board_of(alloc, setups)?).length())
 }
 
-/// Makes a fresh image of these guests of all of `image`: each partition is empty, without a key.
-/// `BadBoard`, `BadLength` where it hasn't just the image's length, or `NoMemory`; then it stays.
+/// Makes a fresh image of version 2 of these guests, of all of `image`: each partition is empty,
+/// without a key. `BadBoard`, `BadLength` where it hasn't just the image's length, or `NoMemory`; then it stays.
 pub fn format_image(alloc: Global, setups: &[Setup], image: &mut [u8]) -> Result<(), MachineFault>
     ensures fresh { OnOk result (IsFresh setups.now image.new) }
     ensures monitored { OnOk result (IsMonitored setups.now) }
@@ -120,7 +120,7 @@ pub fn format_image(alloc: Global, setups: &[Setup], image: &mut [u8]) -> Result
 /// Puts a fresh image into bytes of its length.
 fn format_all(alloc: Global, board: &BoardConfig, image: &mut [u8]) -> Result<(), MachineFault>
     requires { length image.old ≡ layout.image_length (layout.capacities_of board.now) }
-    ensures fresh { OnOk result (Holds (formatted 1 (layout.capacities_of board.now))
+    ensures fresh { OnOk result (Holds (formatted 2 (layout.capacities_of board.now))
         (layout.image_length (layout.capacities_of board.now)) (content_of image.new)) }
     ensures count { length image.new ≡ length image.old }
     ensures unchanged { OnErr result (image.new ≡ image.old) }
@@ -130,7 +130,7 @@ fn format_all(alloc: Global, board: &BoardConfig, image: &mut [u8]) -> Result<()
         return Err(MachineFault::NoMemory);
     };
     let mut disk = MemDisk::new(bytes);
-    match format(&mut disk, board) {
+    match format2(&mut disk, board) {
         Ok(()) => {}
         // No call of a disk in memory fails.
         Err(_) => unreachable!(),

@@ -1,11 +1,12 @@
 -- A device whose memory its host doesn't hold: what it knows of it, what it asks for, and what it
 -- does by the words of a device. Section numbers are those of VIRTIO 1.2.
-use Rattle.std.specs.Prelude.{◌≡◌, ℕ, Bool, true, false, if◌then◌else◌, nat_le, List, [], ◌∷◌}
+use Rattle.std.specs.Prelude.{◌≡◌, ◌⊎◌, ℕ, Bool, true, false, if◌then◌else◌, nat_le, List, [], ◌∷◌}
 use Rattle.std.specs.Prelude.{length, Option, None, Some}
 use Rattle.std.specs.Prelude.{Result, Ok, Err}
 use Rattle.guest_memory.specs.declared.ask.Ask.{Ask}
 use Rattle.guest_memory.specs.Memory.{Known, Span, IsAsk, told, with_bytes}
 use Rattle.rpmb_frame.specs.declared.config.GuestConfig.{GuestConfig}
+use Rattle.chains.specs.Needs.{IsOfRanges}
 use Rattle.chains.specs.Range.{AreHeld}
 use Rattle.chains.specs.Ring.{after_publish}
 use Rattle.mmio_transport.specs.declared.fault.PopFault.{PopFault}
@@ -13,7 +14,7 @@ use Rattle.mmio_transport.specs.declared.fault.PopFault.TheVariants.{Missing, Re
 use Rattle.mmio_transport.specs.declared.fault.DeviceFault.{DeviceFault}
 use Rattle.mmio_transport.specs.declared.done.Published.{Published}
 use Rattle.mmio_transport.specs.declared.done.Published.TheVariants.{Wrote, Dropped}
-use Rattle.mmio_transport.specs.Queue.{QueueState, used_held, Tells, TellsFrom}
+use Rattle.mmio_transport.specs.Queue.{QueueState, Needs, OfArea, used_held, Tells, TellsFrom}
 use Rattle.mmio_transport.specs.Job.{Job, Done}
 use Rattle.mmio_transport.specs.Device.{DeviceState, after_write, first_state, is_ready}
 use Rattle.mmio_transport.specs.Popping.{GivesJob}
@@ -76,9 +77,20 @@ pub record DoesAsDevice (does : DeviceState → DeviceState → Type 0)
   pub step : does a.device a'.device
   pub same : a' ≡ record a { device = a'.device }
 
--- bytes are asked for of which there is no copy, and nothing changed
-pub record Asks (ask : Ask) (a a' : AskingState) : Type 0 where
+-- what is asked for is needed by the next pop of a queue
+abbrev pub PopNeeds : Option QueueState → List ℕ → Ask → Type 0
+PopNeeds None memory ask = ⊥
+PopNeeds (Some queue) memory ask = Needs queue.kind memory queue.ring ask
+
+-- by the publication of a reply: it is a part of the reply's ranges, or of the queue's areas
+abbrev pub ReplyNeeds : Option QueueState → Done → Ask → Type 0
+ReplyNeeds None done ask = ⊥
+ReplyNeeds (Some queue) done ask = IsOfRanges done.writable ask ⊎ OfArea queue.kind queue.ring ask
+
+-- bytes are asked for of which there is no copy, and which are needed; and nothing changed
+pub record Asks (needs : Ask → Type 0) (ask : Ask) (a a' : AskingState) : Type 0 where
   pub missing : IsAsk (known a) ask
+  pub needed : needs ask
   pub same : a' ≡ a
 
 -- What a pop comes to: that of a device whose memory are any bytes of which these are copies; or
@@ -86,7 +98,7 @@ pub record Asks (ask : Ask) (a a' : AskingState) : Type 0 where
 abbrev pub GivesOrAsks : AskingState → Result (Option Job) PopFault → AskingState → Type 0
 GivesOrAsks a (Ok popped) a' = DoesAsDevice (λ d d'. GivesJob d (Ok popped) d') a a'
 GivesOrAsks a (Err (Refused fault)) a' = DoesAsDevice (λ d d'. GivesJob d (Err fault) d') a a'
-GivesOrAsks a (Err (Missing ask)) a' = Asks ask a a'
+GivesOrAsks a (Err (Missing ask)) a' = Asks (PopNeeds a.device.queue a.device.memory) ask a a'
 
 -- there are copies of the parts that the reply and the used fields are written into
 pub record HasRoom (a : AskingState) (queue : QueueState) (done : Done) : Type 0 where
@@ -130,7 +142,7 @@ pub record Decides (a : AskingState) (queue : QueueState) (notify : Bool)
 abbrev pub NotifiesWhere : Bool → QueueState → AskingState → Result Bool Ask → AskingState → Type 0
 NotifiesWhere true queue a answer a' = (answer ≡ Ok false) × (a' ≡ a)
 NotifiesWhere false queue a (Ok notify) a' = Decides a queue notify a'
-NotifiesWhere false queue a (Err ask) a' = Asks ask a a'
+NotifiesWhere false queue a (Err ask) a' = Asks (OfArea queue.kind queue.ring) ask a a'
 
 abbrev pub NotifiesOf : Option QueueState → AskingState → Result Bool Ask → AskingState → Type 0
 NotifiesOf None a answer a' = (answer ≡ Ok false) × (a' ≡ a)

@@ -3,6 +3,7 @@ ghost use Rattle.std.specs.Prelude.{◌≡◌, ◌≤◌, ◌↔◌, IsTrue, len
 ghost use Rattle.guest_memory.specs.Memory.{IsAsk};
 ghost use Rattle.guest_memory.specs.declared.ask.Ask.{Ask};
 ghost use Rattle.mmio_transport.specs.Asking.{known, GivesOrAsks, HasRoomIn, Notifies, PublishesAsked};
+ghost use Rattle.mmio_transport.specs.Asking.{ReplyNeeds};
 ghost use Rattle.mmio_transport.specs.Job.{Job, room_in};
 ghost use Rattle.mmio_transport.specs.Popping.{is_stopped};
 ghost use Rattle.mmio_transport.specs.Publishing.{IsDueIn};
@@ -100,6 +101,7 @@ impl AskingDevice {
     /// all, or the reply would be dropped.
     pub fn lacks(&self, done: &Done) -> Option<Ask>
         ensures some { IfSome result (λ ask. IsAsk (known self.now) ask) }
+        ensures needed { IfSome result (ReplyNeeds self.now.device.queue done.now) }
         ensures none { result ≡ None → IsDueIn self.now.device.queue self.now.device done.now
             → HasRoomIn self.now.device.queue self.now done.now }
     {

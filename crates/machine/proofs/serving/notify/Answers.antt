@@ -1,4 +1,5 @@
-use Rattle.std.proofs.Common.{◌≡◌, refl, sym, subst, ◌∙◌, Some, Ok, Err}
+use Rattle.std.proofs.Common.{◌≡◌, inl, refl, sym, subst, ◌∙◌, Some, Ok, Err}
+use Rattle.board.specs.Asking.{ForPop}
 use Rattle.machine.proofs.Common.{Runs}
 use Rattle.guest_memory.specs.Memory.{IsAsk}
 use Rattle.mmio_transport.specs.Asking.{Notifies, known}
@@ -15,7 +16,7 @@ returns-in-Err-clause-runs c ps =
     let b = c.begin.new.board in
     let d = c.device.result.now in
     let same = moved_none g b d c.notify.new.self c.device.ensures.device
-    (notify_asks d c.notify.new.self c.in-Err.ask c.in-Err.ensures.notifies).1 in
+    (notify_asks d c.notify.new.self c.in-Err.ask c.in-Err.ensures.notifies).same in
     subst (λ x. Runs g ps c.args.board.now ps x) (sym same) (c.begin.ensures.runs ps)
 
 pub returns-in-Err-clause-asks : goal.returns-in-Err-clause-asks
@@ -24,11 +25,12 @@ returns-in-Err-clause-asks c ask is =
     let b = c.begin.new.board in
     let d = c.device.result.now in
     let asks = notify_asks d c.notify.new.self c.in-Err.ask c.in-Err.ensures.notifies in
-    let same = moved_none g b d c.notify.new.self c.device.ensures.device asks.1 in
+    let same = moved_none g b d c.notify.new.self c.device.ensures.device asks.same in
     subst (λ x. AsksIn g ask x) (sym same) (record {
       device = d;
       its = c.device.ensures.device;
-      asks = subst (λ k. IsAsk (known d) k) (let e = is in cc) asks.0;
+      asks = subst (λ k. IsAsk (known d) k) (let e = is in cc) asks.missing;
+      needed = inl (subst (λ k. ForPop d k) (let e = is in cc) asks.needed);
     })
 
 pub returns-in-Ok-true-clause-runs : goal.returns-in-Ok-true-clause-runs
