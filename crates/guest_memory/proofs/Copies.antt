@@ -6,7 +6,8 @@ use Rattle.std.proofs.lemmas.List.Quantifiers.{position-Some}
 use Rattle.std.proofs.lemmas.List.{get_or-append_right, map-append}
 use Rattle.std.proofs.lemmas.List.Sums.{fails_before_first}
 use Rattle.std.proofs.lemmas.List.{length-map}
-use Rattle.std.proofs.Common.{if◌then◌else◌, Some, None, ◌||◌, set, map, true, false, Bool}
+use Rattle.std.specs.Prelude.{IfSome, slice_index_or}
+use Rattle.std.proofs.Common.{if◌then◌else◌, Option, Some, None, ◌||◌, set, map, true, false, Bool}
 use Rattle.std.proofs.Common.{nat_le, ◌&&◌, refl, ◌≡◌, ℕ, ◌+◌, ◌-◌, ◌<◌, ◌≤◌, ◌⊎◌, inl, inr}
 use Rattle.std.proofs.Common.{List, [], ◌∷◌, ◌++◌, length, take, drop, ap, ◌∙◌, sym, subst}
 use Rattle.std.proofs.Common.{arith, rules, get_or, length-drop, length-append}
@@ -381,3 +382,28 @@ holds_by k k' at len same h = ap (list_any (has_part at len)) same ∙ h
 pub holds_nothing : (k : Known) (at len : ℕ) → k.held ≡ [] → holds k at len ≡ false
 unfolding holds
 holds_nothing k at len none = ap (list_any (has_part at len)) none
+
+found_below : {X : Type 0} (p : X → Bool) (xs : List X) (i : ℕ) → position p xs ≡ Some i
+    → i < length xs
+found_below p [] i is = absurd (none_is_not_some i is)
+found_below p (x ∷ xs) i is = (passes p (x ∷ xs) i x is).0
+
+pub first_below : {X : Type 0} (p : X → Bool) (xs : List X) (r : Option ℕ) → r ≡ position p xs
+    → IfSome r (λ i. i < length xs)
+first_below p xs None is = tt
+first_below p xs (Some i) is = found_below p xs i (sym is)
+
+-- the first that passes does, and where there is none no test passes
+pub first_passes : {X : Type 0} (p : X → Bool) (xs : List X) (r : Option ℕ) → r ≡ position p xs
+    → IfSome r (λ i. (d : X) → p (slice_index_or xs i d) ≡ true)
+first_passes p xs None is = tt
+first_passes p xs (Some i) is = λ d. (passes p xs i d (sym is)).1
+
+none_by : {X : Type 0} (p : X → Bool) (xs : List X) (b : Bool) → list_any p xs ≡ b
+    → position p xs ≡ None → list_any p xs ≡ false
+none_by p xs false is none = is
+none_by p xs true is none = absurd (some_passes p xs is none)
+
+pub none_passes : {X : Type 0} (p : X → Bool) (xs : List X) → position p xs ≡ None
+    → list_any p xs ≡ false
+none_passes p xs none = none_by p xs (list_any p xs) refl none

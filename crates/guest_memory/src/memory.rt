@@ -8,7 +8,7 @@ ghost use Rattle.guest_memory.specs.Memory.{IsAsk, IsHeld, IsWhole, kept, told, 
 use crate::ask::Ask;
 use crate::fault::MemFault;
 use crate::piece::Piece;
-use crate::pieces::{find, have, patch};
+use crate::pieces::{find, find_from, have, patch};
 use crate::truth::Truth;
 use std::alloc::Global;
 use std::marker::Model;
@@ -146,6 +146,24 @@ impl Memory {
         match find(&self.pieces, at, len) {
             Some(i) => self.pieces[i].part(at, len),
             None => unreachable!(),
+        }
+    }
+
+    /// Lends the `len` bytes from the address `at` on, without a copy; `None` where there is none of
+    /// them in one piece.
+    ///
+    /// The search begins with the copy at the place `next`, which is then the one behind what was
+    /// found: who looks for parts in the order in which they were told finds each at once.
+    pub fn lend(&self, next: &mut usize, at: u64, len: u64) -> Option<&[u8]>
+        ensures some { IfSome result (λ bytes. bytes.now ≡ bytes_at self.now.bytes at len) }
+        ensures none { result ≡ None → holds self.now at len ≡ false }
+    {
+        match find_from(&self.pieces, *next, at, len) {
+            Some(i) => {
+                *next = i + 1;
+                Some(self.pieces[i].part(at, len))
+            }
+            None => None,
         }
     }
 

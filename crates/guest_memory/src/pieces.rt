@@ -1,8 +1,10 @@
 //! The copies of a memory, one after another.
-ghost use Rattle.std.specs.Prelude.{◌≡◌, ◌≤◌, ◌<◌, ◌+◌, ◌^◌, length, map, true};
+ghost use Rattle.std.specs.Prelude.{◌≡◌, ◌≤◌, ◌<◌, ◌+◌, ◌^◌, length, map, true, false, IfSome};
+ghost use Rattle.std.specs.Prelude.{None, slice_index_or};
 ghost use Rattle.std.specs.List.{list_any, position};
 ghost use Rattle.guest_memory.specs.Memory.{IsInside, with_bytes};
 ghost use Rattle.guest_memory.specs.Piece.{lies_in, span_of, AreCopies, StayFrom};
+ghost use Rattle.guest_memory.specs.declared.piece.Piece.{Piece};
 
 use crate::piece::Piece;
 use crate::truth::Truth;
@@ -19,6 +21,19 @@ pub(crate) fn find(pieces: &[Piece], at: u64, len: u64) -> Option<usize>
     ensures { result ≡ position (lies_in at len) pieces.now }
 {
     pieces.iter().position(|piece| piece.has(at, len))
+}
+
+/// A piece in which they lie: the one at this place, if they do, else the first.
+pub(crate) fn find_from(pieces: &[Piece], place: usize, at: u64, len: u64) -> Option<usize>
+    ensures below { IfSome result (λ i. i < length pieces.now) }
+    ensures has { IfSome result
+        (λ i. (d : Piece) → lies_in at len (slice_index_or pieces.now i d) ≡ true) }
+    ensures none { result ≡ None → list_any (lies_in at len) pieces.now ≡ false }
+{
+    if place < pieces.len() && pieces[place].has(at, len) {
+        return Some(place);
+    }
+    find(pieces, at, len)
 }
 
 /// Makes the first so many pieces copies of the memory into which these bytes are put.
