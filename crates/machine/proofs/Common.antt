@@ -26,5 +26,6 @@ unfoldable pub use Rattle.machine.specs.Machine.{is_awaited}
 pub use Rattle.machine.specs.Machine.{IsServed, MachineState}
 pub use Rattle.machine.specs.Serving.{Boards, Copies, Hands, HandsOne, IsShare, Knows, Learns}
 pub use Rattle.machine.specs.Serving.{LearnsOf, Makes, OthersStay, Pops, PopsOne, Runs, Still, Then}
-pub use Rattle.machine.specs.Serving.{Voids}
+pub use Rattle.machine.specs.Serving.{GivesUp, Voids, standing}
+pub use Rattle.machine.specs.Turn.{Stand, stand_of}
 pub use Rattle.machine.specs.declared.fault.MachineFault.{MachineFault}

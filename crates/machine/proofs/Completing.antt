@@ -8,17 +8,17 @@ use Rattle.disk.specs.declared.outbox_disk.Told.{Told}
 use Rattle.machine.specs.Ending.{HearsAnswer}
 use Rattle.machine.specs.Machine.{Completes, GoesOn, telling_board, turn_in, turn_of}
 use Rattle.machine.specs.Serving.{Hears}
-use Rattle.machine.specs.Turn.{TurnState}
+use Rattle.machine.specs.Turn.{Stand, TurnState, stand_of}
 use Rattle.machine.proofs.Others.{others_stay}
 use Rattle.machine.proofs.Runs.{runs_moves}
 
 pub completes : (told : Told) (m : MachineState) (b' new : Boards)
-    → b' ≡ telling_board told m.board → Hears b' new → Runs 0 [] b' [] new
+    → b' ≡ telling_board told m.board → Hears b' new → (s : Stand) → Runs 0 s b' s new
     → new.devices ≡ b'.devices → Completes told m (record m { board = new })
-completes told m b' new is hears runs devices = record {
+completes told m b' new is hears s runs devices = record {
   hears = subst (λ b. Hears b new) is hears;
   moves = subst (λ b. Moves outbox_state OutboxMakes (board_of b) (board_of new)) is
-      (runs_moves 0 [] [] b' new runs);
+      (runs_moves 0 s s b' new runs);
   devices = devices ∙ ap (λ b. b.devices) is;
   turns = refl;
   setups = refl;
@@ -26,16 +26,16 @@ completes told m b' new is hears runs devices = record {
 
 pub serves : (guest : ℕ) (m : MachineState) (turn turn' : TurnState) (new : Boards)
     → slice_get m.turns guest ≡ Some turn
-    → Runs guest turn.parts m.board turn'.parts new
+    → Runs guest (stand_of turn) m.board (stand_of turn') new
     → IsServed guest m (record m { board = new; turns = slice_set m.turns guest turn' })
 serves guest m turn turn' new its runs =
     let set = get_set_same m.turns guest turn turn' its in
     record {
-      runs = subst (λ o. Runs guest (turn_in o).parts m.board
-          (turn_in (slice_get (slice_set m.turns guest turn') guest)).parts new) (sym its)
-          (subst (λ o. Runs guest turn.parts m.board (turn_in o).parts new) (sym set) runs);
-      moves = runs_moves guest turn.parts turn'.parts m.board new runs;
-      others = others_stay guest turn.parts turn'.parts m.board new runs;
+      runs = subst (λ o. Runs guest (stand_of (turn_in o)) m.board
+          (stand_of (turn_in (slice_get (slice_set m.turns guest turn') guest))) new) (sym its)
+          (subst (λ o. Runs guest (stand_of turn) m.board (stand_of (turn_in o)) new) (sym set) runs);
+      moves = runs_moves guest (stand_of turn) (stand_of turn') m.board new runs;
+      others = others_stay guest (stand_of turn) (stand_of turn') m.board new runs;
       turns = λ k other. get_set_other m.turns guest k turn' other;
       setups = refl;
     }
@@ -57,18 +57,18 @@ serves_none guest m = record {
 -- a step more of the disk's work
 pub goes_more : (guest : ℕ) (a b c : Boards)
     → Moves outbox_state OutboxMakes (board_of a) (board_of b)
-    → Runs guest [] b [] c → Moves outbox_state OutboxMakes (board_of a) (board_of c)
-goes_more guest a b c moves runs =
+    → (s : Stand) → Runs guest s b s c → Moves outbox_state OutboxMakes (board_of a) (board_of c)
+goes_more guest a b c moves s runs =
     moves_twice outbox_state OutboxMakes (board_of a) (board_of b) (board_of c) moves
-    (runs_moves guest [] [] b c runs)
+    (runs_moves guest s s b c runs)
 
 pub hears : (guest : ℕ) (m : MachineState) (turn turn' : TurnState) (new : Boards) (there : Bool)
     (bytes : List ℕ) (now then : Type 0) → (now → then) → slice_get m.turns guest ≡ Some turn
-    → HearsAnswer guest turn.asked there bytes m.board turn'.parts new now
+    → HearsAnswer guest turn.asked there bytes m.board (stand_of turn') new now
     → HearsAnswer guest (turn_of m guest).asked there bytes m.board
-    (turn_in (slice_get (slice_set m.turns guest turn') guest)).parts new then
+    (stand_of (turn_in (slice_get (slice_set m.turns guest turn') guest))) new then
 hears guest m turn turn' new there bytes now then says its heard =
-    let told : HearsAnswer guest turn.asked there bytes m.board turn'.parts new then = record {
+    let told : HearsAnswer guest turn.asked there bytes m.board (stand_of turn') new then = record {
       heard = heard.heard;
       ok = heard.ok;
       takes = heard.takes;
@@ -77,6 +77,6 @@ hears guest m turn turn' new there bytes now then says its heard =
       runs = heard.runs;
     } in
     subst (λ o. HearsAnswer guest (turn_in o).asked there bytes m.board
-    (turn_in (slice_get (slice_set m.turns guest turn') guest)).parts new then) (sym its)
-    (subst (λ o. HearsAnswer guest turn.asked there bytes m.board (turn_in o).parts new then)
+    (stand_of (turn_in (slice_get (slice_set m.turns guest turn') guest))) new then) (sym its)
+    (subst (λ o. HearsAnswer guest turn.asked there bytes m.board (stand_of (turn_in o)) new then)
     (sym (get_set_same m.turns guest turn turn' its)) told)

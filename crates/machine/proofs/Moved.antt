@@ -1,7 +1,7 @@
 -- A board of which one device was moved.
-use Rattle.std.proofs.Common.{◌≡◌, refl, ap, sym, subst, ◌∙◌, ℕ, List, Some, None, Option, map, length}
+use Rattle.std.proofs.Common.{◌≡◌, refl, ap, sym, subst, ◌∙◌, ℕ, Bool, List, Some, None, Option, map, length}
 use Rattle.machine.proofs.Common.{slice_get, slice_set, AskingState, Boards, Knows, Range, Runs}
-use Rattle.machine.proofs.Common.{get_set_same}
+use Rattle.machine.proofs.Common.{get_set_same, Stand, standing}
 use Rattle.board.proofs.AskingSteps.{unseen}
 use Rattle.guest_memory.specs.declared.fault.MemFault.{MemFault}
 use Rattle.mmio_transport.specs.Asking.{after_told}
@@ -19,8 +19,9 @@ moved b guest d = record b { devices = slice_set b.devices guest d }
 
 module _ (guest : ℕ) (b : Boards) (d d' : AskingState)
     (its : slice_get b.devices guest ≡ Some d) where
-  pub moved_runs : (ps : List Range) → Learns d d' → Runs guest ps b ps (moved b guest d')
-  moved_runs ps learns = runs_knows guest ps b (moved b guest d') (record {
+  pub moved_runs : (ps : List Range) (g h : Bool) → Learns g d h d'
+      → Runs guest (standing ps g) b (standing ps h) (moved b guest d')
+  moved_runs ps g h learns = runs_knows guest ps g h b (moved b guest d') (record {
     device = d;
     its = its;
     device' = d';
@@ -43,12 +44,13 @@ module _ (guest : ℕ) (b : Boards) (d d' : AskingState)
       (ap (slice_set b.devices guest) same ∙ set_same b.devices guest d its)
 
   -- bytes were told, or there was no memory for them
-  pub told_runs : {X : Type 0} (ps : List Range) (at : ℕ) (bytes : List ℕ) (r : Result X MemFault)
+  pub told_runs : {X : Type 0} (s : Stand) (at : ℕ) (bytes : List ℕ) (r : Result X MemFault)
       → OnOk r (d' ≡ after_told d at bytes) → OnErr r (d' ≡ d)
-      → Runs guest ps b ps (moved b guest d')
-  told_runs ps at bytes (Ok x) ok err = moved_runs ps (Tells at bytes ok)
-  told_runs ps at bytes (Err e) ok err =
-      subst (λ v. Runs guest ps b ps v) (sym (moved_none err)) (Still ps b)
+      → Runs guest s b s (moved b guest d')
+  told_runs s at bytes (Ok x) ok err =
+      moved_runs s.parts s.going s.going (Tells s.going d d' at bytes ok)
+  told_runs s at bytes (Err e) ok err =
+      subst (λ v. Runs guest s b s v) (sym (moved_none err)) (Still s b)
 
   pub told_queues : {X : Type 0} (at : ℕ) (bytes : List ℕ) (r : Result X MemFault)
       → OnOk r (d' ≡ after_told d at bytes) → OnErr r (d' ≡ d) → QueuesStay b (moved b guest d')

@@ -6,6 +6,7 @@ use Rattle.machine.proofs.Common.{Done, Job, Tally, BoardState, Fault, Marks, Re
 use Rattle.machine.proofs.Common.{AdvancesUnder, Answer, CollectsInto, Does, GivesWhere, PopsInto}
 use Rattle.machine.proofs.Common.{SettlesBy, SubmitsFrom, TakesInto, Step, IsShare, Runs, Still}
 use Rattle.machine.proofs.Common.{Then, Pops, Hands, LearnsOf, Copies, Voids, Boards, Range, Knows}
+use Rattle.machine.proofs.Common.{GivesUp, Stand, standing}
 use Rattle.machine.proofs.Common.{HandsOne, OutboxMakes, OutboxState, outbox_state, board_of}
 use Rattle.machine.proofs.Common.{with_devices, get_set_other, OthersStay}
 use Rattle.board.specs.declared.step.Step.TheVariants as step
@@ -148,8 +149,9 @@ module _ (guest : ℕ) where
       settle_stays outbox_state OutboxMakes guest old answer new _ does
 
   -- a device that was moved alone, or with the reply in its place
-  known_stays : (a b : Boards) → Knows guest a b → OthersStay guest (board_of a) (board_of b)
-  known_stays a b knows =
+  known_stays : (g h : Bool) (a b : Boards) → Knows guest g a h b
+      → OthersStay guest (board_of a) (board_of b)
+  known_stays g h a b knows =
       let devices = map-set device_in a.devices guest knows.device' in
       subst (λ (v : BoardState OutboxState). OthersStay guest (board_of a) v)
       (sym (ap board_of knows.after ∙ ap (λ ds. with_devices ds a.rest) devices))
@@ -175,25 +177,27 @@ module _ (guest : ℕ) where
         intents = λ k other. refl;
       })
 
-  pub others_stay : (ps qs : List Range) (a b : Boards) → Runs guest ps a qs b
+  pub others_stay : (s t : Stand) (a b : Boards) → Runs guest s a t b
       → OthersStay guest (board_of a) (board_of b)
-  others_stay ps qs a b (Still r d) = stays_same outbox_state OutboxMakes guest (board_of d) (board_of d) refl
-  others_stay ps qs a b (Then q r x y z s answer runs share makes) =
+  others_stay s t a b (Still r d) =
+      stays_same outbox_state OutboxMakes guest (board_of d) (board_of d) refl
+  others_stay s t a b (Then q r x y z o answer runs share makes) =
       stays_twice outbox_state OutboxMakes guest (board_of x) (board_of y) (board_of z)
       (others_stay q r x y runs)
-      (one_stays s answer (board_of y) (board_of z) share makes.steps.does)
-  others_stay ps qs a b (Pops q r x y z answer runs pops) =
+      (one_stays o answer (board_of y) (board_of z) share makes.steps.does)
+  others_stay s t a b (Pops q r x y z answer runs pops) =
       stays_twice outbox_state OutboxMakes guest (board_of x) (board_of y) (board_of z)
-      (others_stay q [] x y runs)
+      (others_stay q (standing [] true) x y runs)
       (pop_stays outbox_state OutboxMakes guest (board_of y) answer (board_of z) _ _
       pops.makes.steps.does)
-  others_stay ps qs a b (Hands q r x y z runs hands) =
+  others_stay s t a b (Hands q r x y z runs hands) =
       stays_twice outbox_state OutboxMakes guest (board_of x) (board_of y) (board_of z)
-      (others_stay q [] x y runs) (hands_stay y z r hands)
-  others_stay ps qs a b (LearnsOf q r x y z runs knows) =
+      (others_stay q (standing [] true) x y runs) (hands_stay y z r hands)
+  others_stay s t a b (LearnsOf q r g h x y z runs knows) =
       stays_twice outbox_state OutboxMakes guest (board_of x) (board_of y) (board_of z)
-      (others_stay q r x y runs) (known_stays y z knows)
-  others_stay ps qs a b (Copies q r t x y runs) = others_stay q (t ∷ r) x y runs
-  others_stay ps qs a b (Voids q r x y z runs knows) =
+      (others_stay q (standing r g) x y runs) (known_stays g h y z knows)
+  others_stay s t a b (GivesUp q r g x y runs) = others_stay q (standing r g) x y runs
+  others_stay s t a b (Copies q r o g x y runs) = others_stay q (standing (o ∷ r) g) x y runs
+  others_stay s t a b (Voids q r g h x y z runs knows) =
       stays_twice outbox_state OutboxMakes guest (board_of x) (board_of y) (board_of z)
-      (others_stay q r x y runs) (known_stays y z knows)
+      (others_stay q (standing r g) x y runs) (known_stays g h y z knows)

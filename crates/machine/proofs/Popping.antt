@@ -5,7 +5,7 @@ use Rattle.std.proofs.Common.{arith, IfSome}
 use Rattle.machine.proofs.Common.{slice_get, slice_set, Answer, AskingState, BoardState, Boards}
 use Rattle.machine.proofs.Common.{DeviceState, HasNoJob, IsSound, Job, Makes, OutboxMakes, OutboxState}
 use Rattle.machine.proofs.Common.{Pops, PopsInto, PopsOne, Range, Runs, Still, board_of, get_set_same}
-use Rattle.machine.proofs.Common.{in_place, outbox_state, put}
+use Rattle.machine.proofs.Common.{in_place, outbox_state, put, GivesUp, Stand, standing}
 use Rattle.board.proofs.Common.{slice_get-get_or, length-map}
 use Rattle.mmio_transport.specs.declared.fault.DeviceFault.{DeviceFault}
 use Rattle.mmio_transport.specs.Popping.{GivesJob}
@@ -22,22 +22,33 @@ pub some_at : {X : Type 0} (xs : List X) (k : ℕ) → k < length xs
 some_at [] k below = absurd (omega (arith, below))
 some_at (y ∷ ys) k below = (get_or (y ∷ ys) k y, slice_get-get_or (y ∷ ys) k y below)
 
-pub still_by : (guest : ℕ) (ps : List Range) (b b' : Boards) → ps ≡ [] → b' ≡ b
-    → Runs guest [] b ps b'
-still_by guest ps b b' none same =
-    subst (λ qs. Runs guest [] b qs b') (sym none)
-    (subst (λ x. Runs guest [] b [] x) (sym same) (Still [] b))
+pub still_by : (guest : ℕ) (g : Bool) (t : Stand) (b b' : Boards) → t ≡ standing [] g → b' ≡ b
+    → Runs guest (standing [] g) b t b'
+still_by guest g t b b' none same =
+    subst (λ r. Runs guest (standing [] g) b r b') (sym none)
+    (subst (λ x. Runs guest (standing [] g) b (standing [] g) x) (sym same)
+    (Still (standing [] g) b))
 
-pub pops_by : (guest : ℕ) (ps : List Range) (answer : Answer) (b b' : Boards) (d : AskingState)
+-- a step that was begun is given up
+pub gives_up : (guest : ℕ) (s t : Stand) (b : Boards) → t.parts ≡ s.parts → t.going ≡ false
+    → Runs guest s b t b
+gives_up guest s t b same over =
+    subst (λ qs. Runs guest s b (standing qs t.going) b) (sym same)
+    (subst (λ h. Runs guest s b (standing s.parts h) b) (sym over)
+    (GivesUp s s.parts s.going b b (Still s b)))
+
+pub pops_by : (guest : ℕ) (t : Stand) (answer : Answer) (b b' : Boards) (d : AskingState)
     → slice_get b.devices guest ≡ Some d → Makes (step.Pop guest) answer b b'
-    → (ps ≡ pop_parts d.device) ⊎ ((ps ≡ []) × ((answer ≡ Ok Did) → ⊥))
-    → Runs guest [] b ps b'
-pops_by guest ps answer b b' d its makes parts = Pops [] ps b b b' answer (Still [] b) (record {
-  makes = makes;
-  device = d;
-  its = its;
-  parts_are = parts;
-})
+    → t.going ≡ false → (t.parts ≡ pop_parts d.device) ⊎ ((t.parts ≡ []) × ((answer ≡ Ok Did) → ⊥))
+    → Runs guest (standing [] true) b t b'
+pops_by guest t answer b b' d its makes over parts =
+    subst (λ h. Runs guest (standing [] true) b (standing t.parts h) b') (sym over)
+    (Pops (standing [] true) t.parts b b b' answer (Still (standing [] true) b) (record {
+      makes = makes;
+      device = d;
+      its = its;
+      parts_are = parts;
+    }))
 
 -- the parts that were noted of the guest's device
 pub noted_at : (o : Option AskingState) (d : AskingState) (ps qs : List Range) → o ≡ Some d

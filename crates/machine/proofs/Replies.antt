@@ -1,10 +1,11 @@
 -- What a reply that is handed to its device is to copy out.
 use Rattle.std.proofs.Common.{◌≡◌, ◌<◌, ◌≤◌, refl, ap, sym, subst, ◌∙◌, ℕ, ◌+◌, ◌-◌, List, [], ◌∷◌, ◌++◌}
-use Rattle.std.proofs.Common.{Option, Some, None, length, map, get_or, drop, IfSome}
+use Rattle.std.proofs.Common.{Option, Some, None, length, map, get_or, drop, IfSome, true, false}
 use Rattle.std.proofs.lemmas.List.{at_drop_all, drop_more}
 use Rattle.std.specs.Prelude.{option_map}
 use Rattle.machine.proofs.Common.{slice_get, AskingState, Boards, Done, Hands, HandsOne, HandsReply}
-use Rattle.machine.proofs.Common.{OutboxMakes, Range, Runs, Still, in_place, outbox_state}
+use Rattle.machine.proofs.Common.{OutboxMakes, Range, Runs, Stand, Still, in_place, outbox_state}
+use Rattle.machine.proofs.Common.{standing}
 use Rattle.board.proofs.Common.{append-nil, append_assoc, slice_get-map}
 use Rattle.mmio_transport.specs.Queue.{QueueState}
 use Rattle.mmio_transport.specs.Written.{queue_parts}
@@ -12,14 +13,16 @@ use Rattle.mmio_transport.specs.declared.done.Published.{Published}
 use Rattle.machine.specs.Serving.{IsNoted}
 use Rattle.machine.specs.Turn.{filled_part, filled_parts, reply_parts}
 
-pub hands_by : (guest : ℕ) (ps : List Range) (published : Published) (b b' : Boards)
-    (h : HandsReply outbox_state OutboxMakes guest published b b')
-    → ps ≡ reply_parts h.device.device h.done published → Runs guest [] b ps b'
-hands_by guest ps published b b' h parts = Hands [] ps b b b' (Still [] b) (record {
-  published = published;
-  hands = h;
-  parts_are = parts;
-})
+pub hands_by : (guest : ℕ) (t : Stand) (published : Published) (b b' : Boards)
+    (h : HandsReply outbox_state OutboxMakes guest published b b') → t.going ≡ false
+    → t.parts ≡ reply_parts h.device.device h.done published → Runs guest (standing [] true) b t b'
+hands_by guest t published b b' h over parts =
+    subst (λ v. Runs guest (standing [] true) b (standing t.parts v) b') (sym over)
+    (Hands (standing [] true) t.parts b b b' (Still (standing [] true) b) (record {
+      published = published;
+      hands = h;
+      parts_are = parts;
+    }))
 
 pub noted_reply : (guest : ℕ) (ps : List Range) (b : Boards) (d : AskingState) (done : Done)
     → IsNoted guest ps b → in_place (slice_get b.rest.dones guest) ≡ Some done

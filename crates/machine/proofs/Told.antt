@@ -13,7 +13,7 @@ use Rattle.machine.specs.Machine.{IsTold, NeedsOf, NoRoom, NoSuchGuest, OfBoard,
 use Rattle.machine.specs.Machine.{TellsOf, has_guest, turn_in, turn_of, waits_for_sync}
 use Rattle.machine.specs.declared.fault.MachineFault.TheVariants as fault
 use Rattle.machine.specs.Settings.{most_of}
-use Rattle.machine.specs.Turn.{TurnState}
+use Rattle.machine.specs.Turn.{Stand, TurnState, stand_of}
 use Rattle.machine.specs.declared.machine.Served.{Served}
 use Rattle.machine.specs.declared.machine.What.TheVariants as what
 use Rattle.machine.specs.declared.serving.Next.{Next}
@@ -21,15 +21,15 @@ use Rattle.machine.specs.declared.serving.Next.TheVariants as next
 use Rattle.machine.specs.declared.settings.Setup.{Setup}
 use Rattle.machine.specs.declared.turn.Asked.TheVariants as asked
 
-module _ (guest most : ℕ) (ps : List Range) (old : Boards) (turn : TurnState) (bytes : List ℕ)
+module _ (guest most : ℕ) (first : Stand) (old : Boards) (turn : TurnState) (bytes : List ℕ)
     (new : Boards) where
   -- what is needed was asked for
-  pub told_of : (n : Next) → NeedsNext guest most ps old turn.parts new (Some n)
+  pub told_of : (n : Next) → NeedsNext guest most first old (stand_of turn) new (Some n)
       → ((ask : Ask) → n ≡ next.Read ask → (ask.len ≤ 16384) × (turn.asked ≡ asked.Read ask))
       → ((part : Range) → n ≡ next.Write part → (turn.asked ≡ asked.Write)
       × IfSome (slice_get new.devices guest) (λ d.
       take part.len bytes ≡ bytes_at d.device.memory part.at part.len))
-      → NeedsTold guest most ps old turn bytes new n
+      → NeedsTold guest most first old turn bytes new n
   told_of next.Again needs read write = tt
   told_of (next.Read ask) needs read write =
       let r = read ask refl in (needs, r.0, r.1)
@@ -43,7 +43,7 @@ module _ (guest most : ℕ) (ps : List Range) (old : Boards) (turn : TurnState) 
 module _ (guest room : ℕ) (old new : MachineState) (w : Setup) (bytes : List ℕ)
     (setup : slice_get old.setups guest ≡ Some w) where
   pub needs_of : (n : Next) (s : Served) → IsTold n s
-      → NeedsTold guest (most_of w) (turn_of old guest).parts old.board (turn_of new guest) bytes
+      → NeedsTold guest (most_of w) (stand_of (turn_of old guest)) old.board (turn_of new guest) bytes
       new.board n → NeedsOf guest room s.what s bytes old new
   needs_of next.Again s told needs =
       subst (λ x. NeedsOf guest room x s bytes old new) (sym told.0) tt
@@ -147,7 +147,7 @@ module _ (m : MachineState) (guest : ℕ) where
   pub tells_of : (room most : ℕ) (w : Setup) (turn turn' : TurnState) (new : Boards)
       (bytes : List ℕ) (n : Next) (s : Served) → slice_get m.setups guest ≡ Some w
       → slice_get m.turns guest ≡ Some turn → has_guest m guest ≡ true → most ≡ most_of w
-      → IsTold n s → NeedsTold guest most turn.parts m.board turn' bytes new n
+      → IsTold n s → NeedsTold guest most (stand_of turn) m.board turn' bytes new n
       → s.sync ≡ waits_for_sync new.rest → s.waiting ≡ owes guest new.rest
       → TellsOf guest room s bytes m
       (record m { board = new; turns = slice_set m.turns guest turn' })
@@ -159,11 +159,11 @@ module _ (m : MachineState) (guest : ℕ) where
       } in
       record {
         needs = needs_of guest room m m' w bytes setup n s told
-            (subst (λ t. NeedsTold guest (most_of w) (turn_of m guest).parts m.board t bytes new n)
+            (subst (λ t. NeedsTold guest (most_of w) (stand_of (turn_of m guest)) m.board t bytes new n)
             (sym (ap turn_in (get_set_same m.turns guest turn turn' its)))
-            (subst (λ o. NeedsTold guest (most_of w) (turn_in o).parts m.board turn' bytes new n)
+            (subst (λ o. NeedsTold guest (most_of w) (stand_of (turn_in o)) m.board turn' bytes new n)
             (sym its)
-            (subst (λ k. NeedsTold guest k turn.parts m.board turn' bytes new n) limit needs)));
+            (subst (λ k. NeedsTold guest k (stand_of turn) m.board turn' bytes new n) limit needs)));
         sync = sync;
         waiting = waiting;
         absent = λ gone. absurd (let no = sym there ∙ gone in cc);

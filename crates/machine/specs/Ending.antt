@@ -20,10 +20,10 @@ use Rattle.board.specs.declared.step.Step.{Step}
 use Rattle.board.specs.declared.step.Step.TheVariants as step
 use Rattle.board.specs.declared.step.StepFault.{StepFault}
 use Rattle.board.specs.declared.step.StepFault.TheVariants as step_fault
-use Rattle.machine.specs.Serving.{Boards, HasNoReply, Makes, Runs}
+use Rattle.machine.specs.Serving.{Boards, HasNoReply, Makes, Runs, standing}
 use Rattle.machine.specs.declared.fault.MachineFault.{MachineFault}
 use Rattle.machine.specs.declared.fault.MachineFault.TheVariants as fault
-use Rattle.machine.specs.Turn.{TurnState}
+use Rattle.machine.specs.Turn.{Stand, TurnState, stand_of}
 use Rattle.machine.specs.declared.serving.Next.{Next}
 use Rattle.machine.specs.declared.serving.Next.TheVariants as next
 use Rattle.machine.specs.declared.taking.Taken.{Taken}
@@ -86,39 +86,39 @@ pub data HasReason (guest : ℕ) (f : MachineFault) : Type 0 where
 
 -- What is needed next, after steps from one board to another: the bytes that its device asks for;
 -- that the part which came first is copied out; or nothing, since the guest rests, or for a reason.
-abbrev pub NeedsNext : (guest most : ℕ) → List Range → Boards → List Range → Boards → Option Next
-    → Type 0
-NeedsNext guest most ps old qs new None = Unit {0}
-NeedsNext guest most ps old qs new (Some next.Again) = Unit {0}
-NeedsNext guest most ps old qs new (Some (next.Read ask)) = AsksIn guest ask new
-NeedsNext guest most ps old qs new (Some (next.Write part)) = Runs guest ps old (part ∷ qs) new
-NeedsNext guest most ps old qs new (Some next.Call) = Unit {0}
-NeedsNext guest most ps old qs new (Some (next.Rest None)) = RestsAt guest most new × (qs ≡ [])
-NeedsNext guest most ps old qs new (Some (next.Rest (Some f))) = HasReason guest f
+abbrev pub NeedsNext : (guest most : ℕ) → Stand → Boards → Stand → Boards → Option Next → Type 0
+NeedsNext guest most s old t new None = Unit {0}
+NeedsNext guest most s old t new (Some next.Again) = Unit {0}
+NeedsNext guest most s old t new (Some (next.Read ask)) = AsksIn guest ask new
+NeedsNext guest most s old t new (Some (next.Write part)) =
+    Runs guest s old (record t { parts = part ∷ t.parts }) new
+NeedsNext guest most s old t new (Some next.Call) = Unit {0}
+NeedsNext guest most s old t new (Some (next.Rest None)) = RestsAt guest most new × (t.parts ≡ [])
+NeedsNext guest most s old t new (Some (next.Rest (Some f))) = HasReason guest f
 
 -- A move of a serve, and what it needs next.
 pub record Went (guest most : ℕ) (turn turn' : TurnState) (old new : Boards) (n : Option Next)
     : Type 0 where
-  pub runs : Runs guest turn.parts old turn'.parts new
-  pub needs : NeedsNext guest most turn.parts old turn'.parts new n
+  pub runs : Runs guest (stand_of turn) old (stand_of turn') new
+  pub needs : NeedsNext guest most (stand_of turn) old (stand_of turn') new n
   pub count : length new.devices ≡ length old.devices
   pub asked : turn'.asked ≡ turn.asked
 
 -- What the monitor is asked for, with these bytes in what it lent: as what is needed, of which it
 -- is noted that it was asked for; at most 16,384 bytes are read, and those to be written stand first.
-abbrev pub NeedsTold : (guest most : ℕ) → List Range → Boards → TurnState → List ℕ → Boards → Next
+abbrev pub NeedsTold : (guest most : ℕ) → Stand → Boards → TurnState → List ℕ → Boards → Next
     → Type 0
-NeedsTold guest most ps old turn bytes new next.Again = Unit {0}
-NeedsTold guest most ps old turn bytes new (next.Read ask) =
+NeedsTold guest most s old turn bytes new next.Again = Unit {0}
+NeedsTold guest most s old turn bytes new (next.Read ask) =
     AsksIn guest ask new × (ask.len ≤ 16384) × (turn.asked ≡ asked.Read ask)
-NeedsTold guest most ps old turn bytes new (next.Write part) =
-    Runs guest ps old (part ∷ turn.parts) new × (turn.asked ≡ asked.Write)
+NeedsTold guest most s old turn bytes new (next.Write part) =
+    Runs guest s old (standing (part ∷ turn.parts) turn.going) new × (turn.asked ≡ asked.Write)
     × IfSome (slice_get new.devices guest) (λ d.
     take part.len bytes ≡ bytes_at d.device.memory part.at part.len)
-NeedsTold guest most ps old turn bytes new next.Call = Unit {0}
-NeedsTold guest most ps old turn bytes new (next.Rest None) =
+NeedsTold guest most s old turn bytes new next.Call = Unit {0}
+NeedsTold guest most s old turn bytes new (next.Rest None) =
     RestsAt guest most new × (turn.parts ≡ [])
-NeedsTold guest most ps old turn bytes new (next.Rest (Some f)) = HasReason guest f
+NeedsTold guest most s old turn bytes new (next.Rest (Some f)) = HasReason guest f
 
 -- The guest's device was told these bytes, and nothing else changed.
 pub record TellsIn (guest at : ℕ) (bytes : List ℕ) (old new : Boards) : Type 0 where
@@ -166,13 +166,13 @@ TakesAnswer guest (asked.Read ask) false bytes old ok new =
 -- The answer was taken first, and the guest's steps came behind it. Where there was no memory for it,
 -- that is told.
 pub record HearsAnswer (guest : ℕ) (a : Asked) (there : Bool) (bytes : List ℕ) (old : Boards)
-    (ps : List Range) (new : Boards) (told : Type 0) : Type 0 where
+    (s : Stand) (new : Boards) (told : Type 0) : Type 0 where
   pub heard : Boards
   pub ok : Bool
   pub takes : TakesAnswer guest a there bytes old ok heard
   pub full : ok ≡ false → told
-  pub left : List Range
-  pub runs : Runs guest left heard ps new
+  pub left : Stand
+  pub runs : Runs guest left heard s new
 
 -- it was refused, for a reason
 pub record IsRefused (guest : ℕ) (t : Taken) : Type 0 where

@@ -26,9 +26,9 @@ use Rattle.board.specs.State.{BoardState, owes}
 use Rattle.board.specs.Telling.{telling}
 use Rattle.board.specs.Moving.{Moves}
 use Rattle.machine.specs.Ending.{AsksIn, HasReason, RestsAt}
-use Rattle.machine.specs.Serving.{Boards, Hears, OthersStay, Runs}
+use Rattle.machine.specs.Serving.{Boards, Hears, OthersStay, Runs, standing}
 use Rattle.machine.specs.Settings.{device_after, most_of, value_shown, value_taken}
-use Rattle.machine.specs.Turn.{TurnState, fresh_turn}
+use Rattle.machine.specs.Turn.{TurnState, fresh_turn, stand_of}
 use Rattle.machine.specs.declared.fault.MachineFault.{MachineFault}
 use Rattle.machine.specs.declared.fault.MachineFault.TheVariants as fault
 use Rattle.machine.specs.declared.machine.Served.{Served}
@@ -108,7 +108,8 @@ turn_of m guest = turn_in (slice_get m.turns guest)
 -- each moment a stop leaves, of every guest, the partition after a prefix of its accepted requests,
 -- with all that was settled before; and of every other guest all stays.
 pub record IsServed (guest : ℕ) (old new : MachineState) : Type 0 where
-  pub runs : Runs guest (turn_of old guest).parts old.board (turn_of new guest).parts new.board
+  pub runs : Runs guest (stand_of (turn_of old guest)) old.board (stand_of (turn_of new guest))
+      new.board
   pub moves : Moves outbox_state OutboxMakes (board_of old.board) (board_of new.board)
   pub others : OthersStay guest (board_of old.board) (board_of new.board)
   pub turns : (k : ℕ) → k ≢ guest → slice_get new.turns k ≡ slice_get old.turns k
@@ -138,8 +139,8 @@ is_awaited b = waits_for_sync b && is_none b.store.disk.outbox.writes
 -- part that came first of those that are to be copied out
 pub record WritesOf (guest at len : ℕ) (bytes : List ℕ) (old new : MachineState) : Type 0 where
   pub part : Range
-  pub first : Runs guest (turn_of old guest).parts old.board (part ∷ (turn_of new guest).parts)
-      new.board
+  pub first : Runs guest (stand_of (turn_of old guest)) old.board
+      (standing (part ∷ (turn_of new guest).parts) (turn_of new guest).going) new.board
   pub is : (part.at ≡ at) × (part.len ≡ len)
   pub bytes_are : IfSome (slice_get new.board.devices guest) (λ d.
       take len bytes ≡ bytes_at d.device.memory at len)

@@ -1,6 +1,6 @@
 -- What serving a guest does to a board, in steps, and what it leaves of the other guests.
 use Rattle.std.specs.Prelude.{◌≡◌, ◌≢◌, ◌⊎◌, ℕ, Bool, List, [], ◌∷◌, slice_get}
-use Rattle.std.specs.Prelude.{slice_set, Some, None, Ok, true, IfSome, map, length, ◌++◌}
+use Rattle.std.specs.Prelude.{slice_set, Some, None, Ok, true, false, IfSome, map, length, ◌++◌}
 use Rattle.chains.specs.declared.range.Range.{Range}
 use Rattle.disk.specs.OutboxDisk.{OutboxMakes, OutboxState, outbox_state}
 use Rattle.mmio_transport.specs.Asking.{AskingState, Notifies, after_told, known}
@@ -15,7 +15,7 @@ use Rattle.board.specs.declared.step.Seen.TheVariants.{Did}
 use Rattle.board.specs.declared.step.Step.{Step}
 use Rattle.board.specs.declared.step.Step.TheVariants as step
 use Rattle.rpmb_book.specs.Book.{due_of}
-use Rattle.machine.specs.Turn.{filled_parts, pop_parts, reply_parts}
+use Rattle.machine.specs.Turn.{Stand, filled_parts, pop_parts, reply_parts}
 
 abbrev pub Boards : Type 0
 Boards = AskingBoardState OutboxState
@@ -54,26 +54,30 @@ IsShare guest (step.Give g) = g ≡ guest
 IsShare guest step.Advance = Unit {0}
 IsShare guest step.Settle = Unit {0}
 
--- What a device learns of its guest's memory, or does by itself: bytes were told; all copies are
--- forgotten; there is no memory where bytes were asked for, and it waits for a reset; or it saw
--- whether its driver is to be notified.
-pub data Learns (a a' : AskingState) : Type 0 where
-  Tells : (at : ℕ) (bytes : List ℕ) → a' ≡ after_told a at bytes → Learns a a'
-  Forgets : a' ≡ record a { held = kept (known a) } → Learns a a'
-  Refuses : a'
+-- What a device learns of its guest's memory, or does by itself: bytes were told; there is no memory
+-- where bytes were asked for, and it waits for a reset; all copies are forgotten, which begins a
+-- step of it; or in such a step, which is over then, it saw whether its driver is to be notified.
+pub data Learns : Bool → AskingState → Bool → AskingState → Type 0 where
+  Tells : (g : Bool) (a a' : AskingState) (at : ℕ) (bytes : List ℕ) → a' ≡ after_told a at bytes
+      → Learns g a g a'
+  Refuses : (g : Bool) (a a' : AskingState)
+      → a'
       ≡ record a {
         device = record a.device
             { registers = with_fault a.device.registers };
       }
-      → Learns a a'
-  Sees : (notify : Bool) → Notifies a (Ok notify) a' → Learns a a'
+      → Learns g a g a'
+  Forgets : (g : Bool) (a a' : AskingState) → a' ≡ record a { held = kept (known a) }
+      → Learns g a true a'
+  Sees : (a a' : AskingState) (notify : Bool) → Notifies a (Ok notify) a' → Learns true a false a'
 
 -- The guest's device learned something, and nothing else changed.
-pub record Knows (guest : ℕ) (old new : Boards) : Type 0 where
+pub record Knows (guest : ℕ) (going : Bool) (old : Boards) (going' : Bool) (new : Boards)
+    : Type 0 where
   pub device : AskingState
   pub its : slice_get old.devices guest ≡ Some device
   pub device' : AskingState
-  pub learns : Learns device device'
+  pub learns : Learns going device going' device'
   pub after : new ≡ record old { devices = slice_set old.devices guest device' }
 
 -- The guest's device popped: what it wrote is to be copied out, unless it found no chain and that
@@ -92,25 +96,33 @@ pub record HandsOne (guest : ℕ) (old : Boards) (parts : List Range) (new : Boa
   pub hands : HandsReply outbox_state OutboxMakes guest published old new
   pub parts_are : parts ≡ reply_parts hands.device.device hands.done published
 
+-- parts that are left to be copied out, and whether a step of the device was begun
+abbrev pub standing : List Range → Bool → Stand
+standing parts going = record { parts = parts; going = going }
+
 -- The guest's steps, one after another, from one board to the other, with what is to be copied out
--- into guest memory before and behind them.
-pub data Runs (guest : ℕ) : List Range → Boards → List Range → Boards → Type 0 where
-  Still : (ps : List Range) (b : Boards) → Runs guest ps b ps b
-  Then : (ps qs : List Range) (a b c : Boards) (s : Step) (answer : Answer)
-      → Runs guest ps a qs b → IsShare guest s → Makes s answer b c → Runs guest ps a qs c
+-- into guest memory before and behind them. A step of its device is made only once it was begun: so
+-- it believes nothing that was told for the step before it.
+pub data Runs (guest : ℕ) : Stand → Boards → Stand → Boards → Type 0 where
+  Still : (s : Stand) (b : Boards) → Runs guest s b s b
+  Then : (s t : Stand) (a b c : Boards) (x : Step) (answer : Answer)
+      → Runs guest s a t b → IsShare guest x → Makes x answer b c → Runs guest s a t c
   -- the device steps only once all that it wrote before is in guest memory
-  Pops : (ps qs : List Range) (a b c : Boards) (answer : Answer)
-      → Runs guest ps a [] b → PopsOne guest answer b qs c → Runs guest ps a qs c
-  Hands : (ps qs : List Range) (a b c : Boards)
-      → Runs guest ps a [] b → HandsOne guest b qs c → Runs guest ps a qs c
-  LearnsOf : (ps qs : List Range) (a b c : Boards)
-      → Runs guest ps a qs b → Knows guest b c → Runs guest ps a qs c
+  Pops : (s : Stand) (qs : List Range) (a b c : Boards) (answer : Answer)
+      → Runs guest s a (standing [] true) b → PopsOne guest answer b qs c → Runs guest s a (standing qs false) c
+  Hands : (s : Stand) (qs : List Range) (a b c : Boards)
+      → Runs guest s a (standing [] true) b → HandsOne guest b qs c → Runs guest s a (standing qs false) c
+  LearnsOf : (s : Stand) (qs : List Range) (g h : Bool) (a b c : Boards)
+      → Runs guest s a (standing qs g) b → Knows guest g b h c → Runs guest s a (standing qs h) c
+  -- a step that was begun is given up
+  GivesUp : (s : Stand) (qs : List Range) (g : Bool) (a b : Boards)
+      → Runs guest s a (standing qs g) b → Runs guest s a (standing qs false) b
   -- the next part was given to be copied out
-  Copies : (ps qs : List Range) (q : Range) (a b : Boards)
-      → Runs guest ps a (q ∷ qs) b → Runs guest ps a qs b
+  Copies : (s : Stand) (qs : List Range) (q : Range) (g : Bool) (a b : Boards)
+      → Runs guest s a (standing (q ∷ qs) g) b → Runs guest s a (standing qs g) b
   -- there is no memory where a part was to be copied out: what is left of it is void
-  Voids : (ps qs : List Range) (a b c : Boards)
-      → Runs guest ps a qs b → Knows guest b c → Runs guest ps a [] c
+  Voids : (s : Stand) (qs : List Range) (g h : Bool) (a b c : Boards)
+      → Runs guest s a (standing qs g) b → Knows guest g b h c → Runs guest s a (standing [] h) c
 
 -- of every other guest the device stays, and what lies between two steps
 pub record OthersStay {D : Type 0} (guest : ℕ) (old new : BoardState D) : Type 0 where

@@ -35,6 +35,15 @@ fresh_turn = record {
   parts = [];
 }
 
+-- Where a guest's steps stand: what isn't in its memory yet; and whether a step of its device was
+-- begun, so that all of which it has a copy was told for that step.
+pub record Stand : Type 0 where
+  pub parts : List Range
+  pub going : Bool
+
+abbrev pub stand_of : TurnState → Stand
+stand_of turn = record { parts = turn.parts; going = turn.going }
+
 -- what is done next stays, and what was asked for
 abbrev pub KeepsStage : TurnState → TurnState → Type 0
 KeepsStage old new = (new.stage ≡ old.stage) × (new.asked ≡ old.asked)

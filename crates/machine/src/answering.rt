@@ -6,6 +6,7 @@ ghost use Rattle.guest_memory.specs.Memory.{IsInside, bytes_at};
 ghost use Rattle.guest_memory.specs.declared.ask.Ask.{Ask};
 ghost use Rattle.machine.specs.Ending.{HearsAnswer, NeedsTold, RefusesIn, TakesAnswer, TellsIn};
 ghost use Rattle.machine.specs.Serving.{Runs};
+ghost use Rattle.machine.specs.Turn.{Stand, stand_of};
 ghost use Rattle.machine.specs.declared.turn.Asked.TheVariants as asked_of;
 
 use crate::fault::MachineFault;
@@ -23,7 +24,7 @@ pub(crate) const LARGEST_PART: usize = 16_384;
 /// a reset.
 fn refuse(board: &mut AskingBoard<OutboxDisk>, guest: u16, turn: &mut Turn)
     requires { guest < length board.old.devices }
-    ensures runs { (ps : List Part) → Runs guest ps board.old [] board.new }
+    ensures runs { (s : Stand) → Runs guest s board.old (record s { parts = [] }) board.new }
     ensures count { length board.new.devices ≡ length board.old.devices }
     ensures turn { turn.new ≡ record turn.old { parts = [] } }
     ensures refuses { RefusesIn guest board.old board.new }
@@ -40,7 +41,7 @@ fn told(
     bytes: &[u8],
 ) -> Result<(), MemFault>
     requires { guest < length board.old.devices }
-    ensures runs { (ps : List Part) → Runs guest ps board.old ps board.new }
+    ensures runs { (s : Stand) → Runs guest s board.old s board.new }
     ensures count { length board.new.devices ≡ length board.old.devices }
     ensures told { OnOk result (TellsIn guest ask.at (take ask.len bytes.now) board.old board.new) }
     ensures same { OnErr result (board.new ≡ board.old) }
@@ -64,7 +65,7 @@ fn answer(
     bytes: &[u8],
 ) -> bool
     requires { guest < length board.old.devices }
-    ensures runs { Runs guest turn.old.parts board.old turn.new.parts board.new }
+    ensures runs { Runs guest (stand_of turn.old) board.old (stand_of turn.new) board.new }
     ensures count { length board.new.devices ≡ length board.old.devices }
     ensures takes { TakesAnswer guest turn.old.asked is_there bytes.now board.old result board.new }
 {
@@ -121,9 +122,9 @@ fn need(
     out: &mut [u8],
 ) -> Next
     requires { guest < length board.old.devices }
-    ensures runs { Runs guest turn.old.parts board.old turn.new.parts board.new }
+    ensures runs { Runs guest (stand_of turn.old) board.old (stand_of turn.new) board.new }
     ensures same { (result ≡ next) ⊎ (result ≡ Next.Again) }
-    ensures board { result ≡ next → (board.new ≡ board.old) × (turn.new.parts ≡ turn.old.parts) }
+    ensures board { result ≡ next → (board.new ≡ board.old) × (stand_of turn.new ≡ stand_of turn.old) }
     ensures read { (wanted : Ask) → result ≡ Next.Read wanted
         → (wanted.len ≤ 16384) × (turn.new.asked ≡ asked_of.Read wanted) }
     ensures write { (part : Part) → result ≡ Next.Write part
@@ -163,10 +164,10 @@ pub(crate) fn serve_turn(
     bytes: &mut [u8],
 ) -> Next
     requires { guest < length board.old.devices }
-    ensures runs { Runs guest turn.old.parts board.old turn.new.parts board.new }
-    ensures needs { NeedsTold guest most turn.old.parts board.old turn.new bytes.new board.new
+    ensures runs { Runs guest (stand_of turn.old) board.old (stand_of turn.new) board.new }
+    ensures needs { NeedsTold guest most (stand_of turn.old) board.old turn.new bytes.new board.new
         result }
-    ensures heard { HearsAnswer guest turn.old.asked is_there bytes.old board.old turn.new.parts
+    ensures heard { HearsAnswer guest turn.old.asked is_there bytes.old board.old (stand_of turn.new)
         board.new (result ≡ Next.Rest (Some MachineFault.NoMemory)) }
 {
     if !answer(board, guest, turn, is_there, bytes) {

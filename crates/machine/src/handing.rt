@@ -2,6 +2,7 @@
 ghost use Rattle.std.specs.Prelude.{◌≡◌, ℕ, List};
 ghost use Rattle.chains.specs.declared.range.Range.{Range as Part};
 ghost use Rattle.machine.specs.Serving.{Hears, Runs};
+ghost use Rattle.machine.specs.Turn.{Stand};
 
 use board::AskingBoard;
 use disk::{MOST_WRITES, OutboxDisk};
@@ -14,7 +15,7 @@ const MOST_RECORDS: u32 = 3;
 /// Hands what was accepted of the guest to the store, up to four requests a record, while it takes
 /// more.
 pub(crate) fn hand_in(board: &mut AskingBoard<OutboxDisk>, guest: u16)
-    ensures runs { (ps : List Part) → Runs guest ps board.old ps board.new }
+    ensures runs { (s : Stand) → Runs guest s board.old s board.new }
     ensures jobs { board.new.rest.jobs ≡ board.old.rest.jobs }
     ensures devices { board.new.devices ≡ board.old.devices }
 {
@@ -29,7 +30,7 @@ pub(crate) fn hand_in(board: &mut AskingBoard<OutboxDisk>, guest: u16)
 /// Makes the next call where it is a write, and the outbox has room for the largest. Whether it
 /// was made.
 fn write_next(board: &mut AskingBoard<OutboxDisk>) -> bool
-    ensures runs { (guest : ℕ) (ps : List Part) → Runs guest ps board.old ps board.new }
+    ensures runs { (guest : ℕ) (s : Stand) → Runs guest s board.old s board.new }
     ensures jobs { board.new.rest.jobs ≡ board.old.rest.jobs }
     ensures devices { board.new.devices ≡ board.old.devices }
 {
@@ -46,7 +47,7 @@ fn write_next(board: &mut AskingBoard<OutboxDisk>) -> bool
 
 /// Makes writes while they come next and have room.
 fn write_all(board: &mut AskingBoard<OutboxDisk>)
-    ensures runs { (guest : ℕ) (ps : List Part) → Runs guest ps board.old ps board.new }
+    ensures runs { (guest : ℕ) (s : Stand) → Runs guest s board.old s board.new }
     ensures jobs { board.new.rest.jobs ≡ board.old.rest.jobs }
     ensures devices { board.new.devices ≡ board.old.devices }
 {
@@ -59,7 +60,7 @@ fn write_all(board: &mut AskingBoard<OutboxDisk>)
 
 /// Makes writes while they come next and have room. A failure is told to the book.
 pub(crate) fn write_out(board: &mut AskingBoard<OutboxDisk>)
-    ensures runs { (guest : ℕ) (ps : List Part) → Runs guest ps board.old ps board.new }
+    ensures runs { (guest : ℕ) (s : Stand) → Runs guest s board.old s board.new }
     ensures jobs { board.new.rest.jobs ≡ board.old.rest.jobs }
     ensures devices { board.new.devices ≡ board.old.devices }
 {
@@ -69,7 +70,7 @@ pub(crate) fn write_out(board: &mut AskingBoard<OutboxDisk>)
 
 /// Makes the call that comes next, and tells the book what came of it.
 pub(crate) fn go_on(board: &mut AskingBoard<OutboxDisk>)
-    ensures runs { (guest : ℕ) (ps : List Part) → Runs guest ps board.old ps board.new }
+    ensures runs { (guest : ℕ) (s : Stand) → Runs guest s board.old s board.new }
     ensures hears { Hears board.old board.new }
     ensures devices { board.new.devices ≡ board.old.devices }
 {

@@ -5,7 +5,8 @@ ghost use Rattle.guest_memory.specs.declared.ask.Ask.{Ask};
 ghost use Rattle.mmio_transport.specs.Written.{range_in};
 ghost use Rattle.machine.specs.Ending.{AsksIn};
 ghost use Rattle.machine.specs.Serving.{HasNoReply, IsNoted, QueuesStay, Runs, SameDevices};
-ghost use Rattle.machine.specs.Turn.{KeepsStage, filled_part, filled_parts};
+ghost use Rattle.machine.specs.Serving.{standing};
+ghost use Rattle.machine.specs.Turn.{KeepsStage, Stand, stand_of, filled_part, filled_parts};
 
 use crate::taking::begin;
 use crate::turn::Turn;
@@ -97,7 +98,7 @@ fn note_reply(board: &AskingBoard<OutboxDisk>, guest: u16, turn: &mut Turn) -> b
 /// nothing to it. Whether there was memory for them.
 fn tell_zeros(board: &mut AskingBoard<OutboxDisk>, guest: u16, turn: &Turn) -> bool
     requires { guest < length board.old.devices }
-    ensures runs { (ps : List Part) → Runs guest ps board.old ps board.new }
+    ensures runs { (s : Stand) → Runs guest s board.old s board.new }
     ensures rest { board.new.rest ≡ board.old.rest }
     ensures queues { QueuesStay board.old board.new }
     ensures count { length board.new.devices ≡ length board.old.devices }
@@ -116,7 +117,9 @@ fn tell_zeros(board: &mut AskingBoard<OutboxDisk>, guest: u16, turn: &Turn) -> b
 fn prepare(board: &mut AskingBoard<OutboxDisk>, guest: u16, turn: &mut Turn) -> bool
     requires parts { turn.old.parts ≡ [] }
     requires guest { guest < length board.old.devices }
-    ensures runs { (ps : List Part) → Runs guest ps board.old ps board.new }
+    ensures runs { (ps : List Part) → Runs guest (standing ps turn.old.going) board.old
+        (standing ps turn.new.going) board.new }
+    ensures begun { result ≡ true → turn.new.going ≡ true }
     ensures rest { board.new.rest ≡ board.old.rest }
     ensures noted { result ≡ true → IsNoted guest turn.new.parts board.new }
     ensures idle { result ≡ false → turn.new.parts ≡ [] }
@@ -137,8 +140,9 @@ fn prepare(board: &mut AskingBoard<OutboxDisk>, guest: u16, turn: &mut Turn) -> 
 
 /// Hands the reply in its place to its device.
 fn publish(board: &mut AskingBoard<OutboxDisk>, guest: u16, turn: &mut Turn) -> Left
-    requires { IsNoted guest turn.old.parts board.old }
-    ensures runs { Runs guest [] board.old turn.new.parts board.new }
+    requires noted { IsNoted guest turn.old.parts board.old }
+    requires begun { turn.old.going ≡ true }
+    ensures runs { Runs guest (standing [] true) board.old (stand_of turn.new) board.new }
     ensures idle { result ≢ Left.Did → turn.new.parts ≡ [] }
     ensures asks { (ask : Ask) → result ≡ Left.Asks ask → AsksIn guest ask board.new }
     ensures either { (result ≢ Left.Nothing) × (result ≢ Left.NoMemory) }
@@ -169,7 +173,8 @@ fn publish(board: &mut AskingBoard<OutboxDisk>, guest: u16, turn: &mut Turn) -> 
 pub(crate) fn leave_one(board: &mut AskingBoard<OutboxDisk>, guest: u16, turn: &mut Turn) -> Left
     requires parts { turn.old.parts ≡ [] }
     requires guest { guest < length board.old.devices }
-    ensures runs { Runs guest [] board.old turn.new.parts board.new }
+    ensures runs { Runs guest (standing [] turn.old.going) board.old (stand_of turn.new)
+        board.new }
     ensures idle { result ≢ Left.Did → turn.new.parts ≡ [] }
     ensures asks { (ask : Ask) → result ≡ Left.Asks ask → AsksIn guest ask board.new }
     ensures nothing { result ≡ Left.Nothing → HasNoReply guest board.new.rest

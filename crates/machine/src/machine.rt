@@ -168,7 +168,7 @@ impl Machine {
         // What was read is what the device believes.
         ensures heard { has_guest self.old guest ≡ true → 16384 ≤ length bytes.old
             → HearsAnswer guest (turn_of self.old guest).asked is_there bytes.old self.old.board
-            (turn_of self.new guest).parts self.new.board (result.fault ≡ Some MachineFault.NoMemory) }
+            (stand_of (turn_of self.new guest)) self.new.board (result.fault ≡ Some MachineFault.NoMemory) }
     {
         let at = usize::from(guest);
         if at >= self.setups.len() || at >= self.turns.len() || at >= self.board.guests() {

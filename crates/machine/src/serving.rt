@@ -6,7 +6,7 @@ ghost use Rattle.guest_memory.specs.declared.ask.Ask.{Ask};
 ghost use Rattle.flusher.specs.Store.{next_call};
 ghost use Rattle.board.specs.State.{HasNoJob, waiting};
 ghost use Rattle.machine.specs.Ending.{AsksIn, FindsNone, HasReason, RestsAt, Went, is_write};
-ghost use Rattle.machine.specs.Serving.{HasNoReply, Runs, SameDevices};
+ghost use Rattle.machine.specs.Serving.{HasNoReply, Runs, SameDevices, standing};
 ghost use Rattle.machine.specs.Turn.{KeepsStage};
 ghost use Rattle.machine.specs.declared.fault.MachineFault.{MachineFault};
 ghost use Rattle.machine.specs.declared.taking.Taken.TheVariants as taken_as;
@@ -43,7 +43,8 @@ pub(crate) enum Next {
 /// Sees whether the driver is to be notified of the replies that left. `None` where it isn't.
 fn notify(board: &mut AskingBoard<OutboxDisk>, guest: u16, turn: &mut Turn) -> Option<Next>
     requires { guest < length board.old.devices }
-    ensures runs { (ps : List Part) → Runs guest ps board.old ps board.new }
+    ensures runs { (ps : List Part) → Runs guest (standing ps turn.old.going) board.old
+        (standing ps turn.new.going) board.new }
     ensures rest { board.new.rest ≡ board.old.rest }
     ensures parts { turn.new.parts ≡ turn.old.parts }
     ensures asks { (ask : Ask) → result ≡ Some (Next.Read ask) → AsksIn guest ask board.new }

@@ -5,8 +5,8 @@ ghost use Rattle.chains.specs.declared.range.Range.{Range as Part};
 ghost use Rattle.guest_memory.specs.declared.ask.Ask.{Ask};
 ghost use Rattle.board.specs.State.{HasNoJob};
 ghost use Rattle.machine.specs.Ending.{AsksIn, FindsNone, HasReason, IsRefused};
-ghost use Rattle.machine.specs.Serving.{HasNoCopy, Runs, SameDevices};
-ghost use Rattle.machine.specs.Turn.{KeepsStage, pop_parts};
+ghost use Rattle.machine.specs.Serving.{HasNoCopy, Runs, SameDevices, standing};
+ghost use Rattle.machine.specs.Turn.{KeepsStage, Stand, pop_parts, stand_of};
 ghost use Rattle.machine.specs.declared.fault.MachineFault.{MachineFault};
 
 use crate::fault::MachineFault;
@@ -37,7 +37,8 @@ pub(crate) enum Taken {
 /// Begins a step of the guest's device, where none was begun: what there is a copy of is forgotten.
 pub(crate) fn begin(board: &mut AskingBoard<OutboxDisk>, guest: u16, turn: &mut Turn)
     requires { guest < length board.old.devices }
-    ensures runs { (ps : List Part) → Runs guest ps board.old ps board.new }
+    ensures runs { (ps : List Part) → Runs guest (standing ps turn.old.going) board.old
+        (standing ps true) board.new }
     ensures rest { board.new.rest ≡ board.old.rest }
     ensures devices { SameDevices board.old board.new }
     ensures count { length board.new.devices ≡ length board.old.devices }
@@ -109,7 +110,8 @@ fn pop(board: &mut AskingBoard<OutboxDisk>, guest: u16, turn: &mut Turn) -> Take
     requires parts { turn.old.parts ≡ [] }
     requires job { HasNoJob guest board.old.rest }
     requires guest { guest < length board.old.devices }
-    ensures runs { Runs guest [] board.old turn.new.parts board.new }
+    requires begun { turn.old.going ≡ true }
+    ensures runs { Runs guest (standing [] true) board.old (stand_of turn.new) board.new }
     ensures idle { result ≢ Taken.Did → turn.new.parts ≡ [] }
     ensures asks { (ask : Ask) → result ≡ Taken.Asks ask → AsksIn guest ask board.new }
     ensures none { result ≡ Taken.Nothing
@@ -152,7 +154,8 @@ fn look(board: &mut AskingBoard<OutboxDisk>, guest: u16, turn: &mut Turn) -> Tak
     requires parts { turn.old.parts ≡ [] }
     requires job { HasNoJob guest board.old.rest }
     requires guest { guest < length board.old.devices }
-    ensures runs { Runs guest [] board.old turn.new.parts board.new }
+    ensures runs { Runs guest (standing [] turn.old.going) board.old (stand_of turn.new)
+        board.new }
     ensures idle { result ≢ Taken.Did → turn.new.parts ≡ [] }
     ensures asks { (ask : Ask) → result ≡ Taken.Asks ask → AsksIn guest ask board.new }
     ensures none { result ≡ Taken.Nothing
@@ -177,7 +180,7 @@ fn look(board: &mut AskingBoard<OutboxDisk>, guest: u16, turn: &mut Turn) -> Tak
 
 /// Has the book answer the chain that was popped.
 fn submit(board: &mut AskingBoard<OutboxDisk>, guest: u16) -> Taken
-    ensures runs { (ps : List Part) → Runs guest ps board.old ps board.new }
+    ensures runs { (s : Stand) → Runs guest s board.old s board.new }
     ensures either { (result ≡ Taken.Did) ⊎ IsRefused guest result }
     ensures devices { board.new.devices ≡ board.old.devices }
 {
@@ -197,7 +200,8 @@ pub(crate) fn take_one(
 ) -> Taken
     requires parts { turn.old.parts ≡ [] }
     requires guest { guest < length board.old.devices }
-    ensures runs { Runs guest [] board.old turn.new.parts board.new }
+    ensures runs { Runs guest (standing [] turn.old.going) board.old (stand_of turn.new)
+        board.new }
     ensures idle { result ≢ Taken.Did → turn.new.parts ≡ [] }
     ensures asks { (ask : Ask) → result ≡ Taken.Asks ask → AsksIn guest ask board.new }
     ensures none { result ≡ Taken.Nothing

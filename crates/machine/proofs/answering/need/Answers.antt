@@ -1,23 +1,23 @@
 use Rattle.std.proofs.Common.{ap}
-use Rattle.machine.proofs.Common.{Still}
+use Rattle.machine.proofs.Common.{Still, stand_of}
 use Rattle.machine.proofs.Runs.{still_same}
 use Rattle.machine.proofs.answering.need.Goals as goal
 
 pub returns-else-wanted-clause-runs : goal.returns-else-wanted-clause-runs
 returns-else-wanted-clause-runs c =
-    still_same c.args.guest c.args.turn.now.parts _ c.args.board.now
-    (ap (λ t. t.parts) c.turn.view_is)
+    still_same c.args.guest (stand_of c.args.turn.now) _ c.args.board.now
+    (ap stand_of c.turn.view_is)
 
 pub returns-else-not-copy_part-clause-runs : goal.returns-else-not-copy_part-clause-runs
 returns-else-not-copy_part-clause-runs c =
-    still_same c.args.guest c.args.turn.now.parts _ c.args.board.now
-    (ap (λ t. t.parts) c.turn-in-Write.view_is)
+    still_same c.args.guest (stand_of c.args.turn.now) _ c.args.board.now
+    (ap stand_of c.turn-in-Write.view_is)
 
 pub returns-in-Again-clause-runs : goal.returns-in-Again-clause-runs
-returns-in-Again-clause-runs c = Still c.args.turn.now.parts c.args.board.now
+returns-in-Again-clause-runs c = Still (stand_of c.args.turn.now) c.args.board.now
 
 pub returns-in-Call-clause-runs : goal.returns-in-Call-clause-runs
-returns-in-Call-clause-runs c = Still c.args.turn.now.parts c.args.board.now
+returns-in-Call-clause-runs c = Still (stand_of c.args.turn.now) c.args.board.now
 
 pub returns-in-Rest-clause-runs : goal.returns-in-Rest-clause-runs
-returns-in-Rest-clause-runs c = Still c.args.turn.now.parts c.args.board.now
+returns-in-Rest-clause-runs c = Still (stand_of c.args.turn.now) c.args.board.now

@@ -5,14 +5,15 @@ use Rattle.machine.proofs.Moved.{moved}
 use Rattle.machine.proofs.answering.refuse.Goals as goal
 
 pub returns-clause-runs : goal.returns-clause-runs
-returns-clause-runs c ps =
+returns-clause-runs c s =
     let b = c.args.board.now in
-    let b' = moved b c.args.guest c.refuse.new.self in
-    Voids ps ps b b b' (Still ps b) (record {
-      device = c.device.result.now;
+    let d = c.device.result.now in
+    let d' = c.refuse.new.self in
+    Voids s s.parts s.going s.going b b (moved b c.args.guest d') (Still s b) (record {
+      device = d;
       its = c.device.ensures.device;
-      device' = c.refuse.new.self;
-      learns = Refuses c.refuse.ensures;
+      device' = d';
+      learns = Refuses s.going d d' c.refuse.ensures;
       after = refl;
     })
 

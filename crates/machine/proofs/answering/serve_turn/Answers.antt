@@ -1,5 +1,5 @@
 use Rattle.std.proofs.Common.{◌≡◌, inl, inr, refl, ap, sym, subst, ◌∙◌, Some}
-use Rattle.machine.proofs.Common.{Runs}
+use Rattle.machine.proofs.Common.{Runs, stand_of}
 use Rattle.machine.specs.Ending.{Lacks, NeedsNext, NeedsTold}
 use Rattle.machine.proofs.Goings.{needs_after}
 use Rattle.machine.proofs.Runs.{runs_twice}
@@ -16,11 +16,12 @@ returns-clause-runs c =
     let b = c.answer.new.board in
     let d = c.serve-next.new.board in
     let e = c.need.new.board in
-    let t0 = c.args.turn.now.parts in
-    let t1 = c.answer.new.turn.parts in
-    let t2 = c.serve-next.new.turn.parts in
-    runs_twice g t0 t1 c.need.new.turn.parts a b e c.answer.ensures.runs
-    (runs_twice g t1 t2 c.need.new.turn.parts b d e c.serve-next.ensures.went.runs
+    let t0 = stand_of c.args.turn.now in
+    let t1 = stand_of c.answer.new.turn in
+    let t2 = stand_of c.serve-next.new.turn in
+    let t3 = stand_of c.need.new.turn in
+    runs_twice g t0 t1 t3 a b e c.answer.ensures.runs
+    (runs_twice g t1 t2 t3 b d e c.serve-next.ensures.went.runs
     c.need.ensures.runs)
 
 pub returns-clause-needs : goal.returns-clause-needs
@@ -31,16 +32,16 @@ returns-clause-needs c =
     let b = c.answer.new.board in
     let d = c.serve-next.new.board in
     let e = c.need.new.board in
-    let t0 = c.args.turn.now.parts in
-    let t1 = c.answer.new.turn.parts in
-    let t2 = c.serve-next.new.turn.parts in
+    let t0 = stand_of c.args.turn.now in
+    let t1 = stand_of c.answer.new.turn in
+    let t2 = stand_of c.serve-next.new.turn in
     let t = c.need.new.turn in
     let n = c.need.ensures in
     elim n.same [
       | inl same ↦
           (let stays = n.board same in
           told_of g m t0 a t c.need.new.out e c.need.result
-          (subst (λ r. NeedsNext g m t0 a t.parts e (Some r)) (sym same)
+          (subst (λ r. NeedsNext g m t0 a (stand_of t) e (Some r)) (sym same)
           (subst (λ qs. NeedsNext g m t0 a qs e (Some c.serve-next.result)) (sym stays.1)
           (subst (λ x. NeedsNext g m t0 a t2 x (Some c.serve-next.result)) (sym stays.0)
           (needs_after g m t0 t1 t2 a b d (Some c.serve-next.result) c.answer.ensures.runs
@@ -53,9 +54,9 @@ returns-clause-heard c = record {
   heard = c.answer.new.board;
   ok = c.answer.result;
   takes = c.answer.ensures.takes;
-  left = c.answer.new.turn.parts;
+  left = stand_of c.answer.new.turn;
   full = λ no. absurd (let there = c.if-not-answer.false in let not_ = no in cc);
-  runs = runs_twice c.args.guest c.answer.new.turn.parts c.serve-next.new.turn.parts
-      c.need.new.turn.parts c.answer.new.board c.serve-next.new.board c.need.new.board
+  runs = runs_twice c.args.guest (stand_of c.answer.new.turn) (stand_of c.serve-next.new.turn)
+      (stand_of c.need.new.turn) c.answer.new.board c.serve-next.new.board c.need.new.board
       c.serve-next.ensures.went.runs c.need.ensures.runs;
 }

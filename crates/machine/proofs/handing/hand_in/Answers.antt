@@ -1,5 +1,5 @@
-use Rattle.std.proofs.Common.{◌≡◌, refl, ◌∙◌, List}
-use Rattle.machine.proofs.Common.{Answer, Boards, Makes, Range, Runs, Still}
+use Rattle.std.proofs.Common.{◌≡◌, refl, ◌∙◌}
+use Rattle.machine.proofs.Common.{Answer, Boards, Makes, Runs, Stand, Still}
 use Rattle.board.specs.declared.step.Step.TheVariants as step
 use Rattle.machine.proofs.Jobs.{gave_jobs, took_jobs}
 use Rattle.machine.proofs.Runs.{runs_step, runs_twice}
@@ -8,7 +8,7 @@ use Rattle.machine.proofs.handing.hand_in.Goals as goal
 -- a record more
 module _ (guest : _) (first answer : Answer) (a b c : Boards)
     (takes : Makes (step.Take guest) first a b) (gives : Makes (step.Give guest) answer b c) where
-  more : (ps : List Range) (old : Boards) → Runs guest ps old ps a → Runs guest ps old ps c
+  more : (ps : Stand) (old : Boards) → Runs guest ps old ps a → Runs guest ps old ps c
   more ps old runs = runs_twice guest ps ps ps old a c runs
       (runs_twice guest ps ps ps a b c (runs_step guest ps a b (step.Take guest) first refl takes)
       (runs_step guest ps b c (step.Give guest) answer refl gives))

@@ -1,5 +1,5 @@
-use Rattle.std.proofs.Common.{[], rules, refl, ap, sym, subst, ◌∙◌}
-use Rattle.machine.proofs.Common.{Runs, board_of}
+use Rattle.std.proofs.Common.{[], rules, refl, ap, sym, subst, ◌∙◌, true}
+use Rattle.machine.proofs.Common.{Runs, board_of, standing}
 use Rattle.machine.proofs.Ends.{none_collected}
 use Rattle.board.specs.declared.step.Step.TheVariants as step
 use Rattle.machine.proofs.Jobs.{collected_jobs}
@@ -9,8 +9,10 @@ use Rattle.machine.proofs.leaving.leave_one.Goals as goal
 
 pub returns-then-is_none-clause-runs : goal.returns-then-is_none-clause-runs
 returns-then-is_none-clause-runs c =
-    subst (λ rs. Runs c.args.guest [] c.args.board.now rs c.collect.new.self) (sym c.requires.parts)
-    (runs_step c.args.guest [] c.args.board.now c.collect.new.self (step.Collect c.args.guest) _ refl
+    let s = standing [] c.args.turn.now.going in
+    subst (λ rs. Runs c.args.guest s c.args.board.now (standing rs s.going) c.collect.new.self)
+    (sym c.requires.parts)
+    (runs_step c.args.guest s c.args.board.now c.collect.new.self (step.Collect c.args.guest) _ refl
     c.collect.ensures.steps)
 
 pub returns-then-is_none-clause-nothing : goal.returns-then-is_none-clause-nothing
@@ -25,16 +27,23 @@ returns-then-is_none-clause-nothing c is = (
 pub returns-then-not-prepare-clause-runs : goal.returns-then-not-prepare-clause-runs
 returns-then-not-prepare-clause-runs c =
     let g = c.args.guest in
-    subst (λ rs. Runs g [] c.args.board.now rs c.prepare.new.board)
+    let s = standing [] c.args.turn.now.going in
+    let t = c.prepare.new.turn in
+    subst (λ rs. Runs g s c.args.board.now (standing rs t.going) c.prepare.new.board)
     (sym (c.prepare.ensures.idle c.if-not-prepare.true))
-    (runs_twice g [] [] [] c.args.board.now c.collect.new.self c.prepare.new.board
-    (runs_step g [] c.args.board.now c.collect.new.self (step.Collect g) _ refl
+    (runs_twice g s s (standing [] t.going) c.args.board.now c.collect.new.self c.prepare.new.board
+    (runs_step g s c.args.board.now c.collect.new.self (step.Collect g) _ refl
     c.collect.ensures.steps) (c.prepare.ensures.runs []))
 
 pub returns-clause-runs : goal.returns-clause-runs
 returns-clause-runs c =
     let g = c.args.guest in
-    runs_twice g [] [] _ c.args.board.now c.prepare.new.board c.publish.new.board
-    (runs_twice g [] [] [] c.args.board.now c.collect.new.self c.prepare.new.board
-    (runs_step g [] c.args.board.now c.collect.new.self (step.Collect g) _ refl
-    c.collect.ensures.steps) (c.prepare.ensures.runs [])) c.publish.ensures.runs
+    let s = standing [] c.args.turn.now.going in
+    let begun = standing [] true in
+    runs_twice g s begun _ c.args.board.now c.prepare.new.board c.publish.new.board
+    (subst (λ v. Runs g s c.args.board.now (standing [] v) c.prepare.new.board)
+    (c.prepare.ensures.begun (let is = c.if-not-prepare.false in cc))
+    (runs_twice g s s (standing [] c.prepare.new.turn.going) c.args.board.now c.collect.new.self
+    c.prepare.new.board
+    (runs_step g s c.args.board.now c.collect.new.self (step.Collect g) _ refl
+    c.collect.ensures.steps) (c.prepare.ensures.runs []))) c.publish.ensures.runs

@@ -1,13 +1,16 @@
-use Rattle.std.proofs.Common.{◌≡◌, refl, ap, sym, subst, ◌∙◌, Ok, Err, Some, None}
-use Rattle.machine.proofs.Common.{OutboxMakes, outbox_state}
+use Rattle.std.proofs.Common.{◌≡◌, refl, ap, sym, subst, ◌∙◌, Ok, Err, Some, None, true, []}
+use Rattle.machine.proofs.Common.{OutboxMakes, Runs, outbox_state, stand_of, standing}
 use Rattle.board.specs.Asking.{PublishesOf}
 use Rattle.machine.proofs.Replies.{hands_by, noted_reply}
-use Rattle.machine.proofs.Popping.{still_by}
+use Rattle.machine.proofs.Popping.{gives_up, still_by}
 use Rattle.machine.proofs.leaving.publish.Goals as goal
 
 pub returns-in-Err-clause-runs : goal.returns-in-Err-clause-runs
-returns-in-Err-clause-runs c = still_by c.args.guest c.void.new.self.parts c.args.board.now
-    c.publish.new.self (ap (λ t. t.parts) c.void.ensures) c.in-Err.ensures.same
+returns-in-Err-clause-runs c = still_by c.args.guest true (stand_of c.void.new.self)
+    c.args.board.now c.publish.new.self
+    (ap stand_of c.void.ensures
+    ∙ ap (λ v. standing [] v) (ap (λ t. t.going) c.turn.view_is ∙ c.requires.begun))
+    c.in-Err.ensures.same
 
 pub returns-in-Ok-Some-Wrote-clause-runs : goal.returns-in-Ok-Some-Wrote-clause-runs
 returns-in-Ok-Some-Wrote-clause-runs c =
@@ -16,9 +19,9 @@ returns-in-Ok-Some-Wrote-clause-runs c =
     let o = c.in-Ok-Some-Wrote in
     let hands = subst (λ p. PublishesOf outbox_state OutboxMakes g (Ok p) b c.publish.new.self)
     (o.field-0-is ∙ ap Some o.field-0-0-is) o.ensures in
-    hands_by g _ _ b c.publish.new.self hands
+    hands_by g _ _ b c.publish.new.self hands refl
     (ap (λ t. t.parts) c.turn.view_is
-    ∙ noted_reply g _ b hands.device hands.done c.requires hands.lay hands.its)
+    ∙ noted_reply g _ b hands.device hands.done c.requires.noted hands.lay hands.its)
 
 pub returns-in-Ok-Some-Dropped-clause-runs : goal.returns-in-Ok-Some-Dropped-clause-runs
 returns-in-Ok-Some-Dropped-clause-runs c =
@@ -27,12 +30,17 @@ returns-in-Ok-Some-Dropped-clause-runs c =
     let o = c.in-Ok-Some-Dropped in
     let hands = subst (λ p. PublishesOf outbox_state OutboxMakes g (Ok p) b c.publish.new.self)
     (o.field-0-is ∙ ap Some o.field-0-0-is) o.ensures in
-    hands_by g _ _ b c.publish.new.self hands (ap (λ t. t.parts) c.stop.ensures)
+    hands_by g _ _ b c.publish.new.self hands (ap (λ t. t.going) c.stop.ensures)
+    (ap (λ t. t.parts) c.stop.ensures)
 
 pub returns-in-Ok-None-clause-runs : goal.returns-in-Ok-None-clause-runs
 returns-in-Ok-None-clause-runs c =
     let o = c.in-Ok-None in
     let none = subst (λ p. PublishesOf outbox_state OutboxMakes c.args.guest (Ok p) c.args.board.now
     c.publish.new.self) o.field-0-is o.ensures in
-    still_by c.args.guest _ c.args.board.now c.publish.new.self
-    (ap (λ t. t.parts) c.stop-in-Ok-None.ensures) none.1
+    let g = c.args.guest in
+    let b = c.args.board.now in
+    let begun = standing [] true in
+    subst (λ x. Runs g begun b (stand_of c.stop-in-Ok-None.new.self) x) (sym none.1)
+    (gives_up g begun (stand_of c.stop-in-Ok-None.new.self) b
+    (ap (λ t. t.parts) c.stop-in-Ok-None.ensures) (ap (λ t. t.going) c.stop-in-Ok-None.ensures))

@@ -1,5 +1,5 @@
 use Rattle.std.proofs.Common.{◌≡◌, refl, ap, sym, subst, ◌∙◌, ◌∷◌}
-use Rattle.machine.proofs.Common.{Copies, Runs}
+use Rattle.machine.proofs.Common.{Copies, Runs, stand_of, standing}
 use Rattle.machine.specs.Ending.{Went}
 use Rattle.machine.proofs.Goings.{notified_needs, went_by}
 use Rattle.machine.proofs.Runs.{still_same}
@@ -9,12 +9,15 @@ pub returns-in-Some : goal.returns-in-Some
 returns-in-Some c =
     let g = c.args.guest in
     let b = c.args.board.now in
-    let ps = c.args.turn.now.parts in
-    let qs = c.next_part.new.self.parts in
-    let first = still_same g ps (c.in-Some.part ∷ qs) b (sym c.in-Some.ensures.some) in
+    let s = stand_of c.args.turn.now in
+    let t = stand_of c.next_part.new.self in
+    let part = c.in-Some.part in
+    let first = still_same g s (standing (part ∷ t.parts) t.going) b
+    (ap (λ v. standing (part ∷ t.parts) v.going) c.next_part.ensures.rest
+    ∙ ap (λ qs. standing qs s.going) (sym c.in-Some.ensures.some)) in
     record {
       went = went_by g c.args.most c.args.turn.now c.next_part.new.self b b _
-          (Copies ps qs c.in-Some.part b b first) first refl
+          (Copies s t.parts part t.going b b first) first refl
           (ap (λ t. t.asked) c.next_part.ensures.rest);
     }
 
@@ -50,8 +53,9 @@ returns-in-Notifying c =
           c.notify.new.board c.notify.result) (c.next_part.ensures.none c.in_default.is).1
           (went_by g c.args.most t c.notify.new.turn c.args.board.now c.notify.new.board
           c.notify.result
-          (subst (λ rs. Runs g t.parts c.args.board.now rs c.notify.new.board) (sym n.parts)
+          (subst (λ rs. Runs g (stand_of t) c.args.board.now
+          (standing rs c.notify.new.turn.going) c.notify.new.board) (sym n.parts)
           (n.runs t.parts))
-          (notified_needs g c.args.most t.parts c.notify.new.turn.parts c.args.board.now
+          (notified_needs g c.args.most (stand_of t) (stand_of c.notify.new.turn) c.args.board.now
           c.notify.new.board c.notify.result n.asks n.writes n.others) n.count n.asked);
     }

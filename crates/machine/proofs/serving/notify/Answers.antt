@@ -1,6 +1,6 @@
-use Rattle.std.proofs.Common.{◌≡◌, inl, refl, sym, subst, ◌∙◌, Some, Ok, Err}
+use Rattle.std.proofs.Common.{◌≡◌, inl, refl, ap, sym, subst, ◌∙◌, Some, Ok, Err, true, false}
 use Rattle.board.specs.Asking.{ForPop}
-use Rattle.machine.proofs.Common.{Runs}
+use Rattle.machine.proofs.Common.{Runs, standing}
 use Rattle.guest_memory.specs.Memory.{IsAsk}
 use Rattle.mmio_transport.specs.Asking.{Notifies, known}
 use Rattle.machine.specs.Ending.{AsksIn}
@@ -17,7 +17,10 @@ returns-in-Err-clause-runs c ps =
     let d = c.device.result.now in
     let same = moved_none g b d c.notify.new.self c.device.ensures.device
     (notify_asks d c.notify.new.self c.in-Err.ask c.in-Err.ensures.notifies).same in
-    subst (λ x. Runs g ps c.args.board.now ps x) (sym same) (c.begin.ensures.runs ps)
+    let s = standing ps c.args.turn.now.going in
+    let begun : c.go_to.new.self.going ≡ true = ap (λ t. t.going) c.go_to.ensures ∙ ap (λ t. t.going) c.begin.ensures.turn in
+    subst (λ v. Runs g s c.args.board.now (standing ps v) (moved b g c.notify.new.self)) (sym begun)
+    (subst (λ x. Runs g s c.args.board.now (standing ps true) x) (sym same) (c.begin.ensures.runs ps))
 
 pub returns-in-Err-clause-asks : goal.returns-in-Err-clause-asks
 returns-in-Err-clause-asks c ask is =
@@ -37,17 +40,29 @@ pub returns-in-Ok-true-clause-runs : goal.returns-in-Ok-true-clause-runs
 returns-in-Ok-true-clause-runs c ps =
     let g = c.args.guest in
     let b = c.begin.new.board in
-    runs_twice g ps ps ps c.args.board.now b (moved b g c.notify.new.self) (c.begin.ensures.runs ps)
-    (moved_runs g b c.device.result.now c.notify.new.self c.device.ensures.device ps
-    (Sees _ c.in-Ok-true.ensures.notifies))
+    let d = c.device.result.now in
+    let d' = c.notify.new.self in
+    let s = standing ps c.args.turn.now.going in
+    subst (λ v. Runs g s c.args.board.now (standing ps v) (moved b g d'))
+    (sym (ap (λ t. t.going) c.take_next.ensures))
+    (runs_twice g s (standing ps true) (standing ps false) c.args.board.now b (moved b g d')
+    (c.begin.ensures.runs ps)
+    (moved_runs g b d d' c.device.ensures.device ps true false
+    (Sees d d' _ c.in-Ok-true.ensures.notifies)))
 
 pub returns-in-Ok-false-clause-runs : goal.returns-in-Ok-false-clause-runs
 returns-in-Ok-false-clause-runs c ps =
     let g = c.args.guest in
     let b = c.begin.new.board in
-    runs_twice g ps ps ps c.args.board.now b (moved b g c.notify.new.self) (c.begin.ensures.runs ps)
-    (moved_runs g b c.device.result.now c.notify.new.self c.device.ensures.device ps
-    (Sees _ c.in-Ok-false.ensures.notifies))
+    let d = c.device.result.now in
+    let d' = c.notify.new.self in
+    let s = standing ps c.args.turn.now.going in
+    subst (λ v. Runs g s c.args.board.now (standing ps v) (moved b g d'))
+    (sym (ap (λ t. t.going) c.take_next-in-Ok-false.ensures))
+    (runs_twice g s (standing ps true) (standing ps false) c.args.board.now b (moved b g d')
+    (c.begin.ensures.runs ps)
+    (moved_runs g b d d' c.device.ensures.device ps true false
+    (Sees d d' _ c.in-Ok-false.ensures.notifies)))
 
 pub returns-in-Ok-false-clause-devices : goal.returns-in-Ok-false-clause-devices
 returns-in-Ok-false-clause-devices c is =

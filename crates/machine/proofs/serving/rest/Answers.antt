@@ -1,12 +1,14 @@
-use Rattle.std.proofs.Common.{◌≡◌, refl, ap, sym, subst, ◌∙◌, Some, None}
-use Rattle.machine.proofs.Common.{Runs, Still}
+use Rattle.std.proofs.Common.{◌≡◌, refl, ap, sym, ◌∙◌, Some, None, true}
+use Rattle.machine.proofs.Common.{Still, stand_of, standing}
+use Rattle.machine.proofs.Popping.{gives_up}
+use Rattle.machine.proofs.Runs.{runs_twice}
 use Rattle.machine.proofs.Goings.{rest_needs, rests_by, went_by}
 use Rattle.machine.proofs.serving.rest.Goals as goal
 
 pub returns-in-None-clause-went : goal.returns-in-None-clause-went
 returns-in-None-clause-went c =
     went_by c.args.guest c.args.most c.args.turn.now c.args.turn.now c.args.board.now
-    c.args.board.now _ (Still c.args.turn.now.parts c.args.board.now) tt refl refl
+    c.args.board.now _ (Still (stand_of c.args.turn.now) c.args.board.now) tt refl refl
 
 pub returns-in-Some-clause-went : goal.returns-in-Some-clause-went
 returns-in-Some-clause-went c =
@@ -17,8 +19,12 @@ returns-in-Some-clause-went c =
     let w = c.why_rests.ensures in
     let same = ap (λ t. t.parts) c.take_next.ensures ∙ ap (λ t. t.parts) c.begin.ensures.turn in
     went_by g c.args.most c.args.turn.now c.take_next.new.self b b' _
-    (subst (λ rs. Runs g ps b rs b') (sym same) (c.begin.ensures.runs ps))
-    (rest_needs g c.args.most ps c.take_next.new.self.parts b b' c.in-Some.fault
+    (runs_twice g (stand_of c.args.turn.now) (standing ps true) (stand_of c.take_next.new.self) b b' b'
+    (c.begin.ensures.runs ps)
+    (gives_up g (standing ps true) (stand_of c.take_next.new.self) b' same
+    (ap (λ t. t.going) c.take_next.ensures)))
+    (rest_needs g c.args.most (stand_of c.args.turn.now) (stand_of c.take_next.new.self) b b'
+    c.in-Some.fault
     (λ none. (let is = c.in-Some.is ∙ ap Some none in (
       rests_by g c.args.most b b' c.args.taken c.begin.ensures.rest c.begin.ensures.devices
           (w.rests is) (w.writes is) c.requires.none c.requires.limit c.requires.replies,

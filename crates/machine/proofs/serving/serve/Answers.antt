@@ -1,5 +1,5 @@
 use Rattle.std.proofs.Common.{refl, subst, Some, None}
-use Rattle.machine.proofs.Common.{Still}
+use Rattle.machine.proofs.Common.{Still, stand_of}
 use Rattle.machine.specs.Ending.{Went}
 use Rattle.machine.proofs.Goings.{went_after, went_by}
 use Rattle.machine.proofs.serving.serve.Goals as goal
@@ -7,7 +7,7 @@ use Rattle.machine.proofs.serving.serve.Goals as goal
 pub loop-move-init : goal.loop-move-init
 loop-move-init c =
     went_by c.args.guest c.args.most c.args.turn.now c.args.turn.now c.args.board.now
-    c.args.board.now None (Still c.args.turn.now.parts c.args.board.now) tt refl refl
+    c.args.board.now None (Still (stand_of c.args.turn.now) c.args.board.now) tt refl refl
 
 pub returns-in-Some : goal.returns-in-Some
 returns-in-Some c =

@@ -1,30 +1,36 @@
 use Rattle.std.proofs.Common.{◌≡◌, ℕ, List, [], refl, ap, sym, subst, ◌∙◌, Some, None, inl, inr, length, map}
-use Rattle.machine.proofs.Common.{Boards, Range, Runs, in_place, slice_get}
+use Rattle.machine.proofs.Common.{Boards, Runs, Stand, in_place, slice_get, stand_of, standing}
 use Rattle.machine.specs.Ending.{Lacks}
 use Rattle.machine.proofs.Goings.{some_needs, went_after, went_by}
+use Rattle.machine.proofs.Popping.{gives_up}
 use Rattle.machine.proofs.Runs.{runs_twice}
+use Rattle.machine.specs.Turn.{TurnState}
 use Rattle.machine.proofs.serving.settle_down.Goals as goal
 
 -- what was accepted is handed on
-module _ (guest : ℕ) (a b c d : Boards) (ps qs : List Range) where
-  handed : ps ≡ [] → Runs guest [] a [] b → Runs guest [] b [] c → Runs guest [] c qs d
-      → Runs guest ps a qs d
-  handed none first second third = subst (λ rs. Runs guest rs a qs d) (sym none)
-      (runs_twice guest [] [] qs a b d first (runs_twice guest [] [] qs b c d second third))
+module _ (guest : ℕ) (a b c d : Boards) (t : TurnState) (u : Stand) where
+  first : Stand
+  first = standing [] t.going
+
+  handed : t.parts ≡ [] → Runs guest first a first b → Runs guest first b first c
+      → Runs guest first c u d → Runs guest (stand_of t) a u d
+  handed none runs more rest = subst (λ rs. Runs guest (standing rs t.going) a u d) (sym none)
+      (runs_twice guest first first u a b d runs (runs_twice guest first first u b c d more rest))
 
 pub returns-in-Asks : goal.returns-in-Asks
 returns-in-Asks c =
     let g = c.args.guest in
     let a = c.args.board.now in
     let d = c.leave_one.new.board in
-    let runs = handed g a c.hand_in.new.board c.write_out.new.board d c.args.turn.now.parts _
-    c.requires.parts (c.hand_in.ensures.runs []) (c.write_out.ensures.runs g [])
+    let runs = handed g a c.hand_in.new.board c.write_out.new.board d c.args.turn.now _
+    c.requires.parts (c.hand_in.ensures.runs (standing [] c.args.turn.now.going))
+    (c.write_out.ensures.runs g (standing [] c.args.turn.now.going))
     c.leave_one.ensures.runs in
     let count = c.leave_one.ensures.count ∙ ap length c.write_out.ensures.devices
     ∙ ap length c.hand_in.ensures.devices in
     record {
       went = went_by g c.args.most c.args.turn.now c.go_to.new.self a d _
-          (subst (λ rs. Runs g c.args.turn.now.parts a rs d) (sym (ap (λ t. t.parts) c.go_to.ensures))
+          (subst (λ rs. Runs g (stand_of c.args.turn.now) a rs d) (sym (ap stand_of c.go_to.ensures))
           runs) (c.leave_one.ensures.asks c.in-Asks.ask c.in-Asks.is) count (ap (λ t. t.asked) c.go_to.ensures ∙ c.leave_one.ensures.keeps.1);
     }
 
@@ -33,15 +39,16 @@ returns-in-Did c =
     let g = c.args.guest in
     let a = c.args.board.now in
     let d = c.leave_one.new.board in
-    let runs = handed g a c.hand_in.new.board c.write_out.new.board d c.args.turn.now.parts _
-    c.requires.parts (c.hand_in.ensures.runs []) (c.write_out.ensures.runs g [])
+    let runs = handed g a c.hand_in.new.board c.write_out.new.board d c.args.turn.now _
+    c.requires.parts (c.hand_in.ensures.runs (standing [] c.args.turn.now.going))
+    (c.write_out.ensures.runs g (standing [] c.args.turn.now.going))
     c.leave_one.ensures.runs in
     let count = c.leave_one.ensures.count ∙ ap length c.write_out.ensures.devices
     ∙ ap length c.hand_in.ensures.devices in
     record {
       went = went_by g c.args.most c.args.turn.now c.go_to-in-Did.new.self a d _
-          (subst (λ rs. Runs g c.args.turn.now.parts a rs d) (sym (ap (λ t. t.parts) c.go_to-in-Did.ensures))
-          runs) tt count (ap (λ t. t.asked) c.go_to-in-Did.ensures ∙ c.leave_one.ensures.keeps.1);
+          (subst (λ rs. Runs g (stand_of c.args.turn.now) a rs d)
+          (sym (ap stand_of c.go_to-in-Did.ensures)) runs) tt count (ap (λ t. t.asked) c.go_to-in-Did.ensures ∙ c.leave_one.ensures.keeps.1);
     }
 
 pub returns-in-NoMemory : goal.returns-in-NoMemory
@@ -49,15 +56,18 @@ returns-in-NoMemory c =
     let g = c.args.guest in
     let a = c.args.board.now in
     let d = c.leave_one.new.board in
-    let runs = handed g a c.hand_in.new.board c.write_out.new.board d c.args.turn.now.parts _
-    c.requires.parts (c.hand_in.ensures.runs []) (c.write_out.ensures.runs g [])
+    let runs = handed g a c.hand_in.new.board c.write_out.new.board d c.args.turn.now _
+    c.requires.parts (c.hand_in.ensures.runs (standing [] c.args.turn.now.going))
+    (c.write_out.ensures.runs g (standing [] c.args.turn.now.going))
     c.leave_one.ensures.runs in
     let count = c.leave_one.ensures.count ∙ ap length c.write_out.ensures.devices
     ∙ ap length c.hand_in.ensures.devices in
     record {
       went = went_by g c.args.most c.args.turn.now c.take_next.new.self a d _
-          (subst (λ rs. Runs g c.args.turn.now.parts a rs d) (sym (ap (λ t. t.parts) c.take_next.ensures))
-          runs) (Lacks refl) count (ap (λ t. t.asked) c.take_next.ensures ∙ c.leave_one.ensures.keeps.1);
+          (runs_twice g (stand_of c.args.turn.now) (stand_of c.leave_one.new.turn)
+          (stand_of c.take_next.new.self) a d d runs
+          (gives_up g (stand_of c.leave_one.new.turn) (stand_of c.take_next.new.self) d
+          (ap (λ t. t.parts) c.take_next.ensures) (ap (λ t. t.going) c.take_next.ensures))) (Lacks refl) count (ap (λ t. t.asked) c.take_next.ensures ∙ c.leave_one.ensures.keeps.1);
     }
 
 pub returns-in-Some : goal.returns-in-Some
@@ -65,8 +75,9 @@ returns-in-Some c =
     let g = c.args.guest in
     let a = c.args.board.now in
     let d = c.leave_one.new.board in
-    let runs = handed g a c.hand_in.new.board c.write_out.new.board d c.args.turn.now.parts _
-    c.requires.parts (c.hand_in.ensures.runs []) (c.write_out.ensures.runs g [])
+    let runs = handed g a c.hand_in.new.board c.write_out.new.board d c.args.turn.now _
+    c.requires.parts (c.hand_in.ensures.runs (standing [] c.args.turn.now.going))
+    (c.write_out.ensures.runs g (standing [] c.args.turn.now.going))
     c.leave_one.ensures.runs in
     let count = c.leave_one.ensures.count ∙ ap length c.write_out.ensures.devices
     ∙ ap length c.hand_in.ensures.devices in
@@ -75,9 +86,11 @@ returns-in-Some c =
     let n = c.notify.ensures in
     record {
       went = went_by g c.args.most c.args.turn.now c.notify.new.turn a e _
-          (subst (λ rs. Runs g c.args.turn.now.parts a rs e) (sym n.parts)
-          (runs_twice g c.args.turn.now.parts qs qs a d e runs (n.runs qs)))
-          (some_needs g c.args.most c.args.turn.now.parts c.notify.new.turn.parts a e c.in-Some.next
+          (subst (λ rs. Runs g (stand_of c.args.turn.now) a (standing rs c.notify.new.turn.going) e)
+          (sym n.parts)
+          (runs_twice g (stand_of c.args.turn.now) (stand_of c.leave_one.new.turn)
+          (standing qs c.notify.new.turn.going) a d e runs (n.runs qs)))
+          (some_needs g c.args.most (stand_of c.args.turn.now) (stand_of c.notify.new.turn) a e c.in-Some.next
           (λ ask is. n.asks ask (c.in-Some.is ∙ is))
           (λ part is. n.writes part (c.in-Some.is ∙ is))
           (λ f is. n.others f (c.in-Some.is ∙ is)))
@@ -89,8 +102,9 @@ returns-in-None c =
     let g = c.args.guest in
     let a = c.args.board.now in
     let d = c.leave_one.new.board in
-    let runs = handed g a c.hand_in.new.board c.write_out.new.board d c.args.turn.now.parts _
-    c.requires.parts (c.hand_in.ensures.runs []) (c.write_out.ensures.runs g [])
+    let runs = handed g a c.hand_in.new.board c.write_out.new.board d c.args.turn.now _
+    c.requires.parts (c.hand_in.ensures.runs (standing [] c.args.turn.now.going))
+    (c.write_out.ensures.runs g (standing [] c.args.turn.now.going))
     c.leave_one.ensures.runs in
     let count = c.leave_one.ensures.count ∙ ap length c.write_out.ensures.devices
     ∙ ap length c.hand_in.ensures.devices in
@@ -100,7 +114,9 @@ returns-in-None c =
     record {
       went = went_after g c.args.most c.args.turn.now c.notify.new.turn c.rest.new.turn a e
           c.rest.new.board _
-          (subst (λ rs. Runs g c.args.turn.now.parts a rs e) (sym n.parts)
-          (runs_twice g c.args.turn.now.parts qs qs a d e runs (n.runs qs)))
+          (subst (λ rs. Runs g (stand_of c.args.turn.now) a (standing rs c.notify.new.turn.going) e)
+          (sym n.parts)
+          (runs_twice g (stand_of c.args.turn.now) (stand_of c.leave_one.new.turn)
+          (standing qs c.notify.new.turn.going) a d e runs (n.runs qs)))
           (n.count ∙ count) (n.asked ∙ c.leave_one.ensures.keeps.1) c.rest.ensures.went;
     }

@@ -1,5 +1,5 @@
 use Rattle.std.proofs.Common.{◌≡◌, ◌∙◌, if◌then◌else◌, [], true, Some, refl, sym, subst, ap, IfSome}
-use Rattle.machine.proofs.Common.{slice_get, AskingState, Still}
+use Rattle.machine.proofs.Common.{slice_get, AskingState, Runs, Still, standing}
 use Rattle.guest_memory.specs.Memory.{kept}
 use Rattle.mmio_transport.specs.Asking.{known}
 use Rattle.machine.specs.Serving.{Forgets, Learns}
@@ -8,8 +8,11 @@ use Rattle.machine.proofs.taking.begin.Goals as goal
 
 pub returns-then-not-turn-clause-runs : goal.returns-then-not-turn-clause-runs
 returns-then-not-turn-clause-runs c ps =
-    moved_runs c.args.guest c.args.board.now c.device.result.now c.forget.new.self
-    c.device.ensures.device ps (Forgets c.forget.ensures)
+    let g = c.args.turn.now.going in
+    let d = c.device.result.now in
+    let d' = c.forget.new.self in
+    moved_runs c.args.guest c.args.board.now d d' c.device.ensures.device ps g true
+    (Forgets g d d' c.forget.ensures)
 
 pub returns-then-not-turn-clause-devices : goal.returns-then-not-turn-clause-devices
 returns-then-not-turn-clause-devices c =
@@ -29,4 +32,6 @@ returns-then-not-turn-clause-fresh c going =
     (forgotten c.device.result.now c.forget.new.self c.forget.ensures)
 
 pub returns-else-not-turn-clause-runs : goal.returns-else-not-turn-clause-runs
-returns-else-not-turn-clause-runs c ps = Still ps c.args.board.now
+returns-else-not-turn-clause-runs c ps =
+    subst (λ v. Runs c.args.guest (standing ps v) c.args.board.now (standing ps true)
+    c.args.board.now) ? (Still (standing ps true) c.args.board.now)

@@ -1,5 +1,6 @@
-use Rattle.std.proofs.Common.{[], ap, subst, ◌∙◌}
+use Rattle.std.proofs.Common.{[], false, ap, subst, ◌∙◌}
 use Rattle.machine.proofs.Common.{MachineState, Moves, OutboxMakes, board_of, moves_none, outbox_state}
+use Rattle.machine.proofs.Common.{standing}
 use Rattle.machine.proofs.Completing.{goes_more}
 use Rattle.machine.proofs.machine.Machine.go_on.Goals as goal
 
@@ -18,7 +19,7 @@ pub loop-guest-preserved : goal.loop-guest-preserved
 loop-guest-preserved c =
     let l = c.loop-guest in (
       goes_more _ c.args.self.now.board l.self-inside.board c.hand_in.new.board l.invariant.0
-          (c.hand_in.ensures.runs []),
+          (standing [] false) (c.hand_in.ensures.runs (standing [] false)),
       c.hand_in.ensures.devices ∙ l.invariant.1,
       c.hand_in.ensures.jobs ∙ l.invariant.2,
       l.invariant.3,
@@ -31,7 +32,7 @@ returns-clause-goes c =
     let w = c.write_out.ensures in
     record {
       moves = goes_more 0 c.args.self.now.board l.self-inside.board c.write_out.new.board
-          l.invariant.0 (w.runs 0 []);
+          l.invariant.0 (standing [] false) (w.runs 0 (standing [] false));
       devices = w.devices ∙ l.invariant.1;
       jobs = w.jobs ∙ l.invariant.2;
       turns = l.invariant.4;

@@ -1,5 +1,6 @@
 use Rattle.std.proofs.Common.{◌≡◌, ◌∙◌, ℕ, Some, ap, false, sym, subst, length, arith, rules}
 use Rattle.machine.proofs.Common.{slice_get_read, IsServed, MachineState, slice_get, slice_set}
+use Rattle.machine.proofs.Common.{stand_of}
 use Rattle.machine.specs.Ending.{HearsAnswer}
 use Rattle.machine.specs.declared.fault.MachineFault.TheVariants as fault
 use Rattle.machine.specs.declared.serving.Next.TheVariants as next
@@ -73,7 +74,7 @@ returns-clause-heard c there room =
     (search rules) (search rules) (search rules) in
     let answered : MachineState → ℕ → Type 0 = λ x k. HearsAnswer g (turn_of x g).asked
     c.args.is_there c.args.bytes.now x.board
-    (turn_in (slice_get (slice_set m.turns k s.new.turn) g)).parts s.new.board
+    (stand_of (turn_in (slice_get (slice_set m.turns k s.new.turn) g))) s.new.board
     (c.served-2.result.fault ≡ Some fault.NoMemory) in
     subst (λ x. answered x c.from-at.result) c.self.view_is
     (subst (λ k. answered m k) (sym c.from-at.ensures)
