@@ -9,6 +9,7 @@ ghost use Rattle.machine.specs.Machine.{Completes, Copies, IsServed, LeavesEach,
 ghost use Rattle.machine.specs.Machine.{is_awaited, kick_in, line_by, shown_in};
 ghost use Rattle.machine.specs.Machine.{GoesOn, IsTold, telling_board, waits_for_sync, writes_in};
 ghost use Rattle.machine.specs.Ending.{HearsAnswer};
+ghost use Rattle.machine.specs.Turn.{stand_of};
 ghost use Rattle.machine.specs.Machine.{has_guest, turn_of, written_in};
 
 use crate::answering::{LARGEST_PART, serve_turn};
@@ -184,6 +185,7 @@ impl Machine {
     }
 
     /// What a call of serve tells of what it needs.
+    #[inline(always)]
     fn served(&self, guest: u16, next: Next) -> Served
         ensures next { IsTold next result }
         ensures sync { result.sync ≡ waits_for_sync self.now.board.rest }

@@ -1,5 +1,5 @@
-use Rattle.std.proofs.Common.{ap}
-use Rattle.machine.proofs.Common.{Still, stand_of}
+use Rattle.std.proofs.Common.{ap, subst, sym}
+use Rattle.machine.proofs.Common.{Runs, Still, stand_of}
 use Rattle.machine.proofs.Runs.{still_same}
 use Rattle.machine.proofs.answering.need.Goals as goal
 
@@ -21,3 +21,15 @@ returns-in-Call-clause-runs c = Still (stand_of c.args.turn.now) c.args.board.no
 
 pub returns-in-Rest-clause-runs : goal.returns-in-Rest-clause-runs
 returns-in-Rest-clause-runs c = Still (stand_of c.args.turn.now) c.args.board.now
+
+pub returns-then-wanted-clause-runs : goal.returns-then-wanted-clause-runs
+returns-then-wanted-clause-runs c =
+    let s = stand_of c.args.turn.now in
+    subst (λ rs. Runs c.args.guest s c.args.board.now rs c.refuse.new.board)
+    (sym (ap stand_of c.refuse.ensures.turn)) (c.refuse.ensures.runs s)
+
+pub returns-then-not-copy_part-clause-runs : goal.returns-then-not-copy_part-clause-runs
+returns-then-not-copy_part-clause-runs c =
+    let s = stand_of c.args.turn.now in
+    subst (λ rs. Runs c.args.guest s c.args.board.now rs c.refuse-then-not-copy_part.new.board)
+    (sym (ap stand_of c.refuse-then-not-copy_part.ensures.turn)) (c.refuse-then-not-copy_part.ensures.runs s)

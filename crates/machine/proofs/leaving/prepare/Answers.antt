@@ -33,6 +33,7 @@ returns-clause-runs c ps =
     let begun = standing ps true in
     let a = c.args.board.now in
     let d = c.tell_zeros.new.board in
-    subst (λ v. Runs g s a (standing ps v) d) ?
+    subst (λ v. Runs g s a (standing ps v) d)
+    (sym (ap (λ t. t.going) c.note_reply.ensures.rest ∙ ap (λ t. t.going) c.begin.ensures.turn))
     (runs_twice g s begun begun a c.begin.new.board d (c.begin.ensures.runs ps)
     (c.tell_zeros.ensures.runs begun))

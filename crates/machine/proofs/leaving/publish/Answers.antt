@@ -8,8 +8,7 @@ use Rattle.machine.proofs.leaving.publish.Goals as goal
 pub returns-in-Err-clause-runs : goal.returns-in-Err-clause-runs
 returns-in-Err-clause-runs c = still_by c.args.guest true (stand_of c.void.new.self)
     c.args.board.now c.publish.new.self
-    (ap stand_of c.void.ensures
-    ∙ ap (λ v. standing [] v) (ap (λ t. t.going) c.turn.view_is ∙ c.requires.begun))
+    (ap stand_of c.void.ensures ∙ ap (λ v. standing [] v) c.requires.begun)
     c.in-Err.ensures.same
 
 pub returns-in-Ok-Some-Wrote-clause-runs : goal.returns-in-Ok-Some-Wrote-clause-runs

@@ -9,13 +9,13 @@ use Rattle.machine.proofs.serving.settle_down.Goals as goal
 
 -- what was accepted is handed on
 module _ (guest : ℕ) (a b c d : Boards) (t : TurnState) (u : Stand) where
-  first : Stand
-  first = standing [] t.going
-
-  handed : t.parts ≡ [] → Runs guest first a first b → Runs guest first b first c
-      → Runs guest first c u d → Runs guest (stand_of t) a u d
-  handed none runs more rest = subst (λ rs. Runs guest (standing rs t.going) a u d) (sym none)
-      (runs_twice guest first first u a b d runs (runs_twice guest first first u b c d more rest))
+  handed : t.parts ≡ [] → Runs guest (standing [] t.going) a (standing [] t.going) b
+      → Runs guest (standing [] t.going) b (standing [] t.going) c
+      → Runs guest (standing [] t.going) c u d → Runs guest (stand_of t) a u d
+  handed none runs more rest =
+      let s = standing [] t.going in
+      subst (λ rs. Runs guest (standing rs t.going) a u d) (sym none)
+      (runs_twice guest s s u a b d runs (runs_twice guest s s u b c d more rest))
 
 pub returns-in-Asks : goal.returns-in-Asks
 returns-in-Asks c =

@@ -34,4 +34,4 @@ returns-then-not-turn-clause-fresh c going =
 pub returns-else-not-turn-clause-runs : goal.returns-else-not-turn-clause-runs
 returns-else-not-turn-clause-runs c ps =
     subst (λ v. Runs c.args.guest (standing ps v) c.args.board.now (standing ps true)
-    c.args.board.now) ? (Still (standing ps true) c.args.board.now)
+    c.args.board.now) (sym c.if-not-turn.false ∙ ap (λ t. t.going) c.turn.view_is) (Still (standing ps true) c.args.board.now)

@@ -1,17 +1,17 @@
-use Rattle.std.proofs.Common.{◌≡◌, inl, inr, refl, ap, sym, subst, ◌∙◌, [], Ok, Err}
-use Rattle.machine.proofs.Common.{Makes, outbox_state, OutboxMakes}
+use Rattle.std.proofs.Common.{◌≡◌, inl, inr, refl, ap, sym, subst, ◌∙◌, [], Ok, Err, true}
+use Rattle.machine.proofs.Common.{Makes, outbox_state, OutboxMakes, stand_of, standing}
 use Rattle.board.specs.Asking.{PopsAsked}
 use Rattle.board.specs.Steps.{did_answer}
 use Rattle.board.specs.declared.step.Seen.TheVariants.{Did, Nothing}
 use Rattle.board.specs.declared.step.Step.TheVariants as step
 use Rattle.board.specs.declared.step.StepFault.TheVariants as fault
 use Rattle.machine.specs.Ending.{Refuses}
-use Rattle.machine.proofs.Popping.{found_none, noted_at, pops_by, some_at, still_by}
+use Rattle.machine.proofs.Popping.{found_none, gives_up, noted_at, pops_by, some_at, still_by}
 use Rattle.machine.proofs.taking.pop.Goals as goal
 
 pub returns-then-not-note_event-clause-runs : goal.returns-then-not-note_event-clause-runs
 returns-then-not-note_event-clause-runs c =
-    still_by c.args.guest _ c.args.board.now c.args.board.now
+    gives_up c.args.guest (standing [] true) _ c.args.board.now
     (ap (λ t. t.parts) c.turn.view_is
     ∙ ap (λ t. t.parts) (c.note_event.ensures.stays c.if-not-note_event.true) ∙ c.requires.parts)
     refl
@@ -21,8 +21,10 @@ returns-in-Err-Missing-clause-runs c =
     let g = c.args.guest in
     let asks = subst (λ e. PopsAsked outbox_state OutboxMakes g (Err e) c.args.board.now
     c.pop.new.self) c.in-Err-Missing.field-0-is c.in-Err-Missing.ensures.pops in
-    still_by g c.void.new.self.parts c.args.board.now c.pop.new.self
-    (ap (λ t. t.parts) c.void.ensures) asks.same
+    still_by g true (stand_of c.void.new.self) c.args.board.now c.pop.new.self
+    (ap stand_of c.void.ensures
+    ∙ ap (λ v. standing [] v) (ap (λ t. t.going) c.note_event.ensures.rest ∙ c.requires.begun))
+    asks.same
 
 pub returns-in-Err-Refused-clause-runs : goal.returns-in-Err-Refused-clause-runs
 returns-in-Err-Refused-clause-runs c =
@@ -31,7 +33,7 @@ returns-in-Err-Refused-clause-runs c =
     let makes = subst (λ e. PopsAsked outbox_state OutboxMakes g (Err e) c.args.board.now
     c.pop.new.self) c.in-Err-Refused.field-0-is c.in-Err-Refused.ensures.pops in
     pops_by g _ (Err (fault.Device c.in-Err-Refused.fault)) c.args.board.now c.pop.new.self
-    device.0 device.1 makes
+    device.0 device.1 makes (ap (λ t. t.going) c.stop.ensures)
     (inr (ap (λ t. t.parts) c.stop.ensures, (λ same. absurd (let no = same in cc))))
 
 pub returns-in-Err-Refused-clause-fault : goal.returns-in-Err-Refused-clause-fault
@@ -48,7 +50,7 @@ returns-in-Ok-true-clause-runs c =
     let device = some_at c.args.board.now.devices g c.requires.guest in
     let makes = subst (λ did. Makes (step.Pop g) (did_answer did) c.args.board.now c.pop.new.self)
     c.in-Ok-true.field-0-test c.in-Ok-true.ensures.pops in
-    pops_by g _ (Ok Did) c.args.board.now c.pop.new.self device.0 device.1 makes
+    pops_by g _ (Ok Did) c.args.board.now c.pop.new.self device.0 device.1 makes refl
     (inl (ap (λ t. t.parts) c.turn.view_is
     ∙ noted_at _ device.0 _ _ device.1 c.requires.parts
     (c.note_event.ensures.noted c.if-not-note_event.false)))
@@ -60,6 +62,7 @@ returns-in-Ok-false-clause-runs c =
     let makes = subst (λ did. Makes (step.Pop g) (did_answer did) c.args.board.now c.pop.new.self)
     c.in-Ok-false.field-0-test c.in-Ok-false.ensures.pops in
     pops_by g _ (Ok Nothing) c.args.board.now c.pop.new.self device.0 device.1 makes
+    c.found_none.ensures.over
     (elim c.found_none.ensures.either [
       | inl nothing ↦ inr (
         c.found_none.ensures.nothing (λ did. absurd (let no = nothing in

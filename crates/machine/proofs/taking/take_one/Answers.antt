@@ -1,4 +1,5 @@
-use Rattle.std.proofs.Common.{inl, inr, refl, subst}
+use Rattle.std.proofs.Common.{ap, inl, inr, refl, subst}
+use Rattle.machine.proofs.Common.{stand_of, standing}
 use Rattle.machine.specs.Ending.{HasReason}
 use Rattle.machine.proofs.Popping.{still_by}
 use Rattle.machine.proofs.taking.take_one.Goals as goal
@@ -12,4 +13,5 @@ returns-then-is_some-clause-fault c f is = elim c.submit.ensures.either [
 
 pub returns-then-not-awaits_fewer-clause-runs : goal.returns-then-not-awaits_fewer-clause-runs
 returns-then-not-awaits_fewer-clause-runs c =
-    still_by c.args.guest _ c.args.board.now c.args.board.now c.requires.parts refl
+    still_by c.args.guest c.args.turn.now.going (stand_of c.args.turn.now) c.args.board.now
+    c.args.board.now (ap (λ ps. standing ps c.args.turn.now.going) c.requires.parts) refl

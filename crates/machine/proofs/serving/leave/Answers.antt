@@ -1,0 +1,26 @@
+use Rattle.std.proofs.Common.{refl, ap, sym, subst, ◌∙◌}
+use Rattle.machine.proofs.Common.{Runs, stand_of, standing}
+use Rattle.machine.specs.Ending.{Lacks}
+use Rattle.machine.proofs.Goings.{went_by}
+use Rattle.machine.proofs.Popping.{gives_up}
+use Rattle.machine.proofs.Runs.{runs_twice}
+use Rattle.machine.proofs.serving.leave.Goals as goal
+
+pub returns-in-NoMemory : goal.returns-in-NoMemory
+returns-in-NoMemory c =
+    let g = c.args.guest in
+    let a = c.args.board.now in
+    let b = c.leave_one.new.board in
+    let s = stand_of c.args.turn.now in
+    let t = stand_of c.leave_one.new.turn in
+    let u = stand_of c.take_next.new.self in
+    record {
+      went = went_by g c.args.most c.args.turn.now c.take_next.new.self a b _
+          (runs_twice g s t u a b b
+          (subst (λ ps. Runs g (standing ps s.going) a t b) (sym c.requires.parts)
+          c.leave_one.ensures.runs)
+          (gives_up g t u b (ap (λ v. v.parts) c.take_next.ensures)
+          (ap (λ v. v.going) c.take_next.ensures)))
+          (Lacks refl) c.leave_one.ensures.count
+          (ap (λ v. v.asked) c.take_next.ensures ∙ c.leave_one.ensures.keeps.1);
+    }
