@@ -1,5 +1,5 @@
 -- A board of which one device was moved.
-use Rattle.std.proofs.Common.{◌≡◌, refl, ap, sym, subst, ◌∙◌, ℕ, Bool, List, Some, None, Option, map, length}
+use Rattle.std.proofs.Common.{◌≡◌, refl, ap, sym, subst, ◌∙◌, ℕ, Bool, true, false, List, [], Some, None, Option, map, length}
 use Rattle.machine.proofs.Common.{slice_get, slice_set, AskingState, Boards, Knows, Range, Runs}
 use Rattle.machine.proofs.Common.{get_set_same, Stand, standing}
 use Rattle.board.proofs.AskingSteps.{unseen}
@@ -19,9 +19,9 @@ moved b guest d = record b { devices = slice_set b.devices guest d }
 
 module _ (guest : ℕ) (b : Boards) (d d' : AskingState)
     (its : slice_get b.devices guest ≡ Some d) where
-  pub moved_runs : (ps : List Range) (g h : Bool) → Learns g d h d'
-      → Runs guest (standing ps g) b (standing ps h) (moved b guest d')
-  moved_runs ps g h learns = runs_knows guest ps g h b (moved b guest d') (record {
+  pub moved_runs : (ps : List Range) (g h : Bool) → (g ≡ false → h ≡ true → ps ≡ [])
+      → Learns g d h d' → Runs guest (standing ps g) b (standing ps h) (moved b guest d')
+  moved_runs ps g h none learns = runs_knows guest ps g h b (moved b guest d') none (record {
     device = d;
     its = its;
     device' = d';
@@ -48,7 +48,8 @@ module _ (guest : ℕ) (b : Boards) (d d' : AskingState)
       → OnOk r (d' ≡ after_told d at bytes) → OnErr r (d' ≡ d)
       → Runs guest s b s (moved b guest d')
   told_runs s at bytes (Ok x) ok err =
-      moved_runs s.parts s.going s.going (Tells s.going d d' at bytes ok)
+      moved_runs s.parts s.going s.going (λ off on. absurd (let a = off in let b_ = on in cc))
+      (Tells s.going d d' at bytes ok)
   told_runs s at bytes (Err e) ok err =
       subst (λ v. Runs guest s b s v) (sym (moved_none err)) (Still s b)
 

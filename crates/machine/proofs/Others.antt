@@ -193,11 +193,11 @@ module _ (guest : ℕ) where
   others_stay s t a b (Hands q r x y z runs hands) =
       stays_twice outbox_state OutboxMakes guest (board_of x) (board_of y) (board_of z)
       (others_stay q (standing [] true) x y runs) (hands_stay y z r hands)
-  others_stay s t a b (LearnsOf q r g h x y z runs knows) =
+  others_stay s t a b (LearnsOf q r g h x y z none runs knows) =
       stays_twice outbox_state OutboxMakes guest (board_of x) (board_of y) (board_of z)
       (others_stay q (standing r g) x y runs) (known_stays g h y z knows)
   others_stay s t a b (GivesUp q r g x y runs) = others_stay q (standing r g) x y runs
   others_stay s t a b (Copies q r o g x y runs) = others_stay q (standing (o ∷ r) g) x y runs
-  others_stay s t a b (Voids q r g h x y z runs knows) =
+  others_stay s t a b (Voids q r g x y z runs knows) =
       stays_twice outbox_state OutboxMakes guest (board_of x) (board_of y) (board_of z)
-      (others_stay q (standing r g) x y runs) (known_stays g h y z knows)
+      (others_stay q (standing r g) x y runs) (known_stays g g y z knows)

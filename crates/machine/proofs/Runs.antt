@@ -18,24 +18,25 @@ module _ (guest : ℕ) where
       Pops s r a y z answer (runs_twice s q (standing [] true) a x y p runs) pops
   runs_twice s t u a b c p (Hands q r x y z runs hands) =
       Hands s r a y z (runs_twice s q (standing [] true) a x y p runs) hands
-  runs_twice s t u a b c p (LearnsOf q r g h x y z runs knows) =
-      LearnsOf s r g h a y z (runs_twice s q (standing r g) a x y p runs) knows
+  runs_twice s t u a b c p (LearnsOf q r g h x y z none runs knows) =
+      LearnsOf s r g h a y z none (runs_twice s q (standing r g) a x y p runs) knows
   runs_twice s t u a b c p (GivesUp q r g x y runs) =
       GivesUp s r g a y (runs_twice s q (standing r g) a x y p runs)
   runs_twice s t u a b c p (Copies q r o g x y runs) =
       Copies s r o g a y (runs_twice s q (standing (o ∷ r) g) a x y p runs)
-  runs_twice s t u a b c p (Voids q r g h x y z runs knows) =
-      Voids s r g h a y z (runs_twice s q (standing r g) a x y p runs) knows
+  runs_twice s t u a b c p (Voids q r g x y z runs knows) =
+      Voids s r g a y z (runs_twice s q (standing r g) a x y p runs) knows
 
   -- a step that no device makes
   pub runs_step : (s : Stand) (a b : Boards) (x : Step) (answer : Answer) → IsShare guest x
       → Makes x answer a b → Runs guest s a s b
   runs_step s a b x answer share makes = Then s s a a b x answer (Still s a) share makes
 
-  pub runs_knows : (ps : List Range) (g h : Bool) (a b : Boards) → Knows guest g a h b
+  pub runs_knows : (ps : List Range) (g h : Bool) (a b : Boards)
+      → (g ≡ false → h ≡ true → ps ≡ []) → Knows guest g a h b
       → Runs guest (standing ps g) a (standing ps h) b
-  runs_knows ps g h a b knows =
-      LearnsOf (standing ps g) ps g h a a b (Still (standing ps g) a) knows
+  runs_knows ps g h a b none knows =
+      LearnsOf (standing ps g) ps g h a a b none (Still (standing ps g) a) knows
 
   pub still_same : (s t : Stand) (b : Boards) → t ≡ s → Runs guest s b t b
   still_same s t b same = subst (λ r. Runs guest s b r b) (sym same) (Still s b)
@@ -62,11 +63,11 @@ module _ (guest : ℕ) where
   runs_moves s t a b (Hands q r x y z runs hands) =
       moves_twice outbox_state OutboxMakes (board_of x) (board_of y) (board_of z)
       (runs_moves q (standing [] true) x y runs) hands.hands.moves
-  runs_moves s t a b (LearnsOf q r g h x y z runs knows) =
+  runs_moves s t a b (LearnsOf q r g h x y z none runs knows) =
       moves_twice outbox_state OutboxMakes (board_of x) (board_of y) (board_of z)
       (runs_moves q (standing r g) x y runs) (known_moves g h y z knows)
   runs_moves s t a b (GivesUp q r g x y runs) = runs_moves q (standing r g) x y runs
   runs_moves s t a b (Copies q r o g x y runs) = runs_moves q (standing (o ∷ r) g) x y runs
-  runs_moves s t a b (Voids q r g h x y z runs knows) =
+  runs_moves s t a b (Voids q r g x y z runs knows) =
       moves_twice outbox_state OutboxMakes (board_of x) (board_of y) (board_of z)
-      (runs_moves q (standing r g) x y runs) (known_moves g h y z knows)
+      (runs_moves q (standing r g) x y runs) (known_moves g g y z knows)

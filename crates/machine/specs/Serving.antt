@@ -67,8 +67,7 @@ pub data Learns : Bool → AskingState → Bool → AskingState → Type 0 where
             { registers = with_fault a.device.registers };
       }
       → Learns g a g a'
-  Forgets : (g : Bool) (a a' : AskingState) → a' ≡ record a { held = kept (known a) }
-      → Learns g a true a'
+  Forgets : (a a' : AskingState) → a' ≡ record a { held = kept (known a) } → Learns false a true a'
   Sees : (a a' : AskingState) (notify : Bool) → Notifies a (Ok notify) a' → Learns true a false a'
 
 -- The guest's device learned something, and nothing else changed.
@@ -101,8 +100,9 @@ abbrev pub standing : List Range → Bool → Stand
 standing parts going = record { parts = parts; going = going }
 
 -- The guest's steps, one after another, from one board to the other, with what is to be copied out
--- into guest memory before and behind them. A step of its device is made only once it was begun: so
--- it believes nothing that was told for the step before it.
+-- into guest memory before and behind them. A step of its device is made only once it was begun, and
+-- begins only where nothing is left to be copied out: so what it reads was told behind all that the
+-- steps before it wrote, and it believes nothing that was told for one of them.
 pub data Runs (guest : ℕ) : Stand → Boards → Stand → Boards → Type 0 where
   Still : (s : Stand) (b : Boards) → Runs guest s b s b
   Then : (s t : Stand) (a b c : Boards) (x : Step) (answer : Answer)
@@ -113,6 +113,7 @@ pub data Runs (guest : ℕ) : Stand → Boards → Stand → Boards → Type 0 w
   Hands : (s : Stand) (qs : List Range) (a b c : Boards)
       → Runs guest s a (standing [] true) b → HandsOne guest b qs c → Runs guest s a (standing qs false) c
   LearnsOf : (s : Stand) (qs : List Range) (g h : Bool) (a b c : Boards)
+      → (g ≡ false → h ≡ true → qs ≡ [])
       → Runs guest s a (standing qs g) b → Knows guest g b h c → Runs guest s a (standing qs h) c
   -- a step that was begun is given up
   GivesUp : (s : Stand) (qs : List Range) (g : Bool) (a b : Boards)
@@ -121,8 +122,8 @@ pub data Runs (guest : ℕ) : Stand → Boards → Stand → Boards → Type 0 w
   Copies : (s : Stand) (qs : List Range) (q : Range) (g : Bool) (a b : Boards)
       → Runs guest s a (standing (q ∷ qs) g) b → Runs guest s a (standing qs g) b
   -- there is no memory where a part was to be copied out: what is left of it is void
-  Voids : (s : Stand) (qs : List Range) (g h : Bool) (a b c : Boards)
-      → Runs guest s a (standing qs g) b → Knows guest g b h c → Runs guest s a (standing [] h) c
+  Voids : (s : Stand) (qs : List Range) (g : Bool) (a b c : Boards)
+      → Runs guest s a (standing qs g) b → Knows guest g b g c → Runs guest s a (standing [] g) c
 
 -- of every other guest the device stays, and what lies between two steps
 pub record OthersStay {D : Type 0} (guest : ℕ) (old new : BoardState D) : Type 0 where

@@ -119,8 +119,8 @@ fn tell_zeros(board: &mut AskingBoard<OutboxDisk>, guest: u16, turn: &Turn) -> b
 fn prepare(board: &mut AskingBoard<OutboxDisk>, guest: u16, turn: &mut Turn) -> bool
     requires parts { turn.old.parts ≡ [] }
     requires guest { guest < length board.old.devices }
-    ensures runs { (ps : List Part) → Runs guest (standing ps turn.old.going) board.old
-        (standing ps turn.new.going) board.new }
+    ensures runs { Runs guest (standing [] turn.old.going) board.old
+        (standing [] turn.new.going) board.new }
     ensures begun { result ≡ true → turn.new.going ≡ true }
     ensures rest { board.new.rest ≡ board.old.rest }
     ensures noted { result ≡ true → IsNoted guest turn.new.parts board.new }

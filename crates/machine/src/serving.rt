@@ -42,9 +42,10 @@ pub(crate) enum Next {
 
 /// Sees whether the driver is to be notified of the replies that left. `None` where it isn't.
 fn notify(board: &mut AskingBoard<OutboxDisk>, guest: u16, turn: &mut Turn) -> Option<Next>
-    requires { guest < length board.old.devices }
-    ensures runs { (ps : List Part) → Runs guest (standing ps turn.old.going) board.old
-        (standing ps turn.new.going) board.new }
+    requires guest { guest < length board.old.devices }
+    requires parts { turn.old.parts ≡ [] }
+    ensures runs { Runs guest (standing [] turn.old.going) board.old
+        (standing [] turn.new.going) board.new }
     ensures rest { board.new.rest ≡ board.old.rest }
     ensures parts { turn.new.parts ≡ turn.old.parts }
     ensures asks { (ask : Ask) → result ≡ Some (Next.Read ask) → AsksIn guest ask board.new }

@@ -37,8 +37,8 @@ pub(crate) enum Taken {
 /// Begins a step of the guest's device, where none was begun: what there is a copy of is forgotten.
 pub(crate) fn begin(board: &mut AskingBoard<OutboxDisk>, guest: u16, turn: &mut Turn)
     requires { guest < length board.old.devices }
-    ensures runs { (ps : List Part) → Runs guest (standing ps turn.old.going) board.old
-        (standing ps true) board.new }
+    ensures runs { Runs guest (standing [] turn.old.going) board.old (standing [] true)
+        board.new }
     ensures rest { board.new.rest ≡ board.old.rest }
     ensures devices { SameDevices board.old board.new }
     ensures count { length board.new.devices ≡ length board.old.devices }
@@ -88,8 +88,8 @@ fn tell_event(board: &mut AskingBoard<OutboxDisk>, guest: u16)
 /// Begins a pop of the guest's device, where none was begun.
 fn begin_pop(board: &mut AskingBoard<OutboxDisk>, guest: u16, turn: &mut Turn)
     requires { guest < length board.old.devices }
-    ensures runs { (ps : List Part) → Runs guest (standing ps turn.old.going) board.old
-        (standing ps true) board.new }
+    ensures runs { Runs guest (standing [] turn.old.going) board.old (standing [] true)
+        board.new }
     ensures rest { board.new.rest ≡ board.old.rest }
     ensures count { length board.new.devices ≡ length board.old.devices }
     ensures turn { turn.new ≡ record turn.old { going = true } }

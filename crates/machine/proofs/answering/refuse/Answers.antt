@@ -9,7 +9,7 @@ returns-clause-runs c s =
     let b = c.args.board.now in
     let d = c.device.result.now in
     let d' = c.refuse.new.self in
-    Voids s s.parts s.going s.going b b (moved b c.args.guest d') (Still s b) (record {
+    Voids s s.parts s.going b b (moved b c.args.guest d') (Still s b) (record {
       device = d;
       its = c.device.ensures.device;
       device' = d';

@@ -33,7 +33,7 @@ returns-then-not-prepare-clause-runs c =
     (sym (c.prepare.ensures.idle c.if-not-prepare.true))
     (runs_twice g s s (standing [] t.going) c.args.board.now c.collect.new.self c.prepare.new.board
     (runs_step g s c.args.board.now c.collect.new.self (step.Collect g) _ refl
-    c.collect.ensures.steps) (c.prepare.ensures.runs []))
+    c.collect.ensures.steps) c.prepare.ensures.runs)
 
 pub returns-clause-runs : goal.returns-clause-runs
 returns-clause-runs c =
@@ -46,4 +46,4 @@ returns-clause-runs c =
     (runs_twice g s s (standing [] c.prepare.new.turn.going) c.args.board.now c.collect.new.self
     c.prepare.new.board
     (runs_step g s c.args.board.now c.collect.new.self (step.Collect g) _ refl
-    c.collect.ensures.steps) (c.prepare.ensures.runs []))) c.publish.ensures.runs
+    c.collect.ensures.steps) c.prepare.ensures.runs)) c.publish.ensures.runs

@@ -1,39 +1,39 @@
-use Rattle.std.proofs.Common.{◌≡◌, ◌∙◌, Bool, true, false, ap, refl, subst, sym}
+use Rattle.std.proofs.Common.{[], ◌≡◌, ◌∙◌, Bool, true, false, ap, refl, subst, sym}
 use Rattle.machine.proofs.Common.{Runs, standing}
 use Rattle.machine.proofs.Popping.{gives_up}
 use Rattle.machine.proofs.Runs.{runs_twice}
 use Rattle.machine.proofs.leaving.prepare.Goals as goal
 
 pub returns-then-not-note_reply-clause-runs : goal.returns-then-not-note_reply-clause-runs
-returns-then-not-note_reply-clause-runs c ps =
+returns-then-not-note_reply-clause-runs c =
     let g = c.args.guest in
-    let s = standing ps c.args.turn.now.going in
-    let t = standing ps c.stop.new.self.going in
-    runs_twice g s (standing ps true) t c.args.board.now c.begin.new.board c.begin.new.board
-    (c.begin.ensures.runs ps)
-    (gives_up g (standing ps true) t c.begin.new.board refl (ap (λ v. v.going) c.stop.ensures))
+    let s = standing [] c.args.turn.now.going in
+    let t = standing [] c.stop.new.self.going in
+    runs_twice g s (standing [] true) t c.args.board.now c.begin.new.board c.begin.new.board
+    c.begin.ensures.runs
+    (gives_up g (standing [] true) t c.begin.new.board refl (ap (λ v. v.going) c.stop.ensures))
 
 pub returns-then-not-tell_zeros-clause-runs : goal.returns-then-not-tell_zeros-clause-runs
-returns-then-not-tell_zeros-clause-runs c ps =
+returns-then-not-tell_zeros-clause-runs c =
     let g = c.args.guest in
-    let s = standing ps c.args.turn.now.going in
-    let begun = standing ps true in
-    let t = standing ps c.stop-then-not-tell_zeros.new.self.going in
+    let s = standing [] c.args.turn.now.going in
+    let begun = standing [] true in
+    let t = standing [] c.stop-then-not-tell_zeros.new.self.going in
     let a = c.args.board.now in
     let b = c.begin.new.board in
     let d = c.tell_zeros.new.board in
     runs_twice g s begun t a d d
-    (runs_twice g s begun begun a b d (c.begin.ensures.runs ps) (c.tell_zeros.ensures.runs begun))
+    (runs_twice g s begun begun a b d c.begin.ensures.runs (c.tell_zeros.ensures.runs begun))
     (gives_up g begun t d refl (ap (λ v. v.going) c.stop-then-not-tell_zeros.ensures))
 
 pub returns-clause-runs : goal.returns-clause-runs
-returns-clause-runs c ps =
+returns-clause-runs c =
     let g = c.args.guest in
-    let s = standing ps c.args.turn.now.going in
-    let begun = standing ps true in
+    let s = standing [] c.args.turn.now.going in
+    let begun = standing [] true in
     let a = c.args.board.now in
     let d = c.tell_zeros.new.board in
-    subst (λ v. Runs g s a (standing ps v) d)
+    subst (λ v. Runs g s a (standing [] v) d)
     (sym (ap (λ t. t.going) c.note_reply.ensures.rest ∙ ap (λ t. t.going) c.begin.ensures.turn))
-    (runs_twice g s begun begun a c.begin.new.board d (c.begin.ensures.runs ps)
+    (runs_twice g s begun begun a c.begin.new.board d c.begin.ensures.runs
     (c.tell_zeros.ensures.runs begun))

@@ -1,4 +1,4 @@
-use Rattle.std.proofs.Common.{◌≡◌, refl, ap, sym, subst, ◌∙◌, ◌∷◌}
+use Rattle.std.proofs.Common.{◌≡◌, refl, ap, sym, subst, ◌∙◌, [], ◌∷◌}
 use Rattle.machine.proofs.Common.{Copies, Runs, stand_of, standing}
 use Rattle.machine.specs.Ending.{Went}
 use Rattle.machine.proofs.Goings.{notified_needs, went_by}
@@ -48,14 +48,18 @@ returns-in-Notifying c =
     let g = c.args.guest in
     let n = c.notify.ensures in
     let t = c.next_part.new.self in
+    let after = c.notify.new.turn in
+    let gone = c.next_part.ensures.none c.in_default.is in
+    let none = ap (λ v. v.parts) gone.1 ∙ gone.0 in
     record {
       went = subst (λ t0. Went g c.args.most t0 c.notify.new.turn c.args.board.now
           c.notify.new.board c.notify.result) (c.next_part.ensures.none c.in_default.is).1
           (went_by g c.args.most t c.notify.new.turn c.args.board.now c.notify.new.board
           c.notify.result
-          (subst (λ rs. Runs g (stand_of t) c.args.board.now
-          (standing rs c.notify.new.turn.going) c.notify.new.board) (sym n.parts)
-          (n.runs t.parts))
+          (subst (λ rs. Runs g (standing rs t.going) c.args.board.now
+          (stand_of after) c.notify.new.board) (sym none)
+          (subst (λ rs. Runs g (standing [] t.going) c.args.board.now
+          (standing rs after.going) c.notify.new.board) (sym (n.parts ∙ none)) n.runs))
           (notified_needs g c.args.most (stand_of t) (stand_of c.notify.new.turn) c.args.board.now
           c.notify.new.board c.notify.result n.asks n.writes n.others) n.count n.asked);
     }

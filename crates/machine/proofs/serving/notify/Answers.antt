@@ -1,4 +1,4 @@
-use Rattle.std.proofs.Common.{◌≡◌, inl, refl, ap, sym, subst, ◌∙◌, Some, Ok, Err, true, false}
+use Rattle.std.proofs.Common.{[], ◌≡◌, inl, refl, ap, sym, subst, ◌∙◌, Some, Ok, Err, true, false}
 use Rattle.board.specs.Asking.{ForPop}
 use Rattle.machine.proofs.Common.{Runs, standing}
 use Rattle.guest_memory.specs.Memory.{IsAsk}
@@ -11,16 +11,16 @@ use Rattle.machine.proofs.Runs.{runs_twice}
 use Rattle.machine.proofs.serving.notify.Goals as goal
 
 pub returns-in-Err-clause-runs : goal.returns-in-Err-clause-runs
-returns-in-Err-clause-runs c ps =
+returns-in-Err-clause-runs c =
     let g = c.args.guest in
     let b = c.begin.new.board in
     let d = c.device.result.now in
     let same = moved_none g b d c.notify.new.self c.device.ensures.device
     (notify_asks d c.notify.new.self c.in-Err.ask c.in-Err.ensures.notifies).same in
-    let s = standing ps c.args.turn.now.going in
+    let s = standing [] c.args.turn.now.going in
     let begun : c.go_to.new.self.going ≡ true = ap (λ t. t.going) c.go_to.ensures ∙ ap (λ t. t.going) c.begin.ensures.turn in
-    subst (λ v. Runs g s c.args.board.now (standing ps v) (moved b g c.notify.new.self)) (sym begun)
-    (subst (λ x. Runs g s c.args.board.now (standing ps true) x) (sym same) (c.begin.ensures.runs ps))
+    subst (λ v. Runs g s c.args.board.now (standing [] v) (moved b g c.notify.new.self)) (sym begun)
+    (subst (λ x. Runs g s c.args.board.now (standing [] true) x) (sym same) c.begin.ensures.runs)
 
 pub returns-in-Err-clause-asks : goal.returns-in-Err-clause-asks
 returns-in-Err-clause-asks c ask is =
@@ -37,31 +37,31 @@ returns-in-Err-clause-asks c ask is =
     })
 
 pub returns-in-Ok-true-clause-runs : goal.returns-in-Ok-true-clause-runs
-returns-in-Ok-true-clause-runs c ps =
+returns-in-Ok-true-clause-runs c =
     let g = c.args.guest in
     let b = c.begin.new.board in
     let d = c.device.result.now in
     let d' = c.notify.new.self in
-    let s = standing ps c.args.turn.now.going in
-    subst (λ v. Runs g s c.args.board.now (standing ps v) (moved b g d'))
+    let s = standing [] c.args.turn.now.going in
+    subst (λ v. Runs g s c.args.board.now (standing [] v) (moved b g d'))
     (sym (ap (λ t. t.going) c.take_next.ensures))
-    (runs_twice g s (standing ps true) (standing ps false) c.args.board.now b (moved b g d')
-    (c.begin.ensures.runs ps)
-    (moved_runs g b d d' c.device.ensures.device ps true false
+    (runs_twice g s (standing [] true) (standing [] false) c.args.board.now b (moved b g d')
+    c.begin.ensures.runs
+    (moved_runs g b d d' c.device.ensures.device [] true false (λ off on. absurd (cc))
     (Sees d d' _ c.in-Ok-true.ensures.notifies)))
 
 pub returns-in-Ok-false-clause-runs : goal.returns-in-Ok-false-clause-runs
-returns-in-Ok-false-clause-runs c ps =
+returns-in-Ok-false-clause-runs c =
     let g = c.args.guest in
     let b = c.begin.new.board in
     let d = c.device.result.now in
     let d' = c.notify.new.self in
-    let s = standing ps c.args.turn.now.going in
-    subst (λ v. Runs g s c.args.board.now (standing ps v) (moved b g d'))
+    let s = standing [] c.args.turn.now.going in
+    subst (λ v. Runs g s c.args.board.now (standing [] v) (moved b g d'))
     (sym (ap (λ t. t.going) c.take_next-in-Ok-false.ensures))
-    (runs_twice g s (standing ps true) (standing ps false) c.args.board.now b (moved b g d')
-    (c.begin.ensures.runs ps)
-    (moved_runs g b d d' c.device.ensures.device ps true false
+    (runs_twice g s (standing [] true) (standing [] false) c.args.board.now b (moved b g d')
+    c.begin.ensures.runs
+    (moved_runs g b d d' c.device.ensures.device [] true false (λ off on. absurd (cc))
     (Sees d d' _ c.in-Ok-false.ensures.notifies)))
 
 pub returns-in-Ok-false-clause-devices : goal.returns-in-Ok-false-clause-devices

@@ -1,5 +1,5 @@
-use Rattle.std.proofs.Common.{◌≡◌, refl, ap, sym, ◌∙◌, Some, None, true}
-use Rattle.machine.proofs.Common.{Still, stand_of, standing}
+use Rattle.std.proofs.Common.{◌≡◌, refl, ap, sym, subst, ◌∙◌, [], Some, None, true}
+use Rattle.machine.proofs.Common.{Runs, Still, stand_of, standing}
 use Rattle.machine.proofs.Popping.{gives_up}
 use Rattle.machine.proofs.Runs.{runs_twice}
 use Rattle.machine.proofs.Goings.{rest_needs, rests_by, went_by}
@@ -19,9 +19,10 @@ returns-in-Some-clause-went c =
     let w = c.why_rests.ensures in
     let same = ap (λ t. t.parts) c.take_next.ensures ∙ ap (λ t. t.parts) c.begin.ensures.turn in
     went_by g c.args.most c.args.turn.now c.take_next.new.self b b' _
-    (runs_twice g (stand_of c.args.turn.now) (standing ps true) (stand_of c.take_next.new.self) b b' b'
-    (c.begin.ensures.runs ps)
-    (gives_up g (standing ps true) (stand_of c.take_next.new.self) b' same
+    (runs_twice g (stand_of c.args.turn.now) (standing [] true) (stand_of c.take_next.new.self) b b' b'
+    (subst (λ qs. Runs g (standing qs c.args.turn.now.going) b (standing [] true) b')
+    (sym c.requires.parts) c.begin.ensures.runs)
+    (gives_up g (standing [] true) (stand_of c.take_next.new.self) b' (same ∙ c.requires.parts)
     (ap (λ t. t.going) c.take_next.ensures)))
     (rest_needs g c.args.most (stand_of c.args.turn.now) (stand_of c.take_next.new.self) b b'
     c.in-Some.fault

@@ -82,14 +82,18 @@ returns-in-Some c =
     let count = c.leave_one.ensures.count ∙ ap length c.write_out.ensures.devices
     ∙ ap length c.hand_in.ensures.devices in
     let e = c.notify.new.board in
-    let qs = c.leave_one.new.turn.parts in
+    let left = c.leave_one.new.turn in
     let n = c.notify.ensures in
+    let none = c.leave_one.ensures.idle
+    (λ did. absurd (let a_ = c.in-Nothing.is in let b_ = did in cc)) in
+    let notified = subst (λ ps. Runs g (standing ps left.going) d
+    (standing [] c.notify.new.turn.going) e) (sym none) n.runs in
     record {
       went = went_by g c.args.most c.args.turn.now c.notify.new.turn a e _
           (subst (λ rs. Runs g (stand_of c.args.turn.now) a (standing rs c.notify.new.turn.going) e)
-          (sym n.parts)
-          (runs_twice g (stand_of c.args.turn.now) (stand_of c.leave_one.new.turn)
-          (standing qs c.notify.new.turn.going) a d e runs (n.runs qs)))
+          (sym (n.parts ∙ none))
+          (runs_twice g (stand_of c.args.turn.now) (stand_of left)
+          (standing [] c.notify.new.turn.going) a d e runs notified))
           (some_needs g c.args.most (stand_of c.args.turn.now) (stand_of c.notify.new.turn) a e c.in-Some.next
           (λ ask is. n.asks ask (c.in-Some.is ∙ is))
           (λ part is. n.writes part (c.in-Some.is ∙ is))
@@ -109,14 +113,18 @@ returns-in-None c =
     let count = c.leave_one.ensures.count ∙ ap length c.write_out.ensures.devices
     ∙ ap length c.hand_in.ensures.devices in
     let e = c.notify.new.board in
-    let qs = c.leave_one.new.turn.parts in
+    let left = c.leave_one.new.turn in
     let n = c.notify.ensures in
+    let none = c.leave_one.ensures.idle
+    (λ did. absurd (let a_ = c.in-Nothing.is in let b_ = did in cc)) in
+    let notified = subst (λ ps. Runs g (standing ps left.going) d
+    (standing [] c.notify.new.turn.going) e) (sym none) n.runs in
     record {
       went = went_after g c.args.most c.args.turn.now c.notify.new.turn c.rest.new.turn a e
           c.rest.new.board _
           (subst (λ rs. Runs g (stand_of c.args.turn.now) a (standing rs c.notify.new.turn.going) e)
-          (sym n.parts)
-          (runs_twice g (stand_of c.args.turn.now) (stand_of c.leave_one.new.turn)
-          (standing qs c.notify.new.turn.going) a d e runs (n.runs qs)))
+          (sym (n.parts ∙ none))
+          (runs_twice g (stand_of c.args.turn.now) (stand_of left)
+          (standing [] c.notify.new.turn.going) a d e runs notified))
           (n.count ∙ count) (n.asked ∙ c.leave_one.ensures.keeps.1) c.rest.ensures.went;
     }

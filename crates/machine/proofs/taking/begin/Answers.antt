@@ -1,18 +1,21 @@
-use Rattle.std.proofs.Common.{◌≡◌, ◌∙◌, if◌then◌else◌, [], true, Some, refl, sym, subst, ap, IfSome}
+use Rattle.std.proofs.Common.{◌≡◌, ◌∙◌, if◌then◌else◌, [], true, false, Some, refl, sym, subst, ap, IfSome}
 use Rattle.machine.proofs.Common.{slice_get, AskingState, Runs, Still, standing}
 use Rattle.guest_memory.specs.Memory.{kept}
 use Rattle.mmio_transport.specs.Asking.{known}
 use Rattle.machine.specs.Serving.{Forgets, Learns}
-use Rattle.machine.proofs.Moved.{moved_at, moved_runs, moved_same}
+use Rattle.machine.proofs.Moved.{moved, moved_at, moved_runs, moved_same}
 use Rattle.machine.proofs.taking.begin.Goals as goal
 
 pub returns-then-not-turn-clause-runs : goal.returns-then-not-turn-clause-runs
-returns-then-not-turn-clause-runs c ps =
-    let g = c.args.turn.now.going in
+returns-then-not-turn-clause-runs c =
+    let g = c.args.guest in
+    let b = c.args.board.now in
     let d = c.device.result.now in
     let d' = c.forget.new.self in
-    moved_runs c.args.guest c.args.board.now d d' c.device.ensures.device ps g true
-    (Forgets g d d' c.forget.ensures)
+    subst (λ v. Runs g (standing [] v) b (standing [] true) (moved b g d'))
+    (sym c.if-not-turn.true ∙ ap (λ t. t.going) c.turn.view_is)
+    (moved_runs g b d d' c.device.ensures.device [] false true (λ off on. refl)
+    (Forgets d d' c.forget.ensures))
 
 pub returns-then-not-turn-clause-devices : goal.returns-then-not-turn-clause-devices
 returns-then-not-turn-clause-devices c =
@@ -32,6 +35,7 @@ returns-then-not-turn-clause-fresh c going =
     (forgotten c.device.result.now c.forget.new.self c.forget.ensures)
 
 pub returns-else-not-turn-clause-runs : goal.returns-else-not-turn-clause-runs
-returns-else-not-turn-clause-runs c ps =
-    subst (λ v. Runs c.args.guest (standing ps v) c.args.board.now (standing ps true)
-    c.args.board.now) (sym c.if-not-turn.false ∙ ap (λ t. t.going) c.turn.view_is) (Still (standing ps true) c.args.board.now)
+returns-else-not-turn-clause-runs c =
+    subst (λ v. Runs c.args.guest (standing [] v) c.args.board.now (standing [] true)
+    c.args.board.now) (sym c.if-not-turn.false ∙ ap (λ t. t.going) c.turn.view_is)
+    (Still (standing [] true) c.args.board.now)

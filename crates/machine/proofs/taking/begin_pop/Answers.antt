@@ -1,16 +1,17 @@
-use Rattle.std.proofs.Common.{◌∙◌, true, ap, subst, sym}
+use Rattle.std.proofs.Common.{◌∙◌, [], true, ap, subst, sym}
 use Rattle.machine.proofs.Common.{Runs, Still, standing}
 use Rattle.machine.proofs.Runs.{runs_twice}
 use Rattle.machine.proofs.taking.begin_pop.Goals as goal
 
 pub returns-then-not-turn-clause-runs : goal.returns-then-not-turn-clause-runs
-returns-then-not-turn-clause-runs c ps =
-    let s = standing ps c.args.turn.now.going in
-    let begun = standing ps true in
+returns-then-not-turn-clause-runs c =
+    let s = standing [] c.args.turn.now.going in
+    let begun = standing [] true in
     runs_twice c.args.guest s begun begun c.args.board.now c.begin.new.board c.tell_event.new.board
-    (c.begin.ensures.runs ps) (c.tell_event.ensures.runs begun)
+    c.begin.ensures.runs (c.tell_event.ensures.runs begun)
 
 pub returns-else-not-turn-clause-runs : goal.returns-else-not-turn-clause-runs
-returns-else-not-turn-clause-runs c ps =
-    subst (λ v. Runs c.args.guest (standing ps v) c.args.board.now (standing ps true)
-    c.args.board.now) (sym c.if-not-turn.false ∙ ap (λ t. t.going) c.turn.view_is) (Still (standing ps true) c.args.board.now)
+returns-else-not-turn-clause-runs c =
+    subst (λ v. Runs c.args.guest (standing [] v) c.args.board.now (standing [] true)
+    c.args.board.now) (sym c.if-not-turn.false ∙ ap (λ t. t.going) c.turn.view_is)
+    (Still (standing [] true) c.args.board.now)

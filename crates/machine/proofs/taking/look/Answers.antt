@@ -7,4 +7,4 @@ pub returns-clause-runs : goal.returns-clause-runs
 returns-clause-runs c =
     runs_twice c.args.guest (standing [] c.args.turn.now.going) (standing [] true)
     (stand_of c.pop.new.turn) c.args.board.now c.begin_pop.new.board c.pop.new.board
-    (c.begin_pop.ensures.runs []) c.pop.ensures.runs
+    c.begin_pop.ensures.runs c.pop.ensures.runs
