@@ -24,8 +24,8 @@ pub use Rattle.board.specs.Steps.{SubmitsFrom, TakesInto, PublishesFrom, PopsInt
 pub use Rattle.board.specs.declared.step.Step.{Step}
 unfoldable pub use Rattle.machine.specs.Machine.{is_awaited}
 pub use Rattle.machine.specs.Machine.{IsServed, MachineState}
-pub use Rattle.machine.specs.Serving.{Boards, Copies, Hands, HandsOne, IsShare, Knows, Learns}
+pub use Rattle.machine.specs.Serving.{Boards, Calls, Hands, HandsOne, IsShare, Knows, Learns}
 pub use Rattle.machine.specs.Serving.{LearnsOf, Makes, OthersStay, Pops, PopsOne, Runs, Still, Then}
-pub use Rattle.machine.specs.Serving.{GivesUp, Voids, standing}
+pub use Rattle.machine.specs.Serving.{GivesUp, Notified, Voids, owing, standing}
 pub use Rattle.machine.specs.Turn.{Stand, stand_of}
 pub use Rattle.machine.specs.declared.fault.MachineFault.{MachineFault}

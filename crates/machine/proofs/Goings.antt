@@ -1,7 +1,7 @@
 -- One move of a serve after another.
 use Rattle.std.proofs.Common.{◌≡◌, ◌⊎◌, inl, inr, refl, ap, sym, subst, ◌∙◌, ℕ, Bool, true, false}
-use Rattle.std.proofs.Common.{List, [], ◌∷◌, Option, Some, None, Result, Ok, Err, length, map}
-use Rattle.std.specs.Prelude.{nat_le, nat_lt}
+use Rattle.std.proofs.Common.{List, [], Option, Some, None, Ok, Err, length}
+use Rattle.std.specs.Prelude.{nat_lt}
 use Rattle.guest_memory.specs.declared.ask.Ask.{Ask}
 use Rattle.flusher.specs.Store.{next_call}
 use Rattle.chains.specs.Needs.{OfArea}
@@ -11,9 +11,9 @@ use Rattle.board.specs.Asking.{ForPop}
 use Rattle.board.specs.State.{HasNoJob, waiting}
 use Rattle.machine.proofs.Common.{slice_get, AskingState, Boards, MachineFault, Range, Runs}
 use Rattle.machine.specs.Ending.{AsksIn, FindsNone, HasReason, NeedsNext, RestsAt, Went, is_write}
+use Rattle.machine.specs.Ending.{left_by}
 use Rattle.machine.specs.Serving.{HasNoReply, SameDevices}
-use Rattle.machine.specs.Turn.{Stand, TurnState, stand_of}
-use Rattle.machine.specs.Serving.{standing}
+use Rattle.machine.specs.Turn.{TurnState, stand_of}
 use Rattle.machine.specs.declared.serving.Next.{Next}
 use Rattle.machine.specs.declared.serving.Next.TheVariants as next
 use Rattle.machine.specs.declared.taking.Taken.{Taken}
@@ -52,30 +52,18 @@ module _ (a a' : AskingState) where
 -- 2. Moves
 
 module _ (guest most : ℕ) where
-  pub needs_after : (s t u : Stand) (a b c : Boards) (n : Option Next) → Runs guest s a t b
-      → NeedsNext guest most t b u c n → NeedsNext guest most s a u c n
-  needs_after s t u a b c None runs needs = tt
-  needs_after s t u a b c (Some next.Again) runs needs = tt
-  needs_after s t u a b c (Some (next.Read ask)) runs needs = needs
-  needs_after s t u a b c (Some (next.Write part)) runs needs =
-      runs_twice guest s t (standing (part ∷ u.parts) u.going) a b c runs needs
-  needs_after s t u a b c (Some next.Call) runs needs = tt
-  needs_after s t u a b c (Some (next.Rest None)) runs needs = needs
-  needs_after s t u a b c (Some (next.Rest (Some f))) runs needs = needs
-
   pub went_after : (t0 t1 t2 : TurnState) (a b c : Boards) (n : Option Next)
       → Runs guest (stand_of t0) a (stand_of t1) b → length b.devices ≡ length a.devices
       → t1.asked ≡ t0.asked → Went guest most t1 t2 b c n → Went guest most t0 t2 a c n
   went_after t0 t1 t2 a b c n runs count asked went = record {
-    runs = runs_twice guest (stand_of t0) (stand_of t1) (stand_of t2) a b c runs went.runs;
-    needs = needs_after (stand_of t0) (stand_of t1) (stand_of t2) a b c n runs went.needs;
+    runs = runs_twice guest (stand_of t0) (stand_of t1) (left_by n t2) a b c runs went.runs;
+    needs = went.needs;
     count = went.count ∙ count;
     asked = went.asked ∙ asked;
   }
 
   pub went_by : (t t' : TurnState) (a b : Boards) (n : Option Next)
-      → Runs guest (stand_of t) a (stand_of t') b
-      → NeedsNext guest most (stand_of t) a (stand_of t') b n
+      → Runs guest (stand_of t) a (left_by n t') b → NeedsNext guest most t'.parts b n
       → length b.devices ≡ length a.devices → t'.asked ≡ t.asked → Went guest most t t' a b n
   went_by t t' a b n runs needs count asked = record {
     runs = runs;
@@ -116,28 +104,25 @@ module _ (guest most : ℕ) where
         writes = writes;
       })
 
-  pub rest_needs : (s t : Stand) (a b : Boards) (o : Option MachineFault)
-      → (o ≡ None → RestsAt guest most b × (t.parts ≡ []))
+  pub rest_needs : (ps : List Range) (b : Boards) (o : Option MachineFault)
+      → (o ≡ None → RestsAt guest most b × (ps ≡ []))
       → ((f : MachineFault) → o ≡ Some f → HasReason guest f)
-      → NeedsNext guest most s a t b (Some (next.Rest o))
-  rest_needs s t a b None rests why = rests refl
-  rest_needs s t a b (Some f) rests why = why f refl
+      → NeedsNext guest most ps b (Some (next.Rest o))
+  rest_needs ps b None rests why = rests refl
+  rest_needs ps b (Some f) rests why = why f refl
 
-  pub some_needs : (s t : Stand) (a b : Boards) (n : Next)
+  pub some_needs : (ps : List Range) (b : Boards) (n : Next)
       → ((ask : Ask) → Some n ≡ Some (next.Read ask) → AsksIn guest ask b)
-      → ((part : Range) → Some n ≡ Some (next.Write part) → ⊥)
       → ((f : Option MachineFault) → Some n ≡ Some (next.Rest f) → ⊥)
-      → NeedsNext guest most s a t b (Some n)
-  some_needs s t a b next.Again asks write rest = tt
-  some_needs s t a b (next.Read ask) asks write rest = asks ask refl
-  some_needs s t a b (next.Write part) asks write rest = absurd (write part refl)
-  some_needs s t a b next.Call asks write rest = tt
-  some_needs s t a b (next.Rest f) asks write rest = absurd (rest f refl)
+      → NeedsNext guest most ps b (Some n)
+  some_needs ps b next.Again asks rest = tt
+  some_needs ps b (next.Read ask) asks rest = asks ask refl
+  some_needs ps b (next.Write part) asks rest = tt
+  some_needs ps b next.Call asks rest = tt
+  some_needs ps b (next.Rest f) asks rest = absurd (rest f refl)
 
-  pub notified_needs : (s t : Stand) (a b : Boards) (o : Option Next)
+  pub notified_needs : (ps : List Range) (b : Boards) (o : Option Next)
       → ((ask : Ask) → o ≡ Some (next.Read ask) → AsksIn guest ask b)
-      → ((part : Range) → o ≡ Some (next.Write part) → ⊥)
-      → ((f : Option MachineFault) → o ≡ Some (next.Rest f) → ⊥)
-      → NeedsNext guest most s a t b o
-  notified_needs s t a b None asks write rest = tt
-  notified_needs s t a b (Some n) asks write rest = some_needs s t a b n asks write rest
+      → ((f : Option MachineFault) → o ≡ Some (next.Rest f) → ⊥) → NeedsNext guest most ps b o
+  notified_needs ps b None asks rest = tt
+  notified_needs ps b (Some n) asks rest = some_needs ps b n asks rest

@@ -1,9 +1,8 @@
 -- The steps that neither pop nor submit leave the chains that were popped.
-use Rattle.std.proofs.Common.{◌≡◌, ap, ℕ, Bool, true, false, List, Option, Some, None}
-use Rattle.machine.proofs.Common.{slice_get, Answer, AdvancesUnder, BoardState, Boards, CollectsInto}
+use Rattle.std.proofs.Common.{◌≡◌, ap, ℕ, Bool, true, false, Option, Some, None}
+use Rattle.machine.proofs.Common.{Answer, AdvancesUnder, BoardState, Boards, CollectsInto}
 use Rattle.machine.proofs.Common.{Done, Fault, GivesWhere, Intent, Makes, Marks, OutboxMakes}
 use Rattle.machine.proofs.Common.{OutboxState, Report, SettlesBy, TakesInto, board_of, outbox_state}
-use Rattle.machine.proofs.Common.{is_free, in_place}
 use Rattle.board.specs.declared.step.Step.TheVariants as step
 
 abbrev pub StayJobs : BoardState OutboxState → BoardState OutboxState → Type 0

@@ -1,7 +1,7 @@
 -- A board of which one device was moved.
-use Rattle.std.proofs.Common.{◌≡◌, refl, ap, sym, subst, ◌∙◌, ℕ, Bool, true, false, List, [], Some, None, Option, map, length}
-use Rattle.machine.proofs.Common.{slice_get, slice_set, AskingState, Boards, Knows, Range, Runs}
-use Rattle.machine.proofs.Common.{get_set_same, Stand, standing}
+use Rattle.std.proofs.Common.{◌≡◌, refl, ap, sym, subst, ◌∙◌, ℕ, Bool, true, false, List, [], Some}
+use Rattle.machine.proofs.Common.{slice_get, slice_set, AskingState, Boards, Range, Runs}
+use Rattle.machine.proofs.Common.{get_set_same, standing}
 use Rattle.board.proofs.AskingSteps.{unseen}
 use Rattle.guest_memory.specs.declared.fault.MemFault.{MemFault}
 use Rattle.mmio_transport.specs.Asking.{after_told}
@@ -11,7 +11,6 @@ use Rattle.machine.specs.Serving.{Learns, QueuesStay, SameDevices, Tells}
 use Rattle.machine.proofs.Common.{Still}
 use Rattle.std.specs.Prelude.{Result, Ok, Err, OnOk, OnErr}
 use Rattle.machine.proofs.Runs.{runs_knows}
-use Rattle.std.proofs.Common.{length-set}
 
 -- the board with another device of a guest
 abbrev pub moved : Boards → ℕ → AskingState → Boards
@@ -44,14 +43,15 @@ module _ (guest : ℕ) (b : Boards) (d d' : AskingState)
       (ap (slice_set b.devices guest) same ∙ set_same b.devices guest d its)
 
   -- bytes were told, or there was no memory for them
-  pub told_runs : {X : Type 0} (s : Stand) (at : ℕ) (bytes : List ℕ) (r : Result X MemFault)
-      → OnOk r (d' ≡ after_told d at bytes) → OnErr r (d' ≡ d)
-      → Runs guest s b s (moved b guest d')
-  told_runs s at bytes (Ok x) ok err =
-      moved_runs s.parts s.going s.going (λ off on. absurd (let a = off in let b_ = on in cc))
-      (Tells s.going d d' at bytes ok)
-  told_runs s at bytes (Err e) ok err =
-      subst (λ v. Runs guest s b s v) (sym (moved_none err)) (Still s b)
+  pub told_runs : {X : Type 0} (ps : List Range) (g : Bool) (at : ℕ) (bytes : List ℕ)
+      (r : Result X MemFault) → OnOk r (d' ≡ after_told d at bytes) → OnErr r (d' ≡ d)
+      → Runs guest (standing ps g) b (standing ps g) (moved b guest d')
+  told_runs ps g at bytes (Ok x) ok err =
+      moved_runs ps g g (λ off on. absurd (let a = off in let b_ = on in cc))
+      (Tells g d d' at bytes ok)
+  told_runs ps g at bytes (Err e) ok err =
+      subst (λ v. Runs guest (standing ps g) b (standing ps g) v) (sym (moved_none err))
+      (Still (standing ps g) b)
 
   pub told_queues : {X : Type 0} (at : ℕ) (bytes : List ℕ) (r : Result X MemFault)
       → OnOk r (d' ≡ after_told d at bytes) → OnErr r (d' ≡ d) → QueuesStay b (moved b guest d')

@@ -1,12 +1,12 @@
 -- What the steps of one guest leave of the others.
 use Rattle.std.proofs.Common.{◌≡◌, ◌≢◌, refl, sym, subst, ap, ◌∙◌, inl, inr, ℕ, Bool, true, false, List}
-use Rattle.std.proofs.Common.{[], ◌∷◌, Option, Some, None}
+use Rattle.std.proofs.Common.{[], Option, Some, None}
 use Rattle.machine.proofs.Common.{slice_get, slice_set, DiskCall, DiskState, Intent, DeviceState}
 use Rattle.machine.proofs.Common.{Done, Job, Tally, BoardState, Fault, Marks, Report, put}
 use Rattle.machine.proofs.Common.{AdvancesUnder, Answer, CollectsInto, Does, GivesWhere, PopsInto}
 use Rattle.machine.proofs.Common.{SettlesBy, SubmitsFrom, TakesInto, Step, IsShare, Runs, Still}
-use Rattle.machine.proofs.Common.{Then, Pops, Hands, LearnsOf, Copies, Voids, Boards, Range, Knows}
-use Rattle.machine.proofs.Common.{GivesUp, Stand, standing}
+use Rattle.machine.proofs.Common.{Then, Pops, Hands, LearnsOf, Calls, Voids, Boards, Range, Knows}
+use Rattle.machine.proofs.Common.{AskingState, GivesUp, Stand, standing}
 use Rattle.machine.proofs.Common.{HandsOne, OutboxMakes, OutboxState, outbox_state, board_of}
 use Rattle.machine.proofs.Common.{with_devices, get_set_other, OthersStay}
 use Rattle.board.specs.declared.step.Step.TheVariants as step
@@ -149,18 +149,23 @@ module _ (guest : ℕ) where
       settle_stays outbox_state OutboxMakes guest old answer new _ does
 
   -- a device that was moved alone, or with the reply in its place
-  known_stays : (g h : Bool) (a b : Boards) → Knows guest g a h b
+  device_stays : (a b : Boards) (d : AskingState)
+      → b ≡ record a { devices = slice_set a.devices guest d }
       → OthersStay guest (board_of a) (board_of b)
-  known_stays g h a b knows =
-      let devices = map-set device_in a.devices guest knows.device' in
+  device_stays a b d after =
+      let devices = map-set device_in a.devices guest d in
       subst (λ (v : BoardState OutboxState). OthersStay guest (board_of a) v)
-      (sym (ap board_of knows.after ∙ ap (λ ds. with_devices ds a.rest) devices))
+      (sym (ap board_of after ∙ ap (λ ds. with_devices ds a.rest) devices))
       (record {
-        devices = λ k other. get_set_other _ guest k knows.device'.device other;
+        devices = λ k other. get_set_other _ guest k d.device other;
         jobs = λ k other. refl;
         dones = λ k other. refl;
         intents = λ k other. refl;
       })
+
+  known_stays : (g h : Bool) (a b : Boards) → Knows guest g a h b
+      → OthersStay guest (board_of a) (board_of b)
+  known_stays g h a b knows = device_stays a b knows.device' knows.after
 
   hands_stay : (a b : Boards) (ps : List Range) → HandsOne guest a ps b
       → OthersStay guest (board_of a) (board_of b)
@@ -197,7 +202,10 @@ module _ (guest : ℕ) where
       stays_twice outbox_state OutboxMakes guest (board_of x) (board_of y) (board_of z)
       (others_stay q (standing r g) x y runs) (known_stays g h y z knows)
   others_stay s t a b (GivesUp q r g x y runs) = others_stay q (standing r g) x y runs
-  others_stay s t a b (Copies q r o g x y runs) = others_stay q (standing (o ∷ r) g) x y runs
+  others_stay s t a b (Calls q r x y z runs notified) =
+      stays_twice outbox_state OutboxMakes guest (board_of x) (board_of y) (board_of z)
+      (others_stay q (standing r true) x y runs)
+      (device_stays y z notified.device' notified.after)
   others_stay s t a b (Voids q r g x y z runs knows) =
       stays_twice outbox_state OutboxMakes guest (board_of x) (board_of y) (board_of z)
       (others_stay q (standing r g) x y runs) (known_stays g g y z knows)

@@ -1,15 +1,14 @@
 -- What a pop of the guest's device comes to.
-use Rattle.std.proofs.Common.{◌≡◌, ◌<◌, ◌⊎◌, inl, inr, refl, ap, sym, subst, ◌∙◌, ℕ, Bool, true, false}
-use Rattle.std.proofs.Common.{List, [], ◌∷◌, ◌++◌, Option, Some, None, Result, Ok, Err, length, map, get_or}
+use Rattle.std.proofs.Common.{◌≡◌, ◌<◌, ◌⊎◌, ap, sym, subst, ◌∙◌, ℕ, Bool, true, false}
+use Rattle.std.proofs.Common.{List, [], ◌∷◌, ◌++◌, Option, Some, None, Result, Ok, Err, length, get_or}
 use Rattle.std.proofs.Common.{arith, IfSome}
 use Rattle.machine.proofs.Common.{slice_get, slice_set, Answer, AskingState, BoardState, Boards}
-use Rattle.machine.proofs.Common.{DeviceState, HasNoJob, IsSound, Job, Makes, OutboxMakes, OutboxState}
-use Rattle.machine.proofs.Common.{Pops, PopsInto, PopsOne, Range, Runs, Still, board_of, get_set_same}
+use Rattle.machine.proofs.Common.{DeviceState, HasNoJob, IsSound, Job, Makes, OutboxState}
+use Rattle.machine.proofs.Common.{Pops, PopsInto, Range, Runs, Still, board_of, get_set_same}
 use Rattle.machine.proofs.Common.{in_place, outbox_state, put, GivesUp, Stand, standing}
 use Rattle.board.proofs.Common.{slice_get-get_or, length-map}
 use Rattle.mmio_transport.specs.declared.fault.DeviceFault.{DeviceFault}
 use Rattle.mmio_transport.specs.Popping.{GivesJob}
-use Rattle.board.specs.Steps as steps
 use Rattle.board.specs.Steps.{job_of, pop_answer}
 use Rattle.board.specs.declared.step.Seen.TheVariants.{Did, Nothing}
 use Rattle.board.specs.declared.step.Step.TheVariants as step
@@ -30,20 +29,18 @@ still_by guest g t b b' none same =
     (Still (standing [] g) b))
 
 -- a step that was begun is given up
-pub gives_up : (guest : ℕ) (s t : Stand) (b : Boards) → t.parts ≡ s.parts → t.going ≡ false
-    → Runs guest s b t b
-gives_up guest s t b same over =
-    subst (λ qs. Runs guest s b (standing qs t.going) b) (sym same)
-    (subst (λ h. Runs guest s b (standing s.parts h) b) (sym over)
-    (GivesUp s s.parts s.going b b (Still s b)))
+pub gives_up : (guest : ℕ) (ps : List Range) (g : Bool) (t : Stand) (b : Boards)
+    → t ≡ standing ps false → Runs guest (standing ps g) b t b
+gives_up guest ps g t b over = subst (λ r. Runs guest (standing ps g) b r b) (sym over)
+    (GivesUp (standing ps g) ps g b b (Still (standing ps g) b))
 
-pub pops_by : (guest : ℕ) (t : Stand) (answer : Answer) (b b' : Boards) (d : AskingState)
-    → slice_get b.devices guest ≡ Some d → Makes (step.Pop guest) answer b b'
-    → t.going ≡ false → (t.parts ≡ pop_parts d.device) ⊎ ((t.parts ≡ []) × ((answer ≡ Ok Did) → ⊥))
-    → Runs guest (standing [] true) b t b'
-pops_by guest t answer b b' d its makes over parts =
-    subst (λ h. Runs guest (standing [] true) b (standing t.parts h) b') (sym over)
-    (Pops (standing [] true) t.parts b b b' answer (Still (standing [] true) b) (record {
+pub pops_by : (guest : ℕ) (qs : List Range) (v : Bool) (answer : Answer) (b b' : Boards)
+    (d : AskingState) → slice_get b.devices guest ≡ Some d → Makes (step.Pop guest) answer b b'
+    → v ≡ false → (qs ≡ pop_parts d.device) ⊎ ((qs ≡ []) × ((answer ≡ Ok Did) → ⊥))
+    → Runs guest (standing [] true) b (standing qs v) b'
+pops_by guest qs v answer b b' d its makes over parts =
+    subst (λ h. Runs guest (standing [] true) b (standing qs h) b') (sym over)
+    (Pops (standing [] true) qs b b b' answer (Still (standing [] true) b) (record {
       makes = makes;
       device = d;
       its = its;

@@ -1,10 +1,10 @@
 -- What a reply that is handed to its device is to copy out.
-use Rattle.std.proofs.Common.{◌≡◌, ◌<◌, ◌≤◌, refl, ap, sym, subst, ◌∙◌, ℕ, ◌+◌, ◌-◌, List, [], ◌∷◌, ◌++◌}
-use Rattle.std.proofs.Common.{Option, Some, None, length, map, get_or, drop, IfSome, true, false}
+use Rattle.std.proofs.Common.{◌≡◌, ◌<◌, ◌≤◌, ap, sym, subst, ◌∙◌, ℕ, ◌+◌, ◌-◌, List, [], ◌++◌}
+use Rattle.std.proofs.Common.{Option, Some, length, map, get_or, drop, IfSome, Bool, true, false}
 use Rattle.std.proofs.lemmas.List.{at_drop_all, drop_more}
 use Rattle.std.specs.Prelude.{option_map}
-use Rattle.machine.proofs.Common.{slice_get, AskingState, Boards, Done, Hands, HandsOne, HandsReply}
-use Rattle.machine.proofs.Common.{OutboxMakes, Range, Runs, Stand, Still, in_place, outbox_state}
+use Rattle.machine.proofs.Common.{slice_get, AskingState, Boards, Done, Hands, HandsReply}
+use Rattle.machine.proofs.Common.{OutboxMakes, Range, Runs, Still, in_place, outbox_state}
 use Rattle.machine.proofs.Common.{standing}
 use Rattle.board.proofs.Common.{append-nil, append_assoc, slice_get-map}
 use Rattle.mmio_transport.specs.Queue.{QueueState}
@@ -13,12 +13,13 @@ use Rattle.mmio_transport.specs.declared.done.Published.{Published}
 use Rattle.machine.specs.Serving.{IsNoted}
 use Rattle.machine.specs.Turn.{filled_part, filled_parts, reply_parts}
 
-pub hands_by : (guest : ℕ) (t : Stand) (published : Published) (b b' : Boards)
-    (h : HandsReply outbox_state OutboxMakes guest published b b') → t.going ≡ false
-    → t.parts ≡ reply_parts h.device.device h.done published → Runs guest (standing [] true) b t b'
-hands_by guest t published b b' h over parts =
-    subst (λ v. Runs guest (standing [] true) b (standing t.parts v) b') (sym over)
-    (Hands (standing [] true) t.parts b b b' (Still (standing [] true) b) (record {
+pub hands_by : (guest : ℕ) (qs : List Range) (v : Bool) (published : Published) (b b' : Boards)
+    (h : HandsReply outbox_state OutboxMakes guest published b b') → v ≡ false
+    → qs ≡ reply_parts h.device.device h.done published
+    → Runs guest (standing [] true) b (standing qs v) b'
+hands_by guest qs v published b b' h over parts =
+    subst (λ g. Runs guest (standing [] true) b (standing qs g) b') (sym over)
+    (Hands (standing [] true) qs b b b' (Still (standing [] true) b) (record {
       published = published;
       hands = h;
       parts_are = parts;

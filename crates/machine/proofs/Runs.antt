@@ -1,11 +1,10 @@
 -- What serves a guest, one part after another.
-use Rattle.std.proofs.Common.{◌≡◌, refl, ap, sym, subst, ◌∙◌, ℕ, Bool, true, false, List, [], ◌∷◌}
-use Rattle.std.proofs.Common.{Some, map, length}
-use Rattle.machine.proofs.Common.{slice_get, slice_set, OutboxMakes, OutboxState, outbox_state}
+use Rattle.std.proofs.Common.{◌≡◌, ap, sym, subst, ◌∙◌, ℕ, Bool, true, false, List, []}
+use Rattle.machine.proofs.Common.{slice_set, OutboxMakes, OutboxState, outbox_state}
 use Rattle.machine.proofs.Common.{AskingState, BoardState, board_of, with_devices, Moves, moves_none}
-use Rattle.machine.proofs.Common.{moves_twice, lent_moves, Answer, Step, Range, Boards, Copies, Hands}
-use Rattle.machine.proofs.Common.{HandsOne, IsShare, Knows, LearnsOf, Makes, Pops, PopsOne, Runs}
-use Rattle.machine.proofs.Common.{Still, Then, Voids, GivesUp, Learns, Stand, standing}
+use Rattle.machine.proofs.Common.{moves_twice, lent_moves, Answer, Step, Range, Boards, Calls, Hands}
+use Rattle.machine.proofs.Common.{IsShare, Knows, LearnsOf, Makes, Pops, Runs}
+use Rattle.machine.proofs.Common.{Still, Then, Voids, GivesUp, Stand, standing}
 use Rattle.board.proofs.AskingSteps.{device_in, map-set}
 
 module _ (guest : ℕ) where
@@ -22,8 +21,8 @@ module _ (guest : ℕ) where
       LearnsOf s r g h a y z none (runs_twice s q (standing r g) a x y p runs) knows
   runs_twice s t u a b c p (GivesUp q r g x y runs) =
       GivesUp s r g a y (runs_twice s q (standing r g) a x y p runs)
-  runs_twice s t u a b c p (Copies q r o g x y runs) =
-      Copies s r o g a y (runs_twice s q (standing (o ∷ r) g) a x y p runs)
+  runs_twice s t u a b c p (Calls q r x y z runs notified) =
+      Calls s r a y z (runs_twice s q (standing r true) a x y p runs) notified
   runs_twice s t u a b c p (Voids q r g x y z runs knows) =
       Voids s r g a y z (runs_twice s q (standing r g) a x y p runs) knows
 
@@ -41,15 +40,23 @@ module _ (guest : ℕ) where
   pub still_same : (s t : Stand) (b : Boards) → t ≡ s → Runs guest s b t b
   still_same s t b same = subst (λ r. Runs guest s b r b) (sym same) (Still s b)
 
+  pub still_on : (s t u : Stand) (a b : Boards) → u ≡ t → Runs guest s a t b → Runs guest s a u b
+  still_on s t u a b same runs = subst (λ r. Runs guest s a r b) (sym same) runs
+
   -- 1. All of it moves a board
+
+  device_moves : (a b : Boards) (d : AskingState)
+      → b ≡ record a { devices = slice_set a.devices guest d }
+      → Moves outbox_state OutboxMakes (board_of a) (board_of b)
+  device_moves a b d after =
+      subst (λ (v : BoardState OutboxState). Moves outbox_state OutboxMakes (board_of a) v)
+      (sym (ap board_of after ∙ ap (λ ds. with_devices ds a.rest)
+      (map-set device_in a.devices guest d)))
+      (lent_moves outbox_state OutboxMakes guest (board_of a) d.device)
 
   known_moves : (g h : Bool) (a b : Boards) → Knows guest g a h b
       → Moves outbox_state OutboxMakes (board_of a) (board_of b)
-  known_moves g h a b knows =
-      subst (λ (v : BoardState OutboxState). Moves outbox_state OutboxMakes (board_of a) v)
-      (sym (ap board_of knows.after ∙ ap (λ ds. with_devices ds a.rest)
-      (map-set device_in a.devices guest knows.device')))
-      (lent_moves outbox_state OutboxMakes guest (board_of a) knows.device'.device)
+  known_moves g h a b knows = device_moves a b knows.device' knows.after
 
   pub runs_moves : (s t : Stand) (a b : Boards) → Runs guest s a t b
       → Moves outbox_state OutboxMakes (board_of a) (board_of b)
@@ -67,7 +74,10 @@ module _ (guest : ℕ) where
       moves_twice outbox_state OutboxMakes (board_of x) (board_of y) (board_of z)
       (runs_moves q (standing r g) x y runs) (known_moves g h y z knows)
   runs_moves s t a b (GivesUp q r g x y runs) = runs_moves q (standing r g) x y runs
-  runs_moves s t a b (Copies q r o g x y runs) = runs_moves q (standing (o ∷ r) g) x y runs
+  runs_moves s t a b (Calls q r x y z runs notified) =
+      moves_twice outbox_state OutboxMakes (board_of x) (board_of y) (board_of z)
+      (runs_moves q (standing r true) x y runs)
+      (device_moves y z notified.device' notified.after)
   runs_moves s t a b (Voids q r g x y z runs knows) =
       moves_twice outbox_state OutboxMakes (board_of x) (board_of y) (board_of z)
       (runs_moves q (standing r g) x y runs) (known_moves g g y z knows)

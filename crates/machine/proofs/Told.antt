@@ -1,19 +1,20 @@
 -- What a monitor is asked for.
 use Rattle.std.proofs.Common.{◌≡◌, ◌≤◌, ◌<◌, refl, ap, sym, subst, ◌∙◌, ℕ, Bool, true, false, List}
-use Rattle.std.proofs.Common.{◌∷◌, Option, Some, None, IfSome, length}
+use Rattle.std.proofs.Common.{Some, None, IfSome, length}
 use Rattle.std.proofs.lemmas.Option.{slice_get_past}
 use Rattle.std.specs.Prelude.{take}
 use Rattle.guest_memory.specs.Memory.{bytes_at}
 use Rattle.guest_memory.specs.declared.ask.Ask.{Ask}
 use Rattle.machine.proofs.Common.{◌&&◌, slice_get, slice_set, is_some, get_set_same, AskingState}
-use Rattle.machine.proofs.Common.{Boards, MachineFault, MachineState, Range, Runs}
+use Rattle.machine.proofs.Common.{Boards, MachineState, Range, Runs}
 use Rattle.board.specs.State.{owes}
-use Rattle.machine.specs.Ending.{AsksIn, HasReason, NeedsNext, NeedsTold, RestsAt}
+use Rattle.machine.specs.Ending.{HasReason, NeedsNext, NeedsTold, left_by}
 use Rattle.machine.specs.Machine.{IsTold, NeedsOf, NoRoom, NoSuchGuest, OfBoard, ReadsOf, RestsIn}
-use Rattle.machine.specs.Machine.{TellsOf, has_guest, turn_in, turn_of, waits_for_sync}
+use Rattle.machine.specs.Machine.{TellsOf, has_guest, left_of, turn_in, turn_of, waits_for_sync}
 use Rattle.machine.specs.declared.fault.MachineFault.TheVariants as fault
 use Rattle.machine.specs.Settings.{most_of}
-use Rattle.machine.specs.Turn.{Stand, TurnState, stand_of}
+use Rattle.machine.specs.Turn.{TurnState, stand_of}
+use Rattle.machine.proofs.Runs.{still_same}
 use Rattle.machine.specs.declared.machine.Served.{Served}
 use Rattle.machine.specs.declared.machine.What.TheVariants as what
 use Rattle.machine.specs.declared.serving.Next.{Next}
@@ -21,20 +22,19 @@ use Rattle.machine.specs.declared.serving.Next.TheVariants as next
 use Rattle.machine.specs.declared.settings.Setup.{Setup}
 use Rattle.machine.specs.declared.turn.Asked.TheVariants as asked
 
-module _ (guest most : ℕ) (first : Stand) (old : Boards) (turn : TurnState) (bytes : List ℕ)
-    (new : Boards) where
+module _ (guest most : ℕ) (turn : TurnState) (bytes : List ℕ) (new : Boards) where
   -- what is needed was asked for
-  pub told_of : (n : Next) → NeedsNext guest most first old (stand_of turn) new (Some n)
+  pub told_of : (n : Next) → NeedsNext guest most turn.parts new (Some n)
       → ((ask : Ask) → n ≡ next.Read ask → (ask.len ≤ 16384) × (turn.asked ≡ asked.Read ask))
       → ((part : Range) → n ≡ next.Write part → (turn.asked ≡ asked.Write)
       × IfSome (slice_get new.devices guest) (λ d.
       take part.len bytes ≡ bytes_at d.device.memory part.at part.len))
-      → NeedsTold guest most first old turn bytes new n
+      → NeedsTold guest most turn bytes new n
   told_of next.Again needs read write = tt
   told_of (next.Read ask) needs read write =
       let r = read ask refl in (needs, r.0, r.1)
   told_of (next.Write part) needs read write =
-      let w = write part refl in (needs, w.0, w.1)
+      let w = write part refl in (w.0, w.1)
   told_of next.Call needs read write = tt
   told_of (next.Rest None) needs read write = needs
   told_of (next.Rest (Some f)) needs read write = needs
@@ -43,8 +43,7 @@ module _ (guest most : ℕ) (first : Stand) (old : Boards) (turn : TurnState) (b
 module _ (guest room : ℕ) (old new : MachineState) (w : Setup) (bytes : List ℕ)
     (setup : slice_get old.setups guest ≡ Some w) where
   pub needs_of : (n : Next) (s : Served) → IsTold n s
-      → NeedsTold guest (most_of w) (stand_of (turn_of old guest)) old.board (turn_of new guest) bytes
-      new.board n → NeedsOf guest room s.what s bytes old new
+      → NeedsTold guest (most_of w) (turn_of new guest) bytes new.board n → NeedsOf guest room s.what s bytes old new
   needs_of next.Again s told needs =
       subst (λ x. NeedsOf guest room x s bytes old new) (sym told.0) tt
   needs_of (next.Read ask) s told needs =
@@ -55,14 +54,11 @@ module _ (guest room : ℕ) (old new : MachineState) (w : Setup) (bytes : List �
   needs_of (next.Write part) s told needs =
       subst (λ x. NeedsOf guest room x s bytes old new) (sym told.0)
       (record {
-        part = part;
-        first = needs.0;
-        is = (sym told.2, sym told.3);
         bytes_are = subst (λ at. IfSome (slice_get new.board.devices guest) (λ d.
             take s.len bytes ≡ bytes_at d.device.memory at s.len)) (sym told.2)
             (subst (λ len. IfSome (slice_get new.board.devices guest) (λ d.
-            take len bytes ≡ bytes_at d.device.memory part.at len)) (sym told.3) needs.2);
-        noted = needs.1;
+            take len bytes ≡ bytes_at d.device.memory part.at len)) (sym told.3) needs.1);
+        noted = needs.0;
       })
   needs_of next.Call s told needs =
       subst (λ x. NeedsOf guest room x s bytes old new) (sym told.0) tt
@@ -77,6 +73,18 @@ module _ (guest room : ℕ) (old new : MachineState) (w : Setup) (bytes : List �
         (λ g some. OfBoard (subst (λ x. HasReason guest x)
             (let a = told.1 in let b = some in cc) needs)),
       )
+
+-- and where the steps stand
+pub left_told : (n : Next) (s : Served) (turn : TurnState) → IsTold n s
+    → left_by (Some n) turn ≡ left_of s.what s.at s.len turn
+left_told next.Again s turn told = ap (λ x. left_of x s.at s.len turn) (sym told.0)
+left_told (next.Read ask) s turn told = ap (λ x. left_of x s.at s.len turn) (sym told.0)
+left_told (next.Write part) s turn told =
+    ap (λ at. left_of what.Write at part.len turn) (sym told.2)
+    ∙ ap (λ len. left_of what.Write s.at len turn) (sym told.3)
+    ∙ ap (λ x. left_of x s.at s.len turn) (sym told.0)
+left_told next.Call s turn told = ap (λ x. left_of x s.at s.len turn) (sym told.0)
+left_told (next.Rest f) s turn told = ap (λ x. left_of x s.at s.len turn) (sym told.0)
 
 and_first : (a b c : Bool) → a ≡ false → (a && b && c) ≡ false
 and_first true b c is = absurd (let no = is in cc)
@@ -111,6 +119,8 @@ module _ (m : MachineState) (guest : ℕ) where
       → IsTold (next.Rest (Some fault.NoGuest)) s → s.sync ≡ waits_for_sync m.board.rest
       → s.waiting ≡ owes guest m.board.rest → TellsOf guest room s bytes m m
   tells_absent room s bytes absent told sync waiting = record {
+    runs = still_same guest (stand_of (turn_of m guest)) _ m.board
+        (sym (left_told (next.Rest (Some fault.NoGuest)) s (turn_of m guest) told));
     needs = subst (λ x. NeedsOf guest room x s bytes m m) (sym told.0) (
       (λ none. absurd (let no = told.1 in let other = none in cc)),
       (λ f some. NoSuchGuest (let a = told.1 in let b = some in cc) absent refl),
@@ -126,6 +136,8 @@ module _ (m : MachineState) (guest : ℕ) where
       → s.sync ≡ waits_for_sync m.board.rest
       → s.waiting ≡ owes guest m.board.rest → TellsOf guest room s bytes m m
   tells_room room s bytes there short told sync waiting = record {
+    runs = still_same guest (stand_of (turn_of m guest)) _ m.board
+        (sym (left_told (next.Rest (Some fault.OutOfRange)) s (turn_of m guest) told));
     needs = subst (λ x. NeedsOf guest room x s bytes m m) (sym told.0) (
       (λ none. absurd (let no = told.1 in let other = none in cc)),
       (λ f some. NoRoom (let a = told.1 in let b = some in cc) short refl),
@@ -147,23 +159,27 @@ module _ (m : MachineState) (guest : ℕ) where
   pub tells_of : (room most : ℕ) (w : Setup) (turn turn' : TurnState) (new : Boards)
       (bytes : List ℕ) (n : Next) (s : Served) → slice_get m.setups guest ≡ Some w
       → slice_get m.turns guest ≡ Some turn → has_guest m guest ≡ true → most ≡ most_of w
-      → IsTold n s → NeedsTold guest most (stand_of turn) m.board turn' bytes new n
+      → IsTold n s → Runs guest (stand_of turn) m.board (left_by (Some n) turn') new
+      → NeedsTold guest most turn' bytes new n
       → s.sync ≡ waits_for_sync new.rest → s.waiting ≡ owes guest new.rest
       → TellsOf guest room s bytes m
       (record m { board = new; turns = slice_set m.turns guest turn' })
-  tells_of room most w turn turn' new bytes n s setup its there limit told needs sync waiting =
+  tells_of room most w turn turn' new bytes n s setup its there limit told runs needs sync waiting =
       let m' : MachineState = record m {
         board = new;
         turns =
             slice_set m.turns guest turn';
       } in
+      let set = sym (ap turn_in (get_set_same m.turns guest turn turn' its)) in
       record {
+        runs = subst (λ t. Runs guest (stand_of (turn_of m guest)) m.board
+            (left_of s.what s.at s.len t) new) set
+            (subst (λ o. Runs guest (stand_of (turn_in o)) m.board
+            (left_of s.what s.at s.len turn') new) (sym its)
+            (subst (λ u. Runs guest (stand_of turn) m.board u new) (left_told n s turn' told) runs));
         needs = needs_of guest room m m' w bytes setup n s told
-            (subst (λ t. NeedsTold guest (most_of w) (stand_of (turn_of m guest)) m.board t bytes new n)
-            (sym (ap turn_in (get_set_same m.turns guest turn turn' its)))
-            (subst (λ o. NeedsTold guest (most_of w) (stand_of (turn_in o)) m.board turn' bytes new n)
-            (sym its)
-            (subst (λ k. NeedsTold guest k (stand_of turn) m.board turn' bytes new n) limit needs)));
+            (subst (λ t. NeedsTold guest (most_of w) t bytes new n) set
+            (subst (λ k. NeedsTold guest k turn' bytes new n) limit needs));
         sync = sync;
         waiting = waiting;
         absent = λ gone. absurd (let no = sym there ∙ gone in cc);

@@ -1,5 +1,5 @@
 -- What a guest's write makes of a machine, where its queue is ready then.
-use Rattle.std.proofs.Common.{◌≡◌, refl, ap, sym, subst, ◌∙◌, ℕ, Bool, true, Option, Some, None}
+use Rattle.std.proofs.Common.{◌≡◌, refl, ap, sym, ◌∙◌, ℕ, true, Option, Some, None}
 use Rattle.std.specs.Prelude.{if◌then◌else◌}
 use Rattle.machine.proofs.Common.{slice_get, slice_set, is_some, AskingState, MachineState}
 use Rattle.board.proofs.Doing.{set_same}

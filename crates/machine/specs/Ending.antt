@@ -2,7 +2,6 @@
 use Rattle.std.specs.Prelude.{◌≡◌, ◌⊎◌, ◌≤◌, ℕ, Bool, true, false, nat_lt, List, [], ◌∷◌, length, Option, Some}
 use Rattle.std.specs.Prelude.{None, Ok, Err, IfSome, map, slice_get, slice_set, take, ◌<◌}
 use Rattle.chains.specs.declared.range.Range.{Range}
-use Rattle.disk.specs.OutboxDisk.{OutboxState}
 use Rattle.flusher.specs.Store.{next_call}
 use Rattle.flusher.specs.declared.progress.Call.{Call}
 use Rattle.flusher.specs.declared.progress.Call.TheVariants as call
@@ -11,11 +10,10 @@ use Rattle.guest_memory.specs.declared.ask.Ask.{Ask}
 use Rattle.mmio_transport.specs.Asking.{AskingState, after_told, known}
 use Rattle.mmio_transport.specs.Device.{DeviceState}
 use Rattle.mmio_transport.specs.Popping.{GivesJob, with_fault}
-use Rattle.mmio_transport.specs.Queue.{QueueState}
 use Rattle.mmio_transport.specs.declared.fault.DeviceFault.TheVariants as device_fault
 use Rattle.rpmb_book.specs.declared.refused.Refused.TheVariants as refused
-use Rattle.board.specs.Asking.{ForPop, ForReply, board_of}
-use Rattle.board.specs.State.{BoardState, HasNoJob, in_place, waiting}
+use Rattle.board.specs.Asking.{ForPop, ForReply}
+use Rattle.board.specs.State.{HasNoJob, in_place, waiting}
 use Rattle.board.specs.declared.step.Step.{Step}
 use Rattle.board.specs.declared.step.Step.TheVariants as step
 use Rattle.board.specs.declared.step.StepFault.{StepFault}
@@ -84,41 +82,50 @@ pub data HasReason (guest : ℕ) (f : MachineFault) : Type 0 where
       → Makes s (Err e) before after → f ≡ reason_of e → HasReason guest f
   Lacks : f ≡ fault.NoMemory → HasReason guest f
 
--- What is needed next, after steps from one board to another: the bytes that its device asks for;
--- that the part which came first is copied out; or nothing, since the guest rests, or for a reason.
-abbrev pub NeedsNext : (guest most : ℕ) → Stand → Boards → Stand → Boards → Option Next → Type 0
-NeedsNext guest most s old t new None = Unit {0}
-NeedsNext guest most s old t new (Some next.Again) = Unit {0}
-NeedsNext guest most s old t new (Some (next.Read ask)) = AsksIn guest ask new
-NeedsNext guest most s old t new (Some (next.Write part)) =
-    Runs guest s old (record t { parts = part ∷ t.parts }) new
-NeedsNext guest most s old t new (Some next.Call) = Unit {0}
-NeedsNext guest most s old t new (Some (next.Rest None)) = RestsAt guest most new × (t.parts ≡ [])
-NeedsNext guest most s old t new (Some (next.Rest (Some f))) = HasReason guest f
+-- What is needed next, on a board where these parts are left: the bytes that its device asks for;
+-- that a part is copied out, or the driver notified; or nothing, since the guest rests, or for a
+-- reason.
+abbrev pub NeedsNext : (guest most : ℕ) → List Range → Boards → Option Next → Type 0
+NeedsNext guest most ps b None = Unit {0}
+NeedsNext guest most ps b (Some next.Again) = Unit {0}
+NeedsNext guest most ps b (Some (next.Read ask)) = AsksIn guest ask b
+NeedsNext guest most ps b (Some (next.Write part)) = Unit {0}
+NeedsNext guest most ps b (Some next.Call) = Unit {0}
+NeedsNext guest most ps b (Some (next.Rest None)) = RestsAt guest most b × (ps ≡ [])
+NeedsNext guest most ps b (Some (next.Rest (Some f))) = HasReason guest f
+
+-- Where the guest's steps stand behind a move that needs this: the part that is to be copied out
+-- isn't in its memory yet, and of a notification that is due nobody was told.
+abbrev pub left_by : Option Next → TurnState → Stand
+left_by None turn = stand_of turn
+left_by (Some next.Again) turn = stand_of turn
+left_by (Some (next.Read ask)) turn = stand_of turn
+left_by (Some (next.Write part)) turn = standing (part ∷ turn.parts) turn.going
+left_by (Some next.Call) turn = record (stand_of turn) { owed = true }
+left_by (Some (next.Rest f)) turn = stand_of turn
 
 -- A move of a serve, and what it needs next.
 pub record Went (guest most : ℕ) (turn turn' : TurnState) (old new : Boards) (n : Option Next)
     : Type 0 where
-  pub runs : Runs guest (stand_of turn) old (stand_of turn') new
-  pub needs : NeedsNext guest most (stand_of turn) old (stand_of turn') new n
+  pub runs : Runs guest (stand_of turn) old (left_by n turn') new
+  pub needs : NeedsNext guest most turn'.parts new n
   pub count : length new.devices ≡ length old.devices
   pub asked : turn'.asked ≡ turn.asked
 
 -- What the monitor is asked for, with these bytes in what it lent: as what is needed, of which it
 -- is noted that it was asked for; at most 16,384 bytes are read, and those to be written stand first.
-abbrev pub NeedsTold : (guest most : ℕ) → Stand → Boards → TurnState → List ℕ → Boards → Next
-    → Type 0
-NeedsTold guest most s old turn bytes new next.Again = Unit {0}
-NeedsTold guest most s old turn bytes new (next.Read ask) =
+abbrev pub NeedsTold : (guest most : ℕ) → TurnState → List ℕ → Boards → Next → Type 0
+NeedsTold guest most turn bytes new next.Again = Unit {0}
+NeedsTold guest most turn bytes new (next.Read ask) =
     AsksIn guest ask new × (ask.len ≤ 16384) × (turn.asked ≡ asked.Read ask)
-NeedsTold guest most s old turn bytes new (next.Write part) =
-    Runs guest s old (standing (part ∷ turn.parts) turn.going) new × (turn.asked ≡ asked.Write)
+NeedsTold guest most turn bytes new (next.Write part) =
+    (turn.asked ≡ asked.Write)
     × IfSome (slice_get new.devices guest) (λ d.
     take part.len bytes ≡ bytes_at d.device.memory part.at part.len)
-NeedsTold guest most s old turn bytes new next.Call = Unit {0}
-NeedsTold guest most s old turn bytes new (next.Rest None) =
+NeedsTold guest most turn bytes new next.Call = Unit {0}
+NeedsTold guest most turn bytes new (next.Rest None) =
     RestsAt guest most new × (turn.parts ≡ [])
-NeedsTold guest most s old turn bytes new (next.Rest (Some f)) = HasReason guest f
+NeedsTold guest most turn bytes new (next.Rest (Some f)) = HasReason guest f
 
 -- The guest's device was told these bytes, and nothing else changed.
 pub record TellsIn (guest at : ℕ) (bytes : List ℕ) (old new : Boards) : Type 0 where

@@ -2,7 +2,6 @@
 use Rattle.std.specs.Prelude.{◌≡◌, ◌≢◌, ◌≤◌, ◌<◌, ◌∷◌, ℕ, Bool, true, false, ◌&&◌, if◌then◌else◌, nat_le}
 use Rattle.std.specs.Prelude.{List, length, take, Option, Some, None, is_some, slice_get, slice_set}
 use Rattle.std.specs.Prelude.{IfSome, []}
-use Rattle.chains.specs.declared.range.Range.{Range}
 use Rattle.guest_memory.specs.Memory.{bytes_at}
 use Rattle.disk.specs.Content.{Content}
 use Rattle.disk.specs.Disk.{MayLeave}
@@ -28,7 +27,7 @@ use Rattle.board.specs.Moving.{Moves}
 use Rattle.machine.specs.Ending.{AsksIn, HasReason, RestsAt}
 use Rattle.machine.specs.Serving.{Boards, Hears, OthersStay, Runs, standing}
 use Rattle.machine.specs.Settings.{device_after, most_of, value_shown, value_taken}
-use Rattle.machine.specs.Turn.{TurnState, fresh_turn, stand_of}
+use Rattle.machine.specs.Turn.{Stand, TurnState, fresh_turn, stand_of}
 use Rattle.machine.specs.declared.fault.MachineFault.{MachineFault}
 use Rattle.machine.specs.declared.fault.MachineFault.TheVariants as fault
 use Rattle.machine.specs.declared.machine.Served.{Served}
@@ -104,12 +103,9 @@ turn_in (Some turn) = turn
 abbrev pub turn_of : MachineState → ℕ → TurnState
 turn_of m guest = turn_in (slice_get m.turns guest)
 
--- A guest was served: by its steps alone, each of which is told to be copied out in its order; at
--- each moment a stop leaves, of every guest, the partition after a prefix of its accepted requests,
--- with all that was settled before; and of every other guest all stays.
+-- A guest was served: at each moment a stop leaves, of every guest, the partition after a prefix of
+-- its accepted requests, with all that was settled before; and of every other guest all stays.
 pub record IsServed (guest : ℕ) (old new : MachineState) : Type 0 where
-  pub runs : Runs guest (stand_of (turn_of old guest)) old.board (stand_of (turn_of new guest))
-      new.board
   pub moves : Moves outbox_state OutboxMakes (board_of old.board) (board_of new.board)
   pub others : OthersStay guest (board_of old.board) (board_of new.board)
   pub turns : (k : ℕ) → k ≢ guest → slice_get new.turns k ≡ slice_get old.turns k
@@ -135,13 +131,8 @@ waits_for_sync b = is_sync (next_call b.store.broken b.store.guests)
 unfoldable pub is_awaited : BoardState OutboxState → Bool
 is_awaited b = waits_for_sync b && is_none b.store.disk.outbox.writes
 
--- the bytes at the front of these, which stand in the guest's memory by what its device wrote: a
--- part that came first of those that are to be copied out
-pub record WritesOf (guest at len : ℕ) (bytes : List ℕ) (old new : MachineState) : Type 0 where
-  pub part : Range
-  pub first : Runs guest (stand_of (turn_of old guest)) old.board
-      (standing (part ∷ (turn_of new guest).parts) (turn_of new guest).going) new.board
-  pub is : (part.at ≡ at) × (part.len ≡ len)
+-- the bytes at the front of these, which stand in the guest's memory by what its device wrote
+pub record WritesOf (guest at len : ℕ) (bytes : List ℕ) (new : MachineState) : Type 0 where
   pub bytes_are : IfSome (slice_get new.board.devices guest) (λ d.
       take len bytes ≡ bytes_at d.device.memory at len)
   pub noted : (turn_of new guest).asked ≡ asked.Write
@@ -165,13 +156,25 @@ NeedsOf guest room what.Rest s bytes old new =
     (s.fault ≡ None → RestsIn guest (slice_get old.setups guest) new)
     × ((f : MachineFault) → s.fault ≡ Some f → HasFault guest room f old new)
 NeedsOf guest room what.Read s bytes old new = ReadsOf guest s.at s.len new
-NeedsOf guest room what.Write s bytes old new = WritesOf guest s.at s.len bytes old new
+NeedsOf guest room what.Write s bytes old new = WritesOf guest s.at s.len bytes new
 NeedsOf guest room what.Call s bytes old new = Unit {0}
 NeedsOf guest room what.Again s bytes old new = Unit {0}
 
--- What a serve tells.
+-- Where the guest's steps stand behind a serve that tells this: a part that is to be written isn't in
+-- its memory yet, and comes before all that is left; and its driver is notified where that is told,
+-- and not else.
+abbrev pub left_of : What → (at len : ℕ) → TurnState → Stand
+left_of what.Rest at len turn = stand_of turn
+left_of what.Read at len turn = stand_of turn
+left_of what.Write at len turn = standing (record { at = at; len = len } ∷ turn.parts) turn.going
+left_of what.Call at len turn = record (stand_of turn) { owed = true }
+left_of what.Again at len turn = stand_of turn
+
+-- What a serve tells, behind steps of its guest alone.
 pub record TellsOf (guest room : ℕ) (s : Served) (bytes : List ℕ) (old new : MachineState)
     : Type 0 where
+  pub runs : Runs guest (stand_of (turn_of old guest)) old.board
+      (left_of s.what s.at s.len (turn_of new guest)) new.board
   pub needs : NeedsOf guest room s.what s bytes old new
   pub sync : s.sync ≡ waits_for_sync new.board.rest
   pub waiting : s.waiting ≡ owes guest new.board.rest

@@ -1,5 +1,5 @@
 -- What serving a guest does to a board, in steps, and what it leaves of the other guests.
-use Rattle.std.specs.Prelude.{◌≡◌, ◌≢◌, ◌⊎◌, ℕ, Bool, List, [], ◌∷◌, slice_get}
+use Rattle.std.specs.Prelude.{◌≡◌, ◌≢◌, ◌⊎◌, ℕ, Bool, List, [], slice_get}
 use Rattle.std.specs.Prelude.{slice_set, Some, None, Ok, true, false, IfSome, map, length, ◌++◌}
 use Rattle.chains.specs.declared.range.Range.{Range}
 use Rattle.disk.specs.OutboxDisk.{OutboxMakes, OutboxState, outbox_state}
@@ -56,7 +56,7 @@ IsShare guest step.Settle = Unit {0}
 
 -- What a device learns of its guest's memory, or does by itself: bytes were told; there is no memory
 -- where bytes were asked for, and it waits for a reset; all copies are forgotten, which begins a
--- step of it; or in such a step, which is over then, it saw whether its driver is to be notified.
+-- step of it; or in such a step, which is over then, it saw that its driver isn't to be notified.
 pub data Learns : Bool → AskingState → Bool → AskingState → Type 0 where
   Tells : (g : Bool) (a a' : AskingState) (at : ℕ) (bytes : List ℕ) → a' ≡ after_told a at bytes
       → Learns g a g a'
@@ -68,7 +68,7 @@ pub data Learns : Bool → AskingState → Bool → AskingState → Type 0 where
       }
       → Learns g a g a'
   Forgets : (a a' : AskingState) → a' ≡ record a { held = kept (known a) } → Learns false a true a'
-  Sees : (a a' : AskingState) (notify : Bool) → Notifies a (Ok notify) a' → Learns true a false a'
+  Sees : (a a' : AskingState) → Notifies a (Ok false) a' → Learns true a false a'
 
 -- The guest's device learned something, and nothing else changed.
 pub record Knows (guest : ℕ) (going : Bool) (old : Boards) (going' : Bool) (new : Boards)
@@ -77,6 +77,14 @@ pub record Knows (guest : ℕ) (going : Bool) (old : Boards) (going' : Bool) (ne
   pub its : slice_get old.devices guest ≡ Some device
   pub device' : AskingState
   pub learns : Learns going device going' device'
+  pub after : new ≡ record old { devices = slice_set old.devices guest device' }
+
+-- The guest's device saw that its driver is to be notified.
+pub record Notified (guest : ℕ) (old new : Boards) : Type 0 where
+  pub device : AskingState
+  pub its : slice_get old.devices guest ≡ Some device
+  pub device' : AskingState
+  pub sees : Notifies device (Ok true) device'
   pub after : new ≡ record old { devices = slice_set old.devices guest device' }
 
 -- The guest's device popped: what it wrote is to be copied out, unless it found no chain and that
@@ -97,12 +105,17 @@ pub record HandsOne (guest : ℕ) (old : Boards) (parts : List Range) (new : Boa
 
 -- parts that are left to be copied out, and whether a step of the device was begun
 abbrev pub standing : List Range → Bool → Stand
-standing parts going = record { parts = parts; going = going }
+standing parts going = record { parts = parts; going = going; owed = false }
+
+-- these parts are left, and the driver is to be notified
+abbrev pub owing : List Range → Stand
+owing parts = record { parts = parts; going = false; owed = true }
 
 -- The guest's steps, one after another, from one board to the other, with what is to be copied out
 -- into guest memory before and behind them. A step of its device is made only once it was begun, and
 -- begins only where nothing is left to be copied out: so what it reads was told behind all that the
--- steps before it wrote, and it believes nothing that was told for one of them.
+-- steps before it wrote, and it believes nothing that was told for one of them. No part is left out:
+-- one goes only where the monitor is told of it, behind these steps.
 pub data Runs (guest : ℕ) : Stand → Boards → Stand → Boards → Type 0 where
   Still : (s : Stand) (b : Boards) → Runs guest s b s b
   Then : (s t : Stand) (a b c : Boards) (x : Step) (answer : Answer)
@@ -118,9 +131,9 @@ pub data Runs (guest : ℕ) : Stand → Boards → Stand → Boards → Type 0 w
   -- a step that was begun is given up
   GivesUp : (s : Stand) (qs : List Range) (g : Bool) (a b : Boards)
       → Runs guest s a (standing qs g) b → Runs guest s a (standing qs false) b
-  -- the next part was given to be copied out
-  Copies : (s : Stand) (qs : List Range) (q : Range) (g : Bool) (a b : Boards)
-      → Runs guest s a (standing (q ∷ qs) g) b → Runs guest s a (standing qs g) b
+  -- a notification is due: the monitor is told of it
+  Calls : (s : Stand) (qs : List Range) (a b c : Boards)
+      → Runs guest s a (standing qs true) b → Notified guest b c → Runs guest s a (owing qs) c
   -- there is no memory where a part was to be copied out: what is left of it is void
   Voids : (s : Stand) (qs : List Range) (g : Bool) (a b c : Boards)
       → Runs guest s a (standing qs g) b → Knows guest g b g c → Runs guest s a (standing [] g) c

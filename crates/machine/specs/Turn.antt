@@ -35,14 +35,16 @@ fresh_turn = record {
   parts = [];
 }
 
--- Where a guest's steps stand: what isn't in its memory yet; and whether a step of its device was
--- begun, so that all of which it has a copy was told for that step.
+-- Where a guest's steps stand: what isn't in its memory yet; whether a step of its device was begun,
+-- so that all of which it has a copy was told for that step; and whether its driver is to be
+-- notified, which the monitor wasn't told.
 pub record Stand : Type 0 where
   pub parts : List Range
   pub going : Bool
+  pub owed : Bool
 
 abbrev pub stand_of : TurnState → Stand
-stand_of turn = record { parts = turn.parts; going = turn.going }
+stand_of turn = record { parts = turn.parts; going = turn.going; owed = false }
 
 -- what is done next stays, and what was asked for
 abbrev pub KeepsStage : TurnState → TurnState → Type 0

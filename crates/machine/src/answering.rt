@@ -1,12 +1,13 @@
 //! What a monitor's answer to the last thing that a serve needed does, and what it is asked next.
 ghost use Rattle.std.specs.Prelude.{◌≡◌, ◌<◌, ◌≤◌, ◌⊎◌, [], List, length, take, true, false};
-ghost use Rattle.std.specs.Prelude.{Err, IfSome, OnErr, OnOk, slice_get};
+ghost use Rattle.std.specs.Prelude.{Bool, Err, IfSome, OnErr, OnOk, Some, slice_get};
 ghost use Rattle.chains.specs.declared.range.Range.{Range as Part};
 ghost use Rattle.guest_memory.specs.Memory.{IsInside, bytes_at};
 ghost use Rattle.guest_memory.specs.declared.ask.Ask.{Ask};
 ghost use Rattle.machine.specs.Ending.{HearsAnswer, NeedsTold, RefusesIn, TakesAnswer, TellsIn};
-ghost use Rattle.machine.specs.Serving.{Runs};
-ghost use Rattle.machine.specs.Turn.{Stand, stand_of};
+ghost use Rattle.machine.specs.Ending.{left_by};
+ghost use Rattle.machine.specs.Serving.{Runs, standing};
+ghost use Rattle.machine.specs.Turn.{stand_of};
 ghost use Rattle.machine.specs.declared.turn.Asked.TheVariants as asked_of;
 
 use crate::fault::MachineFault;
@@ -24,7 +25,8 @@ pub(crate) const LARGEST_PART: usize = 16_384;
 /// a reset.
 fn refuse(board: &mut AskingBoard<OutboxDisk>, guest: u16, turn: &mut Turn)
     requires { guest < length board.old.devices }
-    ensures runs { (s : Stand) → Runs guest s board.old (record s { parts = [] }) board.new }
+    ensures runs { (ps : List Part) (g : Bool) → Runs guest (standing ps g) board.old (standing [] g)
+        board.new }
     ensures count { length board.new.devices ≡ length board.old.devices }
     ensures turn { turn.new ≡ record turn.old { parts = [] } }
     ensures refuses { RefusesIn guest board.old board.new }
@@ -41,7 +43,8 @@ fn told(
     bytes: &[u8],
 ) -> Result<(), MemFault>
     requires { guest < length board.old.devices }
-    ensures runs { (s : Stand) → Runs guest s board.old s board.new }
+    ensures runs { (ps : List Part) (g : Bool) → Runs guest (standing ps g) board.old (standing ps g)
+        board.new }
     ensures count { length board.new.devices ≡ length board.old.devices }
     ensures told { OnOk result (TellsIn guest ask.at (take ask.len bytes.now) board.old board.new) }
     ensures same { OnErr result (board.new ≡ board.old) }
@@ -122,7 +125,8 @@ fn need(
     out: &mut [u8],
 ) -> Next
     requires { guest < length board.old.devices }
-    ensures runs { Runs guest (stand_of turn.old) board.old (stand_of turn.new) board.new }
+    ensures runs { Runs guest (left_by (Some next) turn.old) board.old
+        (left_by (Some result) turn.new) board.new }
     ensures same { (result ≡ next) ⊎ (result ≡ Next.Again) }
     ensures board { result ≡ next → (board.new ≡ board.old) × (stand_of turn.new ≡ stand_of turn.old) }
     ensures read { (wanted : Ask) → result ≡ Next.Read wanted
@@ -164,11 +168,11 @@ pub(crate) fn serve_turn(
     bytes: &mut [u8],
 ) -> Next
     requires { guest < length board.old.devices }
-    ensures runs { Runs guest (stand_of turn.old) board.old (stand_of turn.new) board.new }
-    ensures needs { NeedsTold guest most (stand_of turn.old) board.old turn.new bytes.new board.new
-        result }
-    ensures heard { HearsAnswer guest turn.old.asked is_there bytes.old board.old (stand_of turn.new)
-        board.new (result ≡ Next.Rest (Some MachineFault.NoMemory)) }
+    ensures runs { Runs guest (stand_of turn.old) board.old (left_by (Some result) turn.new)
+        board.new }
+    ensures needs { NeedsTold guest most turn.new bytes.new board.new result }
+    ensures heard { HearsAnswer guest turn.old.asked is_there bytes.old board.old
+        (left_by (Some result) turn.new) board.new (result ≡ Next.Rest (Some MachineFault.NoMemory)) }
 {
     if !answer(board, guest, turn, is_there, bytes) {
         return Next::Rest(Some(MachineFault::NoMemory));

@@ -1,12 +1,12 @@
 //! Letting replies leave whose need is settled.
-ghost use Rattle.std.specs.Prelude.{◌≡◌, ◌≢◌, ◌<◌, ◌++◌, [], List, length, true, false};
+ghost use Rattle.std.specs.Prelude.{◌≡◌, ◌≢◌, ◌<◌, ◌++◌, [], Bool, List, length, true, false};
 ghost use Rattle.chains.specs.declared.range.Range.{Range as Part};
 ghost use Rattle.guest_memory.specs.declared.ask.Ask.{Ask};
 ghost use Rattle.mmio_transport.specs.Written.{range_in};
 ghost use Rattle.machine.specs.Ending.{AsksIn};
 ghost use Rattle.machine.specs.Serving.{HasNoReply, IsNoted, QueuesStay, Runs, SameDevices};
 ghost use Rattle.machine.specs.Serving.{standing};
-ghost use Rattle.machine.specs.Turn.{KeepsStage, Stand, stand_of, filled_part, filled_parts};
+ghost use Rattle.machine.specs.Turn.{KeepsStage, stand_of, filled_part, filled_parts};
 
 use crate::taking::begin;
 use crate::turn::Turn;
@@ -101,7 +101,8 @@ fn note_reply(board: &AskingBoard<OutboxDisk>, guest: u16, turn: &mut Turn) -> b
 /// nothing to it. Whether there was memory for them.
 fn tell_zeros(board: &mut AskingBoard<OutboxDisk>, guest: u16, turn: &Turn) -> bool
     requires { guest < length board.old.devices }
-    ensures runs { (s : Stand) → Runs guest s board.old s board.new }
+    ensures runs { (ps : List Part) (g : Bool) → Runs guest (standing ps g) board.old (standing ps g)
+        board.new }
     ensures rest { board.new.rest ≡ board.old.rest }
     ensures queues { QueuesStay board.old board.new }
     ensures count { length board.new.devices ≡ length board.old.devices }

@@ -9,7 +9,7 @@ ghost use Rattle.machine.specs.Machine.{Completes, Copies, IsServed, LeavesEach,
 ghost use Rattle.machine.specs.Machine.{is_awaited, kick_in, line_by, shown_in};
 ghost use Rattle.machine.specs.Machine.{GoesOn, IsTold, telling_board, waits_for_sync, writes_in};
 ghost use Rattle.machine.specs.Ending.{HearsAnswer};
-ghost use Rattle.machine.specs.Turn.{stand_of};
+ghost use Rattle.machine.specs.Machine.{left_of};
 ghost use Rattle.machine.specs.Machine.{has_guest, turn_of, written_in};
 
 use crate::answering::{LARGEST_PART, serve_turn};
@@ -169,7 +169,8 @@ impl Machine {
         // What was read is what the device believes.
         ensures heard { has_guest self.old guest ≡ true → 16384 ≤ length bytes.old
             → HearsAnswer guest (turn_of self.old guest).asked is_there bytes.old self.old.board
-            (stand_of (turn_of self.new guest)) self.new.board (result.fault ≡ Some MachineFault.NoMemory) }
+            (left_of result.what result.at result.len (turn_of self.new guest)) self.new.board
+            (result.fault ≡ Some MachineFault.NoMemory) }
     {
         let at = usize::from(guest);
         if at >= self.setups.len() || at >= self.turns.len() || at >= self.board.guests() {

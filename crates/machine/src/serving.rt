@@ -6,6 +6,7 @@ ghost use Rattle.guest_memory.specs.declared.ask.Ask.{Ask};
 ghost use Rattle.flusher.specs.Store.{next_call};
 ghost use Rattle.board.specs.State.{HasNoJob, waiting};
 ghost use Rattle.machine.specs.Ending.{AsksIn, FindsNone, HasReason, RestsAt, Went, is_write};
+ghost use Rattle.machine.specs.Ending.{left_by};
 ghost use Rattle.machine.specs.Serving.{HasNoReply, Runs, SameDevices, standing};
 ghost use Rattle.machine.specs.Turn.{KeepsStage};
 ghost use Rattle.machine.specs.declared.fault.MachineFault.{MachineFault};
@@ -44,8 +45,8 @@ pub(crate) enum Next {
 fn notify(board: &mut AskingBoard<OutboxDisk>, guest: u16, turn: &mut Turn) -> Option<Next>
     requires guest { guest < length board.old.devices }
     requires parts { turn.old.parts ≡ [] }
-    ensures runs { Runs guest (standing [] turn.old.going) board.old
-        (standing [] turn.new.going) board.new }
+    ensures runs { Runs guest (standing [] turn.old.going) board.old (left_by result turn.new)
+        board.new }
     ensures rest { board.new.rest ≡ board.old.rest }
     ensures parts { turn.new.parts ≡ turn.old.parts }
     ensures asks { (ask : Ask) → result ≡ Some (Next.Read ask) → AsksIn guest ask board.new }

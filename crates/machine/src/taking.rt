@@ -1,6 +1,6 @@
 //! Taking what a guest offered: each chain is popped, and answered by the book.
 ghost use Rattle.std.specs.Prelude.{◌≡◌, ◌≢◌, ◌<◌, ◌⊎◌, ◌++◌, [], List, length};
-ghost use Rattle.std.specs.Prelude.{false, true, IfSome, slice_get};
+ghost use Rattle.std.specs.Prelude.{Bool, false, true, IfSome, slice_get};
 ghost use Rattle.chains.specs.declared.range.Range.{Range as Part};
 ghost use Rattle.guest_memory.specs.declared.ask.Ask.{Ask};
 ghost use Rattle.board.specs.State.{HasNoJob};
@@ -72,7 +72,8 @@ fn note_event(board: &AskingBoard<OutboxDisk>, guest: u16, turn: &mut Turn) -> b
 /// is no memory for that, it is asked for.
 fn tell_event(board: &mut AskingBoard<OutboxDisk>, guest: u16)
     requires { guest < length board.old.devices }
-    ensures runs { (s : Stand) → Runs guest s board.old s board.new }
+    ensures runs { (ps : List Part) (g : Bool) → Runs guest (standing ps g) board.old (standing ps g)
+        board.new }
     ensures rest { board.new.rest ≡ board.old.rest }
     ensures count { length board.new.devices ≡ length board.old.devices }
 {

@@ -21,18 +21,18 @@ returns-in-Err-OutOfRange-clause-runs c =
     subst (λ rs. Runs g s c.args.board.now rs refused.new.board)
     (sym (ap stand_of refused.ensures.turn ∙ ap (λ t. standing [] t.going) c.turn.view_is))
     (runs_twice g s s (standing [] s.going) c.args.board.now c.told.new.board refused.new.board
-    (c.told.ensures.runs s) (refused.ensures.runs s))
+    (c.told.ensures.runs s.parts s.going) (refused.ensures.runs s.parts s.going))
 
 pub returns-then-not-is_there-clause-runs : goal.returns-then-not-is_there-clause-runs
 returns-then-not-is_there-clause-runs c =
     let s = stand_of c.args.turn.now in
     subst (λ rs. Runs c.args.guest s c.args.board.now rs c.refuse.new.board)
     (sym (ap stand_of c.refuse.ensures.turn ∙ ap (λ t. standing [] t.going) c.turn.view_is))
-    (c.refuse.ensures.runs s)
+    (c.refuse.ensures.runs s.parts s.going)
 
 pub returns-then-not-is_there-2-clause-runs : goal.returns-then-not-is_there-2-clause-runs
 returns-then-not-is_there-2-clause-runs c =
     let s = stand_of c.args.turn.now in
     subst (λ rs. Runs c.args.guest s c.args.board.now rs c.refuse-then-not-is_there-2.new.board)
     (sym (ap stand_of c.refuse-then-not-is_there-2.ensures.turn ∙ ap (λ t. standing [] t.going) c.turn.view_is))
-    (c.refuse-then-not-is_there-2.ensures.runs s)
+    (c.refuse-then-not-is_there-2.ensures.runs s.parts s.going)

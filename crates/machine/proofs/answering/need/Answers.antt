@@ -1,35 +1,47 @@
-use Rattle.std.proofs.Common.{ap, subst, sym}
-use Rattle.machine.proofs.Common.{Runs, Still, stand_of}
+use Rattle.std.proofs.Common.{◌∷◌, ◌∙◌, Some, ap, subst, sym}
+use Rattle.machine.proofs.Common.{Runs, Still, stand_of, standing}
+use Rattle.machine.specs.Ending.{left_by}
 use Rattle.machine.proofs.Runs.{still_same}
 use Rattle.machine.proofs.answering.need.Goals as goal
 
 pub returns-else-wanted-clause-runs : goal.returns-else-wanted-clause-runs
 returns-else-wanted-clause-runs c =
-    still_same c.args.guest (stand_of c.args.turn.now) _ c.args.board.now
-    (ap stand_of c.turn.view_is)
+    let t = c.args.turn.now in
+    still_same c.args.guest (left_by (Some c.args.next) t) _ c.args.board.now
+    (ap stand_of c.turn.view_is ∙ ap (λ n. left_by (Some n) t) (sym c.in-Read.is))
 
 pub returns-else-not-copy_part-clause-runs : goal.returns-else-not-copy_part-clause-runs
 returns-else-not-copy_part-clause-runs c =
-    still_same c.args.guest (stand_of c.args.turn.now) _ c.args.board.now
-    (ap stand_of c.turn-in-Write.view_is)
+    let t = c.args.turn.now in
+    still_same c.args.guest (left_by (Some c.args.next) t) _ c.args.board.now
+    (ap (λ v. standing (c.in-Write.part ∷ v.parts) v.going) c.turn-in-Write.view_is
+    ∙ ap (λ n. left_by (Some n) t) (sym c.in-Write.is))
 
 pub returns-in-Again-clause-runs : goal.returns-in-Again-clause-runs
-returns-in-Again-clause-runs c = Still (stand_of c.args.turn.now) c.args.board.now
+returns-in-Again-clause-runs c = Still (left_by (Some c.args.next) c.args.turn.now) c.args.board.now
 
 pub returns-in-Call-clause-runs : goal.returns-in-Call-clause-runs
-returns-in-Call-clause-runs c = Still (stand_of c.args.turn.now) c.args.board.now
+returns-in-Call-clause-runs c = Still (left_by (Some c.args.next) c.args.turn.now) c.args.board.now
 
 pub returns-in-Rest-clause-runs : goal.returns-in-Rest-clause-runs
-returns-in-Rest-clause-runs c = Still (stand_of c.args.turn.now) c.args.board.now
+returns-in-Rest-clause-runs c = Still (left_by (Some c.args.next) c.args.turn.now) c.args.board.now
 
 pub returns-then-wanted-clause-runs : goal.returns-then-wanted-clause-runs
 returns-then-wanted-clause-runs c =
-    let s = stand_of c.args.turn.now in
-    subst (λ rs. Runs c.args.guest s c.args.board.now rs c.refuse.new.board)
-    (sym (ap stand_of c.refuse.ensures.turn)) (c.refuse.ensures.runs s)
+    let t = c.args.turn.now in
+    let end = stand_of c.refuse.new.turn in
+    subst (λ n. Runs c.args.guest (left_by (Some n) t) c.args.board.now end c.refuse.new.board)
+    (sym c.in-Read.is)
+    (subst (λ rs. Runs c.args.guest (stand_of t) c.args.board.now rs c.refuse.new.board)
+    (sym (ap stand_of c.refuse.ensures.turn)) (c.refuse.ensures.runs t.parts t.going))
 
 pub returns-then-not-copy_part-clause-runs : goal.returns-then-not-copy_part-clause-runs
 returns-then-not-copy_part-clause-runs c =
-    let s = stand_of c.args.turn.now in
-    subst (λ rs. Runs c.args.guest s c.args.board.now rs c.refuse-then-not-copy_part.new.board)
-    (sym (ap stand_of c.refuse-then-not-copy_part.ensures.turn)) (c.refuse-then-not-copy_part.ensures.runs s)
+    let t = c.args.turn.now in
+    let refused = c.refuse-then-not-copy_part in
+    let ps = c.in-Write.part ∷ t.parts in
+    let end = stand_of refused.new.turn in
+    subst (λ n. Runs c.args.guest (left_by (Some n) t) c.args.board.now end refused.new.board)
+    (sym c.in-Write.is)
+    (subst (λ rs. Runs c.args.guest (standing ps t.going) c.args.board.now rs refused.new.board)
+    (sym (ap stand_of refused.ensures.turn)) (refused.ensures.runs ps t.going))

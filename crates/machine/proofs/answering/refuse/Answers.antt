@@ -1,19 +1,19 @@
-use Rattle.std.proofs.Common.{[], ap, refl}
-use Rattle.machine.proofs.Common.{Boards, Knows, Still, Voids}
+use Rattle.std.proofs.Common.{ap, refl}
+use Rattle.machine.proofs.Common.{Still, Voids, standing}
 use Rattle.machine.specs.Serving.{Refuses}
 use Rattle.machine.proofs.Moved.{moved}
 use Rattle.machine.proofs.answering.refuse.Goals as goal
 
 pub returns-clause-runs : goal.returns-clause-runs
-returns-clause-runs c s =
+returns-clause-runs c ps g =
     let b = c.args.board.now in
     let d = c.device.result.now in
     let d' = c.refuse.new.self in
-    Voids s s.parts s.going b b (moved b c.args.guest d') (Still s b) (record {
+    Voids (standing ps g) ps g b b (moved b c.args.guest d') (Still (standing ps g) b) (record {
       device = d;
       its = c.device.ensures.device;
       device' = d';
-      learns = Refuses s.going d d' c.refuse.ensures;
+      learns = Refuses g d d' c.refuse.ensures;
       after = refl;
     })
 

@@ -1,7 +1,6 @@
-use Rattle.std.proofs.Common.{◌≡◌, inl, inr, refl, ap, sym, subst, ◌∙◌, Some}
-use Rattle.machine.proofs.Common.{Runs, stand_of}
-use Rattle.machine.specs.Ending.{Lacks, NeedsNext, NeedsTold}
-use Rattle.machine.proofs.Goings.{needs_after}
+use Rattle.std.proofs.Common.{inl, inr, refl, ap, sym, subst, Some}
+use Rattle.machine.proofs.Common.{stand_of}
+use Rattle.machine.specs.Ending.{Lacks, NeedsNext, NeedsTold, left_by}
 use Rattle.machine.proofs.Runs.{runs_twice}
 use Rattle.machine.proofs.Told.{told_of}
 use Rattle.machine.proofs.answering.serve_turn.Goals as goal
@@ -18,35 +17,27 @@ returns-clause-runs c =
     let e = c.need.new.board in
     let t0 = stand_of c.args.turn.now in
     let t1 = stand_of c.answer.new.turn in
-    let t2 = stand_of c.serve-next.new.turn in
-    let t3 = stand_of c.need.new.turn in
+    let t2 = left_by (Some c.serve-next.result) c.serve-next.new.turn in
+    let t3 = left_by (Some c.need.result) c.need.new.turn in
     runs_twice g t0 t1 t3 a b e c.answer.ensures.runs
-    (runs_twice g t1 t2 t3 b d e c.serve-next.ensures.went.runs
-    c.need.ensures.runs)
+    (runs_twice g t1 t2 t3 b d e c.serve-next.ensures.went.runs c.need.ensures.runs)
 
 pub returns-clause-needs : goal.returns-clause-needs
 returns-clause-needs c =
     let g = c.args.guest in
     let m = c.args.most in
-    let a = c.args.board.now in
-    let b = c.answer.new.board in
-    let d = c.serve-next.new.board in
-    let e = c.need.new.board in
-    let t0 = stand_of c.args.turn.now in
-    let t1 = stand_of c.answer.new.turn in
-    let t2 = stand_of c.serve-next.new.turn in
     let t = c.need.new.turn in
+    let e = c.need.new.board in
     let n = c.need.ensures in
     elim n.same [
       | inl same ↦
           (let stays = n.board same in
-          told_of g m t0 a t c.need.new.out e c.need.result
-          (subst (λ r. NeedsNext g m t0 a (stand_of t) e (Some r)) (sym same)
-          (subst (λ qs. NeedsNext g m t0 a qs e (Some c.serve-next.result)) (sym stays.1)
-          (subst (λ x. NeedsNext g m t0 a t2 x (Some c.serve-next.result)) (sym stays.0)
-          (needs_after g m t0 t1 t2 a b d (Some c.serve-next.result) c.answer.ensures.runs
-          c.serve-next.ensures.went.needs)))) n.read n.write)
-      | inr again ↦ subst (λ r. NeedsTold g m t0 a t c.need.new.out e r) (sym again) tt
+          told_of g m t c.need.new.out e c.need.result
+          (subst (λ r. NeedsNext g m t.parts e (Some r)) (sym same)
+          (subst (λ qs. NeedsNext g m qs e (Some c.serve-next.result)) (sym (ap (λ s. s.parts) stays.1))
+          (subst (λ x. NeedsNext g m c.serve-next.new.turn.parts x (Some c.serve-next.result))
+          (sym stays.0) c.serve-next.ensures.went.needs))) n.read n.write)
+      | inr again ↦ subst (λ r. NeedsTold g m t c.need.new.out e r) (sym again) tt
     ]
 
 pub returns-clause-heard : goal.returns-clause-heard
@@ -56,7 +47,8 @@ returns-clause-heard c = record {
   takes = c.answer.ensures.takes;
   left = stand_of c.answer.new.turn;
   full = λ no. absurd (let there = c.if-not-answer.false in let not_ = no in cc);
-  runs = runs_twice c.args.guest (stand_of c.answer.new.turn) (stand_of c.serve-next.new.turn)
-      (stand_of c.need.new.turn) c.answer.new.board c.serve-next.new.board c.need.new.board
-      c.serve-next.ensures.went.runs c.need.ensures.runs;
+  runs = runs_twice c.args.guest (stand_of c.answer.new.turn)
+      (left_by (Some c.serve-next.result) c.serve-next.new.turn)
+      (left_by (Some c.need.result) c.need.new.turn) c.answer.new.board c.serve-next.new.board
+      c.need.new.board c.serve-next.ensures.went.runs c.need.ensures.runs;
 }

@@ -1,7 +1,6 @@
 use Rattle.std.proofs.Common.{refl}
 use Rattle.machine.proofs.Common.{Still}
 use Rattle.board.specs.declared.step.Step.TheVariants as step
-use Rattle.machine.proofs.Jobs.{advanced_jobs}
 use Rattle.machine.proofs.Runs.{runs_step}
 use Rattle.machine.proofs.handing.write_next.Goals as goal
 

@@ -1,6 +1,4 @@
-use Rattle.std.proofs.Common.{◌∙◌}
 use Rattle.board.specs.declared.step.Step.TheVariants as step
-use Rattle.machine.proofs.Jobs.{settled_jobs}
 use Rattle.machine.proofs.Runs.{runs_step, runs_twice}
 use Rattle.machine.proofs.handing.write_out.Goals as goal
 

@@ -1,9 +1,8 @@
-use Rattle.std.proofs.Common.{[], rules, refl, ap, sym, subst, ◌∙◌, true}
+use Rattle.std.proofs.Common.{[], rules, refl, sym, subst, true}
 use Rattle.machine.proofs.Common.{Runs, board_of, standing}
 use Rattle.machine.proofs.Ends.{none_collected}
 use Rattle.board.specs.declared.step.Step.TheVariants as step
 use Rattle.machine.proofs.Jobs.{collected_jobs}
-use Rattle.machine.proofs.Popping.{still_by}
 use Rattle.machine.proofs.Runs.{runs_step, runs_twice}
 use Rattle.machine.proofs.leaving.leave_one.Goals as goal
 

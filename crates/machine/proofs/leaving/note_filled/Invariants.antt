@@ -1,5 +1,5 @@
 use Rattle.std.proofs.Common.{◌≡◌, ◌++◌, drop}
-use Rattle.machine.specs.Turn.{TurnState, filled_parts}
+use Rattle.machine.specs.Turn.{filled_parts}
 use Rattle.machine.proofs.leaving.note_filled.Given as goal
 
 abbrev pub invariant-loop-range : goal.invariant-loop-range

@@ -1,4 +1,4 @@
-use Rattle.std.proofs.Common.{[], ◌≡◌, ◌∙◌, Bool, true, false, ap, refl, subst, sym}
+use Rattle.std.proofs.Common.{[], ◌∙◌, true, ap, subst, sym}
 use Rattle.machine.proofs.Common.{Runs, standing}
 use Rattle.machine.proofs.Popping.{gives_up}
 use Rattle.machine.proofs.Runs.{runs_twice}
@@ -11,7 +11,7 @@ returns-then-not-note_reply-clause-runs c =
     let t = standing [] c.stop.new.self.going in
     runs_twice g s (standing [] true) t c.args.board.now c.begin.new.board c.begin.new.board
     c.begin.ensures.runs
-    (gives_up g (standing [] true) t c.begin.new.board refl (ap (λ v. v.going) c.stop.ensures))
+    (gives_up g [] true t c.begin.new.board (ap (λ v. standing [] v.going) c.stop.ensures))
 
 pub returns-then-not-tell_zeros-clause-runs : goal.returns-then-not-tell_zeros-clause-runs
 returns-then-not-tell_zeros-clause-runs c =
@@ -23,8 +23,8 @@ returns-then-not-tell_zeros-clause-runs c =
     let b = c.begin.new.board in
     let d = c.tell_zeros.new.board in
     runs_twice g s begun t a d d
-    (runs_twice g s begun begun a b d c.begin.ensures.runs (c.tell_zeros.ensures.runs begun))
-    (gives_up g begun t d refl (ap (λ v. v.going) c.stop-then-not-tell_zeros.ensures))
+    (runs_twice g s begun begun a b d c.begin.ensures.runs (c.tell_zeros.ensures.runs [] true))
+    (gives_up g [] true t d (ap (λ v. standing [] v.going) c.stop-then-not-tell_zeros.ensures))
 
 pub returns-clause-runs : goal.returns-clause-runs
 returns-clause-runs c =
@@ -36,4 +36,4 @@ returns-clause-runs c =
     subst (λ v. Runs g s a (standing [] v) d)
     (sym (ap (λ t. t.going) c.note_reply.ensures.rest ∙ ap (λ t. t.going) c.begin.ensures.turn))
     (runs_twice g s begun begun a c.begin.new.board d c.begin.ensures.runs
-    (c.tell_zeros.ensures.runs begun))
+    (c.tell_zeros.ensures.runs [] true))

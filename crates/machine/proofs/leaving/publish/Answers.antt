@@ -1,4 +1,4 @@
-use Rattle.std.proofs.Common.{◌≡◌, refl, ap, sym, subst, ◌∙◌, Ok, Err, Some, None, true, []}
+use Rattle.std.proofs.Common.{refl, ap, sym, subst, ◌∙◌, Ok, Some, true, []}
 use Rattle.machine.proofs.Common.{OutboxMakes, Runs, outbox_state, stand_of, standing}
 use Rattle.board.specs.Asking.{PublishesOf}
 use Rattle.machine.proofs.Replies.{hands_by, noted_reply}
@@ -18,7 +18,7 @@ returns-in-Ok-Some-Wrote-clause-runs c =
     let o = c.in-Ok-Some-Wrote in
     let hands = subst (λ p. PublishesOf outbox_state OutboxMakes g (Ok p) b c.publish.new.self)
     (o.field-0-is ∙ ap Some o.field-0-0-is) o.ensures in
-    hands_by g _ _ b c.publish.new.self hands refl
+    hands_by g _ _ _ b c.publish.new.self hands refl
     (ap (λ t. t.parts) c.turn.view_is
     ∙ noted_reply g _ b hands.device hands.done c.requires.noted hands.lay hands.its)
 
@@ -29,7 +29,7 @@ returns-in-Ok-Some-Dropped-clause-runs c =
     let o = c.in-Ok-Some-Dropped in
     let hands = subst (λ p. PublishesOf outbox_state OutboxMakes g (Ok p) b c.publish.new.self)
     (o.field-0-is ∙ ap Some o.field-0-0-is) o.ensures in
-    hands_by g _ _ b c.publish.new.self hands (ap (λ t. t.going) c.stop.ensures)
+    hands_by g _ _ _ b c.publish.new.self hands (ap (λ t. t.going) c.stop.ensures)
     (ap (λ t. t.parts) c.stop.ensures)
 
 pub returns-in-Ok-None-clause-runs : goal.returns-in-Ok-None-clause-runs
@@ -39,7 +39,6 @@ returns-in-Ok-None-clause-runs c =
     c.publish.new.self) o.field-0-is o.ensures in
     let g = c.args.guest in
     let b = c.args.board.now in
-    let begun = standing [] true in
-    subst (λ x. Runs g begun b (stand_of c.stop-in-Ok-None.new.self) x) (sym none.1)
-    (gives_up g begun (stand_of c.stop-in-Ok-None.new.self) b
-    (ap (λ t. t.parts) c.stop-in-Ok-None.ensures) (ap (λ t. t.going) c.stop-in-Ok-None.ensures))
+    let t = stand_of c.stop-in-Ok-None.new.self in
+    subst (λ x. Runs g (standing [] true) b t x) (sym none.1)
+    (gives_up g [] true t b (ap stand_of c.stop-in-Ok-None.ensures))

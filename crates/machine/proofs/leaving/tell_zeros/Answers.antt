@@ -1,21 +1,21 @@
 use Rattle.std.proofs.Common.{refl, ◌∙◌}
-use Rattle.machine.proofs.Common.{Still}
+use Rattle.machine.proofs.Common.{Still, standing}
 use Rattle.std.proofs.Common.{length-set}
 use Rattle.machine.proofs.Moved.{moved, told_queues, told_runs}
 use Rattle.machine.proofs.Runs.{runs_twice}
 use Rattle.machine.proofs.leaving.tell_zeros.Goals as goal
 
 pub loop-part-init : goal.loop-part-init
-loop-part-init c = ((λ ps. Still ps c.args.board.now), refl, refl, refl)
+loop-part-init c = ((λ ps v. Still (standing ps v) c.args.board.now), refl, refl, refl)
 
 pub loop-part-preserved : goal.loop-part-preserved
 loop-part-preserved c =
     let g = c.args.guest in
     let b = c.loop-part.board in
     let t = c.tell.ensures in (
-      (λ ps. runs_twice g ps ps ps c.args.board.now b (moved b g c.tell.new.self)
-          (c.loop-part.invariant.0 ps)
-          (told_runs g b c.device.result.now c.tell.new.self c.device.ensures.device ps c.in-Some.part.now.at _
+      (λ ps v. runs_twice g (standing ps v) (standing ps v) (standing ps v) c.args.board.now b (moved b g c.tell.new.self)
+          (c.loop-part.invariant.0 ps v)
+          (told_runs g b c.device.result.now c.tell.new.self c.device.ensures.device ps v c.in-Some.part.now.at _
           c.tell.result t.ok t.unchanged)),
       c.loop-part.invariant.1,
       told_queues g b c.device.result.now c.tell.new.self c.device.ensures.device c.in-Some.part.now.at _ c.tell.result
@@ -24,13 +24,13 @@ loop-part-preserved c =
     )
 
 pub returns-then-is_err-clause-runs : goal.returns-then-is_err-clause-runs
-returns-then-is_err-clause-runs c ps =
+returns-then-is_err-clause-runs c ps v =
     let g = c.args.guest in
     let b = c.loop-part.board in
     let t = c.tell.ensures in
-    runs_twice g ps ps ps c.args.board.now b (moved b g c.tell.new.self)
-    (c.loop-part.invariant.0 ps)
-    (told_runs g b c.device.result.now c.tell.new.self c.device.ensures.device ps c.in-Some.part.now.at _
+    runs_twice g (standing ps v) (standing ps v) (standing ps v) c.args.board.now b (moved b g c.tell.new.self)
+    (c.loop-part.invariant.0 ps v)
+    (told_runs g b c.device.result.now c.tell.new.self c.device.ensures.device ps v c.in-Some.part.now.at _
     c.tell.result t.ok t.unchanged)
 
 pub returns-then-is_err-clause-queues : goal.returns-then-is_err-clause-queues

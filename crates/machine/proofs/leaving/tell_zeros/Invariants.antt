@@ -1,9 +1,10 @@
-use Rattle.std.proofs.Common.{◌≡◌, length}
-use Rattle.machine.proofs.Common.{Runs, Stand}
+use Rattle.std.proofs.Common.{◌≡◌, Bool, List, length}
+use Rattle.machine.proofs.Common.{Range, Runs, standing}
 use Rattle.machine.specs.Serving.{QueuesStay}
 use Rattle.machine.proofs.leaving.tell_zeros.Given as goal
 
 abbrev pub invariant-loop-part : goal.invariant-loop-part
-invariant-loop-part l = ((ps : Stand) → Runs l.fn.guest ps l.fn.board ps l.board)
+invariant-loop-part l = ((ps : List Range) (v : Bool)
+    → Runs l.fn.guest (standing ps v) l.fn.board (standing ps v) l.board)
     × (l.board.rest ≡ l.fn.board.rest) × QueuesStay l.fn.board l.board
     × (length l.board.devices ≡ length l.fn.board.devices)

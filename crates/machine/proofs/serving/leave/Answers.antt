@@ -19,8 +19,7 @@ returns-in-NoMemory c =
           (runs_twice g s t u a b b
           (subst (λ ps. Runs g (standing ps s.going) a t b) (sym c.requires.parts)
           c.leave_one.ensures.runs)
-          (gives_up g t u b (ap (λ v. v.parts) c.take_next.ensures)
-          (ap (λ v. v.going) c.take_next.ensures)))
+          (gives_up g t.parts t.going u b (ap stand_of c.take_next.ensures)))
           (Lacks refl) c.leave_one.ensures.count
           (ap (λ v. v.asked) c.take_next.ensures ∙ c.leave_one.ensures.keeps.1);
     }

@@ -1,6 +1,7 @@
-use Rattle.std.proofs.Common.{◌≡◌, refl, ap, sym, subst, ◌∙◌, [], ◌∷◌}
-use Rattle.machine.proofs.Common.{Copies, Runs, stand_of, standing}
-use Rattle.machine.specs.Ending.{Went}
+use Rattle.std.proofs.Common.{refl, ap, sym, subst, ◌∙◌, ◌∷◌, Some}
+use Rattle.machine.proofs.Common.{Runs, stand_of, standing}
+use Rattle.machine.specs.Ending.{Went, left_by}
+use Rattle.machine.specs.declared.serving.Next.TheVariants as next
 use Rattle.machine.proofs.Goings.{notified_needs, went_by}
 use Rattle.machine.proofs.Runs.{still_same}
 use Rattle.machine.proofs.serving.move_on.Goals as goal
@@ -16,8 +17,8 @@ returns-in-Some c =
     (ap (λ v. standing (part ∷ t.parts) v.going) c.next_part.ensures.rest
     ∙ ap (λ qs. standing qs s.going) (sym c.in-Some.ensures.some)) in
     record {
-      went = went_by g c.args.most c.args.turn.now c.next_part.new.self b b _
-          (Copies s t.parts part t.going b b first) first refl
+      went = went_by g c.args.most c.args.turn.now c.next_part.new.self b b (Some (next.Write part))
+          first tt refl
           (ap (λ t. t.asked) c.next_part.ensures.rest);
     }
 
@@ -57,9 +58,7 @@ returns-in-Notifying c =
           (went_by g c.args.most t c.notify.new.turn c.args.board.now c.notify.new.board
           c.notify.result
           (subst (λ rs. Runs g (standing rs t.going) c.args.board.now
-          (stand_of after) c.notify.new.board) (sym none)
-          (subst (λ rs. Runs g (standing [] t.going) c.args.board.now
-          (standing rs after.going) c.notify.new.board) (sym (n.parts ∙ none)) n.runs))
-          (notified_needs g c.args.most (stand_of t) (stand_of c.notify.new.turn) c.args.board.now
-          c.notify.new.board c.notify.result n.asks n.writes n.others) n.count n.asked);
+          (left_by c.notify.result after) c.notify.new.board) (sym none) n.runs)
+          (notified_needs g c.args.most after.parts c.notify.new.board c.notify.result n.asks
+          n.others) n.count n.asked);
     }

@@ -1,13 +1,13 @@
-use Rattle.std.proofs.Common.{[], ◌≡◌, inl, refl, ap, sym, subst, ◌∙◌, Some, Ok, Err, true, false}
+use Rattle.std.proofs.Common.{[], inl, refl, ap, sym, subst, ◌∙◌, Ok, true, false}
 use Rattle.board.specs.Asking.{ForPop}
-use Rattle.machine.proofs.Common.{Runs, standing}
+use Rattle.machine.proofs.Common.{Calls, Runs, owing, stand_of, standing}
 use Rattle.guest_memory.specs.Memory.{IsAsk}
 use Rattle.mmio_transport.specs.Asking.{Notifies, known}
 use Rattle.machine.specs.Ending.{AsksIn}
 use Rattle.machine.specs.Serving.{Sees}
 use Rattle.machine.proofs.Goings.{not_notified, notify_asks}
 use Rattle.machine.proofs.Moved.{moved, moved_none, moved_runs, moved_same}
-use Rattle.machine.proofs.Runs.{runs_twice}
+use Rattle.machine.proofs.Runs.{runs_twice, still_on}
 use Rattle.machine.proofs.serving.notify.Goals as goal
 
 pub returns-in-Err-clause-runs : goal.returns-in-Err-clause-runs
@@ -18,8 +18,10 @@ returns-in-Err-clause-runs c =
     let same = moved_none g b d c.notify.new.self c.device.ensures.device
     (notify_asks d c.notify.new.self c.in-Err.ask c.in-Err.ensures.notifies).same in
     let s = standing [] c.args.turn.now.going in
-    let begun : c.go_to.new.self.going ≡ true = ap (λ t. t.going) c.go_to.ensures ∙ ap (λ t. t.going) c.begin.ensures.turn in
-    subst (λ v. Runs g s c.args.board.now (standing [] v) (moved b g c.notify.new.self)) (sym begun)
+    still_on g s (standing [] true) (stand_of c.go_to.new.self) c.args.board.now
+    (moved b g c.notify.new.self)
+    (ap stand_of (c.go_to.ensures) ∙ ap stand_of c.begin.ensures.turn
+    ∙ ap (λ ps. standing ps true) c.requires.parts)
     (subst (λ x. Runs g s c.args.board.now (standing [] true) x) (sym same) c.begin.ensures.runs)
 
 pub returns-in-Err-clause-asks : goal.returns-in-Err-clause-asks
@@ -39,30 +41,38 @@ returns-in-Err-clause-asks c ask is =
 pub returns-in-Ok-true-clause-runs : goal.returns-in-Ok-true-clause-runs
 returns-in-Ok-true-clause-runs c =
     let g = c.args.guest in
+    let a = c.args.board.now in
     let b = c.begin.new.board in
     let d = c.device.result.now in
     let d' = c.notify.new.self in
     let s = standing [] c.args.turn.now.going in
-    subst (λ v. Runs g s c.args.board.now (standing [] v) (moved b g d'))
-    (sym (ap (λ t. t.going) c.take_next.ensures))
-    (runs_twice g s (standing [] true) (standing [] false) c.args.board.now b (moved b g d')
-    c.begin.ensures.runs
-    (moved_runs g b d d' c.device.ensures.device [] true false (λ off on. absurd (cc))
-    (Sees d d' _ c.in-Ok-true.ensures.notifies)))
+    still_on g s (owing []) (record (stand_of c.take_next.new.self) { owed = true }) a (moved b g d')
+    (ap (λ t. record (stand_of t) { owed = true }) c.take_next.ensures
+    ∙ ap owing (ap (λ t. t.parts) c.begin.ensures.turn ∙ c.requires.parts))
+    (Calls s [] a b (moved b g d') c.begin.ensures.runs (record {
+      device = d;
+      its = c.device.ensures.device;
+      device' = d';
+      sees = subst (λ v. Notifies d (Ok v) d') c.in-Ok-true.field-0-test
+          c.in-Ok-true.ensures.notifies;
+      after = refl;
+    }))
 
 pub returns-in-Ok-false-clause-runs : goal.returns-in-Ok-false-clause-runs
 returns-in-Ok-false-clause-runs c =
     let g = c.args.guest in
+    let a = c.args.board.now in
     let b = c.begin.new.board in
     let d = c.device.result.now in
     let d' = c.notify.new.self in
     let s = standing [] c.args.turn.now.going in
-    subst (λ v. Runs g s c.args.board.now (standing [] v) (moved b g d'))
-    (sym (ap (λ t. t.going) c.take_next-in-Ok-false.ensures))
-    (runs_twice g s (standing [] true) (standing [] false) c.args.board.now b (moved b g d')
-    c.begin.ensures.runs
+    still_on g s (standing [] false) (stand_of c.take_next-in-Ok-false.new.self) a (moved b g d')
+    (ap stand_of c.take_next-in-Ok-false.ensures
+    ∙ ap (λ ps. standing ps false) (ap (λ t. t.parts) c.begin.ensures.turn ∙ c.requires.parts))
+    (runs_twice g s (standing [] true) (standing [] false) a b (moved b g d') c.begin.ensures.runs
     (moved_runs g b d d' c.device.ensures.device [] true false (λ off on. absurd (cc))
-    (Sees d d' _ c.in-Ok-false.ensures.notifies)))
+    (Sees d d' (subst (λ v. Notifies d (Ok v) d') c.in-Ok-false.field-0-test
+    c.in-Ok-false.ensures.notifies))))
 
 pub returns-in-Ok-false-clause-devices : goal.returns-in-Ok-false-clause-devices
 returns-in-Ok-false-clause-devices c is =

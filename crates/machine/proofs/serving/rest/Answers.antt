@@ -1,4 +1,4 @@
-use Rattle.std.proofs.Common.{◌≡◌, refl, ap, sym, subst, ◌∙◌, [], Some, None, true}
+use Rattle.std.proofs.Common.{refl, ap, sym, subst, ◌∙◌, [], Some, true, false}
 use Rattle.machine.proofs.Common.{Runs, Still, stand_of, standing}
 use Rattle.machine.proofs.Popping.{gives_up}
 use Rattle.machine.proofs.Runs.{runs_twice}
@@ -22,10 +22,11 @@ returns-in-Some-clause-went c =
     (runs_twice g (stand_of c.args.turn.now) (standing [] true) (stand_of c.take_next.new.self) b b' b'
     (subst (λ qs. Runs g (standing qs c.args.turn.now.going) b (standing [] true) b')
     (sym c.requires.parts) c.begin.ensures.runs)
-    (gives_up g (standing [] true) (stand_of c.take_next.new.self) b' (same ∙ c.requires.parts)
-    (ap (λ t. t.going) c.take_next.ensures)))
-    (rest_needs g c.args.most (stand_of c.args.turn.now) (stand_of c.take_next.new.self) b b'
-    c.in-Some.fault
+    (gives_up g [] true (stand_of c.take_next.new.self) b'
+    (ap stand_of c.take_next.ensures ∙ ap (λ t. standing t.parts false) c.begin.ensures.turn
+    ∙ ap (λ ps. standing ps false)
+    c.requires.parts)))
+    (rest_needs g c.args.most c.take_next.new.self.parts b' c.in-Some.fault
     (λ none. (let is = c.in-Some.is ∙ ap Some none in (
       rests_by g c.args.most b b' c.args.taken c.begin.ensures.rest c.begin.ensures.devices
           (w.rests is) (w.writes is) c.requires.none c.requires.limit c.requires.replies,

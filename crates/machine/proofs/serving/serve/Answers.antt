@@ -24,6 +24,8 @@ pub loop-move-preserved : goal.loop-move-preserved
 loop-move-preserved c =
     let l = c.loop-move in
     let went = went_after c.args.guest c.args.most c.args.turn.now l.turn c.move_on.new.turn
-    c.args.board.now l.board c.move_on.new.board c.move_on.result l.invariant.runs
-    l.invariant.count l.invariant.asked c.move_on.ensures.went in
+    c.args.board.now l.board c.move_on.new.board None l.invariant.runs
+    l.invariant.count l.invariant.asked
+    (subst (λ n. Went c.args.guest c.args.most l.turn c.move_on.new.turn l.board
+    c.move_on.new.board n) c.in_default.is c.move_on.ensures.went) in
     record { runs = went.runs; needs = tt; count = went.count; asked = went.asked }

@@ -1,6 +1,6 @@
-use Rattle.std.proofs.Common.{◌≡◌, ℕ, List, [], refl, ap, sym, subst, ◌∙◌, Some, None, inl, inr, length, map}
-use Rattle.machine.proofs.Common.{Boards, Runs, Stand, in_place, slice_get, stand_of, standing}
-use Rattle.machine.specs.Ending.{Lacks}
+use Rattle.std.proofs.Common.{◌≡◌, ℕ, [], refl, ap, sym, subst, ◌∙◌, length}
+use Rattle.machine.proofs.Common.{Boards, Runs, Stand, stand_of, standing}
+use Rattle.machine.specs.Ending.{Lacks, left_by}
 use Rattle.machine.proofs.Goings.{some_needs, went_after, went_by}
 use Rattle.machine.proofs.Popping.{gives_up}
 use Rattle.machine.proofs.Runs.{runs_twice}
@@ -66,8 +66,9 @@ returns-in-NoMemory c =
       went = went_by g c.args.most c.args.turn.now c.take_next.new.self a d _
           (runs_twice g (stand_of c.args.turn.now) (stand_of c.leave_one.new.turn)
           (stand_of c.take_next.new.self) a d d runs
-          (gives_up g (stand_of c.leave_one.new.turn) (stand_of c.take_next.new.self) d
-          (ap (λ t. t.parts) c.take_next.ensures) (ap (λ t. t.going) c.take_next.ensures))) (Lacks refl) count (ap (λ t. t.asked) c.take_next.ensures ∙ c.leave_one.ensures.keeps.1);
+          (gives_up g c.leave_one.new.turn.parts c.leave_one.new.turn.going
+          (stand_of c.take_next.new.self) d (ap stand_of c.take_next.ensures))) (Lacks refl) count
+          (ap (λ t. t.asked) c.take_next.ensures ∙ c.leave_one.ensures.keeps.1);
     }
 
 pub returns-in-Some : goal.returns-in-Some
@@ -87,16 +88,15 @@ returns-in-Some c =
     let none = c.leave_one.ensures.idle
     (λ did. absurd (let a_ = c.in-Nothing.is in let b_ = did in cc)) in
     let notified = subst (λ ps. Runs g (standing ps left.going) d
-    (standing [] c.notify.new.turn.going) e) (sym none) n.runs in
+    (left_by c.notify.result c.notify.new.turn) e) (sym none) n.runs in
     record {
       went = went_by g c.args.most c.args.turn.now c.notify.new.turn a e _
-          (subst (λ rs. Runs g (stand_of c.args.turn.now) a (standing rs c.notify.new.turn.going) e)
-          (sym (n.parts ∙ none))
+          (subst (λ o. Runs g (stand_of c.args.turn.now) a (left_by o c.notify.new.turn) e)
+          c.in-Some.is
           (runs_twice g (stand_of c.args.turn.now) (stand_of left)
-          (standing [] c.notify.new.turn.going) a d e runs notified))
-          (some_needs g c.args.most (stand_of c.args.turn.now) (stand_of c.notify.new.turn) a e c.in-Some.next
+          (left_by c.notify.result c.notify.new.turn) a d e runs notified))
+          (some_needs g c.args.most c.notify.new.turn.parts e c.in-Some.next
           (λ ask is. n.asks ask (c.in-Some.is ∙ is))
-          (λ part is. n.writes part (c.in-Some.is ∙ is))
           (λ f is. n.others f (c.in-Some.is ∙ is)))
           (n.count ∙ count) (n.asked ∙ c.leave_one.ensures.keeps.1);
     }
@@ -118,13 +118,13 @@ returns-in-None c =
     let none = c.leave_one.ensures.idle
     (λ did. absurd (let a_ = c.in-Nothing.is in let b_ = did in cc)) in
     let notified = subst (λ ps. Runs g (standing ps left.going) d
-    (standing [] c.notify.new.turn.going) e) (sym none) n.runs in
+    (left_by c.notify.result c.notify.new.turn) e) (sym none) n.runs in
     record {
       went = went_after g c.args.most c.args.turn.now c.notify.new.turn c.rest.new.turn a e
           c.rest.new.board _
-          (subst (λ rs. Runs g (stand_of c.args.turn.now) a (standing rs c.notify.new.turn.going) e)
-          (sym (n.parts ∙ none))
+          (subst (λ o. Runs g (stand_of c.args.turn.now) a (left_by o c.notify.new.turn) e)
+          c.in-None.is
           (runs_twice g (stand_of c.args.turn.now) (stand_of left)
-          (standing [] c.notify.new.turn.going) a d e runs notified))
+          (left_by c.notify.result c.notify.new.turn) a d e runs notified))
           (n.count ∙ count) (n.asked ∙ c.leave_one.ensures.keeps.1) c.rest.ensures.went;
     }

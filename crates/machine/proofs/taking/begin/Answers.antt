@@ -1,8 +1,8 @@
-use Rattle.std.proofs.Common.{◌≡◌, ◌∙◌, if◌then◌else◌, [], true, false, Some, refl, sym, subst, ap, IfSome}
-use Rattle.machine.proofs.Common.{slice_get, AskingState, Runs, Still, standing}
+use Rattle.std.proofs.Common.{◌≡◌, ◌∙◌, if◌then◌else◌, [], true, false, refl, sym, subst, ap, IfSome}
+use Rattle.machine.proofs.Common.{AskingState, Runs, Still, standing}
 use Rattle.guest_memory.specs.Memory.{kept}
 use Rattle.mmio_transport.specs.Asking.{known}
-use Rattle.machine.specs.Serving.{Forgets, Learns}
+use Rattle.machine.specs.Serving.{Forgets}
 use Rattle.machine.proofs.Moved.{moved, moved_at, moved_runs, moved_same}
 use Rattle.machine.proofs.taking.begin.Goals as goal
 

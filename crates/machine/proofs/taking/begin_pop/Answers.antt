@@ -8,7 +8,7 @@ returns-then-not-turn-clause-runs c =
     let s = standing [] c.args.turn.now.going in
     let begun = standing [] true in
     runs_twice c.args.guest s begun begun c.args.board.now c.begin.new.board c.tell_event.new.board
-    c.begin.ensures.runs (c.tell_event.ensures.runs begun)
+    c.begin.ensures.runs (c.tell_event.ensures.runs [] true)
 
 pub returns-else-not-turn-clause-runs : goal.returns-else-not-turn-clause-runs
 returns-else-not-turn-clause-runs c =

@@ -1,4 +1,4 @@
-use Rattle.std.proofs.Common.{◌≡◌, inl, inr, refl, ap, sym, subst, ◌∙◌, [], Ok, Err, true}
+use Rattle.std.proofs.Common.{inl, inr, refl, ap, subst, ◌∙◌, [], Ok, Err, true, false}
 use Rattle.machine.proofs.Common.{Makes, outbox_state, OutboxMakes, stand_of, standing}
 use Rattle.board.specs.Asking.{PopsAsked}
 use Rattle.board.specs.Steps.{did_answer}
@@ -11,10 +11,9 @@ use Rattle.machine.proofs.taking.pop.Goals as goal
 
 pub returns-then-not-note_event-clause-runs : goal.returns-then-not-note_event-clause-runs
 returns-then-not-note_event-clause-runs c =
-    gives_up c.args.guest (standing [] true) _ c.args.board.now
-    (ap (λ t. t.parts) c.turn.view_is
-    ∙ ap (λ t. t.parts) (c.note_event.ensures.stays c.if-not-note_event.true) ∙ c.requires.parts)
-    refl
+    gives_up c.args.guest [] true _ c.args.board.now
+    (ap (λ ps. standing ps false) (ap (λ t. t.parts) c.turn.view_is
+    ∙ ap (λ t. t.parts) (c.note_event.ensures.stays c.if-not-note_event.true) ∙ c.requires.parts))
 
 pub returns-in-Err-Missing-clause-runs : goal.returns-in-Err-Missing-clause-runs
 returns-in-Err-Missing-clause-runs c =
@@ -32,7 +31,7 @@ returns-in-Err-Refused-clause-runs c =
     let device = some_at c.args.board.now.devices g c.requires.guest in
     let makes = subst (λ e. PopsAsked outbox_state OutboxMakes g (Err e) c.args.board.now
     c.pop.new.self) c.in-Err-Refused.field-0-is c.in-Err-Refused.ensures.pops in
-    pops_by g _ (Err (fault.Device c.in-Err-Refused.fault)) c.args.board.now c.pop.new.self
+    pops_by g _ _ (Err (fault.Device c.in-Err-Refused.fault)) c.args.board.now c.pop.new.self
     device.0 device.1 makes (ap (λ t. t.going) c.stop.ensures)
     (inr (ap (λ t. t.parts) c.stop.ensures, (λ same. absurd (let no = same in cc))))
 
@@ -50,7 +49,7 @@ returns-in-Ok-true-clause-runs c =
     let device = some_at c.args.board.now.devices g c.requires.guest in
     let makes = subst (λ did. Makes (step.Pop g) (did_answer did) c.args.board.now c.pop.new.self)
     c.in-Ok-true.field-0-test c.in-Ok-true.ensures.pops in
-    pops_by g _ (Ok Did) c.args.board.now c.pop.new.self device.0 device.1 makes refl
+    pops_by g _ _ (Ok Did) c.args.board.now c.pop.new.self device.0 device.1 makes refl
     (inl (ap (λ t. t.parts) c.turn.view_is
     ∙ noted_at _ device.0 _ _ device.1 c.requires.parts
     (c.note_event.ensures.noted c.if-not-note_event.false)))
@@ -61,7 +60,7 @@ returns-in-Ok-false-clause-runs c =
     let device = some_at c.args.board.now.devices g c.requires.guest in
     let makes = subst (λ did. Makes (step.Pop g) (did_answer did) c.args.board.now c.pop.new.self)
     c.in-Ok-false.field-0-test c.in-Ok-false.ensures.pops in
-    pops_by g _ (Ok Nothing) c.args.board.now c.pop.new.self device.0 device.1 makes
+    pops_by g _ _ (Ok Nothing) c.args.board.now c.pop.new.self device.0 device.1 makes
     c.found_none.ensures.over
     (elim c.found_none.ensures.either [
       | inl nothing ↦ inr (

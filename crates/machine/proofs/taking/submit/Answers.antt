@@ -1,4 +1,4 @@
-use Rattle.std.proofs.Common.{inl, inr, refl, subst}
+use Rattle.std.proofs.Common.{inr, refl, subst}
 use Rattle.machine.proofs.Common.{Makes}
 use Rattle.board.specs.Steps.{answer_by}
 use Rattle.board.specs.declared.step.Step.TheVariants as step

@@ -1,10 +1,9 @@
 use Rattle.std.proofs.Common.{◌≡◌, ◌∙◌, ℕ, Some, ap, false, sym, subst, length, arith, rules}
 use Rattle.machine.proofs.Common.{slice_get_read, IsServed, MachineState, slice_get, slice_set}
-use Rattle.machine.proofs.Common.{stand_of}
 use Rattle.machine.specs.Ending.{HearsAnswer}
 use Rattle.machine.specs.declared.fault.MachineFault.TheVariants as fault
 use Rattle.machine.specs.declared.serving.Next.TheVariants as next
-use Rattle.machine.specs.Machine.{IsTold, TellsOf, has_guest, turn_in, turn_of}
+use Rattle.machine.specs.Machine.{IsTold, TellsOf, has_guest, left_of, turn_in, turn_of}
 use Rattle.machine.proofs.Completing.{hears, serves, serves_none}
 use Rattle.machine.proofs.Popping.{some_at}
 use Rattle.machine.proofs.Told.{has_all, no_device, no_setup, no_turn, tells_absent, tells_of, tells_room}
@@ -74,12 +73,14 @@ returns-clause-heard c there room =
     (search rules) (search rules) (search rules) in
     let answered : MachineState → ℕ → Type 0 = λ x k. HearsAnswer g (turn_of x g).asked
     c.args.is_there c.args.bytes.now x.board
-    (stand_of (turn_in (slice_get (slice_set m.turns k s.new.turn) g))) s.new.board
+    (left_of c.served-2.result.what c.served-2.result.at c.served-2.result.len
+    (turn_in (slice_get (slice_set m.turns k s.new.turn) g))) s.new.board
     (c.served-2.result.fault ≡ Some fault.NoMemory) in
     subst (λ x. answered x c.from-at.result) c.self.view_is
     (subst (λ k. answered m k) (sym c.from-at.ensures)
     (hears g m c.index_mut-turn.result.now s.new.turn s.new.board c.args.is_there c.args.bytes.now
     (s.result ≡ next.Rest (Some fault.NoMemory)) (c.served-2.result.fault ≡ Some fault.NoMemory)
+    s.result c.served-2.result c.served-2.ensures.next
     (λ is. (subst (λ n. IsTold n c.served-2.result) is c.served-2.ensures.next).1)
     its s.ensures.heard))
 
@@ -130,7 +131,7 @@ returns-clause-served c =
       board = s.new.board;
       turns = slice_set m.turns k s.new.turn;
     })) (sym c.from-at.ensures)
-    (serves g m c.index_mut-turn.result.now s.new.turn s.new.board its s.ensures.runs))
+    (serves g m c.index_mut-turn.result.now s.new.turn s.new.board _ its s.ensures.runs))
 
 pub returns-clause-tells : goal.returns-clause-tells
 returns-clause-tells c =
@@ -161,5 +162,6 @@ returns-clause-tells c =
     (tells_of m g room c.most-most.result c.index.result.now c.index_mut-turn.result.now s.new.turn
     s.new.board s.new.bytes s.result c.served-2.result setup its
     (has_all m g c.index.result.now c.index_mut-turn.result.now device.0 setup its device.1)
-    c.most-most.ensures c.served-2.ensures.next s.ensures.needs c.served-2.ensures.sync
+    c.most-most.ensures c.served-2.ensures.next s.ensures.runs s.ensures.needs
+    c.served-2.ensures.sync
     c.served-2.ensures.waiting))
