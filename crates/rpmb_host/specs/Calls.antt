@@ -4,8 +4,8 @@ use Rattle.std.specs.Prelude.{slice_get}
 use Rattle.disk.specs.Outbox.{first_of}
 use Rattle.disk.specs.declared.outbox_disk.Told.TheVariants.{Failed, Synced, Taken}
 use Rattle.board.specs.State.{owes}
-use Rattle.machine.specs.Turn.{stand_of}
 use Rattle.machine.specs.Machine.{Completes, Copies, GoesOn, IsServed, MachineState, TellsOf}
+use Rattle.machine.specs.Machine.{left_of}
 use Rattle.machine.specs.Ending.{HearsAnswer}
 use Rattle.machine.specs.Machine.{has_guest, is_awaited, kick_in, line_by, shown_by}
 use Rattle.machine.specs.Machine.{telling_board, turn_of}
@@ -84,7 +84,8 @@ pub record ServesBy (guest done : ℕ) (bytes bytes' : List ℕ) (n : RpmbNext)
   -- what was read is what the device believes
   pub heard : has_guest old guest ≡ true → 16384 ≤ length bytes
       → HearsAnswer guest (turn_of old guest).asked (not (done == 0)) bytes old.board
-      (stand_of (turn_of new guest)) new.board (told.fault ≡ Some NoMemory)
+      (left_of told.what told.at told.len (turn_of new guest)) new.board
+      (told.fault ≡ Some NoMemory)
   pub at : n.at ≡ told.at
   pub len : n.len ≡ told.len % 4294967296
   pub fault : n.fault ≡ told_number told.fault
