@@ -21,7 +21,7 @@ enum { SOCKET, KICK, LISTENER, POLLED, ROUNDS = 8, AGAIN_MS = 50 };
 static const char help[] =
 	"vhost-user-rpmb --image FILE [options] --socket-path PATH ..\n\n"
 	"  --image FILE         where the guests' partitions are kept; keys stand in it as they are\n"
-	"  --format             makes a fresh image where FILE isn't there or is empty, and else changes nothing\n"
+	"  --format             makes a fresh image (version 2) where FILE isn't there or is empty; else changes nothing\n"
 	"  --socket-path PATH   the socket of the next guest: once for each, always in the same order\n"
 	"  --fd N               the same, as a file descriptor, of a connection or of a socket that listens\n"
 	"  --capacity N         of the guests named behind it: units of 128 KiB, 1 to 128 (1)\n"
