@@ -112,6 +112,6 @@ void drop(struct guest *g);
 /* image.c: the file, and the thread that writes and syncs it */
 void open_image(struct daemon *d, bool format);
 void take_outbox(struct daemon *d);
-void begin_sync(struct daemon *d);
+void begin_sync(struct daemon *d, bool is_idle);
 void end_sync(struct daemon *d);
 #endif

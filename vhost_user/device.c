@@ -26,9 +26,7 @@ static void on_bus_error(int number)
 
 void guard_memory(void)
 {
-	const struct sigaction bus = { .sa_handler = on_bus_error, .sa_flags = SA_NODEFER };
-
-	sigaction(SIGBUS, &bus, NULL);
+	sigaction(SIGBUS, &(struct sigaction){ .sa_handler = on_bus_error, .sa_flags = SA_NODEFER }, NULL);
 }
 
 /* (A function of its own: what it keeps in registers isn't lost by a jump out of it.) */
@@ -163,8 +161,7 @@ static void tell(struct daemon *d, int fd)
 bool take_kick(struct guest *g)
 {
 	uint64_t bytes[8];
-	const struct iovec room = { bytes, sizeof bytes };
-	ssize_t n = preadv2(g->kick, &room, 1, -1, RWF_NOWAIT);
+	ssize_t n = preadv2(g->kick, &(struct iovec){ bytes, sizeof bytes }, 1, -1, RWF_NOWAIT);
 
 	if (n < 0 && errno == EOPNOTSUPP)
 		n = recv(g->kick, bytes, sizeof bytes, MSG_DONTWAIT);
@@ -200,12 +197,12 @@ bool serve(struct guest *g)
 		if (steps >= TURN && next.what != RPMB_READ)
 			return g->more = true;
 		rpmb_serve(&d->host, g->number, g->done, d->bytes, sizeof d->bytes, &next);
-		take_outbox(d);
-		d->disk.wanted |= next.sync;
 		if (next.what == RPMB_CALL)
 			tell(d, g->call);
 		if (next.what == RPMB_READ || next.what == RPMB_WRITE)
 			g->done = copy(g, next.at, d->bytes, next.len, next.what == RPMB_WRITE);
+		take_outbox(d);
+		d->disk.wanted |= next.sync;
 		if (g->done == CUT) {
 			COMPLAIN(g, "the file of its memory was cut short");
 			return false;

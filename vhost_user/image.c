@@ -97,15 +97,17 @@ void take_outbox(struct daemon *d)
 	d->disk.wanted = true;
 }
 
-/* Hands the batch to the thread, where a sync is wanted and none is under way. Where no guest is served, the disk's
- * work goes on all the same. */
-void begin_sync(struct daemon *d)
+/* Hands the batch to the thread, where a sync is wanted and none is under way. One that no guest waits for is put off
+ * until nothing else happens (`is_idle`): where a guest writes on, the next write shares it. */
+void begin_sync(struct daemon *d, bool is_idle)
 {
 	if (d->disk.busy || d->disk.failed)
 		return;
 	d->disk.wanted = d->disk.wanted || rpmb_go_on(&d->host);
 	take_outbox(d);
-	if (!d->disk.wanted)
+	for (unsigned i = 0; i < d->count && !is_idle; i++)
+		is_idle = rpmb_waiting(&d->host, (uint16_t)i);
+	if (!d->disk.wanted || !is_idle)
 		return;
 	d->disk.next = !d->disk.next;
 	d->disk.batches[d->disk.next].count = 0;

@@ -15,8 +15,8 @@
 #include <sys/un.h>
 #include "daemon.h"
 
-/* of a guest in the loop; rounds of a sync that the end waits for; how long memory may be lacking */
-enum { SOCKET, KICK, LISTENER, POLLED, ROUNDS = 8, AGAIN_MS = 50 };
+/* of a guest in the loop; rounds of a sync that the end waits for; how long memory may be lacking, or a sync be put off */
+enum { SOCKET, KICK, LISTENER, POLLED, ROUNDS = 8, PAUSE_MS = 20 };
 
 static const char help[] =
 	"vhost-user-rpmb --image FILE [options] --socket-path PATH ..\n\n"
@@ -71,7 +71,7 @@ static bool prepare(const struct daemon *d, struct pollfd *polled, int *wait)
 {
 	bool any = false;
 
-	*wait = -1;
+	*wait = d->disk.wanted && !d->disk.busy ? PAUSE_MS : -1;
 	for (const struct guest *g = d->guests; g < d->guests + d->count; g++, polled += POLLED) {
 		polled[SOCKET] = (struct pollfd){ g->socket, g->stopping ? 0 : POLLIN, 0 };
 		polled[KICK] = (struct pollfd){ g->kick, POLLIN, 0 };
@@ -80,7 +80,7 @@ static bool prepare(const struct daemon *d, struct pollfd *polled, int *wait)
 		if (is_due(g))
 			*wait = 0;
 		else if (g->later && !d->disk.busy && *wait)
-			*wait = AGAIN_MS;
+			*wait = PAUSE_MS;
 	}
 	return any;
 }
@@ -107,7 +107,7 @@ static void loop(struct daemon *d, int signals)
 			d->guests[i].more |= !ready && d->guests[i].later;
 			attend(&d->guests[i], polled + 2 + POLLED * i);
 		}
-		begin_sync(d);
+		begin_sync(d, !ready && wait);
 	}
 	for (struct guest *g = d->guests; g < d->guests + d->count; g++) {
 		drop(g);
@@ -130,11 +130,10 @@ static void add_guest(struct daemon *d, const struct rpmb_guest *as, bool is_pat
 {
 	const int fd = is_path ? -1 : (int)number("--fd", word, 0, 1 << 20);
 	int listens = 0;
-	socklen_t len = sizeof listens;
 
 	if (d->count == GUESTS)
 		REFUSE(word, "a board has at most %d guests", GUESTS);
-	if (!is_path && getsockopt(fd, SOL_SOCKET, SO_ACCEPTCONN, &listens, &len))
+	if (!is_path && getsockopt(fd, SOL_SOCKET, SO_ACCEPTCONN, &listens, &(socklen_t){ sizeof listens }))
 		REFUSE("--fd", "%s is no socket: %s", word, strerror(errno));
 	for (struct guest *g = d->guests; g < d->guests + d->count; g++)
 		if (!strcmp(g->name, word))
