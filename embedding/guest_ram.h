@@ -81,8 +81,10 @@ static inline uint32_t guest_copy_in(const struct guest_ram *ram, uint64_t at, u
 	if (!guest_has(ram, at, len))
 		return 0;
 	atomic_thread_fence(memory_order_seq_cst);
-	for (size_t part = len; len; at += part, to += part, len -= part, part = len)
-		guest_load(to, guest_part(ram, at, &part), part);
+	for (size_t part = len; len; at += part, to += part, len -= part, part = len) {
+		const unsigned char *from = guest_part(ram, at, &part); /* (before `part` is read) */
+		guest_load(to, from, part);
+	}
 	return 1;
 }
 
@@ -92,8 +94,10 @@ static inline uint32_t guest_copy_out(const struct guest_ram *ram, uint64_t at, 
 	if (!guest_has(ram, at, len))
 		return 0;
 	atomic_thread_fence(memory_order_seq_cst);
-	for (size_t part = len; len; at += part, from += part, len -= part, part = len)
-		guest_store(guest_part(ram, at, &part), from, part);
+	for (size_t part = len; len; at += part, from += part, len -= part, part = len) {
+		unsigned char *to = guest_part(ram, at, &part); /* (before `part` is read) */
+		guest_store(to, from, part);
+	}
 	return 1;
 }
 #endif

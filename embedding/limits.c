@@ -491,11 +491,27 @@ static void check_images(void)
 	printf("another board's image, and none\n");
 }
 
+/* 5. Regions that follow one another: a copy goes over their border, and none past their end. */
+
+static void check_regions(void)
+{
+	unsigned char low[16], high[16], bytes[16] = "over the border";
+	const struct guest_region regions[] = { { 0, sizeof low, low }, { sizeof low, sizeof high, high } };
+	const struct guest_ram both = { regions, 2 };
+
+	check(guest_copy_out(&both, 8, bytes, 16) && !memcmp(low + 8, "over the", 8) && !memcmp(high, " border", 8), "out");
+	memset(bytes, 0, sizeof bytes);
+	check(guest_copy_in(&both, 8, bytes, 16) && !memcmp(bytes, "over the border", 16), "in");
+	check(!guest_copy_in(&both, 24, bytes, 16) && !guest_copy_out(&both, 24, bytes, 16), "past the end");
+	printf("copies over the border of two regions\n");
+}
+
 int main(void)
 {
 	check_guests();
 	check_memory();
 	check_between();
 	check_images();
+	check_regions();
 	return 0;
 }

@@ -6,21 +6,21 @@
 #define DAEMON_H
 #include <errno.h>
 #include <fcntl.h>
+#include <inttypes.h>
 #include <linux/aio_abi.h>
-#include <pthread.h>
 #include <stdbool.h>
-#include <stddef.h>
-#include <stdint.h>
 #include <stdio.h>
 #include <stdlib.h>
-#include <string.h>
 #include <sys/socket.h>
 #include <sys/stat.h>
 #include <unistd.h>
+#include "guest_ram.h"
 #include "rpmb_host.h"
 
-/* A turn is so many steps of a serve; of a guest's faults so many are told. */
-enum { GUESTS = 64, REGIONS = 32, TURN = 512, TEXTS = 200, VU_FDS = 8, VU_HEADER = 12, VU_VERSION = 1 };
+/* A turn is so many steps of a serve; of a guest's faults so many are told; so many writes are made before a sync.
+ * What came of a copy is CUT where the file was cut short. */
+enum { GUESTS = 64, REGIONS = 32, TURN = 512, TEXTS = 200, WRITES = 1024, CUT = 2 };
+enum { VU_FDS = 8, VU_HEADER = 12, VU_VERSION = 1 };
 /* at whose multiples a map may begin, whatever its pages; and what a guest may take of our 128 TiB of addresses */
 #define LARGEST_PAGE (1ull << 30)
 #define MOST_MAPPED  (1ull << 40)
@@ -41,18 +41,16 @@ struct vu_message {
 	} __attribute__((packed));
 } __attribute__((packed));
 
-/* A region: `bytes` of it lie `skipped` behind what was mapped, which begins where a page of any size may. */
-struct region { struct vu_region is; uint8_t *bytes; uint64_t skipped; };
-
 struct guest {
 	struct daemon *daemon;
 	const char *name;              /* its socket, for texts */
 	uint16_t number;
 	int listener, socket, kick, call, error, requests;
 	unsigned texts, region_count, fd_count;
-	struct region regions[REGIONS];
+	struct vu_region regions[REGIONS];
+	struct guest_region ram[REGIONS]; /* each where a region is mapped, behind the last place for a page of any size */
 	uint64_t features, protocol, desc, driver, device; /* the queue's areas, by guest addresses */
-	uint32_t places, base, told;   /* its size, the base that was set, the one that was told */
+	uint32_t places, base;         /* its size, and the base that was set or told last */
 	uint32_t done;                 /* what became of what its serve asked for last */
 	uint8_t status;
 	bool is_path, enabled;         /* the socket is our own; by SET_VRING_ENABLE */
@@ -65,7 +63,10 @@ struct guest {
 };
 
 /* Writes of the image that are to be made, one behind another. */
-struct batch { size_t len; uint8_t bytes[4 << 20]; };
+struct batch {
+	size_t count;
+	struct { uint64_t at; size_t len; uint8_t bytes[RPMB_LARGEST_WRITE]; } writes[WRITES];
+};
 
 struct disk {
 	const char *path;
@@ -73,7 +74,6 @@ struct disk {
 	bool wanted, busy, failed;
 	unsigned next;                 /* the batch that grows; the other one is the thread's while `busy` */
 	struct batch batches[2];
-	pthread_t thread;
 };
 
 struct daemon {
@@ -97,8 +97,7 @@ struct daemon {
 void guard_memory(void);
 bool map(struct guest *g, struct vu_region is, int fd);
 void unmap(struct guest *g, unsigned i);
-bool move(const struct guest *g, uint64_t at, uint8_t *ours, uint32_t len, bool to_guest, bool *is_cut);
-bool guest_address(const struct guest *g, uint64_t user, uint64_t *at);
+uint32_t copy(const struct guest *g, uint64_t at, uint8_t *ours, uint32_t len, bool to_guest);
 uint32_t get(struct guest *g, uint32_t offset, uint8_t width);
 uint64_t offered(struct guest *g);
 void reset_device(struct guest *g);
@@ -113,7 +112,6 @@ void drop(struct guest *g);
 /* image.c: the file, and the thread that writes and syncs it */
 void open_image(struct daemon *d, bool format);
 void take_outbox(struct daemon *d);
-void begin_sync(struct daemon *d);
+void begin_sync(struct daemon *d, bool is_idle);
 void end_sync(struct daemon *d);
-void close_image(struct daemon *d);
 #endif

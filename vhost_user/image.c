@@ -3,23 +3,17 @@
  * The image: a file that is locked, read once, and then written from the library's outbox. A thread of its own makes
  * the writes and the syncs, so that no kick waits for a disk. */
 #include <libgen.h>
+#include <pthread.h>
 #include <sys/eventfd.h>
 #include <sys/file.h>
 #include "daemon.h"
 
-/* In front of a write's bytes in a batch. */
-struct head {
-	uint64_t at, len;
-};
-
 static bool is_written(int file, const uint8_t *bytes, uint64_t at, uint64_t len)
 {
-	for (uint64_t made = 0; made < len;) {
-		const ssize_t n = pwrite(file, bytes + made, len - made, (off_t)(at + made));
-
-		if (n <= 0 && !(n < 0 && errno == EINTR))
+	for (ssize_t n; len; bytes += n, at += (uint64_t)n, len -= (uint64_t)n) {
+		n = pwrite(file, bytes, len, (off_t)at);
+		if (n <= 0)
 			return false;
-		made += n > 0 ? (uint64_t)n : 0;
 	}
 	return true;
 }
@@ -42,21 +36,17 @@ static void format_image(struct daemon *d, uint8_t *image, uint64_t len)
 static void *write_and_sync(void *its)
 {
 	struct disk *disk = its;
-	struct head head;
-	uint64_t n;
+	eventfd_t n;
 
-	while (read(disk->start, &n, sizeof n) == sizeof n && n == 1) {
+	while (!eventfd_read(disk->start, &n)) {
 		const struct batch *b = &disk->batches[!disk->next];
 		bool succeeds = true;
 
-		for (size_t i = 0; succeeds && i < b->len; i += sizeof head + head.len) {
-			memcpy(&head, b->bytes + i, sizeof head);
-			succeeds = is_written(disk->file, b->bytes + i + sizeof head, head.at, head.len);
-		}
+		for (size_t i = 0; succeeds && i < b->count; i++)
+			succeeds = is_written(disk->file, b->writes[i].bytes, b->writes[i].at, b->writes[i].len);
 		/* (the file's length never changes, so its data are all that is to be kept) */
 		disk->error = succeeds && !fdatasync(disk->file) ? 0 : errno ? errno : EIO;
-		if (write(disk->over, &n, sizeof n) != sizeof n)
-			break;
+		eventfd_write(disk->over, n);
 	}
 	return NULL;
 }
@@ -66,14 +56,16 @@ void open_image(struct daemon *d, bool format)
 	struct disk *disk = &d->disk;
 	const uint64_t len = rpmb_image_length(d->board, d->count);
 	uint8_t *image = malloc(len + 1);
-	struct stat is = { .st_size = 0 };
+	struct stat is;
+	pthread_t thread;
 
 	disk->file = open(disk->path, O_RDWR | O_CLOEXEC | (format ? O_CREAT : 0), 0600);
-	if (disk->file < 0 || fstat(disk->file, &is) || !S_ISREG(is.st_mode) || !image || !len)
-		REFUSE(disk->path, "the image isn't opened: %s", disk->file < 0 && errno == ENOENT ? "it isn't there; --format"
-		       " makes a fresh one" : disk->file < 0 ? strerror(errno) : len && image ? "it is no file" : "no memory");
-	if (flock(disk->file, LOCK_EX | LOCK_NB) || fstat(disk->file, &is))
+	if (disk->file < 0 || !len || !image)
+		REFUSE(disk->path, "the image isn't opened: %s; where there is none, --format makes one", strerror(errno));
+	if (flock(disk->file, LOCK_EX | LOCK_NB))
 		REFUSE(disk->path, "another program has the image (vhost-user-rpmb or rpmbd): end that one first");
+	if (fstat(disk->file, &is) || !S_ISREG(is.st_mode))
+		REFUSE(disk->path, "it is no file that can keep an image");
 	if (!is.st_size && format)
 		format_image(d, image, len);
 	/* what a stop left is kept before it is read, and before anybody is told of it */
@@ -82,13 +74,13 @@ void open_image(struct daemon *d, bool format)
 		REFUSE(disk->path, "the image isn't synced or read: %s", strerror(errno));
 	const uint32_t fault = (uint64_t)n != len ? RPMB_BAD_LENGTH : rpmb_open(d->board, d->count, image, len, &d->host);
 	if (fault != RPMB_OK)
-		REFUSE(disk->path, "%s. It has %lld bytes, and an image of these guests %llu: it wants as many sockets, each with"
-		       " the --capacity, as it was made with%s", rpmb_fault_text(fault), (long long)is.st_size,
-		       (unsigned long long)len, n ? "" : "; --format makes a fresh one in an empty file");
+		REFUSE(disk->path, "%s. It has %lld bytes, and an image of these guests %" PRIu64 ": it wants as many sockets,"
+		       " each with the --capacity, as it was made with%s", rpmb_fault_text(fault), (long long)is.st_size, len,
+		       n ? "" : "; --format makes a fresh one in an empty file");
 	free(image);
 	disk->start = eventfd(0, EFD_CLOEXEC);
 	disk->over = eventfd(0, EFD_CLOEXEC);
-	if (disk->start < 0 || disk->over < 0 || pthread_create(&disk->thread, NULL, write_and_sync, disk))
+	if (disk->start < 0 || disk->over < 0 || pthread_create(&thread, NULL, write_and_sync, disk))
 		REFUSE(disk->path, "no thread for the disk: %s", strerror(errno));
 }
 
@@ -96,56 +88,48 @@ void open_image(struct daemon *d, bool format)
 void take_outbox(struct daemon *d)
 {
 	struct batch *b = &d->disk.batches[d->disk.next];
-	struct head head = { .len = 1 };
 
-	while (head.len && sizeof b->bytes - b->len >= sizeof head + RPMB_LARGEST_WRITE) {
-		head.len = rpmb_outbox(&d->host, &head.at, b->bytes + b->len + sizeof head, RPMB_LARGEST_WRITE);
-		memcpy(b->bytes + b->len, &head, sizeof head);
-		b->len += head.len && !d->disk.failed ? sizeof head + head.len : 0;
+	for (size_t i; (i = b->count) < WRITES; b->count += !d->disk.failed) {
+		b->writes[i].len = rpmb_outbox(&d->host, &b->writes[i].at, b->writes[i].bytes, sizeof b->writes[i].bytes);
+		if (!b->writes[i].len)
+			return;
 	}
-	d->disk.wanted |= head.len != 0;
+	d->disk.wanted = true;
 }
 
-/* Hands the batch to the thread, where a sync is wanted and none is under way. */
-void begin_sync(struct daemon *d)
+/* Hands the batch to the thread, where a sync is wanted and none is under way. One that no guest waits for is put off
+ * until nothing else happens (`is_idle`): where a guest writes on, the next write shares it. */
+void begin_sync(struct daemon *d, bool is_idle)
 {
-	const uint64_t one = 1;
-
-	if (d->disk.busy || !d->disk.wanted || d->disk.failed)
+	if (d->disk.busy || d->disk.failed)
+		return;
+	d->disk.wanted = d->disk.wanted || rpmb_go_on(&d->host);
+	take_outbox(d);
+	for (unsigned i = 0; i < d->count && !is_idle; i++)
+		is_idle = rpmb_waiting(&d->host, (uint16_t)i);
+	if (!d->disk.wanted || !is_idle)
 		return;
 	d->disk.next = !d->disk.next;
-	d->disk.batches[d->disk.next].len = 0;
-	d->disk.busy = write(d->disk.start, &one, sizeof one) == sizeof one;
+	d->disk.batches[d->disk.next].count = 0;
+	d->disk.busy = !eventfd_write(d->disk.start, 1);
 }
 
 /* A sync is over. Where more was written meanwhile it isn't told: those writes have to be made first. */
 void end_sync(struct daemon *d)
 {
-	uint64_t n;
+	eventfd_t n;
 
-	if (read(d->disk.over, &n, sizeof n) != sizeof n)
+	if (eventfd_read(d->disk.over, &n))
 		return;
 	d->disk.busy = false;
 	take_outbox(d);
-	d->disk.wanted = d->disk.batches[d->disk.next].len;
-	if (d->disk.error) {
+	d->disk.failed = d->disk.error;
+	d->disk.wanted = !d->disk.failed && d->disk.batches[d->disk.next].count;
+	if (d->disk.failed)
 		SAY(d->disk.path, "%s. Guests get failures from now on: mend the disk, and start this program anew",
 		    strerror(d->disk.error));
-		d->disk.failed = true;
-		d->disk.wanted = false;
-	}
 	if (!d->disk.wanted)
 		rpmb_completed(&d->host, !d->disk.failed);
 	for (unsigned i = 0; i < d->count && !d->disk.wanted; i++)
 		d->guests[i].more |= d->guests[i].later || rpmb_waiting(&d->host, (uint16_t)i);
-}
-
-void close_image(struct daemon *d)
-{
-	const uint64_t end = 2;
-
-	if (write(d->disk.start, &end, sizeof end) == sizeof end)
-		pthread_join(d->disk.thread, NULL);
-	rpmb_close(&d->host);
-	close(d->disk.file);
 }

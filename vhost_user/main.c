@@ -15,13 +15,13 @@
 #include <sys/un.h>
 #include "daemon.h"
 
-/* of a guest in the loop; rounds of a sync that the end waits for; how long memory may be lacking */
-enum { SOCKET, KICK, LISTENER, POLLED, ROUNDS = 8, AGAIN_MS = 50 };
+/* of a guest in the loop; rounds of a sync that the end waits for; how long memory may be lacking, or a sync be put off */
+enum { SOCKET, KICK, LISTENER, POLLED, ROUNDS = 8, PAUSE_MS = 20 };
 
 static const char help[] =
 	"vhost-user-rpmb --image FILE [options] --socket-path PATH ..\n\n"
 	"  --image FILE         where the guests' partitions are kept; keys stand in it as they are\n"
-	"  --format             makes a fresh image where FILE isn't there or is empty, and else changes nothing\n"
+	"  --format             makes a fresh image (version 2) where FILE isn't there or is empty; else changes nothing\n"
 	"  --socket-path PATH   the socket of the next guest: once for each, always in the same order\n"
 	"  --fd N               the same, as a file descriptor, of a connection or of a socket that listens\n"
 	"  --capacity N         of the guests named behind it: units of 128 KiB, 1 to 128 (1)\n"
@@ -38,9 +38,8 @@ static int listen_at(const char *path)
 	const int fd = socket(AF_UNIX, SOCK_STREAM | SOCK_CLOEXEC | SOCK_NONBLOCK, 0);
 	struct stat is;
 
-	if (strlen(path) >= sizeof name.sun_path)
+	if (snprintf(name.sun_path, sizeof name.sun_path, "%s", path) >= (int)sizeof name.sun_path)
 		REFUSE(path, "a socket's path has at most %zu bytes", sizeof name.sun_path - 1);
-	strcpy(name.sun_path, path);
 	/* the socket that an earlier run left goes; one at which a program listens stays, and so does any file */
 	if (!lstat(path, &is) && S_ISSOCK(is.st_mode) && connect(fd, (struct sockaddr *)&name, sizeof name) &&
 	    errno == ECONNREFUSED)
@@ -57,14 +56,9 @@ static bool is_due(const struct guest *g)
 
 static void attend(struct guest *g, const struct pollfd *its)
 {
-	bool stays = !its[KICK].revents || take_kick(g);
+	const bool stays = (!its[KICK].revents || take_kick(g)) && (!is_due(g) || serve(g)) &&
+	                   (!its[SOCKET].revents || receive(g)) && (!g->stopping || end_stop(g));
 
-	if (stays && is_due(g))
-		stays = serve(g);
-	if (stays && its[SOCKET].revents)
-		stays = receive(g);
-	if (stays && g->stopping)
-		stays = end_stop(g);
 	if (!stays || its[LISTENER].revents)
 		drop(g);
 	/* the newest front end has the device: an older one may keep its end open in a descriptor that it gave us */
@@ -77,7 +71,7 @@ static bool prepare(const struct daemon *d, struct pollfd *polled, int *wait)
 {
 	bool any = false;
 
-	*wait = -1;
+	*wait = d->disk.wanted && !d->disk.busy ? PAUSE_MS : -1;
 	for (const struct guest *g = d->guests; g < d->guests + d->count; g++, polled += POLLED) {
 		polled[SOCKET] = (struct pollfd){ g->socket, g->stopping ? 0 : POLLIN, 0 };
 		polled[KICK] = (struct pollfd){ g->kick, POLLIN, 0 };
@@ -86,55 +80,40 @@ static bool prepare(const struct daemon *d, struct pollfd *polled, int *wait)
 		if (is_due(g))
 			*wait = 0;
 		else if (g->later && !d->disk.busy && *wait)
-			*wait = AGAIN_MS;
+			*wait = PAUSE_MS;
 	}
 	return any;
 }
 
-/* Until a signal, or the end of the last front end that can't come again. */
+/* Until the end of the last front end that can't come again, or a signal. What is kept is answered before the end: by
+ * the sync that is under way then, and a few more where it takes them. */
 static void loop(struct daemon *d, int signals)
 {
 	struct pollfd polled[2 + POLLED * GUESTS] = { { signals, POLLIN, 0 }, { d->disk.over, POLLIN, 0 } };
+	int rounds = ROUNDS, wait;
 
-	for (int wait; prepare(d, polled + 2, &wait);) {
+	while ((polled[0].fd >= 0 || (d->disk.busy && rounds)) && prepare(d, polled + 2, &wait)) {
 		const int ready = poll(polled, 2 + POLLED * d->count, wait);
 
-		if (ready < 0 && errno == EINTR)
+		if (ready < 0)
 			continue;
-		if (ready < 0 || polled[0].revents)
-			return;
-		if (polled[1].revents)
+		if (polled[0].revents)
+			polled[0].fd = -1;
+		if (polled[1].revents) {
+			rounds -= polled[0].fd < 0;
 			end_sync(d);
+		}
 		for (unsigned i = 0; i < d->count; i++) {
 			d->guests[i].more |= !ready && d->guests[i].later;
 			attend(&d->guests[i], polled + 2 + POLLED * i);
 		}
-		/* where no guest is served, the disk's work goes on all the same */
-		if (!d->disk.busy && !d->disk.wanted && !d->disk.failed) {
-			d->disk.wanted = rpmb_go_on(&d->host);
-			take_outbox(d);
-		}
-		begin_sync(d);
-	}
-}
-
-/* What is kept is answered before the end: by the sync that is under way, and a few more where it takes them. */
-static void finish(struct daemon *d)
-{
-	for (int rounds = 0; d->disk.busy; rounds++) {
-		end_sync(d);
-		for (struct guest *g = d->guests; g < d->guests + d->count; g++)
-			if (is_due(g) && !serve(g))
-				drop(g);
-		if (rounds < ROUNDS)
-			begin_sync(d);
+		begin_sync(d, !ready && wait);
 	}
 	for (struct guest *g = d->guests; g < d->guests + d->count; g++) {
 		drop(g);
 		if (g->is_path)
 			unlink(g->name);
 	}
-	close_image(d);
 }
 
 static long number(const char *option, const char *text, long least, long most)
@@ -151,11 +130,10 @@ static void add_guest(struct daemon *d, const struct rpmb_guest *as, bool is_pat
 {
 	const int fd = is_path ? -1 : (int)number("--fd", word, 0, 1 << 20);
 	int listens = 0;
-	socklen_t len = sizeof listens;
 
 	if (d->count == GUESTS)
 		REFUSE(word, "a board has at most %d guests", GUESTS);
-	if (!is_path && getsockopt(fd, SOL_SOCKET, SO_ACCEPTCONN, &listens, &len))
+	if (!is_path && getsockopt(fd, SOL_SOCKET, SO_ACCEPTCONN, &listens, &(socklen_t){ sizeof listens }))
 		REFUSE("--fd", "%s is no socket: %s", word, strerror(errno));
 	for (struct guest *g = d->guests; g < d->guests + d->count; g++)
 		if (!strcmp(g->name, word))
@@ -227,6 +205,6 @@ int main(int argc, char **argv)
 		if (g->is_path)
 			g->listener = listen_at(g->name);
 	loop(d, signals);
-	finish(d);
+	rpmb_close(&d->host);
 	return 0;
 }

@@ -2,6 +2,8 @@
  *
  * The messages of the vhost-user protocol. A guest has one front end, one queue and one device; all that a message
  * says is checked here or by the library. */
+#include <linux/virtio_config.h>
+#include <linux/virtio_mmio.h>
 #include "daemon.h"
 
 /* The base of a packed ring that begins: its wraps are 1 (User Mode Linux says 0). The other one stands for the place
@@ -13,28 +15,36 @@
 #define PROTOCOL       (1ull << 0 | REPLY_ACK | 1ull << 5 | 1ull << 9 | 1ull << 13 | 1ull << 15 | 1ull << 16)
 
 enum answer { DONE, REFUSED, ANSWERED, LATER };
-enum { VERSION_MASK = 3, IS_REPLY = 4, NEED_REPLY = 8, NO_FD = 256, NEEDS_RESET = 64, STATUS = 0x070, CONFIG = 0x100 };
+enum { VERSION_MASK = 3, IS_REPLY = 4, NEED_REPLY = 8, NO_FD = 256 };
 
-/* The requests by their numbers, from 0 on, with the fewest bytes that each has. */
+/* The requests by their numbers, from 0 on: the fewest bytes that each has, and which bits of its first number say what
+ * queue it is about (where a file descriptor comes along, 8 of them). */
 #define REQUESTS(X) \
-	X(NONE, 0) X(GET_FEATURES, 0) X(SET_FEATURES, 8) X(SET_OWNER, 0) X(RESET_OWNER, 0) X(SET_MEM_TABLE, 8) \
-	X(SET_LOG_BASE, 0) X(SET_LOG_FD, 0) X(SET_VRING_NUM, 8) X(SET_VRING_ADDR, 40) X(SET_VRING_BASE, 8) \
-	X(GET_VRING_BASE, 8) X(SET_VRING_KICK, 8) X(SET_VRING_CALL, 8) X(SET_VRING_ERR, 8) X(GET_PROTOCOL_FEATURES, 0) \
-	X(SET_PROTOCOL_FEATURES, 8) X(GET_QUEUE_NUM, 0) X(SET_VRING_ENABLE, 8) X(SEND_RARP, 0) X(NET_SET_MTU, 0) \
-	X(SET_BACKEND_REQ_FD, 0) X(IOTLB_MSG, 0) X(SET_VRING_ENDIAN, 0) X(GET_CONFIG, 12) X(SET_CONFIG, 12) \
-	X(CREATE_CRYPTO_SESSION, 0) X(CLOSE_CRYPTO_SESSION, 0) X(POSTCOPY_ADVISE, 0) X(POSTCOPY_LISTEN, 0) \
-	X(POSTCOPY_END, 0) X(GET_INFLIGHT_FD, 0) X(SET_INFLIGHT_FD, 0) X(GPU_SET_SOCKET, 0) X(RESET_DEVICE, 0) \
-	X(VRING_KICK, 0) X(GET_MAX_MEM_SLOTS, 0) X(ADD_MEM_REG, 40) X(REM_MEM_REG, 40) X(SET_STATUS, 8) X(GET_STATUS, 0)
-#define NUMBERED(name, least) name,
-#define NAMED(name, least)    { #name, least },
+	X(NONE, 0, 0) X(GET_FEATURES, 0, 0) X(SET_FEATURES, 8, 0) X(SET_OWNER, 0, 0) X(RESET_OWNER, 0, 0) \
+	X(SET_MEM_TABLE, 8, 0) X(SET_LOG_BASE, 0, 0) X(SET_LOG_FD, 0, 0) X(SET_VRING_NUM, 8, ~0u) X(SET_VRING_ADDR, 40, ~0u) \
+	X(SET_VRING_BASE, 8, ~0u) X(GET_VRING_BASE, 8, ~0u) X(SET_VRING_KICK, 8, 255) X(SET_VRING_CALL, 8, 255) \
+	X(SET_VRING_ERR, 8, 255) X(GET_PROTOCOL_FEATURES, 0, 0) X(SET_PROTOCOL_FEATURES, 8, 0) X(GET_QUEUE_NUM, 0, 0) \
+	X(SET_VRING_ENABLE, 8, ~0u) X(SEND_RARP, 0, 0) X(NET_SET_MTU, 0, 0) X(SET_BACKEND_REQ_FD, 0, 0) X(IOTLB_MSG, 0, 0) \
+	X(SET_VRING_ENDIAN, 0, 0) X(GET_CONFIG, 12, 0) X(SET_CONFIG, 12, 0) X(CREATE_CRYPTO_SESSION, 0, 0) \
+	X(CLOSE_CRYPTO_SESSION, 0, 0) X(POSTCOPY_ADVISE, 0, 0) X(POSTCOPY_LISTEN, 0, 0) X(POSTCOPY_END, 0, 0) \
+	X(GET_INFLIGHT_FD, 0, 0) X(SET_INFLIGHT_FD, 0, 0) X(GPU_SET_SOCKET, 0, 0) X(RESET_DEVICE, 0, 0) X(VRING_KICK, 0, 0) \
+	X(GET_MAX_MEM_SLOTS, 0, 0) X(ADD_MEM_REG, 40, 0) X(REM_MEM_REG, 40, 0) X(SET_STATUS, 8, 0) X(GET_STATUS, 0, 0)
+#define NUMBERED(name, least, queue) name,
+#define NAMED(name, least, queue)    { #name, least, queue },
 enum { REQUESTS(NUMBERED) UNKNOWN };
-static const struct { const char *name; uint8_t least; } requests[] = { REQUESTS(NAMED) { "unknown", 0 } };
+static const struct { const char *name; uint32_t least, queue; } requests[] = { REQUESTS(NAMED) { "unknown", 0, 0 } };
 
 static void shut(int *fd)
 {
 	if (*fd >= 0)
 		close(*fd);
 	*fd = -1;
+}
+
+static void close_fds(struct guest *g)
+{
+	while (g->fd_count)
+		close(g->fds[--g->fd_count]);
 }
 
 static void stop_ring(struct guest *g)
@@ -57,8 +67,7 @@ static enum answer reset(struct guest *g)
 void drop(struct guest *g)
 {
 	reset(g);
-	while (g->fd_count)
-		close(g->fds[--g->fd_count]);
+	close_fds(g);
 	while (g->region_count)
 		unmap(g, 0);
 	g->features = g->protocol = g->have = g->places = 0;
@@ -70,11 +79,10 @@ void drop(struct guest *g)
 static bool is_event(int fd, bool or_eventfd)
 {
 	char path[32], name[32] = "";
-	struct stat is;
 
 	snprintf(path, sizeof path, "/proc/self/fd/%d", fd);
-	return !fstat(fd, &is) && (S_ISSOCK(is.st_mode) || (or_eventfd && readlink(path, name, sizeof name - 1) > 0 &&
-	                                                    !strcmp(name, "anon_inode:[eventfd]")));
+	return readlink(path, name, sizeof name - 1) > 0 && (!strncmp(name, "socket:[", 8) || (or_eventfd &&
+	                                                     !strcmp(name, "anon_inode:[eventfd]")));
 }
 
 /* Takes the file descriptor of a message, or none where it says so. */
@@ -111,7 +119,7 @@ static enum answer set_memory(struct guest *g)
 static enum answer remove_region(struct guest *g)
 {
 	for (unsigned i = 0; i < g->region_count; i++)
-		if (!memcmp(&g->regions[i].is, &g->message.slot.region, offsetof(struct vu_region, offset))) {
+		if (!memcmp(&g->regions[i], &g->message.slot.region, offsetof(struct vu_region, offset))) {
 			unmap(g, i);
 			return DONE;
 		}
@@ -122,35 +130,39 @@ static enum answer set_features(struct guest *g, uint64_t features)
 {
 	if (features & ~(offered(g) | VU_PROTOCOL_FEATURES))
 		return REFUSED;
-	g->up &= features == g->features;
-	g->features = features;
 	g->enabled |= !(features & VU_PROTOCOL_FEATURES); /* a ring is enabled from the first then */
+	g->up &= g->features == (features & ~VU_PROTOCOL_FEATURES);
+	g->features = features & ~VU_PROTOCOL_FEATURES;
 	return DONE;
+}
+
+/* The guest's address of what has this one at the front end; all ones, which no region reaches, where it is none. */
+static uint64_t guest_address(const struct guest *g, uint64_t user)
+{
+	for (const struct vu_region *r = g->regions; r < g->regions + g->region_count; r++)
+		if (user - r->user < r->size)
+			return user - r->user + r->guest;
+	return UINT64_MAX;
 }
 
 static enum answer set_addresses(struct guest *g)
 {
-	uint64_t desc, driver, device;
+	const uint64_t desc = guest_address(g, g->message.ring.desc), driver = guest_address(g, g->message.ring.avail);
+	const uint64_t device = guest_address(g, g->message.ring.used);
 
-	if (g->message.ring.flags || !guest_address(g, g->message.ring.desc, &desc) ||
-	    !guest_address(g, g->message.ring.avail, &driver) || !guest_address(g, g->message.ring.used, &device))
+	if (g->message.ring.flags || desc == UINT64_MAX || driver == UINT64_MAX || device == UINT64_MAX)
 		return REFUSED;
 	g->up &= desc == g->desc && driver == g->driver && device == g->device;
 	g->desc = desc, g->driver = driver, g->device = device;
 	return DONE;
 }
 
-static bool is_packed(const struct guest *g)
-{
-	return g->features >> 34 & 1;
-}
-
 /* A queue begins, or goes on where GET_VRING_BASE stopped it. */
 static enum answer set_base(struct guest *g, uint32_t base)
 {
-	const bool begins = !base || (is_packed(g) && base == PACKED_BASE);
+	const bool begins = !base || (base == PACKED_BASE && g->features >> VIRTIO_F_RING_PACKED & 1);
 
-	if (!begins && !(g->up && base == g->told)) {
+	if (!begins && !(g->up && base == g->base)) {
 		COMPLAIN(g, "SET_VRING_BASE %#x: a queue begins at place 0, or goes on where this program stopped it", base);
 		return REFUSED;
 	}
@@ -164,11 +176,10 @@ static enum answer set_base(struct guest *g, uint32_t base)
 static uint32_t ring_base(struct guest *g)
 {
 	uint8_t index[2] = { 0, 0 };
-	bool is_cut;
 
-	if (!g->up || is_packed(g))
+	if (!g->up || g->features >> VIRTIO_F_RING_PACKED & 1)
 		return g->up ? PACKED_STOPPED : g->base;
-	move(g, g->device + 2, index, sizeof index, false, &is_cut);
+	copy(g, g->device + 2, index, sizeof index, false);
 	return index[0] | (uint32_t)index[1] << 8;
 }
 
@@ -176,7 +187,6 @@ static bool send_answer(struct guest *g)
 {
 	const size_t len = VU_HEADER + g->message.size;
 
-	g->have = 0;
 	g->message.flags = VU_VERSION | IS_REPLY;
 	return send(g->socket, &g->message, len, MSG_DONTWAIT | MSG_NOSIGNAL) == (ssize_t)len;
 }
@@ -187,29 +197,19 @@ bool end_stop(struct guest *g)
 	if (g->up && g->running && (g->later || g->more || rpmb_waiting(&g->daemon->host, g->number)))
 		return true;
 	stop_ring(g);
-	g->told = g->message.state.num = ring_base(g);
+	g->base = g->message.state.num = ring_base(g);
 	return send_answer(g);
 }
 
 static enum answer get_config(struct guest *g)
 {
 	const uint32_t offset = g->message.config.offset, size = g->message.config.size;
+	const bool fits = size <= sizeof g->message.config.bytes && offset <= 256 - size && g->message.size == 12 + size;
 
-	if (size > sizeof g->message.config.bytes || offset > 256 - size || g->message.size != 12 + size)
-		g->message.size = 0; /* an error */
-	else
-		for (uint32_t i = 0; i < size; i++)
-			g->message.config.bytes[i] = (uint8_t)get(g, CONFIG + offset + i, 1);
+	for (uint32_t i = 0; fits && i < size; i++)
+		g->message.config.bytes[i] = (uint8_t)get(g, VIRTIO_MMIO_CONFIG + offset + i, 1);
+	g->message.size *= fits; /* (0: an error) */
 	return ANSWERED;
-}
-
-/* A ring that was stopped may go on behind a status of 0, which QEMU also says where it pauses. */
-static enum answer set_status(struct guest *g, uint8_t status)
-{
-	if (!status && g->running)
-		reset(g);
-	g->status = status;
-	return DONE;
 }
 
 static enum answer give(struct guest *g, uint64_t number)
@@ -222,12 +222,8 @@ static enum answer give(struct guest *g, uint64_t number)
 static enum answer perform(struct guest *g)
 {
 	const struct vu_message *m = &g->message;
-	/* a message of the ring names it, by 32 bits, or by 8 where a file descriptor comes along */
-	const bool has_fd = m->request >= SET_VRING_KICK && m->request <= SET_VRING_ERR;
-	const bool is_ring = (m->request >= SET_VRING_NUM && m->request <= SET_VRING_ERR) || m->request == SET_VRING_ENABLE;
 
-	if (m->request >= UNKNOWN || m->size < requests[m->request].least ||
-	    (is_ring && m->state.index & (has_fd ? 0xff : UINT32_MAX)))
+	if (m->request >= UNKNOWN || m->size < requests[m->request].least || m->state.index & requests[m->request].queue)
 		return REFUSED;
 	switch (m->request) {
 	case GET_FEATURES: return give(g, offered(g) | VU_PROTOCOL_FEATURES);
@@ -251,8 +247,12 @@ static enum answer perform(struct guest *g)
 	case GET_MAX_MEM_SLOTS: return give(g, REGIONS);
 	case ADD_MEM_REG: return g->fd_count == 1 && map(g, m->slot.region, g->fds[0]) ? DONE : REFUSED;
 	case REM_MEM_REG: return remove_region(g);
-	case SET_STATUS: return set_status(g, (uint8_t)m->number);
-	case GET_STATUS: return give(g, g->status | (get(g, STATUS, 4) & NEEDS_RESET));
+	case SET_STATUS: /* (QEMU also says 0 where it pauses: a ring that was stopped may go on behind it) */
+		if (!(uint8_t)m->number && g->running)
+			reset(g);
+		g->status = (uint8_t)m->number;
+		return DONE;
+	case GET_STATUS: return give(g, g->status | (get(g, VIRTIO_MMIO_STATUS, 4) & VIRTIO_CONFIG_S_NEEDS_RESET));
 	default: return REFUSED;
 	}
 }
@@ -262,8 +262,7 @@ static bool answer(struct guest *g)
 	const uint32_t request = g->message.request, size = g->message.size, asks = g->message.flags & NEED_REPLY;
 	const enum answer a = perform(g);
 
-	while (g->fd_count)
-		close(g->fds[--g->fd_count]);
+	close_fds(g);
 	g->have = 0;
 	if (a == REFUSED)
 		COMPLAIN(g, "request %u (%s) of %u bytes is refused, or not supported", request,
@@ -276,25 +275,7 @@ static bool answer(struct guest *g)
 	return send_answer(g);
 }
 
-/* Takes the file descriptors that came with a piece of a message. */
-static bool take_fds(struct guest *g, struct msghdr *m)
-{
-	for (struct cmsghdr *c = CMSG_FIRSTHDR(m); c; c = CMSG_NXTHDR(m, c))
-		for (size_t i = 0; c->cmsg_type == SCM_RIGHTS && i < (c->cmsg_len - CMSG_LEN(0)) / sizeof(int); i++) {
-			int fd;
-
-			memcpy(&fd, CMSG_DATA(c) + i * sizeof fd, sizeof fd);
-			if (g->fd_count < VU_FDS) {
-				g->fds[g->fd_count++] = fd;
-			} else {
-				close(fd);
-				m->msg_flags |= MSG_CTRUNC;
-			}
-		}
-	return !(m->msg_flags & MSG_CTRUNC);
-}
-
-/* Takes what is there of one message, and no byte of the next. */
+/* Takes what is there of one message, and no byte of the next. Its file descriptors come with one piece of it. */
 bool receive(struct guest *g)
 {
 	_Alignas(struct cmsghdr) char control[CMSG_SPACE(sizeof g->fds)];
@@ -302,10 +283,17 @@ bool receive(struct guest *g)
 	                       VU_HEADER + (g->have < VU_HEADER ? 0 : g->message.size) - g->have };
 	struct msghdr m = { .msg_iov = &bytes, .msg_iovlen = 1, .msg_control = control, .msg_controllen = sizeof control };
 	const ssize_t n = recvmsg(g->socket, &m, MSG_DONTWAIT | MSG_CMSG_CLOEXEC);
+	const struct cmsghdr *c = n < 0 ? NULL : CMSG_FIRSTHDR(&m);
+	const bool fits = !(m.msg_flags & MSG_CTRUNC) && !(c && g->fd_count);
 
 	if (n < 0)
 		return errno == EAGAIN || errno == EINTR;
-	if (!take_fds(g, &m) || n == 0)
+	if (c) { /* (a UNIX socket gives nothing else than these, and no more than there is room for) */
+		close_fds(g);
+		g->fd_count = (unsigned)((c->cmsg_len - CMSG_LEN(0)) / sizeof(int));
+		memcpy(g->fds, CMSG_DATA(c), g->fd_count * sizeof(int));
+	}
+	if (!fits || n == 0)
 		return false;
 	g->have += (size_t)n;
 	if (g->have == VU_HEADER && ((g->message.flags & (VERSION_MASK | IS_REPLY)) != VU_VERSION ||

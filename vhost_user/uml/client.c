@@ -1,7 +1,10 @@
 /* SPDX-License-Identifier: Apache-2.0
  *
- * client DEVICE key|counter|bench N|single N|crash LEAST N: the RPMB client of a guest, by mmc's ioctls: MMC_IOC_MULTI_CMD,
- * or with `single` one MMC_IOC_CMD after another.
+ * client DEVICE key|counter|bench N [BLOCKS]|single N|null N|crash LEAST N: the RPMB client of a guest, by mmc's ioctls:
+ * MMC_IOC_MULTI_CMD, or with `single` one MMC_IOC_CMD after another.
+ *
+ * bench, single: how long the ioctls of a request take, without the client's own MACs; null: the same of counter requests
+ * whose answer isn't looked at, for a back end that gives none.
  *
  * crash: checks the counter and the blocks of the last write, and goes on writing three blocks that hold the counter
  * until it is killed or N writes are made. It tells each that it knows of on a line of standard output. */
@@ -16,11 +19,12 @@
 #include <unistd.h>
 #include "../../embedding/kvm/sha256.h"
 
-enum { FRAME = 512, BODY = 228, BODY_BYTES = 284, BLOCKS = 3, FIRST = 8 };
+enum { FRAME = 512, BODY = 228, BODY_BYTES = 284, MOST_BLOCKS = 16, FIRST = 8 };
 enum { KEY = 1, COUNTER = 2, DATA_WRITE = 3, DATA_READ = 4, RESULT = 5, SAMPLES = 4096 };
 
 static const uint8_t key[32] = "AAAABBBBCCCCDDDDEEEEFFFFGGGGHHHH";
-static int device, single;
+static int device, single, blocks = 3;
+static double took; /* by the ioctls of the last request, us */
 
 static void stop(const char *what, long value)
 {
@@ -52,6 +56,14 @@ static struct mmc_ioc_cmd command(int opcode, const uint8_t *frames, int count)
 	return c;
 }
 
+static double now(void)
+{
+	struct timespec t;
+
+	clock_gettime(CLOCK_MONOTONIC, &t);
+	return t.tv_sec * 1e6 + t.tv_nsec / 1e3;
+}
+
 /* A request and its reply in one ioctl, as mmc-utils do it. */
 static void exchange(uint8_t *request, int frames, int with_result, uint8_t *reply, int reply_frames)
 {
@@ -65,11 +77,13 @@ static void exchange(uint8_t *request, int frames, int with_result, uint8_t *rep
 		all.cmds[n++] = command(25, result, 1);
 	all.cmds[n++] = command(18, reply, reply_frames);
 	all.head.num_of_cmds = n;
+	took = now();
 	for (int i = 0; single && i < n; i++)
 		if (ioctl(device, MMC_IOC_CMD, &all.cmds[i]))
 			stop("ioctl", i);
 	if (!single && ioctl(device, MMC_IOC_MULTI_CMD, &all))
 		stop("ioctl", get(request, 510, 2));
+	took = now() - took;
 }
 
 static void check(const uint8_t *reply, int frames, uint32_t type, const uint8_t *nonce)
@@ -103,19 +117,19 @@ static uint32_t read_counter(void)
 
 static void write_blocks(uint32_t counter)
 {
-	uint8_t request[BLOCKS * FRAME] = { 0 }, reply[FRAME];
+	uint8_t request[MOST_BLOCKS * FRAME] = { 0 }, reply[FRAME];
 
-	for (int i = 0; i < BLOCKS; i++) {
+	for (int i = 0; i < blocks; i++) {
 		uint8_t *frame = request + i * FRAME;
 		memset(frame + 228, (int)(counter + 1 + i), 256);
 		put(frame, 228, counter + 1, 4);
 		put(frame, 500, counter, 4);
 		put(frame, 504, FIRST, 2);
-		put(frame, 506, BLOCKS, 2);
+		put(frame, 506, blocks, 2);
 		put(frame, 510, DATA_WRITE, 2);
 	}
-	hmac256(key, request + BODY, BODY_BYTES, BLOCKS, request + FRAME * (BLOCKS - 1) + 196);
-	exchange(request, BLOCKS, 1, reply, 1);
+	hmac256(key, request + BODY, BODY_BYTES, blocks, request + FRAME * (blocks - 1) + 196);
+	exchange(request, blocks, 1, reply, 1);
 	check(reply, 1, 0x300, NULL);
 	if (get(reply, 500, 4) != counter + 1)
 		stop("counter of a write", get(reply, 500, 4));
@@ -123,16 +137,16 @@ static void write_blocks(uint32_t counter)
 
 static void read_blocks(uint32_t counter)
 {
-	uint8_t request[FRAME] = { 0 }, reply[BLOCKS * FRAME];
+	uint8_t request[FRAME] = { 0 }, reply[MOST_BLOCKS * FRAME];
 
 	if (getrandom(request + 484, 16, 0) != 16)
 		stop("getrandom", 0);
 	put(request, 504, FIRST, 2);
-	put(request, 506, BLOCKS, 2);
+	put(request, 506, blocks, 2);
 	put(request, 510, DATA_READ, 2);
-	exchange(request, 1, 0, reply, BLOCKS);
-	check(reply, BLOCKS, 0x400, request + 484);
-	for (int i = 0; i < BLOCKS; i++)
+	exchange(request, 1, 0, reply, blocks);
+	check(reply, blocks, 0x400, request + 484);
+	for (int i = 0; i < blocks; i++)
 		if (get(reply + i * FRAME, 228, 4) != counter)
 			stop("block", get(reply + i * FRAME, 228, 4));
 }
@@ -146,14 +160,6 @@ static void program_key(void)
 	put(request, 510, KEY, 2);
 	exchange(request, 1, 1, reply, 1);
 	check(reply, 1, 0x100, NULL);
-}
-
-static double now(void)
-{
-	struct timespec t;
-
-	clock_gettime(CLOCK_MONOTONIC, &t);
-	return t.tv_sec * 1e6 + t.tv_nsec / 1e3;
 }
 
 static int compare(const void *a, const void *b)
@@ -170,36 +176,45 @@ static void tell(const char *what, double *us, int n)
 	for (int i = 0; i < n; i++)
 		sum += us[i];
 	qsort(us, n, sizeof *us, compare);
-	printf("%s: %d, us: least %.0f, median %.0f, mean %.0f, 99%% %.0f, most %.0f\n", what, n, us[0], us[n / 2],
+	printf("%s: %d, us: least %.0f, median %.1f, mean %.0f, 99%% %.0f, most %.0f\n", what, n, us[0], us[n / 2],
 	       sum / n, us[n * 99 / 100], us[n - 1]);
+}
+
+static double us[SAMPLES];
+
+static void null(int n)
+{
+	uint8_t request[FRAME] = { 0 }, reply[FRAME];
+
+	put(request, 510, COUNTER, 2);
+	for (int i = 0; i < n; i++) {
+		exchange(request, 1, 0, reply, 1);
+		us[i] = took;
+	}
+	tell("null exchanges", us, n);
 }
 
 static void bench(int n)
 {
-	static double us[SAMPLES];
 	uint32_t counter = read_counter();
 
-	if (n > SAMPLES)
-		n = SAMPLES;
 	for (int i = 0; i < n; i++) {
-		double t = now();
 		if (read_counter() != counter)
 			stop("counter", counter);
-		us[i] = now() - t;
+		us[i] = took;
 	}
 	tell("counter requests", us, n);
 	for (int i = 0; i < n; i++) {
-		double t = now();
 		write_blocks(counter++);
-		us[i] = now() - t;
+		us[i] = took;
 	}
-	tell("writes of 3 blocks", us, n);
+	printf("blocks: %d; ", blocks);
+	tell("writes", us, n);
 	for (int i = 0; i < n; i++) {
-		double t = now();
 		read_blocks(counter);
-		us[i] = now() - t;
+		us[i] = took;
 	}
-	tell("reads of 3 blocks", us, n);
+	tell("reads", us, n);
 }
 
 static void crash(uint32_t least, int writes)
@@ -221,7 +236,13 @@ static void crash(uint32_t least, int writes)
 
 int main(int argc, char **argv)
 {
+	int n = 0;
+
 	if (argc < 3)
+		return 2;
+	if (argc > 4 && !strcmp(argv[2], "bench"))
+		blocks = atoi(argv[4]);
+	if (blocks < 1 || blocks > MOST_BLOCKS)
 		return 2;
 	setvbuf(stdout, NULL, _IOLBF, 0);
 	device = open(argv[1], O_RDWR);
@@ -231,8 +252,12 @@ int main(int argc, char **argv)
 		program_key();
 	else if (!strcmp(argv[2], "counter"))
 		printf("counter %u\n", read_counter());
+	else if (argc > 3 && (n = atoi(argv[3]), n < 1 || n > SAMPLES) && strcmp(argv[2], "crash"))
+		stop("N", n);
+	else if (!strcmp(argv[2], "null") && argc > 3)
+		null(n);
 	else if ((single = !strcmp(argv[2], "single"), single || !strcmp(argv[2], "bench")) && argc > 3)
-		bench(atoi(argv[3]));
+		bench(n);
 	else if (!strcmp(argv[2], "crash") && argc > 4)
 		crash(strtoul(argv[3], NULL, 10), atoi(argv[4]));
 	else
