@@ -10,6 +10,15 @@ use script::{Line, ScriptError, read_script, read_served_script};
 use std::alloc::Global;
 use std::io::Write;
 
+/// What an image begins with.
+const MAGIC: [u8; 8] = *b"VRPMBIMG";
+
+/// What is said of a file that is no image. It may be anything, so that nothing is told that would
+/// take its place.
+const NO_IMAGE: &str = "is no image of this board, though the board file names it in image; write \
+    the name of the image there. If this was the image, keep it: only a copy that is whole helps, \
+    and sets its guests back to its day";
+
 /// What helps where a file is no image, or no whole one.
 const SPOILED: &str = "keep it as it is; a copy that is whole may take its place, and sets its \
     guests back to its day";
@@ -83,20 +92,30 @@ fn misplaced(alloc: Global, task: Task<'_>) -> Option<String> {
     format!(in alloc; "{path}: line {number}: the store reaches beyond its guest's memory").ok()
 }
 
-/// Why the disk holds no image of the board: by its length, where that is another one. What may be
-/// left of partitions is never told to be formatted, which would empty them.
-fn unformatted<D: Disk>(alloc: Global, task: Task<'_>, disk: Option<&D>) -> Option<String> {
-    let (image, whole) = (task.place(), Layout::of(task.board).length());
-    match disk {
-        Some(disk) if disk.len() == 0 => said(alloc, image, EMPTY),
-        Some(disk) if disk.len() != whole => {
-            let length = disk.len();
-            format!(in alloc;
-                "{image}: has {length} bytes, an image of this board {whole}: {SPOILED}"
-            ).ok()
-        }
-        _ => format!(in alloc; "{image}: is no image, or not whole: {SPOILED}").ok(),
+/// Whether a disk begins as an image does.
+fn is_image<D: Disk>(disk: &mut D) -> bool {
+    let mut front = [0; 8];
+    if disk.len() < 8 {
+        return false;
     }
+    disk.read_at(0, &mut front).is_ok() && front == MAGIC
+}
+
+/// Why the disk holds no image of the board: by its first bytes, or by its length, where that is
+/// another one. What may be left of partitions, or is something else, is never told to be
+/// formatted, which would empty it.
+fn unformatted<D: Disk>(alloc: Global, task: Task<'_>, disk: &mut D) -> Option<String> {
+    let (image, whole, length) = (task.place(), Layout::of(task.board).length(), disk.len());
+    if length == 0 {
+        return said(alloc, image, EMPTY);
+    }
+    if !is_image(disk) {
+        return said(alloc, image, NO_IMAGE);
+    }
+    if length == whole {
+        return format!(in alloc; "{image}: is an image that isn't whole: {SPOILED}").ok();
+    }
+    format!(in alloc; "{image}: has {length} bytes, an image of this board {whole}: {SPOILED}").ok()
 }
 
 /// What a command has done whose lines aren't taken.
@@ -128,11 +147,14 @@ pub fn reason_of_end<D: Disk, W: Write>(
     alloc: Global,
     task: Task<'_>,
     fault: Fault,
-    disk: Option<&D>,
+    disk: Option<&mut D>,
     out: &mut W,
 ) -> Option<String> {
     match fault {
-        Fault::NotFormatted => unformatted(alloc, task, disk),
+        Fault::NotFormatted => match disk {
+            Some(disk) => unformatted(alloc, task, disk),
+            None => said(alloc, task.place(), NO_IMAGE),
+        },
         Fault::OtherConfig => {
             let why = "is the image of another board (other guests or capacities); take that \
                 board's file, or name another image in this one";

@@ -18,6 +18,14 @@ const BOARD_BYTES: u64 = 1_048_576;
 /// memory of a guest, at two digits a byte.
 const LINE_BYTES: u64 = 134_217_760;
 
+/// The most bytes of a script: 512 MiB, where a request takes 2 KiB.
+const SCRIPT_BYTES: usize = 536_870_912;
+
+/// What is said of a script with a line that is too long, or of one that is itself.
+const LONG_LINE: &str = "has a line of 134217760 bytes and more, and is no script";
+
+const LONG_SCRIPT: &str = "has more than 536870912 bytes, which no script has; part it";
+
 /// What is said of an image that is read as a board file.
 const NO_BOARD: &str = "is no text: it looks like an image, and the board file is wanted here";
 
@@ -41,11 +49,20 @@ fn text_of(alloc: Global, path: &str, of_image: &str, bytes: Vec<u8>) -> Result<
     }
 }
 
+/// What a path may be meant for that leads to no file.
+fn meant(path: &str) -> Option<&'static str> {
+    match path {
+        "" => Some("names no file"),
+        "-" => Some("isn't there; for standard input say /dev/stdin"),
+        "/dev/stdin" => Some("standard input is closed; give it a file, or name the file"),
+        _ => None,
+    }
+}
+
 /// Why a text isn't read.
 fn not_read(alloc: Global, path: &str, error: &io::Error) -> Refusal {
-    match error.kind() {
-        io::ErrorKind::NotFound if path == "-" => {
-            let why = "isn't there; for standard input say /dev/stdin";
+    match (error.kind(), meant(path)) {
+        (io::ErrorKind::NotFound, Some(why)) => {
             Refusal::of_file(alloc, Fault::FileFault, path, why)
         }
         _ => Refusal::of_call(alloc, path, error),
@@ -77,39 +94,37 @@ fn read_board_text<R: Files + AllocGlobal>(rt: &R, path: &str) -> Result<String,
     }
 }
 
-/// Reads lines to the end, and says whether each is short enough.
-fn read_lines<B: BufRead>(input: &mut B, bytes: &mut Vec<u8>) -> io::Result<bool> {
-    for _ in 0..u64::MAX {
+/// Reads lines to the end, or says why they are no script's: one is too long, or all are.
+fn read_lines<B: BufRead>(input: &mut B, bytes: &mut Vec<u8>) -> io::Result<Option<&'static str>> {
+    for _ in 0..SCRIPT_BYTES {
         match input.take(LINE_BYTES).read_until(b'\n', bytes)? as u64 {
-            0 => return Ok(true),
-            LINE_BYTES if !bytes.ends_with(b"\n") => return Ok(false),
+            0 => return Ok(None),
+            LINE_BYTES if !bytes.ends_with(b"\n") => return Ok(Some(LONG_LINE)),
+            _ if bytes.len() > SCRIPT_BYTES => return Ok(Some(LONG_SCRIPT)),
             _ => {}
         }
     }
-    Ok(false)
+    Ok(Some(LONG_SCRIPT))
 }
 
 fn read_script_bytes<R: Files + AllocGlobal>(
     rt: &R,
     path: &str,
     bytes: &mut Vec<u8>,
-) -> io::Result<bool> {
+) -> io::Result<Option<&'static str>> {
     let file = File::open(rt, path)?;
     let mut input = BufReader::new(rt.alloc(), file)?;
     read_lines(&mut input, bytes)
 }
 
-/// The text of a script. `FileFault` where it can't be read, isn't UTF-8, or has a line that is
-/// longer than any; `NoMemory`.
+/// The text of a script. `FileFault` where it can't be read, isn't UTF-8, or is longer than any or
+/// has such a line; `NoMemory`.
 pub fn read_script_text<R: Files + AllocGlobal>(rt: &R, path: &str) -> Result<String, Refusal> {
     let alloc = rt.alloc();
     let mut bytes = Vec::new(alloc);
     match read_script_bytes(rt, path, &mut bytes) {
-        Ok(true) => text_of(alloc, path, NO_SCRIPT, bytes),
-        Ok(false) => {
-            let why = "has a line of 134217760 bytes and more, and is no script";
-            Err(Refusal::of_file(alloc, Fault::FileFault, path, why))
-        }
+        Ok(None) => text_of(alloc, path, NO_SCRIPT, bytes),
+        Ok(Some(why)) => Err(Refusal::of_file(alloc, Fault::FileFault, path, why)),
         Err(error) => Err(not_read(alloc, path, &error)),
     }
 }

@@ -5,8 +5,9 @@ use crate::fault::Fault;
 use crate::reason::Refusal;
 use crate::shown_file::ShownFile;
 use disk::FileDisk;
-use std::fs::{File, Metadata, OpenOptions, TryLockError};
-use std::os::unix::fs::{MetadataExt, OpenOptionsExt};
+use std::env::current_dir;
+use std::fs::{File, FileType, Metadata, OpenOptions, TryLockError};
+use std::os::unix::fs::{FileTypeExt, MetadataExt, OpenOptionsExt};
 use std::path::Path;
 use std::{fs, io};
 
@@ -20,8 +21,11 @@ const NO_NAME: &str = "names no image; write image = \"FILE\" in the board file"
 const NOT_THERE: &str = "isn't there; if there never was one, rpmbd format makes it";
 
 /// And of one whose path begins in the folder that the program was started in.
-const NOT_HERE: &str = "isn't there: the path counts from the folder that you are in, not from the \
-    board file's; go to the image's folder, or if there never was one, rpmbd format makes it";
+const NOT_HERE: &str = "where you are: the path counts from there, not from the board file's \
+    folder; go to the image's folder, or if there never was one, rpmbd format makes it";
+
+/// What is said of an image whose path leads to none of the files that have bytes to be kept.
+const NO_FILE: &str = "and no plain file, as an image is; name another in the board file's image";
 
 /// What is said of one that has to be a new one.
 const IS_THERE: &str = "is there, and --new makes none over it; name another in the board file";
@@ -36,6 +40,35 @@ const NO_FOLDER: &str = "its folder, seen from the one that you are in, or the f
 fn open_above_streams(rt: &HostRuntime, path: &str, options: &OpenOptions) -> io::Result<File> {
     let file = options.open(rt, path)?;
     file.try_clone()
+}
+
+/// What stands at a path that is no plain file and no folder.
+fn name_of_kind(kind: FileType) -> &'static str {
+    if kind.is_fifo() {
+        "a pipe"
+    } else if kind.is_socket() {
+        "a socket"
+    } else if kind.is_block_device() {
+        "a disk's device"
+    } else {
+        "a device"
+    }
+}
+
+/// Refused where the path leads to what is no plain file, before it is opened, which may wait, or do
+/// what nobody asked for. A folder is refused as it is opened, and what standard output writes into
+/// as that.
+fn check_kind(rt: &HostRuntime, path: &str) -> Result<(), Refusal> {
+    match fs::metadata(rt, path) {
+        Ok(found) if !(found.is_file() || found.is_dir() || leads_to(rt, OUTPUT, &found)) => {
+            let kind = name_of_kind(found.file_type());
+            match format!(in rt.alloc(); "is {kind}, {NO_FILE}") {
+                Ok(why) => Err(refused(rt, path, why.as_str())),
+                Err(_) => Err(Refusal::no_memory()),
+            }
+        }
+        _ => Ok(()),
+    }
 }
 
 /// Opens a file that is there.
@@ -129,12 +162,26 @@ fn not_made(rt: &HostRuntime, path: &str, error: &io::Error) -> Refusal {
     }
 }
 
+/// A file isn't there whose path counts from the folder that the program was started in.
+fn not_here(rt: &HostRuntime, path: &str) -> Refusal {
+    match current_dir(rt) {
+        Ok(folder) => {
+            let folder = folder.as_str();
+            match format!(in rt.alloc(); "isn't in {folder}, {NOT_HERE}") {
+                Ok(why) => refused(rt, path, why.as_str()),
+                Err(_) => Refusal::no_memory(),
+            }
+        }
+        Err(_) => refused(rt, path, NOT_THERE),
+    }
+}
+
 /// Why the file of an image isn't opened.
 fn not_opened(rt: &HostRuntime, path: &str, error: &io::Error) -> Refusal {
     match error.kind() {
         io::ErrorKind::NotFound if path.is_empty() => refused(rt, path, NO_NAME),
         io::ErrorKind::NotFound if path.starts_with('/') => refused(rt, path, NOT_THERE),
-        io::ErrorKind::NotFound => refused(rt, path, NOT_HERE),
+        io::ErrorKind::NotFound => not_here(rt, path),
         _ => Refusal::of_call(rt.alloc(), path, error),
     }
 }
@@ -155,6 +202,7 @@ pub fn create_image(
 ) -> Result<FileDisk, Refusal>
     ensures { IfOk result (λ disk. disk.len ≡ len) }
 {
+    check_kind(rt, path)?;
     let (file, is_new) = match open_or_make(rt, path, only_new) {
         Ok(opened) => opened,
         Err(error) => return Err(not_made(rt, path, &error)),
@@ -179,6 +227,7 @@ pub fn create_image(
 /// it can't be opened for reading and writing, where another program holds it or looks at it, or
 /// where standard output writes into it.
 pub fn open_image(rt: &HostRuntime, path: &str) -> Result<FileDisk, Refusal> {
+    check_kind(rt, path)?;
     let file = match open_there(rt, path, true) {
         Ok(file) => file,
         Err(error) => return Err(not_opened(rt, path, &error)),
@@ -206,6 +255,7 @@ fn open_to_look(rt: &HostRuntime, path: &str) -> io::Result<(File, bool)> {
 /// where it can't be opened for reading, where another program holds it, or where standard output
 /// writes into it.
 pub fn open_shown(rt: &HostRuntime, path: &str) -> Result<FileDisk<ShownFile>, Refusal> {
+    check_kind(rt, path)?;
     let (file, may_be_synced) = match open_to_look(rt, path) {
         Ok(opened) => opened,
         Err(error) => return Err(not_opened(rt, path, &error)),

@@ -13,6 +13,7 @@ mod files;
 mod formatting;
 mod fresh;
 mod image_files;
+mod notes;
 mod program;
 mod reason;
 mod running;

@@ -12,6 +12,7 @@ use crate::fault_lines::{report, report_refusal, write_reason};
 use crate::files::{read_board_file, read_image_board, read_script_text};
 use crate::fresh::fresh_disk;
 use crate::image_files::{create_image, open_image, open_shown};
+use crate::notes::tell_notes;
 use crate::reason::{OUTPUT, Refusal};
 use command_line::{Command, ImageVersion, WordsError, read_words};
 use disk::{Disk, FileDisk};
@@ -51,9 +52,9 @@ fn perform_on<R: AllocGlobal + Threads + Wait + Sync, D: Disk + Send + Drop, W: 
 {
     let mut err = rt.stderr();
     let (command, board) = (task.command, task.board);
-    let (ended, disk) = perform(threads, command, board, task.script, disk, out, &mut err);
+    let (ended, mut disk) = perform(threads, command, board, task.script, disk, out, &mut err);
     if let Err(fault) = ended {
-        let reason = reason_of_end(rt.alloc(), task, fault, disk.as_ref(), out);
+        let reason = reason_of_end(rt.alloc(), task, fault, disk.as_mut(), out);
         write_reason(reason.as_ref(), &mut err);
     }
     (status_after(ended), disk)
@@ -163,7 +164,11 @@ fn perform_on_files<R: AllocGlobal + Threads + Wait + Sync, W: Write>(
                 script: script.as_str(),
                 image: image.as_deref(),
             };
-            perform_script(rt, threads, task, out)
+            let status = perform_script(rt, threads, task, out)?;
+            if status == 0 {
+                tell_notes(rt, task);
+            }
+            Ok(status)
         }
     }
 }

@@ -10,6 +10,10 @@ pub(crate) const OUTPUT: &str = "standard output";
 /// What is said of a file that is no text.
 pub(crate) const NO_TEXT: &str = "isn't text in UTF-8; save it as that";
 
+/// What is said of a file that isn't there.
+const NOT_THERE: &str =
+    "isn't there; a path counts from the folder that you are in, unless it begins with /";
+
 /// The system's number of a stream that is closed, which has no kind of its own.
 const CLOSED: i32 = 9;
 
@@ -25,13 +29,17 @@ pub struct Refusal {
 /// What an error says of a file, where that can be said better than the system does.
 fn words_of(kind: io::ErrorKind) -> Option<&'static str> {
     match kind {
-        io::ErrorKind::NotFound => Some("isn't there"),
-        io::ErrorKind::IsADirectory => Some("is a folder"),
+        io::ErrorKind::NotFound => Some(NOT_THERE),
+        io::ErrorKind::IsADirectory => Some("is a folder; name a file in it"),
         io::ErrorKind::NotADirectory => Some("a part of its path is no folder"),
-        io::ErrorKind::PermissionDenied => Some("permission denied"),
-        io::ErrorKind::ReadOnlyFilesystem => Some("stands where nothing can be written"),
-        io::ErrorKind::FilesystemLoop => Some("leads round in links"),
-        io::ErrorKind::InvalidFilename => Some("the path is too long"),
+        io::ErrorKind::PermissionDenied => Some(
+            "permission denied; its owner may change that (chmod)",
+        ),
+        io::ErrorKind::ReadOnlyFilesystem => Some(
+            "stands where nothing can be written; copy it elsewhere",
+        ),
+        io::ErrorKind::FilesystemLoop => Some("leads round in links; name the file itself"),
+        io::ErrorKind::InvalidFilename => Some("the path is too long; take a shorter one"),
         io::ErrorKind::InvalidData => Some(NO_TEXT),
         io::ErrorKind::StorageFull => Some("no space left"),
         io::ErrorKind::BrokenPipe => Some("who read it is gone"),

@@ -12,7 +12,7 @@ use crate::stop::Stop;
 use crate::system::System;
 use disk::FileDisk;
 use rpmb_client::{Choice, OptionRefusal, find_answer, option_nonce};
-use rpmb_commands::{Refusal, Words, key, perform, report, report_with_advice};
+use rpmb_commands::{Refusal, Words, check_own_key, key, perform, report, report_with_advice};
 use script::read_number;
 use std::io::{BufWriter, Write};
 
@@ -268,6 +268,10 @@ fn operate<W: Write>(rt: &HostRuntime, words: Words<'_>, out: &mut W) -> Result<
 }
 
 fn operate_once<W: Write>(rt: &HostRuntime, words: Words<'_>, out: &mut W) -> Result<(), Stop> {
+    if let Err(refusal) = check_own_key(&words) {
+        let status = report_with_advice(&words, refusal, &mut rt.stderr());
+        return Err(Stop { status });
+    }
     let nonce = match random_nonce(rt) {
         Ok(nonce) => nonce,
         Err(refusal) => return Err(told(rt, refusal)),

@@ -14,7 +14,6 @@ use commands::{
 use disk::{Disk, FileDisk};
 use rpmb_frame::BoardConfig;
 use script::read_number;
-use std::alloc::Global;
 
 /// What a script of requests is called where it is told of.
 const REQUEST: &str = "the request";
@@ -51,26 +50,34 @@ fn told(rt: &HostRuntime, refusal: &commands::Refusal) -> Stop {
     }
 }
 
-/// The words of a guest that the board lacks.
-fn no_guest(alloc: Global, guest: &str, board: &BoardConfig) -> Option<String> {
-    match board.guests().len().saturating_sub(1) {
-        0 => format!(in alloc; "--guest {guest}: the board has guest 0 alone").ok(),
-        last => format!(in alloc; "--guest {guest}: the board has guests 0 to {last}").ok(),
-    }
+/// Tells that the board has no guest of this word, and which it has.
+fn tell_no_guest(rt: &HostRuntime, file: &str, guest: &str, count: usize) {
+    let last = count.saturating_sub(1);
+    let guests = if last == 0 { "guest" } else { "guests" };
+    let expected = "BadGuest: expected for --guest a guest of the board";
+    let _ = eprintln!(rt; "rpmb: {expected}, 0 to {last}, got {guest:?}");
+    let _ = eprintln!(rt; "{file}: has {count} {guests}; a further [[guest]] makes another board");
 }
 
 impl<'a> Place<'a> {
-    /// Reads a board file. Refused where it can't be read, is no board, or names no image.
+    /// Reads a board file. Refused where it can't be read, is no board, names no image, or lacks the
+    /// guest.
     pub fn of(rt: &HostRuntime, file: &'a str, guest: &'a str) -> Result<Place<'a>, Stop> {
-        match read_image_board(rt, file) {
-            Ok((board, image)) => Ok(Place {
-                file,
-                guest,
-                board,
-                image,
-            }),
-            Err(refusal) => Err(told(rt, &refusal)),
+        let (board, image) = match read_image_board(rt, file) {
+            Ok(read) => read,
+            Err(refusal) => return Err(told(rt, &refusal)),
+        };
+        let place = Place {
+            file,
+            guest,
+            board,
+            image,
+        };
+        if place.last_block().is_none() {
+            tell_no_guest(rt, file, guest, place.board.guests().len());
+            return Err(Stop { status: 1 });
         }
+        Ok(place)
     }
 
     /// Opens the image, which no other program has until it is closed. Refused where it is not
@@ -123,14 +130,13 @@ impl<'a> Place<'a> {
         }
     }
 
-    /// Tells in the words of `rpmbd` the fault that ended a script, and why. Of what stands in its
-    /// lines only the guest can be one that the board lacks.
+    /// Tells in the words of `rpmbd` the fault that ended a script, and why.
     fn tell_fault<D: Disk>(
         &self,
         rt: &HostRuntime,
         script: &str,
         fault: Fault,
-        disk: &D,
+        disk: &mut D,
         answers: &mut Vec<u8>,
     ) -> Stop {
         let task = Task {
@@ -144,10 +150,7 @@ impl<'a> Place<'a> {
         };
         let mut err = rt.stderr();
         let status = report(fault, &mut err);
-        let reason = match fault {
-            Fault::BadScript { .. } => no_guest(rt.alloc(), self.guest, &self.board),
-            _ => reason_of_end(rt.alloc(), task, fault, Some(disk), answers),
-        };
+        let reason = reason_of_end(rt.alloc(), task, fault, Some(disk), answers);
         write_reason(reason.as_ref(), &mut err);
         Stop { status }
     }
@@ -165,10 +168,10 @@ impl<'a> Place<'a> {
             → StoresNothing lines → Ran self.now.board (D.state disk) (D.state left) lines
             (Some answers.old.items) (Some answers.new.items)) }
     {
-        let (ended, disk) = run(rt.alloc(), &self.board, script, disk, answers);
+        let (ended, mut disk) = run(rt.alloc(), &self.board, script, disk, answers);
         match ended {
             Ok(()) => Ok(disk),
-            Err(fault) => Err(self.tell_fault(rt, script, fault, &disk, answers)),
+            Err(fault) => Err(self.tell_fault(rt, script, fault, &mut disk, answers)),
         }
     }
 }

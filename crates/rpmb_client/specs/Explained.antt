@@ -68,10 +68,16 @@ abbrev pub has_wrong_nonce : Option (List ℕ) → List (List ℕ) → Bool
 has_wrong_nonce None frames = false
 has_wrong_nonce (Some asked) frames = list_any (is_nonce_wrong asked) frames
 
--- a partition without a key has none to make a MAC with: zeros stand where it would
+-- what a partition without a key answers: that it has none, or to a RESULT_READ, and to what is no
+-- request, a failure without a type
+abbrev pub is_keyless : List ℕ → Bool
+is_keyless frame =
+    result_of frame == res_no_auth_key
+    || (result_of frame == res_general_failure && req_resp_of frame == 0)
+
+-- it has none to make a MAC with: zeros stand where it would
 unfoldable pub lacks_mac : List (List ℕ) → Bool
-lacks_mac frames =
-    result_of (last_of frames) == res_no_auth_key && is_zeros (key_mac_of (last_of frames)) 32
+lacks_mac frames = is_keyless (last_of frames) && is_zeros (key_mac_of (last_of frames)) 32
 
 abbrev pub has_wrong_mac : Option (List ℕ) → List (List ℕ) → Bool
 has_wrong_mac None frames = false

@@ -84,14 +84,16 @@ fn nonce_text(
     String::from_str(alloc, "wrong")
 }
 
-/// Whether the last frame says that there is no key, and has zeros for a MAC.
+/// Whether the last frame has zeros for a MAC, and says that there is no key, or no outcome of any
+/// request, as a partition without a key does.
 #[tactic(auto, unfolding(crate::specs::Explained::lacks_mac))]
 pub(crate) fn lacks_mac(frames: &[[u8; 512]]) -> bool
     requires { 0 < length frames.now }
     ensures { result ≡ lacks_mac frames.now }
 {
     let last = Frame::from_bytes(&frames[frames.len() - 1]);
-    last.result() == 0x0007 && last.key_mac() == [0; 32]
+    let keyless = last.result() == 0x0007 || (last.result() == 0x0001 && last.req_resp() == 0);
+    keyless && last.key_mac() == [0; 32]
 }
 
 fn judged_mac(key: &[u8; 32], frames: &[[u8; 512]]) -> &'static str

@@ -21,17 +21,18 @@ impl<'a> fmt::Display for Told<'a> {
 /// What an option's number is of, told as its range.
 #[derive(Clone, Copy, Debug, Error)]
 pub enum Number {
-    #[error("BadGuest: expected a number from 0 to 63")]
+    #[error("BadGuest: expected for --guest a number from 0 to 63")]
     Guest,
-    #[error("BadCounter: expected a number from 0 to 4294967295")]
+    #[error("BadCounter: expected for --counter a number from 0 to 4294967295")]
     Counter,
-    #[error("BadAddress: expected a block from 0 to 65535, the last that any capacity has")]
+    #[error("BadAddress: expected for --address a block from 0 to 65535, the last that any \
+        capacity has")]
     Address,
-    #[error("BadCount: expected 1 to 16 blocks")]
+    #[error("BadCount: expected for --count 1 to 16 blocks")]
     Count,
-    #[error("BadMaxBlocks: expected 1 to 16 blocks for one write")]
+    #[error("BadMaxBlocks: expected for --max-blocks 1 to 16 blocks of one write")]
     MaxBlocks,
-    #[error("BadLength: expected 0 to 4096 bytes, which 16 blocks have")]
+    #[error("BadLength: expected for --length 0 to 4096 bytes, which 16 blocks have")]
     Length,
 }
 
@@ -44,10 +45,10 @@ pub enum OptionRefusal<'a> {
     Incomplete,
     #[error("{0}, got {1:?}")]
     Number(Number, &'a str),
-    #[error("BadKey: expected 32 bytes in hex digits, @FILE of 64 hex digits, \
+    #[error("BadKey: expected for --key 32 bytes in hex digits, @FILE of 64 hex digits, \
          or @raw:FILE of 32 bytes, got {0} bytes in hex digits")]
     BadKey(usize),
-    #[error("BadKey: expected 32 bytes in hex digits in the file {0:?}, got {1}")]
+    #[error("BadKey: expected 32 bytes in hex digits in the file {0:?}, got {1} bytes")]
     BadKeyFile(&'a str, usize),
     /// A file of 32 bytes is no key by accident.
     #[error("BadKey: expected 64 hex digits in the file {0:?}, got 32 bytes; \
@@ -57,9 +58,9 @@ pub enum OptionRefusal<'a> {
     ByteOrderMark(&'a str),
     #[error("BadKey: expected one line of 64 hex digits in the file {0:?}, got a second line feed")]
     SecondLine(&'a str),
-    #[error("BadKey: expected 32 bytes in the file {0:?}, got {1}")]
+    #[error("BadKey: expected 32 bytes in the file {0:?}, got {1} bytes")]
     BadRawKey(&'a str, usize),
-    #[error("BadNonce: expected 16 bytes in hex digits, got {0}")]
+    #[error("BadNonce: expected for --nonce 16 bytes in 32 hex digits, got {0} bytes")]
     BadNonce(usize),
     #[error("BadHex: expected two hex digits for each byte, got: {why}", why = Told(.0))]
     BadHex(FromHexError),

@@ -26,7 +26,7 @@ IsOfWriting r = ⊥
 
 -- memory was refused, or standard input wasn't read
 abbrev pub IsOfReading : Refusal → Type 0
-IsOfReading refusal.NoInput = Unit {0}
+IsOfReading (refusal.NoInput got) = Unit {0}
 IsOfReading refusal.NoMemory = Unit {0}
 IsOfReading r = ⊥
 

@@ -1,7 +1,7 @@
 //! What helps where words are refused: a line behind the refusal's own. No contract speaks of it.
 
 use crate::refusal::Refusal;
-use crate::source::{BOARD_FILE, KEY_FILE, NOT_THERE};
+use crate::source::{BLOCKS_FILE, BOARD_FILE, IS_FOLDER, KEY_FILE, NO_PERMISSION, NOT_THERE};
 use crate::words::Words;
 use rpmb_client::OptionRefusal;
 use std::io::Write;
@@ -28,6 +28,26 @@ const NO_LINES: &str = "what `rpmbd run` prints is wanted here; did that end wit
 
 /// What is said where no byte is to be written.
 const NO_BYTE: &str = "has no byte, and --pad fills up none; give at least one";
+
+/// What is said where what is to be written ends within a block.
+const NO_BLOCKS: &str = "say --pad, and at the read --length with the number of bytes";
+
+/// What is said of a file that isn't there.
+const NO_NAME: &str = "a path counts from the folder that you are in, unless it begins with /";
+
+/// What is said of a file of blocks that is too long.
+const NO_ROOM: &str = "no partition has so many; give a part of it";
+
+/// What is said where a key named for a guest can't be one that is asked for.
+const NO_GUEST_KEY: &str = "name the key alone; explain alone takes G=KEY";
+
+/// What the results say that requests are refused with.
+const RESULTS: &str = "AUTH_FAILURE: the request had another --key; COUNT_FAILURE: another \
+    --counter than read-counter tells; ADDR_FAILURE: its blocks end behind the guest's last; \
+    NO_AUTH_KEY, or MAC none: its guest has no key yet; WRITE_FAILURE: it has one";
+
+/// What is said where standard input gives no lines.
+const NO_PIPE: &str = "give it what `rpmbd run` prints, by a pipe or from a file";
 
 fn is_hex(word: &str) -> bool {
     word.len() % 2 == 0 && word.as_bytes().iter().all(|byte| byte.is_ascii_hexdigit())
@@ -57,7 +77,7 @@ fn bad_key<'a>(words: &Words<'a>) -> Option<&'a str> {
 
 fn help_with_key(word: &str, has_guest: bool) -> &'static str {
     if word.contains('=') && !has_guest {
-        "the key alone is wanted; explain alone takes G=KEY"
+        NO_GUEST_KEY
     } else {
         "64 hex digits are wanted, or @FILE that has them"
     }
@@ -98,18 +118,38 @@ fn is_word(said: Option<&str>, word: &str) -> bool {
     }
 }
 
-/// A file isn't there.
-fn advice_on_name<'a>(words: &Words<'a>, name: &'a str) -> Option<(&'a str, &'static str)> {
+/// What helps where a file isn't there.
+fn help_with_name(words: &Words<'_>, name: &str) -> &'static str {
     if name == "-" {
-        return Some((name, "for standard input say /dev/stdin"));
+        return "for standard input say /dev/stdin";
+    }
+    if name == "/dev/stdin" {
+        return "standard input is closed; give it a file, or name the file";
     }
     if name.starts_with('@') && is_word(words.file, name) {
-        return Some((
-            name,
-            "--file takes the name of a file without an @ before it",
-        ));
+        return "--file takes the name of a file without an @ before it";
     }
-    None
+    NO_NAME
+}
+
+/// What helps where a file isn't read.
+fn help_with_file(words: &Words<'_>, name: &str, why: &str) -> &'static str {
+    match why {
+        NOT_THERE => help_with_name(words, name),
+        IS_FOLDER => "name a file in it",
+        NO_PERMISSION => "its owner may let you: chmod, or give you a copy",
+        _ => "name another file, or mend this one",
+    }
+}
+
+/// What helps where a file has more bytes than there is room for.
+fn help_with_length(most: usize) -> &'static str {
+    match most {
+        KEY_FILE => NO_KEY,
+        BOARD_FILE => NO_BOARD,
+        BLOCKS_FILE => NO_ROOM,
+        _ => "a script is wanted here; part one that is longer",
+    }
 }
 
 fn advice_on_option<'a>(
@@ -118,30 +158,65 @@ fn advice_on_option<'a>(
 ) -> Option<(&'a str, &'static str)> {
     match refusal {
         OptionRefusal::BadHex(_) => advice_on_digits(words),
-        OptionRefusal::BadKeyFile(name, _) => Some((name, NO_KEY)),
-        OptionRefusal::BadRawKey(name, _) => Some((name, NO_KEY)),
+        OptionRefusal::BadKeyFile(name, _) | OptionRefusal::BadRawKey(name, _) => {
+            Some((name, NO_KEY))
+        }
+        OptionRefusal::BadHexFile(name, _) => Some((name, NO_KEY)),
+        OptionRefusal::ByteOrderMark(name) => Some((name, "save it without one")),
+        OptionRefusal::SecondLine(name) => Some((name, "take away all behind the digits")),
         _ => None,
+    }
+}
+
+/// What helps where the device refused a read with this result.
+fn help_with_result(code: &str) -> (&'static str, &'static str) {
+    match code {
+        "ADDR_FAILURE" => ("--address", "the blocks end behind the guest's last one"),
+        "GENERAL_FAILURE" => (
+            "--count",
+            "more than the board's max_rd_cnt, or than the line has room for",
+        ),
+        _ => ("the read", "ask for the counter, whose answer says more"),
     }
 }
 
 /// What helps where an answer isn't the one that was asked for.
 fn advice_on_answer(refusal: &Refusal<'_>) -> Option<(&'static str, &'static str)> {
     match refusal {
-        Refusal::NoLine | Refusal::NoInput | Refusal::NoAnswer(0, _) => Some((INPUT, NO_LINES)),
+        Refusal::NoLine | Refusal::NoAnswer(0, _) => Some((INPUT, NO_LINES)),
+        Refusal::NoInput(_) => Some((INPUT, NO_PIPE)),
         Refusal::NoAnswer(_, 0) => Some(("--nonce", "none of them answers the read of this nonce")),
         Refusal::NoAnswer(_, _) => Some(("--nonce", "each question wants a nonce of its own")),
-        Refusal::WrongAnswer(_, _, doubt) => Some(("the first of these", *doubt)),
+        Refusal::WrongAnswer(_, _, doubt) => Some(("the first of these", doubt.why)),
         Refusal::WrongMac => Some(("--key", "its guest has another key, or somebody changed it")),
         Refusal::WrongNonce => Some((
             "--nonce",
             "it answers another question, or is an old answer",
         )),
-        Refusal::NoKey => Some(("--guest", "program-key gives it a key")),
+        Refusal::NoKey => Some((
+            "--guest",
+            "program-key gives it a key; if it has one, the host's disk failed",
+        )),
+        Refusal::NoFrames(_) => Some((
+            INPUT,
+            "the answer of a read is wanted here, not of a write",
+        )),
+        Refusal::OtherResponse(_) => Some(("--nonce", "the nonce of a read is wanted here")),
         Refusal::TooShort(_, _) => Some((
             "--length",
             "ask for less, or read more blocks (--count)",
         )),
-        Refusal::SecondOfOthers => Some(("--key", "G=KEY is the key of guest G alone")),
+        Refusal::SecondOfOthers | Refusal::SecondKey(_) | Refusal::NoGuest => {
+            Some((
+                "--key",
+                "G=KEY is the key of guest G alone, KEY of all others",
+            ))
+        }
+        Refusal::UnusedKey(_) => Some((
+            "--key",
+            "name the guest that the lines above name; its MAC wasn't looked at",
+        )),
+        Refusal::NamedKey(_, _) => Some(("--key", NO_GUEST_KEY)),
         _ => None,
     }
 }
@@ -153,14 +228,26 @@ pub(crate) fn advice_of<'a>(
 ) -> Option<(&'a str, &'static str)> {
     match refusal {
         Refusal::Option(told) => advice_on_option(words, *told),
-        Refusal::NoFile(name, why) if *why == NOT_THERE => advice_on_name(words, *name),
-        Refusal::TooLong(name, most) if *most == KEY_FILE => Some((*name, NO_KEY)),
-        Refusal::TooLong(name, most) if *most == BOARD_FILE => Some((*name, NO_BOARD)),
+        Refusal::NoFile(name, why) => Some((*name, help_with_file(words, name, why))),
+        Refusal::TooLong(name, most) => Some((*name, help_with_length(*most))),
         Refusal::NoText(name) if is_word(words.board, *name) => Some((*name, NO_BOARD)),
         Refusal::NoText(name) => Some((*name, "save it as text in UTF-8")),
         Refusal::BadData(0) => Some((words.file.unwrap_or("--data"), NO_BYTE)),
+        Refusal::BadData(_) => Some((words.file.unwrap_or("--data"), NO_BLOCKS)),
+        Refusal::PastEnd(_) => Some((
+            "--address",
+            "with so many blocks behind it the last has no number; begin lower, or take fewer",
+        )),
+        Refusal::CounterEnd(_) => Some((
+            "--counter",
+            "so many writes have no counters left; take fewer, or a larger --max-blocks",
+        )),
         Refusal::NoRoom if words.operation.is_some() => Some((words.board.unwrap_or(""), DONE)),
         Refusal::NoRoom => Some(("standard output", CUT)),
+        // Of an operation on a board's image more is known, and told behind.
+        Refusal::Refused(_) | Refusal::RefusedAnswer(_, _) if words.operation.is_some() => None,
+        Refusal::Refused(code) => Some(help_with_result(code)),
+        Refusal::RefusedAnswer(_, _) => Some(("the lines above", RESULTS)),
         _ => advice_on_answer(refusal),
     }
 }

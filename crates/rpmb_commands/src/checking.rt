@@ -47,15 +47,34 @@ fn check_text<'a>(
     }
 }
 
+/// Whether the last line of a script says something and lacks its line feed.
+fn is_cut(script: &str) -> bool {
+    match script.split('\n').last() {
+        Some(last) => !(last.is_empty() || last.starts_with('#')),
+        None => false,
+    }
+}
+
+/// Whether a script that is read may have been cut within its last line.
 // for the checker: apart from what reads it, so that the text is dropped at one exit
 fn check_script<'a, S: Source>(
     alloc: Global,
     source: &S,
     file: &'a str,
     guests: u16,
-) -> Result<(), Refusal<'a>> {
+) -> Result<bool, Refusal<'a>> {
     let text = text_of(alloc, source, file, SCRIPT_FILE)?;
-    check_text(alloc, file, text.as_str(), guests)
+    check_text(alloc, file, text.as_str(), guests)?;
+    Ok(is_cut(text.as_str()))
+}
+
+/// Says of a script that it may have been cut.
+fn write_cut<'a, W: Write>(file: &str, out: &mut W) -> Result<(), Refusal<'a>> {
+    let why = "the last line has no line feed; if the file was cut, that line isn't whole";
+    match writeln!(out, "{file}: {why}") {
+        Ok(()) => Ok(()),
+        Err(_) => Err(Refusal::NoRoom),
+    }
 }
 
 /// Writes what a board is good for, and of each guest its capacity.
@@ -94,11 +113,16 @@ pub fn check<'a, S: Source, W: Write>(
         return Err(OptionRefusal::Incomplete.into());
     };
     let (board, image) = check_board(alloc, source, file)?;
-    if let Some(script) = words.script {
-        check_script(alloc, source, script, board.guests().len() as u16)?;
+    let guests = board.guests().len() as u16;
+    let cut = match words.script {
+        Some(script) if check_script(alloc, source, script, guests)? => Some(script),
+        _ => None,
+    };
+    if write_board(&board, image.as_deref(), out).is_err() {
+        return Err(Refusal::NoRoom);
     }
-    match write_board(&board, image.as_deref(), out) {
-        Ok(()) => Ok(()),
-        Err(_) => Err(Refusal::NoRoom),
+    match cut {
+        Some(script) => write_cut(script, out),
+        None => Ok(()),
     }
 }

@@ -3,8 +3,17 @@
 use rpmb_client::{Used, is_wrong};
 use rpmb_frame::Frame;
 
+/// What is wrong with the first answer that is.
+#[derive(Clone, Copy, Debug)]
+pub struct Doubt {
+    /// Its line on standard input, counted from 1.
+    pub line: u64,
+    pub why: &'static str,
+}
+
 /// A MAC of zeros.
-const NO_MAC: &str = "has no MAC (zeros): its guest has no key yet, or the host's disk failed";
+const NO_MAC: &str = "has no MAC (zeros): its guest has no key yet, or the host's disk failed; \
+    read-counter tells which";
 
 /// A MAC that isn't the key's.
 const OTHER_MAC: &str = "has a wrong MAC: its guest has another key, or somebody changed it";

@@ -13,7 +13,7 @@ ghost use Rattle.rpmb_commands.specs.Explaining.{told_of, torn_mark};
 ghost use Rattle.rpmb_commands.specs.Explaining.{without_feed};
 ghost use Rattle.rpmb_commands.specs.Refusing.{IsOfReading};
 
-use crate::counts::Counts;
+use crate::counts::{Counts, seen, unused_key};
 use crate::doubts::{doubt_of, doubt_of_line};
 use crate::keys::keys_of;
 use crate::refusal::Refusal;
@@ -52,8 +52,9 @@ fn explain_used<'a, W: Write>(
     let key = judge.keys.key_of(used.guest);
     match explain(alloc, used, key, judge.nonce, out) {
         Ok(()) => {
-            let doubt = doubt_of(used, judge.nonce);
-            counts.add(is_wrong(used, key, judge.nonce), is_refused(used), doubt);
+            let why = doubt_of(used, judge.nonce);
+            let is_wrong = is_wrong(used, key, judge.nonce);
+            counts.add(seen(used), is_wrong, is_refused(used), why);
             Ok(())
         }
         Err(fault) => Err(Refusal::of(fault)),
@@ -163,13 +164,28 @@ fn explain_line<'a, W: Write>(
     }
 }
 
+/// The system's number of a stream that is closed, which has no kind of its own.
+const CLOSED: i32 = 9;
+
+/// What standard input gives in place of lines.
+fn why_no_lines(error: &io::Error) -> &'static str {
+    if error.raw_os_error() == Some(CLOSED) {
+        return "none: it is closed";
+    }
+    match error.kind() {
+        io::ErrorKind::InvalidData => "bytes that are none",
+        io::ErrorKind::IsADirectory => "a folder",
+        _ => "a read of it that failed",
+    }
+}
+
 pub(crate) fn input_fault<'a>(error: &io::Error) -> Refusal<'a>
     ensures reading { IsOfReading result }
     ensures other { IsOther result }
 {
     match error.kind() {
         io::ErrorKind::OutOfMemory => Refusal::NoMemory,
-        _ => Refusal::NoInput,
+        _ => Refusal::NoInput(why_no_lines(error)),
     }
 }
 
@@ -247,7 +263,7 @@ fn tell_each<'a, B: BufRead, W: Write>(
         explain_now(alloc, line.as_str(), judge, &mut counts, out)?;
     }
     // No input has so many lines.
-    Err(Refusal::NoInput)
+    Err(Refusal::NoInput("more than there are numbers for"))
 }
 
 fn tell_lines<'a, B: BufRead, W: Write>(
@@ -319,12 +335,16 @@ fn tell_all<'a, S: Source, B: BufRead, W: Write>(
     ensures other { IfErr result IsOther }
 {
     let judge = judge_of(alloc, source, words)?;
-    tell_lines(alloc, &judge, input, out)
+    let counts = tell_lines(alloc, &judge, input, out)?;
+    match unused_key(&judge.keys, counts.guests) {
+        Some(guest) if counts.wrong == 0 => Err(Refusal::UnusedKey(guest)),
+        _ => Ok(counts),
+    }
 }
 
 /// Says of each `used` line what its reply is, and writes each other line as it is. Refused at the
-/// end where no line came, one was torn or of a script, a MAC or a nonce was wrong, or a request
-/// was refused.
+/// end where no line came, one was torn or of a script, a MAC or a nonce was wrong, the key of a
+/// guest judged nothing while another has none, or a request was refused.
 pub fn tell<'a, S: Source, B: BufRead, W: Write>(
     alloc: Global,
     source: &S,

@@ -53,7 +53,7 @@ const KEY: OptionRow = OptionRow {
     form: Form::Value,
     value: "KEY",
     is_needed: true,
-    help: "32 bytes in hex digits, @FILE of 64 hex digits, or @raw:FILE of 32 bytes",
+    help: "@FILE of 64 hex digits, @raw:FILE of 32 bytes, or the digits, which `ps` shows to all",
 };
 
 /// The keys of several guests.
@@ -205,7 +205,7 @@ static COMMANDS: [CommandRow; 8] = [
     },
     CommandRow {
         name: "explain",
-        about: "Reads the lines of `rpmbd run`, and says what each reply is",
+        about: "Reads the lines of `rpmbd run` from standard input, and says what each reply is",
         options: &[
             KEYS,
             OptionRow {
@@ -217,7 +217,7 @@ static COMMANDS: [CommandRow; 8] = [
     },
     CommandRow {
         name: "read-data",
-        about: "Reads the lines of `rpmbd run`, and writes the blocks of a read",
+        about: "Reads the lines of `rpmbd run` from standard input, and writes the blocks of a read",
         options: &[KEY, ASKED_NONCE, LENGTH],
         more: READ_DATA,
     },

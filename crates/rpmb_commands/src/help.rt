@@ -73,9 +73,10 @@ the MAC is (with --key), and a block in hex digits, and as text where it is one.
 line is printed as it is; one that begins with `used` was torn, and (torn: ..) stands\n\
 behind it, and (of a script: ..) behind one of a script. Each is printed as it comes.\n\
 \n\
-Status: 0; 1 where no line came, one was torn or of a script, a MAC or a nonce was wrong or\n\
-a value is refused, 2 for words that aren't understood, and 3 where an answer has another\n\
-result than OK and none was wrong. With 1 and 3 a line on standard error says why.";
+Status: 0; 1 where no line came, one was torn or of a script, a MAC or a nonce was wrong,\n\
+only other guests than that of a key answered or a value is refused, 2 for words that aren't\n\
+understood, and 3 where an answer has another result than OK and none was wrong. With 1 and\n\
+3 a line on standard error says why.";
 
 pub const READ_DATA: &str = "\
 Prints the bytes of the blocks that a read gave, and nothing else. Of several lines\n\

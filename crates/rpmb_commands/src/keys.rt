@@ -1,5 +1,6 @@
 //! The keys that answers are judged by.
-ghost use Rattle.std.specs.Prelude.{IfErr, IfOk, MatchOption, OnOk};
+ghost use Rattle.std.specs.Prelude.{◌≡◌, IfErr, IfOk, MatchOption, OnOk};
+ghost use Rattle.rpmb_client.specs.Values.{number_said};
 ghost use Rattle.rpmb_commands.specs.Explaining.{IsOther};
 ghost use Rattle.rpmb_commands.specs.KeysSaid.{AddsKey, AddsKeys, AddsOthers, AddsOwn};
 ghost use Rattle.rpmb_commands.specs.KeysSaid.{IsForOthers, IsParted, keys_seen, no_keys};
@@ -8,7 +9,7 @@ use crate::reading::key;
 use crate::refusal::Refusal;
 use crate::source::Source;
 use crate::words::Words;
-use rpmb_client::{GuestKey, Keys, Number, key_at, option_number};
+use rpmb_client::{GuestKey, Keys, key_at, number_of};
 use std::alloc::Global;
 
 /// The guest of a word `G=KEY`, and the key's word; none where the key is for all other guests.
@@ -19,6 +20,27 @@ fn guest_part<'a>(word: &'a str) -> Option<(&'a str, &'a str)>
     match word.strip_prefix('@') {
         Some(_) => None,
         None => word.split_once('='),
+    }
+}
+
+/// The number of a guest, 0 to 63.
+fn guest_number(word: &str) -> Option<u64>
+    ensures { result ≡ number_said word.now 0 63 }
+{
+    number_of(word, 0, 63)
+}
+
+/// Refused where the key of an operation on one guest is named for a guest.
+pub fn check_own_key<'a>(words: &Words<'a>) -> Result<(), Refusal<'a>> {
+    let Some(word) = words.key() else {
+        return Ok(());
+    };
+    let Some((guest, _)) = guest_part(word) else {
+        return Ok(());
+    };
+    match guest_number(guest) {
+        Some(named) => Err(Refusal::NamedKey(named, words.guest.unwrap_or(""))),
+        None => Ok(()),
     }
 }
 
@@ -33,7 +55,9 @@ fn add_own<'a, S: Source>(
         (keys_seen keys.old) (keys_seen keys.new)) }
     ensures other { IfErr result IsOther }
 {
-    let guest = option_number(Some(guest), 0, 63, Number::Guest)?;
+    let Some(guest) = guest_number(guest) else {
+        return Err(Refusal::NoGuest);
+    };
     if key_at(keys.own.as_slice(), guest).is_some() {
         return Err(Refusal::SecondKey(guest));
     }

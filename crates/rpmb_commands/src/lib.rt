@@ -21,6 +21,7 @@ mod values;
 mod words;
 mod writing;
 
+pub use keys::check_own_key;
 pub use performing::{perform, report, report_with_advice};
 pub use reading::key;
 pub use refusal::Refusal;

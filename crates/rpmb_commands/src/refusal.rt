@@ -2,6 +2,7 @@
 ghost use Rattle.std.specs.Prelude.{◌≡◌};
 ghost use Rattle.rpmb_commands.specs.Refusing.{refusal_of_fault, refusal_status};
 
+use crate::doubts::Doubt;
 use rpmb_client::{ClientFault, OptionRefusal};
 use std::convert::From;
 use thiserror::Error;
@@ -14,12 +15,25 @@ pub enum Refusal<'a> {
     #[error(transparent)]
     Option(OptionRefusal<'a>),
     /// A word of a key isn't one, and a file has its name.
-    #[error("BadKey: expected 32 bytes in hex digits, got the name of a file; for a file say @{0}")]
+    #[error("BadKey: expected for --key 32 bytes in hex digits, got the name of a file; \
+        for a file say @{0}")]
     FileName(&'a str),
-    #[error("BadKey: expected one key for each guest, got a second one for guest {0}")]
+    #[error("BadKey: expected for --key one key for each guest, got a second one for guest {0}")]
     SecondKey(u64),
-    #[error("BadKey: expected one key for all other guests, got a second one")]
+    #[error("BadKey: expected for --key one key for all other guests, got a second one")]
     SecondOfOthers,
+    /// What stands before the `=` of a key isn't shown, since it may be a front of one.
+    #[error("BadKey: expected for --key KEY, or G=KEY with a guest G from 0 to 63, got another \
+        word before its =")]
+    NoGuest,
+    /// A key is named for a guest, where one operation on one guest is asked for.
+    #[error("BadKey: expected for --key the key of guest {1} alone, as KEY, got G=KEY that is \
+        named for guest {0}")]
+    NamedKey(u64, &'a str),
+    /// A key is named for a guest that gave no answer, and guests that gave one have no key.
+    #[error("BadKey: expected for --key the keys of the guests that answer, got one that is named \
+        for guest {0}, of whom no answer came")]
+    UnusedKey(u64),
     #[error("NoData: expected either --data or --file, got {0}")]
     NoData(&'static str),
     #[error("BadData: expected whole blocks of 256 bytes, at least one, got {0} bytes; \
@@ -36,8 +50,9 @@ pub enum Refusal<'a> {
     TooLong(&'a str, usize),
     #[error("FileFault: expected text in UTF-8 in the file {0:?}")]
     NoText(&'a str),
-    #[error("FileFault: expected lines in UTF-8 on standard input")]
-    NoInput,
+    /// What standard input gives in place of lines.
+    #[error("FileFault: expected lines in UTF-8 on standard input, got {0}")]
+    NoInput(&'static str),
     #[error("FileFault: expected room on standard output")]
     NoRoom,
     #[error("NoMemory")]
@@ -49,9 +64,9 @@ pub enum Refusal<'a> {
     NoFrames(usize),
     #[error("WrongMac: expected the MAC of all frames under the key, got another")]
     WrongMac,
-    /// The answer says NO_AUTH_KEY, and so has no MAC.
-    #[error("NoKey: expected the MAC of all frames under the key, got none, and NO_AUTH_KEY: \
-        the guest has no key yet")]
+    /// The answer is that of a partition without a key, and so has no MAC.
+    #[error("NoKey: expected the MAC of all frames under the key, got none (zeros): the guest \
+        has no key yet")]
     NoKey,
     #[error("WrongNonce: expected the nonce that was asked with, got another")]
     WrongNonce,
@@ -71,8 +86,8 @@ pub enum Refusal<'a> {
     /// A MAC or a nonce of an answer is wrong, or a line is none of an answer; and what is wrong
     /// with the first, which is told behind.
     #[error("WrongAnswer: expected a right MAC and nonce in each of {0} replies, \
-        got {1} torn or with a wrong one")]
-    WrongAnswer(u64, u64, &'static str),
+        got {1} torn or with a wrong one, first in line {line}", line = .2.line)]
+    WrongAnswer(u64, u64, Doubt),
     /// The answers are right, and say of some requests that they were refused.
     #[error("Refused: expected the result OK in each of {0} replies, got {1} with another")]
     RefusedAnswer(u64, u64),

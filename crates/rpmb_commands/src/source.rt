@@ -24,6 +24,10 @@ pub(crate) const SCRIPT_FILE: usize = 67_108_864;
 /// Why a file isn't read that isn't there.
 pub(crate) const NOT_THERE: &str = "isn't there";
 
+pub(crate) const IS_FOLDER: &str = "is a folder";
+
+pub(crate) const NO_PERMISSION: &str = "no permission to read it";
+
 /// Why a file isn't read.
 #[derive(Clone, Copy, Debug)]
 pub enum SourceError {
@@ -59,8 +63,11 @@ fn error_of(error: &io::Error) -> SourceError {
     match error.kind() {
         io::ErrorKind::OutOfMemory => SourceError::NoMemory,
         io::ErrorKind::NotFound => SourceError::NoFile(NOT_THERE),
-        io::ErrorKind::IsADirectory => SourceError::NoFile("is a folder"),
-        io::ErrorKind::PermissionDenied => SourceError::NoFile("no permission to read it"),
+        io::ErrorKind::IsADirectory => SourceError::NoFile(IS_FOLDER),
+        io::ErrorKind::PermissionDenied => SourceError::NoFile(NO_PERMISSION),
+        io::ErrorKind::NotADirectory => SourceError::NoFile("a part of its path is no folder"),
+        io::ErrorKind::FilesystemLoop => SourceError::NoFile("leads round in links"),
+        io::ErrorKind::InvalidFilename => SourceError::NoFile("the path is too long"),
         _ => SourceError::NoFile("a read of it failed"),
     }
 }
