@@ -18,6 +18,9 @@ use mmio_transport::Published;
 /// As many bytes as a reply has, at most.
 const MOST: usize = 8_192;
 
+/// What stands for bytes that are written over.
+static ZEROS: [u8; MOST] = [0; MOST];
+
 /// What became of the next reply.
 #[derive(Clone, Copy, Debug, PartialEq, Eq)]
 pub(crate) enum Left {
@@ -102,10 +105,9 @@ fn tell_zeros(board: &mut AskingBoard<OutboxDisk>, guest: u16, turn: &Turn) -> b
     ensures queues { QueuesStay board.old board.new }
     ensures count { length board.new.devices ≡ length board.old.devices }
 {
-    let zeros = [0u8; MOST];
     for part in turn.parts.iter() {
         let count = (part.len as usize).min(MOST);
-        if board.device(guest).tell(part.at, &zeros[..count]).is_err() {
+        if board.device(guest).tell(part.at, &ZEROS[..count]).is_err() {
             return false;
         }
     }
