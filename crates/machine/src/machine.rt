@@ -184,6 +184,7 @@ impl Machine {
     }
 
     /// What a call of serve tells of what it needs.
+    #[inline(always)]
     fn served(&self, guest: u16, next: Next) -> Served
         ensures next { IsTold next result }
         ensures sync { result.sync ≡ waits_for_sync self.now.board.rest }

@@ -67,14 +67,34 @@ fn note_event(board: &AskingBoard<OutboxDisk>, guest: u16, turn: &mut Turn) -> b
     }
 }
 
-/// Whether these are just the bytes that a pop writes over, which it doesn't read.
-fn is_event(board: &AskingBoard<OutboxDisk>, guest: u16, ask: Ask) -> bool {
-    match board.device_of(guest) {
-        Some(device) => match device.written_by_pop() {
-            Some(part) => part.at == ask.at && u64::from(part.len) == ask.len,
-            None => false,
-        },
-        None => false,
+/// Tells zeros for avail_event, where a pop writes it: what it was is nothing to a pop. Where there
+/// is no memory for that, it is asked for.
+fn tell_event(board: &mut AskingBoard<OutboxDisk>, guest: u16)
+    requires { guest < length board.old.devices }
+    ensures runs { (ps : List Part) → Runs guest ps board.old ps board.new }
+    ensures rest { board.new.rest ≡ board.old.rest }
+    ensures count { length board.new.devices ≡ length board.old.devices }
+{
+    let event = match board.device_of(guest) {
+        Some(device) => device.written_by_pop(),
+        None => None,
+    };
+    if let Some(part) = event {
+        let _ = board.device(guest).tell(part.at, &[0, 0]);
+    }
+}
+
+/// Begins a pop of the guest's device, where none was begun.
+fn begin_pop(board: &mut AskingBoard<OutboxDisk>, guest: u16, turn: &mut Turn)
+    requires { guest < length board.old.devices }
+    ensures runs { (ps : List Part) → Runs guest ps board.old ps board.new }
+    ensures rest { board.new.rest ≡ board.old.rest }
+    ensures count { length board.new.devices ≡ length board.old.devices }
+    ensures turn { turn.new ≡ record turn.old { going = true } }
+{
+    if !turn.going {
+        begin(board, guest, turn);
+        tell_event(board, guest);
     }
 }
 
@@ -146,8 +166,7 @@ fn pop(board: &mut AskingBoard<OutboxDisk>, guest: u16, turn: &mut Turn) -> Take
     }
 }
 
-/// Looks for the guest's next chain: pops, and once more where it asks for no more than
-/// avail_event.
+/// Looks for the guest's next chain.
 fn look(board: &mut AskingBoard<OutboxDisk>, guest: u16, turn: &mut Turn) -> Taken
     requires parts { turn.old.parts ≡ [] }
     requires job { HasNoJob guest board.old.rest }
@@ -162,16 +181,7 @@ fn look(board: &mut AskingBoard<OutboxDisk>, guest: u16, turn: &mut Turn) -> Tak
     ensures count { length board.new.devices ≡ length board.old.devices }
     ensures keeps { KeepsStage turn.old turn.new }
 {
-    begin(board, guest, turn);
-    let first = pop(board, guest, turn);
-    let Taken::Asks(ask) = first else {
-        return first;
-    };
-    if !is_event(board, guest, ask) {
-        return first;
-    }
-    // (where there is no memory for that, they are asked for again)
-    let _ = board.device(guest).tell(ask.at, &[0, 0]);
+    begin_pop(board, guest, turn);
     pop(board, guest, turn)
 }
 

@@ -1,0 +1,12 @@
+use Rattle.machine.proofs.Common.{Still}
+use Rattle.machine.proofs.Moved.{told_runs}
+use Rattle.machine.proofs.taking.tell_event.Goals as goal
+
+pub returns-in-Some-event-clause-runs : goal.returns-in-Some-event-clause-runs
+returns-in-Some-event-clause-runs c ps =
+    told_runs c.args.guest c.args.board.now c.device.result.now c.tell.new.self
+    c.device.ensures.device ps c.in-Some-event.part.at _ c.tell.result c.tell.ensures.ok
+    c.tell.ensures.unchanged
+
+pub returns-in_default-clause-runs : goal.returns-in_default-clause-runs
+returns-in_default-clause-runs c ps = Still ps c.args.board.now
