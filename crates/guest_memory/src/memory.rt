@@ -8,7 +8,7 @@ ghost use Rattle.guest_memory.specs.Memory.{IsAsk, IsHeld, IsWhole, kept, told, 
 use crate::ask::Ask;
 use crate::fault::MemFault;
 use crate::piece::Piece;
-use crate::pieces::{find, find_from, have, patch};
+use crate::pieces::{copy_of, find, find_from, have, keep, patch};
 use crate::truth::Truth;
 use std::alloc::Global;
 use std::marker::Model;
@@ -23,6 +23,8 @@ pub struct Memory {
     size: u64,
     asks: bool,
     pieces: Vec<Piece>,
+    /// Memory of copies that were forgotten, for the next ones.
+    spare: Vec<Vec<u8>>,
     truth: Truth,
 }
 
@@ -60,6 +62,7 @@ impl Memory {
             size,
             asks: false,
             pieces,
+            spare: Vec::new(alloc),
             truth,
         })
     }
@@ -74,6 +77,7 @@ impl Memory {
             size,
             asks: true,
             pieces: Vec::new(alloc),
+            spare: Vec::new(alloc),
             truth,
         }
     }
@@ -192,7 +196,7 @@ impl Memory {
         ensures unchanged { OnErr result (self.new ≡ self.old) }
     {
         let count = self.pieces.len();
-        let piece = Piece::of(alloc, at, bytes)?;
+        let piece = copy_of(alloc, &mut self.spare, at, bytes)?;
         self.pieces.push(piece)?;
         patch(&mut self.pieces, count, &self.truth, at, bytes);
         self.truth.note(&[at], bytes);
@@ -230,6 +234,7 @@ impl Memory {
         ensures { self.new ≡ record self.old { held = kept self.old } }
     {
         if self.asks {
+            keep(&mut self.pieces, &mut self.spare);
             self.pieces.clear();
         }
     }

@@ -3,7 +3,7 @@ ghost use Rattle.std.specs.Prelude.{◌≡◌, ◌≤◌, ◌<◌, ◌+◌, ◌-
 ghost use Rattle.guest_memory.specs.Memory.{IsInside, with_bytes, bytes_at};
 ghost use Rattle.guest_memory.specs.Piece.{lies_in, IsCopy};
 
-use std::alloc::{AllocError, Global};
+use std::alloc::AllocError;
 
 /// A copy of a part of a guest's memory.
 #[derive(Drop)]
@@ -14,11 +14,12 @@ pub(crate) struct Piece {
 }
 
 impl Piece {
-    /// A copy of these bytes.
-    pub fn of(alloc: Global, at: u64, bytes: &[u8]) -> Result<Piece, AllocError>
+    /// A copy of these bytes, where there is room: what stands in that goes.
+    pub fn of(room: Vec<u8>, at: u64, bytes: &[u8]) -> Result<Piece, AllocError>
         ensures { IfOk result (λ piece. (piece.at ≡ at) × (piece.bytes.items ≡ bytes.now)) }
     {
-        let mut copy = Vec::new(alloc);
+        let mut copy = room;
+        copy.clear();
         copy.extend_from_slice(bytes)?;
         Ok(Piece { at, bytes: copy })
     }

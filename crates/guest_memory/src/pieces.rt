@@ -1,5 +1,5 @@
 //! The copies of a memory, one after another.
-ghost use Rattle.std.specs.Prelude.{◌≡◌, ◌≤◌, ◌<◌, ◌+◌, ◌^◌, length, map, true, false, IfSome};
+ghost use Rattle.std.specs.Prelude.{◌≡◌, ◌≤◌, ◌<◌, ◌+◌, ◌^◌, length, map, true, false, IfOk, IfSome};
 ghost use Rattle.std.specs.Prelude.{None, slice_index_or};
 ghost use Rattle.std.specs.List.{list_any, position};
 ghost use Rattle.guest_memory.specs.Memory.{IsInside, with_bytes};
@@ -8,6 +8,12 @@ ghost use Rattle.guest_memory.specs.declared.piece.Piece.{Piece};
 
 use crate::piece::Piece;
 use crate::truth::Truth;
+use std::alloc::{AllocError, Global};
+
+/// The memory of how many pieces is kept, and how much each may have.
+const MOST_KEPT: usize = 8;
+
+const LARGEST_KEPT: usize = 4_096;
 
 /// Whether all of these bytes lie in one of the pieces.
 pub(crate) fn have(pieces: &[Piece], at: u64, len: u64) -> bool
@@ -48,5 +54,41 @@ pub(crate) fn patch(pieces: &mut Vec<Piece>, count: usize, truth: &Truth, at: u6
 {
     for i in 0..count {
         pieces[i].patch(at, bytes);
+    }
+}
+
+/// Memory for a piece: what was kept, where there is some.
+fn room(alloc: Global, spare: &mut Vec<Vec<u8>>) -> Result<Vec<u8>, AllocError> {
+    if spare.capacity() == 0 {
+        spare.reserve(MOST_KEPT)?;
+    }
+    match spare.pop() {
+        Some(room) => Ok(room),
+        None => Ok(Vec::new(alloc)),
+    }
+}
+
+/// A copy of these bytes, in what was kept, where there is some.
+pub(crate) fn copy_of(
+    alloc: Global,
+    spare: &mut Vec<Vec<u8>>,
+    at: u64,
+    bytes: &[u8],
+) -> Result<Piece, AllocError>
+    ensures { IfOk result (λ piece. (piece.at ≡ at) × (piece.bytes.items ≡ bytes.now)) }
+{
+    let room = room(alloc, spare)?;
+    Piece::of(room, at, bytes)
+}
+
+/// Takes the last pieces out, and keeps their memory, where there is room for it.
+pub(crate) fn keep(pieces: &mut Vec<Piece>, spare: &mut Vec<Vec<u8>>) {
+    for _piece in 0..MOST_KEPT {
+        let Some(piece) = pieces.pop() else {
+            return;
+        };
+        if piece.bytes.capacity() <= LARGEST_KEPT && spare.len() < spare.capacity() {
+            spare.push_reserved(piece.bytes);
+        }
     }
 }
