@@ -143,8 +143,9 @@ impl<R: Rules> Ring<R> {
     ///
     /// Answers a fault for what the driver made available against the rules, `NoMemory`, or
     /// `Missing` for bytes that it needs and of which there is no copy; then the ring and the
-    /// memory stay as they were. What it asks for is a part of the guest's memory, and once all of
-    /// it is told, the next pop begins anew, over what was told.
+    /// memory stay as they were. What it asks for is a part of one of its areas, of a table to
+    /// which a descriptor there refers, or of a buffer of the chain that the device may read. Once
+    /// all of it is told, the next pop begins anew, over what was told.
     pub fn pop(
         &mut self,
         alloc: Global,
