@@ -1,7 +1,7 @@
 /* SPDX-License-Identifier: Apache-2.0
  *
- * The image: a file that is locked, read once, and then written from the library's outbox. A thread of its own makes
- * the writes and the syncs, so that no kick waits for a disk. */
+ * The image: a file that is locked, read once, and then written from the library's outbox. Where there are several
+ * guests, a thread of its own makes the writes and the syncs, so that no guest's kick waits for another's disk. */
 #include <libgen.h>
 #include <pthread.h>
 #include <sys/eventfd.h>
@@ -33,6 +33,7 @@ static void format_image(struct daemon *d, uint8_t *image, uint64_t len)
 	close(folder);
 }
 
+/* The disk's thread: it sleeps until a batch is there. Where there is one guest only, the loop makes what there is. */
 static void *write_and_sync(void *its)
 {
 	struct disk *disk = its;
@@ -78,9 +79,9 @@ void open_image(struct daemon *d, bool format)
 		       " each with the --capacity, as it was made with%s", rpmb_fault_text(fault), (long long)is.st_size, len,
 		       n ? "" : "; --format makes a fresh one in an empty file");
 	free(image);
-	disk->start = eventfd(0, EFD_CLOEXEC);
+	disk->start = eventfd(0, EFD_CLOEXEC | (d->count > 1 ? 0 : EFD_NONBLOCK));
 	disk->over = eventfd(0, EFD_CLOEXEC);
-	if (disk->start < 0 || disk->over < 0 || pthread_create(&thread, NULL, write_and_sync, disk))
+	if (disk->start < 0 || disk->over < 0 || (d->count > 1 && pthread_create(&thread, NULL, write_and_sync, disk)))
 		REFUSE(disk->path, "no thread for the disk: %s", strerror(errno));
 }
 
@@ -97,7 +98,7 @@ void take_outbox(struct daemon *d)
 	d->disk.wanted = true;
 }
 
-/* Hands the batch to the thread, where a sync is wanted and none is under way. One that no guest waits for is put off
+/* Hands on the batch, where a sync is wanted and none is under way. One that no guest waits for is put off
  * until nothing else happens (`is_idle`): where a guest writes on, the next write shares it. */
 void begin_sync(struct daemon *d, bool is_idle)
 {
@@ -112,6 +113,8 @@ void begin_sync(struct daemon *d, bool is_idle)
 	d->disk.next = !d->disk.next;
 	d->disk.batches[d->disk.next].count = 0;
 	d->disk.busy = !eventfd_write(d->disk.start, 1);
+	if (d->count == 1) /* (nobody else is there to wait for the disk, and a thread's waking costs more than this work) */
+		write_and_sync(&d->disk);
 }
 
 /* A sync is over. Where more was written meanwhile it isn't told: those writes have to be made first. */

@@ -99,10 +99,9 @@ static void loop(struct daemon *d, int signals)
 			continue;
 		if (polled[0].revents)
 			polled[0].fd = -1;
-		if (polled[1].revents) {
-			rounds -= polled[0].fd < 0;
+		rounds -= polled[0].fd < 0 && polled[1].revents;
+		if (polled[1].revents)
 			end_sync(d);
-		}
 		for (unsigned i = 0; i < d->count; i++) {
 			d->guests[i].more |= !ready && d->guests[i].later;
 			attend(&d->guests[i], polled + 2 + POLLED * i);

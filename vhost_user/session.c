@@ -185,10 +185,9 @@ static uint32_t ring_base(struct guest *g)
 
 static bool send_answer(struct guest *g)
 {
-	const size_t len = VU_HEADER + g->message.size;
-
 	g->message.flags = VU_VERSION | IS_REPLY;
-	return send(g->socket, &g->message, len, MSG_DONTWAIT | MSG_NOSIGNAL) == (ssize_t)len;
+	return send(g->socket, &g->message, VU_HEADER + g->message.size, MSG_DONTWAIT | MSG_NOSIGNAL) ==
+	       (ssize_t)(VU_HEADER + g->message.size);
 }
 
 /* Answers GET_VRING_BASE, once all chains that the device took are answered. */

@@ -208,7 +208,9 @@ static void bench(int n)
 		write_blocks(counter++);
 		us[i] = took;
 	}
-	printf("blocks: %d; ", blocks);
+	for (int i = 0; i < n; i++)
+		printf("%s%.0f", i ? " " : "each write: ", us[i]);
+	printf("\nblocks: %d; ", blocks);
 	tell("writes", us, n);
 	for (int i = 0; i < n; i++) {
 		read_blocks(counter);
