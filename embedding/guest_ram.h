@@ -74,30 +74,32 @@ static inline int guest_has(const struct guest_ram *ram, uint64_t at, size_t len
 	return 1;
 }
 
-/* What RPMB_READ asks for, and the answer to it: 1, or 0 where there isn't RAM for all of it. The fence parts this copy
- * from the one before it. */
+/* What RPMB_READ asks for, and the answer to it: 1, or 0 where there isn't RAM for all of it. No later access goes before
+ * the reads. */
 static inline uint32_t guest_copy_in(const struct guest_ram *ram, uint64_t at, unsigned char *to, size_t len)
 {
 	if (!guest_has(ram, at, len))
 		return 0;
-	atomic_thread_fence(memory_order_seq_cst);
 	for (size_t part = len; len; at += part, to += part, len -= part, part = len) {
 		const unsigned char *from = guest_part(ram, at, &part); /* (before `part` is read) */
 		guest_load(to, from, part);
 	}
+	atomic_thread_fence(memory_order_acquire);
 	return 1;
 }
 
-/* The same of RPMB_WRITE. */
+/* The same of RPMB_WRITE. No earlier access goes behind the writes, and no later one before them: the second takes a full
+ * fence, since a read goes before a write on most processors. */
 static inline uint32_t guest_copy_out(const struct guest_ram *ram, uint64_t at, const unsigned char *from, size_t len)
 {
 	if (!guest_has(ram, at, len))
 		return 0;
-	atomic_thread_fence(memory_order_seq_cst);
+	atomic_thread_fence(memory_order_release);
 	for (size_t part = len; len; at += part, from += part, len -= part, part = len) {
 		unsigned char *to = guest_part(ram, at, &part); /* (before `part` is read) */
 		guest_store(to, from, part);
 	}
+	atomic_thread_fence(memory_order_seq_cst);
 	return 1;
 }
 #endif
