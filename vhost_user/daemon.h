@@ -8,6 +8,8 @@
 #include <fcntl.h>
 #include <inttypes.h>
 #include <linux/aio_abi.h>
+#include <setjmp.h>
+#include <signal.h>
 #include <stdbool.h>
 #include <stdio.h>
 #include <stdlib.h>
@@ -85,6 +87,8 @@ struct daemon {
 	aio_context_t signals;         /* by which eventfds are signalled */
 	int null;
 	_Alignas(8) uint8_t bytes[RPMB_LARGEST_PART];
+	/* the stack of a bus error's handler, which grows down towards what it needs */
+	struct guard { sigjmp_buf past_end; volatile sig_atomic_t copying; uint8_t stack[65536]; } guard;
 };
 
 #define SAY(what, text, ...) fprintf(stderr, "vhost-user-rpmb: %s: " text "\n", what, ##__VA_ARGS__)
@@ -94,7 +98,7 @@ struct daemon {
 #define COMPLAIN(g, ...) ((g)->texts++ < TEXTS ? SAY((g)->name, __VA_ARGS__) : 0)
 
 /* device.c: guest memory, the library's device, and its serves. False: the front end is to be dropped. */
-void guard_memory(void);
+void guard_memory(struct guard *guard);
 bool map(struct guest *g, struct vu_region is, int fd);
 void unmap(struct guest *g, unsigned i);
 uint32_t copy(const struct guest *g, uint64_t at, uint8_t *ours, uint32_t len, bool to_guest);

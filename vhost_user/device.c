@@ -4,29 +4,28 @@
  * becomes register writes (VIRTIO 1.2, 4.2.2), and a kick a serve, of which each step is a copy or a call. */
 #include <linux/magic.h>
 #include <linux/virtio_mmio.h>
-#include <setjmp.h>
-#include <signal.h>
 #include <sys/mman.h>
 #include <sys/statfs.h>
 #include <sys/syscall.h>
 #include <sys/uio.h>
 #include "daemon.h"
 
-/* A signal's handler is given nothing by which it would find them elsewhere. Only the thread of the guests copies. */
-static sigjmp_buf past_end;
-static volatile sig_atomic_t copying;
-
-/* A file that was cut short after it was mapped ends here. */
-static void on_bus_error(int number)
+/* A file that was cut short after it was mapped ends here, on the stack of the thread that copies: what the handler needs
+ * lies at that stack's far end, so there is no variable of the program for it. Another thread has no such stack. */
+static void on_bus_error(int number, __attribute__((unused)) siginfo_t *what, void *context)
 {
-	if (copying)
-		siglongjmp(past_end, 1);
+	struct guard *guard = ((ucontext_t *)context)->uc_stack.ss_sp;
+
+	if (guard && guard->copying)
+		siglongjmp(guard->past_end, 1);
 	signal(number, SIG_DFL);
 }
 
-void guard_memory(void)
+void guard_memory(struct guard *guard)
 {
-	sigaction(SIGBUS, &(struct sigaction){ .sa_handler = on_bus_error, .sa_flags = SA_NODEFER }, NULL);
+	sigaltstack(&(stack_t){ .ss_sp = guard, .ss_size = sizeof *guard }, NULL);
+	sigaction(SIGBUS, &(struct sigaction){ .sa_sigaction = on_bus_error, .sa_flags = SA_SIGINFO | SA_ONSTACK | SA_NODEFER },
+	          NULL);
 }
 
 /* (A function of its own: what it keeps in registers isn't lost by a jump out of it.) */
@@ -42,15 +41,16 @@ static __attribute__((noinline)) uint32_t copy_all(const struct guest *g, uint64
  * CUT where its file was cut short. */
 uint32_t copy(const struct guest *g, uint64_t at, uint8_t *ours, uint32_t len, bool to_guest)
 {
+	struct guard *guard = &g->daemon->guard;
 	uint32_t done = CUT;
 
-	if (!sigsetjmp(past_end, 0)) {
-		copying = 1;
+	if (!sigsetjmp(guard->past_end, 0)) {
+		guard->copying = 1;
 		__atomic_signal_fence(__ATOMIC_SEQ_CST); /* what is copied stays between the two */
 		done = copy_all(g, at, ours, len, to_guest);
 		__atomic_signal_fence(__ATOMIC_SEQ_CST);
 	}
-	copying = 0;
+	guard->copying = 0;
 	return done;
 }
 
@@ -203,10 +203,8 @@ bool serve(struct guest *g)
 			g->done = copy(g, next.at, d->bytes, next.len, next.what == RPMB_WRITE);
 		take_outbox(d);
 		d->disk.wanted |= next.sync;
-		if (g->done == CUT) {
-			COMPLAIN(g, "the file of its memory was cut short");
-			return false;
-		}
+		if (g->done == CUT)
+			return COMPLAIN(g, "the file of its memory was cut short"), false;
 	}
 	end_serve(g, next.fault);
 	return true;

@@ -8,7 +8,6 @@
  * and nothing that it does makes the loop wait. docs/VHOST_USER.md says what to type. */
 #include <getopt.h>
 #include <poll.h>
-#include <signal.h>
 #include <sys/mman.h>
 #include <sys/signalfd.h>
 #include <sys/syscall.h>
@@ -194,7 +193,7 @@ int main(int argc, char **argv)
 	sigaddset(&ends, SIGINT);
 	sigprocmask(SIG_BLOCK, &ends, NULL);
 	signal(SIGPIPE, SIG_IGN);
-	guard_memory();
+	guard_memory(&d->guard);
 	const int signals = signalfd(-1, &ends, SFD_CLOEXEC);
 	d->null = open("/dev/null", O_RDONLY | O_CLOEXEC);
 	if (signals < 0 || d->null < 0 || syscall(SYS_io_setup, 1L, &d->signals))
