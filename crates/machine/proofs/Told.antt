@@ -10,7 +10,8 @@ use Rattle.machine.proofs.Common.{Boards, MachineState, Range, Runs}
 use Rattle.board.specs.State.{owes}
 use Rattle.machine.specs.Ending.{HasReason, NeedsNext, NeedsTold, left_by}
 use Rattle.machine.specs.Machine.{IsTold, NeedsOf, NoRoom, NoSuchGuest, OfBoard, ReadsOf, RestsIn}
-use Rattle.machine.specs.Machine.{TellsOf, has_guest, left_of, turn_in, turn_of, waits_for_sync}
+use Rattle.machine.specs.Machine.{TellsOf, has_guest, is_over, left_of, turn_in, turn_of}
+use Rattle.machine.specs.Machine.{waits_for_sync}
 use Rattle.machine.specs.declared.fault.MachineFault.TheVariants as fault
 use Rattle.machine.specs.Settings.{most_of}
 use Rattle.machine.specs.Turn.{TurnState, stand_of}
@@ -116,7 +117,8 @@ module _ (m : MachineState) (guest : ℕ) where
 
   -- a guest that there isn't is refused
   pub tells_absent : (room : ℕ) (s : Served) (bytes : List ℕ) → has_guest m guest ≡ false
-      → IsTold (next.Rest (Some fault.NoGuest)) s → s.sync ≡ waits_for_sync m.board.rest
+      → IsTold (next.Rest (Some fault.NoGuest)) s
+      → s.sync ≡ (is_over s.what && waits_for_sync m.board.rest)
       → s.waiting ≡ owes guest m.board.rest → TellsOf guest room s bytes m m
   tells_absent room s bytes absent told sync waiting = record {
     runs = still_same guest (stand_of (turn_of m guest)) _ m.board
@@ -133,7 +135,7 @@ module _ (m : MachineState) (guest : ℕ) where
   -- there is less room than the largest part has
   pub tells_room : (room : ℕ) (s : Served) (bytes : List ℕ) → has_guest m guest ≡ true
       → room < 16384 → IsTold (next.Rest (Some fault.OutOfRange)) s
-      → s.sync ≡ waits_for_sync m.board.rest
+      → s.sync ≡ (is_over s.what && waits_for_sync m.board.rest)
       → s.waiting ≡ owes guest m.board.rest → TellsOf guest room s bytes m m
   tells_room room s bytes there short told sync waiting = record {
     runs = still_same guest (stand_of (turn_of m guest)) _ m.board
@@ -161,7 +163,7 @@ module _ (m : MachineState) (guest : ℕ) where
       → slice_get m.turns guest ≡ Some turn → has_guest m guest ≡ true → most ≡ most_of w
       → IsTold n s → Runs guest (stand_of turn) m.board (left_by (Some n) turn') new
       → NeedsTold guest most turn' bytes new n
-      → s.sync ≡ waits_for_sync new.rest → s.waiting ≡ owes guest new.rest
+      → s.sync ≡ (is_over s.what && waits_for_sync new.rest) → s.waiting ≡ owes guest new.rest
       → TellsOf guest room s bytes m
       (record m { board = new; turns = slice_set m.turns guest turn' })
   tells_of room most w turn turn' new bytes n s setup its there limit told runs needs sync waiting =

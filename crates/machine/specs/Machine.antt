@@ -170,13 +170,21 @@ left_of what.Write at len turn = standing (record { at = at; len = len } ∷ tur
 left_of what.Call at len turn = record (stand_of turn) { owed = true }
 left_of what.Again at len turn = stand_of turn
 
--- What a serve tells, behind steps of its guest alone.
+-- whether the serve is over
+abbrev pub is_over : What → Bool
+is_over what.Rest = true
+is_over what.Read = false
+is_over what.Write = false
+is_over what.Call = false
+is_over what.Again = false
+
+-- What a serve tells, behind steps of its guest alone; of a sync where it is over.
 pub record TellsOf (guest room : ℕ) (s : Served) (bytes : List ℕ) (old new : MachineState)
     : Type 0 where
   pub runs : Runs guest (stand_of (turn_of old guest)) old.board
       (left_of s.what s.at s.len (turn_of new guest)) new.board
   pub needs : NeedsOf guest room s.what s bytes old new
-  pub sync : s.sync ≡ waits_for_sync new.board.rest
+  pub sync : s.sync ≡ (is_over s.what && waits_for_sync new.board.rest)
   pub waiting : s.waiting ≡ owes guest new.board.rest
   pub absent : has_guest old guest ≡ false → (s.fault ≡ Some fault.NoGuest) × (new ≡ old)
 

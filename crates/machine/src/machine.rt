@@ -1,5 +1,5 @@
 //! A board for a monitor.
-ghost use Rattle.std.specs.Prelude.{◌≡◌, ◌≤◌, ◌%◌, true, false, Some, None, Err, IsOk, IfSome};
+ghost use Rattle.std.specs.Prelude.{◌≡◌, ◌≤◌, ◌%◌, ◌&&◌, true, false, Some, None, Err, IsOk, IfSome};
 ghost use Rattle.std.specs.Prelude.{length, slice_get, take};
 ghost use Rattle.rpmb_book.specs.Book.{state};
 ghost use Rattle.board.specs.Asking.{board_of};
@@ -9,7 +9,7 @@ ghost use Rattle.machine.specs.Machine.{Completes, Copies, IsServed, LeavesEach,
 ghost use Rattle.machine.specs.Machine.{is_awaited, kick_in, line_by, shown_in};
 ghost use Rattle.machine.specs.Machine.{GoesOn, IsTold, telling_board, waits_for_sync, writes_in};
 ghost use Rattle.machine.specs.Ending.{HearsAnswer};
-ghost use Rattle.machine.specs.Machine.{left_of};
+ghost use Rattle.machine.specs.Machine.{is_over, left_of};
 ghost use Rattle.machine.specs.Machine.{has_guest, turn_of, written_in};
 
 use crate::answering::{LARGEST_PART, serve_turn};
@@ -49,7 +49,8 @@ pub struct Served {
     pub len: u64,
     /// Why a chain or a reply stays, where one does.
     pub fault: Option<MachineFault>,
-    /// A sync is awaited: the outbox is to be taken and written, the file synced, and that told.
+    /// At `Rest`, where the serve is over: a sync is awaited, so the outbox is to be taken and
+    /// written, the file synced, and that told.
     pub sync: bool,
     /// The guest waits for an answer.
     pub waiting: bool,
@@ -189,21 +190,17 @@ impl Machine {
     #[inline(always)]
     fn served(&self, guest: u16, next: Next) -> Served
         ensures next { IsTold next result }
-        ensures sync { result.sync ≡ waits_for_sync self.now.board.rest }
+        ensures sync { result.sync ≡ (is_over result.what && waits_for_sync self.now.board.rest) }
         ensures waiting { result.waiting ≡ owes guest self.now.board.rest }
     {
-        let sync = match self.board.rest().next_call() {
-            Call::Sync => true,
-            Call::Write => false,
-            Call::None => false,
-        };
         let waiting = self.board.rest().owes(guest);
-        let (what, at, len, fault) = match next {
-            Next::Again => (What::Again, 0, 0, None),
-            Next::Read(wanted) => (What::Read, wanted.at, wanted.len, None),
-            Next::Write(part) => (What::Write, part.at, u64::from(part.len), None),
-            Next::Call => (What::Call, 0, 0, None),
-            Next::Rest(fault) => (What::Rest, 0, 0, fault),
+        // (which call the disk awaits is asked of all guests, so not at each copy)
+        let (what, at, len, fault, sync) = match next {
+            Next::Again => (What::Again, 0, 0, None, false),
+            Next::Read(wanted) => (What::Read, wanted.at, wanted.len, None, false),
+            Next::Write(part) => (What::Write, part.at, u64::from(part.len), None, false),
+            Next::Call => (What::Call, 0, 0, None, false),
+            Next::Rest(fault) => (What::Rest, 0, 0, fault, self.waits_for_sync()),
         };
         Served {
             what,
@@ -212,6 +209,17 @@ impl Machine {
             fault,
             sync,
             waiting,
+        }
+    }
+
+    /// Whether the next call of the disk is a sync.
+    fn waits_for_sync(&self) -> bool
+        ensures { result ≡ waits_for_sync self.now.board.rest }
+    {
+        match self.board.rest().next_call() {
+            Call::Sync => true,
+            Call::Write => false,
+            Call::None => false,
         }
     }
 
@@ -224,11 +232,7 @@ impl Machine {
             hand_in(&mut self.board, (guest % 65_536) as u16);
         }
         write_out(&mut self.board);
-        match self.board.rest().next_call() {
-            Call::Sync => true,
-            Call::Write => false,
-            Call::None => false,
-        }
+        self.waits_for_sync()
     }
 
     /// Takes the oldest write that waits into the front of `out`: its offset in the image, and how
