@@ -41,6 +41,9 @@ _Static_assert(offsetof(struct rpmb_next, at) == 0 && offsetof(struct rpmb_next,
                && offsetof(struct rpmb_next, fault) == 12 && offsetof(struct rpmb_next, what) == 16
                && offsetof(struct rpmb_next, sync) == 17 && offsetof(struct rpmb_next, waiting) == 18
                && offsetof(struct rpmb_next, spare) == 19 && sizeof(struct rpmb_next) == 24, "struct rpmb_next");
+_Static_assert(offsetof(struct rpmb_queue, descriptors) == 0 && offsetof(struct rpmb_queue, driver) == 8
+               && offsetof(struct rpmb_queue, device) == 16 && offsetof(struct rpmb_queue, size) == 24
+               && offsetof(struct rpmb_queue, spare) == 28 && sizeof(struct rpmb_queue) == 32, "struct rpmb_queue");
 
 static void check(int holds, const char *what)
 {
@@ -96,11 +99,25 @@ static int make_queue(uint16_t guest, uint64_t descriptors, uint32_t places)
 	return rpmb_read(&host, guest, 0x044, 4) == 1;
 }
 
+/* The same by one call, and what it leaves: a device in service, or one that was reset. */
+static void check_start(uint16_t guest, uint64_t features, uint64_t descriptors, uint32_t is_up)
+{
+	const struct rpmb_queue queue = { .descriptors = descriptors, .driver = DRIVER, .device = DEVICE, .size = 2 };
+
+	check_number(rpmb_start(&host, guest, features, &queue), is_up, "rpmb_start");
+	check_number(rpmb_read(&host, guest, 0x070, 4), is_up ? 15 : 0, "Status then");
+	check_number(rpmb_read(&host, guest, 0x044, 4), is_up, "QueueReady then");
+	rpmb_stop(&host, guest);
+	check_number(rpmb_read(&host, guest, 0x070, 4), 0, "Status after rpmb_stop");
+	check_number(rpmb_read(&host, guest, 0x044, 4), 0, "QueueReady after rpmb_stop");
+}
+
 static void check_guest(uint16_t guest, uint64_t features)
 {
 	const struct rpmb_guest *g = &board[guest];
 
 	check_number(features_of(guest), features, "the features of `withheld` and `platform`");
+	check_number(rpmb_features(&host, guest), features, "rpmb_features");
 	check_number(rpmb_read(&host, guest, 0x034, 4), g->queue, "QueueNumMax, of `queue`");
 	/* struct virtio_rpmb_config (5.12.4) */
 	check_number(rpmb_read(&host, guest, 0x100, 1), g->capacity, "capacity");
@@ -108,6 +125,9 @@ static void check_guest(uint16_t guest, uint64_t features)
 	check_number(rpmb_read(&host, guest, 0x102, 1), g->max_rd_cnt, "max_rd_cnt");
 	check(make_queue(guest, g->memory - 32, 2), "a queue at the end of `memory`");
 	check(!make_queue(guest, g->memory - 16, 2), "a queue that passes `memory`");
+	check_start(guest, features, g->memory - 32, 1);
+	check_start(guest, VERSION_1, g->memory - 16, 0);
+	check_start(guest, features & ~VERSION_1, g->memory - 32, 0);
 }
 
 /* 2. The fields of struct rpmb_next. */

@@ -103,7 +103,6 @@ bool map(struct guest *g, struct vu_region is, int fd);
 void unmap(struct guest *g, unsigned i);
 uint32_t copy(const struct guest *g, uint64_t at, uint8_t *ours, uint32_t len, bool to_guest);
 uint32_t get(struct guest *g, uint32_t offset, uint8_t width);
-uint64_t offered(struct guest *g);
 void reset_device(struct guest *g);
 bool take_kick(struct guest *g);
 bool serve(struct guest *g);

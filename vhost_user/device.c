@@ -97,43 +97,19 @@ uint32_t get(struct guest *g, uint32_t offset, uint8_t width)
 	return rpmb_read(&g->daemon->host, g->number, offset, width);
 }
 
-static void set(struct guest *g, uint32_t offset, uint64_t value)
-{
-	rpmb_write(&g->daemon->host, g->number, offset, 4, (uint32_t)value);
-}
-
-uint64_t offered(struct guest *g)
-{
-	set(g, VIRTIO_MMIO_DEVICE_FEATURES_SEL, 1);
-	const uint64_t high = get(g, VIRTIO_MMIO_DEVICE_FEATURES, 4);
-	set(g, VIRTIO_MMIO_DEVICE_FEATURES_SEL, 0);
-	return high << 32 | get(g, VIRTIO_MMIO_DEVICE_FEATURES, 4);
-}
-
 void reset_device(struct guest *g)
 {
-	set(g, VIRTIO_MMIO_STATUS, 0);
+	rpmb_stop(&g->daemon->host, g->number);
 	g->up = g->later = false;
 	g->done = 0;
 }
 
-/* As a driver does by registers (3.1.1): from a reset to a queue in service. */
 static bool bring_up(struct guest *g)
 {
-	const struct { uint32_t offset; uint64_t value; } writes[] = {
-		{ VIRTIO_MMIO_STATUS, 3 }, { VIRTIO_MMIO_DRIVER_FEATURES_SEL, 0 }, { VIRTIO_MMIO_DRIVER_FEATURES, g->features },
-		{ VIRTIO_MMIO_DRIVER_FEATURES_SEL, 1 }, { VIRTIO_MMIO_DRIVER_FEATURES, g->features >> 32 },
-		{ VIRTIO_MMIO_STATUS, 11 }, { VIRTIO_MMIO_QUEUE_SEL, 0 }, { VIRTIO_MMIO_QUEUE_NUM, g->places },
-		{ VIRTIO_MMIO_QUEUE_DESC_LOW, g->desc }, { VIRTIO_MMIO_QUEUE_DESC_HIGH, g->desc >> 32 },
-		{ VIRTIO_MMIO_QUEUE_AVAIL_LOW, g->driver }, { VIRTIO_MMIO_QUEUE_AVAIL_HIGH, g->driver >> 32 },
-		{ VIRTIO_MMIO_QUEUE_USED_LOW, g->device }, { VIRTIO_MMIO_QUEUE_USED_HIGH, g->device >> 32 },
-		{ VIRTIO_MMIO_QUEUE_READY, 1 }, { VIRTIO_MMIO_STATUS, 15 },
-	};
+	const struct rpmb_queue its = { .descriptors = g->desc, .driver = g->driver, .device = g->device, .size = g->places };
 
-	reset_device(g);
-	for (size_t i = 0; i < sizeof writes / sizeof writes[0]; i++)
-		set(g, writes[i].offset, writes[i].value);
-	g->up = get(g, VIRTIO_MMIO_QUEUE_READY, 4) == 1;
+	g->done = 0;
+	g->up = rpmb_start(&g->daemon->host, g->number, g->features, &its);
 	if (!g->up)
 		COMPLAIN(g, "the device refuses the queue: %u places (256 at most) at %#" PRIx64 ", %#" PRIx64 ", %#" PRIx64
 		         ", features %#" PRIx64, g->places, g->desc, g->driver, g->device, g->features);
@@ -180,7 +156,7 @@ static void end_serve(struct guest *g, uint32_t fault)
 		tell(g->daemon, g->error);
 		send(g->requests, config_changed, sizeof config_changed, MSG_DONTWAIT | MSG_NOSIGNAL);
 	}
-	set(g, VIRTIO_MMIO_INTERRUPT_ACK, line);
+	rpmb_write(&g->daemon->host, g->number, VIRTIO_MMIO_INTERRUPT_ACK, 4, line);
 }
 
 /* Serves a guest until nothing is left to do, or its turn is over. */

@@ -128,7 +128,7 @@ static enum answer remove_region(struct guest *g)
 
 static enum answer set_features(struct guest *g, uint64_t features)
 {
-	if (features & ~(offered(g) | VU_PROTOCOL_FEATURES))
+	if (features & ~(rpmb_features(&g->daemon->host, g->number) | VU_PROTOCOL_FEATURES))
 		return REFUSED;
 	g->enabled |= !(features & VU_PROTOCOL_FEATURES); /* a ring is enabled from the first then */
 	g->up &= g->features == (features & ~VU_PROTOCOL_FEATURES);
@@ -225,7 +225,7 @@ static enum answer perform(struct guest *g)
 	if (m->request >= UNKNOWN || m->size < requests[m->request].least || m->state.index & requests[m->request].queue)
 		return REFUSED;
 	switch (m->request) {
-	case GET_FEATURES: return give(g, offered(g) | VU_PROTOCOL_FEATURES);
+	case GET_FEATURES: return give(g, rpmb_features(&g->daemon->host, g->number) | VU_PROTOCOL_FEATURES);
 	case SET_FEATURES: return set_features(g, m->number);
 	case SET_OWNER: return DONE;
 	case RESET_OWNER: case RESET_DEVICE: return reset(g);

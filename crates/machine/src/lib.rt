@@ -12,6 +12,7 @@ mod machine;
 mod opening;
 mod serving;
 mod settings;
+mod starting;
 mod taking;
 mod turn;
 
@@ -19,3 +20,4 @@ pub use fault::MachineFault;
 pub use machine::{Machine, Served, What};
 pub use opening::{format_image, image_length};
 pub use settings::Setup;
+pub use starting::Areas;

@@ -1,6 +1,6 @@
 -- What the calls answer, and what they leave of the machine in a handle (own).
-use Rattle.std.specs.Prelude.{◌≡◌, ◌<◌, ◌≤◌, ◌%◌, ◌==◌, not, ℕ, true, false, List, Option, Some, None, length}
-use Rattle.std.specs.Prelude.{slice_get}
+use Rattle.std.specs.Prelude.{◌≡◌, ◌<◌, ◌≤◌, ◌%◌, ◌+◌, ◌*◌, ◌==◌, not, ℕ, true, false, List}
+use Rattle.std.specs.Prelude.{Option, Some, None, length, slice_get}
 use Rattle.disk.specs.Outbox.{first_of}
 use Rattle.disk.specs.declared.outbox_disk.Told.TheVariants.{Failed, Synced, Taken}
 use Rattle.board.specs.State.{owes}
@@ -10,6 +10,8 @@ use Rattle.machine.specs.Ending.{HearsAnswer}
 use Rattle.machine.specs.Machine.{has_guest, is_awaited, kick_in, line_by, shown_by}
 use Rattle.machine.specs.Machine.{telling_board, turn_of}
 use Rattle.machine.specs.Machine.{waits_for_sync, written_in}
+use Rattle.machine.specs.Starting.{begun_in, is_up, offered_of, set_in, started_in}
+use Rattle.machine.specs.declared.starting.Areas.{Areas}
 use Rattle.machine.specs.Opening.{HasImageFault, HasOpeningFault, IsMonitored, length_of}
 use Rattle.machine.specs.declared.fault.MachineFault.{MachineFault}
 use Rattle.machine.specs.declared.fault.MachineFault.TheVariants.{NoMemory}
@@ -65,6 +67,26 @@ Kicks guest offset width value kick m =
 -- and does this; nothing where there is no such guest
 abbrev pub Writes : (guest offset width value : ℕ) → Relation
 Writes guest offset width value old new = new ≡ written_in old guest offset width value
+
+-- The features that its device offers, of which the upper half is looked at first, and then the
+-- lower one: that one stays selected.
+abbrev pub Offers : (guest features : ℕ) → Fact
+Offers guest features m =
+    features ≡ offered_of (set_in m guest 20 1) guest 0 + 4294967296 * offered_of m guest 1
+
+abbrev pub Selects : (guest : ℕ) → Relation
+Selects guest old new = new ≡ set_in (set_in old guest 20 1) guest 20 0
+
+-- whether the device takes these features and this queue, and what is done for it
+abbrev pub IsUp : (guest features : ℕ) → Areas → ℕ → Fact
+IsUp guest features areas up m = up ≡ flag (is_up (begun_in m guest features areas) guest)
+
+abbrev pub Starts : (guest features : ℕ) → Areas → Relation
+Starts guest features areas old new = new ≡ started_in old guest features areas
+
+-- a reset, by 0 in Status
+abbrev pub Stops : (guest : ℕ) → Relation
+Stops guest old new = new ≡ set_in old guest 112 0
 
 -- whether a chain of the guest was taken and isn't answered yet
 abbrev pub Waits : (guest waits : ℕ) → Fact

@@ -7,12 +7,14 @@ ghost use Rattle.machine.specs.Opening.{HasOpeningFault, IsFresh, IsOpened};
 ghost use Rattle.rpmb_host.specs.Calls.{Between, Fails, Gives, GivesNone, Goes, Holds, Interrupts};
 ghost use Rattle.rpmb_host.specs.Calls.{Kicks, Reads, Refuses, RefusesImage, RefusesOpening};
 ghost use Rattle.rpmb_host.specs.Calls.{Serves};
-ghost use Rattle.rpmb_host.specs.Calls.{Spans, Syncs, Takes, Waits, Writes};
-ghost use Rattle.rpmb_host.specs.Guests.{setup_of};
+ghost use Rattle.rpmb_host.specs.Calls.{IsUp, Offers, Selects, Spans, Starts, Stops};
+ghost use Rattle.rpmb_host.specs.Calls.{Syncs, Takes, Waits, Writes};
+ghost use Rattle.rpmb_host.specs.Guests.{areas_of, setup_of};
 
 mod guests;
 mod handle;
 mod numbers;
+mod queue;
 mod served;
 
 pub use guests::RpmbGuest;
@@ -21,6 +23,7 @@ pub use handle::Handle;
 use handle::{put, take};
 use machine::{Machine, MachineFault, format_image, image_length};
 use numbers::{fault_number, kick_number};
+pub use queue::RpmbQueue;
 pub use served::RpmbNext;
 use std::alloc::Global;
 
@@ -141,6 +144,50 @@ pub extern "C" fn rpmb_write(
     let kick = machine.write(guest, offset, width, value);
     put(host, machine);
     kick_number(kick)
+}
+
+/// The features that a guest's device offers.
+#[unsafe(no_mangle)]
+pub extern "C" fn rpmb_features(alloc: Global, host: &mut Handle, guest: u16) -> u64
+    requires { is_some host.old.value ≡ true }
+    ensures value { Holds host.old.value (Offers guest result) }
+    ensures state { Between host.old.value host.new.value (Selects guest) }
+{
+    let mut machine = take(alloc, host);
+    let features = machine.features(guest);
+    put(host, machine);
+    features
+}
+
+/// Brings a guest's device into service with these features and this queue: 1 where it is, else 0.
+#[unsafe(no_mangle)]
+pub extern "C" fn rpmb_start(
+    alloc: Global,
+    host: &mut Handle,
+    guest: u16,
+    features: u64,
+    queue: &RpmbQueue,
+) -> u32
+    requires { is_some host.old.value ≡ true }
+    ensures up { Holds host.old.value (IsUp guest features (areas_of queue.now) result) }
+    ensures state { Between host.old.value host.new.value
+        (Starts guest features (areas_of queue.now)) }
+{
+    let mut machine = take(alloc, host);
+    let is_up = machine.start(guest, features, queue.areas());
+    put(host, machine);
+    u32::from(is_up)
+}
+
+/// Resets a guest's device.
+#[unsafe(no_mangle)]
+pub extern "C" fn rpmb_stop(alloc: Global, host: &mut Handle, guest: u16)
+    requires { is_some host.old.value ≡ true }
+    ensures state { Between host.old.value host.new.value (Stops guest) }
+{
+    let mut machine = take(alloc, host);
+    machine.stop(guest);
+    put(host, machine);
 }
 
 /// Goes on with what a guest offered, and says what that needs.
