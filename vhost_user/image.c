@@ -62,11 +62,12 @@ void open_image(struct daemon *d, bool format)
 
 	disk->file = open(disk->path, O_RDWR | O_CLOEXEC | (format ? O_CREAT : 0), 0600);
 	if (disk->file < 0 || !len || !image)
-		REFUSE(disk->path, "the image isn't opened: %s; where there is none, --format makes one", strerror(errno));
+		REFUSE(disk->path, "the image isn't opened: %s; %s", strerror(errno), errno == ENOENT && !format ? "--format makes one"
+		       : "it has to be a file that you may read and write, in a folder that is there");
 	if (flock(disk->file, LOCK_EX | LOCK_NB))
 		REFUSE(disk->path, "another program has the image (vhost-user-rpmb or rpmbd): end that one first");
 	if (fstat(disk->file, &is) || !S_ISREG(is.st_mode))
-		REFUSE(disk->path, "it is no file that can keep an image");
+		REFUSE(disk->path, "it is no file that can keep an image: a plain one is wanted");
 	if (!is.st_size && format)
 		format_image(d, image, len);
 	/* what a stop left is kept before it is read, and before anybody is told of it */
@@ -76,8 +77,8 @@ void open_image(struct daemon *d, bool format)
 	const uint32_t fault = (uint64_t)n != len ? RPMB_BAD_LENGTH : rpmb_open(d->board, d->count, image, len, &d->host);
 	if (fault != RPMB_OK)
 		REFUSE(disk->path, "%s. It has %lld bytes, and an image of these guests %" PRIu64 ": it wants as many sockets,"
-		       " each with the --capacity, as it was made with%s", rpmb_fault_text(fault), (long long)is.st_size, len,
-		       n ? "" : "; --format makes a fresh one in an empty file");
+		       " each with the --capacity, as it was made with, in the same order; or it is no image%s", rpmb_fault_text(fault),
+		       (long long)is.st_size, len, n ? "" : "; --format makes a fresh one in an empty file");
 	free(image);
 	disk->start = eventfd(0, EFD_CLOEXEC | (d->count > 1 ? 0 : EFD_NONBLOCK));
 	disk->over = eventfd(0, EFD_CLOEXEC);

@@ -27,7 +27,7 @@ static const char help[] =
 	"  --max-write N        of the guests named behind it: most blocks of 256 bytes of a write, 1 to 16 (16)\n"
 	"  --max-read N         the same of a read\n"
 	"  --print-capabilities, --version, --help\n\n"
-	"TERM ends it, once what is kept was answered. It may be killed at any moment.\n";
+	"TERM and INT end it, once what is kept was answered. It may be killed at any moment.\n";
 /* (There is no type for RPMB, and libvirt takes no back end at all beside one of a type that it doesn't know.) */
 static const char capabilities[] = "{\n  \"type\": \"block\",\n  \"features\": []\n}\n";
 
@@ -44,7 +44,9 @@ static int listen_at(const char *path)
 	    errno == ECONNREFUSED)
 		unlink(path);
 	if (fd < 0 || bind(fd, (struct sockaddr *)&name, sizeof name) || listen(fd, 1))
-		REFUSE(path, "the socket isn't made: %s", strerror(errno));
+		REFUSE(path, "the socket isn't made: %s; %s", strerror(errno), errno == EADDRINUSE
+		       ? "what is there is no socket, or a program listens at it: take another path, or end that program"
+		       : "its folder has to be there, and you have to be let write into it");
 	return fd;
 }
 
@@ -131,8 +133,10 @@ static void add_guest(struct daemon *d, const struct rpmb_guest *as, bool is_pat
 
 	if (d->count == GUESTS)
 		REFUSE(word, "a board has at most %d guests", GUESTS);
+	if (is_path && !*word) /* (Linux would take it for a name that anybody may reach) */
+		REFUSE("--socket-path PATH", "its path is empty");
 	if (!is_path && getsockopt(fd, SOL_SOCKET, SO_ACCEPTCONN, &listens, &(socklen_t){ sizeof listens }))
-		REFUSE("--fd", "%s is no socket: %s", word, strerror(errno));
+		REFUSE("--fd", "%s is no socket that is open: %s", word, strerror(errno));
 	for (struct guest *g = d->guests; g < d->guests + d->count; g++)
 		if (!strcmp(g->name, word))
 			REFUSE(word, "it is given twice: each guest has a socket of its own");
@@ -158,7 +162,11 @@ static bool read_words(struct daemon *d, int argc, char **argv)
 
 	for (int c; (c = getopt_long(argc, argv, "", words, NULL)) != -1; is_used |= c == 's' || c == 'd')
 		switch (c) {
-		case 'i': d->disk.path = optarg; break;
+		case 'i':
+			if (d->disk.path)
+				REFUSE(optarg, "--image is given twice: all guests share one");
+			d->disk.path = optarg;
+			break;
 		case 'f': format = true; break;
 		case 's': case 'd': add_guest(d, &each, c == 's', optarg); break;
 		case 'c': each.capacity = (uint8_t)number("--capacity", optarg, 1, 128); is_used = false; break;
@@ -166,11 +174,11 @@ static bool read_words(struct daemon *d, int argc, char **argv)
 		case 'r': each.max_rd_cnt = (uint8_t)number("--max-read", optarg, 1, 16); is_used = false; break;
 		case 'p': case 'v': case 'h':
 			exit(fputs(c == 'p' ? capabilities : c == 'v' ? "vhost-user-rpmb 1\n" : help, stdout) < 0 || fflush(stdout));
-		default: fputs("vhost-user-rpmb: --help says which options there are\n", stderr); exit(2);
+		default: fputs("vhost-user-rpmb: --help says which options there are, and what they take\n", stderr); exit(2);
 		}
 	if (optind != argc)
-		REFUSE(argv[optind], "this word belongs to no option; --help says which there are");
-	if (!d->disk.path)
+		exit((SAY(argv[optind], "this word belongs to no option; --help says which there are"), 2));
+	if (!d->disk.path || !*d->disk.path)
 		REFUSE("--image FILE", "it is missing: where the partitions are kept");
 	if (!d->count)
 		REFUSE("--socket-path PATH", "it is missing, and --fd N too: one of them for each guest");
