@@ -1,7 +1,7 @@
 /* SPDX-License-Identifier: Apache-2.0
  *
  * Guest memory, by the regions that a front end gave; and the library's device of a guest. What the front end said
- * becomes register writes (VIRTIO 1.2, 4.2.2), and a kick a serve, of which each step is a copy or a call. */
+ * becomes a start or a stop of it, and a kick a serve, of which each step is a copy or a call. */
 #include <linux/magic.h>
 #include <linux/virtio_mmio.h>
 #include <sys/mman.h>
