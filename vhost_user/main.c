@@ -173,7 +173,7 @@ static bool read_words(struct daemon *d, int argc, char **argv)
 		case 'w': each.max_wr_cnt = (uint8_t)number("--max-write", optarg, 1, 16); is_used = false; break;
 		case 'r': each.max_rd_cnt = (uint8_t)number("--max-read", optarg, 1, 16); is_used = false; break;
 		case 'p': case 'v': case 'h':
-			exit(fputs(c == 'p' ? capabilities : c == 'v' ? "vhost-user-rpmb 1\n" : help, stdout) < 0 || fflush(stdout));
+			exit(fputs(c == 'p' ? capabilities : c == 'v' ? "vhost-user-rpmb 0.1\n" : help, stdout) < 0 || fflush(stdout));
 		default: fputs("vhost-user-rpmb: --help says which options there are, and what they take\n", stderr); exit(2);
 		}
 	if (optind != argc)
