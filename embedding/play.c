@@ -540,11 +540,13 @@ static void perform_chain(struct board *b, struct driver *d, const struct line *
 }
 
 /* A store of this line, counted from 1, doesn't lie in its guest's memory. */
-static void end_outside(const char *script, size_t number)
+static void end_outside(const char *script, size_t number, uint64_t memory)
 {
-	char why[80];
+	char why[120];
 
-	snprintf(why, sizeof why, ": line %zu: the store reaches beyond its guest's memory\n", number);
+	snprintf(why, sizeof why,
+		 ": line %zu: the store reaches beyond its guest's memory, which has %llu bytes\n", number,
+		 (unsigned long long)memory);
 	end_with("1 OutOfRange", script, why);
 }
 
@@ -556,7 +558,7 @@ static void perform(struct board *b, const struct line *line, const char *script
 		perform_chain(b, d, line);
 	if (line->kind == STORE) {
 		if (line->number > d->memory || line->len > d->memory - line->number)
-			end_outside(script, number);
+			end_outside(script, number, d->memory);
 		memcpy(d->ram + line->number, line->bytes, line->len);
 	}
 	if (line->kind == RESET) {

@@ -105,9 +105,10 @@ pub(crate) fn no_ring(alloc: Global, key: &str) -> BoardError {
     BoardError::of(format!(in alloc; "the key {key}: expected the text \"split\" or \"packed\""))
 }
 
-/// The key `image` has no text.
+/// The key `image` has no text, or an empty one.
 pub(crate) fn no_path(alloc: Global, value: Option<&Value>) -> BoardError {
-    no_such_value(alloc, "image", "the text of a path", value)
+    let expected = "the path of a file in quotes, or no such key for a board in memory";
+    no_such_value(alloc, "image", expected, value)
 }
 
 /// A guest's queue has a size that a split ring can't have.
@@ -171,6 +172,11 @@ fn line_at(text: &str, place: usize) -> (usize, &str) {
 fn cause_of(message: &str) -> &str {
     match message {
         "duplicate key" => "expected each key once",
+        "invalid string" => "expected a text between two quotes, both in this line",
+        "number out of range" => {
+            "expected a number of a board: capacity 1 to 128, max_wr_cnt and max_rd_cnt 1 to 16, \
+             memory 65536 to 67108864, queue 2 to 256"
+        }
         _ if message.starts_with("invalid value") => {
             "expected a number, true, false or a text in quotes"
         }

@@ -5,7 +5,7 @@
 pub enum ImageVersion {
     /// A write is logged, and then made in place: four syncs.
     One,
-    /// A write goes into the slot that isn't read: two syncs.
+    /// A write goes into the slot that isn't read: two syncs where its guest writes on.
     Two,
 }
 

@@ -62,7 +62,8 @@ fn with_fresh<'a>(alloc: Global, command: Command<'a>) -> Result<Command<'a>, Al
         → IfOk result (λ c. (fields_of c).has_globals ≡ false) }
 {
     let command = with_argument(command, flag(alloc, "new", "Refuses a file that is there"))?;
-    let help = "1, or 2, whose writes take two syncs and not four [default: 1]";
+    let help =
+        "1, or 2, which takes two syncs a write, not four, where a guest writes on [default: 1]";
     with_argument(command, option(alloc, "image-version", "VERSION", help))
 }
 

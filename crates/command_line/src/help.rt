@@ -18,6 +18,10 @@ for the reply, and then its device is reset; rpmb makes the lines of real reques
     chain 0 - 512
     reset 0
 
+A line is `chain GUEST READABLE WRITABLE`, `store GUEST ADDRESS BYTES` or `reset GUEST`.
+READABLE is the bytes of the request in hex digits, or -; WRITABLE how many bytes its
+answer may have, 512 for each frame.
+
 A board without 'image' is in memory, and nothing of it is kept. One image is for one
 program at a time. Status 0; 1 for a fault, which is told on standard error as 'rpmbd: N
 NAME', and behind that in words; 2 for words that are no command."#;
@@ -36,8 +40,8 @@ Status 0; 1 for a fault, told on standard error; 2 for words that are no command
 pub const UPGRADE: &str =
     r"Prints 'upgraded', or 'already 2' for an image of version 2, which it leaves as it is.
 Keys, counters and blocks stay, wherever it is stopped; it may be called again. A write
-takes four syncs of the file on version 1, and two on version 2. There is no way back to
-version 1.
+takes four syncs of the file; on version 2, where a guest writes on, each takes two. There
+is no way back to version 1.
 Status 0; 1 for a fault, told on standard error; 2 for words that are no command.";
 
 pub const RUN: &str =
@@ -45,6 +49,9 @@ pub const RUN: &str =
 or '-' for none. Where the guest has spoiled its rings: 'needs-reset G', 'no-answer G',
 'bad-used G'. What a printed line tells is settled in the image. Each line goes out as it
 comes. Of a board without 'image' nothing is kept once the run has ended.
+Where it was stopped, or its last lines are missing, some requests may be done whose lines
+aren't there. `rpmb read-counter` makes the request that tells how many writes of a guest
+were accepted; go on with the line behind the last of those.
 Status 0; 1 for a fault, told on standard error; 2 for words that are no command.";
 
 pub const SERVE: &str =

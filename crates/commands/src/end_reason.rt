@@ -71,14 +71,16 @@ fn misread(alloc: Global, task: Task<'_>) -> Option<String> {
     }
 }
 
-/// Whether a line stores bytes beyond its guest's memory.
-fn stores_outside(board: &BoardConfig, line: &Line) -> bool {
+/// How many bytes the memory has of a guest beyond whose memory a line stores.
+fn left_memory(board: &BoardConfig, line: &Line) -> Option<u64> {
     match line {
         Line::Store { guest, at, bytes } => match board.guests().get(usize::from(*guest)) {
-            Some(guest) => at.saturating_add(bytes.len() as u64) > guest.memory,
-            None => false,
+            Some(guest) if at.saturating_add(bytes.len() as u64) > guest.memory => {
+                Some(guest.memory)
+            }
+            _ => None,
         },
-        _ => false,
+        _ => None,
     }
 }
 
@@ -87,9 +89,11 @@ fn misplaced(alloc: Global, task: Task<'_>) -> Option<String> {
     let lines = read_script(alloc, task.script, task.board.guests().len() as u16).ok()?;
     let place = lines
         .iter()
-        .position(|line| stores_outside(task.board, line))?;
+        .position(|line| left_memory(task.board, line).is_some())?;
+    let memory = left_memory(task.board, lines.get(place)?)?;
     let (path, number) = (task.script_path(), place.saturating_add(1));
-    format!(in alloc; "{path}: line {number}: the store reaches beyond its guest's memory").ok()
+    let text = "the store reaches beyond its guest's memory";
+    format!(in alloc; "{path}: line {number}: {text}, which has {memory} bytes").ok()
 }
 
 /// Whether a disk begins as an image does.

@@ -94,14 +94,37 @@ fn read_board_text<R: Files + AllocGlobal>(rt: &R, path: &str) -> Result<String,
     }
 }
 
-/// Reads lines to the end, or says why they are no script's: one is too long, or all are.
+/// Why bytes are no text.
+fn why_no_text(bytes: &[u8], of_image: &'static str) -> &'static str {
+    if is_image(bytes) { of_image } else { NO_TEXT }
+}
+
+/// Why the lines that were read are no script's: the last of them, which begins at `start`, is no
+/// text, or is too long, or all are. A character's bytes never go on behind a line feed, so each
+/// line is a text by itself.
+fn why_no_lines(bytes: &[u8], start: usize) -> Option<&'static str> {
+    let line = bytes.get(start..).unwrap_or(b"");
+    if str::from_utf8(line).is_err() {
+        return Some(why_no_text(bytes, NO_SCRIPT));
+    }
+    if line.len() as u64 == LINE_BYTES && !line.ends_with(b"\n") {
+        return Some(LONG_LINE);
+    }
+    if bytes.len() > SCRIPT_BYTES {
+        return Some(LONG_SCRIPT);
+    }
+    None
+}
+
+/// Reads lines to the end, or says why they are no script's, as soon as one isn't.
 fn read_lines<B: BufRead>(input: &mut B, bytes: &mut Vec<u8>) -> io::Result<Option<&'static str>> {
     for _ in 0..SCRIPT_BYTES {
-        match input.take(LINE_BYTES).read_until(b'\n', bytes)? as u64 {
-            0 => return Ok(None),
-            LINE_BYTES if !bytes.ends_with(b"\n") => return Ok(Some(LONG_LINE)),
-            _ if bytes.len() > SCRIPT_BYTES => return Ok(Some(LONG_SCRIPT)),
-            _ => {}
+        let start = bytes.len();
+        if input.take(LINE_BYTES).read_until(b'\n', bytes)? == 0 {
+            return Ok(None);
+        }
+        if let Some(why) = why_no_lines(bytes.as_slice(), start) {
+            return Ok(Some(why));
         }
     }
     Ok(Some(LONG_SCRIPT))

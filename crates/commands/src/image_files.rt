@@ -14,15 +14,19 @@ use std::{fs, io};
 /// Where a path leads to what standard output writes into.
 const OUTPUT: &str = "/dev/stdout";
 
-/// What is said of the image of a board that names an empty path.
-const NO_NAME: &str = "names no image; write image = \"FILE\" in the board file";
-
 /// What is said of an image that isn't there.
 const NOT_THERE: &str = "isn't there; if there never was one, rpmbd format makes it";
 
 /// And of one whose path begins in the folder that the program was started in.
 const NOT_HERE: &str = "where you are: the path counts from there, not from the board file's \
     folder; go to the image's folder, or if there never was one, rpmbd format makes it";
+
+/// And of one whose path is a link.
+const DEAD_LINK: &str = "is a link to a file that isn't there; mend the link, or name the file \
+    itself in the board file";
+
+/// And of one whose path begins as one that a shell expands.
+const NOT_EXPANDED: &str = "isn't there: no ~ is expanded in a board file; write the whole path";
 
 /// What is said of an image whose path leads to none of the files that have bytes to be kept.
 const NO_FILE: &str = "and no plain file, as an image is; name another in the board file's image";
@@ -31,8 +35,8 @@ const NO_FILE: &str = "and no plain file, as an image is; name another in the bo
 const IS_THERE: &str = "is there, and --new makes none over it; name another in the board file";
 
 /// What is said of one that can't be made.
-const NO_FOLDER: &str = "its folder, seen from the one that you are in, or the file that it links \
-    to, isn't there; make that, or mend the path in the board file";
+const NO_FOLDER: &str = "its folder, seen from the one that you are in, isn't there; make that, or \
+    mend the path in the board file";
 
 /// Opens the file of an image. Where standard output or error is closed, its number goes to the
 /// next file that is opened, and what is printed would be written into that file. So the file is
@@ -152,10 +156,19 @@ fn sync_folder(rt: &HostRuntime, path: &str) -> io::Result<()> {
     File::open(rt, folder)?.sync_all()
 }
 
+/// Whether the path itself is a link, wherever it leads.
+fn is_link(rt: &HostRuntime, path: &str) -> bool {
+    match fs::symlink_metadata(rt, path) {
+        Ok(found) => found.is_symlink(),
+        Err(_) => false,
+    }
+}
+
 /// Why the file of an image isn't made.
 fn not_made(rt: &HostRuntime, path: &str, error: &io::Error) -> Refusal {
     match error.kind() {
-        io::ErrorKind::NotFound if path.is_empty() => refused(rt, path, NO_NAME),
+        io::ErrorKind::NotFound if is_link(rt, path) => refused(rt, path, DEAD_LINK),
+        io::ErrorKind::NotFound if path.starts_with('~') => refused(rt, path, NOT_EXPANDED),
         io::ErrorKind::NotFound => refused(rt, path, NO_FOLDER),
         io::ErrorKind::AlreadyExists => refused(rt, path, IS_THERE),
         _ => Refusal::of_call(rt.alloc(), path, error),
@@ -179,7 +192,8 @@ fn not_here(rt: &HostRuntime, path: &str) -> Refusal {
 /// Why the file of an image isn't opened.
 fn not_opened(rt: &HostRuntime, path: &str, error: &io::Error) -> Refusal {
     match error.kind() {
-        io::ErrorKind::NotFound if path.is_empty() => refused(rt, path, NO_NAME),
+        io::ErrorKind::NotFound if is_link(rt, path) => refused(rt, path, DEAD_LINK),
+        io::ErrorKind::NotFound if path.starts_with('~') => refused(rt, path, NOT_EXPANDED),
         io::ErrorKind::NotFound if path.starts_with('/') => refused(rt, path, NOT_THERE),
         io::ErrorKind::NotFound => not_here(rt, path),
         _ => Refusal::of_call(rt.alloc(), path, error),

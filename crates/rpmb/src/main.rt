@@ -11,7 +11,7 @@ mod system;
 use crate::doing::perform_operation;
 use crate::system::System;
 use command_line::{GivenError, given_words};
-use rpmb_commands::{Refusal, Words, WordsError, perform, read_words, report};
+use rpmb_commands::{LineLimit, Refusal, Words, WordsError, perform, read_words, report};
 use std::io::{BufReader, BufWriter};
 use std::process::ExitCode;
 
@@ -19,9 +19,10 @@ use std::process::ExitCode;
 const REFUSED: u8 = 2;
 
 fn perform_on_streams<'a>(rt: &HostRuntime, words: &Words<'_>) -> Result<u8, Refusal<'a>> {
-    let Ok(mut input) = BufReader::new(rt.alloc(), rt.stdin()) else {
+    let Ok(input) = BufReader::new(rt.alloc(), rt.stdin()) else {
         return Err(Refusal::NoMemory);
     };
+    let mut input = LineLimit::new(input);
     let Ok(mut out) = BufWriter::new(rt.alloc(), rt.stdout()) else {
         return Err(Refusal::NoMemory);
     };

@@ -2,3 +2,4 @@ mod Refused
 mod Lines
 mod KeyLemmas
 mod DataLemmas
+mod WholeText

@@ -10,7 +10,7 @@ use Rattle.std.specs.Io.KnownBytes.{Appends}
 use Rattle.std.specs.List.{flat_map, list_any}
 use Rattle.std.specs.Prelude.{◌||◌}
 use Rattle.rpmb_commands.specs.Explaining.{IsCut, IsNext, Judging, Said, SaysAll, has_refused}
-use Rattle.rpmb_commands.specs.Explaining.{has_wrong, line_told, without_feed}
+use Rattle.rpmb_commands.specs.Explaining.{has_wrong, is_answer, line_told, without_feed}
 
 by_test : {P : Type 0} (b : Bool) → (b ≡ true → P) → (b ≡ false → P) → P
 by_test true f g = f refl
@@ -52,9 +52,11 @@ or_false : (b : Bool) → (b || false) ≡ b
 or_false true = refl
 or_false false = refl
 
-or_true : (b : Bool) → (b || true) ≡ true
-or_true true = refl
-or_true false = refl
+or_swapped : (a b : Bool) → (a || b) ≡ (b || a)
+or_swapped true true = refl
+or_swapped true false = refl
+or_swapped false true = refl
+or_swapped false false = refl
 
 pub list_any-push : (p : List ℕ → Bool) (lines : List (List ℕ)) (line : List ℕ)
     → list_any p (lines ++ line ∷ []) ≡ (list_any p lines || p line)
@@ -64,15 +66,15 @@ list_any-push p lines line = list_any-append p lines (line ∷ [])
 -- what was told of a text so far, of which this is left
 abbrev pub SoFar : Judging → (given left start now : Option (List ℕ)) → (wrong refused : ℕ) → Bool
     → Type 0
-SoFar by given left start now wrong refused has_line =
+SoFar by given left start now wrong refused has_answer =
     IfSome given (λ text. (rest : List ℕ) × (left ≡ Some rest)
-    × Said by text rest start now wrong refused has_line)
+    × Said by text rest start now wrong refused has_answer)
 
 pub said_none : (by : Judging) (given start : Option (List ℕ)) (wrong refused : ℕ)
-    (has_line : Bool) → wrong ≡ 0 → refused ≡ 0 → has_line ≡ false
-    → SoFar by given given start start wrong refused has_line
-said_none by None start wrong refused has_line w r l = tt
-said_none by (Some text) start wrong refused has_line w r l = (
+    (has_answer : Bool) → wrong ≡ 0 → refused ≡ 0 → has_answer ≡ false
+    → SoFar by given given start start wrong refused has_answer
+said_none by None start wrong refused has_answer w r l = tt
+said_none by (Some text) start wrong refused has_answer w r l = (
   text,
   refl,
   record {
@@ -81,21 +83,22 @@ said_none by (Some text) start wrong refused has_line w r l = (
     printed = Appends-nil start;
     wrong_is = rw w refl;
     refused_is = rw r refl;
-    line_is = l;
+    answer_is = l;
   },
 )
 
 pub said_more : (by : Judging) (given left after start now next : Option (List ℕ))
-    (wrong refused wrong' refused' : ℕ) (has_line has_line' : Bool) (line : List ℕ)
-    → SoFar by given left start now wrong refused has_line
+    (wrong refused wrong' refused' : ℕ) (has_answer has_answer' : Bool) (line : List ℕ)
+    → SoFar by given left start now wrong refused has_answer
     → IfSome left (λ text. IsNext text true line after)
     → Appends now next (line_told by (without_feed line))
     → nat_lt 0 wrong' ≡ (nat_lt 0 wrong || has_wrong by (without_feed line))
     → nat_lt 0 refused' ≡ (nat_lt 0 refused || has_refused (without_feed line))
-    → has_line' ≡ true → SoFar by given after start next wrong' refused' has_line'
-said_more by None left after start now next wrong refused wrong' refused' has_line has_line' line so
+    → has_answer' ≡ (is_answer (without_feed line) || has_answer)
+    → SoFar by given after start next wrong' refused' has_answer'
+said_more by None left after start now next wrong refused wrong' refused' has_answer has_answer' line so
     more told w r l = tt
-said_more by (Some text) left after start now next wrong refused wrong' refused' has_line has_line'
+said_more by (Some text) left after start now next wrong refused wrong' refused' has_answer has_answer'
     line so more told w r l =
     let rest = so.0 in
     let said = so.2 in
@@ -105,7 +108,8 @@ said_more by (Some text) left after start now next wrong refused wrong' refused'
     let w' = subst (λ l. nat_lt 0 wrong' ≡ (nat_lt 0 wrong || has_wrong by (without_feed l))) n.1 w
     in
     let r' = subst (λ l. nat_lt 0 refused' ≡ (nat_lt 0 refused || has_refused (without_feed l))) n.1
-    r in (
+    r in
+    let l' = subst (λ l. has_answer' ≡ (is_answer (without_feed l) || has_answer)) n.1 l in (
       drop_through 10 rest,
       n.2,
       record {
@@ -117,16 +121,17 @@ said_more by (Some text) left after start now next wrong refused wrong' refused'
             ∙ sym (list_any-push (has_wrong by) said.lines piece);
         refused_is = r' ∙ ap (λ b. b || has_refused piece) said.refused_is
             ∙ sym (list_any-push has_refused said.lines piece);
-        line_is = l ∙ sym (list_any-push (λ x. true) said.lines piece
-            ∙ or_true (list_any (λ x. true) said.lines));
+        answer_is = l' ∙ or_swapped (is_answer piece) has_answer
+            ∙ ap (λ b. b || is_answer piece) said.answer_is
+            ∙ sym (list_any-push is_answer said.lines piece);
       },
     )
 
 pub said_all : (by : Judging) (given left after start now : Option (List ℕ)) (wrong refused : ℕ)
-    (has_line : Bool) (line : List ℕ) → SoFar by given left start now wrong refused has_line
+    (has_answer : Bool) (line : List ℕ) → SoFar by given left start now wrong refused has_answer
     → IfSome left (λ text. IsNext text false line after)
-    → SaysAll by given start now wrong refused has_line
-said_all by None left after start now wrong refused has_line line so more = tt
-said_all by (Some text) left after start now wrong refused has_line line so more =
+    → SaysAll by given start now wrong refused has_answer
+said_all by None left after start now wrong refused has_answer line so more = tt
+said_all by (Some text) left after start now wrong refused has_answer line so more =
     let n = subst (λ l. IfSome l (λ t. IsNext t false line after)) so.1 more in
-    subst (λ rest. Said by text rest start now wrong refused has_line) n so.2
+    subst (λ rest. Said by text rest start now wrong refused has_answer) n so.2

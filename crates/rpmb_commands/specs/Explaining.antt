@@ -85,6 +85,14 @@ has_wrong by line = is_wrong_of by (used_of line) line
 abbrev pub has_refused : List ℕ → Bool
 has_refused line = is_refused_of (used_of line)
 
+-- whether it gives a reply
+abbrev pub is_answer_of : Option Used → Bool
+is_answer_of None = false
+is_answer_of (Some used) = true
+
+abbrev pub is_answer : List ℕ → Bool
+is_answer line = is_answer_of (used_of line)
+
 -- 2. All lines
 
 -- a line without its line feed
@@ -107,41 +115,46 @@ IsCut text (line ∷ lines) rest =
     × IsCut (drop_through 10 text) lines rest
 
 -- they were told, and so many of them are wrong, or say that a request was refused: none, or some;
--- and whether there is a line
+-- and whether one of them gives a reply
 pub record Said (by : Judging) (text rest : List ℕ) (start now : Option (List ℕ))
-    (wrong refused : ℕ) (has_line : Bool) : Type 0 where
+    (wrong refused : ℕ) (has_answer : Bool) : Type 0 where
   pub lines : List (List ℕ)
   pub cut : IsCut text lines rest
   pub printed : Appends start now (flat_map (line_told by) lines)
   pub wrong_is : nat_lt 0 wrong ≡ list_any (has_wrong by) lines
   pub refused_is : nat_lt 0 refused ≡ list_any has_refused lines
-  pub line_is : has_line ≡ list_any (λ line. true) lines
+  pub answer_is : has_answer ≡ list_any is_answer lines
 
 -- all lines of what is read, where that is known
 abbrev pub SaysAll : Judging → Option (List ℕ) → (start now : Option (List ℕ)) → (wrong refused : ℕ)
     → Bool → Type 0
-SaysAll by given start now wrong refused has_line =
-    IfSome given (λ text. Said by text [] start now wrong refused has_line)
+SaysAll by given start now wrong refused has_answer =
+    IfSome given (λ text. Said by text [] start now wrong refused has_answer)
 
 -- 3. How it ends
 
 -- any refusal but those that tell of answers
 abbrev pub IsOther : Refusal → Type 0
-IsOther refusal.NoLine = ⊥
+IsOther (refusal.NoReply lines) = ⊥
 IsOther (refusal.WrongAnswer replies wrong doubt) = ⊥
-IsOther (refusal.RefusedAnswer replies refused) = ⊥
+IsOther (refusal.RefusedAnswer replies refused results) = ⊥
 IsOther r = Unit {0}
 
--- that no line came is told first, and a wrong answer before a refused request
-abbrev pub told_lines : Counts → Result (Unit {0}) Refusal
-told_lines counts =
-    if nat_lt 0 counts.wrong
-    then Err (refusal.WrongAnswer counts.replies counts.wrong counts.doubt)
-    else (if nat_lt 0 counts.refused
-    then Err (refusal.RefusedAnswer counts.replies counts.refused) else Ok tt)
+-- a wrong line is told first, then that no reply came, and then a refused request
+abbrev pub told_right : Counts → Result (Unit {0}) Refusal
+told_right counts =
+    if nat_lt 0 counts.refused
+    then Err (refusal.RefusedAnswer counts.replies counts.refused counts.results) else Ok tt
+
+abbrev pub told_replies : Counts → Result (Unit {0}) Refusal
+told_replies counts =
+    if counts.has_answer then told_right counts else Err (refusal.NoReply counts.lines)
 
 abbrev pub told_counts : Result Counts Refusal → Result (Unit {0}) Refusal
-told_counts (Ok counts) = if counts.has_line then told_lines counts else Err refusal.NoLine
+told_counts (Ok counts) =
+    if nat_lt 0 counts.wrong
+    then Err (refusal.WrongAnswer counts.replies counts.wrong counts.doubt)
+    else told_replies counts
 told_counts (Err r) = Err r
 
 -- the nonce of the words, where there is one
@@ -159,7 +172,7 @@ pub record Explains (gives : List ℕ → List ℕ → Type 0) (words : Words) (
     (start now : Option (List ℕ)) (counts : Counts) : Type 0 where
   pub by : Judging
   pub by_is : IsJudging gives words by
-  pub told : SaysAll by given start now counts.wrong counts.refused counts.has_line
+  pub told : SaysAll by given start now counts.wrong counts.refused counts.has_answer
 
 -- It ends by what was found in them; with any other refusal nothing is said of what it printed.
 pub record ExplainDoes (gives : List ℕ → List ℕ → Type 0) (words : Words)

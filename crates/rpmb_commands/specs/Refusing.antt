@@ -27,6 +27,7 @@ IsOfWriting r = ⊥
 -- memory was refused, or standard input wasn't read
 abbrev pub IsOfReading : Refusal → Type 0
 IsOfReading (refusal.NoInput got) = Unit {0}
+IsOfReading (refusal.LongLine line) = Unit {0}
 IsOfReading refusal.NoMemory = Unit {0}
 IsOfReading r = ⊥
 
@@ -41,6 +42,6 @@ told_as (Err f) = Err (refusal_of_fault f)
 
 -- the status of a command that is refused: 3 where only requests were, and all answers are right
 abbrev pub refusal_status : Refusal → ℕ
-refusal_status (refusal.RefusedAnswer replies refused) = 3
+refusal_status (refusal.RefusedAnswer replies refused results) = 3
 refusal_status (refusal.Refused result) = 3
 refusal_status r = 1

@@ -1,5 +1,6 @@
 //! What helps where words are refused: a line behind the refusal's own. No contract speaks of it.
 
+use crate::counts::result_bit;
 use crate::refusal::Refusal;
 use crate::source::{BLOCKS_FILE, BOARD_FILE, IS_FOLDER, KEY_FILE, NO_PERMISSION, NOT_THERE};
 use crate::words::Words;
@@ -41,10 +42,51 @@ const NO_ROOM: &str = "no partition has so many; give a part of it";
 /// What is said where a key named for a guest can't be one that is asked for.
 const NO_GUEST_KEY: &str = "name the key alone; explain alone takes G=KEY";
 
-/// What the results say that requests are refused with.
-const RESULTS: &str = "AUTH_FAILURE: the request had another --key; COUNT_FAILURE: another \
-    --counter than read-counter tells; ADDR_FAILURE: its blocks end behind the guest's last; \
-    NO_AUTH_KEY, or MAC none: its guest has no key yet; WRITE_FAILURE: it has one";
+/// What a result says that a request is refused with.
+static RESULTS: [(u16, &str, &str); 7] = [
+    (
+        0x0001,
+        "GENERAL_FAILURE",
+        "the request is no whole frames of 512 bytes, of a type that there is, that belong \
+         together; or has no block, or more than the board's max_wr_cnt or max_rd_cnt, or than \
+         the room for its answer; or asks for a result, and there was no request before",
+    ),
+    (0x0002, "AUTH_FAILURE", "the request had another --key"),
+    (
+        0x0003,
+        "COUNT_FAILURE",
+        "the request had another --counter than read-counter tells",
+    ),
+    (
+        0x0004,
+        "ADDR_FAILURE",
+        "the request's blocks end behind the guest's last",
+    ),
+    (
+        0x0005,
+        "WRITE_FAILURE",
+        "the guest has a key already, or the host's disk failed",
+    ),
+    (
+        0x0007,
+        "NO_AUTH_KEY",
+        "the guest has no key yet; program-key gives it one",
+    ),
+    (
+        0x0080,
+        "WRITE_COUNTER_EXPIRED",
+        "the guest's counter is at its end, and it writes no more",
+    ),
+];
+
+/// What is said where the name of a file is missing.
+const NO_FILE_NAME: &str = "the name of a file is missing";
+
+const NO_KEY_NAME: &str = "the name of a file is missing behind @ or @raw:";
+
+/// What is said of lines that are none of a run.
+const NO_RUN: &str = "what `rpmbd run` or `rpmbd serve` prints is read here; no line of that is so \
+    long";
 
 /// What is said where standard input gives no lines.
 const NO_PIPE: &str = "give it what `rpmbd run` prints, by a pipe or from a file";
@@ -132,6 +174,20 @@ fn help_with_name(words: &Words<'_>, name: &str) -> &'static str {
     NO_NAME
 }
 
+/// What helps where a file has no name.
+fn advice_on_no_name(words: &Words<'_>) -> (&'static str, &'static str) {
+    if is_word(words.file, "") {
+        return ("--file", NO_FILE_NAME);
+    }
+    if is_word(words.board, "") {
+        return ("BOARD", NO_FILE_NAME);
+    }
+    if words.keys.is_empty() {
+        return ("SCRIPT", NO_FILE_NAME);
+    }
+    ("--key", NO_KEY_NAME)
+}
+
 /// What helps where a file isn't read.
 fn help_with_file(words: &Words<'_>, name: &str, why: &str) -> &'static str {
     match why {
@@ -139,6 +195,15 @@ fn help_with_file(words: &Words<'_>, name: &str, why: &str) -> &'static str {
         IS_FOLDER => "name a file in it",
         NO_PERMISSION => "its owner may let you: chmod, or give you a copy",
         _ => "name another file, or mend this one",
+    }
+}
+
+/// What is said of a file that isn't read, and what helps.
+fn advice_on_file<'a>(words: &Words<'a>, name: &'a str, why: &str) -> (&'a str, &'static str) {
+    if name.is_empty() {
+        advice_on_no_name(words)
+    } else {
+        (name, help_with_file(words, name, why))
     }
 }
 
@@ -183,7 +248,8 @@ fn help_with_result(code: &str) -> (&'static str, &'static str) {
 /// What helps where an answer isn't the one that was asked for.
 fn advice_on_answer(refusal: &Refusal<'_>) -> Option<(&'static str, &'static str)> {
     match refusal {
-        Refusal::NoLine | Refusal::NoAnswer(0, _) => Some((INPUT, NO_LINES)),
+        Refusal::NoReply(_) | Refusal::NoAnswer(0, _) => Some((INPUT, NO_LINES)),
+        Refusal::LongLine(_) => Some((INPUT, NO_RUN)),
         Refusal::NoInput(_) => Some((INPUT, NO_PIPE)),
         Refusal::NoAnswer(_, 0) => Some(("--nonce", "none of them answers the read of this nonce")),
         Refusal::NoAnswer(_, _) => Some(("--nonce", "each question wants a nonce of its own")),
@@ -228,7 +294,7 @@ pub(crate) fn advice_of<'a>(
 ) -> Option<(&'a str, &'static str)> {
     match refusal {
         Refusal::Option(told) => advice_on_option(words, *told),
-        Refusal::NoFile(name, why) => Some((*name, help_with_file(words, name, why))),
+        Refusal::NoFile(name, why) => Some(advice_on_file(words, *name, why)),
         Refusal::TooLong(name, most) => Some((*name, help_with_length(*most))),
         Refusal::NoText(name) if is_word(words.board, *name) => Some((*name, NO_BOARD)),
         Refusal::NoText(name) => Some((*name, "save it as text in UTF-8")),
@@ -245,10 +311,22 @@ pub(crate) fn advice_of<'a>(
         Refusal::NoRoom if words.operation.is_some() => Some((words.board.unwrap_or(""), DONE)),
         Refusal::NoRoom => Some(("standard output", CUT)),
         // Of an operation on a board's image more is known, and told behind.
-        Refusal::Refused(_) | Refusal::RefusedAnswer(_, _) if words.operation.is_some() => None,
+        Refusal::Refused(_) if words.operation.is_some() => None,
         Refusal::Refused(code) => Some(help_with_result(code)),
-        Refusal::RefusedAnswer(_, _) => Some(("the lines above", RESULTS)),
         _ => advice_on_answer(refusal),
+    }
+}
+
+/// Writes a line for each of the results that requests were refused with. Of an operation on a
+/// board's image more is known, and told behind.
+pub(crate) fn tell_results<E: Write>(words: &Words<'_>, results: u64, err: &mut E) {
+    if words.operation.is_some() {
+        return;
+    }
+    for (code, name, helps) in RESULTS.iter() {
+        if results & result_bit(*code) != 0 {
+            let _ = writeln!(err, "{name}: {helps}");
+        }
     }
 }
 

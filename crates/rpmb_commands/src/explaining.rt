@@ -6,14 +6,14 @@ ghost use Rattle.rpmb_client.specs.Seen.{used_seen};
 ghost use Rattle.rpmb_commands.specs.Explaining.{AsksNonce, ExplainDoes, Explains, IsJudging};
 ghost use Rattle.rpmb_commands.specs.Explaining.{IsNext, IsOther, SaysAll, ends_in_return};
 ghost use Rattle.rpmb_commands.specs.Explaining.{has_refused, has_script_bytes, has_wrong};
-ghost use Rattle.rpmb_commands.specs.Explaining.{is_no_answer};
+ghost use Rattle.rpmb_commands.specs.Explaining.{is_answer, is_no_answer};
 ghost use Rattle.rpmb_commands.specs.Explaining.{is_of_script, is_refused_of, is_torn, is_wrong_of};
 ghost use Rattle.rpmb_commands.specs.Explaining.{judging_of, line_told, mark_of, told_counts};
 ghost use Rattle.rpmb_commands.specs.Explaining.{told_of, torn_mark};
 ghost use Rattle.rpmb_commands.specs.Explaining.{without_feed};
 ghost use Rattle.rpmb_commands.specs.Refusing.{IsOfReading};
 
-use crate::counts::{Counts, seen, unused_key};
+use crate::counts::{Counts, unused_key};
 use crate::doubts::{doubt_of, doubt_of_line};
 use crate::keys::keys_of;
 use crate::refusal::Refusal;
@@ -46,7 +46,7 @@ fn explain_used<'a, W: Write>(
         || is_wrong_of (judging_of judge.now) (Some (used_seen used.now)) [])) }
     ensures refused { OnOk result (nat_lt 0 counts.new.refused ≡ (nat_lt 0 counts.old.refused
         || is_refused_of (Some (used_seen used.now)))) }
-    ensures line { OnOk result (counts.new.has_line ≡ true) }
+    ensures answer { OnOk result (counts.new.has_answer ≡ true) }
     ensures other { IfErr result IsOther }
 {
     let key = judge.keys.key_of(used.guest);
@@ -54,7 +54,7 @@ fn explain_used<'a, W: Write>(
         Ok(()) => {
             let why = doubt_of(used, judge.nonce);
             let is_wrong = is_wrong(used, key, judge.nonce);
-            counts.add(seen(used), is_wrong, is_refused(used), why);
+            counts.add(used, is_wrong, is_refused(used), why);
             Ok(())
         }
         Err(fault) => Err(Refusal::of(fault)),
@@ -126,7 +126,7 @@ fn pass_on<'a, W: Write>(line: &str, counts: &mut Counts, out: &mut W) -> Result
     ensures wrong { OnOk result (nat_lt 0 counts.new.wrong ≡ (nat_lt 0 counts.old.wrong
         || is_no_answer line.now)) }
     ensures refused { OnOk result (counts.new.refused ≡ counts.old.refused) }
-    ensures line { OnOk result (counts.new.has_line ≡ true) }
+    ensures answer { OnOk result (counts.new.has_answer ≡ counts.old.has_answer) }
     ensures other { IfErr result IsOther }
 {
     let mark = mark_of(line);
@@ -154,7 +154,8 @@ fn explain_line<'a, W: Write>(
         || has_wrong (judging_of judge.now) line.now)) }
     ensures refused { OnOk result (nat_lt 0 counts.new.refused ≡ (nat_lt 0 counts.old.refused
         || has_refused line.now)) }
-    ensures line { OnOk result (counts.new.has_line ≡ true) }
+    ensures answer { OnOk result (counts.new.has_answer
+        ≡ (is_answer line.now || counts.old.has_answer)) }
     ensures other { IfErr result IsOther }
 {
     match read_used(alloc, line) {
@@ -179,18 +180,24 @@ fn why_no_lines(error: &io::Error) -> &'static str {
     }
 }
 
-pub(crate) fn input_fault<'a>(error: &io::Error) -> Refusal<'a>
+/// Why the line of this number isn't read.
+pub(crate) fn input_fault<'a>(error: &io::Error, number: u64) -> Refusal<'a>
     ensures reading { IsOfReading result }
     ensures other { IsOther result }
 {
     match error.kind() {
         io::ErrorKind::OutOfMemory => Refusal::NoMemory,
+        io::ErrorKind::FileTooLarge => Refusal::LongLine(number),
         _ => Refusal::NoInput(why_no_lines(error)),
     }
 }
 
-/// Reads the next line with its end, and says whether there is one.
-fn next_line<'a, B: BufRead>(input: &mut B, line: &mut String) -> Result<bool, Refusal<'a>>
+/// Reads the next line, of this number, with its end, and says whether there is one.
+fn next_line<'a, B: BufRead>(
+    input: &mut B,
+    number: u64,
+    line: &mut String,
+) -> Result<bool, Refusal<'a>>
     ensures next { IfOk result (λ some. IfSome (B.remaining input.old)
         (λ text. IsNext text some (string_bytes line.new) (B.remaining input.new))) }
     ensures other { IfErr result IsOther }
@@ -198,7 +205,7 @@ fn next_line<'a, B: BufRead>(input: &mut B, line: &mut String) -> Result<bool, R
     line.clear();
     match input.read_line(line) {
         Ok(count) => Ok(count > 0),
-        Err(error) => Err(input_fault(&error)),
+        Err(error) => Err(input_fault(&error, number)),
     }
 }
 
@@ -235,7 +242,8 @@ fn explain_now<'a, W: Write>(
         || has_wrong (judging_of judge.now) (without_feed line.now))) }
     ensures refused { OnOk result (nat_lt 0 counts.new.refused ≡ (nat_lt 0 counts.old.refused
         || has_refused (without_feed line.now))) }
-    ensures line { OnOk result (counts.new.has_line ≡ true) }
+    ensures answer { OnOk result (counts.new.has_answer
+        ≡ (is_answer (without_feed line.now) || counts.old.has_answer)) }
     ensures other { IfErr result IsOther }
 {
     explain_line(alloc, without_end(line), judge, counts, out)?;
@@ -252,12 +260,12 @@ fn tell_each<'a, B: BufRead, W: Write>(
 ) -> Result<Counts, Refusal<'a>>
     ensures told { IfOk result (λ counts. SaysAll (judging_of judge.now) (B.remaining input.old)
         (W.contents out.old) (W.contents out.new) counts.wrong counts.refused
-        counts.has_line) }
+        counts.has_answer) }
     ensures other { IfErr result IsOther }
 {
     let mut counts = Counts::none();
     for _ in 0..u64::MAX {
-        if !next_line(input, line)? {
+        if !next_line(input, counts.lines.saturating_add(1), line)? {
             return Ok(counts);
         }
         explain_now(alloc, line.as_str(), judge, &mut counts, out)?;
@@ -274,7 +282,7 @@ fn tell_lines<'a, B: BufRead, W: Write>(
 ) -> Result<Counts, Refusal<'a>>
     ensures told { IfOk result (λ counts. SaysAll (judging_of judge.now) (B.remaining input.old)
         (W.contents out.old) (W.contents out.new) counts.wrong counts.refused
-        counts.has_line) }
+        counts.has_answer) }
     ensures other { IfErr result IsOther }
 {
     let mut line = String::new(alloc);
@@ -305,18 +313,18 @@ fn judge_of<'a, S: Source>(
     Ok(Judge { keys, nonce })
 }
 
-/// Refused where no line came at all, where a reply is torn or wrong, and else where one says that
-/// a request was refused.
+/// Refused where a line is torn or wrong, else where no reply came at all, and else where one says
+/// that a request was refused.
 fn told<'a>(counts: Result<Counts, Refusal<'a>>) -> Result<(), Refusal<'a>>
     ensures { result ≡ told_counts counts.entry }
 {
     match counts {
-        Ok(counts) if !counts.has_line => Err(Refusal::NoLine),
         Ok(counts) if counts.wrong > 0 => {
             Err(Refusal::WrongAnswer(counts.replies, counts.wrong, counts.doubt))
         }
+        Ok(counts) if !counts.has_answer => Err(Refusal::NoReply(counts.lines)),
         Ok(counts) if counts.refused > 0 => {
-            Err(Refusal::RefusedAnswer(counts.replies, counts.refused))
+            Err(Refusal::RefusedAnswer(counts.replies, counts.refused, counts.results))
         }
         Ok(_) => Ok(()),
         Err(refusal) => Err(refusal),
@@ -343,7 +351,7 @@ fn tell_all<'a, S: Source, B: BufRead, W: Write>(
 }
 
 /// Says of each `used` line what its reply is, and writes each other line as it is. Refused at the
-/// end where no line came, one was torn or of a script, a MAC or a nonce was wrong, the key of a
+/// end where one was torn or of a script, a MAC or a nonce was wrong, no reply came, the key of a
 /// guest judged nothing while another has none, or a request was refused.
 pub fn tell<'a, S: Source, B: BufRead, W: Write>(
     alloc: Global,

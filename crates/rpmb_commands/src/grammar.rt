@@ -45,7 +45,7 @@ const GUEST: OptionRow = OptionRow {
     form: Form::Value,
     value: "G",
     is_needed: true,
-    help: "The number of the guest",
+    help: "The number of the guest, from 0, in the order of the board file",
 };
 
 const KEY: OptionRow = OptionRow {
@@ -263,9 +263,12 @@ static OPERATIONS: [CommandRow; 4] = [
     },
 ];
 
-/// An option with a name before its value.
+/// An option with a name before its value. A negative number is a value, which is refused by its
+/// range.
 fn named<'a>(arg: Arg<'a>, row: &OptionRow) -> Arg<'a> {
-    arg.long(row.id).value_name(row.value)
+    arg.long(row.id)
+        .value_name(row.value)
+        .allow_negative_numbers(true)
 }
 
 fn option_of<'a>(alloc: Global, row: &OptionRow) -> Arg<'a> {

@@ -72,8 +72,9 @@ reply: its type, result and fields, whether the nonce is right (with --nonce) an
 the MAC is (with --key), and a block in hex digits, and as text where it is one. Any other\n\
 line is printed as it is; one that begins with `used` was torn, and (torn: ..) stands\n\
 behind it, and (of a script: ..) behind one of a script. Each is printed as it comes.\n\
+A reply of 0 bytes had no room: WRITABLE of its chain has to be 512 or a multiple.\n\
 \n\
-Status: 0; 1 where no line came, one was torn or of a script, a MAC or a nonce was wrong,\n\
+Status: 0; 1 where no reply came, a line was torn or of a script, a MAC or a nonce was wrong,\n\
 only other guests than that of a key answered or a value is refused, 2 for words that aren't\n\
 understood, and 3 where an answer has another result than OK and none was wrong. With 1 and\n\
 3 a line on standard error says why.";
@@ -132,6 +133,10 @@ are right: at most N blocks a request (16, where --max-blocks isn't given). The 
 from just one of --data and --file. They are whole blocks, unless --pad is given. Past the\n\
 last block of the guest nothing is written. Prints what explain says of each answer to a\n\
 write, or of the answer with the counter, where it isn't used.\n\
+\n\
+It prints at its end. Where it was stopped before, the first blocks may be written, in\n\
+their order, and the last not: read-counter says how many more requests were accepted, each\n\
+of N blocks. Go on behind those, by --address and the rest of the file.\n\
 \n\
 Status: 0 where all is written; 1 where a value is refused, a MAC or a nonce was wrong,\n\
 or the board or its image came to a fault; 2 for words that aren't understood; 3 where the\n\

@@ -11,6 +11,7 @@ mod explaining;
 mod grammar;
 mod help;
 mod keys;
+mod line_limit;
 mod making;
 mod performing;
 mod read_data;
@@ -22,6 +23,7 @@ mod words;
 mod writing;
 
 pub use keys::check_own_key;
+pub use line_limit::LineLimit;
 pub use performing::{perform, report, report_with_advice};
 pub use reading::key;
 pub use refusal::Refusal;

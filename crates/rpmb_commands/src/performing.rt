@@ -3,7 +3,7 @@ ghost use Rattle.std.specs.Prelude.{◌≡◌};
 ghost use Rattle.rpmb_commands.specs.Performing.{Does, Performs, after_flush, asked_of, status_of};
 ghost use Rattle.rpmb_commands.specs.Refusing.{refusal_status};
 
-use crate::advice::{advice_of, tell_advice};
+use crate::advice::{advice_of, tell_advice, tell_results};
 use crate::asked::{Asked, asked_of};
 use crate::checking::check;
 use crate::explaining::tell;
@@ -56,8 +56,10 @@ pub fn report_with_advice<'a, E: Write>(words: &Words<'a>, refusal: Refusal<'a>,
     ensures { result ≡ refusal_status refusal.entry }
 {
     let advice = advice_of(words, &refusal);
+    let results = refusal.results();
     let status = report(refusal, err);
     tell_advice(advice, err);
+    tell_results(words, results, err);
     status
 }
 

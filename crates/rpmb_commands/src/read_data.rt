@@ -1,13 +1,13 @@
 //! The command that writes the blocks of a read.
-ghost use Rattle.std.specs.Prelude.{◌≡◌, IfErr, IfOk, IfSome, OnOk, Some};
+ghost use Rattle.std.specs.Prelude.{◌≡◌, ◌++◌, IfErr, IfOk, IfSome, OnOk, Some, string_bytes};
 ghost use Rattle.std.specs.Io.KnownBytes.{Appends};
 ghost use Rattle.rpmb_client.specs.Answer.{answer_in, blocks, read_of};
 ghost use Rattle.rpmb_client.specs.Seen.{read_seen, used_seen};
 ghost use Rattle.rpmb_commands.specs.ReadingData.{AreFirst, GivesData, GivesFirst, IsAnswered};
-ghost use Rattle.rpmb_commands.specs.ReadingData.{IsTold, WhyNoAnswer, WhyNoBlocks, WhyNoData};
+ghost use Rattle.rpmb_commands.specs.ReadingData.{IsMore, IsTold, WhyNoAnswer, WhyNoBlocks, WhyNoData};
 ghost use Rattle.rpmb_commands.specs.ReadingData.{WhyNotFirst, WhyNotGiven, WhyNotRead};
 ghost use Rattle.rpmb_commands.specs.ReadingData.{WhyNotSoMany, no_right_mac};
-ghost use Rattle.rpmb_commands.specs.Refusing.{KeepsUnless};
+ghost use Rattle.rpmb_commands.specs.Refusing.{IsOfReading, KeepsUnless};
 
 use crate::explaining::input_fault;
 use crate::reading::key;
@@ -21,6 +21,43 @@ use rpmb_client::{
 use std::alloc::Global;
 use std::io::{BufRead, Write};
 
+/// The most bytes of all lines together: 64 MiB.
+const LINES_BYTES: usize = 67_108_864;
+
+/// Reads a line more, of this number, and says whether there is one.
+fn read_more<'a, B: BufRead>(
+    input: &mut B,
+    number: u64,
+    lines: &mut String,
+) -> Result<bool, Refusal<'a>>
+    ensures more { IfOk result (λ some. IfSome (B.remaining input.old) (λ text.
+        IsMore text some (string_bytes lines.old) (string_bytes lines.new)
+        (B.remaining input.new))) }
+    ensures reading { IfErr result IsOfReading }
+{
+    match input.read_line(lines) {
+        Ok(count) => Ok(count > 0),
+        Err(error) => Err(input_fault(&error, number)),
+    }
+}
+
+/// Reads all lines, behind those that are there.
+fn read_lines<'a, B: BufRead>(input: &mut B, lines: &mut String) -> Result<(), Refusal<'a>>
+    ensures lines { OnOk result (IfSome (B.remaining input.old)
+        (λ text. string_bytes lines.new ≡ string_bytes lines.old ++ text)) }
+    ensures reading { IfErr result IsOfReading }
+{
+    for number in 0..u64::MAX {
+        if !read_more(input, number + 1, lines)? {
+            return Ok(());
+        }
+        if lines.len() > LINES_BYTES {
+            break;
+        }
+    }
+    Err(Refusal::NoInput("more than 67108864 bytes of them"))
+}
+
 /// The answer among the lines: the only reply, or else the only one with the nonce.
 fn answer_of<'a, B: BufRead>(
     alloc: Global,
@@ -33,9 +70,9 @@ fn answer_of<'a, B: BufRead>(
         (λ text. WhyNoAnswer nonce.now text refused)) }
 {
     let mut lines = String::new(alloc);
-    match input.read_to_string(&mut lines) {
-        Ok(_) => {}
-        Err(error) => return Err(input_fault(&error)),
+    match read_lines(input, &mut lines) {
+        Ok(()) => {}
+        Err(refusal) => return Err(refusal),
     }
     match find_answer(alloc, nonce, lines.as_str()) {
         Ok(Choice::Answer(used)) => Ok(used),

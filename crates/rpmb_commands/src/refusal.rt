@@ -53,6 +53,10 @@ pub enum Refusal<'a> {
     /// What standard input gives in place of lines.
     #[error("FileFault: expected lines in UTF-8 on standard input, got {0}")]
     NoInput(&'static str),
+    /// The line of this number on standard input has more bytes than any that is wanted there.
+    #[error("FileFault: expected the lines that `rpmbd run` or `rpmbd serve` prints on standard \
+        input, got more than 32768 bytes in line {0}")]
+    LongLine(u64),
     #[error("FileFault: expected room on standard output")]
     NoRoom,
     #[error("NoMemory")]
@@ -80,17 +84,19 @@ pub enum Refusal<'a> {
     NoCounter,
     #[error("TooShort: expected blocks of at least {0} bytes, got {1}")]
     TooShort(u64, usize),
-    /// Nothing was explained, since no line came.
-    #[error("NoAnswer: expected the lines that `rpmbd run` prints on standard input, got none")]
-    NoLine,
+    /// No reply was explained, since none came among so many lines.
+    #[error("NoAnswer: expected the lines `used G LEN HEX` that `rpmbd run` prints on standard \
+        input, got none in {0} lines")]
+    NoReply(u64),
     /// A MAC or a nonce of an answer is wrong, or a line is none of an answer; and what is wrong
     /// with the first, which is told behind.
     #[error("WrongAnswer: expected a right MAC and nonce in each of {0} replies, \
         got {1} torn or with a wrong one, first in line {line}", line = .2.line)]
     WrongAnswer(u64, u64, Doubt),
-    /// The answers are right, and say of some requests that they were refused.
+    /// The answers are right, and say of some requests that they were refused; with a bit for each
+    /// of the results that they have, which are told behind.
     #[error("Refused: expected the result OK in each of {0} replies, got {1} with another")]
-    RefusedAnswer(u64, u64),
+    RefusedAnswer(u64, u64, u64),
     #[error("BadBoard: the board file {0:?}: {1}")]
     BadBoard(&'a str, String),
     #[error("BadScript: the script {0:?}: {1}")]
@@ -103,9 +109,17 @@ impl<'a> Refusal<'a> {
         ensures { result ≡ refusal_status self.now }
     {
         match self {
-            Refusal::RefusedAnswer(_, _) => 3,
+            Refusal::RefusedAnswer(_, _, _) => 3,
             Refusal::Refused(_) => 3,
             _ => 1,
+        }
+    }
+
+    /// A bit for each of the results that requests were refused with.
+    pub(crate) fn results(&self) -> u64 {
+        match self {
+            Refusal::RefusedAnswer(_, _, results) => *results,
+            _ => 0,
         }
     }
 

@@ -81,12 +81,19 @@ pub(crate) fn served_store(alloc: Global) -> LineError {
     ))
 }
 
-/// How a line of a command that a script may say is written.
-fn form_of(command: &str) -> Option<&'static str> {
+/// How a line of a command that a script may say is written, and what its words are.
+fn form_of(command: &str) -> Option<(&'static str, &'static str)> {
     match command {
-        "chain" => Some("chain GUEST READABLE WRITABLE"),
-        "store" => Some("store GUEST ADDRESS BYTES"),
-        "reset" => Some("reset GUEST"),
+        "chain" => Some((
+            "chain GUEST READABLE WRITABLE",
+            "READABLE is the bytes of the request in hex digits, or -, and WRITABLE how many bytes \
+             its answer may have",
+        )),
+        "store" => Some((
+            "store GUEST ADDRESS BYTES",
+            "ADDRESS is that of the first byte in the guest's memory, and BYTES are hex digits",
+        )),
+        "reset" => Some(("reset GUEST", "GUEST is its number, from 0")),
         _ => None,
     }
 }
@@ -108,12 +115,16 @@ fn no_command(alloc: Global, command: &str) -> LineError {
 
 /// The first word is no command, or none that so many words stand behind.
 pub(crate) fn misshapen(alloc: Global, command: &str, given: usize) -> LineError {
-    let Some(form) = form_of(command) else {
+    let Some((form, meaning)) = form_of(command) else {
         return no_command(alloc, command);
     };
     let count = given.saturating_add(1);
-    let more = if given > 3 { " or more" } else { "" };
-    LineError::of(format!(in alloc; "expected the words `{form}`, got {count}{more}"))
+    let words = match given {
+        0 => "word",
+        1..=3 => "words",
+        _ => "or more words",
+    };
+    LineError::of(format!(in alloc; "expected the words `{form}`, got {count} {words}: {meaning}"))
 }
 
 /// No line has so many words.
@@ -130,7 +141,10 @@ fn flaw_of_bytes(line: &str) -> Option<&'static str> {
         return Some("it begins with a byte order mark, expected the line's first word");
     }
     if line.ends_with('\r') {
-        return Some("it ends with a carriage return, expected a line feed alone");
+        return Some(
+            "it ends with a carriage return, expected a line feed alone; tr -d '\\r' takes those \
+             away",
+        );
     }
     if line.contains('\t') {
         return Some("it has a tab, expected one space between words");

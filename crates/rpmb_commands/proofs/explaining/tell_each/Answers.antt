@@ -5,7 +5,7 @@ use Rattle.rpmb_commands.proofs.explaining.tell_each.Goals as goal
 
 pub loop-init : goal.loop-init
 loop-init g c =
-    let none = c.none-counts.ensures in said_none _ _ _ _ _ _ none.wrong none.refused none.line
+    let none = c.none-counts.ensures in said_none _ _ _ _ _ _ none.wrong none.refused none.answer
 
 pub loop-preserved : goal.loop-preserved
 loop-preserved g c =
@@ -19,7 +19,7 @@ loop-preserved g c =
     said_more (judging_of c.args.judge.now) (g.B.Read.remaining c.args.input.now) left after
     (g.W.Write.contents c.args.out.now) (g.W.Write.contents c.loop.out)
     (g.W.Write.contents c.explain_now.new.out) _ _ _ _ _ _ c.as_str.result.now c.loop.invariant text
-    e.told e.wrong e.refused e.line
+    e.told e.wrong e.refused e.answer
 
 pub returns-then-not-branch-clause-told : goal.returns-then-not-branch-clause-told
 returns-then-not-branch-clause-told g c =
