@@ -1,7 +1,9 @@
 -- One move of a serve after another.
 use Rattle.std.proofs.Common.{◌≡◌, ◌⊎◌, inl, inr, refl, ap, sym, subst, ◌∙◌, ℕ, Bool, true, false}
 use Rattle.std.proofs.Common.{List, [], Option, Some, None, Ok, Err, length}
-use Rattle.std.specs.Prelude.{nat_lt}
+use Rattle.std.proofs.Common.{IfSome, arith}
+use Rattle.std.specs.Prelude.{nat_le, nat_lt}
+use Rattle.board.proofs.Common.{nat_tests}
 use Rattle.guest_memory.specs.declared.ask.Ask.{Ask}
 use Rattle.flusher.specs.Store.{next_call}
 use Rattle.chains.specs.Needs.{OfArea}
@@ -10,8 +12,8 @@ use Rattle.mmio_transport.specs.Queue.{QueueState}
 use Rattle.board.specs.Asking.{ForPop}
 use Rattle.board.specs.State.{HasNoJob, waiting}
 use Rattle.machine.proofs.Common.{slice_get, AskingState, Boards, MachineFault, Range, Runs}
-use Rattle.machine.specs.Ending.{AsksIn, FindsNone, HasReason, NeedsNext, RestsAt, Went, is_write}
-use Rattle.machine.specs.Ending.{left_by}
+use Rattle.machine.specs.Ending.{AsksIn, FindsNone, HasReason, HasSeenAll, NeedsNext, RestsAt}
+use Rattle.machine.specs.Ending.{SawAll, Went, is_write, left_by}
 use Rattle.machine.specs.Serving.{HasNoReply, SameDevices}
 use Rattle.machine.specs.Turn.{TurnState, stand_of}
 use Rattle.machine.specs.declared.serving.Next.{Next}
@@ -21,6 +23,9 @@ use Rattle.machine.specs.declared.taking.Taken.TheVariants as taken
 use Rattle.machine.proofs.Runs.{runs_twice}
 
 -- 1. Whether the driver is to be notified
+
+all_of : (n : ℕ) → nat_le n n ≡ true
+all_of n = grind (arith, nat_tests)
 
 module _ (a a' : AskingState) where
   err_where : (b : Bool) (q : QueueState) (ask : Ask) → NotifiesWhere b q a (Err ask) a'
@@ -48,6 +53,26 @@ module _ (a a' : AskingState) where
 
   pub not_notified : Notifies a (Ok false) a' → a'.device ≡ a.device
   not_notified does = not_of a.device.queue does
+
+  seen_where : (b : Bool) (q : QueueState) → a.device.queue ≡ Some q
+      → nat_le q.ring.used a.told ≡ b → NotifiesWhere b q a (Ok false) a' → SawAll a'
+  seen_where true q its le does =
+      subst SawAll (sym does.1)
+      (subst (λ o. IfSome o (λ k. nat_le k.ring.used a.told ≡ true)) (sym its) le)
+  seen_where false q its le does =
+      subst SawAll (sym does.after)
+      (subst (λ o. IfSome o (λ k. nat_le k.ring.used q.ring.used ≡ true)) (sym its)
+      (all_of q.ring.used))
+
+  seen_of : (o : Option QueueState) → a.device.queue ≡ o → NotifiesOf o a (Ok false) a'
+      → SawAll a'
+  seen_of None its does =
+      subst SawAll (sym does.1)
+      (subst (λ o. IfSome o (λ k. nat_le k.ring.used a.told ≡ true)) (sym its) tt)
+  seen_of (Some q) its does = seen_where (nat_le q.ring.used a.told) q its refl does
+
+  pub saw_all : Notifies a (Ok false) a' → SawAll a'
+  saw_all does = seen_of a.device.queue refl does
 
 -- 2. Moves
 
@@ -87,20 +112,22 @@ module _ (guest most : ℕ) where
       → is_write (next_call a.rest.store.broken a.rest.store.guests) ≡ false
       → (t ≡ taken.Nothing → FindsNone guest a)
       → ((t ≡ taken.Nothing) ⊎ (t ≡ taken.Limit) → HasNoJob guest a.rest)
-      → HasNoReply guest a.rest → RestsAt guest most b
-  rests_by a b t rest same (inl nothing) writes found jobs replies =
+      → HasNoReply guest a.rest → HasSeenAll guest b → RestsAt guest most b
+  rests_by a b t rest same (inl nothing) writes found jobs replies seen =
       subst (λ r. RestsAt guest most (record b { rest = r })) (sym rest) (record {
         jobs = jobs (inl nothing);
         taken = inl (let f = finds_same a b same (found nothing) in
             record { device = f.device; its = f.its; before = f.before; none = f.none });
         replies = replies;
+        seen = seen;
         writes = writes;
       })
-  rests_by a b t rest same (inr full) writes found jobs replies =
+  rests_by a b t rest same (inr full) writes found jobs replies seen =
       subst (λ r. RestsAt guest most (record b { rest = r })) (sym rest) (record {
         jobs = jobs (inr full.0);
         taken = inr full.1;
         replies = replies;
+        seen = seen;
         writes = writes;
       })
 

@@ -206,6 +206,6 @@ module _ (guest : ℕ) where
       stays_twice outbox_state OutboxMakes guest (board_of x) (board_of y) (board_of z)
       (others_stay q (standing r true) x y runs)
       (device_stays y z notified.device' notified.after)
-  others_stay s t a b (Voids q r g x y z runs knows) =
+  others_stay s t a b (Voids q r g x y z runs refuses) =
       stays_twice outbox_state OutboxMakes guest (board_of x) (board_of y) (board_of z)
-      (others_stay q (standing r g) x y runs) (known_stays g g y z knows)
+      (others_stay q (standing r g) x y runs) (device_stays y z _ refuses.after)

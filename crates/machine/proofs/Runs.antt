@@ -23,8 +23,8 @@ module _ (guest : ℕ) where
       GivesUp s r g a y (runs_twice s q (standing r g) a x y p runs)
   runs_twice s t u a b c p (Calls q r x y z runs notified) =
       Calls s r a y z (runs_twice s q (standing r true) a x y p runs) notified
-  runs_twice s t u a b c p (Voids q r g x y z runs knows) =
-      Voids s r g a y z (runs_twice s q (standing r g) a x y p runs) knows
+  runs_twice s t u a b c p (Voids q r g x y z runs refuses) =
+      Voids s r g a y z (runs_twice s q (standing r g) a x y p runs) refuses
 
   -- a step that no device makes
   pub runs_step : (s : Stand) (a b : Boards) (x : Step) (answer : Answer) → IsShare guest x
@@ -78,6 +78,6 @@ module _ (guest : ℕ) where
       moves_twice outbox_state OutboxMakes (board_of x) (board_of y) (board_of z)
       (runs_moves q (standing r true) x y runs)
       (device_moves y z notified.device' notified.after)
-  runs_moves s t a b (Voids q r g x y z runs knows) =
+  runs_moves s t a b (Voids q r g x y z runs refuses) =
       moves_twice outbox_state OutboxMakes (board_of x) (board_of y) (board_of z)
-      (runs_moves q (standing r g) x y runs) (known_moves g g y z knows)
+      (runs_moves q (standing r g) x y runs) (device_moves y z _ refuses.after)

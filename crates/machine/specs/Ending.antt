@@ -1,6 +1,6 @@
 -- What a serve ends with: what it asks for, where it rests, and why it tells a fault.
 use Rattle.std.specs.Prelude.{◌≡◌, ◌⊎◌, ◌≤◌, ℕ, Bool, true, false, nat_lt, List, [], ◌∷◌, length, Option, Some}
-use Rattle.std.specs.Prelude.{None, Ok, Err, IfSome, map, slice_get, slice_set, take, ◌<◌}
+use Rattle.std.specs.Prelude.{None, Ok, Err, IfSome, map, nat_le, slice_get, slice_set, take, ◌<◌}
 use Rattle.chains.specs.declared.range.Range.{Range}
 use Rattle.flusher.specs.Store.{next_call}
 use Rattle.flusher.specs.declared.progress.Call.{Call}
@@ -9,7 +9,7 @@ use Rattle.guest_memory.specs.Memory.{IsAsk, IsInside, bytes_at}
 use Rattle.guest_memory.specs.declared.ask.Ask.{Ask}
 use Rattle.mmio_transport.specs.Asking.{AskingState, after_told, known}
 use Rattle.mmio_transport.specs.Device.{DeviceState}
-use Rattle.mmio_transport.specs.Popping.{GivesJob, with_fault}
+use Rattle.mmio_transport.specs.Popping.{GivesJob}
 use Rattle.mmio_transport.specs.declared.fault.DeviceFault.TheVariants as device_fault
 use Rattle.rpmb_book.specs.declared.refused.Refused.TheVariants as refused
 use Rattle.board.specs.Asking.{ForPop, ForReply}
@@ -18,7 +18,7 @@ use Rattle.board.specs.declared.step.Step.{Step}
 use Rattle.board.specs.declared.step.Step.TheVariants as step
 use Rattle.board.specs.declared.step.StepFault.{StepFault}
 use Rattle.board.specs.declared.step.StepFault.TheVariants as step_fault
-use Rattle.machine.specs.Serving.{Boards, HasNoReply, Makes, Runs, standing}
+use Rattle.machine.specs.Serving.{Boards, HasNoReply, Makes, RefusesIn, Runs, standing}
 use Rattle.machine.specs.declared.fault.MachineFault.{MachineFault}
 use Rattle.machine.specs.declared.fault.MachineFault.TheVariants as fault
 use Rattle.machine.specs.Turn.{Stand, TurnState, stand_of}
@@ -46,17 +46,26 @@ pub record FindsNone (guest : ℕ) (b : Boards) : Type 0 where
   pub before : DeviceState
   pub none : GivesJob before (Ok None) device
 
+-- whether the driver is to be notified was seen behind all that its queue used
+abbrev pub SawAll : AskingState → Type 0
+SawAll a = IfSome a.device.queue (λ q. nat_le q.ring.used a.told ≡ true)
+
+abbrev pub HasSeenAll : ℕ → Boards → Type 0
+HasSeenAll guest b = IfSome (slice_get b.devices guest) SawAll
+
 abbrev pub is_write : Call → Bool
 is_write call.Write = true
 is_write call.Sync = false
 is_write call.None = false
 
 -- A guest rests: no chain of it lies without its answer, and none is available, or as many wait for
--- their answers as may; no reply of it may leave; and no write of the disk comes before a sync.
+-- their answers as may; no reply of it may leave, and whether its driver is to be notified was seen
+-- behind all that left; and no write of the disk comes before a sync.
 pub record RestsAt (guest most : ℕ) (b : Boards) : Type 0 where
   pub jobs : HasNoJob guest b.rest
   pub taken : FindsNone guest b ⊎ (nat_lt (waiting guest b.rest) most ≡ false)
   pub replies : HasNoReply guest b.rest
+  pub seen : HasSeenAll guest b
   pub writes : is_write (next_call b.rest.store.broken b.rest.store.guests) ≡ false
 
 -- why a step was refused
@@ -133,18 +142,6 @@ pub record TellsIn (guest at : ℕ) (bytes : List ℕ) (old new : Boards) : Type
   pub its : slice_get old.devices guest ≡ Some device
   pub after : new
       ≡ record old { devices = slice_set old.devices guest (after_told device at bytes) }
-
--- It waits for a reset, and nothing else changed.
-pub record RefusesIn (guest : ℕ) (old new : Boards) : Type 0 where
-  pub device : AskingState
-  pub its : slice_get old.devices guest ≡ Some device
-  pub after : new
-      ≡ record old {
-        devices = slice_set old.devices guest (record device {
-          device = record device.device
-              { registers = with_fault device.device.registers };
-        });
-      }
 
 -- What becomes of bytes that were read: the device is told them; there is no memory for a copy, and
 -- nothing changes; or they are fewer than it asked for, or don't lie in its guest's memory, and it

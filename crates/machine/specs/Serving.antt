@@ -54,18 +54,11 @@ IsShare guest (step.Give g) = g ≡ guest
 IsShare guest step.Advance = Unit {0}
 IsShare guest step.Settle = Unit {0}
 
--- What a device learns of its guest's memory, or does by itself: bytes were told; there is no memory
--- where bytes were asked for, and it waits for a reset; all copies are forgotten, which begins a
--- step of it; or in such a step, which is over then, it saw that its driver isn't to be notified.
+-- What a device learns of its guest's memory, or does by itself: bytes were told; all copies are
+-- forgotten, which begins a step of it; or in such a step, which is over then, it saw that its
+-- driver isn't to be notified.
 pub data Learns : Bool → AskingState → Bool → AskingState → Type 0 where
   Tells : (g : Bool) (a a' : AskingState) (at : ℕ) (bytes : List ℕ) → a' ≡ after_told a at bytes
-      → Learns g a g a'
-  Refuses : (g : Bool) (a a' : AskingState)
-      → a'
-      ≡ record a {
-        device = record a.device
-            { registers = with_fault a.device.registers };
-      }
       → Learns g a g a'
   Forgets : (a a' : AskingState) → a' ≡ record a { held = kept (known a) } → Learns false a true a'
   Sees : (a a' : AskingState) → Notifies a (Ok false) a' → Learns true a false a'
@@ -86,6 +79,18 @@ pub record Notified (guest : ℕ) (old new : Boards) : Type 0 where
   pub device' : AskingState
   pub sees : Notifies device (Ok true) device'
   pub after : new ≡ record old { devices = slice_set old.devices guest device' }
+
+-- It waits for a reset, and nothing else changed.
+pub record RefusesIn (guest : ℕ) (old new : Boards) : Type 0 where
+  pub device : AskingState
+  pub its : slice_get old.devices guest ≡ Some device
+  pub after : new
+      ≡ record old {
+        devices = slice_set old.devices guest (record device {
+          device = record device.device
+              { registers = with_fault device.device.registers };
+        });
+      }
 
 -- The guest's device popped: what it wrote is to be copied out, unless it found no chain and that
 -- is in guest memory already.
@@ -115,7 +120,8 @@ owing parts = record { parts = parts; going = false; owed = true }
 -- into guest memory before and behind them. A step of its device is made only once it was begun, and
 -- begins only where nothing is left to be copied out: so what it reads was told behind all that the
 -- steps before it wrote, and it believes nothing that was told for one of them. No part is left out:
--- one goes only where the monitor is told of it, behind these steps.
+-- one goes only where the monitor is told of it, behind these steps, or where the device waits for a
+-- reset.
 pub data Runs (guest : ℕ) : Stand → Boards → Stand → Boards → Type 0 where
   Still : (s : Stand) (b : Boards) → Runs guest s b s b
   Then : (s t : Stand) (a b c : Boards) (x : Step) (answer : Answer)
@@ -134,9 +140,10 @@ pub data Runs (guest : ℕ) : Stand → Boards → Stand → Boards → Type 0 w
   -- a notification is due: the monitor is told of it
   Calls : (s : Stand) (qs : List Range) (a b c : Boards)
       → Runs guest s a (standing qs true) b → Notified guest b c → Runs guest s a (owing qs) c
-  -- there is no memory where a part was to be copied out: what is left of it is void
+  -- there is no memory where bytes were to be copied: the device waits for a reset, and what is left
+  -- is void
   Voids : (s : Stand) (qs : List Range) (g : Bool) (a b c : Boards)
-      → Runs guest s a (standing qs g) b → Knows guest g b g c → Runs guest s a (standing [] g) c
+      → Runs guest s a (standing qs g) b → RefusesIn guest b c → Runs guest s a (standing [] g) c
 
 -- of every other guest the device stays, and what lies between two steps
 pub record OthersStay {D : Type 0} (guest : ℕ) (old new : BoardState D) : Type 0 where

@@ -4,9 +4,9 @@ ghost use Rattle.std.specs.Prelude.{Bool, Err, IfSome, OnErr, OnOk, Some, slice_
 ghost use Rattle.chains.specs.declared.range.Range.{Range as Part};
 ghost use Rattle.guest_memory.specs.Memory.{IsInside, bytes_at};
 ghost use Rattle.guest_memory.specs.declared.ask.Ask.{Ask};
-ghost use Rattle.machine.specs.Ending.{HearsAnswer, NeedsTold, RefusesIn, TakesAnswer, TellsIn};
+ghost use Rattle.machine.specs.Ending.{HearsAnswer, NeedsTold, TakesAnswer, TellsIn};
 ghost use Rattle.machine.specs.Ending.{left_by};
-ghost use Rattle.machine.specs.Serving.{Runs, standing};
+ghost use Rattle.machine.specs.Serving.{RefusesIn, Runs, standing};
 ghost use Rattle.machine.specs.Turn.{stand_of};
 ghost use Rattle.machine.specs.declared.turn.Asked.TheVariants as asked_of;
 

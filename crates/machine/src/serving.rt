@@ -5,8 +5,8 @@ ghost use Rattle.chains.specs.declared.range.Range.{Range as Part};
 ghost use Rattle.guest_memory.specs.declared.ask.Ask.{Ask};
 ghost use Rattle.flusher.specs.Store.{next_call};
 ghost use Rattle.board.specs.State.{HasNoJob, waiting};
-ghost use Rattle.machine.specs.Ending.{AsksIn, FindsNone, HasReason, RestsAt, Went, is_write};
-ghost use Rattle.machine.specs.Ending.{left_by};
+ghost use Rattle.machine.specs.Ending.{AsksIn, FindsNone, HasReason, HasSeenAll, RestsAt, Went};
+ghost use Rattle.machine.specs.Ending.{is_write, left_by};
 ghost use Rattle.machine.specs.Serving.{HasNoReply, Runs, SameDevices, standing};
 ghost use Rattle.machine.specs.Turn.{KeepsStage};
 ghost use Rattle.machine.specs.declared.fault.MachineFault.{MachineFault};
@@ -50,7 +50,8 @@ fn notify(board: &mut AskingBoard<OutboxDisk>, guest: u16, turn: &mut Turn) -> O
     ensures rest { board.new.rest ≡ board.old.rest }
     ensures parts { turn.new.parts ≡ turn.old.parts }
     ensures asks { (ask : Ask) → result ≡ Some (Next.Read ask) → AsksIn guest ask board.new }
-    ensures devices { result ≡ None → SameDevices board.old board.new }
+    ensures none { result ≡ None
+        → SameDevices board.old board.new × HasSeenAll guest board.new }
     ensures others { (f : Option MachineFault) → result ≢ Some (Next.Rest f) }
     ensures writes { (part : Part) → result ≢ Some (Next.Write part) }
     ensures count { length board.new.devices ≡ length board.old.devices }
@@ -127,7 +128,7 @@ fn rest(
     requires none { taken ≡ Taken.Nothing → FindsNone guest board.old }
     requires limit { (taken ≡ Taken.Nothing) ⊎ (taken ≡ Taken.Limit)
         → HasNoJob guest board.old.rest }
-    requires replies { HasNoReply guest board.old.rest }
+    requires left { HasNoReply guest board.old.rest × HasSeenAll guest board.old }
     requires parts { turn.old.parts ≡ [] }
     requires fault { (f : MachineFault) → taken ≡ Taken.Refused f → HasReason guest f }
     ensures went { Went guest most turn.old turn.new board.old board.new (Some result) }

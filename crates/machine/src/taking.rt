@@ -4,7 +4,7 @@ ghost use Rattle.std.specs.Prelude.{Bool, false, true, IfSome, slice_get};
 ghost use Rattle.chains.specs.declared.range.Range.{Range as Part};
 ghost use Rattle.guest_memory.specs.declared.ask.Ask.{Ask};
 ghost use Rattle.board.specs.State.{HasNoJob};
-ghost use Rattle.machine.specs.Ending.{AsksIn, FindsNone, HasReason, IsRefused};
+ghost use Rattle.machine.specs.Ending.{AsksIn, FindsNone, HasReason, HasSeenAll, IsRefused};
 ghost use Rattle.machine.specs.Serving.{HasNoCopy, Runs, SameDevices, standing};
 ghost use Rattle.machine.specs.Turn.{KeepsStage, Stand, pop_parts, stand_of};
 ghost use Rattle.machine.specs.declared.fault.MachineFault.{MachineFault};
@@ -43,6 +43,7 @@ pub(crate) fn begin(board: &mut AskingBoard<OutboxDisk>, guest: u16, turn: &mut 
     ensures devices { SameDevices board.old board.new }
     ensures count { length board.new.devices ≡ length board.old.devices }
     ensures turn { turn.new ≡ record turn.old { going = true } }
+    ensures seen { HasSeenAll guest board.old → HasSeenAll guest board.new }
     // Nothing is believed but what is told from here on.
     ensures fresh { turn.old.going ≡ false → HasNoCopy guest board.new }
 {

@@ -1,12 +1,12 @@
-use Rattle.std.proofs.Common.{[], inl, refl, ap, sym, subst, ◌∙◌, Ok, true, false}
+use Rattle.std.proofs.Common.{[], inl, refl, ap, sym, subst, ◌∙◌, IfSome, Ok, true, false}
 use Rattle.board.specs.Asking.{ForPop}
 use Rattle.machine.proofs.Common.{Calls, Runs, owing, stand_of, standing}
 use Rattle.guest_memory.specs.Memory.{IsAsk}
 use Rattle.mmio_transport.specs.Asking.{Notifies, known}
-use Rattle.machine.specs.Ending.{AsksIn}
+use Rattle.machine.specs.Ending.{AsksIn, SawAll}
 use Rattle.machine.specs.Serving.{Sees}
-use Rattle.machine.proofs.Goings.{not_notified, notify_asks}
-use Rattle.machine.proofs.Moved.{moved, moved_none, moved_runs, moved_same}
+use Rattle.machine.proofs.Goings.{not_notified, notify_asks, saw_all}
+use Rattle.machine.proofs.Moved.{moved, moved_at, moved_none, moved_runs, moved_same}
 use Rattle.machine.proofs.Runs.{runs_twice, still_on}
 use Rattle.machine.proofs.serving.notify.Goals as goal
 
@@ -74,12 +74,15 @@ returns-in-Ok-false-clause-runs c =
     (Sees d d' (subst (λ v. Notifies d (Ok v) d') c.in-Ok-false.field-0-test
     c.in-Ok-false.ensures.notifies))))
 
-pub returns-in-Ok-false-clause-devices : goal.returns-in-Ok-false-clause-devices
-returns-in-Ok-false-clause-devices c is =
+pub returns-in-Ok-false-clause-none : goal.returns-in-Ok-false-clause-none
+returns-in-Ok-false-clause-none c is =
+    let g = c.args.guest in
     let b = c.begin.new.board in
     let d = c.device.result.now in
-    moved_same c.args.guest b d c.notify.new.self c.device.ensures.device
-    (not_notified d c.notify.new.self
-    (subst (λ v. Notifies d (Ok v) c.notify.new.self) c.in-Ok-false.field-0-test
-    c.in-Ok-false.ensures.notifies))
-    ∙ c.begin.ensures.devices
+    let d' = c.notify.new.self in
+    let sees = subst (λ v. Notifies d (Ok v) d') c.in-Ok-false.field-0-test
+    c.in-Ok-false.ensures.notifies in (
+      moved_same g b d d' c.device.ensures.device (not_notified d d' sees) ∙ c.begin.ensures.devices,
+      subst (λ o. IfSome o SawAll) (sym (moved_at g b d d' c.device.ensures.device))
+          (saw_all d d' sees),
+    )

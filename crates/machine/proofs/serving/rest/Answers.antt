@@ -29,7 +29,8 @@ returns-in-Some-clause-went c =
     (rest_needs g c.args.most c.take_next.new.self.parts b' c.in-Some.fault
     (λ none. (let is = c.in-Some.is ∙ ap Some none in (
       rests_by g c.args.most b b' c.args.taken c.begin.ensures.rest c.begin.ensures.devices
-          (w.rests is) (w.writes is) c.requires.none c.requires.limit c.requires.replies,
+          (w.rests is) (w.writes is) c.requires.none c.requires.limit c.requires.left.0
+          (c.begin.ensures.seen c.requires.left.1),
       same ∙ c.requires.parts,
     )))
     (λ f some. c.requires.fault f (w.fault f (c.in-Some.is ∙ ap Some some))))

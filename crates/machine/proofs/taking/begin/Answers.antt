@@ -2,6 +2,7 @@ use Rattle.std.proofs.Common.{◌≡◌, ◌∙◌, if◌then◌else◌, [], tru
 use Rattle.machine.proofs.Common.{AskingState, Runs, Still, standing}
 use Rattle.guest_memory.specs.Memory.{kept}
 use Rattle.mmio_transport.specs.Asking.{known}
+use Rattle.machine.specs.Ending.{SawAll}
 use Rattle.machine.specs.Serving.{Forgets}
 use Rattle.machine.proofs.Moved.{moved, moved_at, moved_runs, moved_same}
 use Rattle.machine.proofs.taking.begin.Goals as goal
@@ -21,6 +22,14 @@ pub returns-then-not-turn-clause-devices : goal.returns-then-not-turn-clause-dev
 returns-then-not-turn-clause-devices c =
     moved_same c.args.guest c.args.board.now c.device.result.now c.forget.new.self
     c.device.ensures.device (ap (λ d. d.device) c.forget.ensures)
+
+pub returns-then-not-turn-clause-seen : goal.returns-then-not-turn-clause-seen
+returns-then-not-turn-clause-seen c seen =
+    let d = c.device.result.now in
+    subst (λ o. IfSome o SawAll)
+    (sym (moved_at c.args.guest c.args.board.now d c.forget.new.self c.device.ensures.device))
+    (subst SawAll (sym c.forget.ensures)
+    (subst (λ o. IfSome o SawAll) c.device.ensures.device seen))
 
 forgotten : (d d' : AskingState) → d' ≡ record d { held = kept (known d) } → d'.asks ≡ true
     → d'.held ≡ []
