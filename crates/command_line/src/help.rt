@@ -1,7 +1,8 @@
 //! The texts that stand below a command's usage in its help, and what `--version` prints.
 
-/// Behind the program's name.
-pub const VERSION: &str = "0.1 (Hovdrang), images of version 1 and 2";
+/// Behind the program's name: its version, the logic that it was proved with, as `rt version` names
+/// it, and the images that it opens.
+pub const VERSION: &str = "0.1 (Hovdrang, logic dac8208d650f15bf), images of version 1 and 2";
 
 /// A board and a script, as a reader can type them.
 pub const PROGRAM: &str =
@@ -20,21 +21,24 @@ for the reply, and then its device is reset; rpmb makes the lines of real reques
 
 A line is `chain GUEST READABLE WRITABLE`, `store GUEST ADDRESS BYTES` or `reset GUEST`.
 READABLE is the bytes of the request in hex digits, or -; WRITABLE how many bytes its
-answer may have, 512 for each frame.
+answer may have, 512 for each frame: below that none comes.
 
 A board without 'image' is in memory, and nothing of it is kept. One image is for one
 program at a time. Status 0; 1 for a fault, which is told on standard error as 'rpmbd: N
 NAME', and behind that in words; 2 for words that are no command."#;
 
 pub const FORMAT: &str =
-    r"Prints 'formatted LEN', the length of the image in bytes, and of version 2 'upgraded'.
-What the file held is gone. Where keys would be and a person types this at a terminal, it
-asks before; elsewhere it asks nothing.
+    r"Prints 'formatted LEN', the length of the image in bytes, and where version 2 is asked
+for 'upgraded' behind it. The file is made, for its owner alone, where it isn't there; its
+folder has to be. What the file held is gone: at a terminal it asks before keys go, or what
+is no image of this board. In a script it asks nothing: there --new keeps a file that is
+there.
 Status 0; 1 for a fault, told on standard error; 2 for words that are no command.";
 
 pub const SHOW: &str =
     r"Prints for each guest 'guest G capacity C key yes counter N', or 'key no counter 0',
-and then 'block G A HEX' for each of its blocks that isn't all zeros.
+and then 'block G A HEX' for each of its blocks that isn't all zeros. Of which version the
+image is, `rpmb check BOARD` says.
 Status 0; 1 for a fault, told on standard error; 2 for words that are no command.";
 
 pub const UPGRADE: &str =
@@ -49,12 +53,17 @@ pub const RUN: &str =
 or '-' for none. Where the guest has spoiled its rings: 'needs-reset G', 'no-answer G',
 'bad-used G'. What a printed line tells is settled in the image. Each line goes out as it
 comes. Of a board without 'image' nothing is kept once the run has ended.
-Where it was stopped, or its last lines are missing, some requests may be done whose lines
-aren't there. `rpmb read-counter` makes the request that tells how many writes of a guest
-were accepted; go on with the line behind the last of those.
+Where it was stopped, by TERM or otherwise, or its last lines are missing, some requests
+may be done whose lines aren't there. `rpmb read-counter` makes the request that tells a
+guest's counter: go on with the write that was made for it (--counter). All before that
+are done.
 Status 0; 1 for a fault, told on standard error; 2 for words that are no command.";
 
 pub const SERVE: &str =
     r"Prints at its end the lines that 'run' prints, those of guest 0 first, then those of
 guest 1, and so on.
+Where it was stopped before, by TERM or otherwise, nothing is printed, and some requests
+of each guest may be done. `rpmb read-counter` makes the request that tells a guest's
+counter: go on with the write of it that was made for that (--counter). All of that guest's
+before are done.
 Status 0; 1 for a fault, told on standard error; 2 for words that are no command.";

@@ -5,8 +5,10 @@ mod command;
 mod given;
 mod grammar;
 mod help;
+mod printing;
 mod words;
 
 pub use command::{Command, ImageVersion};
 pub use given::{GivenError, given_words};
+pub use printing::print_words;
 pub use words::{WordsError, read_words};

@@ -21,6 +21,13 @@ const NOT_THERE: &str = "isn't there; if there never was one, rpmbd format makes
 const NOT_HERE: &str = "where you are: the path counts from there, not from the board file's \
     folder; go to the image's folder, or if there never was one, rpmbd format makes it";
 
+/// What is said of an image whose folder isn't there.
+const FOLDER_NOT_THERE: &str = "its folder isn't there; mend the path in the board file";
+
+/// And of one whose path begins in the folder that the program was started in.
+const FOLDER_NOT_HERE: &str = "where you are: the path counts from there, not from the board \
+    file's folder; go to where it counts from, or mend it in the board file";
+
 /// And of one whose path is a link.
 const DEAD_LINK: &str = "is a link to a file that isn't there; mend the link, or name the file \
     itself in the board file";
@@ -37,6 +44,18 @@ const IS_THERE: &str = "is there, and --new makes none over it; name another in 
 /// What is said of one that can't be made.
 const NO_FOLDER: &str = "its folder, seen from the one that you are in, isn't there; make that, or \
     mend the path in the board file";
+
+/// And of one whose folder takes no new file.
+const NO_NEW_FILE: &str = "isn't there, and its folder lets you make no file; the folder's owner \
+    may change that (chmod), or name another folder in the board file";
+
+/// And of one where nothing can be written.
+const NO_WRITING: &str = "isn't there, and nothing can be written in its folder; name another \
+    folder in the board file";
+
+/// What is said of a board file that names itself as its image.
+const IS_BOARD: &str = "is the board file itself, and stays as it is; name another file in its \
+    image";
 
 /// Opens the file of an image. Where standard output or error is closed, its number goes to the
 /// next file that is opened, and what is printed would be written into that file. So the file is
@@ -147,13 +166,25 @@ fn hold(
     }
 }
 
-/// Syncs the folder that a file was made in, so that its name outlives a stop of the machine.
-fn sync_folder(rt: &HostRuntime, path: &str) -> io::Result<()> {
-    let folder = match Path::new(path).parent() {
+/// The folder of a file.
+fn folder_of(path: &str) -> &str {
+    match Path::new(path).parent() {
         Some(folder) if !folder.as_str().is_empty() => folder.as_str(),
         _ => ".",
-    };
-    File::open(rt, folder)?.sync_all()
+    }
+}
+
+/// Syncs the folder that a file was made in, so that its name outlives a stop of the machine.
+fn sync_folder(rt: &HostRuntime, path: &str) -> io::Result<()> {
+    File::open(rt, folder_of(path))?.sync_all()
+}
+
+/// Whether nothing stands at a path, or a link leads from there to nothing.
+fn is_absent(rt: &HostRuntime, path: &str) -> bool {
+    match fs::metadata(rt, path) {
+        Ok(_) => false,
+        Err(error) => error.kind() == io::ErrorKind::NotFound,
+    }
 }
 
 /// Whether the path itself is a link, wherever it leads.
@@ -171,21 +202,36 @@ fn not_made(rt: &HostRuntime, path: &str, error: &io::Error) -> Refusal {
         io::ErrorKind::NotFound if path.starts_with('~') => refused(rt, path, NOT_EXPANDED),
         io::ErrorKind::NotFound => refused(rt, path, NO_FOLDER),
         io::ErrorKind::AlreadyExists => refused(rt, path, IS_THERE),
+        io::ErrorKind::PermissionDenied if is_absent(rt, path) => refused(rt, path, NO_NEW_FILE),
+        io::ErrorKind::ReadOnlyFilesystem if is_absent(rt, path) => refused(rt, path, NO_WRITING),
         _ => Refusal::of_call(rt.alloc(), path, error),
     }
 }
 
-/// A file isn't there whose path counts from the folder that the program was started in.
-fn not_here(rt: &HostRuntime, path: &str) -> Refusal {
-    match current_dir(rt) {
-        Ok(folder) => {
-            let folder = folder.as_str();
-            match format!(in rt.alloc(); "isn't in {folder}, {NOT_HERE}") {
-                Ok(why) => refused(rt, path, why.as_str()),
-                Err(_) => Refusal::no_memory(),
-            }
-        }
-        Err(_) => refused(rt, path, NOT_THERE),
+/// What isn't there of a path that counts from the folder that the program was started in: the file,
+/// or its folder.
+fn not_here(rt: &HostRuntime, path: &str, what: &str, why: &str) -> Option<Refusal> {
+    let folder = current_dir(rt).ok()?;
+    let folder = folder.as_str();
+    match format!(in rt.alloc(); "{what}isn't in {folder}, {why}") {
+        Ok(why) => Some(refused(rt, path, why.as_str())),
+        Err(_) => Some(Refusal::no_memory()),
+    }
+}
+
+/// A file, or its folder, isn't there.
+fn not_there(rt: &HostRuntime, path: &str) -> Refusal {
+    let (what, here, there) = if is_absent(rt, folder_of(path)) {
+        ("its folder ", FOLDER_NOT_HERE, FOLDER_NOT_THERE)
+    } else {
+        ("", NOT_HERE, NOT_THERE)
+    };
+    if path.starts_with('/') {
+        return refused(rt, path, there);
+    }
+    match not_here(rt, path, what, here) {
+        Some(refusal) => refusal,
+        None => refused(rt, path, there),
     }
 }
 
@@ -194,8 +240,7 @@ fn not_opened(rt: &HostRuntime, path: &str, error: &io::Error) -> Refusal {
     match error.kind() {
         io::ErrorKind::NotFound if is_link(rt, path) => refused(rt, path, DEAD_LINK),
         io::ErrorKind::NotFound if path.starts_with('~') => refused(rt, path, NOT_EXPANDED),
-        io::ErrorKind::NotFound if path.starts_with('/') => refused(rt, path, NOT_THERE),
-        io::ErrorKind::NotFound => not_here(rt, path),
+        io::ErrorKind::NotFound => not_there(rt, path),
         _ => Refusal::of_call(rt.alloc(), path, error),
     }
 }
@@ -223,7 +268,7 @@ pub fn create_image(
     };
     let (file, metadata) = hold(rt, path, file, true)?;
     if leads_to(rt, board, &metadata) {
-        return Err(refused(rt, path, "is the board file"));
+        return Err(refused(rt, path, IS_BOARD));
     }
     if is_new && sync_folder(rt, path).is_err() {
         return Err(refused(rt, path, "its folder can't be synced"));

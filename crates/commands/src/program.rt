@@ -14,7 +14,7 @@ use crate::fresh::fresh_disk;
 use crate::image_files::{create_image, open_image, open_shown};
 use crate::notes::tell_notes;
 use crate::reason::{OUTPUT, Refusal};
-use command_line::{Command, ImageVersion, WordsError, read_words};
+use command_line::{Command, ImageVersion, WordsError, print_words, read_words};
 use disk::{Disk, FileDisk};
 use intent_slots::Layout;
 use rpmb_frame::BoardConfig;
@@ -190,7 +190,7 @@ fn perform_with_output<R: AllocGlobal + Threads + Wait + Sync>(
 fn refuse(rt: &HostRuntime, error: WordsError) -> u8 {
     match error {
         WordsError::Refused(error) => {
-            let printed = error.print(rt);
+            let printed = print_words(rt, &error);
             if error.use_stderr() {
                 return REFUSED;
             }

@@ -31,9 +31,11 @@ fn words_of(kind: io::ErrorKind) -> Option<&'static str> {
     match kind {
         io::ErrorKind::NotFound => Some(NOT_THERE),
         io::ErrorKind::IsADirectory => Some("is a folder; name a file in it"),
-        io::ErrorKind::NotADirectory => Some("a part of its path is no folder"),
+        io::ErrorKind::NotADirectory => Some(
+            "a part of its path is a file, and no folder; mend the path",
+        ),
         io::ErrorKind::PermissionDenied => Some(
-            "permission denied; its owner may change that (chmod)",
+            "permission denied; its owner may change that (chmod), or that of a folder in its path",
         ),
         io::ErrorKind::ReadOnlyFilesystem => Some(
             "stands where nothing can be written; copy it elsewhere",

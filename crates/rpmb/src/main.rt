@@ -10,7 +10,7 @@ mod system;
 
 use crate::doing::perform_operation;
 use crate::system::System;
-use command_line::{GivenError, given_words};
+use command_line::{GivenError, given_words, print_words};
 use rpmb_commands::{LineLimit, Refusal, Words, WordsError, perform, read_words, report};
 use std::io::{BufReader, BufWriter};
 use std::process::ExitCode;
@@ -41,7 +41,7 @@ fn perform_on_streams<'a>(rt: &HostRuntime, words: &Words<'_>) -> Result<u8, Ref
 fn refuse(rt: &HostRuntime, error: WordsError) -> u8 {
     match error {
         WordsError::Refused(error) => {
-            let printed = error.print(rt);
+            let printed = print_words(rt, &error);
             if error.use_stderr() {
                 return REFUSED;
             }

@@ -1,10 +1,10 @@
 -- What is found in a list: the key of a guest, and the replies of lines.
-use Rattle.std.proofs.Common.{◌≡◌, ◌∙◌, ◌<◌, ◌+◌, ℕ, true, false, Bor, List, Option, Some, None, []}
-use Rattle.std.proofs.Common.{◌∷◌, ◌++◌, map, length, drop, get_or, nat_eq, refl, ap, sym}
-use Rattle.std.proofs.lemmas.List.{append-nil, drop_more, map_push}
-use Rattle.rpmb_client.specs.Answer.{Used, and_then, replies_of, reply_of}
-use Rattle.rpmb_client.specs.Seen.{used_seen}
-use Rattle.rpmb_client.specs.declared.answer.Used as rust
+use Rattle.std.proofs.Common.{◌≡◌, ◌∙◌, ◌<◌, ◌+◌, ℕ, true, false, List, Option, Some, None, [], arith}
+use Rattle.std.proofs.Common.{if◌then◌else◌, ◌∷◌, ◌++◌, length, drop, get_or, nat_eq, refl, ap, sym}
+use Rattle.std.proofs.lemmas.List.{append-nil, drop_more}
+use Rattle.std.proofs.lemmas.Bool.Decides.{nat_tests}
+use Rattle.rpmb_client.specs.Answer.{Used, and_then, answer_of, only, replies_of, reply_of}
+use Rattle.rpmb_client.specs.Finding.{Kept, kept_after, kept_of, only_kept, or_else}
 use Rattle.rpmb_client.specs.Keys.{key_at, pairs_of}
 use Rattle.rpmb_client.specs.declared.keys.GuestKey.{GuestKey}
 
@@ -51,7 +51,7 @@ and_then-append None us vs = refl
 and_then-append (Some u) us vs = refl
 
 -- one line more
-replies_of-push : (asked : Option (List ℕ)) (lines : List (List ℕ)) (line : List ℕ)
+pub replies_of-push : (asked : Option (List ℕ)) (lines : List (List ℕ)) (line : List ℕ)
     → replies_of asked (lines ++ line ∷ []) ≡ replies_of asked lines
     ++ and_then (reply_of asked line) []
 unfolding replies_of
@@ -61,23 +61,46 @@ replies_of-push asked (l ∷ ls) line =
     ∙ sym (and_then-append (reply_of asked l) (replies_of asked ls)
     (and_then (reply_of asked line) []))
 
-pub reply_more : (asked : Option (List ℕ)) (given : List (Bor (List ℕ))) (line : Bor (List ℕ))
-    (all next : List rust.Used) (u : rust.Used)
-    → next ≡ all ++ u ∷ [] → map used_seen all ≡ replies_of asked (map (λ t. t.now) given)
-    → Some (used_seen u) ≡ reply_of asked line.now
-    → map used_seen next ≡ replies_of asked (map (λ t. t.now) (given ++ line ∷ []))
-reply_more asked given line all next u pushed are is =
-    ap (map used_seen) pushed ∙ map_push used_seen all u ∙ ap (λ xs. xs ++ used_seen u ∷ []) are
-    ∙ ap (λ r. replies_of asked (map (λ t. t.now) given) ++ and_then r []) is
-    ∙ sym (replies_of-push asked (map (λ t. t.now) given) line.now)
-    ∙ ap (replies_of asked) (sym (map_push (λ t. t.now) given line))
+-- what is kept with one reply more
+kept_of-push : (us : List Used) (read : Option Used)
+    → kept_of (us ++ and_then read []) ≡ kept_after (kept_of us) read
+unfolding kept_of
+kept_of-push us None = ap kept_of (append-nil us)
+kept_of-push [] (Some u) = refl
+kept_of-push (a ∷ []) (Some u) = refl
+kept_of-push (a ∷ b ∷ us) (Some u) = refl
 
-pub no_reply_more : (asked : Option (List ℕ)) (given : List (Bor (List ℕ))) (line : Bor (List ℕ))
-    (all : List rust.Used)
-    → map used_seen all ≡ replies_of asked (map (λ t. t.now) given) → None ≡ reply_of asked line.now
-    → map used_seen all ≡ replies_of asked (map (λ t. t.now) (given ++ line ∷ []))
-no_reply_more asked given line all are is =
-    are ∙ sym (append-nil (replies_of asked (map (λ t. t.now) given)))
-    ∙ ap (λ r. replies_of asked (map (λ t. t.now) given) ++ and_then r []) is
-    ∙ sym (replies_of-push asked (map (λ t. t.now) given) line.now)
-    ∙ ap (replies_of asked) (sym (map_push (λ t. t.now) given line))
+pub kept_more : (asked : Option (List ℕ)) (lines : List (List ℕ)) (line : List ℕ)
+    (old new : Kept) (read : Option Used) → old ≡ kept_of (replies_of asked lines)
+    → read ≡ reply_of asked line → new ≡ kept_after old read
+    → new ≡ kept_of (replies_of asked (lines ++ line ∷ []))
+kept_more asked lines line old new read was is now =
+    now ∙ ap (λ k. kept_after k read) was ∙ sym (kept_of-push (replies_of asked lines) read)
+    ∙ ap (λ r. kept_of (replies_of asked lines ++ and_then r [])) is
+    ∙ ap kept_of (sym (replies_of-push asked lines line))
+
+only_of : (us : List Used) → only_kept (kept_of us) ≡ only us
+unfolding kept_of
+only_of [] = refl
+only_of (a ∷ []) = refl
+only_of (a ∷ b ∷ us) = refl
+
+choice_of : (all asked : List Used)
+    → or_else (only_kept (kept_of all)) (only_kept (kept_of asked))
+    ≡ (if nat_eq (length all) 1 then only all else only asked)
+unfolding kept_of
+choice_of [] asked = only_of asked
+choice_of (a ∷ []) asked = refl
+choice_of (a ∷ b ∷ us) asked =
+    let many : nat_eq (length (a ∷ b ∷ us)) 1 ≡ false = grind (arith, nat_tests) in
+    rw many (only_of asked)
+
+-- what is kept of all lines gives their answer
+pub answer_kept : (nonce : List ℕ) (lines : List (List ℕ)) (all asked : Kept)
+    → all ≡ kept_of (replies_of None lines) → asked ≡ kept_of (replies_of (Some nonce) lines)
+    → or_else (only_kept all) (only_kept asked) ≡ answer_of nonce lines
+unfolding answer_of
+answer_kept nonce lines all asked is is' =
+    ap (λ k. or_else (only_kept k) (only_kept asked)) is
+    ∙ ap (λ k. or_else (only_kept (kept_of (replies_of None lines))) (only_kept k)) is'
+    ∙ choice_of (replies_of None lines) (replies_of (Some nonce) lines)

@@ -75,7 +75,11 @@ is_keyless frame =
     result_of frame == res_no_auth_key
     || (result_of frame == res_general_failure && req_resp_of frame == 0)
 
--- it has none to make a MAC with: zeros stand where it would
+-- zeros stand where the MAC would
+unfoldable pub has_zero_mac : List (List ℕ) → Bool
+has_zero_mac frames = is_zeros (key_mac_of (last_of frames)) 32
+
+-- it has none to make a MAC with
 unfoldable pub lacks_mac : List (List ℕ) → Bool
 lacks_mac frames = is_keyless (last_of frames) && is_zeros (key_mac_of (last_of frames)) 32
 
@@ -95,10 +99,12 @@ has_refusal frame = not (result_of frame == res_ok)
 unfoldable pub is_refused : List ℕ → Bool
 is_refused reply = is_whole reply && list_any has_refusal (frames_of reply)
 
+-- of zeros it is said that they are: no device makes such a MAC, and one whose disk failed makes none
 abbrev pub judged_mac : List ℕ → List (List ℕ) → List ℕ
 judged_mac key frames = first_row (
     (is_mac_right key frames, codes "right")
     ∷ (lacks_mac frames, codes "none")
+    ∷ (has_zero_mac frames, codes "wrong (zeros)")
     ∷ []) (codes "wrong")
 
 -- the last frame has the MAC of all of them; the others have zeros there
@@ -187,9 +193,18 @@ frame_lines guest zero frames key asked = []
 frame_lines guest (suc i) frames key asked =
     frame_lines guest i frames key asked ++ frame_line guest i frames key asked
 
-unfoldable pub no_frames_line : ℕ → ℕ → List ℕ
-no_frames_line guest n = codes "guest " ++ decimal guest ++ codes ", " ++ decimal n
+-- of no bytes at all, what its request was: one that wants none, or that has no room for a frame
+unfoldable pub no_bytes_line : ℕ → List ℕ
+no_bytes_line guest = codes "guest " ++ decimal guest
+    ++ codes ", no frames: its request asked for none (--no-result), or needs WRITABLE 512 or more"
+    ++ 10 ∷ []
+
+unfoldable pub some_bytes_line : ℕ → ℕ → List ℕ
+some_bytes_line guest n = codes "guest " ++ decimal guest ++ codes ", " ++ decimal n
     ++ codes " bytes are no frames" ++ 10 ∷ []
+
+abbrev pub no_frames_line : ℕ → ℕ → List ℕ
+no_frames_line guest n = if n == 0 then no_bytes_line guest else some_bytes_line guest n
 
 -- what is said of a reply to a guest
 unfoldable pub reply_lines : ℕ → List ℕ → Option (List ℕ) → Option (List ℕ) → List ℕ

@@ -3,6 +3,7 @@ pub mod Chain
 pub mod Answer
 pub mod Explained
 pub mod Seen
+pub mod Finding
 pub mod Lines
 pub mod Keeping
 pub mod Laws

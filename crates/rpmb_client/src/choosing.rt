@@ -1,7 +1,9 @@
-//! The answer to a request among the lines of a run.
-ghost use Rattle.std.specs.Prelude.{◌≡◌, ℕ, IfOk, None, Option, Some, map, option_map};
-ghost use Rattle.script.specs.Script.{lines_of};
-ghost use Rattle.rpmb_client.specs.Answer.{answer_in, is_asked, replies_of, reply_of};
+//! The answer to a request among the lines of a run, which may come one after another.
+ghost use Rattle.std.specs.Prelude.{◌≡◌, ◌++◌, ◌∷◌, ℕ, IfOk, List, None, OnOk, Option, Some, []};
+ghost use Rattle.std.specs.Prelude.{option_map};
+ghost use Rattle.rpmb_client.specs.Answer.{answer_in, answer_of, is_asked, reply_of};
+ghost use Rattle.rpmb_client.specs.Finding.{IsFinder, kept_after, kept_of, kept_seen};
+ghost use Rattle.rpmb_client.specs.Finding.{only_kept, or_else};
 ghost use Rattle.rpmb_client.specs.Seen.{chosen, used_seen};
 
 use crate::answer::{Used, has_nonce, is_whole, read_used};
@@ -13,7 +15,7 @@ pub enum Choice {
     /// The answer.
     Answer(Used),
     /// So many replies, and so many with the nonce.
-    Replies(usize, usize),
+    Replies(u64, u64),
 }
 
 /// Whether a reply is of whole frames, the last of which has the nonce.
@@ -40,36 +42,123 @@ fn reply_of(alloc: Global, asked: Option<[u8; 16]>, line: &str) -> Result<Option
     }
 }
 
-/// The replies of lines, each of which a line feed ends.
-fn replies_of(alloc: Global, asked: Option<[u8; 16]>, lines: &str) -> Result<Vec<Used>, AllocError>
-    ensures { IfOk result (λ all. map used_seen all.items ≡ replies_of asked (lines_of lines.now)) }
-{
-    let mut all = Vec::new(alloc);
-    for line in lines.split('\n') {
-        if let Some(used) = reply_of(alloc, asked, line)? {
-            all.push(used)?;
+/// The first of the replies that came, and whether there were more of them.
+#[derive(Drop)]
+pub struct Kept {
+    first: Option<Used>,
+    has_more: bool,
+}
+
+impl Kept {
+    #[tactic(auto, unfolding(crate::specs::Finding::kept_of))]
+    fn none() -> Kept
+        ensures { kept_seen result ≡ kept_of [] }
+    {
+        Kept {
+            first: None,
+            has_more: false,
         }
     }
-    Ok(all)
+
+    /// One reply more, where there is one.
+    fn add(&mut self, read: Option<Used>)
+        ensures { kept_seen self.new ≡ kept_after (kept_seen self.old)
+            (option_map used_seen read) }
+    {
+        let Some(used) = read else {
+            return;
+        };
+        if self.first.is_some() {
+            self.has_more = true;
+        } else {
+            self.first = Some(used);
+        }
+    }
+
+    /// The only reply, where there is just one.
+    fn only(self) -> Option<Used>
+        ensures { option_map used_seen result ≡ only_kept (kept_seen self) }
+    {
+        if self.has_more { None } else { self.first }
+    }
+}
+
+/// What finds the answer among lines that come one after another. It keeps no more of them than two
+/// replies.
+#[derive(Drop)]
+pub struct Finder {
+    /// The nonce that the answer has, where there are several.
+    nonce: [u8; 16],
+    /// Of all replies.
+    all: Kept,
+    /// Of those with the nonce.
+    asked: Kept,
+    /// How many there are of each.
+    counts: (u64, u64),
+}
+
+/// The only one of all replies, or else the only one with the nonce, or how many there are of each.
+fn choice_of(all: Option<Used>, asked: Option<Used>, counts: (u64, u64)) -> Choice
+    ensures { chosen result ≡ or_else (option_map used_seen all)
+        (option_map used_seen asked) }
+{
+    match (all, asked) {
+        (Some(used), _) | (None, Some(used)) => Choice::Answer(used),
+        (None, None) => Choice::Replies(counts.0, counts.1),
+    }
+}
+
+/// One more, where a line gives a reply, and there is a number for it.
+fn more(count: u64, read: Option<&Used>) -> u64 {
+    match read {
+        Some(_) => count.saturating_add(1),
+        None => count,
+    }
+}
+
+impl Finder {
+    /// What finds the answer to this nonce, before a line came.
+    pub fn new(nonce: &[u8; 16]) -> Finder
+        ensures { IsFinder nonce.now [] result }
+    {
+        Finder {
+            nonce: *nonce,
+            all: Kept::none(),
+            asked: Kept::none(),
+            counts: (0, 0),
+        }
+    }
+
+    /// Takes one line more, without its line feed.
+    pub fn take(&mut self, alloc: Global, line: &str) -> Result<(), AllocError>
+        ensures { OnOk result ((nonce : List ℕ) (lines : List (List ℕ))
+            → IsFinder nonce lines self.old → IsFinder nonce (lines ++ line.now ∷ []) self.new) }
+    {
+        let any = reply_of(alloc, None, line)?;
+        let asked = reply_of(alloc, Some(self.nonce), line)?;
+        let (count, asked_count) = self.counts;
+        self.counts = (more(count, any.as_ref()), more(asked_count, asked.as_ref()));
+        self.all.add(any);
+        self.asked.add(asked);
+        Ok(())
+    }
+
+    /// The answer among the lines that came.
+    pub fn answer(self) -> Choice
+        ensures { (nonce : List ℕ) (lines : List (List ℕ)) → IsFinder nonce lines self
+            → chosen result ≡ answer_of nonce lines }
+    {
+        choice_of(self.all.only(), self.asked.only(), self.counts)
+    }
 }
 
 /// The answer among lines: their only reply, or else the only one with the nonce.
-#[tactic(auto, unfolding(crate::specs::Answer::answer_of))]
 pub fn find_answer(alloc: Global, nonce: &[u8; 16], lines: &str) -> Result<Choice, AllocError>
     ensures { IfOk result (λ choice. chosen choice ≡ answer_in nonce.now lines.now) }
 {
-    let mut all = replies_of(alloc, None, lines)?;
-    let count = all.len();
-    if count == 1 {
-        return match all.pop() {
-            Some(used) => Ok(Choice::Answer(used)),
-            None => Ok(Choice::Replies(0, 0)),
-        };
+    let mut finder = Finder::new(nonce);
+    for line in lines.split('\n') {
+        finder.take(alloc, line)?;
     }
-    let mut asked = replies_of(alloc, Some(*nonce), lines)?;
-    let asked_count = asked.len();
-    match asked.pop() {
-        Some(used) if asked_count == 1 => Ok(Choice::Answer(used)),
-        _ => Ok(Choice::Replies(count, asked_count)),
-    }
+    Ok(finder.answer())
 }

@@ -4,10 +4,10 @@ ghost use Rattle.std.specs.Prelude.{length, string_bytes};
 ghost use Rattle.std.specs.Io.KnownBytes.{Appends};
 ghost use Rattle.rpmb_client.specs.Explained.{checks_text, data_digits, data_name, counter_text};
 ghost use Rattle.rpmb_client.specs.Explained.{fields_text, front_text, frame_line, frame_lines};
-ghost use Rattle.rpmb_client.specs.Explained.{judged_mac, kind_text, lacks_mac, lacks_nonce};
-ghost use Rattle.rpmb_client.specs.Explained.{mac_text, no_frames_line};
+ghost use Rattle.rpmb_client.specs.Explained.{has_zero_mac, judged_mac, kind_text, lacks_mac};
+ghost use Rattle.rpmb_client.specs.Explained.{lacks_nonce, mac_text, no_bytes_line, no_frames_line};
 ghost use Rattle.rpmb_client.specs.Explained.{nonce_text, place_text, reply_lines, result_text};
-ghost use Rattle.rpmb_client.specs.Explained.{stuff_text, two_bytes};
+ghost use Rattle.rpmb_client.specs.Explained.{some_bytes_line, stuff_text, two_bytes};
 
 use crate::answer::{Used, has_nonce, has_right_mac, is_whole};
 use crate::fault::ClientFault;
@@ -96,6 +96,15 @@ pub(crate) fn lacks_mac(frames: &[[u8; 512]]) -> bool
     keyless && last.key_mac() == [0; 32]
 }
 
+/// Whether the last frame has zeros for a MAC, as all have that are told once a disk failed.
+#[tactic(auto, unfolding(crate::specs::Explained::has_zero_mac))]
+pub(crate) fn has_zero_mac(frames: &[[u8; 512]]) -> bool
+    requires { 0 < length frames.now }
+    ensures { result ≡ has_zero_mac frames.now }
+{
+    Frame::from_bytes(&frames[frames.len() - 1]).key_mac() == [0; 32]
+}
+
 fn judged_mac(key: &[u8; 32], frames: &[[u8; 512]]) -> &'static str
     requires { 0 < length frames.now }
     ensures { result.now ≡ judged_mac key.now frames.now }
@@ -105,6 +114,9 @@ fn judged_mac(key: &[u8; 32], frames: &[[u8; 512]]) -> &'static str
     }
     if lacks_mac(frames) {
         return "none";
+    }
+    if has_zero_mac(frames) {
+        return "wrong (zeros)";
     }
     "wrong"
 }
@@ -281,13 +293,38 @@ fn write_frames<W: Write>(
     Ok(())
 }
 
-#[tactic(auto, unfolding(crate::specs::Explained::no_frames_line))]
+/// Writes of a reply of no bytes why it is one.
+#[tactic(auto, unfolding(crate::specs::Explained::no_bytes_line))]
+fn write_no_bytes<W: Write>(guest: u64, out: &mut W) -> Result<(), ClientFault>
+    ensures { OnOk result
+        (Appends (W.contents out.old) (W.contents out.new) (no_bytes_line guest)) }
+{
+    writeln!(
+        out,
+        "guest {guest}, no frames: its request asked for none (--no-result), or needs WRITABLE 512 \
+         or more"
+    )?;
+    Ok(())
+}
+
+#[tactic(auto, unfolding(crate::specs::Explained::some_bytes_line))]
+fn write_some_bytes<W: Write>(guest: u64, count: usize, out: &mut W) -> Result<(), ClientFault>
+    ensures { OnOk result
+        (Appends (W.contents out.old) (W.contents out.new) (some_bytes_line guest count)) }
+{
+    writeln!(out, "guest {guest}, {count} bytes are no frames")?;
+    Ok(())
+}
+
+/// Writes of a reply that is no whole frames what it is.
 fn write_no_frames<W: Write>(guest: u64, count: usize, out: &mut W) -> Result<(), ClientFault>
     ensures { OnOk result
         (Appends (W.contents out.old) (W.contents out.new) (no_frames_line guest count)) }
 {
-    writeln!(out, "guest {guest}, {count} bytes are no frames")?;
-    Ok(())
+    match count {
+        0 => write_no_bytes(guest, out),
+        _ => write_some_bytes(guest, count, out),
+    }
 }
 
 /// Writes what a reply says: a line for each frame, with every field by its name, the result in

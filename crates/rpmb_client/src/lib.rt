@@ -20,7 +20,7 @@ mod values;
 pub use answer::{ReadAnswer, Used, has_nonce, has_right_mac, read_data, read_used};
 pub use blocks::{cut, pad};
 pub use chain::write_chain;
-pub use choosing::{Choice, find_answer};
+pub use choosing::{Choice, Finder, find_answer};
 pub use explaining::{explain, kind_text, result_text};
 pub use fault::ClientFault;
 pub use judging::{is_refused, is_wrong};

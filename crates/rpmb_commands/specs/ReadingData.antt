@@ -1,16 +1,18 @@
 -- The bytes that `read-data` writes, by its words and the lines that it is given.
-use Rattle.std.specs.Prelude.{ℕ, ◌≡◌, ◌<◌, ◌++◌, Bool, false, if◌then◌else◌, List, [], Option}
+use Rattle.std.specs.Prelude.{ℕ, ◌≡◌, ◌<◌, Bool, if◌then◌else◌, List, [], Option}
 use Rattle.std.specs.Prelude.{None, Some}
 use Rattle.std.specs.Prelude.{Result, Ok, Err, IfErr, IfSome, OnOk, length}
 use Rattle.std.specs.Borrow.{Bor}
-use Rattle.std.specs.Io.BufRead.{drop_through, take_through}
 use Rattle.std.specs.Io.KnownBytes.{Appends}
 use Rattle.rpmb_client.specs.Answer.{Read, Used, answer_in, blocks, no_frames, other_response}
 use Rattle.rpmb_client.specs.Answer.{read_of, refused, wrong_mac, wrong_nonce}
 use Rattle.rpmb_client.specs.Blocks.{cut}
 use Rattle.rpmb_client.specs.Explained.{is_wrong, kind_text, result_text}
+use Rattle.rpmb_client.specs.Finding.{IsFinder}
 use Rattle.rpmb_client.specs.Options.{number_said}
+use Rattle.rpmb_client.specs.declared.choosing.Finder.{Finder}
 use Rattle.rpmb_client.specs.declared.refusal.Number.TheVariants as number
+use Rattle.rpmb_commands.specs.Explaining.{IsCut}
 use Rattle.rpmb_commands.specs.KeySaid.{IsWhyNoKeySaid, SaysKey}
 use Rattle.rpmb_commands.specs.Refusing.{IsOfReading, KeepsUnless}
 use Rattle.rpmb_commands.specs.Said.{IsWhyNonce, key_word, nonce_of, or_refusal}
@@ -20,12 +22,10 @@ use Rattle.rpmb_commands.specs.declared.words.Words.{Words}
 
 -- 0. What is read
 
--- a line more of a text, which is none only where the text ends, behind lines that were read
-pub record IsMore (text : List ℕ) (some : Bool) (start now : List ℕ)
-    (after : Option (List ℕ)) : Type 0 where
-  pub line : now ≡ start ++ take_through 10 text
-  pub rest : after ≡ Some (drop_through 10 text)
-  pub end : some ≡ false → text ≡ []
+-- what comes of all lines of a text
+abbrev pub IsSought : List ℕ → List ℕ → Finder → Type 0
+IsSought nonce text finder =
+    (lines : List (List ℕ)) × IsCut text lines [] × IsFinder nonce lines finder
 
 -- 1. What is written
 

@@ -2,7 +2,10 @@
 
 use crate::counts::result_bit;
 use crate::refusal::Refusal;
-use crate::source::{BLOCKS_FILE, BOARD_FILE, IS_FOLDER, KEY_FILE, NO_PERMISSION, NOT_THERE};
+use crate::source::{
+    BLOCKS_FILE, BOARD_FILE, IS_FOLDER, KEY_FILE, LONG_PATH, NO_PATH, NO_PERMISSION, NOT_THERE,
+    ROUND_LINKS,
+};
 use crate::words::Words;
 use rpmb_client::OptionRefusal;
 use std::io::Write;
@@ -48,8 +51,9 @@ static RESULTS: [(u16, &str, &str); 7] = [
         0x0001,
         "GENERAL_FAILURE",
         "the request is no whole frames of 512 bytes, of a type that there is, that belong \
-         together; or has no block, or more than the board's max_wr_cnt or max_rd_cnt, or than \
-         the room for its answer; or asks for a result, and there was no request before",
+         together; or has no block, or more than its [[guest]] in the board file says by \
+         max_wr_cnt or max_rd_cnt (16 where it doesn't), or than the room for its answer; or asks \
+         for a result, and there was no request before; or the host's disk failed",
     ),
     (0x0002, "AUTH_FAILURE", "the request had another --key"),
     (
@@ -87,6 +91,17 @@ const NO_KEY_NAME: &str = "the name of a file is missing behind @ or @raw:";
 /// What is said of lines that are none of a run.
 const NO_RUN: &str = "what `rpmbd run` or `rpmbd serve` prints is read here; no line of that is so \
     long";
+
+/// What is said of a MAC that isn't right.
+const OTHER_KEY: &str = "its guest has another key, or somebody changed it";
+
+const OTHER_MAC: &str =
+    "its guest has another key, somebody changed the answer, or the host's disk \
+    failed (explain says zeros)";
+
+/// What is said of an answer of no bytes.
+const NO_FRAMES: &str = "its request asked for none (--no-result), or needs WRITABLE 512 for each \
+    block";
 
 /// What is said where standard input gives no lines.
 const NO_PIPE: &str = "give it what `rpmbd run` prints, by a pipe or from a file";
@@ -194,6 +209,9 @@ fn help_with_file(words: &Words<'_>, name: &str, why: &str) -> &'static str {
         NOT_THERE => help_with_name(words, name),
         IS_FOLDER => "name a file in it",
         NO_PERMISSION => "its owner may let you: chmod, or give you a copy",
+        NO_PATH => "mend the path",
+        ROUND_LINKS => "name the file itself",
+        LONG_PATH => "take a shorter one",
         _ => "name another file, or mend this one",
     }
 }
@@ -228,7 +246,10 @@ fn advice_on_option<'a>(
         }
         OptionRefusal::BadHexFile(name, _) => Some((name, NO_KEY)),
         OptionRefusal::ByteOrderMark(name) => Some((name, "save it without one")),
-        OptionRefusal::SecondLine(name) => Some((name, "take away all behind the digits")),
+        OptionRefusal::SecondLine(name) => Some((
+            name,
+            "take away all but the digits, also what stands before them",
+        )),
         _ => None,
     }
 }
@@ -239,7 +260,8 @@ fn help_with_result(code: &str) -> (&'static str, &'static str) {
         "ADDR_FAILURE" => ("--address", "the blocks end behind the guest's last one"),
         "GENERAL_FAILURE" => (
             "--count",
-            "more than the board's max_rd_cnt, or than the line has room for",
+            "more than max_rd_cnt of its [[guest]] in the board file (16 where it has none), or \
+             than WRITABLE of its chain has room for",
         ),
         _ => ("the read", "ask for the counter, whose answer says more"),
     }
@@ -254,7 +276,7 @@ fn advice_on_answer(refusal: &Refusal<'_>) -> Option<(&'static str, &'static str
         Refusal::NoAnswer(_, 0) => Some(("--nonce", "none of them answers the read of this nonce")),
         Refusal::NoAnswer(_, _) => Some(("--nonce", "each question wants a nonce of its own")),
         Refusal::WrongAnswer(_, _, doubt) => Some(("the first of these", doubt.why)),
-        Refusal::WrongMac => Some(("--key", "its guest has another key, or somebody changed it")),
+        Refusal::WrongMac => Some(("--key", OTHER_MAC)),
         Refusal::WrongNonce => Some((
             "--nonce",
             "it answers another question, or is an old answer",
@@ -263,10 +285,8 @@ fn advice_on_answer(refusal: &Refusal<'_>) -> Option<(&'static str, &'static str
             "--guest",
             "program-key gives it a key; if it has one, the host's disk failed",
         )),
-        Refusal::NoFrames(_) => Some((
-            INPUT,
-            "the answer of a read is wanted here, not of a write",
-        )),
+        Refusal::NoFrames(0) => Some((INPUT, NO_FRAMES)),
+        Refusal::NoFrames(_) => Some((INPUT, "rpmbd answers in whole frames; take its own line")),
         Refusal::OtherResponse(_) => Some(("--nonce", "the nonce of a read is wanted here")),
         Refusal::TooShort(_, _) => Some((
             "--length",
@@ -310,8 +330,9 @@ pub(crate) fn advice_of<'a>(
         )),
         Refusal::NoRoom if words.operation.is_some() => Some((words.board.unwrap_or(""), DONE)),
         Refusal::NoRoom => Some(("standard output", CUT)),
-        // Of an operation on a board's image more is known, and told behind.
+        // Of an operation on a board's image more is known, and told behind, or is no cause.
         Refusal::Refused(_) if words.operation.is_some() => None,
+        Refusal::WrongMac if words.operation.is_some() => Some(("--key", OTHER_KEY)),
         Refusal::Refused(code) => Some(help_with_result(code)),
         _ => advice_on_answer(refusal),
     }

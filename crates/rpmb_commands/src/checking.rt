@@ -10,6 +10,15 @@ use std::alloc::Global;
 use std::io;
 use std::io::Write;
 
+/// The bytes of a script's line that are too many without its line feed: a store of 64 MiB, the
+/// largest memory of a guest, has fewer.
+const LINE_BYTES: usize = 134_217_760;
+
+const LONG_LINE: &str = "has a line of 134217760 bytes and more, and is no script";
+
+/// How many bytes of an image say which version it is of: the last of them does.
+const VERSION_FRONT: u64 = 513;
+
 /// The board of a file, and the path of its image, where it names one.
 fn check_board<'a, S: Source>(
     alloc: Global,
@@ -55,6 +64,14 @@ fn is_cut(script: &str) -> bool {
     }
 }
 
+/// Refused where a line has more bytes than `rpmbd run` takes in one.
+fn check_lengths<'a>(file: &'a str, text: &str) -> Result<(), Refusal<'a>> {
+    if text.split('\n').any(|line| line.len() >= LINE_BYTES) {
+        return Err(Refusal::NoFile(file, LONG_LINE));
+    }
+    Ok(())
+}
+
 /// Whether a script that is read may have been cut within its last line.
 // for the checker: apart from what reads it, so that the text is dropped at one exit
 fn check_script<'a, S: Source>(
@@ -64,6 +81,7 @@ fn check_script<'a, S: Source>(
     guests: u16,
 ) -> Result<bool, Refusal<'a>> {
     let text = text_of(alloc, source, file, SCRIPT_FILE)?;
+    check_lengths(file, text.as_str())?;
     check_text(alloc, file, text.as_str(), guests)?;
     Ok(is_cut(text.as_str()))
 }
@@ -77,17 +95,43 @@ fn write_cut<'a, W: Write>(file: &str, out: &mut W) -> Result<(), Refusal<'a>> {
     }
 }
 
-/// Writes what a board is good for, and of each guest its capacity.
-fn write_board<W: Write>(board: &BoardConfig, image: Option<&str>, out: &mut W) -> io::Result<()> {
-    let count = board.guests().len();
+/// Of which version an image is by its first bytes.
+fn version_of(front: &[u8]) -> &'static str {
+    if !front.starts_with(b"VRPMBIMG") {
+        return ", which is no image";
+    }
+    match front.get(512) {
+        Some(2) => " of version 2",
+        Some(_) => " of version 1",
+        None => ", which is no whole image",
+    }
+}
+
+/// What is said behind the path of an image, which nobody has to have made yet.
+fn state_of<S: Source>(alloc: Global, source: &S, image: &str) -> &'static str {
+    if !source.is_file(image) {
+        return "";
+    }
+    match source.front(alloc, image, VERSION_FRONT) {
+        Some(front) => version_of(front.as_slice()),
+        None => "",
+    }
+}
+
+/// Writes what a board is good for, with what is said of its image, where it names one.
+fn write_ok<W: Write>(count: usize, image: Option<(&str, &str)>, out: &mut W) -> io::Result<()> {
     let guests = if count == 1 { "guest" } else { "guests" };
     match image {
-        Some(path) => writeln!(out, "ok: {count} {guests}, image {path:?}")?,
+        Some((path, state)) => writeln!(out, "ok: {count} {guests}, image {path:?}{state}"),
         None => {
             let kept = "in memory: format, show and upgrade refuse it";
-            writeln!(out, "ok: {count} {guests}, {kept}")?;
+            writeln!(out, "ok: {count} {guests}, {kept}")
         }
     }
+}
+
+/// Writes of each guest of a board its capacity.
+fn write_guests<W: Write>(board: &BoardConfig, out: &mut W) -> io::Result<()> {
     let mut number = 0u16;
     for guest in board.guests() {
         let units = guest.capacity;
@@ -118,7 +162,12 @@ pub fn check<'a, S: Source, W: Write>(
         Some(script) if check_script(alloc, source, script, guests)? => Some(script),
         _ => None,
     };
-    if write_board(&board, image.as_deref(), out).is_err() {
+    let image = match image.as_deref() {
+        Some(path) => Some((path, state_of(alloc, source, path))),
+        None => None,
+    };
+    let count = board.guests().len();
+    if write_ok(count, image, out).is_err() || write_guests(&board, out).is_err() {
         return Err(Refusal::NoRoom);
     }
     match cut {

@@ -181,7 +181,7 @@ fn why_no_lines(error: &io::Error) -> &'static str {
 }
 
 /// Why the line of this number isn't read.
-pub(crate) fn input_fault<'a>(error: &io::Error, number: u64) -> Refusal<'a>
+fn input_fault<'a>(error: &io::Error, number: u64) -> Refusal<'a>
     ensures reading { IsOfReading result }
     ensures other { IsOther result }
 {
@@ -193,13 +193,14 @@ pub(crate) fn input_fault<'a>(error: &io::Error, number: u64) -> Refusal<'a>
 }
 
 /// Reads the next line, of this number, with its end, and says whether there is one.
-fn next_line<'a, B: BufRead>(
+pub(crate) fn next_line<'a, B: BufRead>(
     input: &mut B,
     number: u64,
     line: &mut String,
 ) -> Result<bool, Refusal<'a>>
     ensures next { IfOk result (λ some. IfSome (B.remaining input.old)
         (λ text. IsNext text some (string_bytes line.new) (B.remaining input.new))) }
+    ensures reading { IfErr result IsOfReading }
     ensures other { IfErr result IsOther }
 {
     line.clear();
@@ -209,7 +210,8 @@ fn next_line<'a, B: BufRead>(
     }
 }
 
-fn without_end(line: &str) -> &str
+/// A line without its line feed.
+pub(crate) fn without_end(line: &str) -> &str
     ensures { result.now ≡ without_feed line.now }
 {
     match line.strip_suffix('\n') {

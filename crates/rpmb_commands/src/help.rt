@@ -1,7 +1,8 @@
 //! What stands behind the help of each command: what it prints, and its statuses.
 
-/// The version, and the logic that the program was proved with, as `rt version` names it.
-pub const VERSION: &str = "0.1 (logic dac8208d650f15bf)";
+/// The version, the logic that the program was proved with, as `rt version` names it, and the images
+/// that it opens.
+pub const VERSION: &str = "0.1 (Hovdrang, logic dac8208d650f15bf), images of version 1 and 2";
 
 pub const PROGRAM: &str = "\
 The lines that these commands make go into a script, and the lines that `rpmbd run`\n\
@@ -72,7 +73,8 @@ reply: its type, result and fields, whether the nonce is right (with --nonce) an
 the MAC is (with --key), and a block in hex digits, and as text where it is one. Any other\n\
 line is printed as it is; one that begins with `used` was torn, and (torn: ..) stands\n\
 behind it, and (of a script: ..) behind one of a script. Each is printed as it comes.\n\
-A reply of 0 bytes had no room: WRITABLE of its chain has to be 512 or a multiple.\n\
+A reply of 0 bytes is told as such, and counts as one: its request asked for none, as by\n\
+--no-result, or had no room. WRITABLE of its chain is to be 512 or a multiple.\n\
 \n\
 Status: 0; 1 where no reply came, a line was torn or of a script, a MAC or a nonce was wrong,\n\
 only other guests than that of a key answered or a value is refused, 2 for words that aren't\n\
@@ -81,16 +83,18 @@ understood, and 3 where an answer has another result than OK and none was wrong.
 
 pub const READ_DATA: &str = "\
 Prints the bytes of the blocks that a read gave, and nothing else. Of several lines\n\
-`used G LEN HEX` on standard input it takes the one that has the nonce.\n\
+`used G LEN HEX` on standard input, as many as come, it takes the one that has the nonce.\n\
 \n\
 Status: 0 where they are printed; 1, and nothing is printed, where the MAC or the nonce\n\
 is wrong, or there is no such answer, with a line on standard error that says which; 2 for\n\
 words that aren't understood; 3 where the device refused the read in a right answer.";
 
 pub const CHECK: &str = "\
-Prints `ok` where `rpmbd run` reads the board file, and the script for it where one is\n\
-named. `rpmbd serve` also refuses a `store` line, and `rpmbd format` and `rpmbd show` a\n\
-board without the key image.\n\
+Prints `ok: N guests, image \"PATH\"`, with the version of the image where the file is one,\n\
+or `in memory` in its place, and `guest G: capacity C (K KiB)` for each guest, where\n\
+`rpmbd run` reads the board file, and the script for it where one is named; behind that\n\
+a line where the script may have been cut. `rpmbd serve` also refuses a `store` line, and\n\
+`rpmbd format`, `show` and `upgrade` a board without the key image.\n\
 \n\
 Status: 0 for ok; 1 where a file isn't read, with a line on standard error that says which\n\
 key or which line and word, what was expected, and what stands there; 2 for words that\n\
@@ -135,8 +139,9 @@ last block of the guest nothing is written. Prints what explain says of each ans
 write, or of the answer with the counter, where it isn't used.\n\
 \n\
 It prints at its end. Where it was stopped before, the first blocks may be written, in\n\
-their order, and the last not: read-counter says how many more requests were accepted, each\n\
-of N blocks. Go on behind those, by --address and the rest of the file.\n\
+their order, and the last not. Write all of them again; or, where read-counter told the\n\
+counter before, go on behind the requests that it has counted since, each of N blocks, by\n\
+--address and the rest of the file.\n\
 \n\
 Status: 0 where all is written; 1 where a value is refused, a MAC or a nonce was wrong,\n\
 or the board or its image came to a fault; 2 for words that aren't understood; 3 where the\n\

@@ -27,5 +27,5 @@ pub use line_limit::LineLimit;
 pub use performing::{perform, report, report_with_advice};
 pub use reading::key;
 pub use refusal::Refusal;
-pub use source::{Source, SourceError, is_file, read_file};
+pub use source::{Source, SourceError, is_file, read_file, read_front};
 pub use words::{Words, WordsError, read_words};

@@ -1,61 +1,61 @@
 //! The command that writes the blocks of a read.
-ghost use Rattle.std.specs.Prelude.{◌≡◌, ◌++◌, IfErr, IfOk, IfSome, OnOk, Some, string_bytes};
+ghost use Rattle.std.specs.Prelude.{◌≡◌, ◌++◌, ◌∷◌, ℕ, IfErr, IfOk, IfSome, List, OnOk, Some, []};
 ghost use Rattle.std.specs.Io.KnownBytes.{Appends};
 ghost use Rattle.rpmb_client.specs.Answer.{answer_in, blocks, read_of};
+ghost use Rattle.rpmb_client.specs.Finding.{IsFinder};
 ghost use Rattle.rpmb_client.specs.Seen.{read_seen, used_seen};
+ghost use Rattle.rpmb_commands.specs.Explaining.{without_feed};
 ghost use Rattle.rpmb_commands.specs.ReadingData.{AreFirst, GivesData, GivesFirst, IsAnswered};
-ghost use Rattle.rpmb_commands.specs.ReadingData.{IsMore, IsTold, WhyNoAnswer, WhyNoBlocks, WhyNoData};
-ghost use Rattle.rpmb_commands.specs.ReadingData.{WhyNotFirst, WhyNotGiven, WhyNotRead};
+ghost use Rattle.rpmb_commands.specs.ReadingData.{IsSought, IsTold, WhyNoAnswer, WhyNoBlocks};
+ghost use Rattle.rpmb_commands.specs.ReadingData.{WhyNoData, WhyNotFirst, WhyNotGiven, WhyNotRead};
 ghost use Rattle.rpmb_commands.specs.ReadingData.{WhyNotSoMany, no_right_mac};
 ghost use Rattle.rpmb_commands.specs.Refusing.{IsOfReading, KeepsUnless};
 
-use crate::explaining::input_fault;
+use crate::explaining::{next_line, without_end};
 use crate::reading::key;
 use crate::refusal::Refusal;
 use crate::source::Source;
 use crate::values::{length_of, nonce_of};
 use crate::words::Words;
 use rpmb_client::{
-    Choice, ReadAnswer, Used, cut, find_answer, is_wrong, kind_text, read_data, result_text,
+    Choice, Finder, ReadAnswer, Used, cut, is_wrong, kind_text, read_data, result_text,
 };
 use std::alloc::Global;
 use std::io::{BufRead, Write};
 
-/// The most bytes of all lines together: 64 MiB.
-const LINES_BYTES: usize = 67_108_864;
-
-/// Reads a line more, of this number, and says whether there is one.
-fn read_more<'a, B: BufRead>(
-    input: &mut B,
-    number: u64,
-    lines: &mut String,
-) -> Result<bool, Refusal<'a>>
-    ensures more { IfOk result (λ some. IfSome (B.remaining input.old) (λ text.
-        IsMore text some (string_bytes lines.old) (string_bytes lines.new)
-        (B.remaining input.new))) }
+/// Gives a line to what finds the answer.
+fn take_line<'a>(alloc: Global, line: &str, finder: &mut Finder) -> Result<(), Refusal<'a>>
+    ensures taken { OnOk result ((nonce : List ℕ) (lines : List (List ℕ))
+        → IsFinder nonce lines finder.old
+        → IsFinder nonce (lines ++ without_feed line.now ∷ []) finder.new) }
     ensures reading { IfErr result IsOfReading }
 {
-    match input.read_line(lines) {
-        Ok(count) => Ok(count > 0),
-        Err(error) => Err(input_fault(&error, number)),
+    match finder.take(alloc, without_end(line)) {
+        Ok(()) => Ok(()),
+        Err(_) => Err(Refusal::NoMemory),
     }
 }
 
-/// Reads all lines, behind those that are there.
-fn read_lines<'a, B: BufRead>(input: &mut B, lines: &mut String) -> Result<(), Refusal<'a>>
-    ensures lines { OnOk result (IfSome (B.remaining input.old)
-        (λ text. string_bytes lines.new ≡ string_bytes lines.old ++ text)) }
+/// Gives the lines, each as it comes and in the same `line`, to what finds the answer among them.
+fn seek<'a, B: BufRead>(
+    alloc: Global,
+    nonce: &[u8; 16],
+    line: &mut String,
+    input: &mut B,
+) -> Result<Finder, Refusal<'a>>
+    ensures found { IfOk result (λ finder. IfSome (B.remaining input.old)
+        (λ text. IsSought nonce.now text finder)) }
     ensures reading { IfErr result IsOfReading }
 {
+    let mut finder = Finder::new(nonce);
     for number in 0..u64::MAX {
-        if !read_more(input, number + 1, lines)? {
-            return Ok(());
+        if !next_line(input, number + 1, line)? {
+            return Ok(finder);
         }
-        if lines.len() > LINES_BYTES {
-            break;
-        }
+        take_line(alloc, line.as_str(), &mut finder)?;
     }
-    Err(Refusal::NoInput("more than 67108864 bytes of them"))
+    // No input has so many lines.
+    Err(Refusal::NoInput("more than there are numbers for"))
 }
 
 /// The answer among the lines: the only reply, or else the only one with the nonce.
@@ -69,15 +69,14 @@ fn answer_of<'a, B: BufRead>(
     ensures err { IfErr result (λ refused. IfSome (B.remaining input.old)
         (λ text. WhyNoAnswer nonce.now text refused)) }
 {
-    let mut lines = String::new(alloc);
-    match read_lines(input, &mut lines) {
-        Ok(()) => {}
+    let mut line = String::new(alloc);
+    let finder = match seek(alloc, nonce, &mut line, input) {
+        Ok(finder) => finder,
         Err(refusal) => return Err(refusal),
-    }
-    match find_answer(alloc, nonce, lines.as_str()) {
-        Ok(Choice::Answer(used)) => Ok(used),
-        Ok(Choice::Replies(count, asked)) => Err(Refusal::NoAnswer(count, asked)),
-        Err(_) => Err(Refusal::NoMemory),
+    };
+    match finder.answer() {
+        Choice::Answer(used) => Ok(used),
+        Choice::Replies(count, asked) => Err(Refusal::NoAnswer(count, asked)),
     }
 }
 

@@ -63,7 +63,7 @@ pub enum Refusal<'a> {
     NoMemory,
     #[error("NoAnswer: expected one line `used G LEN HEX`, or just one with the nonce, \
         got {0} lines, {1} with it")]
-    NoAnswer(usize, usize),
+    NoAnswer(u64, u64),
     #[error("NoFrames: expected a reply of whole frames of 512 bytes, got {0} bytes")]
     NoFrames(usize),
     #[error("WrongMac: expected the MAC of all frames under the key, got another")]

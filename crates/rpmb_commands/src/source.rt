@@ -18,8 +18,8 @@ pub(crate) const BLOCKS_FILE: usize = 16_777_216;
 /// The most bytes of a board file: 1 MiB.
 pub(crate) const BOARD_FILE: usize = 1_048_576;
 
-/// The most bytes of a script: 64 MiB.
-pub(crate) const SCRIPT_FILE: usize = 67_108_864;
+/// The most bytes of a script: 512 MiB, as `rpmbd run` takes them.
+pub(crate) const SCRIPT_FILE: usize = 536_870_912;
 
 /// Why a file isn't read that isn't there.
 pub(crate) const NOT_THERE: &str = "isn't there";
@@ -27,6 +27,12 @@ pub(crate) const NOT_THERE: &str = "isn't there";
 pub(crate) const IS_FOLDER: &str = "is a folder";
 
 pub(crate) const NO_PERMISSION: &str = "no permission to read it";
+
+pub(crate) const NO_PATH: &str = "a part of its path is a file, and no folder";
+
+pub(crate) const ROUND_LINKS: &str = "leads round in links";
+
+pub(crate) const LONG_PATH: &str = "the path is too long";
 
 /// Why a file isn't read.
 #[derive(Clone, Copy, Debug)]
@@ -57,6 +63,10 @@ pub trait Source {
 
     /// Whether there is a file of the name, which isn't opened.
     fn is_file(&self, name: &str) -> bool;
+
+    /// The first bytes of a file, `most` where it has as many. None where it can't be read, or
+    /// memory is refused for them.
+    fn front(&self, alloc: Global, name: &str, most: u64) -> Option<Vec<u8>>;
 }
 
 fn error_of(error: &io::Error) -> SourceError {
@@ -65,9 +75,9 @@ fn error_of(error: &io::Error) -> SourceError {
         io::ErrorKind::NotFound => SourceError::NoFile(NOT_THERE),
         io::ErrorKind::IsADirectory => SourceError::NoFile(IS_FOLDER),
         io::ErrorKind::PermissionDenied => SourceError::NoFile(NO_PERMISSION),
-        io::ErrorKind::NotADirectory => SourceError::NoFile("a part of its path is no folder"),
-        io::ErrorKind::FilesystemLoop => SourceError::NoFile("leads round in links"),
-        io::ErrorKind::InvalidFilename => SourceError::NoFile("the path is too long"),
+        io::ErrorKind::NotADirectory => SourceError::NoFile(NO_PATH),
+        io::ErrorKind::FilesystemLoop => SourceError::NoFile(ROUND_LINKS),
+        io::ErrorKind::InvalidFilename => SourceError::NoFile(LONG_PATH),
         _ => SourceError::NoFile("a read of it failed"),
     }
 }
@@ -96,6 +106,15 @@ pub fn read_file<R: Files + AllocGlobal>(
     match fs::open(rt, path) {
         Ok(file) => read_most(rt.alloc(), file, most),
         Err(error) => Err(error_of(&error)),
+    }
+}
+
+/// The first bytes of the file of a path, or none, as `Source::front` gives them.
+pub fn read_front<R: Files + AllocGlobal>(rt: &R, path: &str, most: u64) -> Option<Vec<u8>> {
+    let mut bytes = Vec::new(rt.alloc());
+    match fs::open(rt, path).ok()?.take(most).read_to_end(&mut bytes) {
+        Ok(_) => Some(bytes),
+        Err(_) => None,
     }
 }
 

@@ -1,7 +1,8 @@
-use Rattle.std.proofs.Common.{◌≡◌, ◌++◌, ◌∙◌, None, ap, refl, subst, sym}
-use Rattle.rpmb_client.specs.Answer.{answer_in}
+use Rattle.std.proofs.Common.{◌∙◌, ap, refl, sym}
+use Rattle.rpmb_client.specs.Seen.{chosen}
 use Rattle.rpmb_commands.specs.ReadingData.{WhyNoAnswer, answer_none, answer_unread}
 use Rattle.rpmb_commands.proofs.DataLemmas.{each_text, map_some}
+use Rattle.rpmb_commands.proofs.WholeText.{answer_cut}
 use Rattle.rpmb_commands.proofs.read_data.answer_of.Goals as goal
 
 pub returns-in-Err-clause-err : goal.returns-in-Err-clause-err
@@ -10,10 +11,17 @@ returns-in-Err-clause-err g c =
     WhyNoAnswer c.args.nonce.now text c.in-Err.refusal) (λ text.
     answer_unread c.in-Err.ensures.reading)
 
-pub returns-in-Ok-Replies-clause-err : goal.returns-in-Ok-Replies-clause-err
-returns-in-Ok-Replies-clause-err g c =
-    let none = rw c.in-Ok-Replies.field-0-is at c.in-Ok-Replies.ensures in
-    map_some (g.B.Read.remaining c.args.input.now) _ _ c.in-Ok.ensures.lines (λ text is.
-    answer_none (subst (λ t. answer_in c.args.nonce.now t ≡ None) (c.as_str.ensures.value ∙ is
-    ∙ ap (λ b. b ++ text) c.new-lines.ensures.bytes) (sym none))
-    c.in-Ok-Replies.count c.in-Ok-Replies.asked refl)
+pub returns-in-Answer-clause-ok : goal.returns-in-Answer-clause-ok
+returns-in-Answer-clause-ok g c =
+    let nonce = c.args.nonce.now in
+    map_some (g.B.Read.remaining c.args.input.now) _ _ c.in-Ok.ensures.found (λ text found.
+    sym (answer_cut nonce text found.0 found.1) ∙ sym (c.answer.ensures nonce found.0 found.2)
+    ∙ ap chosen c.in-Answer.is)
+
+pub returns-clause-err : goal.returns-clause-err
+returns-clause-err g c =
+    let nonce = c.args.nonce.now in
+    map_some (g.B.Read.remaining c.args.input.now) _ _ c.in-Ok.ensures.found (λ text found.
+    answer_none (sym (answer_cut nonce text found.0 found.1)
+    ∙ sym (c.answer.ensures nonce found.0 found.2) ∙ ap chosen c.in-Replies.is)
+    c.in-Replies.count c.in-Replies.asked refl)

@@ -1,0 +1,11 @@
+use Rattle.std.proofs.Common.{◌∙◌, None, Some, ap, refl}
+use Rattle.rpmb_client.specs.Finding.{kept_of}
+use Rattle.rpmb_client.proofs.FindLemmas.{no_replies}
+use Rattle.rpmb_client.proofs.choosing.Finder.new.Goals as goal
+
+pub returns : goal.returns
+returns c = record {
+  nonce_is = refl;
+  all_is = c.none.ensures ∙ ap kept_of (no_replies None);
+  asked_is = c.none-2.ensures ∙ ap kept_of (no_replies (Some c.args.nonce.now));
+}
