@@ -123,7 +123,7 @@ def sweep_streams(room, image):
 
 def sweep_coming(room):
     """`rpmb explain` says of each line what it is before the next one comes."""
-    pairs = [("a note", "a note"), ("used 0 0 -", "guest 0, 0 bytes are no frames"), ("", "")] * 3
+    pairs = [("a note", "a note"), ("used 0 0 -", "guest 0, no frames: its request asked for none (--no-result), or needs WRITABLE 512 or more"), ("", "")] * 3
     how = {"stdin": subprocess.PIPE, "stdout": subprocess.PIPE, "bufsize": 0}
     program = subprocess.Popen([f"{room.top}/rpmb", "explain"], **how)
     with program:
