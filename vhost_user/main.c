@@ -28,6 +28,8 @@ static const char help[] =
 	"  --max-read N         the same of a read\n"
 	"  --print-capabilities, --version, --help\n\n"
 	"TERM and INT end it, once what is kept was answered. It may be killed at any moment.\n";
+/* (the logic is the one that proved the library: .ci/packaging compares it with what the other programs say) */
+static const char version[] = "vhost-user-rpmb 0.1 (Hovdrang, logic dac8208d650f15bf), images of version 1 and 2\n";
 /* (There is no type for RPMB, and libvirt takes no back end at all beside one of a type that it doesn't know.) */
 static const char capabilities[] = "{\n  \"type\": \"block\",\n  \"features\": []\n}\n";
 
@@ -173,7 +175,7 @@ static bool read_words(struct daemon *d, int argc, char **argv)
 		case 'w': each.max_wr_cnt = (uint8_t)number("--max-write", optarg, 1, 16); is_used = false; break;
 		case 'r': each.max_rd_cnt = (uint8_t)number("--max-read", optarg, 1, 16); is_used = false; break;
 		case 'p': case 'v': case 'h':
-			exit(fputs(c == 'p' ? capabilities : c == 'v' ? "vhost-user-rpmb 0.1\n" : help, stdout) < 0 || fflush(stdout));
+			exit(fputs(c == 'p' ? capabilities : c == 'v' ? version : help, stdout) < 0 || fflush(stdout));
 		default: fputs("vhost-user-rpmb: --help says which options there are, and what they take\n", stderr); exit(2);
 		}
 	if (optind != argc)
