@@ -1,11 +1,15 @@
 -- What is found in a list: the key of a guest, and the replies of lines.
 use Rattle.std.proofs.Common.{◌≡◌, ◌∙◌, ◌<◌, ◌+◌, ℕ, true, false, List, Option, Some, None, [], arith}
 use Rattle.std.proofs.Common.{if◌then◌else◌, ◌∷◌, ◌++◌, length, drop, get_or, nat_eq, refl, ap, sym}
+use Rattle.std.proofs.Common.{Bool, is_some, length-append, min, option_map}
 use Rattle.std.proofs.lemmas.List.{append-nil, drop_more}
 use Rattle.std.proofs.lemmas.Bool.Decides.{nat_tests}
 use Rattle.rpmb_client.specs.Answer.{Used, and_then, answer_of, only, replies_of, reply_of}
-use Rattle.rpmb_client.specs.Finding.{Kept, kept_after, kept_of, only_kept, or_else}
+use Rattle.rpmb_client.specs.Finding.{Kept, count_after, counted, kept_after, kept_of, most}
+use Rattle.rpmb_client.specs.Finding.{only_kept, or_else}
 use Rattle.rpmb_client.specs.Keys.{key_at, pairs_of}
+use Rattle.rpmb_client.specs.Seen.{used_seen}
+use Rattle.rpmb_client.specs.declared.answer.Used as used
 use Rattle.rpmb_client.specs.declared.keys.GuestKey.{GuestKey}
 
 key_at-first : (entry : GuestKey) (keys : List GuestKey) (guest : ℕ) → nat_eq entry.guest guest
@@ -78,6 +82,32 @@ kept_more asked lines line old new read was is now =
     now ∙ ap (λ k. kept_after k read) was ∙ sym (kept_of-push (replies_of asked lines) read)
     ∙ ap (λ r. kept_of (replies_of asked lines ++ and_then r [])) is
     ∙ ap kept_of (sym (replies_of-push asked lines line))
+
+counted_next : (n : ℕ) → min (n + 1) most ≡ min (min n most + 1) most
+counted_next n = grind (arith)
+
+-- and how many there are
+counted-push : (us : List Used) (read : Option Used)
+    → counted (us ++ and_then read []) ≡ count_after (counted us) (is_some read)
+counted-push us None = ap counted (append-nil us)
+counted-push us (Some u) =
+    ap (λ n. min n most) (length-append us (u ∷ [])) ∙ counted_next (length us)
+
+is_some_seen : (read : Option used.Used) → is_some read ≡ is_some (option_map used_seen read)
+is_some_seen None = refl
+is_some_seen (Some u) = refl
+
+pub counted_more : (asked : Option (List ℕ)) (lines : List (List ℕ)) (line : List ℕ) (old new : ℕ)
+    (is_one : Bool) (read : Option used.Used) → old ≡ counted (replies_of asked lines)
+    → option_map used_seen read ≡ reply_of asked line → is_one ≡ is_some read
+    → new ≡ count_after old is_one
+    → new ≡ counted (replies_of asked (lines ++ line ∷ []))
+counted_more asked lines line old new is_one read was is one now =
+    now ∙ ap (λ n. count_after n is_one) was
+    ∙ ap (count_after (counted (replies_of asked lines))) (one ∙ is_some_seen read)
+    ∙ sym (counted-push (replies_of asked lines) (option_map used_seen read))
+    ∙ ap (λ r. counted (replies_of asked lines ++ and_then r [])) is
+    ∙ ap counted (sym (replies_of-push asked lines line))
 
 only_of : (us : List Used) → only_kept (kept_of us) ≡ only us
 unfolding kept_of

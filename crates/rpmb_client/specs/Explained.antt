@@ -123,8 +123,11 @@ data_digits frame =
     if is_zeros (block_data_of frame) 256 then [] else encode_lower (block_data_of frame)
 
 -- what no MAC covers
+abbrev pub has_stuff : List ℕ → Bool
+has_stuff frame = not (is_zeros (slice_range frame 0 196) 196)
+
 abbrev pub stuff_text : List ℕ → List ℕ
-stuff_text frame = if is_zeros (slice_range frame 0 196) 196 then [] else codes ", stuff not zeros"
+stuff_text frame = if has_stuff frame then codes ", stuff not zeros" else []
 
 -- a frame at a place of n, counted from 1, of a reply to a guest
 unfoldable pub place_text : ℕ → ℕ → ℕ → List ℕ
@@ -141,10 +144,9 @@ front_text frame =
 abbrev pub has_counter : ℕ → Bool
 has_counter kind = not (kind == resp_data_read) && not (kind == 0)
 
-unfoldable pub counter_text : List ℕ → List ℕ
-counter_text frame =
-    if has_counter (req_resp_of frame) then codes ", counter " ++ decimal (write_counter_of frame)
-    else []
+unfoldable pub counter_text : List ℕ → List ℕ → List ℕ
+counter_text name frame =
+    if has_counter (req_resp_of frame) then name ++ decimal (write_counter_of frame) else []
 
 unfoldable pub fields_text : List ℕ → List ℕ
 fields_text frame =
@@ -184,7 +186,7 @@ unfoldable pub frame_line : ℕ → ℕ → List (List ℕ) → Option (List ℕ
 frame_line guest i frames key asked =
     let frame = get_or frames i [] in
     place_text guest (i + 1) (length frames)
-    ++ (front_text frame ++ (counter_text frame ++ (fields_text frame
+    ++ (front_text frame ++ (counter_text (codes ", counter ") frame ++ (fields_text frame
     ++ (checks_text i frames key asked ++ block_text (block_data_of frame)))))
 
 -- the lines of the first i frames

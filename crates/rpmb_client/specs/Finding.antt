@@ -1,6 +1,6 @@
 -- What is kept of lines that come one after another, to find the answer among them.
-use Rattle.std.specs.Prelude.{ℕ, ◌≡◌, Bool, false, true, if◌then◌else◌, List, [], ◌∷◌, Option}
-use Rattle.std.specs.Prelude.{None, Some, option_map}
+use Rattle.std.specs.Prelude.{ℕ, ◌≡◌, ◌+◌, Bool, false, true, if◌then◌else◌, List, [], ◌∷◌, Option}
+use Rattle.std.specs.Prelude.{None, Some, length, min, option_map}
 use Rattle.rpmb_client.specs.Answer.{Used, replies_of}
 use Rattle.rpmb_client.specs.Seen.{used_seen}
 use Rattle.rpmb_client.specs.declared.choosing.Finder.{Finder}
@@ -37,8 +37,22 @@ or_else (Some used) asked = Some used
 abbrev pub kept_seen : rust.Kept → Kept
 kept_seen kept = record { first = option_map used_seen kept.first; has_more = kept.has_more }
 
--- what comes of lines for a nonce: what is kept of all their replies, and of those with the nonce
+-- how many there are, as far as 64 bits have numbers
+abbrev pub most : ℕ
+most = 18446744073709551615
+
+abbrev pub counted : List Used → ℕ
+counted useds = min (length useds) most
+
+-- with one more, where there is one
+abbrev pub count_after : ℕ → Bool → ℕ
+count_after count is_one = if is_one then min (count + 1) most else count
+
+-- what comes of lines for a nonce: what is kept of all their replies, and of those with the nonce,
+-- and how many there are of each
 pub record IsFinder (nonce : List ℕ) (lines : List (List ℕ)) (finder : Finder) : Type 0 where
   pub nonce_is : finder.nonce ≡ nonce
   pub all_is : kept_seen finder.all ≡ kept_of (replies_of None lines)
   pub asked_is : kept_seen finder.asked ≡ kept_of (replies_of (Some nonce) lines)
+  pub count_is : finder.counts.0 ≡ counted (replies_of None lines)
+  pub asked_count_is : finder.counts.1 ≡ counted (replies_of (Some nonce) lines)

@@ -2,7 +2,7 @@
 ghost use Rattle.std.specs.Prelude.{◌≡◌, ◌++◌, ◌∷◌, ℕ, IfOk, List, None, OnOk, Option, Some, []};
 ghost use Rattle.std.specs.Prelude.{option_map};
 ghost use Rattle.rpmb_client.specs.Answer.{answer_in, answer_of, is_asked, reply_of};
-ghost use Rattle.rpmb_client.specs.Finding.{IsFinder, kept_after, kept_of, kept_seen};
+ghost use Rattle.rpmb_client.specs.Finding.{IsFinder, count_after, kept_after, kept_of, kept_seen};
 ghost use Rattle.rpmb_client.specs.Finding.{only_kept, or_else};
 ghost use Rattle.rpmb_client.specs.Seen.{chosen, used_seen};
 
@@ -99,8 +99,10 @@ pub struct Finder {
 
 /// The only one of all replies, or else the only one with the nonce, or how many there are of each.
 fn choice_of(all: Option<Used>, asked: Option<Used>, counts: (u64, u64)) -> Choice
-    ensures { chosen result ≡ or_else (option_map used_seen all)
+    ensures choice { chosen result ≡ or_else (option_map used_seen all)
         (option_map used_seen asked) }
+    ensures counts { (count asked : ℕ) → result ≡ Choice.Replies count asked
+        → counts ≡ (count, asked) }
 {
     match (all, asked) {
         (Some(used), _) | (None, Some(used)) => Choice::Answer(used),
@@ -108,11 +110,14 @@ fn choice_of(all: Option<Used>, asked: Option<Used>, counts: (u64, u64)) -> Choi
     }
 }
 
-/// One more, where a line gives a reply, and there is a number for it.
-fn more(count: u64, read: Option<&Used>) -> u64 {
-    match read {
-        Some(_) => count.saturating_add(1),
-        None => count,
+/// One more, where a line gives a reply, as far as there are numbers.
+fn count_after(count: u64, is_one: bool) -> u64
+    ensures { result ≡ count_after count is_one }
+{
+    if is_one {
+        count.saturating_add(1)
+    } else {
+        count
     }
 }
 
@@ -137,16 +142,21 @@ impl Finder {
         let any = reply_of(alloc, None, line)?;
         let asked = reply_of(alloc, Some(self.nonce), line)?;
         let (count, asked_count) = self.counts;
-        self.counts = (more(count, any.as_ref()), more(asked_count, asked.as_ref()));
+        self.counts = (
+            count_after(count, any.is_some()),
+            count_after(asked_count, asked.is_some()),
+        );
         self.all.add(any);
         self.asked.add(asked);
         Ok(())
     }
 
-    /// The answer among the lines that came.
+    /// The answer among the lines that came, or how many replies they gave.
     pub fn answer(self) -> Choice
-        ensures { (nonce : List ℕ) (lines : List (List ℕ)) → IsFinder nonce lines self
+        ensures answer { (nonce : List ℕ) (lines : List (List ℕ)) → IsFinder nonce lines self
             → chosen result ≡ answer_of nonce lines }
+        ensures counts { (count asked : ℕ) → result ≡ Choice.Replies count asked
+            → self.counts ≡ (count, asked) }
     {
         choice_of(self.all.only(), self.asked.only(), self.counts)
     }

@@ -4,7 +4,8 @@ ghost use Rattle.std.specs.Prelude.{length, string_bytes};
 ghost use Rattle.std.specs.Io.KnownBytes.{Appends};
 ghost use Rattle.rpmb_client.specs.Explained.{checks_text, data_digits, data_name, counter_text};
 ghost use Rattle.rpmb_client.specs.Explained.{fields_text, front_text, frame_line, frame_lines};
-ghost use Rattle.rpmb_client.specs.Explained.{has_zero_mac, judged_mac, kind_text, lacks_mac};
+ghost use Rattle.rpmb_client.specs.Explained.{has_stuff, has_zero_mac, judged_mac, kind_text};
+ghost use Rattle.rpmb_client.specs.Explained.{lacks_mac};
 ghost use Rattle.rpmb_client.specs.Explained.{lacks_nonce, mac_text, no_bytes_line, no_frames_line};
 ghost use Rattle.rpmb_client.specs.Explained.{nonce_text, place_text, reply_lines, result_text};
 ghost use Rattle.rpmb_client.specs.Explained.{some_bytes_line, stuff_text, two_bytes};
@@ -65,7 +66,7 @@ pub(crate) fn lacks_nonce(bytes: &[u8; 512]) -> bool
     frame.nonce() == [0; 16] && !(kind == 0x0200 || kind == 0x0400)
 }
 
-fn nonce_text(
+pub(crate) fn nonce_text(
     alloc: Global,
     nonce: Option<[u8; 16]>,
     bytes: &[u8; 512],
@@ -121,7 +122,7 @@ fn judged_mac(key: &[u8; 32], frames: &[[u8; 512]]) -> &'static str
     "wrong"
 }
 
-fn mac_text(
+pub(crate) fn mac_text(
     is_last: bool,
     key: Option<[u8; 32]>,
     frames: &[[u8; 512]],
@@ -152,7 +153,7 @@ fn data_name(bytes: &[u8; 512]) -> &'static str
     }
 }
 
-fn data_digits(alloc: Global, bytes: &[u8; 512]) -> Result<String, AllocError>
+pub(crate) fn data_digits(alloc: Global, bytes: &[u8; 512]) -> Result<String, AllocError>
     ensures { IfOk result (λ text. string_bytes text ≡ data_digits bytes.now) }
 {
     let data = Frame::from_bytes(bytes).block_data();
@@ -162,15 +163,22 @@ fn data_digits(alloc: Global, bytes: &[u8; 512]) -> Result<String, AllocError>
     hex::encode(alloc, &data)
 }
 
-fn stuff_text(bytes: &[u8; 512]) -> &'static str
-    ensures { result.now ≡ stuff_text bytes.now }
+/// Whether the stuff bytes of a frame, which no MAC covers, aren't zeros.
+pub(crate) fn has_stuff(bytes: &[u8; 512]) -> bool
+    ensures { result ≡ has_stuff bytes.now }
 {
     let mut stuff = [0; 196];
     stuff.copy_from_slice(&bytes[0..196]);
-    if stuff == [0; 196] {
-        ""
-    } else {
+    stuff != [0; 196]
+}
+
+fn stuff_text(bytes: &[u8; 512]) -> &'static str
+    ensures { result.now ≡ stuff_text bytes.now }
+{
+    if has_stuff(bytes) {
         ", stuff not zeros"
+    } else {
+        ""
     }
 }
 
@@ -199,17 +207,21 @@ fn write_front<W: Write>(alloc: Global, bytes: &[u8; 512], out: &mut W) -> Resul
     Ok(())
 }
 
-/// Writes the write counter of a frame whose type carries one.
+/// Writes the write counter of a frame whose type carries one, behind its name.
 #[tactic(auto, unfolding(crate::specs::Explained::counter_text))]
-fn write_counter<W: Write>(bytes: &[u8; 512], out: &mut W) -> Result<(), ClientFault>
+pub(crate) fn write_counter<W: Write>(
+    name: &str,
+    bytes: &[u8; 512],
+    out: &mut W,
+) -> Result<(), ClientFault>
     ensures { OnOk result (Appends (W.contents out.old) (W.contents out.new)
-        (counter_text bytes.now)) }
+        (counter_text name.now bytes.now)) }
 {
     let frame = Frame::from_bytes(bytes);
     let counter = frame.write_counter();
     match frame.req_resp() {
         0x0400 | 0x0000 => Ok(()),
-        _ => match write!(out, ", counter {counter}") {
+        _ => match write!(out, "{name}{counter}") {
             Ok(()) => Ok(()),
             Err(_) => Err(ClientFault::FileFault),
         },
@@ -269,7 +281,7 @@ fn write_frame<W: Write>(
 {
     write_place(guest, i + 1, frames.len(), out)?;
     write_front(alloc, &frames[i], out)?;
-    write_counter(&frames[i], out)?;
+    write_counter(", counter ", &frames[i], out)?;
     write_fields(&frames[i], out)?;
     write_checks(alloc, i, frames, key, nonce, out)?;
     write_text(&Frame::from_bytes(&frames[i]).block_data(), out)

@@ -12,6 +12,7 @@ mod keys;
 pub mod laws;
 mod lines;
 mod making;
+mod objects;
 mod options;
 mod refusal;
 mod texts;
@@ -29,6 +30,7 @@ pub use lines::{
     Writer, write_all, write_program_key, write_read, write_read_counter, write_result,
 };
 pub use making::{ask_for_result, join, program_key, read_blocks, read_counter, write_blocks};
+pub use objects::explain_as_objects;
 pub use options::{
     key_of_file, key_of_raw_file, key_of_word, option_bytes, option_nonce, option_number,
 };

@@ -28,7 +28,7 @@ pub enum Number {
     #[error("BadAddress: expected for --address a block from 0 to 65535, the last that any \
         capacity has")]
     Address,
-    #[error("BadCount: expected for --count 1 to 16 blocks")]
+    #[error("BadCount: expected for --count 1 to 16 blocks of one read, and more in parts")]
     Count,
     #[error("BadMaxBlocks: expected for --max-blocks 1 to 16 blocks of one write")]
     MaxBlocks,

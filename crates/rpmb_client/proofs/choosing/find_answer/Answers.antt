@@ -1,4 +1,4 @@
-use Rattle.std.proofs.Common.{◌∙◌, ap, rules, lit<, map, subst, sym}
+use Rattle.std.proofs.Common.{◌∙◌, ap, lit<, map, subst, sym}
 use Rattle.std.proofs.lemmas.Iterator.Consumers.{YieldsList-at, YieldsList-end}
 use Rattle.std.proofs.lemmas.Iterator.Splits.{YieldsList-from_str_split}
 use Rattle.std.proofs.lemmas.List.{map_push}
@@ -26,5 +26,5 @@ returns c =
     split.ensures.has_more split.ensures.pattern) in
     let all = YieldsList-end road c.loop-line.yielded _ c.loop-line.yielded_by _ _ c.in-None.is
     c.next.ensures.steps in
-    c.answer.ensures c.args.nonce.now (map (λ t. t.now) c.loop-line.yielded) c.loop-line.invariant
+    c.answer.ensures.answer c.args.nonce.now (map (λ t. t.now) c.loop-line.yielded) c.loop-line.invariant
     ∙ ap (answer_of c.args.nonce.now) all.0

@@ -8,4 +8,5 @@ returns g c =
     (g.W.Write.contents c.write_front.new.out) (g.W.Write.contents c.write_counter.new.out)
     (g.W.Write.contents c.write_fields.new.out) (g.W.Write.contents c.write_checks.new.out) _ _ _ _
     _ _
-    (search rules) (search rules) (search rules) (search rules) (search rules) (search rules)
+    (search rules) (search rules) c.in_ok-write_counter.ensures (search rules) (search rules)
+    (search rules)

@@ -1,7 +1,7 @@
 use Rattle.std.proofs.Common.{◌≡◌, None, Some, option_map, subst}
 use Rattle.rpmb_client.specs.Answer.{reply_of}
 use Rattle.rpmb_client.specs.Seen.{used_seen}
-use Rattle.rpmb_client.proofs.FindLemmas.{kept_more}
+use Rattle.rpmb_client.proofs.FindLemmas.{counted_more, kept_more}
 use Rattle.rpmb_client.proofs.choosing.Finder.take.Goals as goal
 
 pub returns : goal.returns
@@ -13,4 +13,8 @@ returns c = λ nonce lines is.
       nonce_is = is.nonce_is;
       all_is = kept_more None lines line _ _ _ is.all_is c.in_ok-any.ensures c.add.ensures;
       asked_is = kept_more (Some nonce) lines line _ _ _ is.asked_is asked c.add-2.ensures;
+      count_is = counted_more None lines line _ _ _ c.in_ok-any.any is.count_is
+          c.in_ok-any.ensures c.is_some.ensures c.count_after.ensures;
+      asked_count_is = counted_more (Some nonce) lines line _ _ _ c.in_ok-asked.asked
+          is.asked_count_is asked c.is_some-2.ensures c.count_after-2.ensures;
     }
