@@ -9,6 +9,10 @@ use std::alloc::{AllocError, Global};
 use strsim::damerau_levenshtein;
 use toml::{Table, Value};
 
+/// The keys of a guest, as a message shows them.
+const KEYS: &str = "capacity, max_wr_cnt, max_rd_cnt, memory, queue, ring, event_idx, indirect and \
+    in_order";
+
 /// What a value is, as a message shows it.
 fn shown(alloc: Global, value: &Value) -> Result<String, AllocError> {
     if let Some(number) = value.as_integer() {
@@ -60,7 +64,7 @@ pub(crate) fn unknown_guest_key(alloc: Global, key: &str, known: &[&str]) -> Boa
         None if key == "image" => format!(in alloc;
             "the key {key:?} isn't known; it belongs above the first line [[guest]]"
         ),
-        None => format!(in alloc; "the key {key:?} isn't known"),
+        None => format!(in alloc; "the key {key:?} isn't known, expected one of {KEYS}"),
     })
 }
 
@@ -172,7 +176,10 @@ fn line_at(text: &str, place: usize) -> (usize, &str) {
 fn cause_of(message: &str) -> &str {
     match message {
         "duplicate key" => "expected each key once",
-        "invalid string" => "expected a text between two quotes, both in this line",
+        "invalid string" => "expected a text between two quotes \", both in this line",
+        "invalid escape" | "missing escaped value" => {
+            "expected / between folders, and two backslashes for one"
+        }
         "number out of range" => {
             "expected a number of a board: capacity 1 to 128, max_wr_cnt and max_rd_cnt 1 to 16, \
              memory 65536 to 67108864, queue 2 to 256"
@@ -199,6 +206,12 @@ fn hint_of(text: &str, line: &str) -> &'static str {
         .any(|word| line.starts_with(*word));
     if is_of_script {
         "; it looks like a script, and the board comes first"
+    } else if line.len() == 64 && line.as_bytes().iter().all(|byte| byte.is_ascii_hexdigit()) {
+        "; it looks like a key, and the board file is wanted here"
+    } else if line.contains('\u{201c}') || line.contains('\u{201d}') {
+        "; its quotes are curly, and plain ones (\") are wanted"
+    } else if text.starts_with('\u{feff}') {
+        "; save it without a byte order mark"
     } else if text.starts_with("VRPMBIMG") {
         "; it looks like an image, and the board file is wanted here"
     } else {

@@ -98,15 +98,22 @@ fn form_of(command: &str) -> Option<(&'static str, &'static str)> {
     }
 }
 
+/// What a line looks like that begins with a word of no command.
+fn hint_of(command: &str) -> &'static str {
+    match command {
+        "image" => "; it looks like a board file, which comes first",
+        "used" => "; it looks like an answer: the lines that rpmb prints are wanted here",
+        "rpmb" => "; what rpmb prints is wanted here: rpmb .. > SCRIPT",
+        _ if command.starts_with('[') => "; it looks like a board file, which comes first",
+        _ if command.starts_with("VRPMBIMG") => "; it looks like an image",
+        _ if command.len() == 64 && is_hex(command) => "; it looks like a key",
+        _ => "",
+    }
+}
+
 /// The first word is no command.
 fn no_command(alloc: Global, command: &str) -> LineError {
-    let hint = if command.starts_with('[') || command == "image" {
-        "; it looks like a board file, which comes first"
-    } else if command.starts_with("VRPMBIMG") {
-        "; it looks like an image"
-    } else {
-        ""
-    };
+    let hint = hint_of(command);
     let Ok(word) = shown(alloc, command) else {
         return LineError::NoMemory;
     };
@@ -130,6 +137,10 @@ pub(crate) fn misshapen(alloc: Global, command: &str, given: usize) -> LineError
 /// No line has so many words.
 pub(crate) fn other_count(alloc: Global, words: &[&str]) -> LineError {
     match words {
+        _ if words.iter().any(|word| word.starts_with('#')) => LineError::of(String::from_str(
+            alloc,
+            "a remark stands on a line of its own, which begins with #",
+        )),
         [command, behind @ ..] => misshapen(alloc, command, behind.len()),
         [] => LineError::of(String::from_str(alloc, "expected a word")),
     }
@@ -138,7 +149,7 @@ pub(crate) fn other_count(alloc: Global, words: &[&str]) -> LineError {
 /// What is wrong with the bytes of a line, whatever its words are.
 fn flaw_of_bytes(line: &str) -> Option<&'static str> {
     if line.starts_with('\u{feff}') {
-        return Some("it begins with a byte order mark, expected the line's first word");
+        return Some("it begins with a byte order mark; save the file without one");
     }
     if line.ends_with('\r') {
         return Some(
