@@ -59,12 +59,14 @@ none_asked m inner name texts None reads never =
     λ t by. never t (subst (λ (X : Type 0). X) (sym (same_task m inner name texts t reads)) by)
 
 -- the values that the getters give are those of the rows
-pub all_found : (m : ArgMatches) (b s n v : Option Text)
+pub all_found : (m : ArgMatches) (b s n v j : Option Text)
     → b ≡ first_value (found_of m) (codes "BOARD")
     → s ≡ first_value (found_of m) (codes "SCRIPT") → n ≡ first_value (found_of m) (codes "new")
     → v ≡ first_value (found_of m) (codes "image-version")
-    → record { board = b; script = s; only_new = n; version = v } ≡ texts_in (rows_of (found_of m))
-all_found m b s n v is-b is-s is-n is-v =
+    → j ≡ first_value (found_of m) (codes "json")
+    → record { board = b; script = s; only_new = n; version = v; json = j }
+    ≡ texts_in (rows_of (found_of m))
+all_found m b s n v j is-b is-s is-n is-v is-j =
     let rows = first_value-rows (found_of m) in
     rw (
       is-b ∙ rows (codes "BOARD"),
@@ -72,4 +74,5 @@ all_found m b s n v is-b is-s is-n is-v =
       is-n ∙ rows (codes "new"),
       is-v
           ∙ rows (codes "image-version"),
+      is-j ∙ rows (codes "json"),
     ) refl

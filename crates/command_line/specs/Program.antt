@@ -11,7 +11,7 @@ use Rattle.clap.specs.Words.{new_rule, with_rule, with_subcommand}
 use Rattle.clap.specs.Kinds.{IsAmong, Kinds}
 use Rattle.clap.specs.Values.{kind_of}
 use Rattle.command_line.specs.declared.grammar.Files.{Files}
-use Rattle.command_line.specs.declared.grammar.Files.TheVariants.{Board, BoardAndScript, Fresh}
+use Rattle.command_line.specs.declared.grammar.Files.TheVariants.{Board, BoardAndScript, Fresh, Shown}
 use Rattle.command_line.specs.declared.words.WordsError.{WordsError}
 use Rattle.command_line.specs.declared.words.WordsError.TheVariants.{Incomplete, NoMemory, Refused}
 use Rattle.command_line.specs.declared.words.Values.{Values}
@@ -44,9 +44,14 @@ abbrev pub on_fresh : Text → App
 on_fresh name =
     with_rule (with_rule (on_board name) (flag (codes "new"))) (option (codes "image-version"))
 
+-- a command that shows an image of a board
+abbrev pub on_shown : Text → App
+on_shown name = with_rule (on_board name) (flag (codes "json"))
+
 -- a command that takes these files
 abbrev pub command_of : Files → Text → App
 command_of Fresh name = on_fresh name
+command_of Shown name = on_shown name
 command_of Board name = on_board name
 command_of BoardAndScript name = on_script name
 
@@ -62,7 +67,7 @@ unfoldable pub program : App
 program =
     with_subcommand (with_subcommand
     (with_subcommand (with_subcommand (with_subcommand bare (on_fresh (codes "format")).top)
-    (on_board (codes "show")).top) (on_board (codes "upgrade")).top) (on_script (codes "run")).top)
+    (on_shown (codes "show")).top) (on_board (codes "upgrade")).top) (on_script (codes "run")).top)
     (on_script (codes "serve")).top
 
 -- the values of a command's arguments, of those that have one
@@ -71,6 +76,7 @@ pub record Texts : Type 0 where
   pub script : Option Text
   pub only_new : Option Text
   pub version : Option Text
+  pub json : Option Text
 
 abbrev pub texts_in : List Row → Texts
 texts_in rows = record {
@@ -78,6 +84,7 @@ texts_in rows = record {
   script = first_of (codes "SCRIPT") rows;
   only_new = first_of (codes "new") rows;
   version = first_of (codes "image-version") rows;
+  json = first_of (codes "json") rows;
 }
 
 abbrev pub texts_of : Values → Texts
@@ -86,6 +93,7 @@ texts_of v = record {
   script = option_copied v.script;
   only_new = option_copied v.only_new;
   version = option_copied v.version;
+  json = option_copied v.json;
 }
 
 -- a flag that is given has the value `true`
@@ -106,7 +114,8 @@ abbrev pub AsksFor : Text → Texts → Command → Type 0
 AsksFor name texts (command.Format b only_new version) =
     (name ≡ codes "format") × (texts.board ≡ Some b.now) × (is_given texts.only_new ≡ only_new)
     × (version_of texts.version ≡ Some version)
-AsksFor name texts (command.Show b) = (name ≡ codes "show") × (texts.board ≡ Some b.now)
+AsksFor name texts (command.Show b as_json) =
+    (name ≡ codes "show") × (texts.board ≡ Some b.now) × (is_given texts.json ≡ as_json)
 AsksFor name texts (command.Upgrade b) = (name ≡ codes "upgrade") × (texts.board ≡ Some b.now)
 AsksFor name texts (command.Run b s) =
     (name ≡ codes "run") × (texts.board ≡ Some b.now) × (texts.script ≡ Some s.now)

@@ -25,6 +25,8 @@ pub enum Command<'a> {
     Show {
         /// The path of the board file.
         board: &'a str,
+        /// Whether it is printed in JSON.
+        as_json: bool,
     },
     /// Makes the image of a board one of version 2.
     Upgrade {
@@ -52,7 +54,7 @@ impl<'a> Command<'a> {
     pub fn board(self) -> &'a str {
         match self {
             Command::Format { board, .. } => board,
-            Command::Show { board } | Command::Upgrade { board } => board,
+            Command::Show { board, .. } | Command::Upgrade { board } => board,
             Command::Run { board, .. } | Command::Serve { board, .. } => board,
         }
     }

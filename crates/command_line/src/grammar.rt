@@ -39,6 +39,7 @@ fn option<'a>(alloc: Global, id: &'a str, value: &'a str, help: &'a str) -> Arg<
 #[derive(Clone, Copy)]
 enum Files {
     Fresh,
+    Shown,
     Board,
     BoardAndScript,
 }
@@ -83,6 +84,10 @@ fn command<'a>(
     let command = command.arg(board)?;
     match files {
         Files::Fresh => with_fresh(alloc, command),
+        Files::Shown => {
+            let help = "Prints a JSON object a line, for machines";
+            command.arg(flag(alloc, "json", help))
+        }
         Files::Board => Ok(command),
         Files::BoardAndScript => command.arg(required(
             alloc,
@@ -135,7 +140,7 @@ pub fn program<'a>(alloc: Global) -> Result<Command<'a>, AllocError>
     let program = with_command(
         alloc,
         program,
-        Files::Board,
+        Files::Shown,
         "show",
         "Prints what the image of the board holds",
         help::SHOW,

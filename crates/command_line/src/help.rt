@@ -31,14 +31,15 @@ pub const FORMAT: &str =
     r"Prints 'formatted LEN', the length of the image in bytes, and where version 2 is asked
 for 'upgraded' behind it. The file is made, for its owner alone, where it isn't there; its
 folder has to be. What the file held is gone: at a terminal it asks before keys go, or what
-is no image of this board. In a script it asks nothing: there --new keeps a file that is
-there.
+is no image of this board. In a script it asks nothing, and empties whatever file the board
+names: there say --new, which keeps a file that is there. An image of version 2 that is
+formatted again is one of version 1, unless version 2 is asked for.
 Status 0; 1 for a fault, told on standard error; 2 for words that are no command.";
 
 pub const SHOW: &str =
     r"Prints for each guest 'guest G capacity C key yes counter N', or 'key no counter 0',
 and then 'block G A HEX' for each of its blocks that isn't all zeros. Of which version the
-image is, `rpmb check BOARD` says.
+image is, `rpmb check BOARD` says. With --json each of these lines is a JSON object.
 Status 0; 1 for a fault, told on standard error; 2 for words that are no command.";
 
 pub const UPGRADE: &str =

@@ -10,5 +10,6 @@ mod words;
 
 pub use command::{Command, ImageVersion};
 pub use given::{GivenError, given_words};
+pub use help::VERSION;
 pub use printing::print_words;
 pub use words::{WordsError, read_words};

@@ -8,25 +8,49 @@ use std::io;
 /// How `clap` begins to advise that an option which it doesn't know be taken for the name of a file.
 const TIP: &str = "\n  tip: to pass '";
 
+/// How it begins to advise `upgrade` in the place of `downgrade`.
+const WAY_BACK: &str = "\n  tip: a similar subcommand exists: 'upgrade'";
+
 /// What stands behind that advice.
 const USAGE: &str = "\n\nUsage: ";
 
-/// The text of an error without that advice: an option that isn't known was mistyped, or is another
-/// command's. None where it stands in none, and where memory is refused.
-fn without_tip(alloc: Global, error: &Error) -> Option<String> {
-    if !matches!(error.kind(), ErrorKind::UnknownArgument) {
-        return None;
+/// What is advised in its place: of an option that isn't known, which was mistyped or is another
+/// command's, nothing; of a file for a command that reads standard input, how it is given.
+fn tip_for(front: &str, usage: &str) -> &'static str {
+    if front.contains("'downgrade'") {
+        return "\n\n  tip: there is no way back from an image of version 2";
     }
+    if usage.contains(" do <BOARD> <OPERATION>") {
+        return "\n\n  tip: its operations are program-key, read-counter, write and read";
+    }
+    let reads_lines = usage.contains(" explain ") || usage.contains(" read-data ");
+    if reads_lines && !front.contains("argument '-") {
+        return "\n\n  tip: the lines come from standard input: < FILE";
+    }
+    ""
+}
+
+/// The text of an error with other advice. None where it has no such advice and needs none, and
+/// where memory is refused.
+fn with_other_tip(alloc: Global, error: &Error) -> Option<String> {
+    let tip = match error.kind() {
+        ErrorKind::UnknownArgument => TIP,
+        ErrorKind::InvalidSubcommand => WAY_BACK,
+        _ => return None,
+    };
     let text = format!(in alloc; "{error}").ok()?;
-    let (front, tip) = text.as_str().split_once(TIP)?;
-    let (_, usage) = tip.split_once(USAGE)?;
-    let front = front.trim_end();
-    format!(in alloc; "{front}{USAGE}{usage}").ok()
+    let (front, usage) = text.as_str().split_once(USAGE)?;
+    let front = match front.split_once(tip) {
+        Some((front, _)) => front.trim_end(),
+        None => front,
+    };
+    let tip = tip_for(front, usage);
+    format!(in alloc; "{front}{tip}{USAGE}{usage}").ok()
 }
 
 /// Prints what `clap` says of words, on the stream that it is for.
 pub fn print_words<R: AllocGlobal + Print + Eprint>(rt: &R, error: &Error) -> io::Result<()> {
-    match without_tip(rt.alloc(), error) {
+    match with_other_tip(rt.alloc(), error) {
         Some(text) => rt.eprint(&text),
         None => error.print(rt),
     }

@@ -34,6 +34,7 @@ struct Values<'a> {
     script: Option<&'a str>,
     only_new: Option<&'a str>,
     version: Option<&'a str>,
+    json: Option<&'a str>,
 }
 
 /// The version that a word names; that of a fresh image where there is none.
@@ -67,7 +68,10 @@ fn command_of<'a>(name: &str, values: Values<'a>) -> Option<Command<'a>>
             only_new: is_given(values.only_new),
             version: version_of(values.version)?,
         }),
-        ("show", Some(board), _) => Some(Command::Show { board }),
+        ("show", Some(board), _) => Some(Command::Show {
+            board,
+            as_json: is_given(values.json),
+        }),
         ("upgrade", Some(board), _) => Some(Command::Upgrade { board }),
         ("run", Some(board), Some(script)) => Some(Command::Run { board, script }),
         ("serve", Some(board), Some(script)) => Some(Command::Serve { board, script }),
@@ -83,6 +87,7 @@ fn values_of<'a>(matches: &ArgMatches<'a>) -> Values<'a>
         script: matches.get_str("SCRIPT"),
         only_new: matches.get_str("new"),
         version: matches.get_str("image-version"),
+        json: matches.get_str("json"),
     }
 }
 
