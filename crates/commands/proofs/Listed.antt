@@ -8,57 +8,57 @@ use Rattle.commands.proofs.Common.{slice_get_read, slice_get_within, Appends, Al
 use Rattle.commands.proofs.Common.{DiskState, IsBoard, IsGuest, GuestConfig, Partition, IsWhole}
 use Rattle.commands.proofs.Common.{capacities_of, part_of, Guest, Fault, block_shown, blocks_below}
 use Rattle.commands.proofs.Common.{listing}
-use Rattle.std.specs.Prelude.{slice_index}
+use Rattle.std.specs.Prelude.{Bool, slice_index}
 use Rattle.rpmb_frame.specs.Partition.{block_of}
 use Rattle.intent_slots.specs.Recovered.{Stands}
 use Rattle.recovery.specs.Opening.{AllBegun, AllStand}
 use Rattle.commands.specs.Listing.{Lists, guest_listing, listing_at, listing_below}
 
-pub no_blocks : (start : Option (List ℕ)) (guest : ℕ) (p : Partition)
-    → Appends start start (blocks_below 0 guest p)
+pub no_blocks : (start : Option (List ℕ)) (as_json : Bool) (guest : ℕ) (p : Partition)
+    → Appends start start (blocks_below as_json 0 guest p)
 unfolding blocks_below
-no_blocks start guest p = Appends-nil start
+no_blocks start as_json guest p = Appends-nil start
 
-pub one_block : (start now next : Option (List ℕ)) (address guest : ℕ) (p : Partition)
-    → Appends start now (blocks_below address guest p)
-    → Appends now next (block_shown guest address (block_of p address))
-    → Appends start next (blocks_below (address + 1) guest p)
+pub one_block : (start now next : Option (List ℕ)) (as_json : Bool) (address guest : ℕ)
+    (p : Partition) → Appends start now (blocks_below as_json address guest p)
+    → Appends now next (block_shown as_json guest address (block_of p address))
+    → Appends start next (blocks_below as_json (address + 1) guest p)
 unfolding blocks_below
-one_block start now next address guest p before line =
+one_block start now next as_json address guest p before line =
     let same : suc address ≡ address + 1 = omega arith in
-    subst (λ n. Appends start next (blocks_below n guest p)) same
-    (Appends-trans start now next (blocks_below address guest p)
-    (block_shown guest address (block_of p address)) before line)
+    subst (λ n. Appends start next (blocks_below as_json n guest p)) same
+    (Appends-trans start now next (blocks_below as_json address guest p)
+    (block_shown as_json guest address (block_of p address)) before line)
 
 -- the guests below a number are listed, and their partitions are whole
-pub record Listed (start now : Option (List ℕ)) (partitions : List Partition) (guest : ℕ) : Type 0
-  where
-    pub printed : Appends start now (listing_below guest partitions)
-    pub whole : (k : ℕ) (d : Partition) → k < guest → IsWhole (get_or partitions k d)
+pub record Listed (start now : Option (List ℕ)) (as_json : Bool) (partitions : List Partition)
+    (guest : ℕ) : Type 0 where
+  pub printed : Appends start now (listing_below as_json guest partitions)
+  pub whole : (k : ℕ) (d : Partition) → k < guest → IsWhole (get_or partitions k d)
 
-pub no_guests : (start : Option (List ℕ)) (partitions : List Partition)
-    → Listed start start partitions 0
+pub no_guests : (start : Option (List ℕ)) (as_json : Bool) (partitions : List Partition)
+    → Listed start start as_json partitions 0
 unfolding listing_below
-no_guests start partitions = record {
+no_guests start as_json partitions = record {
   printed = Appends-nil start;
   whole = λ k d below.
       absurd (omega (arith, below));
 }
 
-pub one_guest : (start now next : Option (List ℕ)) (partitions : List Partition) (guest : ℕ)
-    (p : Partition) → Listed start now partitions guest
+pub one_guest : (start now next : Option (List ℕ)) (as_json : Bool) (partitions : List Partition)
+    (guest : ℕ) (p : Partition) → Listed start now as_json partitions guest
     → guest < length partitions → p ≡ get_or partitions guest p
-    → Appends now next (guest_listing guest p) → IsWhole p
-    → Listed start next partitions (guest + 1)
+    → Appends now next (guest_listing as_json guest p) → IsWhole p
+    → Listed start next as_json partitions (guest + 1)
 unfolding listing_below
-one_guest start now next partitions guest p before inside at lines is_whole = record {
+one_guest start now next as_json partitions guest p before inside at lines is_whole = record {
   printed =
       let same : suc guest ≡ guest + 1 = omega arith in
-      let here = subst (λ o. Appends now next (listing_at guest o))
+      let here = subst (λ o. Appends now next (listing_at as_json guest o))
       (sym (slice_get_read partitions (length partitions) guest p refl inside at)) lines in
-      subst (λ n. Appends start next (listing_below n partitions)) same
-      (Appends-trans start now next (listing_below guest partitions)
-      (listing_at guest (slice_get partitions guest)) before.printed here);
+      subst (λ n. Appends start next (listing_below as_json n partitions)) same
+      (Appends-trans start now next (listing_below as_json guest partitions)
+      (listing_at as_json guest (slice_get partitions guest)) before.printed here);
   whole = λ k d below. ⊎_elim
       (λ e. subst (λ n. IsWhole (get_or partitions n d)) (sym e)
       (subst IsWhole (get_or_read partitions guest p inside at d) is_whole))
@@ -67,13 +67,13 @@ one_guest start now next partitions guest p before inside at lines is_whole = re
 }
 
 -- what a listing of partitions that were opened shows
-pub lists : (capacities : List ℕ) (s : DiskState) (guests : List Guest)
+pub lists : (as_json : Bool) (capacities : List ℕ) (s : DiskState) (guests : List Guest)
     (partitions : List Partition) (start now : Option (List ℕ)) (r : Result (Unit {0}) Fault)
     → AllBegun capacities guests partitions
     → (s.faithful ≡ true → AllStand s.seen guests partitions)
-    → OnOk r (Appends start now (listing partitions)) → OnOk r (All IsWhole partitions)
-    → OnOk r (Lists capacities s start now)
-lists capacities s guests partitions start now (Ok done) begun stand printed is_whole = record {
+    → OnOk r (Appends start now (listing as_json partitions)) → OnOk r (All IsWhole partitions)
+    → OnOk r (Lists as_json capacities s start now)
+lists as_json capacities s guests partitions start now (Ok done) begun stand printed is_whole = record {
   partitions = partitions;
   count = begun.all_partitions;
   have = λ g p at.
@@ -97,7 +97,7 @@ lists capacities s guests partitions start now (Ok done) begun stand printed is_
         begun.all_guests in let b = begun.all_partitions in let c = past.0 in
         omega (arith, short, a, b, c)))
         (slice_get_cases guests g).1
-lists capacities s guests partitions start now (Err f) begun stand printed is_whole = tt
+lists as_json capacities s guests partitions start now (Err f) begun stand printed is_whole = tt
 
 -- a board's capacities are at most 128, and so are its partitions'
 caps_small : (board : List GuestConfig) → All IsGuest board → (k : ℕ) → k < length board

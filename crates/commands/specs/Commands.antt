@@ -1,6 +1,6 @@
 -- What each command has done, by how it ended. A field says what the clause of the same name says
 -- of the command's own function.
-use Rattle.std.specs.Prelude.{◌≡◌, ℕ, List, Option, None, Some, Result, Ok, Err, IfErr, IsErr}
+use Rattle.std.specs.Prelude.{◌≡◌, ℕ, Bool, List, Option, None, Some, Result, Ok, Err, IfErr, IsErr}
 use Rattle.std.specs.Prelude.{IsSome, OnOk, true}
 use Rattle.std.specs.Io.KnownBytes.{Appends, Keeps}
 use Rattle.command_line.specs.declared.command.Command.{Command}
@@ -36,9 +36,9 @@ pub record FormatDoes {D : Type 0} (shows : D → DiskState) (makes : D → Disk
   pub order : ClearsFirst shows makes (capacities_of board) old new
 
 pub record ShowDoes {D : Type 0} (shows : D → DiskState) (makes : D → DiskCall → D → Type 0)
-    (board : List GuestConfig) (old : D) (start : Option (List ℕ)) (ended : Result (Unit {0}) Fault)
-    (new : D) (now : Option (List ℕ)) : Type 0 where
-  pub shown : OnOk ended (Lists (capacities_of board) (shows old) start now)
+    (as_json : Bool) (board : List GuestConfig) (old : D) (start : Option (List ℕ))
+    (ended : Result (Unit {0}) Fault) (new : D) (now : Option (List ℕ)) : Type 0 where
+  pub shown : OnOk ended (Lists as_json (capacities_of board) (shows old) start now)
   pub image : OnOk ended ((shows old).faithful ≡ true
       → IsImage (capacities_of board) (shows old).len (shows old).seen)
   pub ends : IfErr ended (Ends showing board (shows old) (shows new))
@@ -98,8 +98,8 @@ abbrev pub Does : {D : Type 0} → (D → DiskState) → (D → DiskCall → D �
     → D → Option (List ℕ) → Result (Unit {0}) Fault → Option D → Option (List ℕ) → Type 0
 Does shows makes (command.Format b only_new version) board script old start ended back now =
     GivesBack (λ new. FormatDoes shows makes board old start ended new now) back
-Does shows makes (command.Show b) board script old start ended back now =
-    GivesBack (λ new. ShowDoes shows makes board old start ended new now) back
+Does shows makes (command.Show b as_json) board script old start ended back now =
+    GivesBack (λ new. ShowDoes shows makes as_json board old start ended new now) back
 Does shows makes (command.Upgrade b) board script old start ended back now =
     GivesBack (λ new. UpgradeDoes shows makes board old start ended new now) back
 Does shows makes (command.Run b s) board script old start ended back now =

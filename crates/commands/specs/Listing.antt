@@ -1,6 +1,7 @@
 -- What `format` and `show` print.
 use Rattle.std.specs.Prelude.{◌≡◌, ℕ, zero, suc, List, [], ◌∷◌, ◌++◌, Option, Some, None, codes}
-use Rattle.std.specs.Prelude.{if◌then◌else◌, length, replicate, slice_get, slice_index, true}
+use Rattle.std.specs.Prelude.{if◌then◌else◌, Bool, is_some, length, replicate, slice_get, slice_index}
+use Rattle.std.specs.Prelude.{true}
 use Rattle.std.specs.Fmt.{decimal}
 use Rattle.std.specs.Io.KnownBytes.{Appends}
 use Rattle.std.specs.Str.{bytes_eq}
@@ -33,34 +34,68 @@ unfoldable pub block_line : ℕ → ℕ → List ℕ → List ℕ
 block_line guest address block = codes "block " ++ decimal guest ++ codes " " ++ decimal address
     ++ codes " " ++ encode_lower block ++ 10 ∷ []
 
--- a block of zeros has no line
-abbrev pub block_shown : ℕ → ℕ → List ℕ → List ℕ
-block_shown guest address block =
-    if bytes_eq block (replicate 256 0) then [] else block_line guest address block
+-- the same in JSON, an object a line (RFC 8259)
+unfoldable pub guest_members : ℕ → ℕ → Bool → ℕ → List ℕ
+guest_members guest capacity key counter =
+    codes "{\"guest\":" ++ (decimal guest ++ (codes ",\"capacity\":" ++ (decimal capacity
+    ++ (codes ",\"key\":" ++ ((if key then codes "true" else codes "false")
+    ++ (codes ",\"counter\":" ++ (decimal counter ++ (codes "}" ++ 10 ∷ []))))))))
+
+abbrev pub guest_object : ℕ → Partition → List ℕ
+guest_object guest p = guest_members guest p.capacity (is_some p.key) p.counter
+
+unfoldable pub block_members : ℕ → ℕ → List ℕ
+block_members guest address =
+    codes "{\"guest\":" ++ (decimal guest ++ (codes ",\"address\":" ++ (decimal address
+    ++ codes ",\"data\":")))
+
+-- the digits between quotes
+abbrev pub quoted_digits : List ℕ → List ℕ
+quoted_digits block = 34 ∷ encode_lower block ++ 34 ∷ []
+
+abbrev pub block_object : ℕ → ℕ → List ℕ → List ℕ
+block_object guest address block =
+    block_members guest address ++ (quoted_digits block ++ (125 ∷ 10 ∷ []))
+
+-- in the form that is asked for
+
+abbrev pub guest_shown : Bool → ℕ → Partition → List ℕ
+guest_shown as_json guest p = if as_json then guest_object guest p else guest_line guest p
+
+abbrev pub some_block : Bool → ℕ → ℕ → List ℕ → List ℕ
+some_block as_json guest address block =
+    if as_json then block_object guest address block else block_line guest address block
+
+-- a block of zeros isn't shown
+abbrev pub block_shown : Bool → ℕ → ℕ → List ℕ → List ℕ
+block_shown as_json guest address block =
+    if bytes_eq block (replicate 256 0) then [] else some_block as_json guest address block
 
 -- a partition's blocks below an address, in ascending order
-unfoldable pub blocks_below : ℕ → ℕ → Partition → List ℕ
-blocks_below zero guest p = []
-blocks_below (suc address) guest p =
-    blocks_below address guest p ++ block_shown guest address (block_of p address)
+unfoldable pub blocks_below : Bool → ℕ → ℕ → Partition → List ℕ
+blocks_below as_json zero guest p = []
+blocks_below as_json (suc address) guest p =
+    blocks_below as_json address guest p ++ block_shown as_json guest address (block_of p address)
 
--- a guest's line, and then its blocks
-abbrev pub guest_listing : ℕ → Partition → List ℕ
-guest_listing guest p = guest_line guest p ++ blocks_below (block_count p) guest p
+-- a guest, and then its blocks
+abbrev pub guest_listing : Bool → ℕ → Partition → List ℕ
+guest_listing as_json guest p =
+    guest_shown as_json guest p ++ blocks_below as_json (block_count p) guest p
 
-abbrev pub listing_at : ℕ → Option Partition → List ℕ
-listing_at guest None = []
-listing_at guest (Some p) = guest_listing guest p
+abbrev pub listing_at : Bool → ℕ → Option Partition → List ℕ
+listing_at as_json guest None = []
+listing_at as_json guest (Some p) = guest_listing as_json guest p
 
 -- the guests below a number, one after another
-unfoldable pub listing_below : ℕ → List Partition → List ℕ
-listing_below zero partitions = []
-listing_below (suc guest) partitions =
-    listing_below guest partitions ++ listing_at guest (slice_get partitions guest)
+unfoldable pub listing_below : Bool → ℕ → List Partition → List ℕ
+listing_below as_json zero partitions = []
+listing_below as_json (suc guest) partitions =
+    listing_below as_json guest partitions
+    ++ listing_at as_json guest (slice_get partitions guest)
 
 -- all guests
-abbrev pub listing : List Partition → List ℕ
-listing partitions = listing_below (length partitions) partitions
+abbrev pub listing : Bool → List Partition → List ℕ
+listing as_json partitions = listing_below as_json (length partitions) partitions
 
 -- each guest's partition has its capacity, and all of its blocks
 abbrev pub HaveCapacities : List ℕ → List Partition → Type 0
@@ -73,10 +108,11 @@ AreHeld capacities c partitions = (g : ℕ) (p : Partition) → slice_get partit
     → Stands (region_at capacities g) c (part_of p)
 
 -- What was printed lists the partitions that an image of these capacities holds.
-pub record Lists (capacities : List ℕ) (s : DiskState) (start now : Option (List ℕ)) : Type 0 where
+pub record Lists (as_json : Bool) (capacities : List ℕ) (s : DiskState)
+    (start now : Option (List ℕ)) : Type 0 where
   pub partitions : List Partition
   pub count : length partitions ≡ length capacities
   pub have : HaveCapacities capacities partitions
   -- what a disk gives is known only where it is faithful
   pub held : s.faithful ≡ true → AreHeld capacities s.seen partitions
-  pub printed : Appends start now (listing partitions)
+  pub printed : Appends start now (listing as_json partitions)

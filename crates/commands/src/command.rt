@@ -37,8 +37,8 @@ fn obey<R: AllocGlobal + Threads + Wait + Sync, D: Disk + Send + Drop, W: Write>
             let done = format(board, &mut disk, out);
             (done, Some(disk))
         }
-        Command::Show { .. } => {
-            let (done, disk) = show(rt.alloc(), board, disk, out);
+        Command::Show { as_json, .. } => {
+            let (done, disk) = show(rt.alloc(), board, as_json, disk, out);
             (done, Some(disk))
         }
         Command::Upgrade { .. } => {

@@ -27,10 +27,17 @@ const SPOILED: &str = "keep it as it is; a copy that is whole may take its place
 const EMPTY: &str = "is empty: put a copy of the image there; if there never was one, rpmbd format \
     makes it";
 
-/// What is said of an image of which a call failed.
-const FAILED: &str =
-    "a read, a write or a sync of it failed: is it a plain file, is its disk full or \
-    failing? Ask for the counters before you go on";
+/// What a command leaves and what helps, where a call of the image failed.
+fn after_failure(command: Command<'_>) -> &'static str {
+    match command {
+        Command::Format { .. } => {
+            "What stands there may be no image: make room, and format it again, without --new"
+        }
+        Command::Show { .. } => "What it keeps stays",
+        Command::Upgrade { .. } => "What it keeps stays: make room, and upgrade it again",
+        _ => "Ask for the counters before you go on",
+    }
+}
 
 /// What a command works on, once its files are read.
 #[derive(Clone, Copy)]
@@ -160,11 +167,15 @@ pub fn reason_of_end<D: Disk, W: Write>(
             None => said(alloc, task.place(), NO_IMAGE),
         },
         Fault::OtherConfig => {
-            let why = "is the image of another board (other guests or capacities); take that \
-                board's file, or name another image in this one";
+            let why = "is the image of another board (other guests or capacities), or its first \
+                bytes are spoiled; take that board's file, or name another image in this one";
             said(alloc, task.place(), why)
         }
-        Fault::DiskFault => said(alloc, task.place(), FAILED),
+        Fault::DiskFault => {
+            let (image, helps) = (task.place(), after_failure(task.command));
+            let text = "a read, a write or a sync of it failed: is its disk full or failing?";
+            format!(in alloc; "{image}: {text} {helps}").ok()
+        }
         Fault::BadScript { .. } => misread(alloc, task),
         Fault::OutOfRange => misplaced(alloc, task),
         Fault::FileFault => unwritten(alloc, task, out),

@@ -14,6 +14,7 @@ mod formatting;
 mod fresh;
 mod image_files;
 mod notes;
+mod objects;
 mod program;
 mod reason;
 mod running;

@@ -44,6 +44,9 @@ fn words_of(kind: io::ErrorKind) -> Option<&'static str> {
         io::ErrorKind::InvalidFilename => Some("the path is too long; take a shorter one"),
         io::ErrorKind::InvalidData => Some(NO_TEXT),
         io::ErrorKind::StorageFull => Some("no space left"),
+        io::ErrorKind::FileTooLarge => Some(
+            "is longer than you may write a file (ulimit -f), or than its disk takes",
+        ),
         io::ErrorKind::BrokenPipe => Some("who read it is gone"),
         _ => None,
     }

@@ -9,9 +9,10 @@ ghost use Rattle.recovery.specs.Opening.{IsImage, Untouched};
 ghost use Rattle.rpmb_frame.specs.Partition.{IsWhole, block_count, block_of};
 ghost use Rattle.commands.specs.Ending.{Ends, IsReadAlone, KeepsUnless, showing};
 ghost use Rattle.commands.specs.Listing.{Lists, block_line, block_shown, blocks_below, guest_line};
-ghost use Rattle.commands.specs.Listing.{guest_listing, listing};
+ghost use Rattle.commands.specs.Listing.{guest_listing, guest_shown, listing, some_block};
 
 use crate::fault::Fault;
+use crate::objects::{write_block_object, write_guest_object};
 use disk::Disk;
 use recovery::open;
 use rpmb_core::Partition;
@@ -71,83 +72,135 @@ fn write_block_line<W: Write>(
     }
 }
 
-/// Writes the line of a block, unless it is all zeros.
+/// Writes a block, in JSON where that is asked for.
+fn write_some_block<W: Write>(
+    guest: u16,
+    address: u16,
+    block: &[u8; 256],
+    as_json: bool,
+    out: &mut W,
+) -> Result<(), Fault>
+    ensures printed { OnOk result (Appends (W.contents out.old) (W.contents out.new)
+        (some_block as_json guest address block.now)) }
+    ensures only { (fault : Fault) → result ≡ Err fault → fault ≡ Fault.FileFault }
+{
+    if as_json {
+        return write_block_object(guest, address, block, out);
+    }
+    write_block_line(guest, address, block, out)
+}
+
+/// Writes a block, unless it is all zeros.
 fn write_block<W: Write>(
     guest: u16,
     address: u16,
     block: &[u8; 256],
+    as_json: bool,
     out: &mut W,
 ) -> Result<(), Fault>
     ensures printed { OnOk result (Appends (W.contents out.old) (W.contents out.new)
-        (block_shown guest address block.now)) }
+        (block_shown as_json guest address block.now)) }
     ensures only { (fault : Fault) → result ≡ Err fault → fault ≡ Fault.FileFault }
 {
     if *block == [0; 256] {
         return Ok(());
     }
-    write_block_line(guest, address, block, out)
+    write_some_block(guest, address, block, as_json, out)
 }
 
 /// Writes the blocks of a partition that aren't all zeros, by address.
-fn write_blocks<W: Write>(guest: u16, partition: &Partition, out: &mut W) -> Result<(), Fault>
+fn write_blocks<W: Write>(
+    guest: u16,
+    partition: &Partition,
+    as_json: bool,
+    out: &mut W,
+) -> Result<(), Fault>
     requires { partition.now.capacity ≤ 128 }
     ensures printed { OnOk result (Appends (W.contents out.old) (W.contents out.new)
-        (blocks_below (block_count partition.now) guest partition.now)) }
+        (blocks_below as_json (block_count partition.now) guest partition.now)) }
     ensures only { (fault : Fault) → result ≡ Err fault → fault ≡ Fault.FileFault }
 {
     let count = 512 * u32::from(partition.capacity());
     for address in 0..count {
         let address = address as u16;
-        write_block(guest, address, &partition.block(address), out)?;
+        write_block(guest, address, &partition.block(address), as_json, out)?;
     }
     Ok(())
 }
 
-/// Writes the line of a guest, and then its blocks.
-fn write_guest<W: Write>(guest: u16, partition: &Partition, out: &mut W) -> Result<(), Fault>
-    requires { partition.now.capacity ≤ 128 }
-    ensures printed { OnOk result (Appends (W.contents out.old) (W.contents out.new)
-        (guest_listing guest partition.now)) }
+/// Writes a guest without its blocks, in JSON where that is asked for.
+fn write_guest_alone<W: Write>(
+    guest: u16,
+    partition: &Partition,
+    as_json: bool,
+    out: &mut W,
+) -> Result<(), Fault>
+    ensures printed { OnOk result
+        (Appends (W.contents out.old) (W.contents out.new)
+        (guest_shown as_json guest partition.now)) }
     ensures whole { IsWhole partition.now }
     ensures only { (fault : Fault) → result ≡ Err fault → fault ≡ Fault.FileFault }
 {
-    write_guest_line(guest, partition, out)?;
-    write_blocks(guest, partition, out)
+    if as_json {
+        return write_guest_object(guest, partition, out);
+    }
+    write_guest_line(guest, partition, out)
+}
+
+/// Writes a guest, and then its blocks.
+fn write_guest<W: Write>(
+    guest: u16,
+    partition: &Partition,
+    as_json: bool,
+    out: &mut W,
+) -> Result<(), Fault>
+    requires { partition.now.capacity ≤ 128 }
+    ensures printed { OnOk result (Appends (W.contents out.old) (W.contents out.new)
+        (guest_listing as_json guest partition.now)) }
+    ensures whole { IsWhole partition.now }
+    ensures only { (fault : Fault) → result ≡ Err fault → fault ≡ Fault.FileFault }
+{
+    write_guest_alone(guest, partition, as_json, out)?;
+    write_blocks(guest, partition, as_json, out)
 }
 
 /// Writes all guests, one after another.
-fn write_guests<W: Write>(partitions: &[Partition], out: &mut W) -> Result<(), Fault>
+fn write_guests<W: Write>(partitions: &[Partition], as_json: bool, out: &mut W) -> Result<(), Fault>
     requires few { length partitions.now ≤ 64 }
     requires small { All (λ p. p.capacity ≤ 128) partitions.now }
     ensures printed { OnOk result
-        (Appends (W.contents out.old) (W.contents out.new) (listing partitions.now)) }
+        (Appends (W.contents out.old) (W.contents out.new) (listing as_json partitions.now)) }
     ensures whole { OnOk result (All IsWhole partitions.now) }
     ensures only { (fault : Fault) → result ≡ Err fault → fault ≡ Fault.FileFault }
 {
     for guest in 0..partitions.len() {
-        write_guest(guest as u16, &partitions[guest], out)?;
+        write_guest(guest as u16, &partitions[guest], as_json, out)?;
     }
     Ok(())
 }
 
 /// Writes all guests, and all that is still held back.
-fn write_listing<W: Write>(partitions: &[Partition], out: &mut W) -> Result<(), Fault>
+fn write_listing<W: Write>(
+    partitions: &[Partition],
+    as_json: bool,
+    out: &mut W,
+) -> Result<(), Fault>
     requires few { length partitions.now ≤ 64 }
     requires small { All (λ p. p.capacity ≤ 128) partitions.now }
     ensures printed { OnOk result
-        (Appends (W.contents out.old) (W.contents out.new) (listing partitions.now)) }
+        (Appends (W.contents out.old) (W.contents out.new) (listing as_json partitions.now)) }
     ensures whole { OnOk result (All IsWhole partitions.now) }
     ensures only { (fault : Fault) → result ≡ Err fault → fault ≡ Fault.FileFault }
 {
-    write_guests(partitions, out)?;
+    write_guests(partitions, as_json, out)?;
     match out.flush() {
         Ok(()) => Ok(()),
         Err(_) => Err(Fault::FileFault),
     }
 }
 
-/// Opens the image of the board, and lists its partitions. It gives the disk back, which it has
-/// only synced and read.
+/// Opens the image of the board, and lists its partitions, in lines, or in JSON objects. It gives
+/// the disk back, which it has only synced and read.
 ///
 /// # Errors
 ///
@@ -157,10 +210,11 @@ fn write_listing<W: Write>(partitions: &[Partition], out: &mut W) -> Result<(), 
 pub fn show<D: Disk, W: Write>(
     alloc: Global,
     board: &BoardConfig,
+    as_json: bool,
     disk: D,
     out: &mut W,
 ) -> (Result<(), Fault>, D)
-    ensures shown { OnOk result.0 (Lists (capacities_of board.now) (D.state disk)
+    ensures shown { OnOk result.0 (Lists as_json (capacities_of board.now) (D.state disk)
         (W.contents out.old) (W.contents out.new)) }
     ensures image { OnOk result.0 ((D.state disk).faithful ≡ true
         → IsImage (capacities_of board.now) (D.state disk).len (D.state disk).seen) }
@@ -173,7 +227,7 @@ pub fn show<D: Disk, W: Write>(
     match open(alloc, disk, board) {
         Ok((store, partitions)) => {
             let _guests = board.guests(); // for the checker: a board's guests are in their ranges
-            let written = write_listing(partitions.as_slice(), out);
+            let written = write_listing(partitions.as_slice(), as_json, out);
             (written, store.into_disk())
         }
         Err((disk, fault)) => (Err(Fault::of_image(fault)), disk),

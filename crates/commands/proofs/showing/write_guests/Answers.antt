@@ -3,11 +3,11 @@ use Rattle.commands.proofs.Listed.{no_guests, one_guest}
 use Rattle.commands.proofs.showing.write_guests.Goals as goal
 
 pub loop-guest-init : goal.loop-guest-init
-loop-guest-init g c = no_guests _ _
+loop-guest-init g c = no_guests _ _ _
 
 pub loop-guest-preserved : goal.loop-guest-preserved
 loop-guest-preserved g c =
-    one_guest _ (g.W.Write.contents c.loop-guest.out) _ c.args.partitions.now c.loop-guest.guest
+    one_guest _ (g.W.Write.contents c.loop-guest.out) _ c.args.as_json c.args.partitions.now c.loop-guest.guest
     c.index-partitions-guest.result c.loop-guest.invariant
     c.loop-guest-test.true c.index-partitions-guest.is c.in_ok-write_guest.ensures.printed
     c.write_guest.ensures.whole

@@ -3,4 +3,4 @@ use Rattle.commands.proofs.showing.write_guests.Given as goal
 
 abbrev pub invariant-loop-guest : goal.invariant-loop-guest
 invariant-loop-guest g l = Listed (g.W.Write.contents l.fn.out) (g.W.Write.contents l.out)
-    l.partitions l.guest
+    l.as_json l.partitions l.guest
