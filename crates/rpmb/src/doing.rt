@@ -93,7 +93,11 @@ fn judge<W: Write>(
     out: &mut W,
 ) -> Result<(), Stop> {
     let judged = command(rt, words, answers, out);
-    place.tell_help(rt, answers);
+    let is_right = match &judged {
+        Ok(()) => true,
+        Err(stop) => stop.status == 3,
+    };
+    place.tell_help(rt, answers, is_right);
     judged
 }
 

@@ -1,5 +1,5 @@
 //! The files of the system, of which no contract says what they give.
-use rpmb_commands::{Source, SourceError, is_file, read_file, read_front};
+use rpmb_commands::{Front, Source, SourceError, is_file, read_file, read_front};
 use std::alloc::Global;
 
 /// The files of the system.
@@ -21,7 +21,7 @@ impl<'a> Source for System<'a> {
         is_file(self.rt, name)
     }
 
-    fn front(&self, _alloc: Global, name: &str, most: u64) -> Option<Vec<u8>> {
+    fn front(&self, _alloc: Global, name: &str, most: u64) -> Front {
         read_front(self.rt, name, most)
     }
 }

@@ -1,3 +1,4 @@
+mod ObjectLemmas
 mod Refused
 mod Lines
 mod KeyLemmas

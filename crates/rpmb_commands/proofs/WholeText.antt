@@ -6,10 +6,10 @@ use Rattle.std.specs.List.{onto_first, slice_split}
 use Rattle.script.specs.Script.{lines_of}
 use Rattle.rpmb_client.specs.Answer.{and_then, answer_in, answer_of, only, replies_of, reply_of}
 use Rattle.rpmb_client.specs.Answer.{used_of}
-use Rattle.rpmb_client.specs.Finding.{IsFinder}
+use Rattle.rpmb_client.specs.Finding.{IsFinder, counted}
 use Rattle.rpmb_client.specs.declared.choosing.Finder.{Finder}
 use Rattle.rpmb_commands.specs.Explaining.{IsCut, IsNext, without_feed}
-use Rattle.rpmb_commands.specs.ReadingData.{IsSought}
+use Rattle.rpmb_commands.specs.ReadingData.{IsSought, replies_in}
 use Rattle.rpmb_commands.proofs.Lines.{IsCut-push}
 
 by_test : {P : Type 0} (b : Bool) → (b ≡ true → P) → (b ≡ false → P) → P
@@ -84,6 +84,10 @@ answer_cut nonce text lines cut =
     ∙ ap (λ us. cond (nat_eq (length (replies_of None (lines_of text))) 1)
     (only (replies_of None (lines_of text))) (only us))
     (sym (replies_cut (Some nonce) text lines cut))
+
+pub counted_cut : (asked : Option (List ℕ)) (text : List ℕ) (lines : List (List ℕ))
+    → IsCut text lines [] → counted (replies_of asked lines) ≡ counted (replies_in asked text)
+counted_cut asked text lines cut = ap counted (sym (replies_cut asked text lines cut))
 
 -- 3. What finds the answer, while lines come
 

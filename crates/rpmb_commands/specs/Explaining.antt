@@ -8,6 +8,8 @@ use Rattle.std.specs.List.{ends_with, flat_map, list_any, starts_with}
 use Rattle.rpmb_client.specs.Answer.{Used, used_of}
 use Rattle.rpmb_client.specs.Explained.{is_refused, is_wrong, reply_lines}
 use Rattle.rpmb_client.specs.Keys.{key_for}
+use Rattle.rpmb_client.specs.Objects.{reply_objects}
+use Rattle.rpmb_commands.specs.LineObject.{line_object}
 use Rattle.rpmb_commands.specs.KeysSaid.{AddsKeys, KeysSaid, keys_seen, no_keys}
 use Rattle.rpmb_commands.specs.Said.{nonce_of}
 use Rattle.rpmb_commands.specs.declared.counts.Counts.{Counts}
@@ -18,13 +20,16 @@ use Rattle.rpmb_commands.specs.declared.words.Words.{Words}
 
 -- 1. A line
 
--- what replies are judged by: the keys of guests, and the nonce that was asked with
+-- what replies are judged by: the keys of guests, and the nonce that was asked with; and whether
+-- all is told in JSON
 pub record Judging : Type 0 where
   pub keys : KeysSaid
   pub nonce : Option (List ℕ)
+  pub as_json : Bool
 
 abbrev pub judging_of : Judge → Judging
-judging_of judge = record { keys = keys_seen judge.keys; nonce = judge.nonce }
+judging_of judge =
+    record { keys = keys_seen judge.keys; nonce = judge.nonce; as_json = judge.as_json }
 
 abbrev pub key_of : Judging → ℕ → Option (List ℕ)
 key_of by guest = key_for by.keys.own by.keys.others guest
@@ -61,10 +66,20 @@ mark_of line =
     if is_torn line then torn_mark line
     else (if is_of_script line then codes " (of a script: expected what `rpmbd run` prints)" else [])
 
+-- a line that gives no reply, as it is or in an object; a reply, in lines or in objects
+abbrev pub other_told : Bool → List ℕ → List ℕ
+other_told as_json line =
+    if as_json then line_object line (is_torn line) (is_of_script line)
+    else line ++ (mark_of line ++ 10 ∷ [])
+
+abbrev pub reply_told : Judging → Used → List ℕ
+reply_told by used =
+    if by.as_json then reply_objects used.guest used.reply (key_of by used.guest) by.nonce
+    else reply_lines used.guest used.reply (key_of by used.guest) by.nonce
+
 abbrev pub told_of : Judging → Option Used → List ℕ → List ℕ
-told_of by None line = line ++ (mark_of line ++ 10 ∷ [])
-told_of by (Some used) line =
-    reply_lines used.guest used.reply (key_of by used.guest) by.nonce
+told_of by None line = other_told by.as_json line
+told_of by (Some used) line = reply_told by used
 
 unfoldable pub line_told : Judging → List ℕ → List ℕ
 line_told by line = told_of by (used_of line) line
@@ -166,6 +181,7 @@ pub record IsJudging (gives : List ℕ → List ℕ → Type 0) (words : Words) 
     : Type 0 where
   pub keys : AddsKeys gives words.keys.items no_keys by.keys
   pub nonce : AsksNonce words by.nonce
+  pub form : by.as_json ≡ words.json
 
 -- by what the words say all lines were told
 pub record Explains (gives : List ℕ → List ℕ → Type 0) (words : Words) (given : Option (List ℕ))

@@ -2,6 +2,7 @@ pub mod Refusing
 pub mod Said
 pub mod KeySaid
 pub mod KeysSaid
+pub mod LineObject
 pub mod Explaining
 pub mod Making
 pub mod Writing

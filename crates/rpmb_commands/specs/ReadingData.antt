@@ -4,11 +4,12 @@ use Rattle.std.specs.Prelude.{None, Some}
 use Rattle.std.specs.Prelude.{Result, Ok, Err, IfErr, IfSome, OnOk, length}
 use Rattle.std.specs.Borrow.{Bor}
 use Rattle.std.specs.Io.KnownBytes.{Appends}
+use Rattle.script.specs.Script.{lines_of}
 use Rattle.rpmb_client.specs.Answer.{Read, Used, answer_in, blocks, no_frames, other_response}
-use Rattle.rpmb_client.specs.Answer.{read_of, refused, wrong_mac, wrong_nonce}
+use Rattle.rpmb_client.specs.Answer.{read_of, refused, replies_of, wrong_mac, wrong_nonce}
 use Rattle.rpmb_client.specs.Blocks.{cut}
 use Rattle.rpmb_client.specs.Explained.{is_wrong, kind_text, result_text}
-use Rattle.rpmb_client.specs.Finding.{IsFinder}
+use Rattle.rpmb_client.specs.Finding.{IsFinder, counted}
 use Rattle.rpmb_client.specs.Options.{number_said}
 use Rattle.rpmb_client.specs.declared.choosing.Finder.{Finder}
 use Rattle.rpmb_client.specs.declared.refusal.Number.TheVariants as number
@@ -64,11 +65,16 @@ pub record GivesData (gives : List ℕ → List ℕ → Type 0) (words : Words) 
 
 -- 2. Why nothing is written
 
--- the lines aren't read, or have no answer
+abbrev pub replies_in : Option (List ℕ) → List ℕ → List Used
+replies_in asked text = replies_of asked (lines_of text)
+
+-- the lines aren't read, or have no answer: then it is told how many replies there are, and how many
+-- of these with the nonce
 pub data WhyNoAnswer (nonce text : List ℕ) (r : Refusal) : Type 0 where
   answer_unread : IsOfReading r → WhyNoAnswer nonce text r
-  answer_none : answer_in nonce text ≡ None → (count asked : ℕ)
-      → r ≡ refusal.NoAnswer count asked → WhyNoAnswer nonce text r
+  answer_none : answer_in nonce text ≡ None
+      → r ≡ refusal.NoAnswer (counted (replies_in None text)) (counted (replies_in (Some nonce) text))
+      → WhyNoAnswer nonce text r
 
 -- why a MAC isn't right: it is wrong, or there is none for want of a key
 abbrev pub no_right_mac : Bool → Refusal

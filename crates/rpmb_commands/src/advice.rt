@@ -17,14 +17,19 @@ const INPUT: &str = "standard input";
 const NO_KEY: &str = "a key is 64 hex digits in @FILE, or 32 bytes in @raw:FILE";
 
 /// What is said of a file that is read as a board, and is too long or no text.
-const NO_BOARD: &str = "a board file (TOML) is wanted here; its key image names the image";
+const NO_BOARD: &str =
+    "a board file (TOML, in UTF-8) is wanted here; its key image names the image";
 
 /// What is said where the answer of an operation on an image isn't taken.
 const DONE: &str = "the request was made, and what it changed stays; only its answer is missing: \
     ask with read-counter, or with read";
 
+/// And where the operation changes nothing.
+const UNSEEN: &str = "only the answer is missing: ask again";
+
 /// What is said where lines of a script or an answer aren't taken.
-const CUT: &str = "it is full or closed; what stands there is a part, and isn't to be used";
+const CUT: &str = "it is full or closed, or who read it is gone; what stands there is a part, and \
+    isn't to be used";
 
 /// What is said where no line of a run comes.
 const NO_LINES: &str = "what `rpmbd run` prints is wanted here; did that end with a fault, or was \
@@ -50,10 +55,9 @@ static RESULTS: [(u16, &str, &str); 7] = [
     (
         0x0001,
         "GENERAL_FAILURE",
-        "the request is no whole frames of 512 bytes, of a type that there is, that belong \
-         together; or has no block, or more than its [[guest]] in the board file says by \
-         max_wr_cnt or max_rd_cnt (16 where it doesn't), or than the room for its answer; or asks \
-         for a result, and there was no request before; or the host's disk failed",
+        "the request isn't whole frames of one type; has no block, or more than max_wr_cnt or \
+         max_rd_cnt (16) or than WRITABLE has room for; asks for the result of none; or the \
+         host's disk failed",
     ),
     (0x0002, "AUTH_FAILURE", "the request had another --key"),
     (
@@ -69,7 +73,8 @@ static RESULTS: [(u16, &str, &str); 7] = [
     (
         0x0005,
         "WRITE_FAILURE",
-        "the guest has a key already, or the host's disk failed",
+        "the guest has a key already (this very one, where the MAC is right), or the host's disk \
+         failed",
     ),
     (
         0x0007,
@@ -93,11 +98,11 @@ const NO_RUN: &str = "what `rpmbd run` or `rpmbd serve` prints is read here; no 
     long";
 
 /// What is said of a MAC that isn't right.
-const OTHER_KEY: &str = "its guest has another key, or somebody changed it";
+const OTHER_KEY: &str = "the guest has another key, or somebody changed the answer";
 
 const OTHER_MAC: &str =
-    "its guest has another key, somebody changed the answer, or the host's disk \
-    failed (explain says zeros)";
+    "the guest has another key, somebody changed the answer, or the host's disk failed \
+    (explain says zeros)";
 
 /// What is said of an answer of no bytes.
 const NO_FRAMES: &str = "its request asked for none (--no-result), or needs WRITABLE 512 for each \
@@ -328,8 +333,15 @@ pub(crate) fn advice_of<'a>(
             "--counter",
             "so many writes have no counters left; take fewer, or a larger --max-blocks",
         )),
-        Refusal::NoRoom if words.operation.is_some() => Some((words.board.unwrap_or(""), DONE)),
-        Refusal::NoRoom => Some(("standard output", CUT)),
+        Refusal::NoRoom => match words.operation {
+            None => Some(("standard output", CUT)),
+            Some("read" | "read-counter") => Some((words.board.unwrap_or(""), UNSEEN)),
+            Some(_) => Some((words.board.unwrap_or(""), DONE)),
+        },
+        Refusal::BadImage(_, _) => Some((
+            words.board.unwrap_or(""),
+            "its key image names the image: name another, or put a whole copy of this board's there",
+        )),
         // Of an operation on a board's image more is known, and told behind, or is no cause.
         Refusal::Refused(_) if words.operation.is_some() => None,
         Refusal::WrongMac if words.operation.is_some() => Some(("--key", OTHER_KEY)),

@@ -1,8 +1,9 @@
 //! The command that says whether `rpmbd` reads a board file and a script.
 use crate::refusal::Refusal;
-use crate::source::{BOARD_FILE, SCRIPT_FILE, Source, text_of};
+use crate::source::{BOARD_FILE, Front, SCRIPT_FILE, Source, SourceError, text_of};
 use crate::words::Words;
 use board_file::{BoardError, read_board};
+use intent_slots::{HeaderFault, Layout};
 use rpmb_client::OptionRefusal;
 use rpmb_frame::BoardConfig;
 use script::{ScriptError, read_script};
@@ -95,26 +96,54 @@ fn write_cut<'a, W: Write>(file: &str, out: &mut W) -> Result<(), Refusal<'a>> {
     }
 }
 
-/// Of which version an image is by its first bytes.
-fn version_of(front: &[u8]) -> &'static str {
-    if !front.starts_with(b"VRPMBIMG") {
-        return ", which is no image";
+/// Of which version an image of a board is by its first bytes and its length, or why it is none.
+fn version_of(
+    board: &BoardConfig,
+    front: &[u8],
+    length: u64,
+) -> Result<&'static str, &'static str> {
+    if front.len() < 513 {
+        return Err("has too few bytes for one");
     }
-    match front.get(512) {
-        Some(2) => " of version 2",
-        Some(_) => " of version 1",
-        None => ", which is no whole image",
+    let layout = Layout::of(board);
+    match layout.check_header(front) {
+        Err(HeaderFault::NotFormatted) => Err("is none"),
+        Err(HeaderFault::OtherConfig) => Err("is another board's (other guests or capacities)"),
+        Ok(()) if length != layout.length() => Err("has another length than this board's"),
+        Ok(()) if front[512] == 2 => Ok(" of version 2"),
+        Ok(()) => Ok(" of version 1"),
     }
 }
 
-/// What is said behind the path of an image, which nobody has to have made yet.
-fn state_of<S: Source>(alloc: Global, source: &S, image: &str) -> &'static str {
-    if !source.is_file(image) {
-        return "";
-    }
+/// What is said behind the path of an image, which nobody has to have made yet, or why it is none.
+fn state_of<S: Source>(
+    alloc: Global,
+    source: &S,
+    board: &BoardConfig,
+    image: &str,
+) -> Result<&'static str, &'static str> {
     match source.front(alloc, image, VERSION_FRONT) {
-        Some(front) => version_of(front.as_slice()),
-        None => "",
+        Front::Absent => Ok(""),
+        Front::Unread(SourceError::NoFile(why)) => Err(why),
+        Front::Unread(_) => Err("can't be read"),
+        Front::Read(front, length) => version_of(board, front.as_slice(), length),
+    }
+}
+
+/// The path of an image and what is said of it. Refused where it is there and none of this board.
+fn check_image<'a, 'b, S: Source>(
+    alloc: Global,
+    source: &S,
+    file: &'a str,
+    board: &BoardConfig,
+    image: &'b str,
+) -> Result<(&'b str, &'static str), Refusal<'a>> {
+    match state_of(alloc, source, board, image) {
+        Ok(state) => Ok((image, state)),
+        Err(why) => match format!(in alloc; "{image:?} {why}") {
+            Ok(words) => Err(Refusal::BadImage(file, words)),
+            Err(_) => Err(Refusal::NoMemory),
+        },
     }
 }
 
@@ -146,7 +175,7 @@ fn write_guests<W: Write>(board: &BoardConfig, out: &mut W) -> io::Result<()> {
 }
 
 /// Writes `ok`, and what the board is good for, where `rpmbd run` reads the board file, and the
-/// script where one is named.
+/// script where one is named. Refused, too, where the image is there and is none of the board's.
 pub fn check<'a, S: Source, W: Write>(
     alloc: Global,
     source: &S,
@@ -163,7 +192,7 @@ pub fn check<'a, S: Source, W: Write>(
         _ => None,
     };
     let image = match image.as_deref() {
-        Some(path) => Some((path, state_of(alloc, source, path))),
+        Some(path) => Some(check_image(alloc, source, file, &board, path)?),
         None => None,
     };
     let count = board.guests().len();

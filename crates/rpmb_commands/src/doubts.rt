@@ -19,7 +19,8 @@ const NO_MAC: &str = "has no MAC (zeros): its guest has no key yet, or the host'
 const OTHER_MAC: &str = "has a wrong MAC: its guest has another key, or somebody changed it";
 
 /// A nonce that wasn't asked with.
-const OTHER_NONCE: &str = "has another nonce: it answers another question, or is an old answer";
+const OTHER_NONCE: &str = "has another nonce: it answers another question (give explain the line \
+    of one question alone), or is an old answer";
 
 /// What is wrong with a reply that is told to be wrong, where this nonce was asked with.
 pub(crate) fn doubt_of(used: &Used, nonce: Option<[u8; 16]>) -> &'static str {

@@ -1,26 +1,27 @@
 //! The command that says of the lines of `rpmbd run` what each is.
-ghost use Rattle.std.specs.Prelude.{◌≡◌, ◌++◌, ◌∷◌, ◌||◌, [], IfErr, IfOk, IfSome, OnOk, nat_lt};
+ghost use Rattle.std.specs.Prelude.{◌≡◌, ◌||◌, [], IfErr, IfOk, IfSome, OnOk, nat_lt};
 ghost use Rattle.std.specs.Prelude.{Some, string_bytes, true};
 ghost use Rattle.std.specs.Io.KnownBytes.{Appends, Keeps};
 ghost use Rattle.rpmb_client.specs.Seen.{used_seen};
 ghost use Rattle.rpmb_commands.specs.Explaining.{AsksNonce, ExplainDoes, Explains, IsJudging};
-ghost use Rattle.rpmb_commands.specs.Explaining.{IsNext, IsOther, SaysAll, ends_in_return};
-ghost use Rattle.rpmb_commands.specs.Explaining.{has_refused, has_script_bytes, has_wrong};
-ghost use Rattle.rpmb_commands.specs.Explaining.{is_answer, is_no_answer};
-ghost use Rattle.rpmb_commands.specs.Explaining.{is_of_script, is_refused_of, is_torn, is_wrong_of};
-ghost use Rattle.rpmb_commands.specs.Explaining.{judging_of, line_told, mark_of, told_counts};
-ghost use Rattle.rpmb_commands.specs.Explaining.{told_of, torn_mark};
+ghost use Rattle.rpmb_commands.specs.Explaining.{IsNext, IsOther, SaysAll, has_refused, has_wrong};
+ghost use Rattle.rpmb_commands.specs.Explaining.{is_answer, is_no_answer, is_refused_of};
+ghost use Rattle.rpmb_commands.specs.Explaining.{is_wrong_of, judging_of, line_told, other_told};
+ghost use Rattle.rpmb_commands.specs.Explaining.{reply_told, told_counts, told_of};
 ghost use Rattle.rpmb_commands.specs.Explaining.{without_feed};
 ghost use Rattle.rpmb_commands.specs.Refusing.{IsOfReading};
 
 use crate::counts::{Counts, unused_key};
 use crate::doubts::{doubt_of, doubt_of_line};
 use crate::keys::keys_of;
+use crate::other_line::{is_no_answer, write_other};
 use crate::refusal::Refusal;
 use crate::source::Source;
 use crate::values::nonce_of;
 use crate::words::Words;
-use rpmb_client::{Keys, Used, explain, is_refused, is_wrong, read_used};
+use rpmb_client::{
+    ClientFault, Keys, Used, explain, explain_as_objects, is_refused, is_wrong, read_used,
+};
 use std::alloc::Global;
 use std::io;
 use std::io::{BufRead, Write};
@@ -30,6 +31,25 @@ use std::io::{BufRead, Write};
 struct Judge {
     keys: Keys,
     nonce: Option<[u8; 16]>,
+    /// Whether all is told in JSON.
+    as_json: bool,
+}
+
+/// Writes what the reply of a `used` line is, in the form that is asked for.
+fn write_reply<W: Write>(
+    alloc: Global,
+    used: &Used,
+    judge: &Judge,
+    out: &mut W,
+) -> Result<(), ClientFault>
+    ensures { OnOk result (Appends (W.contents out.old) (W.contents out.new)
+        (reply_told (judging_of judge.now) (used_seen used.now))) }
+{
+    let key = judge.keys.key_of(used.guest);
+    if judge.as_json {
+        return explain_as_objects(alloc, used, key, judge.nonce, out);
+    }
+    explain(alloc, used, key, judge.nonce, out)
 }
 
 /// Says what the reply of a `used` line is, and counts it.
@@ -50,7 +70,7 @@ fn explain_used<'a, W: Write>(
     ensures other { IfErr result IsOther }
 {
     let key = judge.keys.key_of(used.guest);
-    match explain(alloc, used, key, judge.nonce, out) {
+    match write_reply(alloc, used, judge, out) {
         Ok(()) => {
             let why = doubt_of(used, judge.nonce);
             let is_wrong = is_wrong(used, key, judge.nonce);
@@ -61,81 +81,28 @@ fn explain_used<'a, W: Write>(
     }
 }
 
-/// Whether a line that gives no reply begins as those that do.
-fn is_torn(line: &str) -> bool
-    ensures { result ≡ is_torn line.now }
-{
-    line.starts_with("used")
-}
-
-/// Whether it begins as the lines of a script do that have bytes.
-fn has_script_bytes(line: &str) -> bool
-    ensures { result ≡ has_script_bytes line.now }
-{
-    line.starts_with("chain ") || line.starts_with("store ")
-}
-
-/// Whether it begins as the lines of a script do, which `rpmbd run` reads.
-fn is_of_script(line: &str) -> bool
-    ensures { result ≡ is_of_script line.now }
-{
-    has_script_bytes(line) || line.starts_with("reset ")
-}
-
-/// Whether it is none that `rpmbd run` prints: torn, or of a script.
-fn is_no_answer(line: &str) -> bool
-    ensures { result ≡ is_no_answer line.now }
-{
-    is_torn(line) || is_of_script(line)
-}
-
-fn ends_in_return(line: &str) -> bool
-    ensures { result ≡ ends_in_return line.now }
-{
-    line.ends_with("\r")
-}
-
-/// What stands behind a torn line.
-fn torn_mark(line: &str) -> &'static str
-    ensures { result.now ≡ torn_mark line.now }
-{
-    if ends_in_return(line) {
-        " (torn: it ends with a carriage return; tr -d '\\r' takes those away)"
-    } else {
-        " (torn: expected `used G LEN HEX`)"
-    }
-}
-
-/// What stands behind a line that gives no reply.
-fn mark_of(line: &str) -> &'static str
-    ensures { result.now ≡ mark_of line.now }
-{
-    if is_torn(line) {
-        torn_mark(line)
-    } else if is_of_script(line) {
-        " (of a script: expected what `rpmbd run` prints)"
-    } else {
-        ""
-    }
-}
-
-/// Writes a line that gives no reply as it is, and says and counts where it is no answer.
-fn pass_on<'a, W: Write>(line: &str, counts: &mut Counts, out: &mut W) -> Result<(), Refusal<'a>>
+/// Passes on a line that gives no reply, and counts it where it is no answer.
+fn pass_on<'a, W: Write>(
+    alloc: Global,
+    line: &str,
+    as_json: bool,
+    counts: &mut Counts,
+    out: &mut W,
+) -> Result<(), Refusal<'a>>
     ensures told { OnOk result (Appends (W.contents out.old) (W.contents out.new)
-        (line.now ++ (mark_of line.now ++ 10 ∷ []))) }
+        (other_told as_json line.now)) }
     ensures wrong { OnOk result (nat_lt 0 counts.new.wrong ≡ (nat_lt 0 counts.old.wrong
         || is_no_answer line.now)) }
     ensures refused { OnOk result (counts.new.refused ≡ counts.old.refused) }
     ensures answer { OnOk result (counts.new.has_answer ≡ counts.old.has_answer) }
     ensures other { IfErr result IsOther }
 {
-    let mark = mark_of(line);
-    match writeln!(out, "{line}{mark}") {
+    match write_other(alloc, line, as_json, out) {
         Ok(()) => {
             counts.add_unread(is_no_answer(line), doubt_of_line(line));
             Ok(())
         }
-        Err(_) => Err(Refusal::NoRoom),
+        Err(fault) => Err(Refusal::of(fault)),
     }
 }
 
@@ -160,7 +127,7 @@ fn explain_line<'a, W: Write>(
 {
     match read_used(alloc, line) {
         Ok(Some(used)) => explain_used(alloc, &used, judge, counts, out),
-        Ok(None) => pass_on(line, counts, out),
+        Ok(None) => pass_on(alloc, line, judge.as_json, counts, out),
         Err(_) => Err(Refusal::NoMemory),
     }
 }
@@ -312,7 +279,12 @@ fn judge_of<'a, S: Source>(
 {
     let keys = keys_of(alloc, source, words)?;
     let nonce = asked_nonce(alloc, words)?;
-    Ok(Judge { keys, nonce })
+    let as_json = words.json;
+    Ok(Judge {
+        keys,
+        nonce,
+        as_json,
+    })
 }
 
 /// Refused where a line is torn or wrong, else where no reply came at all, and else where one says

@@ -1,9 +1,10 @@
 //! The commands as `clap` reads them: a row for each, with a row for each of its options.
 use crate::help::{
     CHECK, DO, DO_KEY, DO_READ, DO_READ_COUNTER, DO_WRITE, EXPLAIN, PROGRAM, PROGRAM_KEY, READ,
-    READ_COUNTER, READ_DATA, RESULT, VERSION, WRITE,
+    READ_COUNTER, READ_DATA, RESULT, WRITE,
 };
 use clap::{Arg, ArgAction, Command};
+use command_line::VERSION;
 use std::alloc::{AllocError, Global};
 
 /// How an option is written.
@@ -154,6 +155,14 @@ const LENGTH: OptionRow = OptionRow {
     help: "Writes the first N bytes alone, as what was written with --pad had",
 };
 
+const JSON: OptionRow = OptionRow {
+    id: "json",
+    form: Form::Flag,
+    value: "",
+    is_needed: false,
+    help: "Prints a JSON object a line, for machines",
+};
+
 const BOARD: OptionRow = OptionRow {
     id: "BOARD",
     form: Form::Word,
@@ -212,6 +221,7 @@ static COMMANDS: [CommandRow; 8] = [
                 is_needed: false,
                 ..ASKED_NONCE
             },
+            JSON,
         ],
         more: EXPLAIN,
     },

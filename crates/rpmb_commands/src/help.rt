@@ -1,9 +1,5 @@
 //! What stands behind the help of each command: what it prints, and its statuses.
 
-/// The version, the logic that the program was proved with, as `rt version` names it, and the images
-/// that it opens.
-pub const VERSION: &str = "0.1 (Hovdrang, logic dac8208d650f15bf), images of version 1 and 2";
-
 pub const PROGRAM: &str = "\
 The lines that these commands make go into a script, and the lines that `rpmbd run`\n\
 prints of it into explain or read-data:\n\
@@ -45,8 +41,9 @@ that aren't understood.";
 pub const WRITE: &str = "\
 Prints a line `chain G HEX W` for a script for each write of at most N blocks (16, where\n\
 --max-blocks isn't given): DATA_WRITE, with the RESULT_READ that asks for its result\n\
-unless --no-result is given. The lines go on by one in their write counters. The bytes\n\
-come from just one of --data and --file. They are whole blocks, unless --pad is given.\n\
+unless --no-result is given. The lines go on by one in their write counters: the first is\n\
+for --counter, line K for K - 1 more. The bytes come from just one of --data and --file.\n\
+They are whole blocks, unless --pad is given.\n\
 \n\
 Status: 0 where all is printed, 1 where a value is refused, with a line on\n\
 standard error that says what was expected and what was given, 2 for words\n\
@@ -75,6 +72,7 @@ line is printed as it is; one that begins with `used` was torn, and (torn: ..) s
 behind it, and (of a script: ..) behind one of a script. Each is printed as it comes.\n\
 A reply of 0 bytes is told as such, and counts as one: its request asked for none, as by\n\
 --no-result, or had no room. WRITABLE of its chain is to be 512 or a multiple.\n\
+With --json each of these is a JSON object in a line, and other lines stand in one too.\n\
 \n\
 Status: 0; 1 where no reply came, a line was torn or of a script, a MAC or a nonce was wrong,\n\
 only other guests than that of a key answered or a value is refused, 2 for words that aren't\n\
@@ -90,15 +88,16 @@ is wrong, or there is no such answer, with a line on standard error that says wh
 words that aren't understood; 3 where the device refused the read in a right answer.";
 
 pub const CHECK: &str = "\
-Prints `ok: N guests, image \"PATH\"`, with the version of the image where the file is one,\n\
-or `in memory` in its place, and `guest G: capacity C (K KiB)` for each guest, where\n\
-`rpmbd run` reads the board file, and the script for it where one is named; behind that\n\
-a line where the script may have been cut. `rpmbd serve` also refuses a `store` line, and\n\
-`rpmbd format`, `show` and `upgrade` a board without the key image.\n\
+Prints `ok: N guests, image \"PATH\"`, with the version of the image where it is there, or\n\
+`in memory` in its place, and `guest G: capacity C (K KiB)` for each guest; behind that a\n\
+line where the script may have been cut. `ok` says that `rpmbd run` reads the board file,\n\
+and the script for it where one is named, and that the image isn't there, or begins as one\n\
+of this board. `rpmbd serve` also refuses a `store` line, and `rpmbd format`, `show` and\n\
+`upgrade` a board without the key image.\n\
 \n\
-Status: 0 for ok; 1 where a file isn't read, with a line on standard error that says which\n\
-key or which line and word, what was expected, and what stands there; 2 for words that\n\
-aren't understood.";
+Status: 0 for ok; 1 where a file isn't read or the image is none of this board, with a line\n\
+on standard error that says which key or which line and word, what was expected, and what\n\
+stands there; 2 for words that aren't understood.";
 
 pub const DO: &str = "\
 Works on the image that the board file names, and holds its lock from before the first\n\

@@ -101,6 +101,9 @@ pub enum Refusal<'a> {
     BadBoard(&'a str, String),
     #[error("BadScript: the script {0:?}: {1}")]
     BadScript(&'a str, String),
+    /// The image that a board file names is there, and is none of that board.
+    #[error("BadImage: the image of the board file {0:?}: {1}")]
+    BadImage(&'a str, String),
 }
 
 impl<'a> Refusal<'a> {

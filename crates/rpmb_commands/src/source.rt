@@ -32,6 +32,8 @@ pub(crate) const NO_PATH: &str = "a part of its path is a file, and no folder";
 
 pub(crate) const ROUND_LINKS: &str = "leads round in links";
 
+const NO_PLAIN: &str = "is no plain file";
+
 pub(crate) const LONG_PATH: &str = "the path is too long";
 
 /// Why a file isn't read.
@@ -43,6 +45,17 @@ pub enum SourceError {
     TooLong,
     /// Memory was refused for its bytes.
     NoMemory,
+}
+
+/// How a file begins.
+#[derive(Debug, Drop)]
+pub enum Front {
+    /// Nothing has its name.
+    Absent,
+    /// It can't be read, for this reason.
+    Unread(SourceError),
+    /// Its first bytes, and how many it has.
+    Read(Vec<u8>, u64),
 }
 
 /// Gives what files hold, by the names that words give them.
@@ -64,9 +77,8 @@ pub trait Source {
     /// Whether there is a file of the name, which isn't opened.
     fn is_file(&self, name: &str) -> bool;
 
-    /// The first bytes of a file, `most` where it has as many. None where it can't be read, or
-    /// memory is refused for them.
-    fn front(&self, alloc: Global, name: &str, most: u64) -> Option<Vec<u8>>;
+    /// The first bytes of a file, `most` where it has as many, and its length.
+    fn front(&self, alloc: Global, name: &str, most: u64) -> Front;
 }
 
 fn error_of(error: &io::Error) -> SourceError {
@@ -109,12 +121,25 @@ pub fn read_file<R: Files + AllocGlobal>(
     }
 }
 
-/// The first bytes of the file of a path, or none, as `Source::front` gives them.
-pub fn read_front<R: Files + AllocGlobal>(rt: &R, path: &str, most: u64) -> Option<Vec<u8>> {
+/// The first bytes of a plain file, which others aren't opened for.
+fn front_of<R: Files + AllocGlobal>(rt: &R, path: &str, most: u64) -> io::Result<Front> {
+    let found = fs::metadata(rt, path)?;
+    if !(found.is_file() || found.is_dir()) {
+        return Ok(Front::Unread(SourceError::NoFile(NO_PLAIN)));
+    }
     let mut bytes = Vec::new(rt.alloc());
-    match fs::open(rt, path).ok()?.take(most).read_to_end(&mut bytes) {
-        Ok(_) => Some(bytes),
-        Err(_) => None,
+    fs::open(rt, path)?.take(most).read_to_end(&mut bytes)?;
+    Ok(Front::Read(bytes, found.len()))
+}
+
+/// How the file of a path begins, as `Source::front` gives it.
+pub fn read_front<R: Files + AllocGlobal>(rt: &R, path: &str, most: u64) -> Front {
+    match front_of(rt, path, most) {
+        Ok(front) => front,
+        Err(error) => match error.kind() {
+            io::ErrorKind::NotFound => Front::Absent,
+            _ => Front::Unread(error_of(&error)),
+        },
     }
 }
 

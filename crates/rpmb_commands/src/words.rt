@@ -28,6 +28,8 @@ pub struct Words<'a> {
     pub script: Option<&'a str>,
     pub no_result: bool,
     pub pad: bool,
+    /// Whether `explain` prints JSON.
+    pub json: bool,
 }
 
 impl<'a> Words<'a> {
@@ -86,6 +88,7 @@ fn found<'a>(
         script: matches.get_str("SCRIPT"),
         no_result: matches.get_flag("no-result"),
         pad: matches.get_flag("pad"),
+        json: matches.get_flag("json"),
     })
 }
 
