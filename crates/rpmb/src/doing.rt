@@ -93,11 +93,7 @@ fn judge<W: Write>(
     out: &mut W,
 ) -> Result<(), Stop> {
     let judged = command(rt, words, answers, out);
-    let is_right = match &judged {
-        Ok(()) => true,
-        Err(stop) => stop.status == 3,
-    };
-    place.tell_help(rt, answers, is_right);
+    place.tell_help(rt, answers);
     judged
 }
 

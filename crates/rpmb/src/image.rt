@@ -19,7 +19,11 @@ use script::read_number;
 const REQUEST: &str = "the request";
 
 /// What a guest is told to be by the result and the type that its reply ends with.
-static HELP: [(&str, &str); 4] = [
+static HELP: [(&str, &str); 5] = [
+    (
+        "00050100",
+        "has a key already: this very one where the MAC is right, else another",
+    ),
     ("00070200", "has no key yet; program-key gives it one"),
     ("00010000", "writes at most max_wr_cnt: say --max-blocks"),
     ("00010400", "reads at most max_rd_cnt blocks at once"),
@@ -117,17 +121,8 @@ impl<'a> Place<'a> {
     }
 
     /// Tells what helps, where a reply of lines ends with a result and a type of which it is known.
-    /// Where the MAC under a key is right that was to be programmed, the guest has that one.
-    pub fn tell_help(&self, rt: &HostRuntime, lines: &[u8], is_right: bool) {
+    pub fn tell_help(&self, rt: &HostRuntime, lines: &[u8]) {
         let (file, number) = (self.file, self.guest);
-        if ends_so(lines, "00050100") {
-            let key = if is_right {
-                "this very key"
-            } else {
-                "another key"
-            };
-            let _ = eprintln!(rt; "{file}: guest {number} has {key} already");
-        }
         if ends_so(lines, "00040300") || ends_so(lines, "00040400") {
             self.tell_end(rt);
         }
