@@ -1,15 +1,13 @@
 -- Steps of a board whose devices ask, seen as a board.
-use Rattle.std.proofs.Common.{◌≡◌, ◌≤◌, ◌<◌, ◌+◌, ℕ, zero, suc, Bool, true, List, [], ◌∷◌, Option, Some, None}
-use Rattle.std.proofs.Common.{Result, Ok, Err, length, map, refl, ap, sym, subst, ◌∙◌, arith}
+use Rattle.std.proofs.Common.{◌≡◌, ◌≤◌, ◌<◌, ◌+◌, ℕ, zero, suc, List, [], ◌∷◌, Option, Some, None}
+use Rattle.std.proofs.Common.{Result, Ok, Err, length, map, refl, ap, sym, subst, ◌∙◌}
 use Rattle.std.proofs.Common.{length-set}
 use Rattle.board.proofs.Common.{slice_get, slice_set, slice_get-map, DiskCall, DiskState, Effect}
 use Rattle.board.proofs.Common.{DeviceState, Job, Done, BoardState, Answer, PopsInto, job_of, put}
-use Rattle.board.proofs.Common.{IsSound, state, AreOfBoard, in_place, option_map, length-map, Does}
+use Rattle.board.proofs.Common.{IsSound, in_place, option_map, length-map, Does}
 use Rattle.board.proofs.Common.{Step, slice_index_or, slice_get-get_or, GuestConfig}
 use Rattle.board.proofs.Common.{Begins, bases_of, parts_of}
-use Rattle.rpmb_book.specs.Audit.{HasHistory}
-use Rattle.rpmb_book.specs.Sound.{IsSound as IsSoundBook}
-use Rattle.guest_memory.specs.Memory.{Span}
+use Rattle.board.specs.Board.{IsKnown}
 use Rattle.mmio_transport.specs.Asking.{AskingState, GivesOrAsks, PublishesAsked}
 use Rattle.mmio_transport.specs.Job.{room_in}
 use Rattle.mmio_transport.specs.Popping.{GivesJob}
@@ -26,6 +24,7 @@ use Rattle.board.specs.Moving.{Moves}
 use Rattle.board.specs.State.{with_devices}
 use Rattle.board.specs.declared.step.Step.TheVariants as step
 use Rattle.board.proofs.Doing.{set_same, full_at}
+use Rattle.board.proofs.Lifting.{IsOfRest, rest_steps}
 use Rattle.board.proofs.Moving.{made, left_moves, sound_moved, still_moves}
 use Rattle.board.specs.Opening.{begun}
 
@@ -64,8 +63,7 @@ asked ds rest = record { devices = ds; rest = rest }
 module _ {D : Type 0} (shows : D → DiskState) (makes : D → DiskCall → D → Type 0)
     (effect : (a b : D) (call : DiskCall) → makes a call b → Effect (shows a) call (shows b))
     (b : AskingBoardState D) (sound : IsSound shows (board_of b))
-    (book : IsSoundBook (state b.rest.book)) (boards : AreOfBoard (state b.rest.book))
-    (history : HasHistory b.rest.book) where
+    (known : IsKnown b.rest.book) where
   -- any step that leaves the copies
   pub steps_asked : (s : Step) (answer : Answer) (new : AskingBoardState D)
       → Does shows makes s answer (board_of b) (board_of new)
@@ -73,9 +71,21 @@ module _ {D : Type 0} (shows : D → DiskState) (makes : D → DiskCall → D �
       → StepsAsked shows makes s answer b new
   steps_asked s answer new does held = record {
     steps = made shows makes effect s answer (board_of b) (board_of b) (board_of new) refl sound
-        book boards history does;
+        known does;
     held = held;
   }
+
+  -- one in which no device takes part, as a contract sees the board that it began with
+  pub rest_asked : (s : Step) → IsOfRest s → (answer : Answer) (rest' : BoardState D)
+      → Does shows makes s answer b.rest rest' → (seen : AskingBoardState D) → b ≡ seen
+      → StepsAsked shows makes s answer seen (asked b.devices rest')
+  rest_asked s is answer rest' does seen same = subst (λ v. StepsAsked shows makes s answer v
+      (asked b.devices rest')) same
+      (record {
+        steps = rest_steps shows makes effect (map device_in b.devices) b.rest sound known s is
+            answer rest' does (board_of b) refl;
+        held = refl;
+      })
 
   -- a pop of a device
   pub pop_steps : (g : ℕ) (a a' : AskingState) (popped : Result (Option Job) DeviceFault)

@@ -1,7 +1,7 @@
 -- The image's header stays over each step of a board, and over steps one after another.
 use Rattle.std.proofs.Common.{◌≡◌, inl, inr, refl, ap, sym, subst, ◌∙◌}
 use Rattle.board.proofs.Common.{DiskCall, DiskState, FrontStays, Still, Within, BoardState}
-use Rattle.board.proofs.Common.{Advances, Answer, Does, Step}
+use Rattle.board.proofs.Common.{Answer, Does, Step}
 use Rattle.disk.proofs.Ways.{within_both, within_end, within_weaker}
 use Rattle.recovery.specs.Opening.{Untouched}
 use Rattle.board.proofs.Stores.{of_store}

@@ -6,7 +6,7 @@ use Rattle.board.proofs.Common.{slice_get, slice_set, slice_get_within, Request,
 use Rattle.board.proofs.Common.{GuestConfig, DiskCall, DiskState, Effect, HasRisen, Still, Within}
 use Rattle.board.proofs.Common.{within_weaker, Intent, Part, Guest, Progress, StoreFault}
 use Rattle.board.proofs.Common.{pending_stays, MovedBy, Round, planned, settles, guest_after_sync}
-use Rattle.board.proofs.Common.{mark_of, given, DeviceState, Done, Job, state, AreOfBoard, by_test}
+use Rattle.board.proofs.Common.{mark_of, given, DeviceState, Done, Job, state, by_test}
 use Rattle.board.proofs.Common.{IsLinkedBoard, IsSound, LeavesPrefixes, StaysLinked, accepted_after}
 use Rattle.board.proofs.Common.{answered, marks_in, BoardState, Advances, Answer, Does, Step}
 use Rattle.std.specs.Prelude.{position}
@@ -14,8 +14,7 @@ use Rattle.std.specs.List.{list_any}
 use Rattle.disk.proofs.Ways.{within_both}
 use Rattle.flusher.specs.Round.{plan_at}
 use Rattle.flusher.specs.Pair.{guest_awaits, guest_has_write}
-use Rattle.rpmb_book.specs.Audit.{HasHistory}
-use Rattle.rpmb_book.specs.Sound.{IsSound as IsSoundBook}
+use Rattle.board.specs.Board.{IsKnown}
 use Rattle.board.proofs.Headers.{header_stays, header_still, header_twice}
 use Rattle.board.proofs.Linked.{in_book, publishes_linked}
 use Rattle.board.proofs.Prefixes.{does_moments, leaves_now}
@@ -294,12 +293,11 @@ sound_moved shows makes a b s m =
 steps : {D : Type 0} (shows : D → DiskState) (makes : D → DiskCall → D → Type 0)
     (effect : (a b : D) (call : DiskCall) → makes a call b → Effect (shows a) call (shows b))
     (s : Step) (answer : Answer) (old new : BoardState D)
-    → IsSound shows old → IsSoundBook (state old.book) → AreOfBoard (state old.book)
-    → HasHistory old.book → Does shows makes s answer old new
+    → IsSound shows old → IsKnown old.book → Does shows makes s answer old new
     → Steps shows makes s answer old new
-steps {D = D} shows makes effect s answer old new sound book boards history does = record {
+steps {D = D} shows makes effect s answer old new sound book does = record {
   does = does;
-  history = history;
+  history = book.history;
   moves = step_moves shows makes effect s answer old new sound does linked moments;
   linked = linked;
   moments = moments;
@@ -311,7 +309,7 @@ steps {D = D} shows makes effect s answer old new sound book boards history does
   where
     linked : LinksBy shows s answer old new
     linked config bases accepted parts ok = does_stay shows makes effect config bases accepted parts
-        old ok book boards s answer new does
+        old ok book.sound book.of_board s answer new does
 
     moments : KeepsPrefixes shows makes old new
     moments config bases accepted parts ok known =
@@ -321,19 +319,16 @@ steps {D = D} shows makes effect s answer old new sound book boards history does
 pub made : {D : Type 0} (shows : D → DiskState) (makes : D → DiskCall → D → Type 0)
     (effect : (a b : D) (call : DiskCall) → makes a call b → Effect (shows a) call (shows b))
     (s : Step) (answer : Answer) (old seen new : BoardState D) → old ≡ seen
-    → IsSound shows old → IsSoundBook (state old.book) → AreOfBoard (state old.book)
-    → HasHistory old.book → Does shows makes s answer old new
+    → IsSound shows old → IsKnown old.book → Does shows makes s answer old new
     → Steps shows makes s answer seen new
-made shows makes effect s answer old seen new same sound book boards history does =
+made shows makes effect s answer old seen new same sound book does =
     subst (λ v. Steps shows makes s answer v new) same
-    (steps shows makes effect s answer old new sound book boards history does)
+    (steps shows makes effect s answer old new sound book does)
 
 -- after which it is sound
 pub steps_sound : {D : Type 0} (shows : D → DiskState) (makes : D → DiskCall → D → Type 0)
     (effect : (a b : D) (call : DiskCall) → makes a call b → Effect (shows a) call (shows b))
     (s : Step) (answer : Answer) (old new : BoardState D)
-    → IsSound shows old → IsSoundBook (state old.book) → AreOfBoard (state old.book)
-    → HasHistory old.book → Does shows makes s answer old new → IsSound shows new
-steps_sound shows makes effect s answer old new sound book boards history does =
-    sound_moved shows makes old new sound (steps shows makes effect s answer old new sound book
-    boards history does).moves
+    → IsSound shows old → IsKnown old.book → Does shows makes s answer old new → IsSound shows new
+steps_sound shows makes effect s answer old new sound book does =
+    sound_moved shows makes old new sound (steps shows makes effect s answer old new sound book does).moves

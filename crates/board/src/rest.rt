@@ -1,47 +1,38 @@
-//! All of a board but its devices, and what each step does to it.
-ghost use Rattle.std.specs.Prelude.{◌≡◌, ℕ, List, IfOk, IfErr, OnOk, slice_get, None, Some};
-ghost use Rattle.std.specs.Prelude.{◌↔◌, IsTrue, option_copied, slice_set, true, false};
+//! All of a board but its devices, and what each step does to it and to the devices.
+ghost use Rattle.std.specs.Prelude.{◌≡◌, ◌↔◌, ℕ, List, IfOk, IfErr, IsTrue, OnOk, None, Some, true};
+ghost use Rattle.std.specs.Prelude.{false, option_copied, slice_get, slice_set};
 ghost use Rattle.disk.specs.Disk.{HasRisen, Within};
 ghost use Rattle.intent_slots.specs.Layout.{capacities_of};
+ghost use Rattle.intent_slots.specs.Payload.{Intent as IntentSpec};
 ghost use Rattle.recovery.specs.Opening.{AllBegun, Answers, Untouched};
 ghost use Rattle.recovery.specs.Reading.{is_disk_fault};
-ghost use Rattle.flusher.specs.Progress.{with_marks};
 ghost use Rattle.flusher.specs.Store.{MayGive, is_free, next_call};
-ghost use Rattle.intent_slots.specs.Payload.{Intent as IntentSpec};
 ghost use Rattle.rpmb_book.specs.Book.{is_share, may_settle, state};
-ghost use Rattle.rpmb_book.specs.Audit.{HasHistory};
 ghost use Rattle.rpmb_book.specs.Replay.{opened};
-ghost use Rattle.rpmb_book.specs.Sound.{AreOfBoard, IsSound as IsSoundBook};
-ghost use Rattle.board.specs.State.{Marks as MarksReport, emptied, in_place, report_seen};
-ghost use Rattle.board.specs.State.{without_devices};
+ghost use Rattle.rpmb_book.specs.Sound.{AreOfBoard};
+ghost use Rattle.board.specs.Board.{IsKnown};
 ghost use Rattle.board.specs.Opening.{Begins, Calls, Finds, begun, disk_left, new_board, opening_of};
-ghost use Rattle.board.specs.Steps.{AdvancesUnder, advance_answer, answer_by, did_answer};
-ghost use Rattle.board.specs.Steps.{CollectsInto, GivesWhere, SettlesBy, SubmitsFrom, TakesInto};
-ghost use Rattle.board.specs.Steps.{report_of};
-ghost use Rattle.board.specs.declared.step.StepFault.TheVariants as fault;
+ghost use Rattle.board.specs.State.{Marks as MarksReport, emptied, in_place, with_devices};
+ghost use Rattle.board.specs.State.{without_devices};
+ghost use Rattle.board.specs.Steps.{Acts, AdvancesUnder, CollectsInto, Drives, GivesWhere, PopsInto};
+ghost use Rattle.board.specs.Steps.{PublishesFrom, SettlesBy, SubmitsFrom, TakesInto, answer_by};
+ghost use Rattle.board.specs.Steps.{did_answer, drive_answer, publish_answer};
 ghost use Rattle.board.specs.Telling.{choosing_call, telling};
+ghost use Rattle.board.specs.declared.step.StepFault.TheVariants as fault;
 
+use crate::keeper::{Keeper, take_from};
 use crate::opening::Beside;
+use crate::step::{Act, Seen};
 use disk::{CutDisk, Disk, OutboxDisk, Told};
-use flusher::{Call, Made, Store, StoreFault};
-use intent_slots::Intent;
-use mmio_transport::{Done, Job};
+use flusher::{Call, Store, StoreFault};
+use guest_memory::MemFault;
+use mmio_transport::{Device, DeviceFault, Done, Job, Published};
 use recovery::OpenFault;
-use rpmb_book::{Book, Refused, Shares, Tally};
+use rpmb_book::{Book, Refused, Tally};
 use rpmb_core::Partition;
 use rpmb_frame::BoardConfig;
 use std::alloc::Global;
 use std::marker::Model;
-
-/// How the store's last call ended, of which the book hasn't heard. The marks of a sync stay with
-/// the store until the book settles them: they are 520 bytes.
-#[derive(Drop)]
-pub(crate) enum Ended {
-    /// It was a sync, and settled what the store's marks say.
-    Synced,
-    /// It failed.
-    Failed,
-}
 
 /// All of a board but its devices, and what lies between its steps. What ties it is the board's to
 /// keep. A contract sees it as a board that has no device.
@@ -50,17 +41,14 @@ pub struct Rest<D: Disk> {
     pub(crate) alloc: Global,
     pub(crate) book: Book,
     pub(crate) tallies: Vec<Tally>,
-    pub(crate) shares: Shares,
-    pub(crate) store: Store<D>,
     pub(crate) jobs: Vec<Option<Job>>,
     pub(crate) dones: Vec<Option<Done>>,
-    pub(crate) intents: Vec<Option<Intent>>,
-    pub(crate) report: Option<Ended>,
+    pub(crate) keeper: Keeper<D>,
 }
 
 impl<D: Disk> Model for Rest<D> {
     ghost use Rattle.std.specs.Prelude.{[]};
-    ghost use Rattle.board.specs.State.{BoardState, report_seen};
+    ghost use Rattle.board.specs.State.{BoardState};
 
     ghost Value = { BoardState D };
 
@@ -68,50 +56,34 @@ impl<D: Disk> Model for Rest<D> {
       devices = [];
       book = r.book;
       tallies = r.tallies.items;
-      shares = r.shares;
-      store = r.store;
+      shares = r.keeper.shares;
+      store = r.keeper.store;
       jobs = r.jobs.items;
       dones = r.dones.items;
-      intents = r.intents.items;
-      report = report_seen r.store.guests r.report;
+      intents = r.keeper.intents;
+      report = r.keeper.report;
     } };
 }
 
-/// Notes what a call of the store has for the book. Whether there was a call.
-fn tell<D: Disk>(
-    report: &mut Option<Ended>,
-    store: &Store<D>,
-    made: Result<Made, StoreFault>,
-) -> Result<bool, StoreFault>
-    requires { report.old ≡ None }
-    ensures answer { answer_by fault.Store result
-        ≡ advance_answer (with_marks store.now.guests made) }
-    ensures report { report_seen store.now.guests report.new
-        ≡ report_of (with_marks store.now.guests made) }
+/// What a driver's act does to its device.
+fn act_on(device: &mut Device, act: &Act) -> Result<Seen, MemFault>
+    ensures { Acts act.now device.old (drive_answer result) device.new }
 {
-    match made {
-        Ok(Made::Wrote) => Ok(true),
-        Ok(Made::Synced) => {
-            *report = Some(Ended::Synced);
-            Ok(true)
+    match act {
+        Act::Read { offset, width } => Ok(Seen::Value(device.read(*offset, *width))),
+        Act::Write {
+            offset,
+            width,
+            value,
+        } => {
+            device.write(*offset, *width, *value);
+            Ok(Seen::Did)
         }
-        Ok(Made::Idle) => Ok(false),
-        Err(fault) => {
-            *report = Some(Ended::Failed);
-            Err(fault)
+        Act::Store { at, bytes } => {
+            device.store(*at, bytes)?;
+            Ok(Seen::Did)
         }
     }
-}
-
-/// Takes what lies in a place, where it is there and full.
-fn take_from<T: Drop>(places: &mut Vec<Option<T>>, at: usize) -> Option<T>
-    ensures taken { result ≡ in_place (slice_get places.old.items at) }
-    ensures rest { places.new.items ≡ emptied places.old.items at }
-{
-    if at >= places.len() {
-        return None;
-    }
-    places[at].take()
 }
 
 impl<D: Disk> Rest<D> {
@@ -160,12 +132,9 @@ impl<D: Disk> Rest<D> {
                 alloc,
                 book: beside.book,
                 tallies: beside.tallies,
-                shares: beside.shares,
-                store,
                 jobs: beside.jobs,
                 dones: beside.dones,
-                intents: beside.intents,
-                report: None,
+                keeper: Keeper::new(beside.shares, store, beside.intents),
             }),
         }
     }
@@ -174,7 +143,8 @@ impl<D: Disk> Rest<D> {
     pub(crate) fn into_store(self) -> Store<D>
         ensures { result ≡ self.store }
     {
-        self.store
+        let (_, store) = self.keeper.into_parts();
+        store
     }
 
     /// Whether a call of the disk has failed and the book was told, so that nothing more is
@@ -189,14 +159,14 @@ impl<D: Disk> Rest<D> {
     pub fn next_call(&self) -> Call
         ensures { result ≡ next_call self.now.store.broken self.now.store.guests }
     {
-        self.store.next_call()
+        self.keeper.store.next_call()
     }
 
     /// The disk, as the last call left it.
     pub fn disk(&self) -> &D
         ensures { result.now ≡ self.now.store.disk }
     {
-        self.store.disk()
+        self.keeper.store.disk()
     }
 
     /// The guest's job that the book hasn't answered; `None` for a guest that the board lacks, too.
@@ -238,6 +208,65 @@ impl<D: Disk> Rest<D> {
         ensures state { self.new ≡ record self.old { dones = emptied self.old.dones at } }
     {
         take_from(&mut self.dones, at)
+    }
+
+    #[inline(always)]
+    pub(crate) fn drive(
+        &self,
+        devices: &mut Vec<Device>,
+        guest: u16,
+        act: &Act,
+    ) -> Result<Seen, MemFault>
+        ensures { Drives guest act.now (slice_get devices.old.items guest) (drive_answer result)
+            (with_devices devices.old.items self.now)
+            (with_devices devices.new.items self.now) }
+    {
+        let at = usize::from(guest);
+        if at >= devices.len() {
+            return Ok(Seen::Nothing);
+        }
+        act_on(&mut devices[at], act)
+    }
+
+    #[inline(always)]
+    pub(crate) fn pop(&mut self, devices: &mut Vec<Device>, guest: u16) -> Result<bool, DeviceFault>
+        ensures { PopsInto guest (slice_get self.old.jobs guest)
+            (slice_get devices.old.items guest) (answer_by fault.Device result)
+            (with_devices devices.old.items self.old)
+            (with_devices devices.new.items self.new) }
+    {
+        let at = usize::from(guest);
+        match self.jobs.get(at) {
+            Some(None) => {}
+            _ => return Ok(false),
+        }
+        if at >= devices.len() {
+            return Ok(false);
+        }
+        match devices[at].pop()? {
+            None => Ok(false),
+            Some(job) => {
+                self.jobs[at] = Some(job);
+                Ok(true)
+            }
+        }
+    }
+
+    #[inline(always)]
+    pub(crate) fn publish(&mut self, devices: &mut Vec<Device>, guest: u16) -> Option<Published>
+        ensures { PublishesFrom guest (in_place (slice_get self.old.dones guest))
+            (slice_get devices.old.items guest) (publish_answer result)
+            (with_devices devices.old.items self.old)
+            (with_devices devices.new.items self.new) }
+    {
+        let at = usize::from(guest);
+        if at >= devices.len() {
+            return None;
+        }
+        match self.take_done(at) {
+            None => None,
+            Some(done) => Some(devices[at].publish(done)),
+        }
     }
 
     #[inline(always)]
@@ -287,18 +316,9 @@ impl<D: Disk> Rest<D> {
         ensures { TakesInto guest (slice_get self.old.intents guest) (did_answer result)
             self.old self.new }
     {
-        let at = usize::from(guest);
-        match self.intents.get(at) {
-            Some(None) => {}
-            _ => return false,
-        }
-        match self.book.take(&mut self.shares, guest) {
+        match self.keeper.take(&mut self.book, guest) {
+            Ok(did) => did,
             Err(_) => unreachable!(),
-            Ok(None) => false,
-            Ok(Some(intent)) => {
-                self.intents[at] = Some(intent);
-                true
-            }
         }
     }
 
@@ -309,16 +329,7 @@ impl<D: Disk> Rest<D> {
         ensures { GivesWhere guest (is_free self.old.store.guests guest)
             (in_place (slice_get self.old.intents guest)) (did_answer result) self.old self.new }
     {
-        if !self.store.is_free(guest) {
-            return false;
-        }
-        match take_from(&mut self.intents, usize::from(guest)) {
-            None => false,
-            Some(intent) => {
-                self.store.give(intent);
-                true
-            }
-        }
+        self.keeper.give(guest)
     }
 
     #[inline(always)]
@@ -326,11 +337,7 @@ impl<D: Disk> Rest<D> {
         ensures { AdvancesUnder D.state D.makes self.old.report (answer_by fault.Store result)
             self.old self.new }
     {
-        if self.report.is_some() {
-            return Ok(false);
-        }
-        let made = self.store.advance();
-        tell(&mut self.report, &self.store, made)
+        self.keeper.advance()
     }
 
     #[inline(always)]
@@ -339,27 +346,15 @@ impl<D: Disk> Rest<D> {
             → may_settle self.old.book self.old.shares marks ≡ true }
         ensures { SettlesBy self.old.report (did_answer result) self.old self.new }
     {
-        match self.report.take() {
-            None => false,
-            Some(Ended::Synced) => {
-                match self.book.settle(&self.shares, self.store.marks()) {
-                    Err(_) => unreachable!(),
-                    Ok(()) => {}
-                }
-                true
-            }
-            Some(Ended::Failed) => {
-                self.book.break_off();
-                true
-            }
+        match self.keeper.settle(&mut self.book) {
+            Ok(did) => did,
+            Err(_) => unreachable!(),
         }
     }
 
     /// What holds of the book, for proofs: it does nothing.
     pub(crate) fn what_always_holds(&self)
-        ensures sound { IsSoundBook (state self.now.book) }
-        ensures of_board { AreOfBoard (state self.now.book) }
-        ensures history { HasHistory self.now.book }
+        ensures { IsKnown self.now.book }
     {
         self.book.what_always_holds();
     }
@@ -369,7 +364,7 @@ impl Rest<CutDisk> {
     pub(crate) fn fail(&mut self, k: u64)
         ensures { self.new ≡ choosing_call k self.old }
     {
-        self.store.fail(k);
+        self.keeper.store.fail(k);
     }
 }
 
@@ -377,6 +372,6 @@ impl Rest<OutboxDisk> {
     pub(crate) fn tell(&mut self, told: Told)
         ensures { self.new ≡ telling told self.old }
     {
-        self.store.tell(told);
+        self.keeper.store.tell(told);
     }
 }

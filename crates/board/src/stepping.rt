@@ -77,8 +77,8 @@ impl<D: Disk> Board<D> {
         ensures { Steps D.state D.makes (step.Drive guest act.now) (drive_answer result)
             self.old self.new }
     {
-        self.assembly.what_always_holds();
-        self.assembly.drive(guest, act)
+        self.rest.what_always_holds();
+        self.rest.drive(&mut self.devices, guest, act)
     }
 
     /// The device gives its next chain as a job, into the guest's empty place. Whether it gave one:
@@ -89,8 +89,8 @@ impl<D: Disk> Board<D> {
         ensures { Steps D.state D.makes (step.Pop guest) (answer_by fault.Device result)
             self.old self.new }
     {
-        self.assembly.what_always_holds();
-        self.assembly.pop(guest)
+        self.rest.what_always_holds();
+        self.rest.pop(&mut self.devices, guest)
     }
 
     /// The book answers the guest's job, which leaves its place. Whether one lay there. A job that
@@ -100,8 +100,8 @@ impl<D: Disk> Board<D> {
         ensures { Steps D.state D.makes (step.Submit guest) (answer_by fault.Book result)
             self.old self.new }
     {
-        self.assembly.what_always_holds();
-        self.assembly.submit(guest)
+        self.rest.what_always_holds();
+        self.rest.submit(guest)
     }
 
     /// The book gives the guest's oldest reply, where it may leave and the reply's place is empty.
@@ -110,8 +110,8 @@ impl<D: Disk> Board<D> {
     pub fn collect(&mut self, guest: u16) -> bool
         ensures { Steps D.state D.makes (step.Collect guest) (did_answer result) self.old self.new }
     {
-        self.assembly.what_always_holds();
-        self.assembly.collect(guest)
+        self.rest.what_always_holds();
+        self.rest.collect(guest)
     }
 
     /// The reply in the guest's place is written into its chain. What became of it; `None` where
@@ -121,8 +121,8 @@ impl<D: Disk> Board<D> {
         ensures { Steps D.state D.makes (step.Publish guest) (publish_answer result)
             self.old self.new }
     {
-        self.assembly.what_always_holds();
-        self.assembly.publish(guest)
+        self.rest.what_always_holds();
+        self.rest.publish(&mut self.devices, guest)
     }
 
     /// The book gives the intent of the guest's oldest accepted request that the store lacks, into
@@ -131,8 +131,8 @@ impl<D: Disk> Board<D> {
     pub fn take(&mut self, guest: u16) -> bool
         ensures { Steps D.state D.makes (step.Take guest) (did_answer result) self.old self.new }
     {
-        self.assembly.what_always_holds();
-        self.assembly.take(guest)
+        self.rest.what_always_holds();
+        self.rest.take(guest)
     }
 
     /// The store gets the intent in the guest's place, where it has a slot free. Whether it got
@@ -141,8 +141,8 @@ impl<D: Disk> Board<D> {
     pub fn give(&mut self, guest: u16) -> bool
         ensures { Steps D.state D.makes (step.Give guest) (did_answer result) self.old self.new }
     {
-        self.assembly.what_always_holds();
-        self.assembly.give(guest)
+        self.rest.what_always_holds();
+        self.rest.give(guest)
     }
 
     /// The store makes its next call to the disk. Whether there was one: not where the store has
@@ -153,8 +153,8 @@ impl<D: Disk> Board<D> {
         ensures { Steps D.state D.makes step.Advance (answer_by fault.Store result)
             self.old self.new }
     {
-        self.assembly.what_always_holds();
-        self.assembly.advance()
+        self.rest.what_always_holds();
+        self.rest.advance()
     }
 
     /// The book learns what the store's last call settled, or that it failed. Whether anything
@@ -163,8 +163,8 @@ impl<D: Disk> Board<D> {
     pub fn settle(&mut self) -> bool
         ensures { Steps D.state D.makes step.Settle (did_answer result) self.old self.new }
     {
-        self.assembly.what_always_holds();
-        self.assembly.settle()
+        self.rest.what_always_holds();
+        self.rest.settle()
     }
 
     /// One step by its name, as the method of that name makes it. It is `Nothing` exactly where it

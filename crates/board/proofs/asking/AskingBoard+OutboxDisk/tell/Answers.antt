@@ -1,5 +1,5 @@
 use Rattle.std.proofs.Common.{subst, sym}
-use Rattle.board.proofs.Common.{outbox_state, IsSound, BoardState}
+use Rattle.board.proofs.Common.{outbox_state, IsSound}
 use Rattle.board.specs.Asking.{board_of}
 use Rattle.board.proofs.AskingSteps.{asked}
 use Rattle.board.proofs.ToldLinks.{told_linked}

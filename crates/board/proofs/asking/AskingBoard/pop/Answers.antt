@@ -1,4 +1,4 @@
-use Rattle.std.proofs.Common.{◌≡◌, ◌<◌, [], Some, None, Ok, Err, length, true, refl, sym, subst, ◌∙◌}
+use Rattle.std.proofs.Common.{◌≡◌, [], Some, Ok, Err, true, sym, subst, ◌∙◌}
 use Rattle.std.proofs.Common.{arith, ap}
 use Rattle.std.specs.Prelude.{IfSome}
 use Rattle.std.proofs.lemmas.Option.{slice_get_past}
@@ -24,7 +24,7 @@ returns-then-not-awaits_job-clause-pops g c =
     let w = c.what_always_holds.ensures in
     let b = asked i.devices.items i.rest in
     subst (λ v. StepsAsked shows makes (step.Pop c.args.guest) (Ok Nothing) v v) c.self.view_is
-    (pop_idle shows makes g.met.D.Disk.effect b c.self.invariant w.sound w.of_board w.history
+    (pop_idle shows makes g.met.D.Disk.effect b c.self.invariant w
     c.args.guest (λ empty. false_true _ c.if-not-awaits_job.true
     (c.awaits_job.ensures.1 (ap (slice_get i.rest.jobs) c.from-at.ensures ∙ empty))))
 
@@ -39,7 +39,7 @@ returns-then-at-len-clause-pops g c =
     let long = c.len.ensures in
     let is = c.from-at.ensures in
     subst (λ v. StepsAsked shows makes (step.Pop c.args.guest) (Ok Nothing) v v) c.self.view_is
-    (pop_absent shows makes g.met.D.Disk.effect b c.self.invariant w.sound w.of_board w.history
+    (pop_absent shows makes g.met.D.Disk.effect b c.self.invariant w
     c.args.guest (slice_get_past i.devices.items c.args.guest (omega (arith, past, long, is))))
 
 pub invariant_of-self-in-Ok-Some : goal.invariant_of-self-in-Ok-Some
@@ -52,8 +52,7 @@ invariant_of-self-in-Ok-Some g c =
     let at = c.from-at.result in
     let below = c.if-at-len.false in
     let long = c.len.ensures in
-    let steps = pop_steps shows makes g.met.D.Disk.effect b c.self.invariant w.sound w.of_board
-    w.history at c.index_mut.result.now c.pop.new.self (Ok c.in-Ok-Some.field-0) (Ok Did)
+    let steps = pop_steps shows makes g.met.D.Disk.effect b c.self.invariant w at c.index_mut.result.now c.pop.new.self (Ok c.in-Ok-Some.field-0) (Ok Did)
     (slice_set i.rest.jobs at (Some c.in-Ok-Some.job)) (c.awaits_job.ensures.0 c.if-not-awaits_job.false)
     (lent i.devices.items at c.index_mut.result.now (omega (arith, below, long))
     c.index_mut.ensures.value) c.in-Ok-Some.ensures.gives.step c.in-Ok-Some.ensures.gives.same
@@ -76,7 +75,7 @@ returns-in-Err-clause-pops g c =
     let new : AskingBoardState _ = asked (slice_set i.devices.items at c.pop.new.self) i.rest in
     subst (λ k. PopsAsked shows makes k (Err c.in-Err.fault) c.args.self.now new) c.from-at.ensures
     (subst (λ v. PopsAsked shows makes at (Err c.in-Err.fault) v new) c.self.view_is
-    (pop_refused shows makes g.met.D.Disk.effect b c.self.invariant w.sound w.of_board w.history at
+    (pop_refused shows makes g.met.D.Disk.effect b c.self.invariant w at
     c.index_mut.result.now c.pop.new.self c.in-Err.fault
     (c.awaits_job.ensures.0 c.if-not-awaits_job.false)
     (lent i.devices.items at c.index_mut.result.now (omega (arith, below, long))
@@ -96,8 +95,7 @@ returns-in-Ok-None-clause-pops g c =
     subst (λ k. StepsAsked shows makes (step.Pop k) (Ok Nothing) c.args.self.now new)
     c.from-at.ensures
     (subst (λ v. StepsAsked shows makes (step.Pop at) (Ok Nothing) v new) c.self.view_is
-    (pop_steps shows makes g.met.D.Disk.effect b c.self.invariant w.sound w.of_board
-    w.history at c.index_mut.result.now c.pop.new.self (Ok c.in-Ok-None.field-0) (Ok Nothing) i.rest.jobs
+    (pop_steps shows makes g.met.D.Disk.effect b c.self.invariant w at c.index_mut.result.now c.pop.new.self (Ok c.in-Ok-None.field-0) (Ok Nothing) i.rest.jobs
     (c.awaits_job.ensures.0 c.if-not-awaits_job.false)
     (lent i.devices.items at c.index_mut.result.now (omega (arith, below, long))
     c.index_mut.ensures.value) c.in-Ok-None.ensures.gives.step c.in-Ok-None.ensures.gives.same
@@ -115,8 +113,7 @@ returns-in-Ok-Some-clause-pops g c =
     let below = c.if-at-len.false in
     let long = c.len.ensures in
     let ds = slice_set i.devices.items at c.pop.new.self in
-    let steps = pop_steps shows makes g.met.D.Disk.effect b c.self.invariant w.sound w.of_board
-    w.history at c.index_mut.result.now c.pop.new.self (Ok c.in-Ok-Some.field-0) (Ok Did)
+    let steps = pop_steps shows makes g.met.D.Disk.effect b c.self.invariant w at c.index_mut.result.now c.pop.new.self (Ok c.in-Ok-Some.field-0) (Ok Did)
     (slice_set i.rest.jobs at (Some c.in-Ok-Some.job)) (c.awaits_job.ensures.0 c.if-not-awaits_job.false)
     (lent i.devices.items at c.index_mut.result.now (omega (arith, below, long))
     c.index_mut.ensures.value) c.in-Ok-Some.ensures.gives.step c.in-Ok-Some.ensures.gives.same

@@ -1,6 +1,6 @@
-use Rattle.std.proofs.Common.{◌≡◌, ◌<◌, Some, None, length, refl, sym, subst, ◌∙◌, arith, ap}
+use Rattle.std.proofs.Common.{◌≡◌, Some, None, refl, sym, subst, ◌∙◌, arith, ap}
 use Rattle.board.proofs.Common.{slice_get, slice_set, in_place, IsSound}
-use Rattle.board.specs.Asking.{AskingBoardState, HandsReply, board_of}
+use Rattle.board.specs.Asking.{HandsReply, board_of}
 use Rattle.board.specs.State.{emptied_at}
 use Rattle.board.proofs.AskingSteps.{asked, hands, lent}
 use Rattle.board.proofs.Doing.{full_at}
@@ -20,8 +20,7 @@ invariant_of-self-in-Some-take_done g c =
     let done = c.in-Some-take_done.done in
     let lay : in_place (slice_get i.rest.dones at) ≡ Some done =
     sym c.take_done.ensures.taken ∙ c.in-Some-take_done.is in
-    let hand = hands shows makes g.met.D.Disk.effect b c.self.invariant w.sound w.of_board
-    w.history at c.index_mut.result.now c.publish.new.self done c.publish.result
+    let hand = hands shows makes g.met.D.Disk.effect b c.self.invariant w at c.index_mut.result.now c.publish.new.self done c.publish.result
     (slice_set i.rest.dones at None) lay
     (lent i.devices.items at c.index_mut.result.now (omega (arith, below, long))
     c.index_mut.ensures.value) c.publish.ensures.publishes c.publish.ensures.fits refl in
@@ -44,8 +43,7 @@ returns-in-Some-take_done g c =
     let ds = slice_set i.devices.items at c.publish.new.self in
     let lay : in_place (slice_get i.rest.dones at) ≡ Some done =
     sym c.take_done.ensures.taken ∙ c.in-Some-take_done.is in
-    let hand = hands shows makes g.met.D.Disk.effect b c.self.invariant w.sound w.of_board
-    w.history at c.index_mut.result.now c.publish.new.self done c.publish.result
+    let hand = hands shows makes g.met.D.Disk.effect b c.self.invariant w at c.index_mut.result.now c.publish.new.self done c.publish.result
     (slice_set i.rest.dones at None) lay
     (lent i.devices.items at c.index_mut.result.now (omega (arith, below, long))
     c.index_mut.ensures.value) c.publish.ensures.publishes c.publish.ensures.fits refl in

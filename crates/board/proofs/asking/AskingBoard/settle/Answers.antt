@@ -1,11 +1,8 @@
-use Rattle.std.proofs.Common.{map, refl, subst}
-use Rattle.board.proofs.Common.{did_answer}
-use Rattle.board.specs.Asking.{StepsAsked, board_of}
-use Rattle.board.specs.declared.step.Step.TheVariants as step
-use Rattle.board.proofs.AskingSteps.{asked, device_in, steps_asked}
-use Rattle.board.proofs.Lifting.{settles}
-use Rattle.board.proofs.Moving.{steps_sound}
 use Rattle.board.proofs.Stays.{may_settle_them}
+use Rattle.board.specs.Asking.{board_of}
+use Rattle.board.specs.declared.step.Step.TheVariants as step
+use Rattle.board.proofs.AskingSteps.{asked, rest_asked}
+use Rattle.board.proofs.Lifting.{rest_sound}
 use Rattle.board.proofs.asking.AskingBoard.settle.Goals as goal
 
 pub settle-requires : goal.settle-requires
@@ -15,24 +12,10 @@ settle-requires g c =
     (board_of (asked c.self.inside.devices.items c.self.inside.rest)) s.linked
 
 pub invariant_of-self : goal.invariant_of-self
-invariant_of-self g c =
-    let w = c.what_always_holds.ensures in
-    let i = c.self.inside in
-    let ds = i.devices.items in
-    steps_sound g.D.Disk.state g.D.Disk.makes g.met.D.Disk.effect (step.Settle) (did_answer c.settle.result)
-    (board_of (asked ds i.rest)) (board_of (asked ds c.settle.new.self)) c.self.invariant w.sound
-    w.of_board w.history
-    (settles (map device_in ds) (did_answer c.settle.result) i.rest c.settle.new.self i.rest.report
-    c.settle.ensures)
+invariant_of-self g c = rest_sound _ g.D.Disk.makes g.met.D.Disk.effect _ _ c.self.invariant
+    c.what_always_holds.ensures step.Settle tt _ _ c.settle.ensures
 
 pub returns-clause-steps : goal.returns-clause-steps
-returns-clause-steps g c =
-    let w = c.what_always_holds.ensures in
-    let i = c.self.inside in
-    let ds = i.devices.items in
-    subst (λ v. StepsAsked g.D.Disk.state g.D.Disk.makes (step.Settle) (did_answer c.settle.result) v
-    (asked ds c.settle.new.self)) c.self.view_is
-    (steps_asked g.D.Disk.state g.D.Disk.makes g.met.D.Disk.effect (asked ds i.rest)
-    c.self.invariant w.sound w.of_board w.history (step.Settle) (did_answer c.settle.result) (asked ds c.settle.new.self)
-    (settles (map device_in ds) (did_answer c.settle.result) i.rest c.settle.new.self i.rest.report
-    c.settle.ensures) refl)
+returns-clause-steps g c = rest_asked _ g.D.Disk.makes g.met.D.Disk.effect
+    (asked c.self.inside.devices.items c.self.inside.rest) c.self.invariant
+    c.what_always_holds.ensures step.Settle tt _ _ c.settle.ensures _ c.self.view_is

@@ -1,16 +1,11 @@
-use Rattle.board.proofs.Common.{answer_by}
 use Rattle.board.specs.declared.step.Step.TheVariants as step
-use Rattle.board.specs.declared.step.StepFault.TheVariants as fault
-use Rattle.board.proofs.Moving.{made, steps_sound}
+use Rattle.board.proofs.Lifting.{rest_sound, rest_steps}
 use Rattle.board.proofs.board.Board.submit.Goals as goal
 
 pub invariant_of-self : goal.invariant_of-self
-invariant_of-self g c = (let w = c.what_always_holds.ensures in
-    steps_sound g.D.Disk.state g.D.Disk.makes g.met.D.Disk.effect (step.Submit c.args.guest)
-    (answer_by fault.Book c.submit.result) c.self.inside.assembly c.submit.new.self c.self.invariant
-    w.sound w.of_board w.history c.submit.ensures)
+invariant_of-self g c = rest_sound _ g.D.Disk.makes g.met.D.Disk.effect _ _ c.self.invariant
+    c.what_always_holds.ensures (step.Submit c.args.guest) tt _ _ c.submit.ensures
 
 pub returns : goal.returns
-returns g c = (let w = c.what_always_holds.ensures in
-    made g.D.Disk.state g.D.Disk.makes g.met.D.Disk.effect _ _ c.self.inside.assembly _ _
-    c.self.view_is c.self.invariant w.sound w.of_board w.history c.submit.ensures)
+returns g c = rest_steps _ g.D.Disk.makes g.met.D.Disk.effect _ _ c.self.invariant
+    c.what_always_holds.ensures (step.Submit c.args.guest) tt _ _ c.submit.ensures _ c.self.view_is

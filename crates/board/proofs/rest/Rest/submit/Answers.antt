@@ -1,5 +1,5 @@
 use Rattle.std.proofs.Common.{[], arith, subst, sym, ◌∙◌, Err, Ok}
-use Rattle.board.proofs.Common.{slice_get, slice_set, in_place, report_seen, SubmitsFrom, Did}
+use Rattle.board.proofs.Common.{slice_get, slice_set, in_place, SubmitsFrom, Did}
 use Rattle.std.specs.Prelude.{Some}
 use Rattle.board.specs.declared.step.StepFault.TheVariants as fault
 use Rattle.board.proofs.Doing.{did_of, refused_of}
@@ -16,14 +16,14 @@ returns-in-Err g c =
       book = c.submit.new.self;
       tallies =
           slice_set i.tallies.items c.from-at.result c.submit.new.tally;
-      shares = i.shares;
+      shares = i.keeper.shares;
       store =
-          i.store;
+          i.keeper.store;
       jobs = slice_set c.take_from.new.places.items c.from-at.result (Some c.in-Err.job);
       dones = i.dones.items;
-      intents = i.intents.items;
+      intents = i.keeper.intents;
       report =
-          report_seen i.store.guests i.report;
+          i.keeper.report;
     })) c.self.view_is
     (refused_of _ c.args.guest c.from-at.result c.in-Some.job c.in-Err.job
     c.take_from.new.places.items c.index_mut.result.now c.submit.new.tally c.submit.new.self
@@ -44,14 +44,14 @@ returns-in-Ok g c =
       book = c.submit.new.self;
       tallies =
           slice_set i.tallies.items c.from-at.result c.submit.new.tally;
-      shares = i.shares;
+      shares = i.keeper.shares;
       store =
-          i.store;
+          i.keeper.store;
       jobs = c.take_from.new.places.items;
       dones = i.dones.items;
       intents =
-          i.intents.items;
-      report = report_seen i.store.guests i.report;
+          i.keeper.intents;
+      report = i.keeper.report;
     })) c.self.view_is
     (did_of _ c.args.guest c.from-at.result c.in-Some.job c.take_from.new.places.items
     c.index_mut.result.now c.submit.new.tally c.submit.new.self
