@@ -36,7 +36,7 @@ use Rattle.board.proofs.Headers.{header_still, header_twice}
 use Rattle.board.proofs.Moving.{ended, failed_round, shown_round}
 use Rattle.workers.proofs.InTurn.{done_after, more_in_turn, next_done, rest_in_turn, two_more}
 use Rattle.workers.specs.Keeping.{AreNext, ComesNext, IsAfterSome, IsAhead, IsInTurn, Keeps}
-use Rattle.workers.specs.Keeping.{KeeperState, LeavesWhole, LetsKey, Reaches, after_all, to_keep}
+use Rattle.workers.specs.Keeping.{KeyedStore, LeavesWhole, LetsKey, Reaches, after_all, to_keep}
 
 pub if_ok_weaker : {X E : Type 0} {P Q : X → Type 0} (r : Result X E) → ((x : X) → P x → Q x)
     → IfOk r P → IfOk r Q
@@ -307,7 +307,7 @@ module _ {D : Type 0} (shows : D → DiskState) (makes : D → DiskCall → D �
   besides_of parts guests broken s held g y at =
       (held.rows g y at s.seen (λ k known. refl)).1.ordered.besides
 
-  pub keeps_begins : (s : KeeperState D) → Keeps shows makes s s
+  pub keeps_begins : (s : KeyedStore D) → Keeps shows makes s s
   keeps_begins s = record {
     many = refl;
     len = refl;
@@ -334,7 +334,7 @@ module _ {D : Type 0} (shows : D → DiskState) (makes : D → DiskCall → D �
   }
 
   -- an intent is given
-  pub keeps_given : (old mid new : KeeperState D) (i : Intent) → Keeps shows makes old mid
+  pub keeps_given : (old mid new : KeyedStore D) (i : Intent) → Keeps shows makes old mid
       → new.store.disk ≡ mid.store.disk → new.store.broken ≡ mid.store.broken
       → MayGive mid.store.guests i → LetsKey (slice_get mid.keys i.guest) i.group.key
       → Gives i mid.store.guests new.store.guests
@@ -468,7 +468,7 @@ module _ {D : Type 0} (shows : D → DiskState) (makes : D → DiskCall → D �
 
   -- a call of the disk
   module _ (effect : (a b : D) (call : DiskCall) → makes a call b → Effect (shows a) call (shows b))
-      (old mid new : KeeperState D) (result : Result Progress StoreFault)
+      (old mid new : KeyedStore D) (result : Result Progress StoreFault)
       (k : Keeps shows makes old mid) (keys : new.keys ≡ mid.keys)
       (moves : Moves result mid.store.guests new.store.guests)
       (round : Round makes (planned mid.store.guests) mid.store.disk mid.store.guests result
@@ -544,7 +544,7 @@ module _ {D : Type 0} (shows : D → DiskState) (makes : D → DiskCall → D �
 
   -- or none, where one has failed before
   pub keeps_advanced : (effect : (a b : D) (call : DiskCall) → makes a call b
-      → Effect (shows a) call (shows b)) (old mid new : KeeperState D)
+      → Effect (shows a) call (shows b)) (old mid new : KeyedStore D)
       (result : Result Progress StoreFault) → Keeps shows makes old mid → new.keys ≡ mid.keys
       → (mid.store.broken ≡ true → new.store ≡ mid.store)
       → Moves result mid.store.guests new.store.guests

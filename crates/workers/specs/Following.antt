@@ -5,6 +5,7 @@ use Rattle.flusher.specs.declared.guest.Guest.{Guest}
 use Rattle.flusher.specs.declared.progress.Call.TheVariants as call
 use Rattle.flusher.specs.Pair.{mark_of, pending_intents}
 use Rattle.flusher.specs.Store.{next_call}
+use Rattle.board.specs.State.{KeeperState}
 
 -- the sequence of the last request of intents, one after another; without one, this sequence
 abbrev pub last_in : ℕ → List Intent → ℕ
@@ -23,3 +24,7 @@ Follow shares guests =
 -- no call of the disk is left, also where one has failed
 abbrev pub IsAtRest : Bool → List Guest → Type 0
 IsAtRest broken guests = next_call broken guests ≡ call.None
+
+-- the same of what a keeper took and gave
+abbrev pub Follows : {D : Type 0} → KeeperState D → Type 0
+Follows k = Follow k.shares k.store.guests

@@ -10,14 +10,24 @@ use Rattle.flusher.specs.declared.guest.Guest.{Guest}
 use Rattle.flusher.specs.Pair.{mark_of, pending_intents, region_of}
 use Rattle.flusher.specs.Round.{FrontStays}
 use Rattle.flusher.specs.SlotInvariant.{IsHeld, sequence_of_part}
-use Rattle.flusher.specs.Store.{Gives, StoreState}
+use Rattle.flusher.specs.Store.{AllFit, Gives, MayGive, StoreState}
 use Rattle.rpmb_book.specs.Book.{BookView, guest_of, take_answer}
 use Rattle.rpmb_book.specs.Guest.{GuestState}
+use Rattle.board.specs.State.{KeeperState, in_place}
 
--- what a contract sees of a keeper: the store, and each guest's key after all that it was given
-pub record KeeperState (D : Type 0) : Type 0 where
+-- a store, and each guest's key after all that it was given
+pub record KeyedStore (D : Type 0) : Type 0 where
   pub store : StoreState D
   pub keys : List (Option (List ℕ))
+
+-- what a contract sees of a flusher: the keeper, the keys, and whether it saw a call fail
+pub record FlusherState (D : Type 0) : Type 0 where
+  pub keeper : KeeperState D
+  pub keys : List (Option (List ℕ))
+  pub broken : Bool
+
+abbrev pub keyed : {D : Type 0} → FlusherState D → KeyedStore D
+keyed f = record { store = f.keeper.store; keys = f.keys }
 
 -- 1. Intents one after another
 
@@ -95,7 +105,7 @@ pub record IsAhead (p : Part) (x : Guest) (given : List Intent) (settled : Part)
 -- By its calls a store that held these partitions came to hold others: those after some of what it
 -- was given, each of which came next, and at each moment between a stop leaves such ones.
 pub record Reaches {D : Type 0} (shows : D → DiskState) (makes : D → DiskCall → D → Type 0)
-    (parts : ℕ → Part) (old new : KeeperState D) : Type 0 where
+    (parts : ℕ → Part) (old new : KeyedStore D) : Type 0 where
   pub given : ℕ → List Intent
   pub settled : ℕ → Part
   pub held : IsHeld settled new.store.guests new.store.broken (shows new.store.disk)
@@ -111,7 +121,7 @@ pub record Reaches {D : Type 0} (shows : D → DiskState) (makes : D → DiskCal
 -- The store's own calls led from one to the other, and intents that were given between: the image's
 -- length stays, and its header; it breaks only where a call of the disk failed.
 pub record Keeps {D : Type 0} (shows : D → DiskState) (makes : D → DiskCall → D → Type 0)
-    (old new : KeeperState D) : Type 0 where
+    (old new : KeyedStore D) : Type 0 where
   pub many : length new.store.guests ≡ length old.store.guests
   pub len : (shows new.store.disk).len ≡ (shows old.store.disk).len
   pub faithful : (shows new.store.disk).faithful ≡ (shows old.store.disk).faithful
@@ -143,18 +153,28 @@ pub record GivesTaken (book : BookView) (shares : List ℕ) (guest : ℕ)
   pub taken : take_answer book shares guest ≡ Ok (Some intent)
   pub gives : Gives intent old new
 
+-- The intent in a guest's place was given to that guest's slot, where it came next.
+pub record GivesNext {D : Type 0} (guest : ℕ) (old new : KeeperState D) : Type 0 where
+  pub intent : Intent
+  pub lay : in_place (slice_get old.intents guest) ≡ Some intent
+  pub own : intent.guest ≡ guest
+  pub may : MayGive old.store.guests intent
+  pub len : ℕ
+  pub fits : AllFit len old.store.guests
+  pub gives : Gives intent old.store.guests new.store.guests
+  pub shares : new.shares ≡ old.shares
+
 -- whatever store it began with
 abbrev pub KeepsOn : {D : Type 0} → (D → DiskState) → (D → DiskCall → D → Type 0)
-    → KeeperState D → KeeperState D → Type 0
+    → FlusherState D → FlusherState D → Type 0
 KeepsOn shows makes old new =
-    (first : KeeperState _) → Keeps shows makes first old → Keeps shows makes first new
+    (first : KeyedStore _) → Keeps shows makes first (keyed old) → Keeps shows makes first (keyed new)
 
 -- a flag that said whether the store had broken says so still
-abbrev pub IsHeard : {D : Type 0} → KeeperState D → Bool → KeeperState D → Bool → Type 0
-IsHeard old told new now_told = old.store.broken ≡ told → new.store.broken ≡ now_told
+abbrev pub IsHeard : {D : Type 0} → FlusherState D → FlusherState D → Type 0
+IsHeard old new = old.keeper.store.broken ≡ old.broken → new.keeper.store.broken ≡ new.broken
 
 -- what a flusher leaves: the store keeps what it kept, and the flag says whether it broke
 abbrev pub LeftBy : {D : Type 0} → (D → DiskState) → (D → DiskCall → D → Type 0)
-    → KeeperState D → Bool → KeeperState D → Bool → Type 0
-LeftBy shows makes old told new now_told =
-    KeepsOn shows makes old new × IsHeard old told new now_told
+    → FlusherState D → FlusherState D → Type 0
+LeftBy shows makes old new = KeepsOn shows makes old new × IsHeard old new

@@ -2,8 +2,8 @@
 ghost use Rattle.std.specs.Prelude.{◌≡◌, ◌<◌, ℕ, [], IfOk, IfSome, vec_len, slice_index_or, length};
 ghost use Rattle.std.specs.Prelude.{map};
 ghost use Rattle.workers.specs.Crew.{guests_of};
-ghost use Rattle.workers.specs.Following.{Follow};
-ghost use Rattle.workers.specs.Keeping.{IsHeard, KeepsOn, LeftBy};
+ghost use Rattle.workers.specs.Following.{Follows};
+ghost use Rattle.workers.specs.Keeping.{LeftBy};
 ghost use Rattle.workers.specs.Ends.{LeavesAll, Left};
 
 use crate::bell::{Actor, Bell};
@@ -74,8 +74,7 @@ impl Promise<DriverEnd> for OfScript {
 pub(crate) struct OfFlusher<D: Disk>(Snapshot<Flusher<D>>);
 
 impl<D: Disk> Promise<FlusherEnd<D>> for OfFlusher<D> {
-    ghost kept_by = { λ p e. LeftBy D.state D.makes p.0.value.keeper p.0.value.broken
-        e.keeper e.broken };
+    ghost kept_by = { λ p e. LeftBy D.state D.makes p.0.value e.flusher };
 }
 
 /// What the threads have left.
@@ -161,15 +160,14 @@ fn start_flusher<
     gate: &'s G,
     flusher: Flusher<D>,
 ) -> Result<PromisedHandle<FlusherEnd<D>, OfFlusher<D>>, HostFault>
-    requires { Follow flusher.shares flusher.keeper.store.guests }
+    requires { Follows flusher.keeper }
     ensures { IfOk result (λ h. h.promise.0.value ≡ flusher) }
 {
     let started = scope.spawn_with(
         OfFlusher(Snapshot::of(&flusher)),
         move || -> FlusherEnd<D>
-            requires { Follow flusher.shares flusher.keeper.store.guests }
-            ensures keeps { KeepsOn D.state D.makes flusher.keeper result.keeper }
-            ensures heard { IsHeard flusher.keeper flusher.broken result.keeper result.broken }
+            requires { Follows flusher.keeper }
+            ensures { LeftBy D.state D.makes flusher result.flusher }
         { flusher.run(rt, &hall.desk, &hall.bell, gate) },
     );
     match started {
@@ -248,7 +246,7 @@ fn start_all<
     scripts: &'s [Script],
     flusher: Flusher<D>,
 ) -> Result<Started<L, D>, HostFault>
-    requires { Follow flusher.shares flusher.keeper.store.guests }
+    requires { Follows flusher.keeper }
     ensures workers { IfOk result (λ s. vec_len s.workers ≡ vec_len workers) }
     ensures guests { IfOk result (λ s. map (λ h. h.promise.0) s.workers.items
         ≡ guests_of workers.items) }
@@ -286,8 +284,7 @@ fn join_all<L: Ledger, D: Disk + Drop, R: Threads>(
     ensures drivers { IfOk result (λ c. vec_len c.drivers ≡ length scripts.now) }
     ensures each { IfOk result (λ c. Left c.drivers.items scripts.now) }
     ensures flusher { IfOk result (λ c. LeftBy D.state D.makes
-        started.flusher.promise.0.value.keeper started.flusher.promise.0.value.broken
-        c.flusher.keeper c.flusher.broken) }
+        started.flusher.promise.0.value c.flusher.flusher) }
 {
     let Started {
         workers,
@@ -326,14 +323,14 @@ fn run_in<
     scripts: &'s [Script],
     flusher: Flusher<D>,
 ) -> Result<Crew<L, D>, HostFault>
-    requires { Follow flusher.shares flusher.keeper.store.guests }
+    requires { Follows flusher.keeper }
     ensures workers { IfOk result (λ c. vec_len c.workers ≡ vec_len workers) }
     ensures guests { IfOk result (λ c. guests_of c.workers.items
         ≡ guests_of workers.items) }
     ensures drivers { IfOk result (λ c. vec_len c.drivers ≡ length scripts.now) }
     ensures each { IfOk result (λ c. Left c.drivers.items scripts.now) }
     ensures flusher { IfOk result (λ c. LeftBy D.state D.makes
-        flusher.keeper flusher.broken c.flusher.keeper c.flusher.broken) }
+        flusher c.flusher.flusher) }
 {
     match start_all(scope, rt, alloc, hall, gate, workers, scripts, flusher) {
         Ok(started) => join_all(rt, started, scripts),
@@ -359,27 +356,27 @@ pub(crate) fn run_all<
     scripts: &[Script],
     flusher: Flusher<D>,
 ) -> Result<Crew<L, D>, HostFault>
-    requires { Follow flusher.shares flusher.keeper.store.guests }
+    requires { Follows flusher.keeper }
     ensures workers { IfOk result (λ c. vec_len c.workers ≡ vec_len workers) }
     ensures guests { IfOk result (λ c. guests_of c.workers.items
         ≡ guests_of workers.items) }
     ensures drivers { IfOk result (λ c. vec_len c.drivers ≡ length scripts.now) }
     ensures each { IfOk result (λ c. Left c.drivers.items scripts.now) }
     ensures flusher { IfOk result (λ c. LeftBy D.state D.makes
-        flusher.keeper flusher.broken c.flusher.keeper c.flusher.broken) }
+        flusher c.flusher.flusher) }
 {
     thread::scope(
         thread::scope_env(),
         rt,
         |scope| -> Result<Crew<L, D>, HostFault>
-            requires { Follow flusher.shares flusher.keeper.store.guests }
+            requires { Follows flusher.keeper }
             ensures workers { IfOk result (λ c. vec_len c.workers ≡ vec_len workers) }
             ensures guests { IfOk result (λ c. guests_of c.workers.items
                 ≡ guests_of workers.items) }
             ensures drivers { IfOk result (λ c. vec_len c.drivers ≡ length scripts.entry.now) }
             ensures each { IfOk result (λ c. Left c.drivers.items scripts.entry.now) }
             ensures flusher { IfOk result (λ c. LeftBy D.state D.makes
-                flusher.keeper flusher.broken c.flusher.keeper c.flusher.broken) }
+                flusher c.flusher.flusher) }
         { run_in(scope, rt, alloc, hall, gate, workers, scripts, flusher) },
     )
 }

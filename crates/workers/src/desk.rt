@@ -1,20 +1,19 @@
 //! What lies under the book's lock.
 ghost use Rattle.std.specs.Prelude.{◌≡◌, ◌↔◌, ◌+◌, ◌<◌, IsTrue, IfErr, IfOk, OnErr, OnOk, None};
-ghost use Rattle.std.specs.Prelude.{length};
-ghost use Rattle.std.specs.Prelude.{option_map, unwrap_or};
-ghost use Rattle.rpmb_book.specs.Book.{BookView, after_break_off, after_collect, after_settle};
-ghost use Rattle.rpmb_book.specs.Book.{after_take, due_of, found_by, next_intent, refusal};
-ghost use Rattle.rpmb_book.specs.Book.{guest_of, mac_key_of};
-ghost use Rattle.rpmb_book.specs.Book.{settle_answer, share_moved, state, counted_in, take_answer};
+ghost use Rattle.std.specs.Prelude.{length, option_map, slice_get, unwrap_or};
+ghost use Rattle.board.specs.State.{over};
+ghost use Rattle.board.specs.Steps.{SettlesBy, TakesInto, settled_answer, taken_answer};
+ghost use Rattle.rpmb_book.specs.Book.{BookView, after_collect, counted_in, due_of, found_by};
+ghost use Rattle.rpmb_book.specs.Book.{guest_of, mac_key_of, refusal, state};
 ghost use Rattle.rpmb_book.specs.Fold.{after_submit};
 ghost use Rattle.rpmb_book.specs.Receipt.{submission_seen, turn_seen, HasFrames};
 ghost use Rattle.std.specs.Option.{ForSome};
 ghost use Rattle.workers.specs.Looks.{IsSpent};
 
-use flusher::Marks;
+use board::Keeper;
+use disk::Disk;
 use hmac256::MacKey;
-use intent_slots::Intent;
-use rpmb_book::{Book, Checked, Due, Receipt, Refused, Rooms, Shares, Tally, TurnView};
+use rpmb_book::{Book, Checked, Due, Receipt, Refused, Rooms, Tally, TurnView};
 use rpmb_frame::Limits;
 use std::alloc::Global;
 use std::marker::Model;
@@ -88,22 +87,22 @@ impl<L: Ledger> Desk<L> {
         Ok(receipt)
     }
 
-    /// `Book::take`.
-    pub fn take(&mut self, shares: &mut Shares, guest: u16) -> Result<Option<Intent>, Refused>
-        ensures answer { result ≡ take_answer self.old shares.old guest }
-        ensures book { self.new ≡ after_take self.old shares.old guest }
-        ensures shares { shares.new
-            ≡ share_moved shares.old guest (next_intent self.old shares.old guest) }
+    /// `Keeper::take`, of this book.
+    pub fn take<D: Disk>(&mut self, keeper: &mut Keeper<D>, guest: u16) -> Result<bool, Refused>
+        ensures { TakesInto guest (slice_get keeper.old.intents guest) (taken_answer result)
+            (over self.old keeper.old) (over self.new keeper.new) }
     {
-        self.book.take(shares, guest)
+        keeper.take(&mut self.book, guest)
     }
 
-    /// `Book::settle`.
-    pub fn settle(&mut self, shares: &Shares, marks: Marks) -> Result<(), Refused>
-        ensures answer { result ≡ settle_answer self.old shares.now marks }
-        ensures book { self.new ≡ after_settle self.old shares.now marks }
+    /// `Keeper::settle`, of this book.
+    pub fn settle<D: Disk>(&mut self, keeper: &mut Keeper<D>) -> Result<bool, Refused>
+        ensures settles { SettlesBy keeper.old.report (settled_answer result)
+            (over self.old keeper.old) (over self.new keeper.new) }
+        ensures stays { (keeper.new.shares ≡ keeper.old.shares)
+            × (keeper.new.store ≡ keeper.old.store) }
     {
-        self.book.settle(shares, marks)
+        keeper.settle(&mut self.book)
     }
 
     /// `Book::collect_due`.
@@ -126,13 +125,6 @@ impl<L: Ledger> Desk<L> {
         ensures { result ≡ option_map (λ g. g.core.limits) (guest_of self.now guest) }
     {
         self.book.limits_of(guest)
-    }
-
-    /// `Book::break_off`.
-    pub fn break_off(&mut self)
-        ensures { self.new ≡ after_break_off self.old }
-    {
-        self.book.break_off();
     }
 
     /// `Book::is_broken`.

@@ -1,80 +1,121 @@
 //! The flusher: it takes what the book accepted, gives it to the store, and tells the book what is
 //! settled.
-ghost use Rattle.std.specs.Prelude.{◌≡◌, None, Ok, OnOk, false, true};
-ghost use Rattle.workers.specs.Following.{Follow, IsAtRest};
-ghost use Rattle.workers.specs.Keeping.{GivesTaken, IsHeard, KeepsOn};
+ghost use Rattle.std.specs.Prelude.{◌≡◌, ◌<◌, IsTrue, None, Ok, OnOk, false, length, slice_get, true};
+ghost use Rattle.flusher.specs.Store.{MayGive};
+ghost use Rattle.workers.specs.Following.{Follows, IsAtRest};
+ghost use Rattle.workers.specs.Keeping.{GivesNext, GivesTaken, LeftBy, LetsKey};
 
 use crate::bell::{Actor, Bell, Rest};
 use crate::desk::Desk;
 use crate::gate::{Gate, Place, Who};
-use crate::keeper::Keeper;
+use crate::known_keys::lets_key;
 use crate::seat::Next;
+use board::Keeper;
 use disk::Disk;
-use flusher::{Call, Made, StoreFault};
+use flusher::{Call, Store, StoreFault};
 use host::HostFault;
+use intent_slots::Intent;
 use rpmb_book::Shares;
+use std::marker::Model;
 use std::sync::ledger::Ledger;
 use std::sync::{Mutex, Wait};
 
-/// What the flusher keeps to itself: the store, and what it has taken of each guest, which is what
-/// it last gave to the store.
+/// What the flusher keeps to itself: the store's side of the board, and each guest's key after all
+/// that the store was given. An intent under another key isn't given to it: the store itself
+/// compares it only with those in its slots.
 #[derive(Drop)]
 pub(crate) struct Flusher<D: Disk> {
     keeper: Keeper<D>,
-    shares: Shares,
+    keys: Vec<Option<[u8; 32]>>,
     guests: u16,
     /// Whether a call of the disk has failed. The book is told before the next look.
     broken: bool,
 }
 
+impl<D: Disk> Model for Flusher<D> {
+    ghost use Rattle.workers.specs.Keeping.{FlusherState};
+
+    ghost Value = { FlusherState D };
+
+    ghost view = { λ f. record { keeper = f.keeper; keys = f.keys.items; broken = f.broken } };
+}
+
 /// What the flusher leaves.
 #[derive(Drop)]
 pub(crate) struct FlusherEnd<D: Disk> {
-    /// The store, to which nothing more is given.
-    pub keeper: Keeper<D>,
-    /// What was taken of each guest.
-    pub shares: Shares,
-    /// Whether a call of the disk has failed.
-    pub broken: bool,
+    /// The flusher, whose store is given nothing more.
+    pub flusher: Flusher<D>,
     /// Whether it ended with no call of the disk left.
     pub complete: bool,
     /// Why it ended before.
     pub fault: Option<HostFault>,
-    ghost follows: { fault ≡ None → Follow shares keeper.store.guests },
-    ghost rests: { complete ≡ true → IsAtRest keeper.store.broken keeper.store.guests },
+    ghost follows: { fault ≡ None → Follows flusher.keeper },
+    ghost rests: { complete ≡ true
+        → IsAtRest flusher.keeper.store.broken flusher.keeper.store.guests },
 }
 
 impl<D: Disk> Flusher<D> {
-    pub fn new(keeper: Keeper<D>, shares: Shares, guests: u16, broken: bool) -> Flusher<D>
-        ensures { (result.shares ≡ shares) × (result.keeper ≡ keeper) × (result.broken ≡ broken) }
+    pub fn new(
+        keeper: Keeper<D>,
+        keys: Vec<Option<[u8; 32]>>,
+        guests: u16,
+        broken: bool,
+    ) -> Flusher<D>
+        ensures { result ≡ record { keeper = keeper; keys = keys.items; broken = broken } }
     {
         Flusher {
             keeper,
-            shares,
+            keys,
             guests,
             broken,
         }
     }
 
+    /// Whether an intent is the guest's, comes next in its free slot, and is under its key.
+    fn takes(&self, guest: u16, intent: &Intent) -> bool
+        ensures own { IsTrue result → intent.now.guest ≡ guest }
+        ensures may { IsTrue result → MayGive self.now.keeper.store.guests intent.now }
+        ensures lets { IsTrue result → LetsKey (slice_get self.now.keys guest) intent.now.group.key }
+        ensures within { IsTrue result → guest < length self.now.keys }
+    {
+        intent.guest() == guest
+            && lets_key(&self.keys, guest, intent.key())
+            && self.keeper.store().takes(intent)
+    }
+
+    /// Gives the intent in the guest's place to its free slot, where it is that guest's, comes next
+    /// there, and is under the guest's key. Whether it does.
+    fn give(&mut self, guest: u16) -> bool
+        ensures left { LeftBy D.state D.makes self.old self.new }
+        ensures gives { result ≡ true → GivesNext guest self.old.keeper self.new.keeper }
+    {
+        let Some(intent) = self.keeper.intent(guest) else {
+            return false;
+        };
+        if !self.takes(guest, intent) {
+            return false;
+        }
+        self.keys[usize::from(guest)] = Some(*intent.key());
+        self.keeper.give(guest)
+    }
+
     /// Takes what waits for one guest, and gives it to the store where a slot of it is free.
     /// Whether it did.
-    #[tactic(auto, using(crate::proofs::Following::follow_given))]
     fn take<L: Ledger>(&mut self, desk: &mut Desk<L>, guest: u16) -> Result<bool, HostFault>
-        requires { Follow self.old.shares self.old.keeper.store.guests }
-        ensures follows { OnOk result (Follow self.new.shares self.new.keeper.store.guests) }
-        ensures keeps { KeepsOn D.state D.makes self.old.keeper self.new.keeper }
-        ensures heard { IsHeard self.old.keeper self.old.broken self.new.keeper self.new.broken }
-        ensures given { result ≡ Ok true → GivesTaken desk.old self.old.shares guest
+        requires { Follows self.old.keeper }
+        ensures follows { OnOk result (Follows self.new.keeper) }
+        ensures left { LeftBy D.state D.makes self.old self.new }
+        ensures given { result ≡ Ok true → GivesTaken desk.old self.old.keeper.shares guest
             self.old.keeper.store.guests self.new.keeper.store.guests }
     {
-        if !self.keeper.is_free(guest) {
+        if !self.keeper.store().is_free(guest) {
             return Ok(false);
         }
-        match desk.take(&mut self.shares, guest) {
+        match desk.take(&mut self.keeper, guest) {
             Err(_) => Err(HostFault::Foreign),
-            Ok(None) => Ok(false),
-            Ok(Some(intent)) => {
-                if intent.guest() != guest || !self.keeper.give(intent) {
+            Ok(false) => Ok(false),
+            Ok(true) => {
+                if !self.give(guest) {
                     return Err(HostFault::Foreign);
                 }
                 Ok(true)
@@ -84,10 +125,9 @@ impl<D: Disk> Flusher<D> {
 
     /// Takes what waits for each guest with a free slot. Whether there was something.
     fn take_all<L: Ledger>(&mut self, desk: &mut Desk<L>) -> Result<bool, HostFault>
-        requires { Follow self.old.shares self.old.keeper.store.guests }
-        ensures follows { OnOk result (Follow self.new.shares self.new.keeper.store.guests) }
-        ensures keeps { KeepsOn D.state D.makes self.old.keeper self.new.keeper }
-        ensures heard { IsHeard self.old.keeper self.old.broken self.new.keeper self.new.broken }
+        requires { Follows self.old.keeper }
+        ensures follows { OnOk result (Follows self.new.keeper) }
+        ensures left { LeftBy D.state D.makes self.old self.new }
     {
         let mut moved = false;
         for guest in 0..self.guests {
@@ -99,16 +139,34 @@ impl<D: Disk> Flusher<D> {
     }
 
     /// Makes the next call of the disk, with no lock held.
-    fn call<G: Gate>(&mut self, gate: &G) -> Result<Made, StoreFault>
-        requires { Follow self.old.shares self.old.keeper.store.guests }
-        ensures follows { Follow self.new.shares self.new.keeper.store.guests }
-        ensures keeps { KeepsOn D.state D.makes self.old.keeper self.new.keeper }
-        ensures heard { IsHeard self.old.keeper self.old.broken self.new.keeper self.new.broken }
+    fn call<G: Gate>(&mut self, gate: &G) -> Result<bool, StoreFault>
+        requires { Follows self.old.keeper }
+        ensures follows { Follows self.new.keeper }
+        ensures left { LeftBy D.state D.makes self.old self.new }
     {
         gate.at(Who::Flusher, Place::BeforeCall);
         let made = self.keeper.advance();
-        self.broken = made.is_err();
+        self.broken |= made.is_err();
         made
+    }
+
+    /// Tells the book what came of the last call, where it has to hear of it. Whether it had to.
+    fn settle<L: Ledger>(
+        &mut self,
+        rt: &impl Wait,
+        desk: &Mutex<Desk<L>>,
+    ) -> Result<bool, HostFault>
+        requires { Follows self.old.keeper }
+        ensures follows { Follows self.new.keeper }
+        ensures left { LeftBy D.state D.makes self.old self.new }
+    {
+        if !self.keeper.has_report() {
+            return Ok(false);
+        }
+        match desk.lock(rt).settle(&mut self.keeper) {
+            Ok(told) => Ok(told),
+            Err(_) => Err(HostFault::Foreign),
+        }
     }
 
     /// Makes the next call of the disk, and tells the book what came of it. It rings for the
@@ -120,27 +178,19 @@ impl<D: Disk> Flusher<D> {
         bell: &Bell,
         gate: &G,
     ) -> Result<(), HostFault>
-        requires { Follow self.old.shares self.old.keeper.store.guests }
-        ensures follows { Follow self.new.shares self.new.keeper.store.guests }
-        ensures keeps { KeepsOn D.state D.makes self.old.keeper self.new.keeper }
-        ensures heard { IsHeard self.old.keeper self.old.broken self.new.keeper self.new.broken }
+        requires { Follows self.old.keeper }
+        ensures follows { Follows self.new.keeper }
+        ensures left { LeftBy D.state D.makes self.old self.new }
     {
-        let before = self.keeper.marks();
-        match self.call(gate) {
-            Ok(Made::Synced) => {
-                let marks = self.keeper.marks();
-                let settled = desk.lock(rt).settle(&self.shares, marks);
-                if settled.is_err() {
-                    return Err(HostFault::Foreign);
+        let before = self.keeper.store().marks();
+        let made = self.call(gate);
+        if self.settle(rt, desk)? {
+            match made {
+                Ok(_) => {
+                    let now = self.keeper.store().marks();
+                    bell.ring_settled(rt, before.sequences(), now.sequences());
                 }
-                let now = self.keeper.marks();
-                bell.ring_settled(rt, before.sequences(), now.sequences());
-            }
-            Ok(Made::Wrote) => {}
-            Ok(Made::Idle) => {}
-            Err(_) => {
-                desk.lock(rt).break_off();
-                bell.ring_workers(rt);
+                Err(_) => bell.ring_workers(rt),
             }
         }
         Ok(())
@@ -153,7 +203,7 @@ impl<D: Disk> Flusher<D> {
         ensures rests { result ≡ false
             → IsAtRest self.now.keeper.store.broken self.now.keeper.store.guests }
     {
-        self.keeper.next_call() != Call::None
+        self.keeper.store().next_call() != Call::None
     }
 
     /// One look for work: what waits is taken, unless the store broke, and one call made.
@@ -165,12 +215,11 @@ impl<D: Disk> Flusher<D> {
         gate: &G,
         workers_ended: usize,
     ) -> Result<Next, HostFault>
-        requires { Follow self.old.shares self.old.keeper.store.guests }
-        ensures follows { OnOk result (Follow self.new.shares self.new.keeper.store.guests) }
+        requires { Follows self.old.keeper }
+        ensures follows { OnOk result (Follows self.new.keeper) }
         ensures rests { result ≡ Ok Next.End
             → IsAtRest self.new.keeper.store.broken self.new.keeper.store.guests }
-        ensures keeps { KeepsOn D.state D.makes self.old.keeper self.new.keeper }
-        ensures heard { IsHeard self.old.keeper self.old.broken self.new.keeper self.new.broken }
+        ensures left { LeftBy D.state D.makes self.old self.new }
     {
         let taken = if self.broken {
             false
@@ -200,12 +249,11 @@ impl<D: Disk> Flusher<D> {
         bell: &Bell,
         gate: &G,
     ) -> Result<bool, HostFault>
-        requires { Follow self.old.shares self.old.keeper.store.guests }
-        ensures follows { OnOk result (Follow self.new.shares self.new.keeper.store.guests) }
+        requires { Follows self.old.keeper }
+        ensures follows { OnOk result (Follows self.new.keeper) }
         ensures rests { result ≡ Ok true
             → IsAtRest self.new.keeper.store.broken self.new.keeper.store.guests }
-        ensures keeps { KeepsOn D.state D.makes self.old.keeper self.new.keeper }
-        ensures heard { IsHeard self.old.keeper self.old.broken self.new.keeper self.new.broken }
+        ensures left { LeftBy D.state D.makes self.old self.new }
     {
         let mut rest = Rest::begin(rt, bell, Actor::flusher());
         for _ in rt.forever() {
@@ -229,37 +277,28 @@ impl<D: Disk> Flusher<D> {
         bell: &Bell,
         gate: &G,
     ) -> FlusherEnd<D>
-        requires { Follow self.shares self.keeper.store.guests }
-        ensures keeps { KeepsOn D.state D.makes self.keeper result.keeper }
-        ensures heard { IsHeard self.keeper self.broken result.keeper result.broken }
+        requires { Follows self.keeper }
+        ensures { LeftBy D.state D.makes self result.flusher }
     {
-        match self.work(rt, desk, bell, gate) {
-            Ok(complete) => self.into_end(complete, None),
+        let (complete, fault) = match self.work(rt, desk, bell, gate) {
+            Ok(complete) => (complete, None),
             Err(fault) => {
                 bell.stop(rt);
-                self.into_end(false, Some(fault))
+                (false, Some(fault))
             }
-        }
-    }
-
-    fn into_end(self, complete: bool, fault: Option<HostFault>) -> FlusherEnd<D>
-        requires follows { fault ≡ None → Follow self.shares self.keeper.store.guests }
-        requires rests { complete ≡ true
-            → IsAtRest self.keeper.store.broken self.keeper.store.guests }
-        ensures { (result.keeper ≡ self.keeper) × (result.broken ≡ self.broken) }
-    {
-        let Flusher {
-            keeper,
-            shares,
-            guests: _,
-            broken,
-        } = self;
+        };
         FlusherEnd {
-            keeper,
-            shares,
-            broken,
+            flusher: self,
             complete,
             fault,
         }
+    }
+
+    /// What was taken of each guest, the store, and whether a call of the disk has failed.
+    pub(crate) fn into_parts(self) -> (Shares, Store<D>, bool)
+        ensures { result ≡ (self.keeper.shares, self.keeper.store, self.broken) }
+    {
+        let (shares, store) = self.keeper.into_parts();
+        (shares, store, self.broken)
     }
 }
