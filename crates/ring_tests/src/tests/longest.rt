@@ -1,12 +1,11 @@
 // The longest walks that the rules allow: each place of a queue of 256, the last of which refers
 // to a table of 1,024 entries, which is 1,280 descriptors.
 use super::descriptors::{
-    Descriptor, INDIRECT, NEXT, WRITE, check_row, describe, holds, memory_of, put, set_word,
+    Descriptor, INDIRECT, NEXT, WRITE, describe, holds, memory_of, put, set_word,
 };
 use super::devices::check;
-use super::packed_rings;
-use super::queues::{Answer, BAD_RANGE, ORDER, Queue, Step, TOO_LONG, go_in};
-use super::split_rings::{self, pop_one};
+use super::queues::{Answer, BAD_RANGE, ORDER, Queue, Step, TOO_LONG, take, with_ring};
+use super::split_rings::pop_one;
 use super::walks::{chain_of, scatters};
 use chains::{Chain, Places};
 use guest_memory::Memory;
@@ -44,12 +43,6 @@ fn put_longest(memory: &mut Memory, write: u16) -> bool {
     put_ring(memory) && put_table(memory, write)
 }
 
-fn longest(alloc: Global, write: u16) -> Result<Memory, Fail> {
-    let mut memory = memory_of(alloc, 65536)?;
-    check(put_longest(&mut memory, write), "the longest chain")?;
-    Ok(memory)
-}
-
 // Whether what is kept of the chain takes the longest reply, which ends where the chain does.
 fn takes_the_longest(alloc: Global, memory: &mut Memory, chain: &Chain) -> bool {
     match chain.for_reply(alloc) {
@@ -72,9 +65,10 @@ fn count_of_longest(alloc: Global, memory: &mut Memory) -> Option<u64> {
 
 #[test]
 fn the_longest_chain(rt: HostRuntime) -> Result<(), Fail> {
-    let mut memory = longest(rt.alloc(), WRITE)?;
+    let mut memory = memory_of(rt.alloc(), 65536)?;
+    let is_put = put_longest(&mut memory, WRITE);
     let count = count_of_longest(rt.alloc(), &mut memory);
-    check(count == Some(1280), "another count")
+    check(is_put && count == Some(1280), "another count")
 }
 
 // The available ring and the used ring stand behind the table.
@@ -109,22 +103,35 @@ fn lengths_popped(alloc: Global, memory: &mut Memory, ring: &mut Ring) -> Option
     }
 }
 
-// Whether a ring pops the longest chain first, of these lengths.
-fn pops_the_longest(alloc: Global, write: u16, lengths: (usize, u64)) -> Result<bool, Fail> {
-    let mut memory = longest(alloc, write)?;
-    let mut ring = split_rings::ring_of(alloc, BEHIND_THE_TABLE, 256)?;
-    let offered = set_word(&mut memory, 20482, 1);
-    Ok(offered && lengths_popped(alloc, &mut memory, &mut ring) == Some(lengths))
+// By which flags the table is written, and the lengths that are popped then.
+type Lengths = (u16, (usize, u64));
+
+// A ring pops the longest chain first, of these lengths.
+fn pops_the_longest(
+    alloc: Global,
+    memory: &mut Memory,
+    ring: &mut Ring,
+    lengths: &Lengths,
+) -> Result<(), Fail> {
+    let offered = put_longest(memory, lengths.0) && set_word(memory, 20482, 1);
+    let popped = lengths_popped(alloc, memory, ring);
+    check(offered && popped == Some(lengths.1), "other lengths")
 }
 
 // The longest chain of 255 ranges to be read and 1,024 to be written, and that of 1,279 ranges to
 // be read, whose request is too long.
-static LONGEST: [(u16, (usize, u64)); 2] = [(WRITE, (255, 9216)), (0, (8705, 0))];
+static LONGEST: [Lengths; 2] = [(WRITE, (255, 9216)), (0, (8705, 0))];
 
 #[test]
 fn a_ring_pops_the_longest_chains(rt: HostRuntime) -> Result<(), Fail> {
-    for (place, (write, lengths)) in LONGEST.iter().enumerate() {
-        check_row(pops_the_longest(rt.alloc(), *write, *lengths)?, place)?;
+    for lengths in &LONGEST {
+        with_ring(
+            rt.alloc(),
+            65536,
+            (BEHIND_THE_TABLE, 256),
+            lengths,
+            pops_the_longest,
+        )?;
     }
     Ok(())
 }
@@ -207,13 +214,13 @@ static ALL_READ: [LongTable; 5] = [
 // The first pop gives this, and reads all descriptors: as many as the queue has places, and 1,024.
 fn reads_all<R: Queue>(
     alloc: Global,
-    mut memory: Memory,
-    ring: R,
+    memory: &mut Memory,
+    ring: &mut R,
     last: Descriptor,
     answer: Answer,
 ) -> Result<(), Fail> {
-    check(describe(&mut memory, 20464, last), "the last entry")?;
-    go_in(
+    check(describe(memory, 20464, last), "the last entry")?;
+    take(
         alloc,
         memory,
         ring,
@@ -221,25 +228,44 @@ fn reads_all<R: Queue>(
     )
 }
 
-fn reads_all_of_split(alloc: Global, row: &LongTable) -> Result<(), Fail> {
-    let mut memory = longest(alloc, row.flags)?;
-    check(set_word(&mut memory, 20482, 1), "the index")?;
-    let ring = split_rings::ring_of(alloc, BEHIND_THE_TABLE, 256)?;
+fn reads_all_of_split(
+    alloc: Global,
+    memory: &mut Memory,
+    ring: &mut Ring,
+    row: &LongTable,
+) -> Result<(), Fail> {
+    let offered = put_longest(memory, row.flags) && set_word(memory, 20482, 1);
+    check(offered, "the longest chain")?;
     reads_all(alloc, memory, ring, row.split, row.of_split)
 }
 
-fn reads_all_of_packed(alloc: Global, row: &LongTable) -> Result<(), Fail> {
-    let mut memory = memory_of(alloc, 65536)?;
-    check(put_packed(&mut memory, row.flags), "the longest chain")?;
-    let ring = packed_rings::ring_at(alloc, BEHIND_THE_TABLE, 256)?;
+fn reads_all_of_packed(
+    alloc: Global,
+    memory: &mut Memory,
+    ring: &mut packed_ring::Ring,
+    row: &LongTable,
+) -> Result<(), Fail> {
+    check(put_packed(memory, row.flags), "the longest chain")?;
     reads_all(alloc, memory, ring, row.packed, row.of_packed)
 }
 
 #[test]
 fn a_pop_reads_1280_descriptors_at_most(rt: HostRuntime) -> Result<(), Fail> {
     for row in &ALL_READ {
-        reads_all_of_split(rt.alloc(), row)?;
-        reads_all_of_packed(rt.alloc(), row)?;
+        with_ring(
+            rt.alloc(),
+            65536,
+            (BEHIND_THE_TABLE, 256),
+            row,
+            reads_all_of_split,
+        )?;
+        with_ring(
+            rt.alloc(),
+            65536,
+            (BEHIND_THE_TABLE, 256),
+            row,
+            reads_all_of_packed,
+        )?;
     }
     Ok(())
 }

@@ -76,7 +76,7 @@ const BAD: Turn = Turn::FailsToReap(DriverFault::BadUsed);
 #[test]
 fn elements_that_no_chain_has(rt: HostRuntime) -> Result<(), Fail> {
     for (form, turns) in &ELEMENTS {
-        go(rt.alloc(), *form, 1, turns)?;
+        go(rt.alloc(), *form, false, 1, turns)?;
     }
     Ok(())
 }

@@ -1,24 +1,10 @@
 // A driver that accepted VIRTIO_F_IN_ORDER, and its device.
-use super::{FORMS, Form, Turn, WROTE, guest_of, pair_of, take_rounds};
+use super::{Turn, WROTE, go, go_forms};
 use crate::tests::devices::step::Step;
 use guest_driver::DriverFault;
 use mmio_transport::Published;
-use rpmb_frame::{GuestConfig, RingKind};
-use std::alloc::Global;
+use rpmb_frame::RingKind;
 use std::test::Fail;
-
-fn go_rounds(alloc: Global, form: Form, rounds: u32, turns: &[Turn]) -> Result<(), Fail> {
-    let guest = GuestConfig {
-        in_order: true,
-        ..guest_of(form)
-    };
-    let mut pair = pair_of(alloc, 0, &guest, &guest)?;
-    take_rounds(alloc, &mut pair, rounds, turns)
-}
-
-fn go_in_order(alloc: Global, form: Form, turns: &[Turn]) -> Result<(), Fail> {
-    go_rounds(alloc, form, 1, turns)
-}
 
 // With IN_ORDER the reply to the second of two chains is dropped, until that to the first was
 // written.
@@ -54,11 +40,13 @@ static SECOND_OF_TABLES_OR_PLACES: [Turn; 12] = [
 
 #[test]
 fn in_order_the_oldest_chain_comes_first(rt: HostRuntime) -> Result<(), Fail> {
-    let tables_or_places = &SECOND_OF_TABLES_OR_PLACES;
-    go_in_order(rt.alloc(), (RingKind::Split, false), &SECOND_OF_DESCRIPTORS)?;
-    go_in_order(rt.alloc(), (RingKind::Split, true), tables_or_places)?;
-    go_in_order(rt.alloc(), (RingKind::Packed, false), tables_or_places)?;
-    go_in_order(rt.alloc(), (RingKind::Packed, true), tables_or_places)
+    let others = &SECOND_OF_TABLES_OR_PLACES as &[Turn];
+    go_forms(
+        rt.alloc(),
+        true,
+        1,
+        [&SECOND_OF_DESCRIPTORS, others, others, others],
+    )
 }
 
 // With IN_ORDER the descriptors are taken round and round, and each names the following one: the
@@ -88,11 +76,8 @@ static OLDEST_ALONE: [Turn; 6] = [
 
 #[test]
 fn in_order_the_driver_keeps_the_order(rt: HostRuntime) -> Result<(), Fail> {
-    go_in_order(rt.alloc(), (RingKind::Split, false), &TABLE_ORDER)?;
-    for form in &FORMS {
-        go_in_order(rt.alloc(), *form, &OLDEST_ALONE)?;
-    }
-    Ok(())
+    go(rt.alloc(), (RingKind::Split, false), true, 1, &TABLE_ORDER)?;
+    go_forms(rt.alloc(), true, 1, [&OLDEST_ALONE as &[Turn]; 4])
 }
 
 // Five chains, which take eight of the four descriptors: twice round the table. The third one ends
@@ -124,7 +109,13 @@ static FIVE_CHAINS: [Turn; 21] = [
 // 65,540 chains in the order of the table, whose indexes run round once.
 #[test]
 fn in_order_the_table_runs_round(rt: HostRuntime) -> Result<(), Fail> {
-    go_rounds(rt.alloc(), (RingKind::Split, false), 13108, &FIVE_CHAINS)
+    go(
+        rt.alloc(),
+        (RingKind::Split, false),
+        true,
+        13108,
+        &FIVE_CHAINS,
+    )
 }
 
 // The guest writes its used ring itself: its own driver takes what stands there, and the device,
@@ -144,8 +135,5 @@ static OWN_USED_RING: [Turn; 10] = [
 
 #[test]
 fn in_order_a_guest_writes_its_used_ring(rt: HostRuntime) -> Result<(), Fail> {
-    for form in &FORMS {
-        go_in_order(rt.alloc(), *form, &OWN_USED_RING)?;
-    }
-    Ok(())
+    go_forms(rt.alloc(), true, 1, [&OWN_USED_RING as &[Turn]; 4])
 }

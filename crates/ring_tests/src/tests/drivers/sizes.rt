@@ -1,6 +1,5 @@
 // Queues that a device takes, and those that it doesn't, in memory that held other bytes.
-use super::{FORMS, Form, Pair, Turn, go_once, guest_of, negotiates, offers, pair_of};
-use crate::tests::descriptors::check_row;
+use super::{FORMS, Form, Pair, Turn, go_once, guest_of, offers};
 use crate::tests::devices::step::Step;
 use crate::tests::devices::stores;
 use guest_driver::DriverFault;
@@ -71,7 +70,7 @@ fn queues_that_a_device_takes(rt: HostRuntime) -> Result<(), Fail> {
 
 // 256 chains of one descriptor each are in flight, by the ids in their order, and then there is no
 // room.
-fn takes_256(pair: &mut Pair) -> bool {
+pub fn takes_256(pair: &mut Pair) -> bool {
     for place in 0..256_u16 {
         if !offers(pair, &[], 2, Ok(place)) {
             return false;
@@ -80,20 +79,21 @@ fn takes_256(pair: &mut Pair) -> bool {
     offers(pair, &[], 2, Err(DriverFault::NoRoom))
 }
 
-fn is_filled(alloc: Global, form: Form) -> Result<bool, Fail> {
+static FILLED: [Turn; 2] = [Turn::Negotiates(true), Turn::Takes256];
+
+fn fill_queue(alloc: Global, form: Form) -> Result<(), Fail> {
     let guest = GuestConfig {
         queue: 256,
         memory: 8_388_608,
         ..guest_of(form)
     };
-    let mut pair = pair_of(alloc, 0, &guest, &guest)?;
-    Ok(negotiates(&mut pair) && takes_256(&mut pair))
+    go_once(alloc, 0, &guest, &guest, &FILLED)
 }
 
 #[test]
 fn a_queue_of_256_is_filled(rt: HostRuntime) -> Result<(), Fail> {
-    for (at, form) in FORMS.iter().enumerate() {
-        check_row(is_filled(rt.alloc(), *form)?, at)?;
+    for form in &FORMS {
+        fill_queue(rt.alloc(), *form)?;
     }
     Ok(())
 }

@@ -1,7 +1,7 @@
-use super::{FIRST_ROUND, SECOND_ROUND, WRITE, ring_of};
-use crate::tests::descriptors::{describe, holds, memory_of};
+use super::{FIRST_ROUND, SECOND_ROUND, WRITE, places};
+use crate::tests::descriptors::{describe, holds};
 use crate::tests::devices::check;
-use crate::tests::queues::{Answer, Queue};
+use crate::tests::queues::{Answer, Queue, with_ring};
 use chains::Reads;
 use guest_memory::Memory;
 use packed_ring::Ring;
@@ -31,10 +31,12 @@ fn goes_round(alloc: Global, memory: &mut Memory, ring: &mut Ring) -> bool {
     holds(memory, 40, &[8, 0, 0, 0, 7, 0, 0x02, 0x00])
 }
 
+fn go_round(alloc: Global, memory: &mut Memory, ring: &mut Ring, _: &()) -> Result<(), Fail> {
+    check(goes_round(alloc, memory, ring), "a round")
+}
+
 // 66,670 rounds of a ring of 3.
 #[test]
 fn more_than_200_000_places(rt: HostRuntime) -> Result<(), Fail> {
-    let mut memory = memory_of(rt.alloc(), 1024)?;
-    let mut ring = ring_of(rt.alloc(), 3)?;
-    check(goes_round(rt.alloc(), &mut memory, &mut ring), "a round")
+    with_ring(rt.alloc(), 1024, (places(3), 3), &(), go_round)
 }
